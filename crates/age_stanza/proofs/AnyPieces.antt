@@ -1,0 +1,107 @@
+-- It doesn't matter how bytes were cut into pieces.
+use Rattle.std.proofs.Common.{◌≡◌, ℕ, ◌<◌, ◌≤◌, ◌+◌, ◌-◌, List, [], ◌∷◌, ◌++◌, length, take, drop, Result, Ok, Err, refl, sym, ap, subst, ◌∙◌, arith, inl, inr}
+use Rattle.std.specs.Prelude.{◌⊎◌}
+use Rattle.std.specs.List.{concat}
+use Rattle.std.proofs.lemmas.Bool.{cases_lt}
+use Rattle.std.proofs.lemmas.List.{append-nil, append_assoc, length-take, take-append-drop, take-append-le, take_all, take_at}
+use Rattle.std.proofs.Math.Seq.{take-append-add}
+use Rattle.age_stanza.specs.declared.header.Header.{Header}
+use Rattle.age_stanza.specs.declared.header.HeadStep.{HeadStep}
+use Rattle.age_stanza.specs.declared.header.HeadStep.TheVariants.{More, Ready}
+use Rattle.age_stanza.specs.declared.fault.HeadFault.{HeadFault}
+use Rattle.age_stanza.specs.Faults.{memory_fault}
+use Rattle.age_stanza.specs.Grammar.{line, Spells, HeadText}
+use Rattle.age_stanza.specs.Faults.{FirstFault, HasHeader, IsLineFault, IsFault}
+use Rattle.age_stanza.specs.Parsing.{Parsing, reading, complete, refused, IsOpen, Feeds}
+use Rattle.age_stanza.specs.Pieces.{Fed, none, more, StandsFor}
+
+-- ---- what more bytes leave as it was
+
+more_header : (bytes piece : List ℕ) → HasHeader bytes → HasHeader (bytes ++ piece)
+more_header bytes piece has = (has.0, has.1, has.2 ++ piece, has.3, ap (λ (t : List ℕ). t ++ piece) has.4 ∙ append_assoc has.1 has.2 piece)
+
+-- the first bytes, with more behind them
+take_more_bytes : (n : ℕ) (bytes piece : List ℕ) → (rest : List ℕ) × (take n (bytes ++ piece) ≡ take n bytes ++ rest)
+take_more_bytes n bytes piece = elim (cases_lt (length bytes) n) [
+  | inl lt ↦
+      let k : n ≡ length bytes + (n - length bytes) = omega arith in
+      let all : take n bytes ≡ bytes = take_all n bytes (omega arith) in
+      (take (n - length bytes) piece, ap (λ j. take j (bytes ++ piece)) k ∙ take-append-add bytes piece (n - length bytes) ∙ ap (λ (t : List ℕ). t ++ take (n - length bytes) piece) (sym all))
+  | inr ge ↦ ([], take-append-le n bytes piece ge ∙ sym (append-nil (take n bytes)))
+]
+
+more_first : (bytes rest before l : List ℕ) → FirstFault bytes before l → FirstFault (bytes ++ rest) before l
+more_first bytes rest before l f = record {
+  rest = f.rest ++ rest;
+  parts = ap (λ (t : List ℕ). t ++ rest) f.parts ∙ append_assoc before (line l ++ f.rest) rest ∙ ap (λ (t : List ℕ). before ++ t) (append_assoc (line l) f.rest rest);
+  whole = f.whole;
+  one_line = f.one_line;
+  lawful_before = f.lawful_before;
+  faulty = f.faulty;
+}
+
+more_line_fault : (bytes piece : List ℕ) (fault : HeadFault) → IsLineFault (take 1048576 bytes) fault → IsLineFault (take 1048576 (bytes ++ piece)) fault
+more_line_fault bytes piece fault f =
+    let longer = take_more_bytes 1048576 bytes piece in
+    rw (longer.1) (f.0, f.1, more_first (take 1048576 bytes) longer.0 f.0 f.1 f.2, f.3, f.4)
+
+regroup : (a b c d : List ℕ) → (a ++ (b ++ c)) ++ d ≡ (a ++ b) ++ (c ++ d)
+regroup a b c d = simp append_assoc
+
+-- of two fronts of one list the shorter begins the longer
+prefix_of : (a x b y : List ℕ) → a ++ x ≡ b ++ y → length a ≤ length b → b ≡ a ++ drop (length a) b
+prefix_of a x b y e le =
+    let front : take (length a) b ≡ a = sym (take-append-le (length a) b y le) ∙ ap (take (length a)) (sym e) ∙ take_at a x (length a) refl in
+    sym (take-append-drop (length a) b) ∙ ap (λ (t : List ℕ). t ++ drop (length a) b) front
+
+-- no header ends inside the bytes, and none behind them
+none_longer : (bytes piece : List ℕ) → (HasHeader bytes → ⊥)
+    → ((h : Header) (front : List ℕ) → HeadText h front → length bytes < length front → front ≡ bytes ++ drop (length bytes) front → ⊥) → HasHeader (bytes ++ piece) → ⊥
+none_longer bytes piece inside behind has = elim (cases_lt (length bytes) (length has.1)) [
+  | inl lt ↦ behind has.0 has.1 has.3 lt (prefix_of bytes piece has.1 has.2 has.4 (omega arith))
+  | inr ge ↦ inside (has.0, has.1, drop (length has.1) bytes, has.3, prefix_of has.1 has.2 bytes piece (sym has.4) ge)
+]
+
+no_text : (bytes before l : List ℕ) → FirstFault (take 1048576 bytes) before l → (h : Header) (front : List ℕ) → HeadText h front → length bytes < length front
+    → front ≡ bytes ++ drop (length bytes) front → ⊥
+no_text bytes before l f h front text lt is =
+    let within = text.within in
+    let all : take 1048576 bytes ≡ bytes = take_all 1048576 bytes (omega arith) in
+    let bytes-is : bytes ≡ before ++ (line l ++ f.rest) = sym all ∙ f.parts in
+    let grouped : front ≡ (before ++ line l) ++ (f.rest ++ drop (length bytes) front) =
+    is ∙ ap (λ (t : List ℕ). t ++ drop (length bytes) front) bytes-is ∙ regroup before (line l) f.rest (drop (length bytes) front) in
+    f.faulty (h, f.rest ++ drop (length bytes) front, subst (Spells h) grouped text.spells)
+
+more_fault : (bytes piece : List ℕ) (fault : HeadFault) → (HasHeader bytes → ⊥) → IsFault bytes fault → (HasHeader (bytes ++ piece) → ⊥) × IsFault (bytes ++ piece) fault
+more_fault bytes piece fault inside (inl f) =
+    (none_longer bytes piece inside (no_text bytes f.0 f.1 f.2), inl (more_line_fault bytes piece fault f))
+more_fault bytes piece fault inside (inr f) =
+    let long : 1048576 ≤ length bytes = omega (arith, length-take 1048576 bytes, f.1) in
+    let same : take 1048576 (bytes ++ piece) ≡ take 1048576 bytes = take-append-le 1048576 bytes piece long in
+    let same' : take 1048575 (bytes ++ piece) ≡ take 1048575 bytes = take-append-le 1048575 bytes piece (omega arith) in (
+      none_longer bytes piece inside (λ h front text lt is. let within = text.within in omega arith),
+      inr (rw same f.0, rw same f.1, rw same' f.2),
+    )
+
+-- ---- one piece more
+
+grown : (pieces : List (List ℕ)) (piece : List ℕ) → concat (pieces ++ piece ∷ []) ≡ concat pieces ++ piece
+grown [] piece = append-nil piece
+grown (p ∷ pieces) piece = ap (λ (t : List ℕ). p ++ t) (grown pieces piece) ∙ sym (append_assoc p (concat pieces) piece)
+
+step_stands : (bytes piece : List ℕ) (old new : Parsing) (result : Result HeadStep HeadFault) → StandsFor old bytes → IsOpen old → Feeds old piece result new → StandsFor new (bytes ++ piece)
+step_stands bytes piece (reading held) new (Ok More) e is-open f = subst (λ (p : Parsing). StandsFor p (bytes ++ piece)) (sym f.0) (ap (λ (t : List ℕ). t ++ piece) e)
+step_stands bytes piece (reading held) new (Ok (Ready taken h)) e is-open f =
+    subst (λ (p : Parsing). StandsFor p (bytes ++ piece)) (sym f.0)
+    (h, held ++ take taken piece, drop taken piece, f.2, ap (λ (t : List ℕ). t ++ piece) (sym e) ∙ ap (λ (t : List ℕ). held ++ t) (sym (take-append-drop taken piece)) ∙ sym (append_assoc held (take taken piece) (drop taken piece)))
+step_stands bytes piece (reading held) new (Err fault) e is-open f =
+    subst (λ (p : Parsing). StandsFor p (bytes ++ piece)) (sym f.0)
+    (subst (λ (b : List ℕ). (fault ≡ memory_fault) ⊎ ((HasHeader (b ++ piece) → ⊥) × IsFault (b ++ piece) fault)) e f.1)
+step_stands bytes piece complete new result e is-open f = absurd (is-open refl)
+step_stands bytes piece (refused fault) new result (inl memory) is-open f = subst (λ (p : Parsing). StandsFor p (bytes ++ piece)) (sym f.1) (inl memory)
+step_stands bytes piece (refused fault) new result (inr e) is-open f = subst (λ (p : Parsing). StandsFor p (bytes ++ piece)) (sym f.1) (inr (more_fault bytes piece fault e.0 e.1))
+
+pub any_pieces : {pieces : List (List ℕ)} {parser : Parsing} → Fed pieces parser → StandsFor parser (concat pieces)
+any_pieces none = refl
+any_pieces (more pieces old new piece result fed is-open feeds) =
+    subst (StandsFor new) (sym (grown pieces piece)) (step_stands (concat pieces) piece old new result (any_pieces fed) is-open feeds)

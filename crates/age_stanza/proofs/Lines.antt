@@ -1,0 +1,160 @@
+-- The lines of a header: a body's, an argument line, an end line.
+use Rattle.std.proofs.Common.{◌≡◌, ℕ, ◌<◌, ◌≤◌, ◌+◌, Bool, true, false, cond, leb, eqb, nat_eq, ◌&&◌, List, [], ◌∷◌, ◌++◌, length, drop, Option, Some, None, refl, sym, ap, ◌∙◌, arith, inl, inr}
+use Rattle.std.specs.Prelude.{codes, ◌⊎◌}
+use Rattle.std.specs.List.{flat_map, AllByRecursion, starts_with}
+use Rattle.std.proofs.lemmas.Bool.{eqb-true, eqb-false, eq-eqb, ne_eqb, leb-true, le-leb, and_parts, and_from}
+use Rattle.std.proofs.lemmas.Bool.Decides.{Decides-eqb}
+use Rattle.std.proofs.lemmas.List.{append-nil, append_assoc, length-append}
+use Rattle.std.proofs.lemmas.List.Concat.{flat_map-append}
+use Rattle.std.proofs.lemmas.Slice.Eq.{starts_is}
+use Rattle.std.proofs.lemmas.Option.{cond_some}
+use Rattle.base64.specs.GeneralPurpose.{IsBytes}
+use Rattle.age_stanza.specs.LineMachine.{decoded}
+use Rattle.age_stanza.specs.Grammar.{line, IsArgument, argument_line, in_lines, end_line}
+use Rattle.age_stanza.specs.LineMachine.{arguments_from, arguments_of, mac_of, whole_mac}
+use Rattle.age_stanza.proofs.Texts.{text_of_decoded, decoded-text, IsBytes-drop}
+
+-- ---- a test that was passed or not
+
+pub chosen : {A : Type 0} (b : Bool) (x y z : A) → cond b x y ≡ z → ((b ≡ true) × (x ≡ z)) ⊎ ((b ≡ false) × (y ≡ z))
+chosen true x y z e = inl (refl, e)
+chosen false x y z e = inr (refl, e)
+
+-- ---- what a line starts with
+
+pub starts_at : (s p : List ℕ) → starts_with nat_eq s p ≡ true → s ≡ p ++ drop (length p) s
+starts_at s p e = (starts_is Decides-eqb s p (starts_with nat_eq s p) refl).0 e
+
+pub starts_from : (s p rest : List ℕ) → s ≡ p ++ rest → starts_with nat_eq s p ≡ true
+starts_from s p rest e = (starts_is Decides-eqb s p (starts_with nat_eq s p) refl).1 rest e
+
+-- ---- a text in lines
+
+pub in_lines-full : (k : ℕ) (l rest : List ℕ) → k + length l ≡ 64 → 0 < length l → in_lines k (l ++ rest) ≡ line l ++ in_lines 0 rest
+unfolding in_lines
+in_lines-full k [] rest e some = absurd (omega arith)
+in_lines-full k (c ∷ []) rest e some =
+    let last : k ≡ 63 = omega arith in
+    rw (eq-eqb k 63 last) refl
+in_lines-full k (c ∷ d ∷ ds) rest e some =
+    let before : k ≡ 63 → ⊥ = λ last. omega arith in
+    let next : k + 1 + length (d ∷ ds) ≡ 64 = omega arith in
+    let more : 0 < length (d ∷ ds) = omega arith in
+    rw (ne_eqb k 63 before) (ap (λ (xs : List ℕ). c ∷ xs) (in_lines-full (k + 1) (d ∷ ds) rest next more))
+
+pub in_lines-short : (k : ℕ) (l : List ℕ) → k + length l < 64 → in_lines k l ≡ line l
+unfolding in_lines
+in_lines-short k [] lt = refl
+in_lines-short k (c ∷ cs) lt =
+    let before : k ≡ 63 → ⊥ = λ last. omega arith in
+    rw (ne_eqb k 63 before) (ap (λ (xs : List ℕ). c ∷ xs) (in_lines-short (k + 1) cs (omega arith)))
+
+-- ---- an argument line
+
+abbrev pub IsVisible : ℕ → Type 0
+IsVisible c = (33 ≤ c) × (c ≤ 126)
+
+abbrev spaced : List (List ℕ) → List ℕ
+spaced args = flat_map (λ a. 32 ∷ a) args
+
+pub All-append : {X : Type 0} (P : X → Type 0) (xs ys : List X) → AllByRecursion P xs → AllByRecursion P ys → AllByRecursion P (xs ++ ys)
+All-append P [] ys f g = g
+All-append P (x ∷ xs) ys f g = (f.0, All-append P xs ys f.1 g)
+
+pub All-back : {X : Type 0} (P : X → Type 0) (xs ys : List X) → AllByRecursion P (xs ++ ys) → AllByRecursion P ys
+All-back P [] ys f = f
+All-back P (x ∷ xs) ys f = All-back P xs ys f.1
+
+spaced_word : (done : List (List ℕ)) (word : List ℕ) → spaced (done ++ word ∷ []) ≡ spaced done ++ 32 ∷ word
+spaced_word done word = flat_map-append (λ a. 32 ∷ a) done (word ∷ []) ∙ ap (λ (w : List ℕ). spaced done ++ 32 ∷ w) (append-nil word)
+
+some_length : (word : List ℕ) → eqb (length word) 0 ≡ false → 0 < length word
+some_length word e =
+    let ne = eqb-false (length word) 0 e in
+    omega arith
+
+pub arguments_sound : (done : List (List ℕ)) (word cs : List ℕ) (args : List (List ℕ)) → AllByRecursion IsArgument done → AllByRecursion IsVisible word
+    → arguments_from done word cs ≡ Some args
+    → (spaced done ++ (32 ∷ (word ++ cs)) ≡ spaced args) × (0 < length args) × AllByRecursion IsArgument args
+unfolding arguments_from
+arguments_sound done word [] args dones visible e = elim (chosen (eqb (length word) 0) None (Some (done ++ word ∷ [])) (Some args) e) [
+  | inl h ↦ absurd (cc (h.1))
+  | inr h ↦
+      let is : done ++ word ∷ [] ≡ args = cc (h.1) in
+      rw (← is) (
+        rw append-nil (sym (spaced_word done word)),
+        omega (arith, length-append done (word ∷ [])),
+        All-append IsArgument done (word ∷ []) dones ((some_length word h.0, visible), tt),
+      )
+]
+arguments_sound done word (c ∷ cs) args dones visible e = elim (chosen (eqb c 32) _ _ (Some args) e) [
+  | inl h ↦ elim (chosen (eqb (length word) 0) None (arguments_from (done ++ word ∷ []) [] cs) (Some args) h.1) [
+    | inl g ↦ absurd (cc (g.1))
+    | inr g ↦
+        let space : c ≡ 32 = eqb-true c 32 h.0 in
+        let rest = arguments_sound (done ++ word ∷ []) [] cs args (All-append IsArgument done (word ∷ []) dones ((some_length word g.0, visible), tt)) tt g.1 in
+        let joined : spaced done ++ (32 ∷ (word ++ c ∷ cs)) ≡ spaced (done ++ word ∷ []) ++ (32 ∷ cs) = rw (spaced_word done word, space) (sym (append_assoc (spaced done) (32 ∷ word) (32 ∷ cs))) in
+        (joined ∙ rest.0, rest.1, rest.2)
+  ]
+  | inr h ↦ elim (chosen (leb 33 c && leb c 126) (arguments_from done (word ++ c ∷ []) cs) None (Some args) h.1) [
+    | inl g ↦
+        let parts = and_parts (leb 33 c) (leb c 126) g.0 in
+        let rest = arguments_sound done (word ++ c ∷ []) cs args dones (All-append IsVisible word (c ∷ []) visible ((leb-true 33 c parts.0, leb-true c 126 parts.1), tt)) g.1 in
+        (rw (← append_assoc word (c ∷ []) cs) rest.0, rest.1, rest.2)
+    | inr g ↦ absurd (cc (g.1))
+  ]
+]
+
+pub arguments_complete : (done : List (List ℕ)) (word w : List ℕ) (ws : List (List ℕ)) → 0 < length (word ++ w) → AllByRecursion IsVisible w → AllByRecursion IsArgument ws
+    → arguments_from done word (w ++ spaced ws) ≡ Some (done ++ (word ++ w) ∷ ws)
+unfolding arguments_from
+arguments_complete done word [] [] some visible args =
+    let long : eqb (length word) 0 ≡ false = ne_eqb (length word) 0 (λ e. omega (arith, ap length (append-nil word))) in
+    rw (append-nil word, long) refl
+arguments_complete done word [] (v ∷ vs) some visible args =
+    let long : eqb (length word) 0 ≡ false = ne_eqb (length word) 0 (λ e. omega (arith, ap length (append-nil word))) in
+    rw (append-nil word, long) (arguments_complete (done ++ word ∷ []) [] v vs args.0.0 args.0.1 args.1 ∙ ap (λ (xs : List (List ℕ)). Some xs) (append_assoc done (word ∷ []) (v ∷ vs)))
+arguments_complete done word (c ∷ cs) ws some visible args =
+    let seen : IsVisible c = visible.0 in
+    let space : eqb c 32 ≡ false = ne_eqb c 32 (λ e. omega arith) in
+    let pass : (leb 33 c && leb c 126) ≡ true = and_from (leb 33 c) (leb c 126) (le-leb 33 c seen.0) (le-leb c 126 seen.1) in
+    let longer : 0 < length ((word ++ c ∷ []) ++ cs) = rw append_assoc some in
+    rw (space, pass) (arguments_complete done (word ++ c ∷ []) cs ws longer visible.1 args ∙ ap (λ (xs : List ℕ). Some (done ++ xs ∷ ws)) (append_assoc word (c ∷ []) cs))
+
+pub argument_line_read : (l : List ℕ) (args : List (List ℕ)) → arguments_of l ≡ Some args → (l ≡ argument_line args) × (0 < length args) × AllByRecursion IsArgument args
+unfolding arguments_of
+argument_line_read l args e = elim (chosen (starts_with nat_eq l (codes "-> ")) (arguments_from [] [] (drop 3 l)) None (Some args) e) [
+  | inl h ↦
+      let front = starts_at l (codes "-> ") h.0 in
+      let rest = arguments_sound [] [] (drop 3 l) args tt tt h.1 in
+      (front ∙ ap (λ (xs : List ℕ). codes "->" ++ xs) rest.0, rest.1, rest.2)
+  | inr h ↦ absurd (cc (h.1))
+]
+
+pub read_argument_line : (args : List (List ℕ)) → 0 < length args → AllByRecursion IsArgument args → arguments_of (argument_line args) ≡ Some args
+unfolding arguments_of
+read_argument_line [] some lawful = absurd (omega arith)
+read_argument_line (a ∷ as') some lawful = arguments_complete [] [] a as' lawful.0.0 lawful.0.1 lawful.1
+
+-- ---- an end line
+
+whole_is : (o : Option (List ℕ)) (mac : List ℕ) → whole_mac o ≡ Some mac → (o ≡ Some mac) × (length mac ≡ 32)
+whole_is None mac e = absurd cc
+whole_is (Some m) mac e =
+    let parts = cond_some (eqb (length m) 32) m mac e in
+    (rw parts.1 refl, rw (← parts.1) (eqb-true (length m) 32 parts.0))
+
+pub end_line_read : (l mac : List ℕ) → IsBytes l → mac_of l ≡ Some mac → (l ≡ end_line mac) × (length mac ≡ 32) × IsBytes mac
+unfolding mac_of
+end_line_read l mac fits e = elim (chosen (starts_with nat_eq l (codes "--- ")) (whole_mac (decoded (drop 4 l))) None (Some mac) e) [
+  | inl h ↦
+      let front = starts_at l (codes "--- ") h.0 in
+      let whole = whole_is (decoded (drop 4 l)) mac h.1 in
+      let is = text_of_decoded (drop 4 l) mac (IsBytes-drop 4 l fits) whole.0 in
+      (front ∙ ap (λ (xs : List ℕ). codes "--- " ++ xs) is.0, whole.1, is.1)
+  | inr h ↦ absurd (cc (h.1))
+]
+
+pub read_end_line : (mac : List ℕ) → length mac ≡ 32 → IsBytes mac → mac_of (end_line mac) ≡ Some mac
+unfolding mac_of
+read_end_line mac long fits = rw (decoded-text mac fits, eq-eqb (length mac) 32 long) refl

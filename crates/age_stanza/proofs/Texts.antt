@@ -1,0 +1,121 @@
+-- The text of bytes, and the bytes of a text.
+use Rattle.std.proofs.Common.{◌≡◌, ℕ, zero, suc, ◌+◌, ◌*◌, ◌/◌, ◌%◌, true, not, ltb, eqb, List, [], ◌∷◌, ◌++◌, length, get_or, take, drop, Option, Some, None, Result, Ok, Err, refl, sym, ap, ◌∙◌, arith}
+use Rattle.std.specs.List.{list_all, AllByRecursion}
+use Rattle.std.specs.Result.{result_ok}
+use Rattle.std.proofs.lemmas.Bool.{ltb-true, lt-ltb, and_parts, and_from, eqb-false, not-true}
+use Rattle.std.proofs.lemmas.List.{append-nil, get_or-drop, take-append-drop}
+use Rattle.std.proofs.lemmas.Option.{cond_some}
+use Rattle.base64.specs.GeneralPurpose.{IsBytes, decode_of, encode_of, engine_symbols}
+use Rattle.base64.specs.Engines.{standard_no_pad}
+use Rattle.base64.specs.Rfc4648.{encode_symbols}
+use Rattle.base64.specs.declared.decode.DecodeError.{DecodeError}
+use Rattle.base64.proofs.EngineFacts.{decode_of-encode_of, decode_of_strict, encode_of-append, front_bytes}
+use Rattle.base64.proofs.RoundTrip.{length-encode_symbols}
+use Rattle.age_stanza.specs.Text.{text}
+use Rattle.age_stanza.specs.LineMachine.{decoded, only_bytes}
+
+pub bytes_pass : (b : List ℕ) → IsBytes b → list_all (λ x. ltb x 256) b ≡ true
+bytes_pass [] h = refl
+bytes_pass (x ∷ xs) h = and_from (ltb x 256) (list_all (λ y. ltb y 256) xs) (lt-ltb x 256 (h 0)) (bytes_pass xs (λ i. h (suc i)))
+
+pub bytes_from_pass : (b : List ℕ) → list_all (λ x. ltb x 256) b ≡ true → IsBytes b
+bytes_from_pass [] h i = omega arith
+bytes_from_pass (x ∷ xs) h zero = ltb-true x 256 (and_parts (ltb x 256) (list_all (λ y. ltb y 256) xs) h).0
+bytes_from_pass (x ∷ xs) h (suc i) = bytes_from_pass xs (and_parts (ltb x 256) (list_all (λ y. ltb y 256) xs) h).1 i
+
+-- what decoding answers is what is decoded
+pub decoded_is : (s b : List ℕ) → decode_of standard_no_pad s ≡ Ok b → IsBytes b → Some b ≡ decoded s
+unfolding decoded
+decoded_is s b e fits = rw (e, bytes_pass b fits) refl
+
+-- ---- lists of bytes
+
+pub IsBytes-tail : (a b : List ℕ) → IsBytes (a ++ b) → IsBytes b
+IsBytes-tail [] b h = h
+IsBytes-tail (x ∷ a) b h = IsBytes-tail a b (λ i. h (suc i))
+
+pub IsBytes-drop : (n : ℕ) (b : List ℕ) → IsBytes b → IsBytes (drop n b)
+IsBytes-drop n b h i = rw get_or-drop (h (n + i))
+
+pub IsBytes-take : (n : ℕ) (b : List ℕ) → IsBytes b → IsBytes (take n b)
+IsBytes-take n b h = front_bytes (take n b) (drop n b) (rw take-append-drop h)
+
+pub IsBytes-append : (a b : List ℕ) → IsBytes a → IsBytes b → IsBytes (a ++ b)
+IsBytes-append [] b f g i = g i
+IsBytes-append (x ∷ a) b f g zero = f 0
+IsBytes-append (x ∷ a) b f g (suc i) = IsBytes-append a b (λ k. f (suc k)) g i
+
+-- ---- the text of bytes
+
+abbrev pub the_symbols : List ℕ
+the_symbols = engine_symbols standard_no_pad
+
+pub text-symbols : (m : List ℕ) → text m ≡ encode_symbols the_symbols m
+unfolding text
+text-symbols m = append-nil (encode_symbols the_symbols m)
+
+pub length-text : (m : List ℕ) → length (text m) ≡ (4 * length m + 2) / 3
+length-text m = ap length (text-symbols m) ∙ length-encode_symbols the_symbols m
+
+pub text-append : (a b : List ℕ) → length a % 3 ≡ 0 → text (a ++ b) ≡ text a ++ text b
+unfolding text
+text-append a b whole = encode_of-append standard_no_pad a b whole
+
+some_if_bytes : (o : Option (List ℕ)) (b : List ℕ) → only_bytes o ≡ Some b → (o ≡ Some b) × IsBytes b
+some_if_bytes None b e = absurd cc
+some_if_bytes (Some xs) b e =
+    let parts = cond_some (list_all (λ x. ltb x 256) xs) xs b e in
+    (rw parts.1 refl, rw (← parts.1) (bytes_from_pass xs parts.0))
+
+ok_if_some : (r : Result (List ℕ) DecodeError) (b : List ℕ) → result_ok r ≡ Some b → r ≡ Ok b
+ok_if_some (Ok x) b e = cc
+ok_if_some (Err d) b e = absurd cc
+
+-- a text that is decoded is the text of those bytes
+pub text_of_decoded : (s b : List ℕ) → IsBytes s → decoded s ≡ Some b → (s ≡ text b) × IsBytes b
+unfolding decoded text
+text_of_decoded s b fits e =
+    let parts = some_if_bytes (result_ok (decode_of standard_no_pad s)) b e in
+    (decode_of_strict standard_no_pad s b (refl, refl) fits (ok_if_some (decode_of standard_no_pad s) b parts.0), parts.1)
+
+-- the text of bytes is decoded to them
+pub decoded-text : (b : List ℕ) → IsBytes b → decoded (text b) ≡ Some b
+unfolding text
+decoded-text b fits = sym (decoded_is (encode_of standard_no_pad b) b (decode_of-encode_of standard_no_pad b refl fits) fits)
+
+-- ---- no line ends inside a text
+
+abbrev pub IsLine : List ℕ → Type 0
+IsLine l = AllByRecursion (λ c. c ≡ 10 → ⊥) l
+
+pub IsLine-append : (a b : List ℕ) → IsLine a → IsLine b → IsLine (a ++ b)
+IsLine-append [] b f g = g
+IsLine-append (x ∷ a) b f g = (f.0, IsLine-append a b f.1 g)
+
+pub line_from_test : (xs : List ℕ) → list_all (λ c. not (eqb c 10)) xs ≡ true → IsLine xs
+line_from_test [] h = tt
+line_from_test (x ∷ xs) h =
+    let parts = and_parts (not (eqb x 10)) (list_all (λ c. not (eqb c 10)) xs) h in
+    (eqb-false x 10 (not-true (eqb x 10) parts.0), line_from_test xs parts.1)
+
+at_line : (xs : List ℕ) (i : ℕ) → IsLine xs → get_or xs i 0 ≡ 10 → ⊥
+at_line [] i h e = omega arith
+at_line (x ∷ xs) zero h e = h.0 e
+at_line (x ∷ xs) (suc i) h e = at_line xs i h.1 e
+
+symbols_line : (t m : List ℕ) → ((i : ℕ) → get_or t i 0 ≡ 10 → ⊥) → IsLine (encode_symbols t m)
+unfolding encode_symbols
+symbols_line t [] h = tt
+symbols_line t (a ∷ []) h = (h _, (h _, tt))
+symbols_line t (a ∷ b ∷ []) h = (h _, (h _, (h _, tt)))
+symbols_line t (a ∷ b ∷ c ∷ rest) h = (h _, (h _, (h _, (h _, symbols_line t rest h))))
+
+pub text_line : (m : List ℕ) → IsLine (text m)
+text_line m = rw text-symbols (symbols_line the_symbols m (λ i. at_line the_symbols i (line_from_test the_symbols refl)))
+
+no_symbols : encode_symbols the_symbols [] ≡ []
+unfolding encode_symbols
+no_symbols = refl
+
+pub text-nil : text [] ≡ []
+text-nil = text-symbols [] ∙ no_symbols

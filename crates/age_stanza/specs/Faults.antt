@@ -1,0 +1,79 @@
+-- The first fault of bytes that begin no header, by what can still follow.
+use Rattle.std.specs.Prelude.{◌≡◌, ◌≢◌, ◌⊎◌, ℕ, ◌+◌, ◌==◌, nat_eq, ◌||◌, true, false, if◌then◌else◌, List, [], ◌∷◌, ◌++◌, length, take, codes, count_by}
+use Rattle.std.specs.List.{flat_map, AllByRecursion, starts_with}
+use Rattle.std.specs.Str.{bytes_eq}
+use Rattle.base64.specs.GeneralPurpose.{IsBytes}
+use Rattle.age_stanza.specs.declared.header.Stanza.{Stanza}
+use Rattle.age_stanza.specs.declared.header.Header.{Header}
+use Rattle.age_stanza.specs.declared.fault.HeadKind.{HeadKind}
+use Rattle.age_stanza.specs.declared.fault.HeadKind.TheVariants.{NotAge, Armored, BadStanzaLine, BadBody, BadEndLine, NoStanza, HeadTooLong, Memory}
+use Rattle.age_stanza.specs.declared.fault.HeadFault.{HeadFault}
+use Rattle.age_stanza.specs.Grammar.{line, version, stanza_text, end_line, IsStanza, Spells, HeadText}
+
+-- some header's text begins with these bytes
+abbrev pub Begins : List ℕ → Type 0
+Begins bytes = (h : Header) × (rest : List ℕ) × Spells h (bytes ++ rest)
+
+abbrev pub IsLine : List ℕ → Type 0
+IsLine l = AllByRecursion (λ c. c ≢ 10) l
+
+-- nothing, or whole lines
+abbrev pub AreLines : List ℕ → Type 0
+AreLines bytes = (bytes ≡ []) ⊎ ((front : List ℕ) × (bytes ≡ line front))
+
+-- l is the first line, behind the lines before it, with which no header's text begins
+pub record FirstFault (bytes before l : List ℕ) : Type 0 where
+  pub rest : List ℕ
+  pub parts : bytes ≡ before ++ (line l ++ rest)
+  pub whole : AreLines before
+  pub one_line : IsLine l
+  pub lawful_before : Begins before
+  pub faulty : Begins (before ++ line l) → ⊥
+
+-- the version line and whole stanzas
+abbrev pub stanzas_text : List Stanza → List ℕ
+stanzas_text ss = line version ++ flat_map stanza_text ss
+
+abbrev pub IsEndLine : List ℕ → Type 0
+IsEndLine l = (mac : List ℕ) × (length mac ≡ 32) × IsBytes mac × (l ≡ end_line mac)
+
+-- what is told of such a line between stanzas
+pub record RefusesBetween (l : List ℕ) (kind : HeadKind) : Type 0 where
+  pub no_stanza : IsEndLine l → kind ≡ NoStanza
+  pub bad_end : starts_with nat_eq l (codes "---") ≡ true → (IsEndLine l → ⊥) → kind ≡ BadEndLine
+  pub bad_stanza : starts_with nat_eq l (codes "---") ≡ false → kind ≡ BadStanzaLine
+
+-- the first line of an armored file
+abbrev pub armor : List ℕ
+armor = codes "-----BEGIN AGE ENCRYPTED FILE-----"
+
+-- what is told of such a line, by its place
+pub record Refuses (before l : List ℕ) (kind : HeadKind) : Type 0 where
+  pub first : before ≡ [] → kind ≡ (if bytes_eq l armor || bytes_eq l (armor ++ 13 ∷ []) then Armored else NotAge)
+  pub between : (ss : List Stanza) → AllByRecursion IsStanza ss → before ≡ stanzas_text ss → RefusesBetween l kind
+  pub in_body : before ≢ [] → ((ss : List Stanza) → AllByRecursion IsStanza ss → before ≢ stanzas_text ss) → kind ≡ BadBody
+
+-- the line that follows some bytes
+abbrev pub line_after : List ℕ → ℕ
+line_after bytes = 1 + count_by (λ c. c == 10) bytes
+
+-- a header stands in front of the bytes
+abbrev pub HasHeader : List ℕ → Type 0
+HasHeader bytes = (h : Header) × (front : List ℕ) × (rest : List ℕ) × HeadText h front × (bytes ≡ front ++ rest)
+
+-- no line of the bytes is faulty
+abbrev pub NoFault : List ℕ → Type 0
+NoFault bytes = (before l : List ℕ) → FirstFault bytes before l → ⊥
+
+abbrev pub IsLineFault : List ℕ → HeadFault → Type 0
+IsLineFault bytes fault = (before : List ℕ) × (l : List ℕ) × FirstFault bytes before l × (fault.line ≡ line_after before) × Refuses before l fault.kind
+
+-- what is told of bytes that have no header in front, by their first 1,048,576
+abbrev pub IsFault : List ℕ → HeadFault → Type 0
+IsFault bytes fault = IsLineFault (take 1048576 bytes) fault
+    ⊎ (NoFault (take 1048576 bytes) × (length (take 1048576 bytes) ≡ 1048576)
+    × (fault ≡ record { kind = HeadTooLong; line = line_after (take 1048575 bytes) }))
+
+-- want of memory belongs to no line
+abbrev pub memory_fault : HeadFault
+memory_fault = record { kind = Memory; line = 0 }

@@ -1,0 +1,13 @@
+-- What public contracts cite
+pub mod Text
+pub mod Grammar
+pub mod Encoding
+pub mod Faults
+pub mod FaultNumbers
+pub mod Parsing
+pub mod Pieces
+pub mod Laws
+-- What only private code cites
+pub mod LineMachine
+pub mod Retelling
+pub mod ParserView

@@ -1,0 +1,106 @@
+-- Private: no public contract cites this module.
+-- A machine that reads a header line by line, on lists: what the parser's code computes. Proofs tie it to the definitions.
+use Rattle.std.specs.Prelude.{◌≡◌, ◌⊎◌, ℕ, ◌+◌, ◌≤◌, ◌==◌, nat_eq, nat_lt, nat_le, Bool, true, false, ◌&&◌, ◌||◌, if◌then◌else◌, List, [], ◌∷◌, ◌++◌, length, drop, codes, Option, Some, None, Result, Ok, Err}
+use Rattle.std.specs.List.{list_all, starts_with}
+use Rattle.std.specs.Result.{result_ok}
+use Rattle.base64.specs.GeneralPurpose.{decode_of}
+use Rattle.base64.specs.Engines.{standard_no_pad}
+use Rattle.std.specs.Str.{bytes_eq}
+use Rattle.age_stanza.specs.declared.header.Stanza.{Stanza}
+use Rattle.age_stanza.specs.declared.header.Header.{Header}
+use Rattle.age_stanza.specs.declared.fault.HeadKind.{HeadKind}
+use Rattle.age_stanza.specs.declared.fault.HeadKind.TheVariants.{NotAge, Armored, BadStanzaLine, BadBody, BadEndLine, NoStanza, Memory}
+use Rattle.age_stanza.specs.declared.fault.HeadFault.{HeadFault}
+use Rattle.age_stanza.specs.declared.place.Place.{Place}
+use Rattle.age_stanza.specs.declared.place.Place.TheVariants.{Start, Between, InBody}
+use Rattle.age_stanza.specs.declared.place.Next.{Next}
+use Rattle.age_stanza.specs.declared.place.Next.TheVariants.{Go, Done}
+use Rattle.age_stanza.specs.declared.reading.Reading.{Reading}
+use Rattle.age_stanza.specs.declared.reading.Reading.TheVariants.{Unfinished, Ready}
+use Rattle.age_stanza.specs.Grammar.{version}
+use Rattle.age_stanza.specs.Faults.{armor, memory_fault}
+
+-- a list of bytes, else none
+abbrev pub only_bytes : Option (List ℕ) → Option (List ℕ)
+only_bytes None = None
+only_bytes (Some xs) = if list_all (λ x. nat_lt x 256) xs then Some xs else None
+
+-- the bytes of a text that is canonical, else none
+unfoldable pub decoded : List ℕ → Option (List ℕ)
+decoded s = only_bytes (result_ok (decode_of standard_no_pad s))
+
+-- the arguments of what is left of a line, behind those that are done and the letters of the next
+unfoldable pub arguments_from : List (List ℕ) → List ℕ → List ℕ → Option (List (List ℕ))
+arguments_from done word [] = if length word == 0 then None else Some (done ++ word ∷ [])
+arguments_from done word (c ∷ cs) =
+    if c == 32 then (if length word == 0 then None else arguments_from (done ++ word ∷ []) [] cs)
+    else if nat_le 33 c && nat_le c 126 then arguments_from done (word ++ c ∷ []) cs
+    else None
+
+unfoldable pub arguments_of : List ℕ → Option (List (List ℕ))
+arguments_of l = if starts_with nat_eq l (codes "-> ") then arguments_from [] [] (drop 3 l) else None
+
+abbrev pub whole_mac : Option (List ℕ) → Option (List ℕ)
+whole_mac None = None
+whole_mac (Some mac) = if length mac == 32 then Some mac else None
+
+unfoldable pub mac_of : List ℕ → Option (List ℕ)
+mac_of l = if starts_with nat_eq l (codes "--- ") then whole_mac (decoded (drop 4 l)) else None
+
+abbrev pub ended : List Stanza → Option (List ℕ) → Result Next HeadKind
+ended ss None = Err BadEndLine
+ended [] (Some mac) = Err NoStanza
+ended (s ∷ ss) (Some mac) = Ok (Done (record { stanzas = s ∷ ss; mac = mac }))
+
+abbrev pub begun : List Stanza → Option (List (List ℕ)) → Result Next HeadKind
+begun ss None = Err BadStanzaLine
+begun ss (Some args) = Ok (Go (InBody ss args []))
+
+abbrev pub continued : List Stanza → List (List ℕ) → List ℕ → Bool → Option (List ℕ) → Result Next HeadKind
+continued ss args body full None = Err BadBody
+continued ss args body true (Some more) = Ok (Go (InBody ss args (body ++ more)))
+continued ss args body false (Some more) = Ok (Go (Between (ss ++ record { args = args; body = body ++ more } ∷ [])))
+
+-- where a line leads
+unfoldable pub step : Place → List ℕ → Result Next HeadKind
+step Start l =
+    if bytes_eq l version then Ok (Go (Between []))
+    else if bytes_eq l armor || bytes_eq l (armor ++ 13 ∷ []) then Err Armored
+    else Err NotAge
+step (Between ss) l =
+    if starts_with nat_eq l (codes "---") then ended ss (mac_of l) else begun ss (arguments_of l)
+step (InBody ss args body) l =
+    if nat_lt 64 (length l) then Err BadBody
+    else continued ss args body (length l == 64) (decoded l)
+
+pub data Outcome : Type 0 where
+  unfinished : Outcome
+  ready : Header → List ℕ → Outcome
+  faulty : HeadFault → Outcome
+
+-- a refusal in this line; want of memory has none
+abbrev pub fault_at : HeadKind → ℕ → HeadFault
+fault_at Memory n = memory_fault
+fault_at kind n = record { kind = kind; line = n }
+
+abbrev pub after : ℕ → List ℕ → (Place → Outcome) → Result Next HeadKind → Outcome
+after n rest go (Err kind) = faulty (fault_at kind n)
+after n rest go (Ok (Done h)) = ready h rest
+after n rest go (Ok (Go place)) = go place
+
+-- what bytes lead to, from a place in line n whose characters so far are l
+unfoldable pub walk : Place → ℕ → List ℕ → List ℕ → Outcome
+walk place n l [] = unfinished
+walk place n l (c ∷ cs) =
+    if c == 10 then after n cs (λ next. walk next (n + 1) [] cs) (step place l)
+    else walk place n (l ++ c ∷ []) cs
+
+-- what the code answers is what a function on lists gives, unless memory ran out
+abbrev pub Gives : Result Next HeadKind → Result Next HeadKind → Type 0
+Gives (Ok next) read = read ≡ Ok next
+Gives (Err kind) read = (kind ≡ Memory) ⊎ (read ≡ Err kind)
+
+abbrev pub Reads : Result Reading HeadFault → List ℕ → Type 0
+Reads (Ok Unfinished) bytes = walk Start 1 [] bytes ≡ unfinished
+Reads (Ok (Ready len h)) bytes = (len ≤ length bytes) × (walk Start 1 [] bytes ≡ ready h (drop len bytes))
+Reads (Err f) bytes = (f ≡ memory_fault) ⊎ (walk Start 1 [] bytes ≡ faulty f)

@@ -1,0 +1,45 @@
+//! The argument line of a stanza.
+
+ghost use Rattle.std.specs.Prelude.{◌≡◌, [], IfOk};
+ghost use Rattle.age_stanza.specs.LineMachine.{arguments_from, arguments_of as spec_arguments_of};
+
+use crate::bytes::{Arguments, Bytes};
+use std::alloc::{AllocError, Global};
+
+/// The arguments that a list of letters and single spaces holds.
+#[tactic(auto, unfolding(crate::specs::LineMachine::arguments_from))]
+fn arguments_in(alloc: Global, letters: &[u8]) -> Result<Option<Arguments>, AllocError>
+    ensures { IfOk result (λ r. r ≡ arguments_from [] [] letters.now) }
+{
+    let mut args = Arguments::new(alloc);
+    let mut word = Vec::new(alloc);
+    for c in letters {
+        if *c == b' ' {
+            if word.is_empty() {
+                return Ok(None);
+            }
+            args.push(Bytes::from_vec(word))?;
+            word = Vec::new(alloc);
+        } else if 33 <= *c && *c <= 126 {
+            word.push(*c)?;
+        } else {
+            return Ok(None);
+        }
+    }
+    if word.is_empty() {
+        return Ok(None);
+    }
+    args.push(Bytes::from_vec(word))?;
+    Ok(Some(args))
+}
+
+/// The arguments of a line, or `None` where it is no argument line.
+#[tactic(auto, unfolding(crate::specs::LineMachine::arguments_of))]
+pub(crate) fn arguments_of(alloc: Global, line: &[u8]) -> Result<Option<Arguments>, AllocError>
+    ensures { IfOk result (λ r. r ≡ spec_arguments_of line.now) }
+{
+    if !line.starts_with(b"-> ") {
+        return Ok(None);
+    }
+    arguments_in(alloc, &line[3..])
+}

@@ -1,0 +1,91 @@
+//! Why a header was refused, and where.
+
+ghost use Rattle.std.specs.Prelude.{◌≡◌, Option};
+ghost use Rattle.age_stanza.specs.FaultNumbers.{number_of, place_of};
+
+use thiserror::Error;
+
+/// Why a header was refused.
+#[derive(Clone, Copy, Debug, PartialEq, Eq, Error)]
+pub enum HeadKind {
+    /// The first line isn't the version line.
+    #[error("not an age file")]
+    NotAge,
+    /// The first line is that of an armored file, which isn't read.
+    #[error("armored")]
+    Armored,
+    /// A line after the version line or a whole stanza is neither a lawful
+    /// argument line nor begins with `---`.
+    #[error("bad stanza line")]
+    BadStanzaLine,
+    /// A line of a body isn't canonical base64 of at most 64 characters.
+    #[error("bad body")]
+    BadBody,
+    /// A line that begins with `---` isn't a lawful end line.
+    #[error("bad end line")]
+    BadEndLine,
+    /// The end line came before any stanza.
+    #[error("no stanza")]
+    NoStanza,
+    /// [`HEAD_MAX`](crate::HEAD_MAX) bytes hold no whole header and no faulty
+    /// line.
+    #[error("header too long")]
+    HeadTooLong,
+    /// The input ended inside the header.
+    #[error("header cut")]
+    HeadCut,
+    /// A growth of memory was refused.
+    #[error("out of memory")]
+    Memory,
+}
+
+impl HeadKind {
+    /// The kind's number in the list of all faults: 1 to 8 in the order of the
+    /// variants, and 28 for memory.
+    pub fn number(&self) -> u8
+        ensures { result ≡ number_of self.now }
+    {
+        match self {
+            HeadKind::NotAge => 1,
+            HeadKind::Armored => 2,
+            HeadKind::BadStanzaLine => 3,
+            HeadKind::BadBody => 4,
+            HeadKind::BadEndLine => 5,
+            HeadKind::NoStanza => 6,
+            HeadKind::HeadTooLong => 7,
+            HeadKind::HeadCut => 8,
+            HeadKind::Memory => 28,
+        }
+    }
+}
+
+/// A refusal, and the number of the line that it came at, from 1 (0 where
+/// memory was refused).
+#[derive(Clone, Copy, Debug, PartialEq, Eq, Error)]
+#[error("{kind} line {line}")]
+pub struct HeadFault {
+    /// What is wrong.
+    pub kind: HeadKind,
+    /// The line, from 1; 0 for [`HeadKind::Memory`].
+    pub line: u64,
+}
+
+impl HeadFault {
+    /// The fault's number: 1 to 8 for what is wrong with a header, in the order
+    /// of the variants of [`HeadKind`], and 28 where memory was refused.
+    pub fn number(&self) -> u8
+        ensures { result ≡ number_of self.now.kind }
+    {
+        self.kind.number()
+    }
+
+    /// The line of the fault, from 1. `None` where memory was refused.
+    pub fn place(&self) -> Option<u64>
+        ensures { result ≡ place_of self.now }
+    {
+        match self.kind {
+            HeadKind::Memory => None,
+            _ => Some(self.line),
+        }
+    }
+}

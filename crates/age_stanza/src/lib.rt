@@ -1,0 +1,40 @@
+//! The text header of an age file, version 1 (C2SP age.md, "Header").
+//!
+//! A header is a text of lines that end with LF alone. Its first line is
+//! `age-encryption.org/v1`. One or more recipient stanzas follow, each an
+//! argument line (`-> ` and arguments parted by single spaces) and a body in
+//! base64 (RFC 4648, section 4, without padding, canonical), wrapped at 64
+//! characters, whose last line is shorter than 64 and may be empty. The end
+//! line is `--- ` and the 43 characters of the header's MAC. The binary
+//! payload follows at once.
+//!
+//! [`HeadParser`] takes a file's bytes in pieces, however they are cut, and
+//! answers the header as soon as its last byte came, or the first fault with
+//! its line. It accepts exactly the texts of the grammar and takes no byte of
+//! the payload. [`encode_head`] writes the one text of a header, and
+//! [`mac_text`] the part of it that the MAC covers.
+#![tactic(auto)]
+
+mod arguments;
+mod bytes;
+mod encode;
+mod fault;
+mod header;
+mod laws;
+mod parser;
+mod place;
+mod reading;
+mod text;
+
+pub use bytes::{Arguments, Bytes};
+pub use encode::mac_text;
+pub use fault::{HeadFault, HeadKind};
+pub use header::{HeadStep, Header, Stanza, Stanzas};
+pub use parser::HeadParser;
+
+/// The greatest length of a header in bytes, from the version line to the end
+/// line's LF.
+pub const HEAD_MAX: usize = 1_048_576;
+
+#[cfg(test)]
+mod tests;

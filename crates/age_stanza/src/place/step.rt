@@ -1,0 +1,102 @@
+ghost use Rattle.std.specs.Prelude.{◌≡◌, List, IfOk};
+ghost use Rattle.age_stanza.specs.LineMachine.{Gives};
+ghost use Rattle.age_stanza.specs.LineMachine.{step as step_of, ended as ended_of, begun as begun_of, continued as continued_of};
+ghost use Rattle.age_stanza.specs.LineMachine.{mac_of as spec_mac_of, arguments_of as spec_arguments_of};
+ghost use Rattle.age_stanza.specs.LineMachine.{decoded};
+
+use super::{ARMOR, ARMOR_CR, Next, Place, VERSION};
+use crate::arguments::arguments_of;
+use crate::bytes::{Arguments, Bytes};
+use crate::fault::HeadKind;
+use crate::header::{Header, Stanza, Stanzas};
+use crate::text::{decode, mac_of};
+use std::alloc::Global;
+
+#[tactic(auto, unfolding(crate::specs::LineMachine::step))]
+fn first(alloc: Global, line: &[u8]) -> Result<Next, HeadKind>
+    ensures { Gives result (step_of Place.Start line.now) }
+{
+    if line == VERSION.as_slice() {
+        return Ok(Next::Go(Place::Between(Stanzas::new(alloc))));
+    }
+    if line == ARMOR.as_slice() || line == ARMOR_CR.as_slice() {
+        return Err(HeadKind::Armored);
+    }
+    Err(HeadKind::NotAge)
+}
+
+fn end(alloc: Global, stanzas: Stanzas, line: &[u8]) -> Result<Next, HeadKind>
+    ensures { Gives result (ended_of stanzas (spec_mac_of line.now)) }
+{
+    let Ok(found) = mac_of(alloc, line) else {
+        return Err(HeadKind::Memory);
+    };
+    let Some(mac) = found else {
+        return Err(HeadKind::BadEndLine);
+    };
+    if stanzas.is_empty() {
+        return Err(HeadKind::NoStanza);
+    }
+    Ok(Next::Done(Header { stanzas, mac }))
+}
+
+fn begin(alloc: Global, stanzas: Stanzas, line: &[u8]) -> Result<Next, HeadKind>
+    ensures { Gives result (begun_of stanzas (spec_arguments_of line.now)) }
+{
+    let Ok(found) = arguments_of(alloc, line) else {
+        return Err(HeadKind::Memory);
+    };
+    let Some(args) = found else {
+        return Err(HeadKind::BadStanzaLine);
+    };
+    Ok(Next::Go(Place::InBody(stanzas, args, Bytes::from_vec(Vec::new(alloc)))))
+}
+
+#[tactic(auto, unfolding(crate::specs::LineMachine::step))]
+fn body_line(
+    alloc: Global,
+    mut stanzas: Stanzas,
+    args: Arguments,
+    mut body: Bytes,
+    line: &[u8],
+) -> Result<Next, HeadKind>
+    ensures { Gives result (step_of (Place.InBody stanzas args body) line.now) }
+{
+    if line.len() > 64 {
+        return Err(HeadKind::BadBody);
+    }
+    let Ok(found) = decode(alloc, line) else {
+        return Err(HeadKind::Memory);
+    };
+    let Some(more) = found else {
+        return Err(HeadKind::BadBody);
+    };
+    let Ok(()) = body.extend(more.as_slice()) else {
+        return Err(HeadKind::Memory);
+    };
+    if line.len() == 64 {
+        return Ok(Next::Go(Place::InBody(stanzas, args, body)));
+    }
+    let Ok(()) = stanzas.push(Stanza { args, body }) else {
+        return Err(HeadKind::Memory);
+    };
+    Ok(Next::Go(Place::Between(stanzas)))
+}
+
+/// Where a line leads.
+#[tactic(auto, unfolding(crate::specs::LineMachine::step))]
+pub(crate) fn step(alloc: Global, place: Place, line: &[u8]) -> Result<Next, HeadKind>
+    ensures { Gives result (step_of place line.now) }
+{
+    match place {
+        Place::Start => first(alloc, line),
+        Place::Between(stanzas) => {
+            if line.starts_with(b"---") {
+                end(alloc, stanzas, line)
+            } else {
+                begin(alloc, stanzas, line)
+            }
+        }
+        Place::InBody(stanzas, args, body) => body_line(alloc, stanzas, args, body, line),
+    }
+}
