@@ -79,10 +79,10 @@ pub record At (before : List ℕ) (place : Place) (n : ℕ) : Type 0 where
 pub at_start : At [] Start 1
 at_start = record { known = tt; line_is = refl; whole = inl refl; stands = λ h t f. f; reaches = λ cs. refl }
 
-abbrev ends_line : ℕ → ℕ
+abbrev pub ends_line : ℕ → ℕ
 ends_line c = cond (eqb c 10) 1 0
 
-count_line : (l : List ℕ) → IsLine l → count_by (λ c. eqb c 10) (line l) ≡ 1
+pub count_line : (l : List ℕ) → IsLine l → count_by (λ c. eqb c 10) (line l) ≡ 1
 count_line [] lined = refl
 count_line (c ∷ l) lined =
     let one : ends_line c ≡ 0 = rw (ne_eqb c 10 lined.0) refl in
@@ -426,7 +426,7 @@ unfinished_front place n l (c ∷ a) b e =
       | inr g ↦ rw (g.0) (unfinished_front place n (l ++ c ∷ []) a b g.1)
     ]
 
-last_of : (x : ℕ) (xs : List ℕ) → (front : List ℕ) × (c : ℕ) × (x ∷ xs ≡ front ++ c ∷ [])
+pub last_of : (x : ℕ) (xs : List ℕ) → (front : List ℕ) × (c : ℕ) × (x ∷ xs ≡ front ++ c ∷ [])
 last_of x [] = ([], x, refl)
 last_of x (y ∷ ys) =
     let deeper = last_of y ys in

@@ -10,4 +10,4 @@ pub mod Laws
 -- What only private code cites
 pub mod LineMachine
 pub mod Retelling
-pub mod ParserView
+pub mod Steps

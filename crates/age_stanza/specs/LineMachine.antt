@@ -1,6 +1,6 @@
 -- Private: no public contract cites this module.
 -- A machine that reads a header line by line, on lists: what the parser's code computes. Proofs tie it to the definitions.
-use Rattle.std.specs.Prelude.{◌≡◌, ◌⊎◌, ℕ, ◌+◌, ◌≤◌, ◌==◌, nat_eq, nat_lt, nat_le, Bool, true, false, ◌&&◌, ◌||◌, if◌then◌else◌, List, [], ◌∷◌, ◌++◌, length, drop, codes, Option, Some, None, Result, Ok, Err}
+use Rattle.std.specs.Prelude.{◌≡◌, ◌⊎◌, ℕ, ◌+◌, ◌==◌, nat_eq, nat_lt, nat_le, Bool, true, false, ◌&&◌, ◌||◌, if◌then◌else◌, List, [], ◌∷◌, ◌++◌, length, drop, codes, Option, Some, None, Result, Ok, Err}
 use Rattle.std.specs.List.{list_all, starts_with}
 use Rattle.std.specs.Result.{result_ok}
 use Rattle.base64.specs.GeneralPurpose.{decode_of}
@@ -15,8 +15,6 @@ use Rattle.age_stanza.specs.declared.place.Place.{Place}
 use Rattle.age_stanza.specs.declared.place.Place.TheVariants.{Start, Between, InBody}
 use Rattle.age_stanza.specs.declared.place.Next.{Next}
 use Rattle.age_stanza.specs.declared.place.Next.TheVariants.{Go, Done}
-use Rattle.age_stanza.specs.declared.reading.Reading.{Reading}
-use Rattle.age_stanza.specs.declared.reading.Reading.TheVariants.{Unfinished, Ready}
 use Rattle.age_stanza.specs.Grammar.{version}
 use Rattle.age_stanza.specs.Faults.{armor, memory_fault}
 
@@ -99,8 +97,3 @@ walk place n l (c ∷ cs) =
 abbrev pub Gives : Result Next HeadKind → Result Next HeadKind → Type 0
 Gives (Ok next) read = read ≡ Ok next
 Gives (Err kind) read = (kind ≡ Memory) ⊎ (read ≡ Err kind)
-
-abbrev pub Reads : Result Reading HeadFault → List ℕ → Type 0
-Reads (Ok Unfinished) bytes = walk Start 1 [] bytes ≡ unfinished
-Reads (Ok (Ready len h)) bytes = (len ≤ length bytes) × (walk Start 1 [] bytes ≡ ready h (drop len bytes))
-Reads (Err f) bytes = (f ≡ memory_fault) ⊎ (walk Start 1 [] bytes ≡ faulty f)

@@ -1,14 +1,11 @@
 -- What a parser has come to, whatever pieces it was given.
-use Rattle.std.specs.Prelude.{◌≡◌, ◌≢◌, ◌⊎◌, ℕ, ◌<◌, ◌≤◌, List, [], ◌++◌, length, take, Result, Ok, Err}
-use Rattle.base64.specs.GeneralPurpose.{IsBytes}
+use Rattle.std.specs.Prelude.{◌≡◌, ◌≢◌, ◌⊎◌, ℕ, ◌<◌, ◌≤◌, List, ◌++◌, length, take, Result, Ok, Err}
 use Rattle.age_stanza.specs.declared.header.HeadStep.{HeadStep}
 use Rattle.age_stanza.specs.declared.header.HeadStep.TheVariants.{More, Ready}
 use Rattle.age_stanza.specs.declared.fault.HeadKind.TheVariants.{HeadCut}
 use Rattle.age_stanza.specs.declared.fault.HeadFault.{HeadFault}
-use Rattle.age_stanza.specs.declared.place.Place.TheVariants.{Start}
 use Rattle.age_stanza.specs.Grammar.{HeadText}
 use Rattle.age_stanza.specs.Faults.{line_after, HasHeader, NoFault, IsFault}
-use Rattle.age_stanza.specs.LineMachine.{walk, unfinished}
 use Rattle.age_stanza.specs.Faults.{memory_fault}
 
 -- the joined bytes so far, or a header was found, or it was refused
@@ -33,15 +30,3 @@ abbrev pub Cuts : Parsing → HeadFault → Parsing → Type 0
 Cuts (reading held) fault new = (fault ≡ record { kind = HeadCut; line = line_after held }) × (new ≡ refused fault) × (¬ HasHeader held) × NoFault held
 Cuts complete fault new = Unit {0}
 Cuts (refused earlier) fault new = (fault ≡ earlier) × (new ≡ refused earlier)
-
--- what is kept of a parser
-abbrev pub IsParsing : Parsing → Type 0
-IsParsing (reading held) = (length held < 1048576) × (walk Start 1 [] held ≡ unfinished) × IsBytes held
-IsParsing complete = Unit {0}
-IsParsing (refused fault) = Unit {0}
-
--- one piece more, inside the parser
-abbrev pub Takes : List ℕ → List ℕ → Result HeadStep HeadFault → List ℕ → Type 0
-Takes held piece (Ok More) new = (new ≡ held ++ piece) × IsParsing (reading (held ++ piece))
-Takes held piece (Ok (Ready taken h)) new = (taken ≤ length piece) × HeadText h (held ++ take taken piece)
-Takes held piece (Err fault) new = (fault ≡ memory_fault) ⊎ ((¬ HasHeader (held ++ piece)) × IsFault (held ++ piece) fault)

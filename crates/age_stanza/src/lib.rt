@@ -22,8 +22,9 @@ mod fault;
 mod header;
 mod laws;
 mod parser;
+mod partial;
+mod piece;
 mod place;
-mod reading;
 mod text;
 
 pub use bytes::{Arguments, Bytes};

@@ -1,7 +1,6 @@
-use Rattle.std.proofs.Common.{refl, arith}
-use Rattle.age_stanza.specs.LineMachine.{walk}
+use Rattle.std.proofs.Common.{arith}
+use Rattle.age_stanza.proofs.FinishedLines.{nothing_under_way}
 use Rattle.age_stanza.proofs.parser.HeadParser.new.Goals as goal
 
 pub invariant_of-result : goal.invariant_of-result
-unfolding walk
-invariant_of-result c = rw (c.new.ensures.items) ((omega arith, refl, λ i. omega arith), omega arith)
+invariant_of-result c = rw (c.new.ensures) (omega arith, nothing_under_way)

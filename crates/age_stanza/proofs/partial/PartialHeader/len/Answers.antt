@@ -1,0 +1,7 @@
+use Rattle.age_stanza.proofs.FinishedLines.{under_way}
+use Rattle.age_stanza.proofs.partial.PartialHeader.len.Goals as goal
+
+pub returns-clause-known : goal.returns-clause-known
+returns-clause-known c =
+    let known = c.self.invariant in
+    rw (← c.self.view_is) (under_way _ _ _ known.lead_to known.one_line known.line_bytes)

@@ -1,0 +1,149 @@
+//! The part of a header that came so far.
+
+ghost use Rattle.std.specs.Prelude.{◌≡◌, ◌++◌, ◌+◌, ◌<◌, ◌≤◌, [], length, take, IfOk, IfErr};
+ghost use Rattle.age_stanza.specs.Faults.{line_after, memory_fault, IsLine};
+ghost use Rattle.age_stanza.specs.LineMachine.{fault_at as spec_fault_at};
+ghost use Rattle.age_stanza.specs.Retelling.{IsUnderWay};
+
+use crate::fault::{HeadFault, HeadKind};
+use crate::header::Header;
+use crate::place::{Next, Place, step};
+use std::alloc::Global;
+use std::marker::Model;
+
+pub(crate) const MEMORY: HeadFault = HeadFault {
+    kind: HeadKind::Memory,
+    line: 0,
+};
+
+/// The part of a header that came so far: what its finished lines hold, and
+/// the line that isn't finished. No finished line is kept as it came. A
+/// contract sees the bytes that came.
+#[derive(Debug, Drop)]
+pub(crate) struct PartialHeader {
+    place: Place,
+    line: Vec<u8>,
+    bytes: usize,
+    finished_lines: u64,
+}
+
+impl Model for PartialHeader {
+    ghost use Rattle.std.specs.Prelude.{ℕ, List, ◌++◌};
+    ghost use Rattle.age_stanza.specs.Retelling.{retold, IsPartial};
+
+    ghost Value = { List ℕ };
+
+    ghost view = { λ p. retold p.place ++ p.line.items };
+
+    ghost invariant = { λ p. IsPartial p.place p.line.items p.bytes p.finished_lines };
+}
+
+/// What the end of a line led to.
+#[derive(Debug, Drop)]
+pub(crate) enum Progress {
+    /// The header goes on.
+    More(PartialHeader),
+    /// The line was the header's end line.
+    Whole(Header),
+}
+
+/// A refusal in a line; want of memory has none.
+fn fault_at(kind: HeadKind, line: u64) -> HeadFault
+    ensures { result ≡ spec_fault_at kind line }
+{
+    match kind {
+        HeadKind::Memory => MEMORY,
+        _ => HeadFault { kind, line },
+    }
+}
+
+impl PartialHeader {
+    ghost use Rattle.age_stanza.specs.Steps.{EndsLine};
+
+    /// Nothing came yet. Takes no memory.
+    pub(crate) fn new(alloc: Global) -> PartialHeader
+        ensures { result ≡ [] }
+    {
+        PartialHeader {
+            place: Place::Start,
+            line: Vec::new(alloc),
+            bytes: 0,
+            finished_lines: 0,
+        }
+    }
+
+    /// How many bytes came.
+    pub(crate) fn len(&self) -> usize
+        ensures len { result ≡ length self.now }
+        ensures known { IsUnderWay self.now }
+    {
+        self.bytes
+    }
+
+    /// Adds characters to the line that isn't finished.
+    pub(crate) fn extended(mut self, characters: &[u8]) -> Result<PartialHeader, HeadFault>
+        requires one_line { IsLine characters.now }
+        requires within { length self + length characters.now ≤ 1048576 }
+        ensures ok { IfOk result (λ longer. longer ≡ self ++ characters.now) }
+        ensures err { IfErr result (λ fault. fault ≡ memory_fault) }
+    {
+        let Ok(()) = self.line.extend_from_slice(characters) else {
+            return Err(MEMORY);
+        };
+        self.bytes += characters.len();
+        Ok(self)
+    }
+
+    /// Judges the line, whose LF came.
+    pub(crate) fn line_ended(self) -> Result<Progress, HeadFault>
+        requires { length self < 1048576 }
+        ensures { EndsLine self result }
+    {
+        let PartialHeader {
+            place,
+            mut line,
+            bytes,
+            finished_lines,
+        } = self;
+        match step(*line.allocator(), place, line.as_slice()) {
+            Err(kind) => Err(fault_at(kind, finished_lines + 1)),
+            Ok(Next::Done(header)) => Ok(Progress::Whole(header)),
+            Ok(Next::Go(place)) => {
+                line.clear();
+                Ok(Progress::More(PartialHeader {
+                    place,
+                    line,
+                    bytes: bytes + 1,
+                    finished_lines: finished_lines + 1,
+                }))
+            }
+        }
+    }
+
+    /// The fault of a header that the input's end cut.
+    pub(crate) fn cut_fault(&self) -> HeadFault
+        ensures { result ≡ record { kind = HeadKind.HeadCut; line = line_after self.now } }
+    {
+        HeadFault {
+            kind: HeadKind::HeadCut,
+            line: self.finished_lines + 1,
+        }
+    }
+
+    /// The fault of a header that reached the limit: its line is that of the
+    /// last byte.
+    pub(crate) fn too_long_fault(&self) -> HeadFault
+        requires { length self.now ≡ 1048576 }
+        ensures { result ≡ record { kind = HeadKind.HeadTooLong; line = line_after (take 1048575 self.now) } }
+    {
+        let line = if self.line.is_empty() {
+            self.finished_lines
+        } else {
+            self.finished_lines + 1
+        };
+        HeadFault {
+            kind: HeadKind::HeadTooLong,
+            line,
+        }
+    }
+}
