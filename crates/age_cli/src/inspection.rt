@@ -1,0 +1,42 @@
+//! The command that reports what a file holds.
+
+ghost use Rattle.std.specs.Prelude.{◌≡◌, true, OnOk};
+ghost use Rattle.age_cli.specs.Runs.{Reports, ReportsFile};
+
+use crate::ending::Ending;
+use crate::files::FileSet;
+use crate::print::{put_bytes, text_of};
+use age_file::{FileFault, Sink, Source, inspect};
+use std::alloc::Global;
+
+/// Writes the report of what it reads, to the end.
+pub(crate) fn report<I: Source, O: Sink>(
+    alloc: Global,
+    input: &mut I,
+    output: &mut O,
+) -> Result<(), FileFault>
+    ensures { OnOk result (Reports (I.remaining input.old) (I.remaining input.new) (O.taken output.old) (O.taken output.new)) }
+{
+    let found = inspect(alloc, input)?;
+    let text = text_of(alloc, &found)?;
+    put_bytes(output, text.as_slice())?;
+    match output.flush() {
+        Ok(()) => Ok(()),
+        Err(_) => Err(FileFault::Write),
+    }
+}
+
+/// The same of a file by its name.
+pub(crate) fn report_file<F: FileSet, O: Sink>(
+    alloc: Global,
+    files: &mut F,
+    name: &str,
+    output: &mut O,
+) -> Result<(), Ending>
+    ensures kept { F.entry files.new ≡ F.entry files.old }
+    ensures done { OnOk result (F.tells files.old ≡ true → ReportsFile (F.entry files.old name.now) (O.taken output.old) (O.taken output.new)) }
+{
+    let mut source = files.open(alloc, name)?;
+    report(alloc, &mut source, output)?;
+    Ok(())
+}

@@ -1,0 +1,23 @@
+//! The program over words, files, a source and sinks.
+//!
+//! `run` takes the words after the program's name, a set of files, the input, the output and a sink for faults, and
+//! answers the status: 0 on success, 1 on a fault, 2 for a bad command line. It is generic over all of them, so that its
+//! contract speaks of every input and every set of files; the program hands in the machine's.
+#![tactic(auto)]
+
+mod commands;
+mod ending;
+mod files;
+mod host_files;
+mod inspection;
+mod mem_entry;
+mod mem_files;
+mod print;
+mod program;
+mod reading;
+mod request;
+
+pub use files::FileSet;
+pub use host_files::HostFiles;
+pub use mem_files::{MemFiles, MemOut};
+pub use program::run;

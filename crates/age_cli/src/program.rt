@@ -1,0 +1,124 @@
+//! The program, over words, files, a source and sinks.
+
+ghost use Rattle.std.specs.Prelude.{◌≡◌, ◌≤◌, List, [], OnOk, IsOk, codes};
+ghost use Rattle.clap.specs.Words.{Row, first_of, kind_of};
+ghost use Rattle.clap.specs.Walk.{texts};
+ghost use Rattle.clap.specs.declared.error.ErrorKind.TheVariants.{OutOfMemory};
+ghost use Rattle.age_cli.specs.Asked.{Asks};
+ghost use Rattle.age_cli.specs.Runs.{Reports, Inspects};
+
+use crate::ending::Ending;
+use crate::files::FileSet;
+use crate::inspection::{report, report_file};
+use crate::print::put_bytes;
+use crate::reading::read_request;
+use crate::request::Request;
+use age_file::{FileFault, Sink, Source};
+use clap::Error;
+use clap::error::ErrorKind;
+use std::alloc::Global;
+
+/// Help that was asked for goes to the output; other words are refused.
+fn answer_refusal<O: Sink>(alloc: Global, error: Error, output: &mut O) -> Result<(), Ending>
+    ensures help { IsOk result → kind_of error ≡ OutOfMemory → ⊥ }
+{
+    if error.kind() == ErrorKind::OutOfMemory {
+        return Err(Ending::Fault(FileFault::Memory));
+    }
+    let Ok(text) = error.to_string(alloc) else {
+        return Err(Ending::Fault(FileFault::Memory));
+    };
+    if error.use_stderr() {
+        return Err(Ending::Words(text));
+    }
+    put_bytes(output, text.as_bytes())?;
+    match output.flush() {
+        Ok(()) => Ok(()),
+        Err(_) => Err(Ending::Fault(FileFault::Write)),
+    }
+}
+
+/// Does what the words ask.
+fn obey<F: FileSet, I: Source, O: Sink>(
+    alloc: Global,
+    words: &[&str],
+    files: &mut F,
+    input: &mut I,
+    output: &mut O,
+) -> Result<(), Ending>
+    ensures report { words.now ≡ [] → OnOk result (Reports (I.remaining input.old) (I.remaining input.new) (O.taken output.old) (O.taken output.new)) }
+    ensures inspects { (rows : List Row) → Asks (texts words.now) (codes "inspect") rows → OnOk result (
+        Inspects (first_of (codes "FILE") rows) (F.tells files.old) (F.entry files.old) (I.remaining input.old) (I.remaining input.new) (O.taken output.old) (O.taken output.new)) }
+    ensures kept { F.entry files.new ≡ F.entry files.old }
+{
+    if words.is_empty() {
+        report(alloc, input, output)?;
+        return Ok(());
+    }
+    match read_request(alloc, words) {
+        Err(error) => answer_refusal(alloc, error, output),
+        Ok(Some(Request::Inspect(Some(name)))) => report_file(alloc, files, name, output),
+        Ok(Some(Request::Inspect(None))) => {
+            report(alloc, input, output)?;
+            Ok(())
+        }
+        Ok(None) => Err(Ending::Unread),
+    }
+}
+
+/// Tells why a run ended, where the sink takes it.
+fn tell<E: Sink>(alloc: Global, faults: &mut E, ending: &Ending) {
+    let _ = put_ending(alloc, faults, ending);
+}
+
+fn put_ending<E: Sink>(alloc: Global, faults: &mut E, ending: &Ending) -> Result<(), FileFault> {
+    match ending {
+        Ending::Words(text) => put_bytes(faults, text.as_bytes())?,
+        Ending::Unread => put_bytes(faults, b"age_tool: bad command line\n")?,
+        Ending::Fault(fault) => put_fault(alloc, faults, *fault)?,
+    }
+    match faults.flush() {
+        Ok(()) => Ok(()),
+        Err(_) => Err(FileFault::Write),
+    }
+}
+
+fn put_fault<E: Sink>(alloc: Global, faults: &mut E, fault: FileFault) -> Result<(), FileFault> {
+    let number = fault.number();
+    let name = fault.name();
+    let line = match fault.place() {
+        Some(line) => format!(in alloc; "age_tool: {number} {name} line {line}\n")?,
+        None => format!(in alloc; "age_tool: {number} {name}\n")?,
+    };
+    put_bytes(faults, line.as_bytes())
+}
+
+/// Runs the program on the words after its name, and answers its status: 0 on success, 1 on a fault, which is told in
+/// one line to `faults`, and 2 for a bad command line, whose text goes there too.
+///
+/// Without words, or with `inspect`, it reads the input to its end and writes the report; with `inspect FILE` it reads
+/// that file. Help that is asked for goes to the output, with status 0.
+pub fn run<F: FileSet, I: Source, O: Sink, E: Sink>(
+    alloc: Global,
+    words: &[&str],
+    files: &mut F,
+    input: &mut I,
+    output: &mut O,
+    faults: &mut E,
+) -> u8
+    ensures status { result ≤ 2 }
+    // 0 means that the input was read to its end, and that its report and nothing else was written.
+    ensures report { words.now ≡ [] → result ≡ 0
+        → Reports (I.remaining input.old) (I.remaining input.new) (O.taken output.old) (O.taken output.new) }
+    ensures inspects { (rows : List Row) → Asks (texts words.now) (codes "inspect") rows → result ≡ 0
+        → Inspects (first_of (codes "FILE") rows) (F.tells files.old) (F.entry files.old) (I.remaining input.old) (I.remaining input.new) (O.taken output.old) (O.taken output.new) }
+    ensures kept { F.entry files.new ≡ F.entry files.old }
+{
+    match obey(alloc, words, files, input, output) {
+        Ok(()) => 0,
+        Err(ending) => {
+            tell(alloc, faults, &ending);
+            ending.status()
+        }
+    }
+}

@@ -1,0 +1,75 @@
+-- Bytes that are told, one call after another.
+use Rattle.std.proofs.Common.{◌≡◌, ℕ, ◌+◌, ◌-◌, ◌^◌, min, List, [], ◌++◌, length, take, drop, Option, Some, None, sym, ap, subst, ◌∙◌, append_assoc, append-nil, inl, inr, arith}
+use Rattle.std.proofs.lemmas.Bool.{cases_lt}
+use Rattle.std.specs.Prelude.{◌⊎◌}
+use Rattle.std.specs.Io.KnownBytes.{Consumes, Appends, Keeps}
+use Rattle.std.proofs.lemmas.List.{take-append-drop}
+use Rattle.age_stanza.specs.declared.fault.HeadFault.{HeadFault}
+use Rattle.age_stanza.specs.declared.fault.HeadKind.{HeadKind}
+use Rattle.age_stanza.specs.declared.fault.HeadKind.TheVariants.{NotAge, Armored, BadStanzaLine, BadBody, BadEndLine, NoStanza, HeadTooLong, HeadCut, Memory}
+use Rattle.age_stanza.specs.Faults.{HasHeader, IsFault, memory_fault}
+use Rattle.age_file.specs.Faults.{HasRisen, TellsFault, HeadFails, fault_of, fault_by_kind}
+use Rattle.age_file.specs.Intakes.{Pulled}
+use Rattle.age_file.specs.Unread.{Unread}
+
+pub Consumes-then : (a b c : Option (List ℕ)) (x y : List ℕ) → Consumes a b x → Consumes b c y → Consumes a c (x ++ y)
+Consumes-then None b c x y p q = tt
+Consumes-then (Some a) None c x y p q = absurd p
+Consumes-then (Some a) (Some b) None x y p q = absurd q
+Consumes-then (Some a) (Some b) (Some c) x y p q = p ∙ ap (λ (t : List ℕ). x ++ t) q ∙ sym (append_assoc x y c)
+
+pub Appends-then : (a b c : Option (List ℕ)) (x y : List ℕ) → Appends a b x → Appends b c y → Appends a c (x ++ y)
+Appends-then None b c x y p q = tt
+Appends-then (Some a) None c x y p q = absurd p
+Appends-then (Some a) (Some b) None x y p q = absurd q
+Appends-then (Some a) (Some b) (Some c) x y p q = q ∙ ap (λ (t : List ℕ). t ++ y) p ∙ append_assoc a x y
+
+pub Appends-Keeps : (a b c : Option (List ℕ)) (x : List ℕ) → Appends a b x → Keeps b c → Appends a c x
+Appends-Keeps None b c x p q = tt
+Appends-Keeps (Some a) None c x p q = absurd p
+Appends-Keeps (Some a) (Some b) None x p q = absurd q
+Appends-Keeps (Some a) (Some b) (Some c) x p q = q ∙ p
+
+-- a count of failures that was raised
+pub risen : (old new : ℕ) → new ≡ min (old + 1) (2 ^ 64 - 1) → HasRisen old new
+risen old new e =
+    elim (cases_lt old (2 ^ 64 - 1)) [ inl lt ↦ inl (omega (arith, lt, e)) | inr le ↦ inr (omega (arith, le, e)) ]
+
+-- ---- headers
+
+-- a fault that the bytes have is the fault that is told
+pub fails_by_kind : (old new : Option (List ℕ)) (i j : ℕ) (kind : HeadKind) (fault : HeadFault) → TellsFault old new fault → HeadFails old new i j (fault_by_kind kind fault)
+fails_by_kind old new i j NotAge fault told = told
+fails_by_kind old new i j Armored fault told = told
+fails_by_kind old new i j BadStanzaLine fault told = told
+fails_by_kind old new i j BadBody fault told = told
+fails_by_kind old new i j BadEndLine fault told = told
+fails_by_kind old new i j NoStanza fault told = told
+fails_by_kind old new i j HeadTooLong fault told = told
+fails_by_kind old new i j HeadCut fault told = told
+fails_by_kind old new i j Memory fault told = tt
+
+-- a piece that was refused
+pub piece_fails : (old new : Option (List ℕ)) (i j : ℕ) (held piece : List ℕ) (fault : HeadFault) → Consumes old new (held ++ piece)
+    → (fault ≡ memory_fault) ⊎ ((HasHeader (held ++ piece) → ⊥) × IsFault (held ++ piece) fault) → HeadFails old new i j (fault_of fault)
+piece_fails old new i j held piece fault consumed (inl memory) = subst (λ (f : HeadFault). HeadFails old new i j (fault_of f)) (sym memory) tt
+piece_fails old new i j held piece fault consumed (inr told) = fails_by_kind old new i j fault.kind fault (held ++ piece, consumed, told.0, inl told.1)
+
+-- a refill that gave nothing
+pub cut_pulled : (start now : Option (List ℕ)) (pulls : ℕ) (held bytes : List ℕ) → bytes ≡ [] → Pulled start now pulls (held ++ bytes) → Pulled start now pulls held
+cut_pulled start now pulls held bytes none h = subst (λ (t : List ℕ). Pulled start now pulls t) (ap (λ (t : List ℕ). held ++ t) none ∙ append-nil held) h
+
+-- the part of a piece that a header ends in, and the part that is left in the intake
+pub head_pulled : (start now : Option (List ℕ)) (old new : Unread) (held piece : List ℕ) (taken : ℕ) → new.pulls ≡ old.pulls → piece ≡ old.bytes → new.bytes ≡ drop taken old.bytes
+    → Pulled start now old.pulls (held ++ old.bytes) → Pulled start now new.pulls ((held ++ take taken piece) ++ new.bytes)
+head_pulled start now old new held piece taken pulls is rest h =
+    let e : held ++ old.bytes ≡ (held ++ take taken piece) ++ new.bytes =
+    ap (λ (t : List ℕ). held ++ t) (sym (take-append-drop taken old.bytes))
+    ∙ (sym (append_assoc held (take taken old.bytes) (drop taken old.bytes))
+    ∙ (ap (λ (t : List ℕ). (held ++ take taken t) ++ drop taken old.bytes) (sym is) ∙ ap (λ (t : List ℕ). (held ++ take taken piece) ++ t) (sym rest))) in
+    subst (λ (k : ℕ). Pulled start now k ((held ++ take taken piece) ++ new.bytes)) (sym pulls) (subst (λ (t : List ℕ). Pulled start now old.pulls t) e h)
+
+-- a refill that gave bytes, all of which are counted now
+pub rest_pulled : (start now : Option (List ℕ)) (pulls new_pulls : ℕ) (used passed fresh : List ℕ) → new_pulls ≡ pulls → Pulled start now pulls ((used ++ passed) ++ fresh) → Pulled start now new_pulls (used ++ (passed ++ fresh))
+rest_pulled start now pulls new_pulls used passed fresh same h =
+    subst (λ (k : ℕ). Pulled start now k (used ++ (passed ++ fresh))) (sym same) (subst (λ (t : List ℕ). Pulled start now pulls t) (append_assoc used passed fresh) h)

@@ -1,0 +1,18 @@
+use Rattle.std.proofs.Common.{◌-◌, ◌^◌, ◌≡◌, ◌<◌, ℕ, [], List, length}
+use Rattle.age_stanza.specs.Parsing.{reading}
+use Rattle.age_file.specs.Intakes.{Pulled}
+use Rattle.age_file.proofs.head.read_head.Given as goal
+
+abbrev pub invariant-pieces : goal.invariant-pieces
+invariant-pieces g l = record {
+  held : List ℕ;
+  parser_is : l.parser ≡ reading held;
+  len_is : l.len ≡ length held;
+  short : length held < 1048576;
+  pulled : Pulled (g.S.Source.remaining l.fn.source) (g.S.Source.remaining l.source) l.intake.pulls held;
+  unread : l.intake.bytes ≡ [];
+  unfailed : g.S.Source.failed l.source ≡ g.S.Source.failed l.fn.source;
+}
+
+abbrev pub decreases-pieces : goal.decreases-pieces
+decreases-pieces g l = 2 ^ 63 - l.intake.pulls

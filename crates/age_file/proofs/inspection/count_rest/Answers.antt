@@ -1,0 +1,24 @@
+use Rattle.std.proofs.Common.{◌++◌, ◌∙◌, arith, length}
+use Rattle.std.proofs.lemmas.List.{length-append}
+use Rattle.age_file.proofs.Bytes.{rest_pulled}
+use Rattle.age_file.proofs.inspection.count_rest.Goals as goal
+
+pub returns-in-Ok-false-clause-small : goal.returns-in-Ok-false-clause-small
+returns-in-Ok-false-clause-small g c = omega (arith, c.pulls.invariant.small, c.pulls.invariant.most)
+
+pub pulls-preserved : goal.pulls-preserved
+pulls-preserved g c =
+    let kept = c.pulls.invariant in
+    let r = rw c.in-Ok-true.field-0-test at c.in-Ok-true.ensures in
+    let fresh = c.bytes-in-pulls.result.now in
+    let same = c.use_all-in-pulls.ensures.pulls in
+    record {
+      passed = kept.passed ++ fresh;
+      count_is = omega (arith, kept.count_is, length-append kept.passed fresh);
+      small = omega (arith, kept.small, c.bytes-in-pulls.ensures.most, same, r.answered.3);
+      most = omega (arith, same, r.answered.2);
+      pulled = λ start used h.
+          rest_pulled start _ c.refill.new.self.pulls c.use_all-in-pulls.new.self.pulls used kept.passed fresh same (rw (← c.bytes-in-pulls.ensures.bytes) at (r.pulled start (used ++ kept.passed) (kept.pulled start used h)));
+      unread = c.use_all-in-pulls.ensures.bytes;
+      unfailed = r.answered.4 ∙ kept.unfailed;
+    }

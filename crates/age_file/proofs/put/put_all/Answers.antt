@@ -1,0 +1,35 @@
+use Rattle.std.proofs.Common.{min, ◌^◌, ◌≡◌, ◌+◌, ◌-◌, length, take, drop, sym, ap, subst, ◌∙◌, arith, List, ℕ, [], append-nil, refl}
+use Rattle.std.proofs.lemmas.List.{take_rest, length-take, take-append-drop, take_all}
+use Rattle.std.proofs.Common.{take-add, ◌++◌}
+use Rattle.std.specs.Io.KnownBytes.{Appends}
+use Rattle.age_file.proofs.Bytes.{Appends-then, Appends-Keeps, risen}
+use Rattle.age_file.proofs.put.put_all.Goals as goal
+
+pub returns-in_default-clause-writes : goal.returns-in_default-clause-writes
+returns-in_default-clause-writes g c =
+    let kept = c.loop-at.invariant in
+    let at = c.loop-at.at in
+    record {
+      out = take at c.args.bytes.now;
+      cut = drop at c.args.bytes.now;
+      parts = sym (take-append-drop at c.args.bytes.now);
+      wrote = Appends-Keeps _ _ _ _ kept.wrote c.in_default.ensures.bytes;
+      count = omega (arith, kept.count, kept.within, length-take c.loop-at.at c.args.bytes.now);
+      answered = risen _ _ (c.in_default.ensures.counted ∙ ap (λ k. min (k + 1) (2 ^ 64 - 1)) kept.failed);
+    }
+
+pub loop-at-preserved : goal.loop-at-preserved
+loop-at-preserved g c =
+    let kept = c.loop-at.invariant in
+    let at = c.loop-at.at in
+    let bytes = c.args.bytes.now in
+    let n = c.in-Ok.n in
+    let on : take at bytes ++ take n (take (length bytes - at) (drop at bytes)) ≡ take (at + n) bytes =
+    ap (λ (ys : List ℕ). take at bytes ++ take n ys) (take_rest bytes at) ∙ sym (take-add at n bytes) in
+    record {
+      within = omega (arith, kept.within, c.in-Ok.ensures.bound);
+      wrote = subst (λ (t : List ℕ). Appends (g.O.Sink.taken c.args.sink.now) (g.O.Sink.taken c.put.new.self) t) on (Appends-then _ _ _ (take at bytes) (take n (take (length bytes - at) (drop at bytes))) kept.wrote c.in-Ok.ensures.bytes);
+      count = omega (arith, kept.count);
+      failed = c.in-Ok.ensures.counted ∙ kept.failed;
+      named = c.in-Ok.ensures.named ∙ kept.named;
+    }

@@ -1,0 +1,51 @@
+-- The numbers and places of faults, and when each comes.
+use Rattle.std.specs.Prelude.{◌≡◌, ◌⊎◌, ℕ, ◌^◌, ◌-◌, ◌<◌, ◌≤◌, List, length, Option, None}
+use Rattle.std.specs.Io.KnownBytes.{Consumes, IsAtEnd}
+use Rattle.age_stanza.specs.declared.fault.HeadKind.{HeadKind}
+use Rattle.age_stanza.specs.declared.fault.HeadKind.TheVariants.{HeadCut, Memory as HeadMemory}
+use Rattle.age_stanza.specs.declared.fault.HeadFault.{HeadFault}
+use Rattle.age_stanza.specs.FaultNumbers as head
+use Rattle.age_stanza.specs.Faults.{HasHeader, NoFault, IsFault, line_after}
+use Rattle.age_file.specs.declared.fault.FileFault.{FileFault}
+use Rattle.age_file.specs.declared.fault.FileFault.TheVariants.{Head, Read, Write, Memory, ReadNeverEnds}
+
+abbrev pub number_of : FileFault → ℕ
+number_of (Head fault) = head.number_of fault.kind
+number_of Read = 26
+number_of Write = 27
+number_of Memory = 28
+number_of ReadNeverEnds = 29
+
+-- the line of a header's fault
+abbrev pub place_of : FileFault → Option ℕ
+place_of (Head fault) = head.place_of fault
+place_of other = None
+
+-- a header's fault; want of memory is one case, whichever layer it came from
+abbrev pub fault_by_kind : HeadKind → HeadFault → FileFault
+fault_by_kind HeadMemory fault = Memory
+fault_by_kind kind fault = Head fault
+
+abbrev pub fault_of : HeadFault → FileFault
+fault_of fault = fault_by_kind fault.kind fault
+
+-- a count of failures rose, or is at its greatest value
+abbrev pub HasRisen : ℕ → ℕ → Type 0
+HasRisen old new = (old < new) ⊎ (new ≡ 2 ^ 64 - 1)
+
+-- the fault of the bytes that were read: of a line, of their length, or of their end
+abbrev pub TellsFault : Option (List ℕ) → Option (List ℕ) → HeadFault → Type 0
+TellsFault old new fault = (bytes : List ℕ) × Consumes old new bytes × (HasHeader bytes → ⊥)
+    × (IsFault bytes fault ⊎ (IsAtEnd new × NoFault bytes × (fault ≡ record { kind = HeadCut; line = line_after bytes })))
+
+-- a source gave so much that it is taken for one that never ends
+abbrev pub NeverEnds : Option (List ℕ) → Option (List ℕ) → Type 0
+NeverEnds old new = (bytes : List ℕ) × Consumes old new bytes × (2 ^ 63 ≤ length bytes)
+
+-- why a header was not read: what the source's bytes and its count of failures have to be for each fault
+abbrev pub HeadFails : Option (List ℕ) → Option (List ℕ) → ℕ → ℕ → FileFault → Type 0
+HeadFails old new failed_old failed_new (Head fault) = TellsFault old new fault
+HeadFails old new failed_old failed_new Read = HasRisen failed_old failed_new
+HeadFails old new failed_old failed_new Write = ⊥
+HeadFails old new failed_old failed_new Memory = Unit {0}
+HeadFails old new failed_old failed_new ReadNeverEnds = NeverEnds old new

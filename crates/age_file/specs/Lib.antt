@@ -1,0 +1,6 @@
+pub mod Memory
+pub mod Faults
+pub mod Reports
+pub mod Writes
+pub mod Unread
+pub mod Intakes

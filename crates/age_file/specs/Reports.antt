@@ -1,0 +1,40 @@
+-- What a report says of a file's bytes (C2SP age.md, "Payload", for the length of the plaintext).
+use Rattle.std.specs.Prelude.{◌≡◌, ℕ, ◌+◌, ◌-◌, ◌*◌, ◌/◌, ◌^◌, ◌≤◌, ◌==◌, if◌then◌else◌, List, [], ◌++◌, length, map, Option, slice_index_or, MatchOption}
+use Rattle.std.specs.Io.KnownBytes.{Consumes, IsAtEnd}
+use Rattle.age_stanza.specs.declared.header.Stanza.{Stanza}
+use Rattle.age_stanza.specs.declared.header.Header.{Header}
+use Rattle.age_stanza.specs.Grammar.{HeadText}
+use Rattle.age_file.specs.declared.report.StanzaReport.{StanzaReport}
+use Rattle.age_file.specs.declared.report.Report.{Report}
+
+-- a stanza's type, how many arguments follow it, and the length of its body
+abbrev pub stanza_report : Stanza → StanzaReport
+stanza_report s = record { kind = slice_index_or s.args 0 []; args = length s.args - 1; body = length s.body }
+
+-- how many chunks a plaintext of p bytes has
+abbrev pub chunk_count : ℕ → ℕ
+chunk_count p = if p == 0 then 1 else (p + 65535) / 65536
+
+-- a plaintext of p bytes has a nonce and a payload of so many bytes together
+abbrev pub IsPlain : ℕ → ℕ → Type 0
+IsPlain rest p = (16 + p + 16 * chunk_count p ≡ rest) × (chunk_count p ≤ 2 ^ 48)
+
+-- the one plaintext's length that so many bytes would hold, or none
+abbrev pub IsPlainOf : ℕ → Option ℕ → Type 0
+IsPlainOf rest plain = MatchOption plain ((p : ℕ) → IsPlain rest p → ⊥) (IsPlain rest)
+
+-- the bytes are a header's text and a rest, and the report is theirs
+pub record IsReport (bytes : List ℕ) (r : Report) : Type 0 where
+  pub h : Header
+  pub front : List ℕ
+  pub rest : List ℕ
+  pub text : HeadText h front
+  pub parts : bytes ≡ front ++ rest
+  pub header_is : r.header ≡ length front
+  pub stanzas_are : r.stanzas ≡ map stanza_report h.stanzas
+  pub rest_is : r.rest ≡ length rest
+  pub plain_is : IsPlainOf (length rest) r.plain
+
+-- what was read, to the end, has this report
+abbrev pub Inspects : Option (List ℕ) → Option (List ℕ) → Report → Type 0
+Inspects old new r = (bytes : List ℕ) × Consumes old new bytes × IsAtEnd new × IsReport bytes r

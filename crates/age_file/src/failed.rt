@@ -1,0 +1,31 @@
+//! What sources, sinks and memory answer where they can't do what they are asked.
+
+ghost use Rattle.std.specs.Prelude.{◌≡◌, None};
+
+use thiserror::Error;
+
+/// A source or a sink could not do what it was asked. It moved no bytes, and counted the failure.
+#[derive(Clone, Copy, Debug, PartialEq, Eq, Error)]
+#[error("a source or a sink failed")]
+pub struct Failed;
+
+/// Memory was refused.
+#[derive(Clone, Copy, Debug, PartialEq, Eq, Error)]
+#[error("out of memory")]
+pub struct Memory;
+
+impl Memory {
+    /// The number of this fault in the list of all faults.
+    pub fn number(&self) -> u8
+        ensures { result ≡ 28 }
+    {
+        28
+    }
+
+    /// Want of memory has no place in a file.
+    pub fn place(&self) -> Option<u64>
+        ensures { result ≡ None }
+    {
+        None
+    }
+}

@@ -1,0 +1,52 @@
+//! Reads the header at the front of a source.
+
+ghost use Rattle.std.specs.Prelude.{◌≡◌, [], IfOk, IfErr, OnOk};
+ghost use Rattle.age_file.specs.Faults.{HeadFails};
+ghost use Rattle.age_file.specs.Intakes.{ReadsHead};
+
+use crate::fault::FileFault;
+use crate::intake::Intake;
+use crate::source::Source;
+use age_stanza::{HeadParser, HeadStep, Header};
+use std::alloc::Global;
+
+/// A header that was read, and its length in bytes.
+#[derive(Drop)]
+pub(crate) struct Head {
+    pub(crate) header: Header,
+    pub(crate) len: u64,
+}
+
+/// Reads a header. The bytes that follow it and were pulled with it are left in the intake.
+pub(crate) fn read_head<S: Source>(
+    alloc: Global,
+    source: &mut S,
+    intake: &mut Intake,
+) -> Result<Head, FileFault>
+    requires { (intake.old.bytes ≡ []) × (intake.old.pulls ≡ 0) }
+    ensures found { IfOk result (ReadsHead (S.remaining source.old) (S.remaining source.new) intake.new) }
+    ensures unfailed { OnOk result (S.failed source.new ≡ S.failed source.old) }
+    ensures fails { IfErr result (HeadFails (S.remaining source.old) (S.remaining source.new) (S.failed source.old) (S.failed source.new)) }
+{
+    let mut parser = HeadParser::new(alloc);
+    let mut len = 0;
+    'pieces: loop {
+        match intake.refill(source) {
+            Ok(true) => {}
+            Ok(false) => return Err(FileFault::from(parser.end())),
+            Err(fault) => return Err(fault),
+        }
+        match parser.feed(intake.bytes()) {
+            Ok(HeadStep::More) => {
+                len += intake.bytes().len() as u64;
+                intake.use_all();
+            }
+            Ok(HeadStep::Ready { taken, header }) => {
+                len += taken as u64;
+                intake.use_front(taken);
+                return Ok(Head { header, len });
+            }
+            Err(fault) => return Err(FileFault::from(fault)),
+        }
+    }
+}

@@ -1,0 +1,103 @@
+//! Reads a file to its end, and tells what it holds.
+
+ghost use Rattle.std.specs.Prelude.{◌≡◌, ◌+◌, ◌^◌, ◌<◌, ◌≤◌, ◌*◌, length, IfOk, IfErr, OnOk, map};
+ghost use Rattle.std.specs.Io.KnownBytes.{IsAtEnd};
+ghost use Rattle.age_file.specs.Faults.{HeadFails};
+ghost use Rattle.age_file.specs.Intakes.{CountsRest, RestFails};
+ghost use Rattle.age_file.specs.Reports.{stanza_report, IsPlainOf, Inspects};
+
+use crate::fault::FileFault;
+use crate::head::read_head;
+use crate::intake::Intake;
+use crate::report::{Report, StanzaReport, StanzaReports};
+use crate::source::Source;
+use age_stanza::{Bytes, Stanza};
+use std::alloc::{AllocError, Global};
+
+/// Counts the bytes that are left, to the end of the source.
+fn count_rest<S: Source>(source: &mut S, intake: &mut Intake) -> Result<u128, FileFault>
+    requires { intake.old.pulls ≤ 2 ^ 63 }
+    ensures counts { IfOk result (CountsRest (S.remaining source.old) (S.remaining source.new) intake.old) }
+    ensures ended { OnOk result (IsAtEnd (S.remaining source.new)) }
+    ensures small { IfOk result (λ n. n ≤ 65536 * (2 ^ 63 + 1)) }
+    ensures unfailed { OnOk result (S.failed source.new ≡ S.failed source.old) }
+    ensures fails { IfErr result (RestFails (S.remaining source.old) (S.remaining source.new) (S.failed source.old) (S.failed source.new) intake.old) }
+{
+    let mut count = intake.bytes().len() as u128;
+    intake.use_all();
+    'pulls: loop {
+        match intake.refill(source) {
+            Ok(true) => {}
+            Ok(false) => return Ok(count),
+            Err(fault) => return Err(fault),
+        }
+        count += intake.bytes().len() as u128;
+        intake.use_all();
+    }
+}
+
+fn stanza_report_of(alloc: Global, stanza: &Stanza) -> Result<StanzaReport, AllocError>
+    ensures { IfOk result (λ r. r ≡ stanza_report stanza.now) }
+{
+    let mut kind = Vec::new(alloc);
+    let mut args = 0;
+    if let [first, others @ ..] = stanza.args.as_slice() {
+        kind.extend_from_slice(first.as_slice())?;
+        args = others.len() as u64;
+    }
+    Ok(StanzaReport {
+        kind: Bytes::from_vec(kind),
+        args,
+        body: stanza.body.len() as u64,
+    })
+}
+
+fn reports_of(alloc: Global, stanzas: &[Stanza]) -> Result<StanzaReports, AllocError>
+    ensures { IfOk result (λ r. r ≡ map stanza_report stanzas.now) }
+{
+    let mut reports = StanzaReports::new(alloc);
+    for stanza in stanzas {
+        reports.push(stanza_report_of(alloc, stanza)?)?;
+    }
+    Ok(reports)
+}
+
+/// The length of the plaintext that a nonce and a payload of so many bytes hold.
+fn plain_of(rest: u128) -> Option<u128>
+    requires { rest < 2 ^ 127 }
+    ensures { IsPlainOf rest result }
+{
+    if rest < 32 {
+        return None;
+    }
+    let payload = rest - 16;
+    if payload == 16 {
+        return Some(0);
+    }
+    let chunks = payload.div_ceil(65_552);
+    if chunks > 281_474_976_710_656 || payload < (chunks - 1) * 65_552 + 17 {
+        return None;
+    }
+    Some(payload - 16 * chunks)
+}
+
+/// Reads a source to its end, and reports what it holds: the header's length, its stanzas, how many bytes follow it, and
+/// the length of the plaintext that so many bytes hold (C2SP age.md, "Header" and "Payload").
+///
+/// Refuses with the header's fault (1 to 8), `Read` (26), `Memory` (28) and `ReadNeverEnds` (29).
+pub fn inspect<S: Source>(alloc: Global, source: &mut S) -> Result<Report, FileFault>
+    ensures ok { IfOk result (Inspects (S.remaining source.old) (S.remaining source.new)) }
+    ensures unfailed { OnOk result (S.failed source.new ≡ S.failed source.old) }
+    // When each fault comes.
+    ensures fails { IfErr result (HeadFails (S.remaining source.old) (S.remaining source.new) (S.failed source.old) (S.failed source.new)) }
+{
+    let mut intake = Intake::new(alloc)?;
+    let head = read_head(alloc, source, &mut intake)?;
+    let rest = count_rest(source, &mut intake)?;
+    Ok(Report {
+        header: head.len,
+        stanzas: reports_of(alloc, head.header.stanzas.as_slice())?,
+        rest,
+        plain: plain_of(rest),
+    })
+}

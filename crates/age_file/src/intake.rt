@@ -1,0 +1,95 @@
+//! The bytes that were pulled from a source and not used yet.
+
+ghost use Rattle.std.specs.Prelude.{◌≡◌, ◌≤◌, [], length, drop, IfOk};
+ghost use Rattle.age_file.specs.Intakes.{Refills};
+
+use crate::fault::FileFault;
+use crate::source::Source;
+use std::alloc::{AllocError, Global};
+use std::marker::Model;
+
+/// The most pulls of one call. A source that gave bytes so often is taken for one that never ends.
+const MOST_PULLS: u64 = 9_223_372_036_854_775_808;
+
+/// How many bytes are pulled at once, at most.
+const ROOM: usize = 65_536;
+
+/// The bytes that were pulled from a source and not used yet, and how many pulls gave some.
+#[derive(Drop)]
+pub(crate) struct Intake {
+    buffer: Vec<u8>,
+    from: usize,
+    to: usize,
+    pulls: u64,
+}
+
+impl Model for Intake {
+    ghost use Rattle.std.specs.Prelude.{◌^◌, ◌≤◌, ◌≡◌, length, take, drop};
+    ghost use Rattle.age_file.specs.Unread.{Unread};
+
+    ghost Value = { Unread };
+
+    ghost view = { λ i. record { bytes = drop i.from (take i.to i.buffer.items); pulls = i.pulls } };
+
+    ghost invariant = { λ i. (i.from ≤ i.to) × (i.to ≤ 65536) × (length i.buffer.items ≡ 65536) × (i.pulls ≤ 2 ^ 63) };
+}
+
+impl Intake {
+    pub(crate) fn new(alloc: Global) -> Result<Intake, AllocError>
+        ensures { IfOk result (λ i. (i.bytes ≡ []) × (i.pulls ≡ 0)) }
+    {
+        let buffer = vec![in alloc; 0; ROOM]?;
+        Ok(Intake {
+            buffer,
+            from: 0,
+            to: 0,
+            pulls: 0,
+        })
+    }
+
+    /// The bytes that were not used yet.
+    pub(crate) fn bytes(&self) -> &[u8]
+        ensures bytes { result.now ≡ self.now.bytes }
+        ensures most { length result.now ≤ 65536 }
+    {
+        &self.buffer[self.from..self.to]
+    }
+
+    /// Uses bytes at the front.
+    pub(crate) fn use_front(&mut self, n: usize)
+        requires { n ≤ length self.old.bytes }
+        ensures bytes { self.new.bytes ≡ drop n self.old.bytes }
+        ensures pulls { self.new.pulls ≡ self.old.pulls }
+    {
+        self.from += n;
+    }
+
+    /// Uses all bytes.
+    pub(crate) fn use_all(&mut self)
+        ensures bytes { self.new.bytes ≡ [] }
+        ensures pulls { self.new.pulls ≡ self.old.pulls }
+    {
+        self.from = self.to;
+    }
+
+    /// Pulls, where all bytes were used. False: the source is at its end.
+    pub(crate) fn refill<S: Source>(&mut self, source: &mut S) -> Result<bool, FileFault>
+        requires { self.old.bytes ≡ [] }
+        ensures { Refills (S.remaining source.old) (S.remaining source.new) (S.failed source.old) (S.failed source.new) self.old self.new result }
+    {
+        if self.pulls == MOST_PULLS {
+            return Err(FileFault::ReadNeverEnds);
+        }
+        self.from = 0;
+        self.to = 0;
+        let Ok(n) = source.pull(self.buffer.as_mut_slice()) else {
+            return Err(FileFault::Read);
+        };
+        if n == 0 {
+            return Ok(false);
+        }
+        self.pulls += 1;
+        self.to = n;
+        Ok(true)
+    }
+}

@@ -1,0 +1,28 @@
+//! Age files over sources and sinks.
+//!
+//! A `Source` gives bytes and a `Sink` takes them. Both count their failures, and those over memory tell their bytes,
+//! so that the contract of an engine can name what it read and what it wrote. `inspect` reads a whole file and reports
+//! what its header holds and how much plaintext the bytes behind it would be.
+#![tactic(auto)]
+
+mod failed;
+mod fault;
+mod head;
+mod inspection;
+mod intake;
+mod mem_sink;
+mod mem_source;
+mod put;
+mod report;
+mod sink;
+mod source;
+
+pub use failed::{Failed, Memory};
+pub use fault::FileFault;
+pub use inspection::inspect;
+pub use mem_sink::MemSink;
+pub use mem_source::MemSource;
+pub use put::put_all;
+pub use report::{Report, StanzaReport, StanzaReports};
+pub use sink::{Sink, Writing};
+pub use source::{Reading, Source};

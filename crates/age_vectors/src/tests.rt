@@ -1,0 +1,3 @@
+mod inspection;
+mod memory;
+mod program;
