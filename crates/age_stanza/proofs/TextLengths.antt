@@ -88,11 +88,13 @@ pub has_text : (h : Header) (r : Option ℕ) → IsTextLength h r → is_some r 
 has_text h None len some stanzas args long = absurd (cc some)
 has_text h (Some size) len some stanzas args long =
     let is = len.0 in
-    let within = len.1 in
-    (head_text h, record {
-      spells = record { lawful = record { some_stanza = stanzas; stanzas = lawful_stanzas h.stanzas args len.3; mac_length = long; mac = len.2 }; bytes_are = refl };
-      within = omega arith;
-    })
+    let within = len.1 in (
+      head_text h,
+      record {
+        spells = record { lawful = record { some_stanza = stanzas; stanzas = lawful_stanzas h.stanzas args len.3; mac_length = long; mac = len.2 }; bytes_are = refl };
+        within = omega arith;
+      },
+    )
 
 -- a header that has a text is lawful, and its text is within the limit
 pub text_within : (h : Header) (r : Option ℕ) → IsTextLength h r → HasText h → is_some r ≡ true

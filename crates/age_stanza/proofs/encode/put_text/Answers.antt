@@ -2,7 +2,7 @@ use Rattle.std.proofs.Common.{◌≡◌, ◌≤◌, ◌++◌, ◌*◌, ◌+◌, 
 use Rattle.std.proofs.lemmas.List.{take_at}
 use Rattle.age_stanza.specs.Text.{text}
 use Rattle.age_stanza.proofs.Texts.{length-text}
-use Rattle.age_stanza.proofs.Tests.{on_ok}
+use Rattle.age_stanza.proofs.Elements.{on_ok}
 use Rattle.age_stanza.proofs.encode.put_text.Goals as goal
 
 pub returns : goal.returns
