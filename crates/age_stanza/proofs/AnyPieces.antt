@@ -72,7 +72,7 @@ no_text bytes before l f h front text lt is =
     is ∙ ap (λ (t : List ℕ). t ++ drop (length bytes) front) bytes-is ∙ regroup before (line l) f.rest (drop (length bytes) front) in
     f.faulty (h, f.rest ++ drop (length bytes) front, subst (Spells h) grouped text.spells)
 
-more_fault : (bytes piece : List ℕ) (fault : HeadFault) → (HasHeader bytes → ⊥) → IsFault bytes fault → (HasHeader (bytes ++ piece) → ⊥) × IsFault (bytes ++ piece) fault
+pub more_fault : (bytes piece : List ℕ) (fault : HeadFault) → (HasHeader bytes → ⊥) → IsFault bytes fault → (HasHeader (bytes ++ piece) → ⊥) × IsFault (bytes ++ piece) fault
 more_fault bytes piece fault inside (inl f) =
     (none_longer bytes piece inside (no_text bytes f.0 f.1 f.2), inl (more_line_fault bytes piece fault f))
 more_fault bytes piece fault inside (inr f) =

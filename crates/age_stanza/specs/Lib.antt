@@ -11,3 +11,4 @@ pub mod Laws
 pub mod LineMachine
 pub mod Retelling
 pub mod Steps
+pub mod Lengths

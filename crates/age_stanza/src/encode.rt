@@ -1,86 +1,138 @@
-//! Writes a header's text.
+//! Writes the text of a header.
 
-ghost use Rattle.std.specs.Prelude.{◌≡◌, ◌++◌, ◌∷◌, [], IfOk, IfErr, OnOk, codes};
+ghost use Rattle.std.specs.Prelude.{◌≡◌, ◌++◌, ◌∷◌, ◌≤◌, length, IfOk, IfErr, OnOk, codes};
 ghost use Rattle.std.specs.List.{flat_map};
-ghost use Rattle.age_stanza.specs.Grammar.{in_lines, stanza_text, argument_line, line, IsHeader};
+ghost use Rattle.age_stanza.specs.Text.{text};
+ghost use Rattle.age_stanza.specs.Grammar.{in_lines, stanza_text, head_text, HeadText, HasText};
 ghost use Rattle.age_stanza.specs.Encoding.{mac_text};
 ghost use Rattle.age_stanza.specs.Faults.{memory_fault};
 
 use crate::bytes::Bytes;
-use crate::fault::{HeadFault, HeadKind};
+use crate::fault::{HeadFault, MEMORY};
 use crate::header::{Header, Stanza};
+use crate::lawful::text_len;
 use base64::engine::general_purpose::STANDARD_NO_PAD;
 use std::alloc::{AllocError, Global};
 
-const MEMORY: HeadFault = HeadFault {
-    kind: HeadKind::Memory,
-    line: 0,
-};
+/// The bytes that a line of 64 characters spells.
+const LINE_BYTES: usize = 48;
 
-fn put_args(out: &mut Vec<u8>, args: &[Bytes]) -> Result<(), AllocError>
-    ensures { OnOk result (out.new.items ≡ out.old.items ++ flat_map (λ a. 32 ∷ a) args.now) }
+/// How many bytes of a header's text follow what its MAC covers: a space, the
+/// MAC's 43 characters and LF.
+const BEHIND_MAC_TEXT: usize = 45;
+
+/// Writes the text of no more bytes than one line spells.
+fn put_text(out: &mut Vec<u8>, bytes: &[u8]) -> Result<(), AllocError>
+    requires { length bytes.now ≤ 48 }
+    ensures { OnOk result (out.new.items ≡ out.old.items ++ text bytes.now) }
 {
-    for a in args {
-        out.push(b' ')?;
-        out.extend_from_slice(a.as_slice())?;
-    }
-    Ok(())
+    let mut characters = [0u8; 64];
+    let Ok(len) = STANDARD_NO_PAD.encode_slice(bytes, &mut characters) else {
+        unreachable!();
+    };
+    out.extend_from_slice(&characters[..len])
 }
 
-fn put_lines(out: &mut Vec<u8>, characters: &[u8]) -> Result<(), AllocError>
-    ensures { OnOk result (out.new.items ≡ out.old.items ++ in_lines 0 characters.now) }
+/// Writes the text of a body in lines.
+fn put_body(out: &mut Vec<u8>, body: &[u8]) -> Result<(), AllocError>
+    ensures { OnOk result (out.new.items ≡ out.old.items ++ in_lines 0 (text body.now)) }
 {
-    let mut k = 0usize;
-    for c in characters {
-        out.push(*c)?;
-        if k == 63 {
-            out.push(b'\n')?;
-            k = 0;
-        } else {
-            k += 1;
-        }
+    let mut rest = body;
+    while rest.len() >= LINE_BYTES {
+        let (line, behind) = rest.split_at(LINE_BYTES);
+        put_text(out, line)?;
+        out.push(b'\n')?;
+        rest = behind;
     }
+    put_text(out, rest)?;
     out.push(b'\n')?;
     Ok(())
 }
 
-#[tactic(auto, unfolding(crate::specs::Text::text))]
-fn put_stanza(alloc: Global, out: &mut Vec<u8>, stanza: &Stanza) -> Result<(), AllocError>
+/// Writes arguments, each with the space before it.
+fn put_args(out: &mut Vec<u8>, args: &[Bytes]) -> Result<(), AllocError>
+    ensures { OnOk result (out.new.items ≡ out.old.items ++ flat_map (λ a. 32 ∷ a) args.now) }
+{
+    for argument in args {
+        out.push(b' ')?;
+        out.extend_from_slice(argument.as_slice())?;
+    }
+    Ok(())
+}
+
+/// Writes a stanza.
+fn put_stanza(out: &mut Vec<u8>, stanza: &Stanza) -> Result<(), AllocError>
     ensures { OnOk result (out.new.items ≡ out.old.items ++ stanza_text stanza.now) }
 {
     out.extend_from_slice(b"->")?;
     put_args(out, stanza.args.as_slice())?;
     out.push(b'\n')?;
-    let body = STANDARD_NO_PAD.encode(alloc, stanza.body.as_slice())?;
-    put_lines(out, body.as_bytes())
+    put_body(out, stanza.body.as_slice())
 }
 
-fn put_stanzas(alloc: Global, out: &mut Vec<u8>, stanzas: &[Stanza]) -> Result<(), AllocError>
+/// Writes stanzas in their order.
+fn put_stanzas(out: &mut Vec<u8>, stanzas: &[Stanza]) -> Result<(), AllocError>
     ensures { OnOk result (out.new.items ≡ out.old.items ++ flat_map stanza_text stanzas.now) }
 {
     for stanza in stanzas {
-        put_stanza(alloc, out, stanza)?;
+        put_stanza(out, stanza)?;
     }
     Ok(())
 }
 
-fn mac_text_in(alloc: Global, header: &Header) -> Result<Vec<u8>, AllocError>
-    ensures { IfOk result (λ v. v.items ≡ mac_text header.now) }
+/// The part of a header's text that its MAC covers, with room for `len` bytes.
+fn front_text(alloc: Global, header: &Header, len: usize) -> Result<Vec<u8>, AllocError>
+    ensures { IfOk result (λ bytes. bytes.items ≡ mac_text header.now) }
 {
-    let mut out = Vec::new(alloc);
+    let mut out = Vec::with_capacity(alloc, len)?;
     out.extend_from_slice(b"age-encryption.org/v1\n")?;
-    put_stanzas(alloc, &mut out, header.stanzas.as_slice())?;
+    put_stanzas(&mut out, header.stanzas.as_slice())?;
     out.extend_from_slice(b"---")?;
     Ok(out)
 }
 
-/// The text of a header up to and with the mark of its end line.
-pub fn mac_text(alloc: Global, header: &Header) -> Result<Vec<u8>, HeadFault>
-    requires { IsHeader header.now }
-    ensures text { IfOk result (λ v. v.items ≡ mac_text header.now) }
+/// The text of a header, with room for `len` bytes.
+fn whole_text(alloc: Global, header: &Header, len: usize) -> Result<Vec<u8>, AllocError>
+    ensures { IfOk result (λ bytes. bytes.items ≡ head_text header.now) }
+{
+    let mut out = front_text(alloc, header, len)?;
+    out.push(b' ')?;
+    put_text(&mut out, &header.mac)?;
+    out.push(b'\n')?;
+    Ok(out)
+}
+
+/// The text of a header that [`is_header`](crate::is_header), as the C2SP page
+/// defines it. All memory is taken at once; the only fault is a refusal of it
+/// ([`HeadKind::Memory`](crate::HeadKind::Memory)).
+pub fn encode_head(alloc: Global, header: &Header) -> Result<Vec<u8>, HeadFault>
+    requires { HasText header.now }
+    ensures text { IfOk result (λ bytes. HeadText header.now bytes.items) }
     ensures fault { IfErr result (λ fault. fault ≡ memory_fault) }
 {
-    match mac_text_in(alloc, header) {
+    let Some(len) = text_len(header) else {
+        unreachable!();
+    };
+    match whole_text(alloc, header, len) {
+        Ok(text) => Ok(text),
+        Err(_) => Err(MEMORY),
+    }
+}
+
+/// The part of a header's text that its MAC covers: from the version line up to
+/// and with the `---` of the end line, without the space that follows (C2SP
+/// age.md, "Header MAC"). Asks [`is_header`](crate::is_header). All memory is
+/// taken at once; the only fault is a refusal of it
+/// ([`HeadKind::Memory`](crate::HeadKind::Memory)).
+pub fn mac_text(alloc: Global, header: &Header) -> Result<Vec<u8>, HeadFault>
+    requires { HasText header.now }
+    ensures text { IfOk result (λ bytes. bytes.items ≡ mac_text header.now) }
+    ensures fault { IfErr result (λ fault. fault ≡ memory_fault) }
+{
+    let Some(len) = text_len(header) else {
+        unreachable!();
+    };
+    match front_text(alloc, header, len - BEHIND_MAC_TEXT) {
         Ok(text) => Ok(text),
         Err(_) => Err(MEMORY),
     }

@@ -89,3 +89,9 @@ impl HeadFault {
         }
     }
 }
+
+/// Want of memory, which belongs to no line.
+pub(crate) const MEMORY: HeadFault = HeadFault {
+    kind: HeadKind::Memory,
+    line: 0,
+};

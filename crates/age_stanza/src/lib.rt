@@ -20,6 +20,7 @@ mod bytes;
 mod encode;
 mod fault;
 mod header;
+mod lawful;
 mod laws;
 mod parser;
 mod partial;
@@ -28,9 +29,11 @@ mod place;
 mod text;
 
 pub use bytes::{Arguments, Bytes};
-pub use encode::mac_text;
+pub use encode::{encode_head, mac_text};
 pub use fault::{HeadFault, HeadKind};
 pub use header::{HeadStep, Header, Stanza, Stanzas};
+pub use lawful::{is_argument, is_header};
+pub use laws::{any_pieces, faults_stay, mac_text_is_front, one_header};
 pub use parser::HeadParser;
 
 /// The greatest length of a header in bytes, from the version line to the end

@@ -5,16 +5,11 @@ ghost use Rattle.age_stanza.specs.Faults.{line_after, memory_fault, IsLine};
 ghost use Rattle.age_stanza.specs.LineMachine.{fault_at as spec_fault_at};
 ghost use Rattle.age_stanza.specs.Retelling.{IsUnderWay};
 
-use crate::fault::{HeadFault, HeadKind};
+use crate::fault::{HeadFault, HeadKind, MEMORY};
 use crate::header::Header;
 use crate::place::{Next, Place, step};
 use std::alloc::Global;
 use std::marker::Model;
-
-pub(crate) const MEMORY: HeadFault = HeadFault {
-    kind: HeadKind::Memory,
-    line: 0,
-};
 
 /// The part of a header that came so far: what its finished lines hold, and
 /// the line that isn't finished. No finished line is kept as it came. A

@@ -1,6 +1,17 @@
-//! Outside vectors and worked examples, as functions that answer whether all of them hold, and the tests that cross
-//! crates.
+//! Outside vectors and worked examples of the constructions under an age file, and the tests that cross crates.
+//!
+//! Each public function runs the vectors of one standard, or the worked examples of one layer, and answers whether every
+//! one came out. Where a contract stands beside it, true says more: that the definition itself, and not only this
+//! program, gives the values of the standard.
 #![tactic(auto)]
+
+mod cipher;
+mod header;
+mod kdf;
+
+pub use cipher::{rfc_aead, rfc_chacha, rfc_poly1305};
+pub use header::header_rows;
+pub use kdf::{rfc_hkdf, rfc_hmac, rfc_pbkdf2};
 
 #[cfg(test)]
 mod tests;

@@ -1,0 +1,32 @@
+-- What a test of each element says, and what a write that went well leaves.
+use Rattle.std.proofs.Common.{◌≡◌, ℕ, ◌<◌, ◌≤◌, Bool, true, false, cond, List, [], ◌∷◌, length, Result, Ok, Err, refl, arith}
+use Rattle.std.specs.Prelude.{◌&&◌, IsTrue, MatchBool, OnOk, is_ok, leb}
+use Rattle.std.specs.List.{AllByRecursion, AllWithin, HoldsAt, list_all}
+use Rattle.std.proofs.lemmas.Bool.{false≢true, leb-true, le-leb, and_parts, and_from}
+use Rattle.std.proofs.lemmas.List.Elements.{All-from_recursion, recursion_from_All, All-from_all_within}
+
+-- a test of each element that was made in turn
+pub all_is : {X : Type 0} (P : X → Type 0) (d : X) (r : Bool) (xs : List X) → MatchBool r (AllWithin P xs 0 (length xs)) ((k : ℕ) × (k < length xs) × HoldsAt (λ x. P x → ⊥) xs k)
+    → (IsTrue r → AllByRecursion P xs) × (AllByRecursion P xs → IsTrue r)
+all_is P d true xs h = (λ _. recursion_from_All P xs (All-from_all_within P xs h), λ _. refl)
+all_is P d false xs h = (λ e. absurd (false≢true e), λ each. absurd (h.2 d (All-from_recursion P xs each h.0 d h.1)))
+
+abbrev visible_test : ℕ → Bool
+visible_test c = leb 33 c && leb c 126
+
+pub visible_from_test : (a : List ℕ) → list_all (λ c. leb 33 c && leb c 126) a ≡ true → AllByRecursion (λ c. (33 ≤ c) × (c ≤ 126)) a
+visible_from_test [] e = tt
+visible_from_test (c ∷ cs) e =
+    let parts = and_parts (visible_test c) (list_all visible_test cs) e in
+    let ends = and_parts (leb 33 c) (leb c 126) parts.0 in
+    ((leb-true 33 c ends.0, leb-true c 126 ends.1), visible_from_test cs parts.1)
+
+pub test_from_visible : (a : List ℕ) → AllByRecursion (λ c. (33 ≤ c) × (c ≤ 126)) a → list_all (λ c. leb 33 c && leb c 126) a ≡ true
+test_from_visible [] h = refl
+test_from_visible (c ∷ cs) h =
+    and_from (visible_test c) (list_all visible_test cs) (and_from (leb 33 c) (leb c 126) (le-leb 33 c h.0.0) (le-leb c 126 h.0.1)) (test_from_visible cs h.1)
+
+-- a write that went well
+pub on_ok : {A E : Type 0} (r : Result A E) (new wrote old : List ℕ) → new ≡ cond (is_ok r) wrote old → OnOk r (new ≡ wrote)
+on_ok (Ok x) new wrote old e = e
+on_ok (Err x) new wrote old e = tt

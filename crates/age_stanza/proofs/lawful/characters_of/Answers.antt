@@ -1,0 +1,10 @@
+use Rattle.std.proofs.Common.{◌∙◌, sym}
+use Rattle.age_stanza.proofs.Texts.{length-text}
+use Rattle.age_stanza.proofs.TextLengths.{div_ceil-characters}
+use Rattle.age_stanza.proofs.lawful.characters_of.Goals as goal
+
+pub returns-clause-len : goal.returns-clause-len
+returns-clause-len c = c.div_ceil.ensures ∙ div_ceil-characters _ ∙ sym (length-text c.args.bytes.now)
+
+pub returns-clause-value : goal.returns-clause-value
+returns-clause-value c = c.div_ceil.ensures ∙ div_ceil-characters _

@@ -1,0 +1,12 @@
+use Rattle.std.proofs.Common.{◌+◌, ◌/◌, ◌∙◌, ℕ, sym, ap, arith}
+use Rattle.age_stanza.proofs.TextLengths.{length-body, leaves}
+use Rattle.age_stanza.proofs.lawful.room_behind_body.Goals as goal
+
+pub returns-then-room-body-clause-leaves : goal.returns-then-room-body-clause-leaves
+returns-then-room-body-clause-leaves c =
+    let size = length-body c.args.body.now in
+    omega arith
+
+pub returns-clause-leaves : goal.returns-clause-leaves
+returns-clause-leaves c =
+    leaves _ _ _ _ c.checked_sub.ensures (length-body c.args.body.now ∙ ap (λ (n : ℕ). n + n / 64 + 1) (sym c.characters_of-characters.ensures.value))

@@ -1,0 +1,26 @@
+-- Private: no public contract cites this module.
+-- How long texts are, and what they leave of some room.
+use Rattle.std.specs.Prelude.{◌≡◌, ℕ, ◌+◌, ◌<◌, ◌≤◌, length, Option, Some, None}
+use Rattle.std.specs.List.{AllByRecursion}
+use Rattle.base64.specs.GeneralPurpose.{IsBytes}
+use Rattle.age_stanza.specs.declared.header.Stanza.{Stanza}
+use Rattle.age_stanza.specs.declared.header.Header.{Header}
+use Rattle.age_stanza.specs.Grammar.{IsArgument, stanza_text, head_text}
+
+-- the part of a stanza's lawfulness that its type leaves open
+abbrev pub HasArguments : Stanza → Type 0
+HasArguments s = (0 < length s.args) × AllByRecursion IsArgument s.args
+
+-- what is left of some room behind a text, or that it has no room
+abbrev pub Leaves : ℕ → ℕ → Option ℕ → Type 0
+Leaves room size (Some left) = left + size ≡ room
+Leaves room size None = room < size
+
+abbrev pub LeavesBehindStanza : ℕ → Stanza → Option ℕ → Type 0
+LeavesBehindStanza room s (Some left) = (left + length (stanza_text s) ≡ room) × IsBytes s.body
+LeavesBehindStanza room s None = room < length (stanza_text s)
+
+-- the length of a header's text, where it is within the limit; and what the types tell of the bytes
+abbrev pub IsTextLength : Header → Option ℕ → Type 0
+IsTextLength h (Some size) = (size ≡ length (head_text h)) × (size ≤ 1048576) × IsBytes h.mac × AllByRecursion (λ s. IsBytes s.body) h.stanzas
+IsTextLength h None = 1048576 < length (head_text h)

@@ -1,0 +1,103 @@
+//! Which headers have a text, and how long it is.
+
+ghost use Rattle.std.specs.Prelude.{◌≡◌, ◌↔◌, ◌≤◌, ◌+◌, ◌*◌, ◌/◌, ◌∷◌, ◌&&◌, IsTrue, length, nat_le};
+ghost use Rattle.std.specs.List.{flat_map, list_all};
+ghost use Rattle.base64.specs.GeneralPurpose.{IsBytes};
+ghost use Rattle.age_stanza.specs.Text.{text};
+ghost use Rattle.age_stanza.specs.Grammar.{IsArgument, HasText, in_lines};
+ghost use Rattle.age_stanza.specs.Lengths.{HasArguments, Leaves, LeavesBehindStanza, IsTextLength};
+
+use crate::HEAD_MAX;
+use crate::bytes::Bytes;
+use crate::header::{Header, Stanza};
+
+/// Whether all bytes are visible ASCII characters.
+fn are_visible(bytes: &[u8]) -> bool
+    ensures { result ≡ list_all (λ c. nat_le 33 c && nat_le c 126) bytes.now }
+{
+    bytes.iter().all(|c| b'!' <= *c && *c <= b'~')
+}
+
+/// Whether some bytes are a lawful argument of a stanza: one or more visible
+/// ASCII characters, from `!` to `~` (C2SP age.md, "Header").
+pub fn is_argument(bytes: &[u8]) -> bool
+    ensures { IsTrue result ↔ IsArgument bytes.now }
+{
+    !bytes.is_empty() && are_visible(bytes)
+}
+
+/// Whether a stanza has one or more arguments, which are all lawful.
+fn has_arguments(stanza: &Stanza) -> bool
+    ensures { IsTrue result ↔ HasArguments stanza.now }
+{
+    let args = stanza.args.as_slice();
+    !args.is_empty() && args.iter().all(|argument| is_argument(argument.as_slice()))
+}
+
+/// What arguments leave of some room, each with the space before it.
+fn room_behind_arguments(room: usize, args: &[Bytes]) -> Option<usize>
+    ensures { Leaves room (length (flat_map (λ a. 32 ∷ a) args.now)) result }
+{
+    let mut left = room;
+    for argument in args {
+        left = left.checked_sub(1)?.checked_sub(argument.len())?;
+    }
+    Some(left)
+}
+
+/// How many characters the text of some bytes has.
+fn characters_of(bytes: &[u8]) -> usize
+    requires { length bytes.now ≤ 1048576 }
+    ensures len { result ≡ length (text bytes.now) }
+    ensures value { result ≡ (4 * length bytes.now + 2) / 3 }
+    ensures bytes { IsBytes bytes.now }
+{
+    (4 * bytes.len()).div_ceil(3)
+}
+
+/// What a body's text leaves of some room.
+fn room_behind_body(room: usize, body: &[u8]) -> Option<usize>
+    requires { room ≤ 1048576 }
+    ensures leaves { Leaves room (length (in_lines 0 (text body.now))) result }
+    ensures bytes { IsBytes body.now }
+{
+    if room < body.len() {
+        return None;
+    }
+    let characters = characters_of(body);
+    room.checked_sub(characters + characters / 64 + 1)
+}
+
+/// What a stanza's text leaves of some room.
+fn room_behind_stanza(room: usize, stanza: &Stanza) -> Option<usize>
+    requires { room ≤ 1048576 }
+    ensures { LeavesBehindStanza room stanza.now result }
+{
+    let arrow_and_line_end = 3;
+    let left = room.checked_sub(arrow_and_line_end)?;
+    let left = room_behind_arguments(left, stanza.args.as_slice())?;
+    room_behind_body(left, stanza.body.as_slice())
+}
+
+/// The length of a header's text, where it is within the limit.
+pub(crate) fn text_len(header: &Header) -> Option<usize>
+    ensures { IsTextLength header.now result }
+{
+    let version_line = 22;
+    let end_line = 4 + characters_of(&header.mac) + 1;
+    let mut left = HEAD_MAX - version_line - end_line;
+    for stanza in header.stanzas.as_slice() {
+        left = room_behind_stanza(left, stanza)?;
+    }
+    Some(HEAD_MAX - left)
+}
+
+/// Whether a header has a text: one or more stanzas, each with one or more
+/// arguments, which are all lawful ([`is_argument`]), and a text of no more
+/// than [`HEAD_MAX`] bytes.
+pub fn is_header(header: &Header) -> bool
+    ensures { IsTrue result ↔ HasText header.now }
+{
+    let stanzas = header.stanzas.as_slice();
+    !stanzas.is_empty() && stanzas.iter().all(has_arguments) && text_len(header).is_some()
+}

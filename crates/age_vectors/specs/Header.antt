@@ -1,0 +1,28 @@
+-- What a row of a table of headers says of the definitions.
+use Rattle.std.specs.Prelude.{◌≡◌, ◌⊎◌, ℕ, List, take, Some}
+use Rattle.age_stanza.specs.declared.header.Header.{Header}
+use Rattle.age_stanza.specs.declared.fault.HeadFault.{HeadFault}
+use Rattle.age_stanza.specs.declared.fault.HeadKind.TheVariants.{HeadCut}
+use Rattle.age_stanza.specs.Grammar.{HeadText}
+use Rattle.age_stanza.specs.FaultNumbers.{number_of, place_of}
+use Rattle.age_stanza.specs.Faults.{HasHeader, NoFault, IsFault, line_after, memory_fault}
+
+-- a header of so many bytes stands in front
+pub record Accepts (bytes : List ℕ) (size : ℕ) : Type 0 where
+  pub header : Header
+  pub text : HeadText header (take size bytes)
+
+-- the input ended inside the header
+abbrev pub IsCut : List ℕ → HeadFault → Type 0
+IsCut bytes fault = (fault ≡ record { kind = HeadCut; line = line_after bytes }) × NoFault bytes
+
+-- what is told of bytes and their end, which have no header in front
+abbrev pub IsTold : List ℕ → HeadFault → Type 0
+IsTold bytes fault = (fault ≡ memory_fault) ⊎ ((HasHeader bytes → ⊥) × (IsFault bytes fault ⊎ IsCut bytes fault))
+
+-- a fault of this number is told in this line
+pub record Refuses (bytes : List ℕ) (number line : ℕ) : Type 0 where
+  pub fault : HeadFault
+  pub told : IsTold bytes fault
+  pub number_is : number_of fault.kind ≡ number
+  pub place_is : place_of fault ≡ Some line

@@ -1,0 +1,25 @@
+-- What the definitions say of the texts of the table of headers: the length of the header in front, or the fault's number and line.
+use Rattle.age_vectors.specs.declared.header.TheConstants.{SMALLEST, SMALLEST_AND_ONE, FULL_LINE, LAST_BYTE_ONE, CR_LF, ARMOR, ARMOR_CR, TWO_SPACES, SPACE_AT_END, HIGH_BYTE, NUL, NO_EMPTY_LINE, TRAILING_BIT, NO_STANZA}
+use Rattle.age_vectors.specs.Header.{Accepts, Refuses}
+
+pub record AcceptedRows : Type 0 where
+  pub smallest : Accepts SMALLEST.now 76
+  pub payload_behind : Accepts SMALLEST_AND_ONE.now 76
+  pub full_line : Accepts FULL_LINE.now 141
+  pub last_byte_one : Accepts LAST_BYTE_ONE.now 76
+
+pub record FirstLineRows : Type 0 where
+  pub cr_lf : Refuses CR_LF.now 1 1
+  pub armor : Refuses ARMOR.now 2 1
+  pub armor_cr : Refuses ARMOR_CR.now 2 1
+
+pub record ArgumentRows : Type 0 where
+  pub two_spaces : Refuses TWO_SPACES.now 3 2
+  pub space_at_end : Refuses SPACE_AT_END.now 3 2
+  pub high_byte : Refuses HIGH_BYTE.now 3 2
+  pub nul : Refuses NUL.now 3 2
+
+pub record LineRows : Type 0 where
+  pub no_empty_line : Refuses NO_EMPTY_LINE.now 4 4
+  pub trailing_bit : Refuses TRAILING_BIT.now 5 4
+  pub no_stanza : Refuses NO_STANZA.now 6 2
