@@ -1,0 +1,5 @@
+pub mod PolynomialLemmas
+pub mod BlockLemmas
+pub mod ByteLemmas
+pub mod KeystreamLemmas
+pub mod AeadLemmas

@@ -1,0 +1,5 @@
+pub mod Limbs
+pub mod Poly1305
+pub mod Absorbing
+pub mod Keystream
+pub mod Aead
