@@ -1,99 +1,82 @@
--- The loop over a text, byte by byte.
-use Rattle.std.proofs.Common.{◌≡◌, ◌≢◌, ℕ, zero, suc, ◌+◌, ◌*◌, ◌/◌, ◌%◌, ◌^◌, ◌<◌, ◌≤◌, List, length, slice_index, bit_xor, set, refl, ap, ap₂, ◌∙◌, arith, below_more, get_or-set_other, get_or-set_same}
-use Rattle.std.specs.Int.{w32, to_le_bytes, byte_at}
+-- Words drawn from the generator, and the keystream's bytes.
+use Rattle.std.proofs.Common.{◌≡◌, ℕ, ◌+◌, ◌*◌, ◌/◌, ◌%◌, ◌^◌, ◌<◌, List, length, slice_index, bit_xor, refl, ap, ◌∙◌, arith}
 use Rattle.std.proofs.lemmas.List.FromFn.{fill_by_all}
 use Rattle.rand_core.specs.Steps.{u32_at}
 use Rattle.rand_chacha.specs.ChaCha.{ChaCha, word_at, key_of, next_word}
 use Rattle.age_cipher.specs.Keystream.{stream_number, block_place, keystream_byte, ciphertext}
+use Rattle.age_cipher.specs.Places.{word_byte, IsXored}
 
--- the word that byte i is of
-unfoldable pub word_of : List ℕ → List ℕ → ℕ → ℕ → ℕ
-word_of key nonce counter i = word_at 10 (key_of key) (stream_number nonce) (block_place nonce counter + i / 4)
+-- the generator k words on, and its word there
+unfoldable pub generator_on : ChaCha → ℕ → ChaCha
+generator_on g k = record g { word_pos = (g.word_pos + k) % 2 ^ 68 }
 
--- the generator after n words
-unfoldable pub words_after : List ℕ → List ℕ → ℕ → ℕ → ChaCha
-words_after key nonce counter n =
+unfoldable pub word_on : ChaCha → ℕ → ℕ
+word_on g k = word_at 10 g.key g.stream ((g.word_pos + k) % 2 ^ 68)
+
+pub generator_on-none : (g : ChaCha) → g.word_pos < 2 ^ 68 → g ≡ generator_on g 0
+unfolding generator_on
+generator_on-none g h = let e : (g.word_pos + 0) % 2 ^ 68 ≡ g.word_pos = omega arith in rw e refl
+
+pub word_drawn : (g now new : ChaCha) (x k : ℕ) → now ≡ generator_on g k → (x, new) ≡ next_word 10 now
+    → (x ≡ word_on g k) × (new ≡ generator_on g (k + 1))
+unfolding generator_on word_on
+word_drawn g now new x k at gave =
+    let next : ((g.word_pos + k) % 2 ^ 68 + 1) % 2 ^ 68 ≡ (g.word_pos + (k + 1)) % 2 ^ 68 = omega arith in (
+      ap (λ (q : ℕ × ChaCha). q.0) gave ∙ rw at refl,
+      ap (λ (q : ℕ × ChaCha). q.1) gave ∙ rw (at, next) refl,
+    )
+
+-- the generator after n words of a keystream
+unfoldable pub generator_after : List ℕ → List ℕ → ℕ → ℕ → ChaCha
+generator_after key nonce counter n =
     record { key = key_of key; stream = stream_number nonce; word_pos = (block_place nonce counter + n) % 2 ^ 68 }
-
--- what stands before byte i of the text
-pub record Stands (key nonce : List ℕ) (counter i : ℕ) (old text : List ℕ) : Type 0 where
-  pub done : (j : ℕ) → j < i → slice_index text j ≡ bit_xor (slice_index old j) (keystream_byte key nonce counter j)
-  pub left : (j : ℕ) → i ≤ j → slice_index text j ≡ slice_index old j
-
--- the bytes of a word
-unfoldable pub bytes_of : ℕ → List ℕ
-bytes_of n = to_le_bytes w32 n
-
-pub bytes_of_is : (n : ℕ) → to_le_bytes w32 n ≡ bytes_of n
-unfolding bytes_of
-bytes_of_is n = refl
-
-slice_index-bytes_of : (n k : ℕ) → k < 4 → slice_index (bytes_of n) k ≡ byte_at k n
-unfolding bytes_of
-slice_index-bytes_of n zero h = refl
-slice_index-bytes_of n (suc zero) h = refl
-slice_index-bytes_of n (suc (suc zero)) h = refl
-slice_index-bytes_of n (suc (suc (suc zero))) h = refl
-slice_index-bytes_of n (suc (suc (suc (suc k)))) h = absurd (omega arith)
 
 pub u32_at-lt : (bs : List ℕ) (i : ℕ) → ((k : ℕ) → slice_index bs k < 256) → u32_at bs i < 2 ^ 32
 unfolding u32_at
 u32_at-lt bs i h = omega (arith, h (4 * i), h (4 * i + 1), h (4 * i + 2), h (4 * i + 3))
 
--- the place does not come round
-no_wrap : (nonce : List ℕ) (counter i : ℕ) → ((k : ℕ) → slice_index nonce k < 256) → 64 * counter + i < 2 ^ 38
-    → (block_place nonce counter + i / 4) % 2 ^ 68 ≡ block_place nonce counter + i / 4
-no_wrap nonce counter i fits room = omega (arith, u32_at-lt nonce 0 fits)
-
-pub next_is : (key nonce : List ℕ) (counter i x : ℕ) (old new : ChaCha) → ((k : ℕ) → slice_index nonce k < 256) → 64 * counter + i < 2 ^ 38
-    → i % 4 ≡ 0 → old ≡ words_after key nonce counter ((i + 3) / 4) → (x, new) ≡ next_word 10 old
-    → (x ≡ word_of key nonce counter i) × (new ≡ words_after key nonce counter ((i + 1 + 3) / 4))
-unfolding words_after word_of
-next_is key nonce counter i x old new fits room first at gave =
-    let same : (i + 3) / 4 ≡ i / 4 = omega arith in
-    let place = no_wrap nonce counter i fits room in
-    let p : old.word_pos ≡ block_place nonce counter + i / 4 = ap (λ g. g.word_pos) at ∙ rw same place in
-    let next : (old.word_pos + 1) % 2 ^ 68 ≡ (block_place nonce counter + (i + 1 + 3) / 4) % 2 ^ 68 = omega arith in
-    let k = ap (λ (g : ChaCha). g.key) at in
-    let s = ap (λ (g : ChaCha). g.stream) at in (
-      ap (λ (q : ℕ × ChaCha). q.0) gave ∙ rw (p, k, s) refl,
-      ap (λ (q : ℕ × ChaCha). q.1) gave ∙ rw (next, k, s) refl,
-    )
-
--- the same word goes on
-pub word_of-more : (key nonce : List ℕ) (counter i : ℕ) → 0 < (i + 1) % 4 → word_of key nonce counter (i + 1) ≡ word_of key nonce counter i
-unfolding word_of
-word_of-more key nonce counter i h = let same : (i + 1) / 4 ≡ i / 4 = omega arith in rw same refl
-
-pub words_after-more : (key nonce : List ℕ) (counter i : ℕ) → i % 4 ≢ 0 → words_after key nonce counter ((i + 3) / 4) ≡ words_after key nonce counter ((i + 1 + 3) / 4)
-words_after-more key nonce counter i h = let same : (i + 3) / 4 ≡ (i + 1 + 3) / 4 = omega arith in rw same refl
-
-pub written : (key nonce : List ℕ) (counter i : ℕ) (old text word : List ℕ) → Stands key nonce counter i old text → i < length text
-    → word ≡ bytes_of (word_of key nonce counter i)
-    → Stands key nonce counter (i + 1) old (set text i (bit_xor (slice_index text i) (slice_index word (i % 4))))
-unfolding keystream_byte word_of
-written key nonce counter i old text word s h e =
-    let byte : slice_index word (i % 4) ≡ keystream_byte key nonce counter i =
-    rw e (slice_index-bytes_of (word_of key nonce counter i) (i % 4) (omega arith)) in
-    record {
-      done = below_more _ _
-          (λ j below. let ne : j ≢ i = omega arith in rw get_or-set_other (s.done j below))
-          (rw get_or-set_same (ap₂ bit_xor (s.left i (omega arith)) byte));
-      left = λ j above. let ne : j ≢ i = omega arith in rw get_or-set_other (s.left j (omega arith));
-    }
-
-pub all_written : (key nonce : List ℕ) (counter i : ℕ) (old text : List ℕ) → Stands key nonce counter i old text → length text ≡ length old → length old ≤ i
-    → text ≡ ciphertext key nonce counter old
-unfolding ciphertext
-all_written key nonce counter i old text s same whole =
-    fill_by_all (λ j. bit_xor (slice_index old j) (keystream_byte key nonce counter j)) text (length old) 0 same (λ k h. s.done k (omega arith))
-
-pub words_from_is : (key nonce : List ℕ) (counter : ℕ) (w : ChaCha) → ((k : ℕ) → slice_index nonce k < 256) → 64 * counter ≤ 2 ^ 38 → counter < 2 ^ 32
-    → w ≡ record { key = key_of key; stream = stream_number nonce; word_pos = block_place nonce counter } → w ≡ words_after key nonce counter 0
-unfolding words_after
-words_from_is key nonce counter w fits room small e =
+pub generator_after-none : (key nonce : List ℕ) (counter : ℕ) (g : ChaCha) → ((k : ℕ) → slice_index nonce k < 256) → counter < 2 ^ 32
+    → g ≡ record { key = key_of key; stream = stream_number nonce; word_pos = block_place nonce counter } → g ≡ generator_after key nonce counter 0
+unfolding generator_after
+generator_after-none key nonce counter g fits small e =
     let place : (block_place nonce counter + 0) % 2 ^ 68 ≡ block_place nonce counter = omega (arith, u32_at-lt nonce 0 fits) in
     rw place e
 
-pub bytes_of_at : (n k : ℕ) → k < 4 → slice_index (to_le_bytes w32 n) k ≡ byte_at k n
-bytes_of_at n k h = ap (λ b. slice_index b k) (bytes_of_is n) ∙ slice_index-bytes_of n k h
+pub generator_after-more : (key nonce : List ℕ) (counter n m k : ℕ) (g new : ChaCha) → m ≡ n + k → g ≡ generator_after key nonce counter n
+    → new ≡ record g { word_pos = (g.word_pos + k) % 2 ^ 68 } → new ≡ generator_after key nonce counter m
+unfolding generator_after
+generator_after-more key nonce counter n m k g new more at e =
+    let pos_is : g.word_pos ≡ (block_place nonce counter + n) % 2 ^ 68 = ap (λ (w : ChaCha). w.word_pos) at in
+    let next : (g.word_pos + k) % 2 ^ 68 ≡ (block_place nonce counter + m) % 2 ^ 68 = omega arith in
+    let key_is = ap (λ (w : ChaCha). w.key) at in
+    let stream_is = ap (λ (w : ChaCha). w.stream) at in
+    e ∙ rw (next, key_is, stream_is) refl
+
+pub generator_after-low : (key nonce : List ℕ) (counter n : ℕ) (g : ChaCha) → g ≡ generator_after key nonce counter n → g.word_pos < 2 ^ 68
+unfolding generator_after
+generator_after-low key nonce counter n g at =
+    let pos_is : g.word_pos ≡ (block_place nonce counter + n) % 2 ^ 68 = ap (λ (w : ChaCha). w.word_pos) at in
+    omega arith
+
+-- byte m of words that were drawn from place 64 * i on is the keystream's byte 256 * i + m
+pub word_byte_is : (key nonce : List ℕ) (counter i : ℕ) (g : ChaCha) (words : List ℕ) (m : ℕ)
+    → ((k : ℕ) → slice_index nonce k < 256) → 64 * counter + (256 * i + m) < 2 ^ 38 → m < 256
+    → g ≡ generator_after key nonce counter (64 * i)
+    → ((k : ℕ) → k < 64 → slice_index words k ≡ word_at 10 g.key g.stream ((g.word_pos + k) % 2 ^ 68))
+    → word_byte words m ≡ keystream_byte key nonce counter (256 * i + m)
+unfolding keystream_byte generator_after
+word_byte_is key nonce counter i g words m fits room small at drawn =
+    let q : ℕ = m / 4 in
+    let rem : (256 * i + m) % 4 ≡ m % 4 = omega arith in
+    let quo : (256 * i + m) / 4 ≡ 64 * i + q = omega arith in
+    let key_is = ap (λ (w : ChaCha). w.key) at in
+    let stream_is = ap (λ (w : ChaCha). w.stream) at in
+    let pos_is : g.word_pos ≡ (block_place nonce counter + 64 * i) % 2 ^ 68 = ap (λ (w : ChaCha). w.word_pos) at in
+    let place : (g.word_pos + q) % 2 ^ 68 ≡ block_place nonce counter + (64 * i + q) = omega (arith, u32_at-lt nonce 0 fits) in
+    rw (drawn q (omega arith), rem, quo, place, key_is, stream_is) refl
+
+pub ciphertext_is : (key nonce : List ℕ) (counter : ℕ) (old text : List ℕ) → IsXored (keystream_byte key nonce counter) old text
+    → text ≡ ciphertext key nonce counter old
+unfolding ciphertext
+ciphertext_is key nonce counter old text x =
+    fill_by_all (λ j. bit_xor (slice_index old j) (keystream_byte key nonce counter j)) text (length old) 0 x.len (λ k h. x.at k (omega arith))

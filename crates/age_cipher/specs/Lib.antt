@@ -3,4 +3,5 @@ pub mod Poly1305
 pub mod Sums
 pub mod Absorbing
 pub mod Keystream
+pub mod Places
 pub mod Aead

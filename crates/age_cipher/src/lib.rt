@@ -11,6 +11,7 @@
 mod aead;
 mod authenticator;
 mod keystream;
+mod lanes;
 mod laws;
 mod limbs;
 
