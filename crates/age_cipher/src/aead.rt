@@ -8,6 +8,11 @@ ghost use Rattle.age_cipher.specs.Aead.{one_time_key, padding, tag, sealing, IsS
 use crate::authenticator::poly1305;
 use crate::keystream::xor_stream;
 
+// The front of block 0 is the one-time key, and the text is enciphered from block 1 on.
+const KEY_BLOCK: u32 = 0;
+
+const TEXT_BLOCK: u32 = 1;
+
 static ZEROS: [u8; 16] = [0; 16];
 
 // The zeros up to a multiple of 16 bytes.
@@ -22,7 +27,7 @@ fn one_time_key(key: &[u8; 32], nonce: &[u8; 12]) -> [u8; 32]
     ensures { result ≡ one_time_key key.now nonce.now }
 {
     let mut block = [0; 32];
-    xor_stream(key, nonce, 0, &mut block);
+    xor_stream(key, nonce, KEY_BLOCK, &mut block);
     block
 }
 
@@ -78,8 +83,9 @@ pub fn seal_in_place(key: &[u8; 32], nonce: &[u8; 12], aad: &[u8], block: &mut [
     ensures { block.new ≡ sealing key.now nonce.now aad.now (take (length block.old - 16) block.old) }
 {
     let (text, end) = block.split_at_mut(block.len() - 16);
-    xor_stream(key, nonce, 1, text);
-    end.copy_from_slice(&tag(key, nonce, aad, text));
+    xor_stream(key, nonce, TEXT_BLOCK, text);
+    let tag = tag(key, nonce, aad, text);
+    end.copy_from_slice(&tag);
 }
 
 /// Opens a block of 16 to 65,552 bytes in place, which is asked: true exactly where it is the sealing of some text.
@@ -91,10 +97,10 @@ pub fn open_in_place(key: &[u8; 32], nonce: &[u8; 12], aad: &[u8], block: &mut [
     ensures end { OnTrue result (drop (length block.old - 16) block.new ≡ drop (length block.old - 16) block.old) }
     ensures kept { OnFalse result (block.new ≡ block.old) }
 {
-    let (text, end) = block.split_at_mut(block.len() - 16);
-    let same = tag(key, nonce, aad, text).as_slice() == end;
+    let (front, end) = block.split_at_mut(block.len() - 16);
+    let same = tag(key, nonce, aad, front).as_slice() == end;
     if same {
-        xor_stream(key, nonce, 1, text);
+        xor_stream(key, nonce, TEXT_BLOCK, front);
     }
     same
 }

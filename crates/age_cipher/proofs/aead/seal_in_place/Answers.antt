@@ -11,5 +11,5 @@ returns c =
     let front : c.split_at_mut-text.result.0.now ≡ take (length c.args.block.now - 16) c.args.block.now = search rules in
     let text : c.xor_stream.new.text ≡ ciphertext key nonce 1 (take (length c.args.block.now - 16) c.args.block.now) =
     c.xor_stream.ensures ∙ ap (ciphertext key nonce 1) front in
-    let end : c.copy_from_slice.new.self ≡ c.tag.result = search rules in
-    ap₂ ◌++◌ text (end ∙ c.tag.ensures ∙ ap (tag key nonce c.args.aad.now) text)
+    let end : c.copy_from_slice.new.self ≡ c.tag-tag.result = search rules in
+    ap₂ ◌++◌ text (end ∙ c.tag-tag.ensures ∙ ap (tag key nonce c.args.aad.now) text)
