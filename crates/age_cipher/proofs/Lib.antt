@@ -5,4 +5,5 @@ pub mod WordLemmas
 pub mod PlaceLemmas
 pub mod LaneLemmas
 pub mod KeystreamLemmas
+pub mod SealingLemmas
 pub mod AeadLemmas

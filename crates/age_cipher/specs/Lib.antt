@@ -5,3 +5,4 @@ pub mod Absorbing
 pub mod Keystream
 pub mod Places
 pub mod Aead
+pub mod Opening

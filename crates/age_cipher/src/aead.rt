@@ -94,7 +94,7 @@ pub fn open_in_place(key: &[u8; 32], nonce: &[u8; 12], aad: &[u8], block: &mut [
     requires { (16 ≤ length block.old) × (length block.old ≤ 65552) }
     ensures exact { IsTrue result ↔ IsSealing key.now nonce.now aad.now block.old }
     ensures text { OnTrue result (block.old ≡ sealing key.now nonce.now aad.now (take (length block.old - 16) block.new)) }
-    ensures end { OnTrue result (drop (length block.old - 16) block.new ≡ drop (length block.old - 16) block.old) }
+    ensures end { drop (length block.old - 16) block.new ≡ drop (length block.old - 16) block.old }
     ensures kept { OnFalse result (block.new ≡ block.old) }
 {
     let (front, end) = block.split_at_mut(block.len() - 16);

@@ -1,4 +1,4 @@
-use Rattle.age_cipher.proofs.AeadLemmas.{one_text}
+use Rattle.age_cipher.proofs.SealingLemmas.{one_text}
 use Rattle.age_cipher.proofs.laws.sealings_are_distinct.Goals as goal
 
 pub returns : goal.returns
