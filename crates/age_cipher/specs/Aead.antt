@@ -24,7 +24,9 @@ tag key nonce aad cipher = poly1305 (one_time_key key nonce) (mac_data aad ciphe
 
 -- the sealing of a text: the ciphertext, from block 1 on, and its tag
 unfoldable pub sealing : List ℕ → List ℕ → List ℕ → List ℕ → List ℕ
-sealing key nonce aad text = ciphertext key nonce 1 text ++ tag key nonce aad (ciphertext key nonce 1 text)
+sealing key nonce aad text =
+    let cipher = ciphertext key nonce 1 text in
+    cipher ++ tag key nonce aad cipher
 
 -- some text seals to this block
 abbrev pub IsSealing : List ℕ → List ℕ → List ℕ → List ℕ → Type 0
@@ -33,4 +35,5 @@ IsSealing key nonce aad block = (text : List ℕ) × (block ≡ sealing key nonc
 -- different texts seal to different blocks: a block is the sealing of one text at most
 abbrev pub DistinctSealings : Type 0
 DistinctSealings =
-    (key nonce aad text other : List ℕ) → sealing key nonce aad text ≡ sealing key nonce aad other → text ≡ other
+    (key nonce aad text other : List ℕ)
+    → sealing key nonce aad text ≡ sealing key nonce aad other → text ≡ other

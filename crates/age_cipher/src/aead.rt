@@ -76,11 +76,13 @@ fn tag(key: &[u8; 32], nonce: &[u8; 12], aad: &[u8], cipher: &[u8]) -> [u8; 16]
     )
 }
 
-/// Seals a text in place (RFC 8439, 2.8). A block is the text and 16 bytes more, together 16 to 65,552 bytes, which is
-/// asked. The text becomes the ciphertext and the 16 bytes its tag; what they were doesn't matter.
+/// Seals a text in place (RFC 8439, 2.8). A block is the text and 16 bytes more, and has 16 to
+/// 65,552 bytes, which is asked. The text becomes the ciphertext and the last 16 bytes the tag,
+/// whatever they were.
 pub fn seal_in_place(key: &[u8; 32], nonce: &[u8; 12], aad: &[u8], block: &mut [u8])
     requires { (16 ≤ length block.old) × (length block.old ≤ 65552) }
-    ensures { block.new ≡ sealing key.now nonce.now aad.now (take (length block.old - 16) block.old) }
+    ensures { block.new
+        ≡ sealing key.now nonce.now aad.now (take (length block.old - 16) block.old) }
 {
     let (text, end) = block.split_at_mut(block.len() - 16);
     xor_stream(key, nonce, TEXT_BLOCK, text);
@@ -88,12 +90,14 @@ pub fn seal_in_place(key: &[u8; 32], nonce: &[u8; 12], aad: &[u8], block: &mut [
     end.copy_from_slice(&tag);
 }
 
-/// Opens a block of 16 to 65,552 bytes in place, which is asked: true exactly where it is the sealing of some text.
-/// That text then stands before the tag, whose 16 bytes are as they were. False leaves the whole block as it was.
+/// Opens a block of 16 to 65,552 bytes, which is asked, in place (RFC 8439, 2.8). It answers true
+/// exactly where the block is the sealing of some text. That text then stands before the tag, whose
+/// 16 bytes stay. False leaves the whole block as it was.
 pub fn open_in_place(key: &[u8; 32], nonce: &[u8; 12], aad: &[u8], block: &mut [u8]) -> bool
     requires { (16 ≤ length block.old) × (length block.old ≤ 65552) }
     ensures exact { IsTrue result ↔ IsSealing key.now nonce.now aad.now block.old }
-    ensures text { OnTrue result (block.old ≡ sealing key.now nonce.now aad.now (take (length block.old - 16) block.new)) }
+    ensures text { OnTrue result (block.old
+        ≡ sealing key.now nonce.now aad.now (take (length block.old - 16) block.new)) }
     ensures end { drop (length block.old - 16) block.new ≡ drop (length block.old - 16) block.old }
     ensures kept { OnFalse result (block.new ≡ block.old) }
 {

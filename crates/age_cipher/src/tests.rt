@@ -1,4 +1,5 @@
-//! Values under a key of bytes 9 and a nonce of bytes 0xff, as OpenSSL gives them, and rows that were worked by hand.
+//! Values under a key of bytes 9 and a nonce of bytes 0xff, as OpenSSL gives them, and tags that
+//! were worked out by hand.
 ghost use Rattle.std.specs.Prelude.{◌≡◌, ◌+◌, ◌*◌, ◌^◌, ◌≤◌, IfOk, length, vec_len};
 
 use super::*;
