@@ -1,4 +1,5 @@
-// ChaCha20, Poly1305 and their AEAD. A constant named for a section is what RFC 8439 gives there; A is its appendix.
+// ChaCha20, Poly1305 and their AEAD. A constant named for a section is what RFC 8439 gives there; A
+// is its appendix.
 ghost use Rattle.std.specs.Prelude.{◌≡◌, ◌+◌, ◌*◌, ◌^◌, ◌≤◌, IsTrue, length, replicate, take};
 ghost use Rattle.age_cipher.specs.Keystream.{ciphertext};
 ghost use Rattle.age_cipher.specs.Poly1305.{poly1305};
@@ -377,7 +378,8 @@ fn seals_to(
 ) -> bool
     requires block { length block.old ≡ length text.now + 16 }
     requires short { length text.now ≤ 65536 }
-    ensures { IsTrue result → sealing key.now nonce.now aad.now text.now ≡ wanted.now }
+    ensures { IsTrue result
+        → sealing key.now nonce.now aad.now text.now ≡ wanted.now }
 {
     block[..text.len()].copy_from_slice(text);
     seal_in_place(key, nonce, aad, block);
@@ -387,16 +389,26 @@ fn seals_to(
 
 /// The keystreams of RFC 8439, 2.3.2, 2.6.2 and A.1, and the ciphertexts of 2.4.2 and A.2.
 pub fn rfc_chacha() -> bool
-    ensures section_2_3_2 { IsTrue result → ciphertext COUNTING_KEY NONCE_2_3_2 1 (replicate 64 0) ≡ STREAM_2_3_2 }
-    ensures section_2_4_2 { IsTrue result → ciphertext COUNTING_KEY NONCE_2_4_2 1 SUNSCREEN ≡ STREAM_2_4_2 }
-    ensures section_2_6_2 { IsTrue result → ciphertext HIGH_KEY NONCE_2_6_2 0 (replicate 32 0) ≡ STREAM_2_6_2 }
-    ensures appendix_1_1 { IsTrue result → ciphertext ZERO_KEY ZERO_NONCE 0 (replicate 64 0) ≡ STREAM_A_1_1 }
-    ensures appendix_1_2 { IsTrue result → ciphertext ZERO_KEY ZERO_NONCE 1 (replicate 64 0) ≡ STREAM_A_1_2 }
-    ensures appendix_1_3 { IsTrue result → ciphertext LAST_BIT_KEY ZERO_NONCE 1 (replicate 64 0) ≡ STREAM_A_1_3 }
-    ensures appendix_1_4 { IsTrue result → ciphertext SECOND_BYTE_KEY ZERO_NONCE 2 (replicate 64 0) ≡ STREAM_A_1_4 }
-    ensures appendix_1_5 { IsTrue result → ciphertext ZERO_KEY LAST_BIT_NONCE 0 (replicate 64 0) ≡ STREAM_A_1_5 }
-    ensures appendix_2_2 { IsTrue result → ciphertext LAST_BIT_KEY LAST_BIT_NONCE 1 CONTRIBUTION ≡ STREAM_A_2_2 }
-    ensures appendix_2_3 { IsTrue result → ciphertext VERSE_KEY LAST_BIT_NONCE 42 VERSE ≡ STREAM_A_2_3 }
+    ensures section_2_3_2 { IsTrue result
+        → ciphertext COUNTING_KEY NONCE_2_3_2 1 (replicate 64 0) ≡ STREAM_2_3_2 }
+    ensures section_2_4_2 { IsTrue result
+        → ciphertext COUNTING_KEY NONCE_2_4_2 1 SUNSCREEN ≡ STREAM_2_4_2 }
+    ensures section_2_6_2 { IsTrue result
+        → ciphertext HIGH_KEY NONCE_2_6_2 0 (replicate 32 0) ≡ STREAM_2_6_2 }
+    ensures appendix_1_1 { IsTrue result
+        → ciphertext ZERO_KEY ZERO_NONCE 0 (replicate 64 0) ≡ STREAM_A_1_1 }
+    ensures appendix_1_2 { IsTrue result
+        → ciphertext ZERO_KEY ZERO_NONCE 1 (replicate 64 0) ≡ STREAM_A_1_2 }
+    ensures appendix_1_3 { IsTrue result
+        → ciphertext LAST_BIT_KEY ZERO_NONCE 1 (replicate 64 0) ≡ STREAM_A_1_3 }
+    ensures appendix_1_4 { IsTrue result
+        → ciphertext SECOND_BYTE_KEY ZERO_NONCE 2 (replicate 64 0) ≡ STREAM_A_1_4 }
+    ensures appendix_1_5 { IsTrue result
+        → ciphertext ZERO_KEY LAST_BIT_NONCE 0 (replicate 64 0) ≡ STREAM_A_1_5 }
+    ensures appendix_2_2 { IsTrue result
+        → ciphertext LAST_BIT_KEY LAST_BIT_NONCE 1 CONTRIBUTION ≡ STREAM_A_2_2 }
+    ensures appendix_2_3 { IsTrue result
+        → ciphertext VERSE_KEY LAST_BIT_NONCE 42 VERSE ≡ STREAM_A_2_3 }
 {
     enciphers_to(&COUNTING_KEY, &NONCE_2_3_2, 1, &mut [0; 64], &STREAM_2_3_2)
         && enciphers_to(
@@ -434,7 +446,8 @@ pub fn rfc_chacha() -> bool
         )
 }
 
-/// The tags of RFC 8439, 2.5.2 and A.3. Those from the fifth on need the last reduction or a long carry.
+/// The tags of RFC 8439, 2.5.2 and A.3. Those of A.3 from the fifth on need
+/// the last reduction or a long carry.
 pub fn rfc_poly1305() -> bool
     ensures section_2_5_2 { IsTrue result → poly1305 FORUM_KEY FORUM ≡ TAG_2_5_2 }
     ensures appendix_3_1 { IsTrue result → poly1305 ZERO_KEY (replicate 64 0) ≡ TAG_A_3_1 }
@@ -465,8 +478,10 @@ pub fn rfc_poly1305() -> bool
 
 /// The sealings of RFC 8439, 2.8.2 and A.5, which also open.
 pub fn rfc_aead() -> bool
-    ensures section_2_8_2 { IsTrue result → sealing HIGH_KEY NONCE_2_8_2 DATA_2_8_2 SUNSCREEN ≡ SEALED_2_8_2 }
-    ensures appendix_5 { IsTrue result → sealing VERSE_KEY NONCE_A_5 DATA_A_5 DRAFT ≡ SEALED_A_5 }
+    ensures section_2_8_2 { IsTrue result
+        → sealing HIGH_KEY NONCE_2_8_2 DATA_2_8_2 SUNSCREEN ≡ SEALED_2_8_2 }
+    ensures appendix_5 { IsTrue result
+        → sealing VERSE_KEY NONCE_A_5 DATA_A_5 DRAFT ≡ SEALED_A_5 }
 {
     seals_to(
         &HIGH_KEY,
