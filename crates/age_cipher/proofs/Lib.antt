@@ -1,0 +1,9 @@
+pub mod PolynomialLemmas
+pub mod BlockLemmas
+pub mod ByteLemmas
+pub mod WordLemmas
+pub mod PlaceLemmas
+pub mod LaneLemmas
+pub mod KeystreamLemmas
+pub mod SealingLemmas
+pub mod AeadLemmas

@@ -1,0 +1,119 @@
+-- What the crates above may use of ciphertexts, sealings and openings.
+use Rattle.std.proofs.Common.{◌≡◌, ℕ, ◌+◌, ◌-◌, ◌<◌, List, ◌++◌, length, take, drop, get_or, slice_index, bit_xor, refl, sym, ap, ◌∙◌, arith, length-append, Bool, true, false}
+use Rattle.std.specs.Prelude.{Option, Some, None, cond, IsTrue, ◌↔◌}
+use Rattle.std.specs.Bool.{OnTrue, OnFalse}
+use Rattle.std.specs.Str.{bytes_eq}
+use Rattle.std.specs.Int.Bits.{xor_assoc, xor_self, xor_zero_r}
+use Rattle.std.proofs.lemmas.Slice.Eq.{bytes_eq-Decides}
+use Rattle.std.proofs.lemmas.List.{take_at, drop_at, ext_get_or}
+use Rattle.std.proofs.lemmas.List.FromFn.{length-map-range_with_len, get_or-map-range_with_len}
+use Rattle.age_cipher.specs.Keystream.{keystream_byte, ciphertext}
+use Rattle.age_cipher.specs.Poly1305.{poly1305}
+use Rattle.age_cipher.specs.Aead.{tag, sealing, IsSealing}
+use Rattle.age_cipher.specs.Opening.{opening}
+
+pub length-ciphertext : (key nonce : List ℕ) (counter : ℕ) (text : List ℕ) → length (ciphertext key nonce counter text) ≡ length text
+unfolding ciphertext
+length-ciphertext key nonce counter text = length-map-range_with_len (λ j. bit_xor (slice_index text j) (keystream_byte key nonce counter j)) 0 (length text)
+
+get_or-ciphertext : (key nonce : List ℕ) (counter : ℕ) (text : List ℕ) (j : ℕ) → j < length text
+    → get_or (ciphertext key nonce counter text) j 0 ≡ bit_xor (get_or text j 0) (keystream_byte key nonce counter j)
+unfolding ciphertext
+get_or-ciphertext key nonce counter text j h =
+    get_or-map-range_with_len (λ j. bit_xor (slice_index text j) (keystream_byte key nonce counter j)) 0 (length text) j j 0 h (omega arith)
+
+-- enciphering twice gives the text back
+pub twice : (key nonce : List ℕ) (counter : ℕ) (text : List ℕ) → ciphertext key nonce counter (ciphertext key nonce counter text) ≡ text
+twice key nonce counter text =
+    let c : List ℕ = ciphertext key nonce counter text in
+    let len : length c ≡ length text = length-ciphertext key nonce counter text in
+    ext_get_or 0 (ciphertext key nonce counter c) text (length-ciphertext key nonce counter c ∙ len)
+    (λ j h.
+    let in_c : j < length c = omega (arith, length-ciphertext key nonce counter c) in
+    let k : ℕ = keystream_byte key nonce counter j in
+    get_or-ciphertext key nonce counter c j in_c
+    ∙ ap (λ x. bit_xor x k) (get_or-ciphertext key nonce counter text j (omega arith))
+    ∙ xor_assoc (get_or text j 0) k k ∙ ap (bit_xor (get_or text j 0)) (xor_self k) ∙ xor_zero_r (get_or text j 0))
+
+pub length-tag : (key nonce aad cipher : List ℕ) → length (tag key nonce aad cipher) ≡ 16
+unfolding tag poly1305
+length-tag key nonce aad cipher = refl
+
+-- the two ends of a sealing
+pub front_of_sealing : (key nonce aad text : List ℕ) → take (length (sealing key nonce aad text) - 16) (sealing key nonce aad text) ≡ ciphertext key nonce 1 text
+unfolding sealing
+front_of_sealing key nonce aad text =
+    let c : List ℕ = ciphertext key nonce 1 text in
+    let t : List ℕ = tag key nonce aad c in
+    take_at c t (length (c ++ t) - 16) (omega (arith, length-append c t, length-tag key nonce aad c))
+
+pub end_of_sealing : (key nonce aad text : List ℕ) → drop (length (sealing key nonce aad text) - 16) (sealing key nonce aad text) ≡ tag key nonce aad (ciphertext key nonce 1 text)
+unfolding sealing
+end_of_sealing key nonce aad text =
+    let c : List ℕ = ciphertext key nonce 1 text in
+    let t : List ℕ = tag key nonce aad c in
+    drop_at c t (length (c ++ t) - 16) (omega (arith, length-append c t, length-tag key nonce aad c))
+
+-- a sealing is 16 bytes longer than its text
+pub length-sealing : (key nonce aad text : List ℕ) → length (sealing key nonce aad text) ≡ length text + 16
+unfolding sealing
+length-sealing key nonce aad text =
+    let c : List ℕ = ciphertext key nonce 1 text in
+    omega (arith, length-append c (tag key nonce aad c), length-tag key nonce aad c, length-ciphertext key nonce 1 text)
+
+-- the front of a sealing, enciphered once more, is the text
+pub deciphered_front : (key nonce aad text : List ℕ)
+    → ciphertext key nonce 1 (take (length (sealing key nonce aad text) - 16) (sealing key nonce aad text)) ≡ text
+deciphered_front key nonce aad text = ap (ciphertext key nonce 1) (front_of_sealing key nonce aad text) ∙ twice key nonce 1 text
+
+-- a block is the sealing of one text at most
+pub one_text : (key nonce aad text other : List ℕ) → sealing key nonce aad text ≡ sealing key nonce aad other → text ≡ other
+one_text key nonce aad text other e =
+    sym (deciphered_front key nonce aad text)
+    ∙ ap (λ b. ciphertext key nonce 1 (take (length b - 16) b)) e
+    ∙ deciphered_front key nonce aad other
+
+-- ---- openings
+
+-- a sealing opens to its text
+pub opening_of_sealing : (key nonce aad text : List ℕ) → opening key nonce aad (sealing key nonce aad text) ≡ Some text
+unfolding opening
+opening_of_sealing key nonce aad text =
+    let b : List ℕ = sealing key nonce aad text in
+    ap (λ (t : List ℕ). cond (bytes_eq (sealing key nonce aad t) b) (Some t) None) (deciphered_front key nonce aad text)
+    ∙ ap (λ (s : Bool). cond s (Some text) None) ((bytes_eq-Decides b b).1 refl)
+
+chosen : (b : Bool) (x y : List ℕ) → cond b (Some x) None ≡ Some y → (b ≡ true) × (x ≡ y)
+chosen true x y e = (refl, cc)
+chosen false x y e = cc
+
+-- what a block opens to seals to the block
+pub sealing_of_opening : (key nonce aad block text : List ℕ) → opening key nonce aad block ≡ Some text → block ≡ sealing key nonce aad text
+unfolding opening
+sealing_of_opening key nonce aad block text e =
+    let d : List ℕ = ciphertext key nonce 1 (take (length block - 16) block) in
+    let t = chosen (bytes_eq (sealing key nonce aad d) block) d text e in
+    sym ((bytes_eq-Decides (sealing key nonce aad d) block).0 t.0) ∙ ap (sealing key nonce aad) t.1
+
+opens_to : (key nonce aad block text : List ℕ) → block ≡ sealing key nonce aad text → opening key nonce aad block ≡ Some text
+opens_to key nonce aad block text e = ap (opening key nonce aad) e ∙ opening_of_sealing key nonce aad text
+
+none_of : (o : Option (List ℕ)) → ((text : List ℕ) → o ≡ Some text → ⊥) → o ≡ None
+none_of None h = cc
+none_of (Some t) h = absurd (h t (cc))
+
+not_true : false ≡ true → ⊥
+not_true e = cc
+
+-- the clauses of `open_in_place`, in these words
+pub opening_where_true : (b : Bool) (key nonce aad block text : List ℕ)
+    → OnTrue b (block ≡ sealing key nonce aad text) → OnTrue b (opening key nonce aad block ≡ Some text)
+opening_where_true true key nonce aad block text h = opens_to key nonce aad block text h
+opening_where_true false key nonce aad block text h = tt
+
+pub opening_where_false : (b : Bool) (key nonce aad block : List ℕ)
+    → (IsTrue b ↔ IsSealing key nonce aad block) → OnFalse b (opening key nonce aad block ≡ None)
+opening_where_false true key nonce aad block e = tt
+opening_where_false false key nonce aad block e =
+    none_of (opening key nonce aad block)
+    (λ text is. let bad : IsTrue false = e.1 (text, sealing_of_opening key nonce aad block text is) in not_true bad)

@@ -1,0 +1,48 @@
+use Rattle.std.proofs.Common.{◌≡◌, ◌∙◌, ◌-◌, ◌++◌, ℕ, List, length, take, ap, sym, arith}
+use Rattle.std.proofs.lemmas.Bool.{OnTrue_from}
+use Rattle.std.proofs.lemmas.List.{take_at}
+use Rattle.age_cipher.specs.Keystream.{ciphertext}
+use Rattle.age_cipher.specs.Aead.{sealing, tag}
+use Rattle.age_cipher.proofs.AeadLemmas.{opens_if, opens_of}
+use Rattle.age_cipher.proofs.aead.open_in_place.Goals as goal
+
+pub returns-then-same-clause-exact : goal.returns-then-same-clause-exact
+returns-then-same-clause-exact c =
+    let key : List ℕ = c.args.key.now in
+    let nonce : List ℕ = c.args.nonce.now in
+    let aad : List ℕ = c.args.aad.now in
+    let block : List ℕ = c.args.block.now in
+    let n : ℕ = length block - 16 in
+    let split = c.split_at_mut-front.ensures in
+    let tags = c.as_slice.ensures ∙ c.tag.ensures ∙ ap (tag key nonce aad) split.front in (
+      λ h. (ciphertext key nonce 1 (take n block), opens_if key nonce aad block n c.as_slice.result.now c.split_at_mut-front.result.1.now c.eq-same.result c.eq-same.ensures tags split.back h),
+      λ w. c.if-same.true,
+    )
+
+pub returns-then-same-clause-text : goal.returns-then-same-clause-text
+returns-then-same-clause-text c =
+    let key : List ℕ = c.args.key.now in
+    let nonce : List ℕ = c.args.nonce.now in
+    let aad : List ℕ = c.args.aad.now in
+    let block : List ℕ = c.args.block.now in
+    let n : ℕ = length block - 16 in
+    let split = c.split_at_mut-front.ensures in
+    let tags = c.as_slice.ensures ∙ c.tag.ensures ∙ ap (tag key nonce aad) split.front in
+    let text : c.xor_stream.new.text ≡ ciphertext key nonce 1 (take n block) = c.xor_stream.ensures ∙ ap (ciphertext key nonce 1) split.front in
+    let front : take n (c.xor_stream.new.text ++ c.split_at_mut-front.result.1.now) ≡ c.xor_stream.new.text = take_at _ _ n (omega arith) in
+    OnTrue_from _ _ (λ h.
+    opens_if key nonce aad block n c.as_slice.result.now c.split_at_mut-front.result.1.now c.eq-same.result c.eq-same.ensures tags split.back h
+    ∙ ap (sealing key nonce aad) (sym (front ∙ text)))
+
+pub returns-else-same-clause-exact : goal.returns-else-same-clause-exact
+returns-else-same-clause-exact c =
+    let key : List ℕ = c.args.key.now in
+    let nonce : List ℕ = c.args.nonce.now in
+    let aad : List ℕ = c.args.aad.now in
+    let block : List ℕ = c.args.block.now in
+    let n : ℕ = length block - 16 in
+    let split = c.split_at_mut-front.ensures in
+    let tags = c.as_slice.ensures ∙ c.tag.ensures ∙ ap (tag key nonce aad) split.front in (
+      λ h. (ciphertext key nonce 1 (take n block), opens_if key nonce aad block n c.as_slice.result.now c.split_at_mut-front.result.1.now c.eq-same.result c.eq-same.ensures tags split.back h),
+      λ w. opens_of key nonce aad block c.as_slice.result.now c.split_at_mut-front.result.1.now c.eq-same.result c.eq-same.ensures tags split.back w,
+    )

@@ -1,0 +1,39 @@
+-- The AEAD of ChaCha20 and Poly1305 (RFC 8439, 2.8).
+use Rattle.std.specs.Prelude.{◌≡◌, ℕ, ◌-◌, ◌%◌, List, [], ◌∷◌, ◌++◌, length, replicate}
+use Rattle.std.specs.List.{concat}
+use Rattle.std.specs.Int.{w64, to_le_bytes}
+use Rattle.age_cipher.specs.Keystream.{ciphertext}
+use Rattle.age_cipher.specs.Poly1305.{poly1305}
+
+-- the one-time key of Poly1305: the first 32 bytes of block 0 (RFC 8439, 2.6)
+unfoldable pub one_time_key : List ℕ → List ℕ → List ℕ
+one_time_key key nonce = ciphertext key nonce 0 (replicate 32 0)
+
+-- the zeros up to a multiple of 16 bytes
+unfoldable pub padding : List ℕ → List ℕ
+padding m = replicate ((16 - length m % 16) % 16) 0
+
+-- what the tag is over: both texts filled up with zeros, then both lengths, each as 8 bytes
+unfoldable pub mac_data : List ℕ → List ℕ → List ℕ
+mac_data aad cipher = concat (
+    aad ∷ padding aad ∷ cipher ∷ padding cipher
+    ∷ to_le_bytes w64 (length aad) ∷ to_le_bytes w64 (length cipher) ∷ [])
+
+unfoldable pub tag : List ℕ → List ℕ → List ℕ → List ℕ → List ℕ
+tag key nonce aad cipher = poly1305 (one_time_key key nonce) (mac_data aad cipher)
+
+-- the sealing of a text: the ciphertext, from block 1 on, and its tag
+unfoldable pub sealing : List ℕ → List ℕ → List ℕ → List ℕ → List ℕ
+sealing key nonce aad text =
+    let cipher = ciphertext key nonce 1 text in
+    cipher ++ tag key nonce aad cipher
+
+-- some text seals to this block
+abbrev pub IsSealing : List ℕ → List ℕ → List ℕ → List ℕ → Type 0
+IsSealing key nonce aad block = (text : List ℕ) × (block ≡ sealing key nonce aad text)
+
+-- different texts seal to different blocks: a block is the sealing of one text at most
+abbrev pub DistinctSealings : Type 0
+DistinctSealings =
+    (key nonce aad text other : List ℕ)
+    → sealing key nonce aad text ≡ sealing key nonce aad other → text ≡ other

@@ -1,0 +1,110 @@
+// The AEAD of ChaCha20 and Poly1305 (RFC 8439, 2.8), in place.
+ghost use Rattle.std.specs.Prelude.{◌≡◌, ◌-◌, ◌≤◌, ◌↔◌, [], ◌∷◌, length, take, drop, IsTrue};
+ghost use Rattle.std.specs.List.{concat};
+ghost use Rattle.std.specs.Bool.{OnTrue, OnFalse};
+ghost use Rattle.age_cipher.specs.Poly1305.{poly1305};
+ghost use Rattle.age_cipher.specs.Aead.{one_time_key, padding, tag, sealing, IsSealing};
+
+use crate::authenticator::poly1305;
+use crate::keystream::xor_stream;
+
+// The front of block 0 is the one-time key, and the text is enciphered from block 1 on.
+const KEY_BLOCK: u32 = 0;
+
+const TEXT_BLOCK: u32 = 1;
+
+static ZEROS: [u8; 16] = [0; 16];
+
+// The zeros up to a multiple of 16 bytes.
+fn padding(bytes: &[u8]) -> &'static [u8]
+    ensures { result.now ≡ padding bytes.now }
+{
+    &ZEROS[..(16 - bytes.len() % 16) % 16]
+}
+
+// The one-time key of Poly1305 (RFC 8439, 2.6).
+fn one_time_key(key: &[u8; 32], nonce: &[u8; 12]) -> [u8; 32]
+    ensures { result ≡ one_time_key key.now nonce.now }
+{
+    let mut block = [0; 32];
+    xor_stream(key, nonce, KEY_BLOCK, &mut block);
+    block
+}
+
+// The tag of six parts, all lent for as long.
+fn tag_of_parts<'a>(
+    key: &[u8; 32],
+    aad: &'a [u8],
+    aad_padding: &'a [u8],
+    cipher: &'a [u8],
+    cipher_padding: &'a [u8],
+    aad_len: &'a [u8],
+    cipher_len: &'a [u8],
+) -> [u8; 16]
+    ensures { result ≡ poly1305 key.now (concat (
+        aad.now ∷ aad_padding.now ∷ cipher.now ∷ cipher_padding.now
+        ∷ aad_len.now ∷ cipher_len.now ∷ [])) }
+{
+    poly1305(
+        key,
+        &[
+            aad,
+            aad_padding,
+            cipher,
+            cipher_padding,
+            aad_len,
+            cipher_len,
+        ],
+    )
+}
+
+// The tag over the associated data and the ciphertext.
+fn tag(key: &[u8; 32], nonce: &[u8; 12], aad: &[u8], cipher: &[u8]) -> [u8; 16]
+    ensures { result ≡ tag key.now nonce.now aad.now cipher.now }
+{
+    let aad_len = (aad.len() as u64).to_le_bytes();
+    let cipher_len = (cipher.len() as u64).to_le_bytes();
+    let key = one_time_key(key, nonce);
+    tag_of_parts(
+        &key,
+        aad,
+        padding(aad),
+        cipher,
+        padding(cipher),
+        &aad_len,
+        &cipher_len,
+    )
+}
+
+/// Seals a text in place (RFC 8439, 2.8). A block is the text and 16 bytes more, and has 16 to
+/// 65,552 bytes, which is asked. The text becomes the ciphertext and the last 16 bytes the tag,
+/// whatever they were.
+pub fn seal_in_place(key: &[u8; 32], nonce: &[u8; 12], aad: &[u8], block: &mut [u8])
+    requires { (16 ≤ length block.old) × (length block.old ≤ 65552) }
+    ensures { block.new
+        ≡ sealing key.now nonce.now aad.now (take (length block.old - 16) block.old) }
+{
+    let (text, end) = block.split_at_mut(block.len() - 16);
+    xor_stream(key, nonce, TEXT_BLOCK, text);
+    let tag = tag(key, nonce, aad, text);
+    end.copy_from_slice(&tag);
+}
+
+/// Opens a block of 16 to 65,552 bytes, which is asked, in place (RFC 8439, 2.8). It answers true
+/// exactly where the block is the sealing of some text. That text then stands before the tag, whose
+/// 16 bytes stay. False leaves the whole block as it was.
+pub fn open_in_place(key: &[u8; 32], nonce: &[u8; 12], aad: &[u8], block: &mut [u8]) -> bool
+    requires { (16 ≤ length block.old) × (length block.old ≤ 65552) }
+    ensures exact { IsTrue result ↔ IsSealing key.now nonce.now aad.now block.old }
+    ensures text { OnTrue result (block.old
+        ≡ sealing key.now nonce.now aad.now (take (length block.old - 16) block.new)) }
+    ensures end { drop (length block.old - 16) block.new ≡ drop (length block.old - 16) block.old }
+    ensures kept { OnFalse result (block.new ≡ block.old) }
+{
+    let (front, end) = block.split_at_mut(block.len() - 16);
+    let same = tag(key, nonce, aad, front).as_slice() == end;
+    if same {
+        xor_stream(key, nonce, TEXT_BLOCK, front);
+    }
+    same
+}
