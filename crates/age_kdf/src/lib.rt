@@ -36,6 +36,7 @@ fn zero_filled(key: &[u8]) -> [u8; 64]
 }
 
 // The key as a block. A key longer than a block stands as its digest first.
+#[tactic(auto, unfolding(crate::specs::Hmac::key_block), using(std::proofs::lemmas::Bool::Decides::nat_tests))]
 fn key_block(key: &[u8]) -> [u8; 64]
     ensures { result ≡ key_block key.now }
 {
@@ -84,6 +85,7 @@ pub fn hkdf32(ikm: &[u8], salt: &[u8], info: &[u8]) -> [u8; 32]
 }
 
 // The block of number `i`, from 1.
+#[tactic(auto, unfolding(crate::specs::Pbkdf2::pbkdf2_block))]
 fn pbkdf2_block(pass: &[u8], salt: &[u8], i: u32) -> [u8; 32]
     ensures { result ≡ pbkdf2_block pass.now salt.now i }
 {

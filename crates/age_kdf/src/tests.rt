@@ -1,3 +1,5 @@
+ghost use Rattle.std.specs.Prelude.{◌≤◌, length};
+
 use super::*;
 use std::test::Fail;
 
@@ -62,19 +64,33 @@ fn no_salt_is_zeros(rt: HostRuntime) {
     );
 }
 
+// The block of number i, from 1, by its formula.
+fn block(i: [u8; 4]) -> [u8; 32] {
+    hmac(b"pleaseletmein", &[b"SodiumChloride", &i])
+}
+
+fn fill(out: &mut [u8])
+    requires { length out.old ≤ 65536 }
+{
+    pbkdf2_once(b"pleaseletmein", b"SodiumChloride", out);
+}
+
 #[test]
-fn pbkdf2_by_blocks(rt: HostRuntime) -> Result<(), Fail> {
-    let (pass, salt) = (b"pleaseletmein", b"SodiumChloride");
+fn pbkdf2_by_blocks(rt: HostRuntime) {
     let mut one = [1; 32];
-    pbkdf2_once(pass, salt, &mut one);
-    assert_eq!(rt; one, hmac(pass, &[salt, &[0, 0, 0, 1]]));
+    fill(&mut one);
+    assert_eq!(rt; one, block([0, 0, 0, 1]));
     let mut more = [1; 33];
-    pbkdf2_once(pass, salt, &mut more);
-    assert_eq!(rt; more[..32], one[..]);
-    assert_eq!(rt; more[32], hmac(pass, &[salt, &[0, 0, 0, 2]])[0]);
-    pbkdf2_once(pass, salt, &mut []);
-    let mut most = vec![in rt.alloc(); 1; 65536]?;
-    pbkdf2_once(pass, salt, &mut most);
-    assert_eq!(rt; most[65504..], hmac(pass, &[salt, &[0, 0, 8, 0]])[..]);
+    fill(&mut more);
+    assert!(rt; more.starts_with(&one));
+    assert_eq!(rt; more[32], block([0, 0, 0, 2])[0]);
+    fill(&mut []);
+}
+
+#[test]
+fn pbkdf2_of_the_most_bytes(rt: HostRuntime) -> Result<(), Fail> {
+    let mut out = vec![in rt.alloc(); 1; 65536]?;
+    fill(&mut out);
+    assert!(rt; out.ends_with(&block([0, 0, 8, 0])));
     Ok(())
 }
