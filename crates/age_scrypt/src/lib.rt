@@ -1,0 +1,6 @@
+//! scrypt
+#![tactic(auto)]
+
+mod steps;
+
+pub use steps::Steps;
