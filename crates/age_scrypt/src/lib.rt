@@ -1,6 +1,8 @@
 //! scrypt
 #![tactic(auto)]
 
+mod part;
+mod salsa;
 mod steps;
 
 pub use steps::Steps;
