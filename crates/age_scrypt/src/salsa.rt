@@ -107,19 +107,6 @@ fn rows(p: Part) -> Part
     }
 }
 
-// The sums, word by word.
-#[inline(always)]
-fn sum(p: Part, q: Part) -> Part
-    ensures { words result ≡ zip2 add32 (words p) (words q) }
-{
-    Part {
-        a: p.a + q.a,
-        b: p.b + q.b,
-        c: p.c + q.c,
-        d: p.d + q.d,
-    }
-}
-
 /// Four double rounds of sixteen words, and the sum with them.
 #[inline(always)]
 pub(crate) fn salsa20_8(p: Part) -> Part
@@ -129,5 +116,5 @@ pub(crate) fn salsa20_8(p: Part) -> Part
     for _round in 0..4u32 {
         mixed = double_round(mixed);
     }
-    sum(rows(mixed), p)
+    rows(mixed).wrapping_add(p)
 }

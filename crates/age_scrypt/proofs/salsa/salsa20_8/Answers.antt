@@ -25,4 +25,4 @@ returns c =
     let rows : words c.rows.result ≡ double_rounds n x =
     words_of_rows (double_rounds n x) c.rows.result (length-double_rounds n x (length-words c.args.p))
     (c.rows.ensures (double_rounds n x) c.loop-round.invariant) in
-    c.sum.ensures ∙ ap (λ y. zip2 add32 y x) (rows ∙ ap (λ n. double_rounds n x) all)
+    c.wrapping_add.ensures ∙ ap (λ y. zip2 add32 y x) (rows ∙ ap (λ n. double_rounds n x) all)
