@@ -28,7 +28,7 @@ shifts_rotate k some below =
 -- the same, of four vectors
 pub for_sixteen : (P : List ℕ → List ℕ → List ℕ → List ℕ → Type 0)
     → ((a0 a1 a2 a3 b0 b1 b2 b3 c0 c1 c2 c3 d0 d1 d2 d3 : ℕ)
-      → P (a0 ∷ a1 ∷ a2 ∷ a3 ∷ []) (b0 ∷ b1 ∷ b2 ∷ b3 ∷ []) (c0 ∷ c1 ∷ c2 ∷ c3 ∷ []) (d0 ∷ d1 ∷ d2 ∷ d3 ∷ []))
+    → P (a0 ∷ a1 ∷ a2 ∷ a3 ∷ []) (b0 ∷ b1 ∷ b2 ∷ b3 ∷ []) (c0 ∷ c1 ∷ c2 ∷ c3 ∷ []) (d0 ∷ d1 ∷ d2 ∷ d3 ∷ []))
     → (a b c d : List ℕ) → length a ≡ 4 → length b ≡ 4 → length c ≡ 4 → length d ≡ 4 → P a b c d
 for_sixteen P h a b c d a_len b_len c_len d_len =
     for_four (λ a. P a b c d) (λ a0 a1 a2 a3.
@@ -55,7 +55,7 @@ quarter_lanes = for_sixteen IsQuarter (λ a0 a1 a2 a3 b0 b1 b2 b3 c0 c1 c2 c3 d0
 -- sixteen words, written out
 pub sixteen_words : (P : List ℕ → Type 0)
     → ((x0 x1 x2 x3 x4 x5 x6 x7 x8 x9 x10 x11 x12 x13 x14 x15 : ℕ)
-      → P (x0 ∷ x1 ∷ x2 ∷ x3 ∷ x4 ∷ x5 ∷ x6 ∷ x7 ∷ x8 ∷ x9 ∷ x10 ∷ x11 ∷ x12 ∷ x13 ∷ x14 ∷ x15 ∷ []))
+    → P (x0 ∷ x1 ∷ x2 ∷ x3 ∷ x4 ∷ x5 ∷ x6 ∷ x7 ∷ x8 ∷ x9 ∷ x10 ∷ x11 ∷ x12 ∷ x13 ∷ x14 ∷ x15 ∷ []))
     → (x : List ℕ) → length x ≡ 16 → P x
 sixteen_words P h x len =
     let cut : (i : ℕ) → take 4 (drop i x) ++ drop (i + 4) x ≡ drop i x = λ i. rw (← drop-drop) (take-append-drop 4 (drop i x)) in

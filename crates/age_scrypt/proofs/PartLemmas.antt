@@ -1,13 +1,15 @@
 -- A list cut into parts of k: what a write to one part leaves, and the list as its parts joined.
-use Rattle.std.proofs.Common.{◌≡◌, ◌≢◌, ◌++◌, ◌+◌, ◌-◌, ◌*◌, ◌/◌, ◌%◌, ◌<◌, ◌≤◌, ℕ, zero, suc, List, refl, sym, ap, ap₂, ◌∙◌, arith, length, take, drop, length-take, length-drop, inl, inr}
+use Rattle.std.proofs.Common.{◌≡◌, ◌≢◌, ◌++◌, ◌+◌, ◌-◌, ◌*◌, ◌/◌, ◌%◌, ◌<◌, ◌≤◌, ℕ, zero, suc, List, [], ◌∷◌, bit_xor, refl, sym, ap, ap₂, ◌∙◌, arith, length, take, drop, length-take, length-drop, inl, inr}
 use Rattle.std.specs.List.{flat_map, range_with_len}
 use Rattle.std.proofs.Math.Nat.{mul-le-mul_left}
-use Rattle.std.proofs.lemmas.List.{drop_all, drop-take, drop-drop, take-append-drop, take_at, drop_at, append_assoc, length-append}
+use Rattle.std.proofs.lemmas.List.{drop_all, drop-take, drop-drop, take-append-drop, take_at, drop_at, append_assoc, length-append, drop-append-le, take-append-le, take_all}
+use Rattle.std.proofs.lemmas.Simd.{length-zip2}
+use Rattle.std.specs.Simd.Lanes.{zip2}
 use Rattle.std.proofs.Math.Seq.{take-add}
 use Rattle.std.proofs.lemmas.Slice.{take-put_mid_below, drop-put_mid, between-put_mid}
 use Rattle.std.proofs.lemmas.Bool.{cases_lt}
 use borrow.Rule.Slice.PartMut.{put_mid}
-use Rattle.age_scrypt.specs.BlockMix.{part, chained, block_mix}
+use Rattle.age_scrypt.specs.BlockMix.{part, xor_words, chained, block_mix}
 
 -- a part ends where the next begins
 next_part : (k i j : ℕ) → i < j → k * i + k ≤ k * j
@@ -85,8 +87,8 @@ pub rows_read : (block : List ℕ) (at : ℕ)
 rows_read block at =
     let rest : List ℕ = drop at block in
     rw (← drop-drop 4 at block, ← drop-drop 8 at block, ← drop-drop 12 at block) (
-      sym (take-add 12 4 rest ∙ ap (λ front. front ++ take 4 (drop 12 rest)) (take-add 8 4 rest
-      ∙ ap (λ front. front ++ take 4 (drop 8 rest)) (take-add 4 4 rest)))
+    sym (take-add 12 4 rest ∙ ap (λ front. front ++ take 4 (drop 12 rest)) (take-add 8 4 rest
+    ∙ ap (λ front. front ++ take 4 (drop 8 rest)) (take-add 4 4 rest)))
     )
 
 -- a list that ends as `old` does from n on takes four words there, after what stands in front
@@ -114,3 +116,37 @@ rows_written old b1 b2 b3 b4 p q r s at room p_len q_len r_len e1 e2 e3 e4 =
     let f3 = row_written old b2 b3 (t ++ p ++ q) r (at + 8) (at + 12) tpq_len (omega arith) f2 e3 in
     row_written old b3 b4 (t ++ p ++ q ++ r) s (at + 12) (at + 16) tpqr_len (omega arith) f3 e4
     ∙ simp (append_assoc, drop-drop)
+
+take-zip2 : (f : ℕ → ℕ → ℕ) (n : ℕ) (xs ys : List ℕ) → take n (zip2 f xs ys) ≡ zip2 f (take n xs) (take n ys)
+take-zip2 f zero xs ys = refl
+take-zip2 f (suc n) [] ys = refl
+take-zip2 f (suc n) (x ∷ xs) [] = refl
+take-zip2 f (suc n) (x ∷ xs) (y ∷ ys) = ap (λ rest. f x y ∷ rest) (take-zip2 f n xs ys)
+
+drop-zip2 : (f : ℕ → ℕ → ℕ) (n : ℕ) (xs ys : List ℕ) → length xs ≡ length ys → drop n (zip2 f xs ys) ≡ zip2 f (drop n xs) (drop n ys)
+drop-zip2 f zero xs ys len = refl
+drop-zip2 f (suc n) [] ys len = refl
+drop-zip2 f (suc n) (x ∷ xs) [] len = absurd (omega arith)
+drop-zip2 f (suc n) (x ∷ xs) (y ∷ ys) len = drop-zip2 f n xs ys (omega arith)
+
+-- a block whose parts are those of two others, changed part by part
+pub xored_parts : (x y to : List ℕ) → length x ≡ 256 → length y ≡ 256 → length to ≡ 256
+    → ((j : ℕ) → j < 16 → part 16 to j ≡ xor_words (part 16 x j) (part 16 y j)) → to ≡ xor_words x y
+unfolding part
+xored_parts x y to x_len y_len to_len h =
+    let same_len : length x ≡ length y = omega arith in
+    let of_xor : (j : ℕ) → part 16 (xor_words x y) j ≡ xor_words (part 16 x j) (part 16 y j) =
+    λ j. ap (take 16) (drop-zip2 bit_xor (16 * j) x y same_len) ∙ take-zip2 bit_xor 16 (drop (16 * j) x) (drop (16 * j) y) in
+    parts_joined 16 16 to to_len
+    ∙ same_pieces (part 16 to) (part 16 (xor_words x y)) 0 16 (λ j low high. h j (omega arith) ∙ sym (of_xor j))
+    ∙ sym (parts_joined 16 16 (xor_words x y) (length-zip2 bit_xor x y same_len ∙ x_len))
+
+pub part-append_left : (k : ℕ) (xs ys : List ℕ) (j : ℕ) → k * j + k ≤ length xs → part k (xs ++ ys) j ≡ part k xs j
+unfolding part
+part-append_left k xs ys j room =
+    ap (take k) (drop-append-le (k * j) xs ys (omega arith))
+    ∙ take-append-le k (drop (k * j) xs) ys (omega (arith, length-drop (k * j) xs))
+
+pub part-append_right : (k : ℕ) (xs ys : List ℕ) (i : ℕ) → length xs ≡ k * i → length ys ≡ k → part k (xs ++ ys) i ≡ ys
+unfolding part
+part-append_right k xs ys i len ys_len = ap (take k) (drop_at xs ys (k * i) len) ∙ take_all k ys (omega arith)
