@@ -6,5 +6,7 @@
 #![tactic(auto)]
 
 mod kdf;
+mod scrypt;
 
 pub use kdf::{rfc_hkdf, rfc_hmac, rfc_pbkdf2};
+pub use scrypt::rfc_scrypt;
