@@ -1,0 +1,107 @@
+//! Keys from SHA-256: HMAC (RFC 2104), HKDF (RFC 5869) and PBKDF2 with one iteration (RFC 8018).
+//!
+//! These are the three constructions under an age file (C2SP age.md). HMAC authenticates the
+//! header; HKDF makes the header's MAC key and the payload key out of the file key; PBKDF2 with
+//! one iteration is the first and the last step of scrypt. All of them stand on SHA-256 alone.
+//!
+//! Each result is that of the standard's formula on lists of bytes, for keys, salts and messages
+//! of every length. No call takes memory: a message of several parts goes into a running digest
+//! part by part and is nowhere joined.
+#![tactic(auto)]
+
+ghost use Rattle.std.specs.Prelude.{◌≡◌, map, length, ◌≤◌};
+ghost use Rattle.std.specs.List.{concat};
+ghost use Rattle.age_kdf.specs.Hmac.{zero_filled, key_block, xor_pad, hmac};
+ghost use Rattle.age_kdf.specs.Hkdf.{hkdf32};
+ghost use Rattle.age_kdf.specs.Pbkdf2.{pbkdf2_block, pbkdf2_once};
+
+use sha2::{Digest, Sha256};
+
+#[cfg(test)]
+mod tests;
+
+// The bytes that the two pads repeat (RFC 2104, section 2).
+const INNER_PAD: u8 = 0x36;
+
+const OUTER_PAD: u8 = 0x5c;
+
+// At most 64 bytes, followed by zeros up to a block of SHA-256.
+fn zero_filled(key: &[u8]) -> [u8; 64]
+    requires { length key.now ≤ 64 }
+    ensures { result ≡ zero_filled key.now }
+{
+    let mut block = [0; 64];
+    block[..key.len()].copy_from_slice(key);
+    block
+}
+
+// The key as a block. A key longer than a block stands as its digest first.
+#[tactic(auto, unfolding(crate::specs::Hmac::key_block), using(std::proofs::lemmas::Bool::Decides::nat_tests))]
+fn key_block(key: &[u8]) -> [u8; 64]
+    ensures { result ≡ key_block key.now }
+{
+    if key.len() <= 64 {
+        zero_filled(key)
+    } else {
+        zero_filled(&Sha256::digest(key))
+    }
+}
+
+// The exclusive or of a block and the pad that repeats a byte.
+fn xor_pad(block: &[u8; 64], pad: u8) -> [u8; 64]
+    ensures { result ≡ xor_pad pad block.now }
+{
+    block.map(|byte| byte ^ pad)
+}
+
+/// The HMAC-SHA-256 of a message under a key (RFC 2104). The message is the parts joined.
+///
+/// The key may have any length: one of more than 64 bytes counts as its SHA-256.
+pub fn hmac(key: &[u8], parts: &[&[u8]]) -> [u8; 32]
+    ensures { result ≡ hmac key.now (concat (map (λ part. part.now) parts.now)) }
+{
+    let block = key_block(key);
+    let mut inner = Sha256::new();
+    inner.update(xor_pad(&block, INNER_PAD).as_slice());
+    for part in parts {
+        inner.update(*part);
+    }
+    let mut outer = Sha256::new();
+    outer.update(xor_pad(&block, OUTER_PAD).as_slice());
+    outer.update(inner.finalize().as_slice());
+    outer.finalize()
+}
+
+/// The 32 bytes that HKDF-SHA-256 derives from input keying material (RFC 5869), by its
+/// extract step and the first block of its expand step. An empty salt means no salt, for which
+/// 32 zero bytes stand (RFC 5869, section 2.2).
+pub fn hkdf32(ikm: &[u8], salt: &[u8], info: &[u8]) -> [u8; 32]
+    ensures { result ≡ hkdf32 ikm.now salt.now info.now }
+{
+    let zeros = [0; 32];
+    let salt = if salt.is_empty() { &zeros } else { salt };
+    let prk = hmac(salt, &[ikm]);
+    hmac(&prk, &[info, &[1]])
+}
+
+// The block of number `i`, from 1.
+#[tactic(auto, unfolding(crate::specs::Pbkdf2::pbkdf2_block))]
+fn pbkdf2_block(pass: &[u8], salt: &[u8], i: u32) -> [u8; 32]
+    ensures { result ≡ pbkdf2_block pass.now salt.now i }
+{
+    hmac(pass, &[salt, &i.to_be_bytes()])
+}
+
+/// Fills `out` with the key that PBKDF2-HMAC-SHA-256 derives in one iteration (RFC 8018,
+/// section 5.2). `out` has at most 65,536 bytes; what it held doesn't matter.
+pub fn pbkdf2_once(pass: &[u8], salt: &[u8], out: &mut [u8])
+    requires { length out.old ≤ 65536 }
+    ensures { out.new ≡ pbkdf2_once pass.now salt.now (length out.old) }
+{
+    for i in 0..out.len().div_ceil(32) {
+        let block = pbkdf2_block(pass, salt, i as u32 + 1);
+        let start = 32 * i;
+        let end = (start + 32).min(out.len());
+        out[start..end].copy_from_slice(&block[..end - start]);
+    }
+}

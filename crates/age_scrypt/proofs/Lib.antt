@@ -1,0 +1,5 @@
+pub mod LaneLemmas
+pub mod SalsaLemmas
+pub mod PartLemmas
+pub mod RomixLemmas
+pub mod ByteLemmas

@@ -1,0 +1,37 @@
+use Rattle.std.proofs.Common.{◌≡◌, ◌+◌, ◌-◌, ◌*◌, ◌∙◌, ◌++◌, ℕ, List, length, take, drop, refl, ap, arith}
+use Rattle.std.proofs.lemmas.List.{length-append}
+use Rattle.std.proofs.lemmas.Slice.{pushed}
+use Rattle.age_scrypt.specs.BlockMix.{part, block_mix}
+use Rattle.age_scrypt.specs.Romix.{mixed_times}
+use Rattle.age_scrypt.proofs.PartLemmas.{part-append_right}
+use Rattle.age_scrypt.proofs.RomixLemmas.{table_more, mixed_times_more}
+use Rattle.age_scrypt.proofs.romix.fill.Goals as goal
+
+pub loop-i-init : goal.loop-i-init
+unfolding mixed_times
+loop-i-init c = record { room = c.requires.room; len = c.requires.empty; table = record { at = λ j h. absurd (omega arith) }; x = refl; counted = omega arith }
+
+pub unwrap-requires : goal.unwrap-requires
+unwrap-requires c = c.extend_from_slice.ensures.succeeds (omega arith)
+
+pub loop-i-preserved : goal.loop-i-preserved
+unfolding part
+loop-i-preserved c =
+    let inv = c.loop-i.invariant in
+    let i : ℕ = c.loop-i.i in
+    let x : List ℕ = c.loop-i.x in
+    let table : List ℕ = c.loop-i.table.items in
+    let x_len : length x ≡ 256 = omega arith in
+    let len : length table ≡ 256 * i = omega (arith, c.loop-i.table.ok.0, inv.len) in
+    let items : c.extend_from_slice.new.self.items ≡ table ++ x =
+    pushed x refl c.unwrap.ensures c.extend_from_slice.ensures.items in
+    let width : 256 * i + 256 - 256 * i ≡ 256 = omega arith in
+    let from : take (256 * i + 256 - 256 * i) (drop (256 * i) c.deref.result.now) ≡ x =
+    rw (width, c.deref.ensures.value, items) (part-append_right 256 table x i len x_len) in
+    record {
+      room = omega (arith, c.extend_from_slice.ensures.capacity);
+      len = omega (arith, c.deref.ensures.len, ap length c.deref.ensures.value, ap length items, length-append table x);
+      table = rw items (table_more c.args.x.now i table x len x_len inv.table inv.x);
+      x = mixed_times_more c.args.x.now x c.block_mix.new.to i inv.x (c.block_mix.ensures.mixed ∙ ap block_mix from);
+      counted = omega arith;
+    }

@@ -1,0 +1,10 @@
+use Rattle.std.proofs.Common.{◌≡◌, ◌+◌, ℕ, List}
+use Rattle.age_scrypt.specs.Romix.{mixed_times, looked_up}
+use Rattle.age_scrypt.specs.Table.{IsTable}
+use Rattle.age_scrypt.proofs.romix.look_up.Given as goal
+
+abbrev pub invariant-loop-round : goal.invariant-loop-round
+invariant-loop-round l = record {
+  x : (b : List ℕ) → IsTable b l.n l.table → l.initial.x ≡ mixed_times b l.n → l.x ≡ looked_up l.n b l._round;
+  counted : l.steps ≡ l.initial.steps + l._round;
+}

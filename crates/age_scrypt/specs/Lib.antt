@@ -1,0 +1,6 @@
+pub mod Salsa
+pub mod BlockMix
+pub mod Romix
+pub mod Scrypt
+pub mod Lanes
+pub mod Table

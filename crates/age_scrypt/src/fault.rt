@@ -1,0 +1,31 @@
+ghost use Rattle.std.specs.Prelude.{◌≡◌};
+
+use std::alloc::AllocError;
+use thiserror::Error;
+
+/// Memory was refused.
+#[derive(Clone, Copy, Debug, PartialEq, Eq, Error)]
+#[error("out of memory")]
+pub struct Memory;
+
+impl Memory {
+    /// The number of this fault among those of all crates.
+    pub fn number(&self) -> u8
+        ensures { result ≡ 28 }
+    {
+        28
+    }
+
+    /// The line or chunk of the fault: this one has none.
+    pub fn place(&self) -> Option<u64>
+        ensures { result ≡ None }
+    {
+        None
+    }
+}
+
+impl From<AllocError> for Memory {
+    fn from(_error: AllocError) -> Self {
+        Memory
+    }
+}

@@ -1,0 +1,86 @@
+//! scrypt with r = 8 and p = 1 (RFC 7914), which makes a key of 32 bytes out of a passphrase and
+//! a salt. It is how an age file's file key is wrapped under a passphrase (C2SP age.md, "The
+//! scrypt recipient type").
+//!
+//! PBKDF2 makes one block of 1,024 bytes. ROMix mixes it `2^log` times by BlockMix, keeping each
+//! block on the way in a table, and then as often again, each time after an exclusive or with the
+//! block of the table that its own last part names. PBKDF2 makes the key out of the block that is
+//! left. The definition has no table: it says which mixture of the first block is meant.
+//!
+//! The table is one flat vector of words, filled by appending. BlockMix reads one block and writes
+//! another, and its core, Salsa20/8, works on vectors of four words. So a key at work factor 18
+//! costs 256 MiB and about a second.
+//!
+//! A count of steps for contracts alone says that the work was done: a step is one BlockMix.
+#![tactic(auto)]
+
+ghost use Rattle.std.specs.Prelude.{◌≡◌, ◌+◌, ◌*◌, ◌^◌, ◌≤◌, length, vec_len, vec_capacity, IfOk, OnOk, OnErr};
+ghost use Rattle.age_scrypt.specs.Scrypt.{scrypt};
+
+mod fault;
+mod mix;
+mod part;
+mod romix;
+mod salsa;
+mod steps;
+#[cfg(test)]
+mod tests;
+mod words;
+
+use age_kdf::pbkdf2_once;
+pub use fault::Memory;
+use romix::{block_count, romix};
+use std::alloc::Global;
+pub use steps::Steps;
+
+// The key, in memory that is lent: an empty table with room for all blocks, and two blocks.
+fn derive_in(
+    pass: &[u8],
+    salt: &[u8],
+    log: u32,
+    table: &mut Vec<u32>,
+    x: &mut [u32],
+    y: &mut [u32],
+    steps: &mut Steps,
+) -> [u8; 32]
+    requires log { log ≤ 22 }
+    requires empty { vec_len table.old ≡ 0 }
+    requires room { 256 * 2 ^ log ≤ vec_capacity table.old }
+    requires x { length x.old ≡ 256 }
+    requires y { length y.old ≡ 256 }
+    ensures key { result ≡ scrypt pass.now salt.now log }
+    ensures counted { steps.new ≡ steps.old + 2 * 2 ^ log }
+{
+    let mut block = [0; 1024];
+    pbkdf2_once(pass, salt, &mut block);
+    words::read_words(&block, x);
+    romix(table, x, y, log, steps);
+    words::write_bytes(x, &mut block);
+    let mut key = [0; 32];
+    pbkdf2_once(pass, &block, &mut key);
+    key
+}
+
+/// The key of a passphrase and a salt at the work factor `log`, from 1 to 22: scrypt with
+/// N = `2^log`, r = 8, p = 1 and 32 bytes of output (RFC 7914, section 6).
+///
+/// It takes `1,024 * 2^log` bytes of memory and two blocks of 1,024 bytes, all of them before the
+/// first step. Where memory is refused, no step is made.
+pub fn derive(
+    alloc: Global,
+    pass: &[u8],
+    salt: &[u8],
+    log: u32,
+    steps: &mut Steps,
+) -> Result<[u8; 32], Memory>
+    requires least { 1 ≤ log }
+    requires most { log ≤ 22 }
+    ensures key { IfOk result (λ key. key ≡ scrypt pass.now salt.now log) }
+    ensures counted { OnOk result (steps.new ≡ steps.old + 2 * 2 ^ log) }
+    ensures refused { OnErr result (steps.new ≡ steps.old) }
+{
+    let mut table = Vec::with_capacity(alloc, 256 * block_count(log))?;
+    let mut x = vec![in alloc; 0; 256]?;
+    let mut y = vec![in alloc; 0; 256]?;
+    Ok(derive_in(pass, salt, log, &mut table, &mut x, &mut y, steps))
+}

@@ -1,0 +1,93 @@
+// ROMix with r = 8 (RFC 7914, section 5), over one flat table of words.
+ghost use Rattle.std.specs.Prelude.{◌≡◌, ℕ, ◌+◌, ◌*◌, ◌%◌, ◌^◌, ◌<◌, ◌≤◌, List, length, vec_len, vec_capacity};
+ghost use Rattle.age_scrypt.specs.BlockMix.{xor_words};
+ghost use Rattle.age_scrypt.specs.Romix.{mixed_times, integerify, romix};
+ghost use Rattle.age_scrypt.specs.Table.{IsTable};
+
+use crate::mix::block_mix;
+use crate::part::Part;
+use crate::steps::Steps;
+
+/// How many blocks the table has.
+pub(crate) fn block_count(log: u32) -> usize
+    requires { log ≤ 22 }
+    ensures value { result ≡ 2 ^ log }
+    ensures some { 0 < result }
+    ensures few { result ≤ 2 ^ 22 }
+    ensures divides { 2 ^ 32 % result ≡ 0 }
+{
+    1 << log
+}
+
+// Writes the exclusive or of two blocks over a third.
+fn xor_blocks(x: &[u32], y: &[u32], to: &mut [u32])
+    requires x { length x.now ≡ 256 }
+    requires y { length y.now ≡ 256 }
+    requires to { length to.old ≡ 256 }
+    ensures { to.new ≡ xor_words x.now y.now }
+{
+    for i in 0..16 {
+        Part::read(x, i).xor(Part::read(y, i)).write(to, i);
+    }
+}
+
+// The place in a table of `n` blocks of the one that `x` asks for. The lowest word says it, since
+// 2^32 is a multiple of `n`.
+fn place_of(x: &[u32], n: usize) -> usize
+    requires x { length x.now ≡ 256 }
+    requires n { 2 ^ 32 % n ≡ 0 }
+    requires some { 0 < n }
+    ensures { result ≡ integerify x.now % n }
+{
+    x[240] as usize % n
+}
+
+// Fills a table that has room for `n` blocks: block `i` is `x` mixed `i` times.
+fn fill(table: &mut Vec<u32>, x: &mut [u32], n: usize, steps: &mut Steps)
+    requires empty { vec_len table.old ≡ 0 }
+    requires room { 256 * n ≤ vec_capacity table.old }
+    requires few { n ≤ 2 ^ 22 }
+    requires x { length x.old ≡ 256 }
+    ensures len { vec_len table.new ≡ 256 * n }
+    ensures table { IsTable x.old n table.new.items }
+    ensures x { x.new ≡ mixed_times x.old n }
+    ensures counted { steps.new ≡ steps.old + n }
+{
+    for i in 0..n {
+        table.extend_from_slice(x).unwrap();
+        block_mix(&table[256 * i..256 * i + 256], x, steps);
+    }
+}
+
+// Looks up as many blocks as the table has.
+fn look_up(table: &[u32], x: &mut [u32], y: &mut [u32], n: usize, steps: &mut Steps)
+    requires table { length table.now ≡ 256 * n }
+    requires x { length x.old ≡ 256 }
+    requires y { length y.old ≡ 256 }
+    requires n { 2 ^ 32 % n ≡ 0 }
+    requires some { 0 < n }
+    ensures x { (b : List ℕ) → IsTable b n table.now → x.old ≡ mixed_times b n → x.new ≡ romix n b }
+    ensures counted { steps.new ≡ steps.old + n }
+{
+    for _round in 0..n {
+        let at = 256 * place_of(x, n);
+        xor_blocks(x, &table[at..at + 256], y);
+        block_mix(y, x, steps);
+    }
+}
+
+/// ROMix of the block `x` in place, with `y` for a block in between. The table is empty, with room
+/// for `2^log` blocks.
+pub(crate) fn romix(table: &mut Vec<u32>, x: &mut [u32], y: &mut [u32], log: u32, steps: &mut Steps)
+    requires log { log ≤ 22 }
+    requires empty { vec_len table.old ≡ 0 }
+    requires room { 256 * 2 ^ log ≤ vec_capacity table.old }
+    requires x { length x.old ≡ 256 }
+    requires y { length y.old ≡ 256 }
+    ensures x { x.new ≡ romix (2 ^ log) x.old }
+    ensures counted { steps.new ≡ steps.old + 2 * 2 ^ log }
+{
+    let n = block_count(log);
+    fill(table, x, n, steps);
+    look_up(table, x, y, n, steps);
+}
