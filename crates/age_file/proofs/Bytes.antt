@@ -2,13 +2,14 @@
 use Rattle.std.proofs.Common.{◌≡◌, ℕ, ◌+◌, ◌-◌, ◌^◌, min, List, [], ◌++◌, length, take, drop, Option, Some, None, sym, ap, subst, ◌∙◌, append_assoc, append-nil, inl, inr, arith}
 use Rattle.std.proofs.lemmas.Bool.{cases_lt}
 use Rattle.std.specs.Prelude.{◌⊎◌}
-use Rattle.std.specs.Io.KnownBytes.{Consumes, Appends, Keeps}
+use Rattle.std.specs.Io.KnownBytes.{Consumes, Appends, Keeps, IsAtEnd}
 use Rattle.std.proofs.lemmas.List.{take-append-drop}
 use Rattle.age_stanza.specs.declared.fault.HeadFault.{HeadFault}
 use Rattle.age_stanza.specs.declared.fault.HeadKind.{HeadKind}
 use Rattle.age_stanza.specs.declared.fault.HeadKind.TheVariants.{NotAge, Armored, BadStanzaLine, BadBody, BadEndLine, NoStanza, HeadTooLong, HeadCut, Memory}
 use Rattle.age_stanza.specs.Faults.{HasHeader, IsFault, memory_fault}
-use Rattle.age_file.specs.Faults.{HasRisen, TellsFault, HeadFails, fault_of, fault_by_kind}
+use Rattle.age_stanza.proofs.AnyPieces.{more_fault}
+use Rattle.age_file.specs.Faults.{HasRisen, IsCut, IsHeadFault, IsSourcesFault, TellsFault, HeadFails, fault_of, fault_by_kind}
 use Rattle.age_file.specs.Intakes.{Pulled}
 use Rattle.age_file.specs.Unread.{Unread}
 
@@ -38,7 +39,7 @@ risen old new e =
 -- ---- headers
 
 -- a fault that the bytes have is the fault that is told
-pub fails_by_kind : (old new : Option (List ℕ)) (i j : ℕ) (kind : HeadKind) (fault : HeadFault) → TellsFault old new fault → HeadFails old new i j (fault_by_kind kind fault)
+fails_by_kind : (old new : Option (List ℕ)) (i j : ℕ) (kind : HeadKind) (fault : HeadFault) → TellsFault old new fault → HeadFails old new i j (fault_by_kind kind fault)
 fails_by_kind old new i j NotAge fault told = told
 fails_by_kind old new i j Armored fault told = told
 fails_by_kind old new i j BadStanzaLine fault told = told
@@ -49,11 +50,32 @@ fails_by_kind old new i j HeadTooLong fault told = told
 fails_by_kind old new i j HeadCut fault told = told
 fails_by_kind old new i j Memory fault told = tt
 
+-- what is told of the bytes that were read is told of all that the source had
+whole_fault : (old new : Option (List ℕ)) (bytes : List ℕ) (fault : HeadFault) → Consumes old new bytes → (HasHeader bytes → ⊥) → IsFault bytes fault → IsSourcesFault old fault
+whole_fault None new bytes fault consumed none told = tt
+whole_fault (Some all) None bytes fault consumed none told = absurd consumed
+whole_fault (Some all) (Some rest) bytes fault consumed none told =
+    let more = more_fault bytes rest fault none told in
+    subst (λ (t : List ℕ). IsHeadFault t fault) (sym consumed) (more.0, inl more.1)
+
+whole_cut : (old new : Option (List ℕ)) (bytes : List ℕ) (fault : HeadFault) → Consumes old new bytes → IsAtEnd new → (HasHeader bytes → ⊥) → IsCut bytes fault → IsSourcesFault old fault
+whole_cut None new bytes fault consumed ended none cut = tt
+whole_cut (Some all) None bytes fault consumed ended none cut = absurd consumed
+whole_cut (Some all) (Some rest) bytes fault consumed ended none cut =
+    let same : all ≡ bytes = consumed ∙ ap (λ (t : List ℕ). bytes ++ t) ended ∙ append-nil bytes in
+    subst (λ (t : List ℕ). IsHeadFault t fault) (sym same) (none, inr cut)
+
+-- the input ended inside the header
+pub end_fails : (old new : Option (List ℕ)) (i j : ℕ) (bytes : List ℕ) (fault : HeadFault) → Consumes old new bytes → IsAtEnd new → (HasHeader bytes → ⊥) → IsCut bytes fault → HeadFails old new i j (fault_of fault)
+end_fails old new i j bytes fault consumed ended none cut =
+    fails_by_kind old new i j fault.kind fault (record { bytes = bytes; consumed = consumed; no_header = none; told = inr (ended, cut); of_all = whole_cut old new bytes fault consumed ended none cut })
+
 -- a piece that was refused
 pub piece_fails : (old new : Option (List ℕ)) (i j : ℕ) (held piece : List ℕ) (fault : HeadFault) → Consumes old new (held ++ piece)
     → (fault ≡ memory_fault) ⊎ ((HasHeader (held ++ piece) → ⊥) × IsFault (held ++ piece) fault) → HeadFails old new i j (fault_of fault)
 piece_fails old new i j held piece fault consumed (inl memory) = subst (λ (f : HeadFault). HeadFails old new i j (fault_of f)) (sym memory) tt
-piece_fails old new i j held piece fault consumed (inr told) = fails_by_kind old new i j fault.kind fault (held ++ piece, consumed, told.0, inl told.1)
+piece_fails old new i j held piece fault consumed (inr told) =
+    fails_by_kind old new i j fault.kind fault (record { bytes = held ++ piece; consumed = consumed; no_header = told.0; told = inl told.1; of_all = whole_fault old new (held ++ piece) fault consumed told.0 told.1 })
 
 -- a refill that gave nothing
 pub cut_pulled : (start now : Option (List ℕ)) (pulls : ℕ) (held bytes : List ℕ) → bytes ≡ [] → Pulled start now pulls (held ++ bytes) → Pulled start now pulls held

@@ -1,5 +1,5 @@
 -- The numbers and places of faults, and when each comes.
-use Rattle.std.specs.Prelude.{◌≡◌, ◌⊎◌, ℕ, ◌^◌, ◌-◌, ◌<◌, ◌≤◌, List, length, Option, None}
+use Rattle.std.specs.Prelude.{◌≡◌, ◌⊎◌, ℕ, ◌^◌, ◌-◌, ◌<◌, ◌≤◌, List, length, Option, Some, None}
 use Rattle.std.specs.Io.KnownBytes.{Consumes, IsAtEnd}
 use Rattle.age_stanza.specs.declared.fault.HeadKind.{HeadKind}
 use Rattle.age_stanza.specs.declared.fault.HeadKind.TheVariants.{HeadCut, Memory as HeadMemory}
@@ -33,10 +33,26 @@ fault_of fault = fault_by_kind fault.kind fault
 abbrev pub HasRisen : ℕ → ℕ → Type 0
 HasRisen old new = (old < new) ⊎ (new ≡ 2 ^ 64 - 1)
 
--- the fault of the bytes that were read: of a line, of their length, or of their end
-abbrev pub TellsFault : Option (List ℕ) → Option (List ℕ) → HeadFault → Type 0
-TellsFault old new fault = (bytes : List ℕ) × Consumes old new bytes × (HasHeader bytes → ⊥)
-    × (IsFault bytes fault ⊎ (IsAtEnd new × NoFault bytes × (fault ≡ record { kind = HeadCut; line = line_after bytes })))
+-- the bytes hold neither a header nor a fault, and are short of the limit: they were cut
+abbrev pub IsCut : List ℕ → HeadFault → Type 0
+IsCut bytes fault = NoFault bytes × (length bytes < 1048576) × (fault ≡ record { kind = HeadCut; line = line_after bytes })
+
+-- the fault of some bytes, after which the input ended: of a line, of their length, or of their end
+abbrev pub IsHeadFault : List ℕ → HeadFault → Type 0
+IsHeadFault bytes fault = (HasHeader bytes → ⊥) × (IsFault bytes fault ⊎ IsCut bytes fault)
+
+-- the same of all bytes that a source had, where it tells them
+abbrev pub IsSourcesFault : Option (List ℕ) → HeadFault → Type 0
+IsSourcesFault None fault = Unit {0}
+IsSourcesFault (Some bytes) fault = IsHeadFault bytes fault
+
+-- the fault is that of the bytes that were read, and so of all that the source had
+pub record TellsFault (old new : Option (List ℕ)) (fault : HeadFault) : Type 0 where
+  pub bytes : List ℕ
+  pub consumed : Consumes old new bytes
+  pub no_header : HasHeader bytes → ⊥
+  pub told : IsFault bytes fault ⊎ (IsAtEnd new × IsCut bytes fault)
+  pub of_all : IsSourcesFault old fault
 
 -- a source gave so much that it is taken for one that never ends
 abbrev pub NeverEnds : Option (List ℕ) → Option (List ℕ) → Type 0

@@ -1,6 +1,6 @@
-use Rattle.std.proofs.Common.{◌++◌, take, inr, arith}
+use Rattle.std.proofs.Common.{◌++◌, take, arith}
 use Rattle.std.proofs.lemmas.List.{length-append, length-take}
-use Rattle.age_file.proofs.Bytes.{piece_fails, fails_by_kind, cut_pulled, head_pulled}
+use Rattle.age_file.proofs.Bytes.{piece_fails, end_fails, cut_pulled, head_pulled}
 use Rattle.age_file.proofs.head.read_head.Goals as goal
 
 pub returns-in-Ok-false-clause-fails : goal.returns-in-Ok-false-clause-fails
@@ -9,7 +9,7 @@ returns-in-Ok-false-clause-fails g c =
     let r = rw c.in-Ok-false.field-0-test at c.in-Ok-false.ensures in
     let cuts = rw kept.parser_is at c.end.ensures in
     let all = cut_pulled _ _ _ kept.held _ r.answered.0 (r.pulled _ kept.held kept.pulled) in
-    rw c.from.ensures (fails_by_kind _ _ _ _ c.end.result.kind c.end.result (kept.held, all.consumed, cuts.2, inr (r.answered.2, cuts.3, cuts.0)))
+    rw c.from.ensures (end_fails _ _ _ _ kept.held c.end.result all.consumed r.answered.2 cuts.2 (cuts.3, kept.short, cuts.0))
 
 pub returns-in-Ok-Ready-clause-found : goal.returns-in-Ok-Ready-clause-found
 returns-in-Ok-Ready-clause-found g c =
