@@ -269,12 +269,12 @@ told_body ss args body l kind e = elim (chosen (ltb 64 (length l)) (Err BadBody)
 
 -- ---- which place it is
 
-nothing_before : (before : List ℕ) (n : ℕ) → At before Start n → before ≡ []
+pub nothing_before : (before : List ℕ) (n : ℕ) → At before Start n → before ≡ []
 nothing_before before n at =
     let h : Header = record { stanzas = letter ∷ []; mac = zeros } in
     append_cancel_right before [] (head_text h) (at.stands h (head_text h) refl)
 
-stanzas_before : (before : List ℕ) (ss : List Stanza) (n : ℕ) → At before (Between ss) n → before ≡ stanzas_text ss
+pub stanzas_before : (before : List ℕ) (ss : List Stanza) (n : ℕ) → At before (Between ss) n → before ≡ stanzas_text ss
 stanzas_before before ss n at =
     let h : Header = record { stanzas = ss; mac = zeros } in
     let e = at.stands h (tail_text [] zeros) ([], sym (append-nil ss), refl) in
@@ -299,12 +299,12 @@ empty_first = refl
 apart : (f : HeadFault) → unfinished ≡ faulty f → ⊥
 apart f e = cc
 
-not_first : (before : List ℕ) (ss : List Stanza) (args : List (List ℕ)) (body : List ℕ) (n : ℕ) → At before (InBody ss args body) n → before ≡ [] → ⊥
+pub not_first : (before : List ℕ) (ss : List Stanza) (args : List (List ℕ)) (body : List ℕ) (n : ℕ) → At before (InBody ss args body) n → before ≡ [] → ⊥
 not_first before ss args body n at e =
     let there = at.reaches (line [] ++ []) in
     apart (fault_at NotAge 1) (sym (empty_goes ss args body n) ∙ sym there ∙ ap (λ (b : List ℕ). walk Start 1 [] (b ++ (line [] ++ []))) e ∙ empty_first)
 
-not_between : (before : List ℕ) (ss ts : List Stanza) (args : List (List ℕ)) (body : List ℕ) (n : ℕ) → At before (InBody ss args body) n → AllByRecursion IsStanza ts → before ≡ stanzas_text ts → ⊥
+pub not_between : (before : List ℕ) (ss ts : List Stanza) (args : List (List ℕ)) (body : List ℕ) (n : ℕ) → At before (InBody ss args body) n → AllByRecursion IsStanza ts → before ≡ stanzas_text ts → ⊥
 not_between before ss ts args body n at lawful e =
     let there = at.reaches (line [] ++ []) in
     let reach = stanzas_reach ts [] 2 (line [] ++ []) lawful in
@@ -433,7 +433,7 @@ last_of x (y ∷ ys) =
     (x ∷ deeper.0, deeper.1, ap (λ (t : List ℕ). x ∷ t) deeper.2)
 
 -- whole lines have no line begun behind them
-nothing_begun : (xs ys l : List ℕ) → IsLine l → xs ++ 10 ∷ [] ≡ ys ++ l → l ≡ []
+pub nothing_begun : (xs ys l : List ℕ) → IsLine l → xs ++ 10 ∷ [] ≡ ys ++ l → l ≡ []
 nothing_begun xs ys [] lined e = refl
 nothing_begun xs ys (x ∷ l) lined e =
     let last = last_of x l in

@@ -1,5 +1,7 @@
 -- Laws over the definitions alone.
-use Rattle.std.specs.Prelude.{◌≡◌, ◌++◌, ℕ, List, length}
+use Rattle.std.specs.Prelude.{◌≡◌, ◌++◌, ℕ, List, length, codes}
+use Rattle.base64.specs.GeneralPurpose.{IsBytes, engine_symbols}
+use Rattle.base64.specs.Engines.{standard_no_pad}
 use Rattle.age_stanza.specs.declared.header.Header.{Header}
 use Rattle.age_stanza.specs.declared.fault.HeadFault.{HeadFault}
 use Rattle.age_stanza.specs.Grammar.{Spells, HeadText}
@@ -9,6 +11,14 @@ use Rattle.age_stanza.specs.Faults.{HasHeader, IsFault}
 -- a text has at most one header, and no header's text begins another's
 abbrev pub OneHeader : Type 0
 OneHeader = (h k : Header) (a b x y : List ℕ) → Spells h a → Spells k b → a ++ x ≡ b ++ y → (h ≡ k) × (a ≡ b)
+
+-- bytes have no more than one first fault
+abbrev pub OneFault : Type 0
+OneFault = (bytes : List ℕ) (fault other : HeadFault) → IsBytes bytes → IsFault bytes fault → IsFault bytes other → fault ≡ other
+
+-- the 64 characters of the base64 that a header is written in are those of RFC 4648, section 4, in their order
+abbrev pub Alphabet : Type 0
+Alphabet = engine_symbols standard_no_pad ≡ codes "ABCDEFGHIJKLMNOPQRSTUVWXYZabcdefghijklmnopqrstuvwxyz0123456789+/"
 
 -- what is told of a front of some bytes is told of them all
 abbrev pub FaultsStay : Type 0

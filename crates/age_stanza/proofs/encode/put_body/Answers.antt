@@ -1,4 +1,4 @@
-use Rattle.std.proofs.Common.{◌++◌, ◌∷◌, ap, arith}
+use Rattle.std.proofs.Common.{arith}
 use Rattle.age_stanza.proofs.BodyLines.{line_written, last_written}
 use Rattle.age_stanza.proofs.encode.put_body.Goals as goal
 

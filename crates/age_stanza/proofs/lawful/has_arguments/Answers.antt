@@ -1,4 +1,4 @@
-use Rattle.std.proofs.Common.{◌≡◌, ◌<◌, [], length, arith, ap, sym, ◌∙◌, rules, tests}
+use Rattle.std.proofs.Common.{[], length, arith, ap, sym, ◌∙◌, rules, tests}
 use Rattle.std.proofs.lemmas.Bool.{eqb-false}
 use Rattle.std.proofs.lemmas.Iterator.{cases_from_all, YieldsList-from_slice}
 use Rattle.age_stanza.specs.Grammar.{IsArgument}

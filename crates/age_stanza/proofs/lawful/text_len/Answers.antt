@@ -1,4 +1,4 @@
-use Rattle.std.proofs.Common.{◌≡◌, length, ap, subst, sym, arith, List}
+use Rattle.std.proofs.Common.{◌≡◌, length, ap, subst, arith, List}
 use Rattle.std.specs.List.{AllByRecursion}
 use Rattle.std.proofs.lemmas.List.{take_all}
 use Rattle.base64.specs.GeneralPurpose.{IsBytes}
