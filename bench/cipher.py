@@ -23,7 +23,11 @@ room = bytearray(SIZE)
 stream = Cipher(algorithms.ChaCha20(KEY, (1).to_bytes(4, "little") + NONCE), None)
 box = ChaCha20Poly1305(KEY)
 sealed = box.encrypt(NONCE, text, b"")
-print("ChaCha20 over 64 KiB", least(lambda: stream.encryptor().update_into(text, room)), SIZE, sep="\t")
-print("Poly1305 over 64 KiB", least(lambda: Poly1305.generate_tag(KEY, text)), SIZE, sep="\t")
-print("sealing 64 KiB", least(lambda: box.encrypt(NONCE, text, b"")), SIZE, sep="\t")
-print("opening 64 KiB", least(lambda: box.decrypt(NONCE, sealed, b"")), SIZE, sep="\t")
+work = {
+    "ChaCha20 over 64 KiB": lambda: stream.encryptor().update_into(text, room),
+    "Poly1305 over 64 KiB": lambda: Poly1305.generate_tag(KEY, text),
+    "sealing 64 KiB": lambda: box.encrypt(NONCE, text, b""),
+    "opening 64 KiB": lambda: box.decrypt(NONCE, sealed, b""),
+}
+for label, call in work.items():
+    print(label, least(call), SIZE, sep="\t")

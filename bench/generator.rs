@@ -1,7 +1,8 @@
 //! Uses: rand_chacha rand_core
 //!
-//! The generator's words alone, 64 KiB of them: what ChaCha20 in `age_cipher` can't pass. It is a program of its own, since
-//! a second place that draws words would change how the compiler treats both.
+//! The generator's words alone, 64 KiB of them: what ChaCha20 in `age_cipher` can't pass. It is a
+//! program of its own, since a second place that draws words would change how the compiler treats
+//! both.
 #![tactic(auto)]
 
 use rand_chacha::ChaCha20Rng;

@@ -19,6 +19,7 @@ mac_data aad cipher = concat (
     aad ∷ padding aad ∷ cipher ∷ padding cipher
     ∷ to_le_bytes w64 (length aad) ∷ to_le_bytes w64 (length cipher) ∷ [])
 
+-- the tag of associated data and a ciphertext
 unfoldable pub tag : List ℕ → List ℕ → List ℕ → List ℕ → List ℕ
 tag key nonce aad cipher = poly1305 (one_time_key key nonce) (mac_data aad cipher)
 
