@@ -1,7 +1,7 @@
-use Rattle.std.proofs.Common.{◌≡◌, ◌∙◌, ℕ, List, ap, subst, add-one, arith}
+use Rattle.std.proofs.Common.{◌≡◌, ◌∙◌, ℕ, List, ap, add-one, arith}
 use Rattle.std.specs.Simd.Lanes.{zip2}
 use Rattle.age_scrypt.specs.Salsa.{add32, double_rounds, salsa20_8}
-use Rattle.age_scrypt.specs.Lanes.{words, IsDiagonals}
+use Rattle.age_scrypt.specs.Lanes.{words}
 use Rattle.age_scrypt.proofs.LaneLemmas.{length-double_rounds}
 use Rattle.age_scrypt.proofs.SalsaLemmas.{length-words, rows_of_words, words_of_rows}
 use Rattle.age_scrypt.proofs.salsa.salsa20_8.Goals as goal

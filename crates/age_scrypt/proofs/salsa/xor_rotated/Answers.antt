@@ -1,4 +1,4 @@
-use Rattle.std.proofs.Common.{◌≡◌, ◌∙◌, length, ap, bit_xor, arith}
+use Rattle.std.proofs.Common.{ap, bit_xor, arith}
 use Rattle.std.specs.Simd.Lanes.{zip2}
 use Rattle.std.proofs.lemmas.Simd.{length-zip2}
 use Rattle.age_scrypt.specs.Salsa.{add32}
