@@ -1,8 +1,8 @@
 -- The numbers and places of faults, and when each comes.
-use Rattle.std.specs.Prelude.{◌≡◌, ◌⊎◌, ℕ, ◌^◌, ◌-◌, ◌<◌, ◌≤◌, List, length, Option, Some, None}
+use Rattle.std.specs.Prelude.{◌≡◌, ◌⊎◌, ℕ, ◌^◌, ◌-◌, ◌<◌, ◌≤◌, List, length, Option, Some, None, codes}
 use Rattle.std.specs.Io.KnownBytes.{Consumes, IsAtEnd}
 use Rattle.age_stanza.specs.declared.fault.HeadKind.{HeadKind}
-use Rattle.age_stanza.specs.declared.fault.HeadKind.TheVariants.{HeadCut, Memory as HeadMemory}
+use Rattle.age_stanza.specs.declared.fault.HeadKind.TheVariants.{NotAge, Armored, BadStanzaLine, BadBody, BadEndLine, NoStanza, HeadTooLong, HeadCut, Memory as HeadMemory}
 use Rattle.age_stanza.specs.declared.fault.HeadFault.{HeadFault}
 use Rattle.age_stanza.specs.FaultNumbers as head
 use Rattle.age_stanza.specs.Faults.{HasHeader, NoFault, IsFault, line_after}
@@ -15,6 +15,24 @@ number_of Read = 26
 number_of Write = 27
 number_of Memory = 28
 number_of ReadNeverEnds = 29
+
+abbrev pub head_name_of : HeadKind → List ℕ
+head_name_of NotAge = codes "NotAge"
+head_name_of Armored = codes "Armored"
+head_name_of BadStanzaLine = codes "BadStanzaLine"
+head_name_of BadBody = codes "BadBody"
+head_name_of BadEndLine = codes "BadEndLine"
+head_name_of NoStanza = codes "NoStanza"
+head_name_of HeadTooLong = codes "HeadTooLong"
+head_name_of HeadCut = codes "HeadCut"
+head_name_of HeadMemory = codes "Memory"
+
+abbrev pub name_of : FileFault → List ℕ
+name_of (Head fault) = head_name_of fault.kind
+name_of Read = codes "Read"
+name_of Write = codes "Write"
+name_of Memory = codes "Memory"
+name_of ReadNeverEnds = codes "ReadNeverEnds"
 
 -- the line of a header's fault
 abbrev pub place_of : FileFault → Option ℕ

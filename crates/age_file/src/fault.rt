@@ -2,7 +2,7 @@
 
 ghost use Rattle.std.specs.Prelude.{◌≡◌};
 ghost use Rattle.age_file.specs.declared.fault.FileFault.TheVariants.{Memory as MemoryFault};
-ghost use Rattle.age_file.specs.Faults.{number_of, place_of, fault_of};
+ghost use Rattle.age_file.specs.Faults.{number_of, place_of, name_of, head_name_of, fault_of};
 
 use crate::failed::Memory;
 use age_stanza::{HeadFault, HeadKind};
@@ -89,7 +89,9 @@ impl FileFault {
     }
 
     /// The name of this fault in the list of all faults.
-    pub fn name(&self) -> &'static str {
+    pub fn name(&self) -> &'static str
+        ensures { result.now ≡ name_of self.now }
+    {
         match self {
             FileFault::Head(fault) => head_name(fault.kind),
             FileFault::Read => "Read",
@@ -100,7 +102,9 @@ impl FileFault {
     }
 }
 
-fn head_name(kind: HeadKind) -> &'static str {
+fn head_name(kind: HeadKind) -> &'static str
+    ensures { result.now ≡ head_name_of kind }
+{
     match kind {
         HeadKind::NotAge => "NotAge",
         HeadKind::Armored => "Armored",

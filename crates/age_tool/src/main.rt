@@ -17,14 +17,17 @@ fn words_of<'a>(alloc: Global, words: &'a [String]) -> io::Result<Vec<&'a str>> 
     Ok(texts)
 }
 
-fn run_on(rt: &HostRuntime, args: &[String]) -> io::Result<u8> {
-    let words = words_of(rt.alloc(), args)?;
+/// Runs the program on the machine. Fails where the words can't be had.
+fn run_on(rt: &HostRuntime) -> io::Result<u8> {
+    let alloc = rt.alloc();
+    let args: Vec<String> = std::env::args(rt)?.collect(alloc)?;
+    let words = words_of(alloc, args.as_slice())?;
     let mut files = HostFiles::new(rt);
     let mut input = Reading::new(rt.reader());
     let mut output = Writing::new(io::writer(rt));
     let mut faults = Writing::new(rt.stderr());
     Ok(run(
-        rt.alloc(),
+        alloc,
         words.as_slice(),
         &mut files,
         &mut input,
@@ -33,12 +36,17 @@ fn run_on(rt: &HostRuntime, args: &[String]) -> io::Result<u8> {
     ))
 }
 
-fn main(rt: HostRuntime) -> io::Result<ExitCode> {
-    let Ok(args) = std::env::args(&rt) else {
+fn main(rt: HostRuntime) -> ExitCode {
+    match run_on(&rt) {
+        Ok(status) => ExitCode::from(status),
+        Err(error) if error.kind() == io::ErrorKind::OutOfMemory => {
+            let _ = eprintln!(rt; "age_tool: 28 Memory");
+            ExitCode::from(1)
+        }
         // Some word is no text, so the command line is a bad one.
-        eprintln!(rt; "age_tool: bad command line")?;
-        return Ok(ExitCode::from(2));
-    };
-    let args: Vec<String> = args.collect(rt.alloc())?;
-    Ok(ExitCode::from(run_on(&rt, args.as_slice())?))
+        Err(_) => {
+            let _ = eprintln!(rt; "age_tool: bad command line");
+            ExitCode::from(2)
+        }
+    }
 }
