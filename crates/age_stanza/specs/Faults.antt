@@ -1,4 +1,5 @@
--- The first fault of bytes that begin no header, by what can still follow.
+-- The first fault of bytes that begin no header (C2SP age.md, "Header"): a line is faulty where no header's text goes on behind it.
+-- Which kind is told of it is this crate's own, and follows from where the line stands.
 use Rattle.std.specs.Prelude.{◌≡◌, ◌≢◌, ◌⊎◌, ℕ, ◌+◌, ◌==◌, nat_eq, ◌||◌, true, false, if◌then◌else◌, List, [], ◌∷◌, ◌++◌, length, take, codes, count_by}
 use Rattle.std.specs.List.{flat_map, AllByRecursion, starts_with}
 use Rattle.std.specs.Str.{bytes_eq}
@@ -14,6 +15,7 @@ use Rattle.age_stanza.specs.Grammar.{line, version, stanza_text, end_line, IsSta
 abbrev pub Begins : List ℕ → Type 0
 Begins bytes = (h : Header) × (rest : List ℕ) × Spells h (bytes ++ rest)
 
+-- no LF stands in it
 abbrev pub IsLine : List ℕ → Type 0
 IsLine l = AllByRecursion (λ c. c ≢ 10) l
 
@@ -34,6 +36,7 @@ pub record FirstFault (bytes before l : List ℕ) : Type 0 where
 abbrev pub stanzas_text : List Stanza → List ℕ
 stanzas_text ss = line version ++ flat_map stanza_text ss
 
+-- the text of some MAC behind the mark of an end line
 abbrev pub IsEndLine : List ℕ → Type 0
 IsEndLine l = (mac : List ℕ) × (length mac ≡ 32) × IsBytes mac × (l ≡ end_line mac)
 
@@ -65,10 +68,12 @@ HasHeader bytes = (h : Header) × (front : List ℕ) × (rest : List ℕ) × Hea
 abbrev pub NoFault : List ℕ → Type 0
 NoFault bytes = (before l : List ℕ) → FirstFault bytes before l → ⊥
 
+-- the fault of the first faulty line
 abbrev pub IsLineFault : List ℕ → HeadFault → Type 0
 IsLineFault bytes fault = (before : List ℕ) × (l : List ℕ) × FirstFault bytes before l × (fault.line ≡ line_after before) × Refuses before l fault.kind
 
--- what is told of bytes that have no header in front, by their first 1,048,576
+-- what is told of bytes that have no header in front, by their first 1,048,576: the first faulty line; else, where there are so many, that the header is too long,
+-- on the line of the last of them
 abbrev pub IsFault : List ℕ → HeadFault → Type 0
 IsFault bytes fault = IsLineFault (take 1048576 bytes) fault
     ⊎ (NoFault (take 1048576 bytes) × (length (take 1048576 bytes) ≡ 1048576)

@@ -1,4 +1,4 @@
--- What a parser has come to, whatever pieces it was given.
+-- What a parser of headers has come to, and what a call does to it.
 use Rattle.std.specs.Prelude.{◌≡◌, ◌≢◌, ◌⊎◌, ℕ, ◌<◌, ◌≤◌, List, ◌++◌, length, take, Result, Ok, Err}
 use Rattle.age_stanza.specs.declared.header.HeadStep.{HeadStep}
 use Rattle.age_stanza.specs.declared.header.HeadStep.TheVariants.{More, Ready}
@@ -17,7 +17,8 @@ pub data Parsing : Type 0 where
 abbrev pub IsOpen : Parsing → Type 0
 IsOpen parsing = parsing ≢ complete
 
--- what is answered to a piece, and what the parser then is
+-- what is answered to a piece, and what the parser then is: a header exactly where a front of the joined bytes is its text; else the first fault of the joined bytes;
+-- else more is asked for. A fault stays
 abbrev pub Feeds : Parsing → List ℕ → Result HeadStep HeadFault → Parsing → Type 0
 Feeds (reading held) piece (Ok More) new = (new ≡ reading (held ++ piece)) × (length (held ++ piece) < 1048576) × (¬ HasHeader (held ++ piece)) × NoFault (held ++ piece)
 Feeds (reading held) piece (Ok (Ready taken h)) new = (new ≡ complete) × (taken ≤ length piece) × HeadText h (held ++ take taken piece)
@@ -25,7 +26,7 @@ Feeds (reading held) piece (Err fault) new = (new ≡ refused fault) × ((fault 
 Feeds complete piece result new = Unit {0}
 Feeds (refused fault) piece result new = (result ≡ Err fault) × (new ≡ refused fault)
 
--- what is answered to the end of the input
+-- what is answered to the end of the input: that the header is cut, in the line that the end comes in, or the earlier fault
 abbrev pub Cuts : Parsing → HeadFault → Parsing → Type 0
 Cuts (reading held) fault new = (fault ≡ record { kind = HeadCut; line = line_after held }) × (new ≡ refused fault) × (¬ HasHeader held) × NoFault held
 Cuts complete fault new = Unit {0}

@@ -1,4 +1,4 @@
--- A parser that was given a list of pieces.
+-- A parser that was fed a list of pieces, in the order of the calls.
 use Rattle.std.specs.Prelude.{◌≡◌, ◌⊎◌, ℕ, List, [], ◌∷◌, ◌++◌, Result}
 use Rattle.std.specs.List.{concat}
 use Rattle.age_stanza.specs.declared.header.HeadStep.{HeadStep}

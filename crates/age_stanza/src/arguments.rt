@@ -6,7 +6,8 @@ ghost use Rattle.age_stanza.specs.LineMachine.{arguments_from, arguments_of as s
 use crate::bytes::{Arguments, Bytes};
 use std::alloc::{AllocError, Global};
 
-/// The arguments that a list of letters and single spaces holds.
+/// The arguments that visible characters and single spaces hold, or `None`
+/// where an argument is empty or another character stands there.
 #[tactic(auto, unfolding(crate::specs::LineMachine::arguments_from))]
 fn arguments_in(alloc: Global, letters: &[u8]) -> Result<Option<Arguments>, AllocError>
     ensures { IfOk result (λ r. r ≡ arguments_from [] [] letters.now) }
@@ -20,7 +21,7 @@ fn arguments_in(alloc: Global, letters: &[u8]) -> Result<Option<Arguments>, Allo
             }
             args.push(Bytes::from_vec(word))?;
             word = Vec::new(alloc);
-        } else if 33 <= *c && *c <= 126 {
+        } else if b'!' <= *c && *c <= b'~' {
             word.push(*c)?;
         } else {
             return Ok(None);
@@ -33,7 +34,7 @@ fn arguments_in(alloc: Global, letters: &[u8]) -> Result<Option<Arguments>, Allo
     Ok(Some(args))
 }
 
-/// The arguments of a line, or `None` where it is no argument line.
+/// The arguments of a line, without its LF; `None` where it is no argument line.
 #[tactic(auto, unfolding(crate::specs::LineMachine::arguments_of))]
 pub(crate) fn arguments_of(alloc: Global, line: &[u8]) -> Result<Option<Arguments>, AllocError>
     ensures { IfOk result (λ r. r ≡ spec_arguments_of line.now) }

@@ -1,4 +1,5 @@
-//! Base64 without padding.
+//! Base64 without padding, and canonical: the unused low bits of the last
+//! character are zero (RFC 4648, sections 3.5 and 4).
 
 ghost use Rattle.std.specs.Prelude.{◌≡◌, IfOk};
 ghost use Rattle.std.specs.Option.{option_map};
@@ -21,7 +22,8 @@ pub(crate) fn decode(alloc: Global, text: &[u8]) -> Result<Option<Vec<u8>>, Allo
     }
 }
 
-/// The 32 bytes of an end line, or `None` where it is no end line.
+/// The 32 bytes that an end line, without its LF, spells; `None` where it is no
+/// end line.
 #[tactic(auto, unfolding(crate::specs::LineMachine::mac_of))]
 pub(crate) fn mac_of(alloc: Global, line: &[u8]) -> Result<Option<[u8; 32]>, AllocError>
     ensures { IfOk result (λ r. r ≡ spec_mac_of line.now) }
