@@ -141,6 +141,11 @@ fn a_refusal_is_told(rt: HostRuntime) -> Result<(), Fail> {
 }
 
 #[test]
+fn the_count_has_no_bytes(rt: HostRuntime) {
+    assert_eq!(rt; size_of::<Steps>(), 0);
+}
+
+#[test]
 fn a_fault_has_its_number(rt: HostRuntime) {
     assert_eq!(rt; Memory.number(), 28);
     assert!(rt; Memory.place().is_none());
