@@ -1,5 +1,5 @@
 -- Vectors of four words.
-use Rattle.std.proofs.Common.{◌≡◌, ℕ, ◌-◌, ◌*◌, ◌/◌, ◌%◌, ◌^◌, ◌<◌, List, [], ◌∷◌, ◌++◌, length, take, drop, map, bit_or, bit_xor, refl, subst, zero, suc, ◌+◌, arith}
+use Rattle.std.proofs.Common.{◌≡◌, ℕ, ◌-◌, ◌*◌, ◌/◌, ◌%◌, ◌^◌, ◌<◌, List, [], ◌∷◌, ◌++◌, length, take, drop, map, bit_or, bit_xor, refl, ap, ◌∙◌, subst, zero, suc, ◌+◌, arith}
 use Rattle.std.proofs.lemmas.List.{append_assoc, take-append-drop, drop-drop, length-take, length-drop}
 use Rattle.std.specs.Int.{w32, rotate_left}
 use Rattle.std.specs.Simd.Lanes.{zip2}
@@ -60,7 +60,11 @@ pub sixteen_words : (P : List ℕ → Type 0)
 sixteen_words P h x len =
     let cut : (i : ℕ) → take 4 (drop i x) ++ drop (i + 4) x ≡ drop i x = λ i. rw (← drop-drop) (take-append-drop 4 (drop i x)) in
     let parts : take 4 x ++ take 4 (drop 4 x) ++ take 4 (drop 8 x) ++ drop 12 x ≡ x =
-    rw (append_assoc, append_assoc, cut 8, cut 4) (take-append-drop 4 x) in
+    append_assoc (take 4 x ++ take 4 (drop 4 x)) (take 4 (drop 8 x)) (drop 12 x)
+    ∙ ap (λ rest. take 4 x ++ take 4 (drop 4 x) ++ rest) (cut 8)
+    ∙ append_assoc (take 4 x) (take 4 (drop 4 x)) (drop 8 x)
+    ∙ ap (λ rest. take 4 x ++ rest) (cut 4)
+    ∙ take-append-drop 4 x in
     subst P parts (for_sixteen (λ a b c d. P (a ++ b ++ c ++ d)) h (take 4 x) (take 4 (drop 4 x)) (take 4 (drop 8 x)) (drop 12 x)
     (omega (arith, length-take 4 x))
     (omega (arith, length-take 4 (drop 4 x), length-drop 4 x))

@@ -54,6 +54,7 @@ fn fill(table: &mut Vec<u32>, x: &mut [u32], n: usize, steps: &mut Steps)
     ensures counted { steps.new ≡ steps.old + n }
 {
     for i in 0..n {
+        // there is room, so this takes no memory and can't fail
         table.extend_from_slice(x).unwrap();
         block_mix(&table[256 * i..256 * i + 256], x, steps);
     }

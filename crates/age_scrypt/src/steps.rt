@@ -4,7 +4,7 @@ ghost use Rattle.std.specs.Borrow.{ftrue};
 
 use std::marker::Model;
 
-// A number that no code holds: the one place where it is set is the proof of `tick`.
+// A number that no code holds: the proofs of `zero` and `raise` set it.
 #[derive(Drop)]
 struct Count {
     pub ghost number: { ℕ },

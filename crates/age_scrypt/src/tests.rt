@@ -125,6 +125,26 @@ fn low_work_factors(rt: HostRuntime) -> Result<(), Fail> {
     Ok(())
 }
 
+// Run it with each allocation refused in turn (rt try --test --fail-alloc N): the call that met the
+// refusal says so, and the next one makes the key.
+#[test]
+fn a_refusal_is_told(rt: HostRuntime) -> Result<(), Fail> {
+    let mut steps = Steps::new();
+    match derive(rt.alloc(), b"correct horse", &NO_SALT, 1, &mut steps) {
+        Ok(key) => assert_eq!(rt; key, KEYS_AT_1[0]),
+        Err(Memory) => {
+            let key = derive(rt.alloc(), b"correct horse", &NO_SALT, 1, &mut steps)?;
+            assert_eq!(rt; key, KEYS_AT_1[0]);
+        }
+    }
+    Ok(())
+}
+
+#[test]
+fn the_count_has_no_bytes(rt: HostRuntime) {
+    assert_eq!(rt; size_of::<Steps>(), 0);
+}
+
 #[test]
 fn a_fault_has_its_number(rt: HostRuntime) {
     assert_eq!(rt; Memory.number(), 28);
