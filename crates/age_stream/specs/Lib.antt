@@ -1,0 +1,12 @@
+pub mod Lawful
+pub mod Clear
+pub mod Nonce
+pub mod Payload
+pub mod Segment
+pub mod Deliveries
+pub mod Sealing
+pub mod Lent
+pub mod Opening
+pub mod Replaying
+pub mod Headline
+pub mod FaultNumbers
