@@ -6,16 +6,17 @@ use Rattle.std.proofs.lemmas.List.{append-nil}
 use Rattle.std.proofs.lemmas.Grind.{flat_map-append}
 use Rattle.age_stream.specs.Segment.{Segment, Outcome, outcome, released, at_rest, front_texts, whole_blocks, rest_bytes, status_ended}
 use Rattle.age_stream.specs.Deliveries.{with_end}
-use Rattle.age_stream.specs.declared.opener.Opener.{Opener}
+use Rattle.age_stream.specs.declared.opener.OpenerState.{OpenerState}
 use Rattle.age_stream.specs.declared.fault.StreamFault.{StreamFault}
 use Rattle.age_stream.specs.declared.step.Status.{Status}
 use Rattle.age_stream.specs.declared.step.Status.TheVariants.{Open, LastSeen, Done, Failed}
-use Rattle.age_stream.specs.Opening.{held_bytes, Ends, Stands, front_bytes}
+use Rattle.age_stream.specs.Opening.{Stands}
+use Rattle.age_stream.specs.OpenerSteps.{held_bytes, opener_view, Ends, front_bytes}
 use Rattle.age_stream.proofs.Going.{going, going_outcome, past_place, prepend_rest, after_end}
 
-module _ {B : Type 0} {n : ℕ} {g : _} (opening : B → List ℕ → List ℕ → Option (List ℕ)) (old new : Opener B n g) where
+module _ {B : Type 0} {n : ℕ} {g : _} (opening : B → List ℕ → List ℕ → Option (List ℕ)) (old new : OpenerState B n g) where
   pub record Finishes (s : Segment) (bytes : List ℕ) : Type 0 where
-    pub stands : Stands opening new (with_end s)
+    pub stands : Stands opening (n - 16) (opener_view new) (with_end s)
     pub text : released (opening old.key.now) (n - 16) (with_end s) ≡ released (opening old.key.now) (n - 16) s ++ bytes
 
   by_answer : (o : Outcome) (answer : Result ℕ StreamFault)
@@ -44,7 +45,7 @@ module _ {B : Type 0} {n : ℕ} {g : _} (opening : B → List ℕ → List ℕ �
             ∙ (flat_map-append (λ (t : List ℕ). t) (outcome op m s).texts o.texts ∙ ap (λ (bs : List ℕ). released op m s ++ bs) gained);
       }
 
-  pub end_open : (s : Segment) (answer : Result ℕ StreamFault) → Stands opening old s → old.status ≡ Open
+  pub end_open : (s : Segment) (answer : Result ℕ StreamFault) → Stands opening (n - 16) (opener_view old) s → old.status ≡ Open
       → Ends (at_rest (opening old.key.now) [] old.index (held_bytes old) false true) old answer new → Finishes s (front_bytes answer new.buffer.items)
   end_open s answer h open_ e =
       let op = opening old.key.now in
@@ -67,7 +68,7 @@ module _ {B : Type 0} {n : ℕ} {g : _} (opening : B → List ℕ → List ℕ �
       (ap (λ (o : Outcome). o.index) all ∙ ap (λ (o : Outcome). o.index) same)
       (ap (λ (o : Outcome). o.status) all ∙ ap (λ (o : Outcome). o.status) same)
 
-  pub end_none : (s : Segment) (answer : Result ℕ StreamFault) → Stands opening old s → (old.status ≡ Open → ⊥)
+  pub end_none : (s : Segment) (answer : Result ℕ StreamFault) → Stands opening (n - 16) (opener_view old) s → (old.status ≡ Open → ⊥)
       → Ends (record { texts = []; index = old.index; status = status_ended old.status }) old answer new → Finishes s (front_bytes answer new.buffer.items)
   end_none s answer h shut e =
       let op = opening old.key.now in

@@ -5,11 +5,12 @@ use Rattle.std.proofs.lemmas.List.{append-nil, append_assoc, length-take, length
 use Rattle.std.proofs.lemmas.Bool.{lt-ltb, le-ltb, cases_lt}
 use Rattle.age_stream.specs.Segment.{Segment, Outcome, outcome, one_block, rest_bytes, status_after, status_ended, failed}
 use Rattle.age_stream.specs.Deliveries.{with_piece, with_end}
-use Rattle.age_stream.specs.declared.opener.Opener.{Opener}
+use Rattle.age_stream.specs.declared.opener.OpenerState.{OpenerState}
 use Rattle.age_stream.specs.declared.fault.StreamFault.{StreamFault}
 use Rattle.age_stream.specs.declared.step.Status.{Status}
 use Rattle.age_stream.specs.declared.step.Status.TheVariants.{Open, LastSeen, Done, Failed}
-use Rattle.age_stream.specs.Opening.{held_bytes, TakesPart, TakesWhole, TakesNone, Stands, given, handed}
+use Rattle.age_stream.specs.Opening.{Stands, given, handed}
+use Rattle.age_stream.specs.OpenerSteps.{held_bytes, opener_view, TakesPart, TakesWhole, TakesNone}
 use Rattle.age_stream.proofs.Going.{going, going_part, going_whole, after_piece, rest_short, unended_piece, IsGoing, IsWhole}
 
 piece_timely : (s : Segment) (ended : Bool) (p : List ℕ) → s.ended ≡ ended → (s.ended ≡ false → s.late ≡ false) → (with_piece s p).ended ≡ false → (with_piece s p).late ≡ false
@@ -33,17 +34,17 @@ never_open false i LastSeen h e = cc
 never_open false i Done h e = cc
 never_open false i Open h e = h e
 
-module _ {B : Type 0} {n : ℕ} {g : _} (opening : B → List ℕ → List ℕ → Option (List ℕ)) (old new : Opener B n g) (big : 16 ≤ n) where
+module _ {B : Type 0} {n : ℕ} {g : _} (opening : B → List ℕ → List ℕ → Option (List ℕ)) (old new : OpenerState B n g) (big : 16 ≤ n) where
   -- what a step leaves, for a segment that the opener was given
   pub record Advances (s next : Segment) (texts : List (List ℕ)) : Type 0 where
-    pub stands : Stands opening new next
+    pub stands : Stands opening (n - 16) (opener_view new) next
     pub texts_are : (outcome (opening old.key.now) (n - 16) next).texts ≡ (outcome (opening old.key.now) (n - 16) s).texts ++ texts
 
   back : n - 16 + 16 ≡ n
   back = omega (arith, big)
 
   to_new : (next : Segment) → new.key ≡ old.key → new.index ≡ (outcome (opening old.key.now) (n - 16) next).index → new.status ≡ (outcome (opening old.key.now) (n - 16) next).status
-      → (new.status ≡ Open → held_bytes new ≡ rest_bytes (n - 16) next.bytes) → (next.ended ≡ false → next.late ≡ false) → Stands opening new next
+      → (new.status ≡ Open → held_bytes new ≡ rest_bytes (n - 16) next.bytes) → (next.ended ≡ false → next.late ≡ false) → Stands opening (n - 16) (opener_view new) next
   to_new next key index status held timely =
       record {
         index = index ∙ ap (λ k. (outcome (opening k.now) (n - 16) next).index) (sym key);
@@ -52,7 +53,7 @@ module _ {B : Type 0} {n : ℕ} {g : _} (opening : B → List ℕ → List ℕ �
         timely = timely;
       }
 
-  pub part : (s : Segment) (piece : List ℕ) (answer : Result (ℕ × Bool) StreamFault) → Stands opening old s → old.status ≡ Open → length (held_bytes old) + length piece < n → TakesPart old piece answer new
+  pub part : (s : Segment) (piece : List ℕ) (answer : Result (ℕ × Bool) StreamFault) → Stands opening (n - 16) (opener_view old) s → old.status ≡ Open → length (held_bytes old) + length piece < n → TakesPart old piece answer new
       → Advances s (with_piece s piece) []
   part s piece answer h open_ short t =
       let op = opening old.key.now in
@@ -68,7 +69,7 @@ module _ {B : Type 0} {n : ℕ} {g : _} (opening : B → List ℕ → List ℕ �
       }
 
   -- the front of the piece made a whole block
-  module _ (s : Segment) (piece : List ℕ) (h : Stands opening old s) (open_ : old.status ≡ Open) (long : n ≤ length (held_bytes old) + length piece) (short : length (held_bytes old) < n) where
+  module _ (s : Segment) (piece : List ℕ) (h : Stands opening (n - 16) (opener_view old) s) (open_ : old.status ≡ Open) (long : n ≤ length (held_bytes old) + length piece) (short : length (held_bytes old) < n) where
     abbrev front : List ℕ
     front = take (n - length (held_bytes old)) piece
 
@@ -135,7 +136,7 @@ module _ {B : Type 0} {n : ℕ} {g : _} (opening : B → List ℕ → List ℕ �
   by_answer s piece (Err f) core t = core piece refl
 
   -- the opener was open no more
-  pub none : (s : Segment) (piece : List ℕ) → Stands opening old s → (old.status ≡ Open → ⊥) → (answer : Result (ℕ × Bool) StreamFault) → TakesNone old piece answer new
+  pub none : (s : Segment) (piece : List ℕ) → Stands opening (n - 16) (opener_view old) s → (old.status ≡ Open → ⊥) → (answer : Result (ℕ × Bool) StreamFault) → TakesNone old piece answer new
       → Advances s (with_piece s (given (λ (a : ℕ × Bool). a.0) answer piece)) (handed (λ (a : ℕ × Bool). if a.1 then take (n - 16) new.buffer.items ∷ [] else []) answer)
   none s piece h shut answer t =
       let op = opening old.key.now in
@@ -166,7 +167,7 @@ module _ {B : Type 0} {n : ℕ} {g : _} (opening : B → List ℕ → List ℕ �
   part_answer s piece (Err f) h t = absurd t
 
   -- the opener was open
-  pub open_step : (s : Segment) (piece : List ℕ) (answer : Result (ℕ × Bool) StreamFault) → Stands opening old s → old.status ≡ Open → length (held_bytes old) < n
+  pub open_step : (s : Segment) (piece : List ℕ) (answer : Result (ℕ × Bool) StreamFault) → Stands opening (n - 16) (opener_view old) s → old.status ≡ Open → length (held_bytes old) < n
       → (length (held_bytes old) + length piece < n → TakesPart old piece answer new)
       → (n ≤ length (held_bytes old) + length piece → TakesWhole (one_block (opening old.key.now) old.index (held_bytes old ++ take (n - length (held_bytes old)) piece)) old answer new)
       → Advances s (with_piece s (given (λ (a : ℕ × Bool). a.0) answer piece)) (handed (λ (a : ℕ × Bool). if a.1 then take (n - 16) new.buffer.items ∷ [] else []) answer)

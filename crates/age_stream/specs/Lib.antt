@@ -5,8 +5,13 @@ pub mod Payload
 pub mod Segment
 pub mod Deliveries
 pub mod Sealing
+pub mod SealerSteps
+pub mod SealerRow
 pub mod Lent
 pub mod Opening
+pub mod OpenerSteps
+pub mod OpenerRow
 pub mod Replaying
+pub mod ReplaySteps
 pub mod Headline
 pub mod FaultNumbers

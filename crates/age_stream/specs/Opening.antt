@@ -1,71 +1,28 @@
--- What an opener holds.
-use Rattle.std.specs.List.{flat_map}
-use Rattle.std.specs.Prelude.{◌≢◌, ◌≡◌, ℕ, ◌+◌, ◌-◌, ◌≤◌, ◌<◌, List, [], ◌∷◌, ◌++◌, length, take, min, Bool, true, false, if◌then◌else◌, Option, Some, None, ⊤, Result, Ok, Err, MatchResult, nat_lt}
-use Rattle.std.specs.Borrow.{Bor, RattleType}
-use mir.Syntax.{named}
-use Rattle.age_stream.specs.contracts.opener.Opener.{the_row}
-use Rattle.age_stream.specs.declared.chunk_box.ChunkBox.{Ghosts}
+-- What an opener stands for, and what its calls answer. A chunk has n bytes.
+use Rattle.std.specs.Prelude.{◌≡◌, ℕ, ◌-◌, List, [], ◌∷◌, take, Bool, true, false, Option, Some, None, Result, Ok, Err}
+use Rattle.std.specs.Borrow.{Bor}
 use Rattle.age_stream.specs.declared.step.Status.{Status}
 use Rattle.age_stream.specs.declared.step.Status.TheVariants.{Open, Failed}
 use Rattle.age_stream.specs.declared.fault.StreamFault.{StreamFault}
-use Rattle.age_stream.specs.declared.opener.Opener.{Opener}
-use Rattle.age_stream.specs.Segment.{Segment, Outcome, outcome, rest_bytes, status_after}
+use Rattle.age_stream.specs.Segment.{Segment, outcome, rest_bytes}
 
-module _ {B : Type 0} {n : ℕ} {g : _} where
-  -- the bytes of the block that is open
-  abbrev pub held_bytes : Opener B n g → List ℕ
-  held_bytes o = if o.lent then [] else o.buffer.items
+-- its key, the bytes of the block that is open, the chunk at which it stands, and its status
+pub record OpenerView (B : Type 0) : Type 0 where
+  pub key : B
+  pub held : List ℕ
+  pub index : ℕ
+  pub status : Status
 
-  -- the opener stands where the outcome says; it has its text in front of the buffer, or none, and the answer says which
-  pub record IsTried (outcome : Outcome) (old : Opener B n g) (answer : Result (Unit {0}) StreamFault) (new : Opener B n g) : Type 0 where
-    pub key : new.key ≡ old.key
-    pub index : new.index ≡ outcome.index
-    pub status : new.status ≡ outcome.status
-    pub answered : MatchResult answer
-        (λ _. (new.lent ≡ true) × (length new.buffer.items ≡ n) × (outcome.texts ≡ take (n - 16) new.buffer.items ∷ []))
-        (λ fault. (new.status ≡ Failed fault) × (outcome.texts ≡ []))
+abbrev pub has_failed : Status → Bool
+has_failed (Failed fault) = true
+has_failed other = false
 
-  -- the piece made no whole block
-  pub record TakesPart (old : Opener B n g) (piece : List ℕ) (answer : Result (ℕ × Bool) StreamFault) (new : Opener B n g) : Type 0 where
-    pub key : new.key ≡ old.key
-    pub index : new.index ≡ old.index
-    pub status : new.status ≡ old.status
-    pub held : held_bytes new ≡ held_bytes old ++ piece
-    pub answered : MatchResult answer (λ s. (s.0 ≡ length piece) × (s.1 ≡ false)) (λ _. ⊥)
-
-  -- the piece's front made one, which was tried
-  pub record TakesWhole (outcome : Outcome) (old : Opener B n g) (answer : Result (ℕ × Bool) StreamFault) (new : Opener B n g) : Type 0 where
-    pub key : new.key ≡ old.key
-    pub index : new.index ≡ outcome.index
-    pub status : new.status ≡ outcome.status
-    pub answered : MatchResult answer
-        (λ s. (s.0 + length (held_bytes old) ≡ n) × (s.1 ≡ true) × (held_bytes new ≡ []) × (outcome.texts ≡ take (n - 16) new.buffer.items ∷ []) × (length new.buffer.items ≡ n))
-        (λ fault. (new.status ≡ Failed fault) × (outcome.texts ≡ []))
-
-  -- the opener is open no more
-  pub record TakesNone (old : Opener B n g) (piece : List ℕ) (answer : Result (ℕ × Bool) StreamFault) (new : Opener B n g) : Type 0 where
-    pub key : new.key ≡ old.key
-    pub index : new.index ≡ old.index
-    pub status : new.status ≡ status_after (nat_lt 0 (length piece)) old.index old.status
-    pub held : MatchResult answer (λ _. held_bytes new ≡ held_bytes old) (λ _. ⊤)
-    pub answered : MatchResult answer (λ s. (s.0 ≡ 0) × (s.1 ≡ false) × (length piece ≡ 0)) (λ fault. new.status ≡ Failed fault)
-
-  -- an end came; so many bytes in front of the buffer are the text that it gave
-  pub record Ends (outcome : Outcome) (old : Opener B n g) (answer : Result ℕ StreamFault) (new : Opener B n g) : Type 0 where
-    pub key : new.key ≡ old.key
-    pub index : new.index ≡ outcome.index
-    pub status : new.status ≡ outcome.status
-    pub closed : new.status ≢ Open
-    pub answered : MatchResult answer
-        (λ len. (len ≤ length new.buffer.items) × (len ≤ length (held_bytes old)) × (flat_map (λ (text : List ℕ). text) outcome.texts ≡ take len new.buffer.items))
-        (λ fault. (new.status ≡ Failed fault) × (outcome.texts ≡ []))
-
-  -- the opener was given this segment
-  pub record Stands (opening : B → List ℕ → List ℕ → Option (List ℕ)) (o : Opener B n g) (s : Segment) : Type 0 where
-    pub index : o.index ≡ (outcome (opening o.key.now) (n - 16) s).index
-    pub status : o.status ≡ (outcome (opening o.key.now) (n - 16) s).status
-    pub held : o.status ≡ Open → held_bytes o ≡ rest_bytes (n - 16) s.bytes
-    pub timely : s.ended ≡ false → s.late ≡ false
+-- it was given this segment: it stands where the outcome says, and holds what is left behind all whole blocks
+pub record Stands {B : Type 0} (opening : B → List ℕ → List ℕ → Option (List ℕ)) (n : ℕ) (o : OpenerView B) (s : Segment) : Type 0 where
+  pub index : o.index ≡ (outcome (opening o.key) n s).index
+  pub status : o.status ≡ (outcome (opening o.key) n s).status
+  pub held : o.status ≡ Open → o.held ≡ rest_bytes n s.bytes
+  pub timely : s.ended ≡ false → s.late ≡ false
 
 -- what an opener was given of a piece: what it took, or all where it refused
 abbrev pub given : {T : Type 0} → (T → ℕ) → Result T StreamFault → List ℕ → List ℕ
@@ -82,16 +39,7 @@ abbrev pub handed_bytes : Result (Bor (List ℕ)) StreamFault → List ℕ
 handed_bytes (Ok text) = text.now
 handed_bytes (Err fault) = []
 
--- so many bytes in front of the buffer
-abbrev pub front_bytes : Result ℕ StreamFault → List ℕ → List ℕ
-front_bytes (Ok len) buffer = take len buffer
-front_bytes (Err fault) buffer = []
-
+-- the text that is lent, or none
 abbrev pub chunk_texts : Option (Bor (List ℕ)) → List (List ℕ)
 chunk_texts None = []
 chunk_texts (Some chunk) = chunk.now ∷ []
-
--- the opener's type, as the logic holds it
-module _ (B N : RattleType) (box : Ghosts B.Denot) where
-  abbrev pub opener_row : RattleType
-  opener_row = the_row (record { mir = named 0; lft = [] }) B N box

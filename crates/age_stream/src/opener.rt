@@ -4,17 +4,20 @@ ghost use Rattle.std.specs.Bool.{OnTrue, OnFalse};
 ghost use Rattle.std.specs.Borrow.{sem};
 ghost use Rattle.std.specs.Io.BufRead.{Rests};
 ghost use Rattle.age_stream.specs.Lent.{lent_text};
+ghost use Rattle.age_stream.specs.Nonce.{nonce_bytes};
 ghost use Rattle.age_stream.specs.declared.step.Status.TheVariants.{Open};
+ghost use Rattle.age_stream.specs.declared.fault.StreamFault.{StreamFault as StreamFaultValue};
 
 use crate::chunk_box::ChunkBox;
 use crate::fault::{StreamFault, StreamKind};
 use crate::nonce::{CHUNK_LIMIT, nonce_of};
 use crate::step::{Status, Step};
 use arrayvec::ArrayVec;
+use std::marker::Model;
 
-/// Opens a payload that comes in pieces.
+/// What an opener holds.
 #[derive(Drop)]
-pub struct Opener<'k, B: ChunkBox, const SEALED: usize> {
+struct OpenerState<'k, B: ChunkBox, const SEALED: usize> {
     key: &'k B,
     // the bytes of the block that is open; or the text and the tag of one that was opened, until the next call
     buffer: ArrayVec<u8, SEALED>,
@@ -26,75 +29,11 @@ pub struct Opener<'k, B: ChunkBox, const SEALED: usize> {
     ghost room: { status ≡ Open → lent ≡ false → length buffer.items < SEALED },
 }
 
-impl<'k, B: ChunkBox, const SEALED: usize> Opener<'k, B, SEALED> {
-    ghost use Rattle.age_stream.specs.Nonce.{nonce_bytes};
+impl<'k, B: ChunkBox, const SEALED: usize> OpenerState<'k, B, SEALED> {
     ghost use Rattle.age_stream.specs.Segment.{Segment, Outcome, outcome, released, one_block, at_rest, status_ended, failed};
-    ghost use Rattle.age_stream.specs.Deliveries.{with_piece, with_end, fresh};
-    ghost use Rattle.age_stream.specs.Opening.{held_bytes, opener_row, IsTried, TakesPart, TakesWhole, TakesNone, Ends, Stands, handed_bytes, front_bytes, given, handed, chunk_texts};
-
-    /// An opener of a whole payload.
-    pub fn new(key: &'k B) -> Self
-        requires least { 17 ≤ SEALED }
-        requires most { SEALED ≤ 65552 }
-        ensures key { result.key ≡ key.entry }
-        ensures stands { Stands B.opening result (fresh 0) }
-    {
-        Opener::at(key, 0)
-    }
-
-    /// An opener of a payload from a chunk on, by the chunk's number.
-    pub fn at(key: &'k B, index: u64) -> Self
-        requires least { 17 ≤ SEALED }
-        requires most { SEALED ≤ 65552 }
-        requires limit { index < 281474976710656 }
-        ensures index { result.index ≡ index }
-        ensures held { held_bytes result ≡ [] }
-        ensures status { result.status ≡ Status.Open }
-        ensures key { result.key ≡ key.entry }
-        ensures stands { Stands B.opening result (fresh index) }
-    {
-        Opener {
-            key,
-            buffer: ArrayVec::new(),
-            lent: false,
-            index,
-            status: Status::Open,
-        }
-    }
-
-    /// The number of the chunk at which it stands: the one that it started
-    /// at, and one more for each chunk that was opened as not the last.
-    pub fn index(&self) -> u64
-        ensures index { result ≡ self.now.index }
-        ensures limit { result < 281474976710656 }
-    {
-        self.index
-    }
-
-    /// Where it stands.
-    pub fn status(&self) -> Status
-        ensures { result ≡ self.now.status }
-    {
-        self.status
-    }
-
-    // How many bytes of the open block are held.
-    pub(crate) fn held_len(&self) -> usize
-        ensures len { result ≡ length (held_bytes self.now) }
-        ensures fits { result ≤ 65552 }
-    {
-        if self.lent { 0 } else { self.buffer.len() }
-    }
-
-    // How many bytes a chunk has.
-    pub(crate) fn chunk_len(&self) -> u64
-        ensures len { result ≡ SEALED - 16 }
-        ensures most { result ≤ 65536 }
-        ensures sizes { (17 ≤ SEALED) × (SEALED ≤ 65552) }
-    {
-        let _ = &self.lent;
-        (SEALED - 16) as u64
-    }
+    ghost use Rattle.age_stream.specs.Deliveries.{with_piece, with_end};
+    ghost use Rattle.age_stream.specs.Opening.{Stands, given, handed, has_failed};
+    ghost use Rattle.age_stream.specs.OpenerSteps.{held_bytes, opener_view, IsTried, TakesPart, TakesWhole, TakesNone, Ends, front_bytes};
 
     // Empties the buffer of a text that was lent.
     fn settle(&mut self)
@@ -153,7 +92,11 @@ impl<'k, B: ChunkBox, const SEALED: usize> Opener<'k, B, SEALED> {
     // Takes nothing more.
     fn take_none(&mut self, piece: &[u8]) -> Result<(usize, bool), StreamFault>
         requires { self.old.status ≢ Status.Open }
-        ensures { TakesNone self.old piece.now result self.new }
+        ensures none { TakesNone self.old piece.now result self.new }
+        ensures sound { IfOk result (λ _. has_failed self.new.status ≡ false) }
+        ensures again { IfErr result (λ fault. (earlier : StreamFaultValue) → self.old.status ≡ Status.Failed earlier → fault ≡ earlier) }
+        ensures unfailed { OnOk result (has_failed self.old.status ≡ false) }
+        ensures still { length piece.now ≡ 0 → opener_view self.new ≡ opener_view self.old }
     {
         match self.status {
             Status::Failed(fault) => Err(fault),
@@ -168,48 +111,26 @@ impl<'k, B: ChunkBox, const SEALED: usize> Opener<'k, B, SEALED> {
 
     // Takes what it takes of a piece, and says whether a text then stands in the buffer.
     fn advance(&mut self, piece: &[u8]) -> Result<(usize, bool), StreamFault>
-        ensures stands { (s : Segment) → Stands B.opening self.old s → Stands B.opening self.new (with_piece s (given (λ a. a.0) result piece.now)) }
-        ensures texts { (s : Segment) → Stands B.opening self.old s
+        ensures stands { (s : Segment) → Stands B.opening (SEALED - 16) (opener_view self.old) s → Stands B.opening (SEALED - 16) (opener_view self.new) (with_piece s (given (λ a. a.0) result piece.now)) }
+        ensures texts { (s : Segment) → Stands B.opening (SEALED - 16) (opener_view self.old) s
             → (outcome (B.opening self.old.key.now) (SEALED - 16) (with_piece s (given (λ a. a.0) result piece.now))).texts
             ≡ (outcome (B.opening self.old.key.now) (SEALED - 16) s).texts ++ handed (λ a. if a.1 then take (SEALED - 16) self.new.buffer.items ∷ [] else []) result }
         ensures fault { IfErr result (λ fault. self.new.status ≡ Status.Failed fault) }
         ensures key { self.new.key ≡ self.old.key }
         ensures full { IfOk result (λ a. a.1 ≡ true → length self.new.buffer.items ≡ SEALED) }
-        ensures taken { IfOk result (λ a. a.0 ≤ length piece.now) }
+        ensures taken { IfOk result (λ a. a.0 ≡ min (SEALED - length (held_bytes self.old)) (length piece.now)) }
         ensures some { IfOk result (λ a. 0 < length piece.now → 0 < a.0) }
+        ensures sound { IfOk result (λ _. has_failed self.new.status ≡ false) }
+        ensures again { IfErr result (λ fault. (earlier : StreamFaultValue) → self.old.status ≡ Status.Failed earlier → fault ≡ earlier) }
+        ensures unfailed { OnOk result (has_failed self.old.status ≡ false) }
+        ensures still { length piece.now ≡ 0 → opener_view self.new ≡ opener_view self.old }
+        ensures nothing { length piece.now ≡ 0 → IfOk result (λ a. a.1 ≡ false) }
         ensures room { IfOk result (λ a. length (held_bytes self.new) + length (if a.1 then take (SEALED - 16) self.new.buffer.items else []) ≤ length (held_bytes self.old) + a.0) }
     {
         match self.status {
             Status::Open => self.take_open(piece),
             _ => self.take_none(piece),
         }
-    }
-
-    /// Takes bytes of the payload, and lends the text of the block that is full.
-    pub fn feed(&mut self, piece: &[u8]) -> Result<Step<'_>, StreamFault>
-        ensures* after { sem 𝓛 (Rests (opener_row B.row SEALED.row B.ChunkBox) self.entry (λ new.
-            (new.key ≡ self.old.key)
-            × ((s : Segment) → Stands B.opening self.old s → Stands B.opening new (with_piece s (given (λ step. step.taken) result piece.now)))
-            × IfErr result (λ fault. new.status ≡ Status.Failed fault)
-            × IfOk result (λ step. length (held_bytes new) + length (lent_text step.chunk) ≤ length (held_bytes self.old) + step.taken))) }
-        ensures some { IfOk result (λ step. 0 < length piece.now → 0 < step.taken) }
-        ensures texts { (s : Segment) → Stands B.opening self.old s
-            → (outcome (B.opening self.old.key.now) (SEALED - 16) (with_piece s (given (λ step. step.taken) result piece.now))).texts
-            ≡ (outcome (B.opening self.old.key.now) (SEALED - 16) s).texts ++ handed (λ step. chunk_texts step.chunk) result }
-        ensures taken { IfOk result (λ step. step.taken ≤ length piece.now) }
-    {
-        let (taken, full) = match self.advance(piece) {
-            Ok(step) => step,
-            Err(fault) => return Err(fault),
-        };
-        if !full {
-            return Ok(Step { taken, chunk: None });
-        }
-        let text = &self.buffer.as_slice()[..SEALED - 16];
-        Ok(Step {
-            taken,
-            chunk: Some(text),
-        })
     }
 
     // Tries what is held as the last block.
@@ -242,6 +163,8 @@ impl<'k, B: ChunkBox, const SEALED: usize> Opener<'k, B, SEALED> {
     fn end_none(&mut self) -> Result<usize, StreamFault>
         requires { self.old.status ≢ Status.Open }
         ensures ends { Ends (record { texts = []; index = self.old.index; status = status_ended self.old.status }) self.old result self.new }
+        ensures again { IfErr result (λ fault. (earlier : StreamFaultValue) → self.old.status ≡ Status.Failed earlier → fault ≡ earlier) }
+        ensures unfailed { OnOk result (has_failed self.old.status ≡ false) }
         ensures done { OnOk result (self.new.status ≡ Status.Done) }
     {
         if let Status::Failed(fault) = self.status {
@@ -253,12 +176,14 @@ impl<'k, B: ChunkBox, const SEALED: usize> Opener<'k, B, SEALED> {
 
     // Ends, and says how many bytes in front of the buffer are the last text.
     fn close(&mut self) -> Result<usize, StreamFault>
-        ensures stands { (s : Segment) → Stands B.opening self.old s → Stands B.opening self.new (with_end s) }
-        ensures text { (s : Segment) → Stands B.opening self.old s
+        ensures stands { (s : Segment) → Stands B.opening (SEALED - 16) (opener_view self.old) s → Stands B.opening (SEALED - 16) (opener_view self.new) (with_end s) }
+        ensures text { (s : Segment) → Stands B.opening (SEALED - 16) (opener_view self.old) s
             → released (B.opening self.old.key.now) (SEALED - 16) (with_end s)
             ≡ released (B.opening self.old.key.now) (SEALED - 16) s ++ front_bytes result self.new.buffer.items }
         ensures fault { IfErr result (λ fault. self.new.status ≡ Status.Failed fault) }
         ensures done { OnOk result (self.new.status ≡ Status.Done) }
+        ensures again { IfErr result (λ fault. (earlier : StreamFaultValue) → self.old.status ≡ Status.Failed earlier → fault ≡ earlier) }
+        ensures unfailed { OnOk result (has_failed self.old.status ≡ false) }
         ensures key { self.new.key ≡ self.old.key }
         ensures fits { IfOk result (λ len. (len ≤ length self.new.buffer.items) × (len ≤ length (held_bytes self.old))) }
     {
@@ -266,25 +191,6 @@ impl<'k, B: ChunkBox, const SEALED: usize> Opener<'k, B, SEALED> {
             Status::Open => self.end_open(),
             _ => self.end_none(),
         }
-    }
-
-    /// The input ended: what is held is the last chunk. Lends its text.
-    pub fn end(&mut self) -> Result<&[u8], StreamFault>
-        ensures* after { sem 𝓛 (Rests (opener_row B.row SEALED.row B.ChunkBox) self.entry (λ new.
-            (new.key ≡ self.old.key)
-            × ((s : Segment) → Stands B.opening self.old s → Stands B.opening new (with_end s))
-            × IfErr result (λ fault. new.status ≡ Status.Failed fault)
-            × OnOk result (new.status ≡ Status.Done))) }
-        ensures text { (s : Segment) → Stands B.opening self.old s
-            → released (B.opening self.old.key.now) (SEALED - 16) (with_end s)
-            ≡ released (B.opening self.old.key.now) (SEALED - 16) s ++ handed_bytes result }
-        ensures fits { IfOk result (λ text. length text.now ≤ length (held_bytes self.old)) }
-    {
-        let len = match self.close() {
-            Ok(len) => len,
-            Err(fault) => return Err(fault),
-        };
-        Ok(&self.buffer.as_slice()[..len])
     }
 
     // Fails for good.
@@ -302,7 +208,168 @@ impl<'k, B: ChunkBox, const SEALED: usize> Opener<'k, B, SEALED> {
     }
 }
 
-ghost use Rattle.age_stream.specs.Nonce.{nonce_bytes};
+/// Opens a payload that comes in pieces, however they are cut. A whole block
+/// is tried at the nonce of a chunk that isn't the last, and then at that of
+/// the last one; what is left at the end of the input is tried as the last
+/// alone. A text is lent only once its tag was checked.
+///
+/// A contract sees the key, the bytes of the block that is open, the chunk's
+/// number and the status. They are what the outcome of a segment says: of all
+/// bytes since the opener was made, and of the end of the input.
+#[derive(Drop)]
+pub struct Opener<'k, B: ChunkBox, const SEALED: usize> {
+    state: OpenerState<'k, B, SEALED>,
+}
+
+impl<'k, B: ChunkBox, const SEALED: usize> Model for Opener<'k, B, SEALED> {
+    ghost use Rattle.age_stream.specs.Opening.{OpenerView};
+    ghost use Rattle.age_stream.specs.OpenerSteps.{opener_view};
+
+    ghost Value = { OpenerView B };
+
+    ghost view = { λ o. opener_view o.state };
+}
+
+impl<'k, B: ChunkBox, const SEALED: usize> Opener<'k, B, SEALED> {
+    ghost use Rattle.age_stream.specs.Segment.{Segment, outcome, released};
+    ghost use Rattle.age_stream.specs.Deliveries.{with_piece, with_end, fresh};
+    ghost use Rattle.age_stream.specs.Opening.{Stands, given, handed, handed_bytes, chunk_texts, has_failed};
+    ghost use Rattle.age_stream.specs.OpenerRow.{opener_row};
+
+    /// An opener of a whole payload. Takes no memory.
+    pub fn new(key: &'k B) -> Self
+        requires least { 17 ≤ SEALED }
+        requires most { SEALED ≤ 65552 }
+        ensures view { result ≡ record { key = key.now; held = []; index = 0; status = Status.Open } }
+        ensures stands { Stands B.opening (SEALED - 16) result (fresh 0) }
+    {
+        Opener::at(key, 0)
+    }
+
+    /// An opener of a payload from a chunk on, by the chunk's number, which is
+    /// below [`CHUNK_LIMIT`]. Takes no memory.
+    pub fn at(key: &'k B, index: u64) -> Self
+        requires least { 17 ≤ SEALED }
+        requires most { SEALED ≤ 65552 }
+        requires limit { index < 281474976710656 }
+        ensures view { result ≡ record { key = key.now; held = []; index = index; status = Status.Open } }
+        ensures stands { Stands B.opening (SEALED - 16) result (fresh index) }
+    {
+        Opener {
+            state: OpenerState {
+                key,
+                buffer: ArrayVec::new(),
+                lent: false,
+                index,
+                status: Status::Open,
+            },
+        }
+    }
+
+    /// The number of the chunk at which it stands: the one that it started
+    /// at, and one more for each chunk that was opened as not the last.
+    pub fn index(&self) -> u64
+        ensures index { result ≡ self.now.index }
+        ensures limit { result < 281474976710656 }
+    {
+        self.state.index
+    }
+
+    /// Where it stands.
+    pub fn status(&self) -> Status
+        ensures { result ≡ self.now.status }
+    {
+        self.state.status
+    }
+
+    // How many bytes of the open block are held.
+    pub(crate) fn held_len(&self) -> usize
+        ensures len { result ≡ length self.now.held }
+        ensures fits { result ≤ 65552 }
+    {
+        if self.state.lent {
+            0
+        } else {
+            self.state.buffer.len()
+        }
+    }
+
+    // How many bytes a chunk has.
+    pub(crate) fn chunk_len(&self) -> u64
+        ensures len { result ≡ SEALED - 16 }
+        ensures most { result ≤ 65536 }
+        ensures sizes { (17 ≤ SEALED) × (SEALED ≤ 65552) }
+    {
+        let _ = &self.state.lent;
+        (SEALED - 16) as u64
+    }
+
+    /// Takes bytes of the payload, up to the end of the block that is open,
+    /// and lends the text of a block that is full. Takes nothing of an empty
+    /// piece. A full block that opens neither as its chunk nor as the last is
+    /// [`ChunkDamaged`](StreamKind::ChunkDamaged), one that opens as chunk
+    /// number [`CHUNK_LIMIT`] less one and not the last is
+    /// [`TooManyChunks`](StreamKind::TooManyChunks), and bytes behind the last
+    /// chunk are [`Trailing`](StreamKind::Trailing). After a refusal each call
+    /// is refused with the same fault.
+    pub fn feed(&mut self, piece: &[u8]) -> Result<Step<'_>, StreamFault>
+        ensures* after { sem 𝓛 (Rests (opener_row B.row SEALED.row B.ChunkBox) self.entry (λ new.
+            (new.key ≡ self.old.key)
+            × ((s : Segment) → Stands B.opening (SEALED - 16) self.old s → Stands B.opening (SEALED - 16) new (with_piece s (given (λ step. step.taken) result piece.now)))
+            × IfErr result (λ fault. new.status ≡ Status.Failed fault)
+            × IfOk result (λ step. (has_failed new.status ≡ false) × (length new.held + length (lent_text step.chunk) ≤ length self.old.held + step.taken))
+            × (length piece.now ≡ 0 → new ≡ self.old))) }
+        ensures texts { (s : Segment) → Stands B.opening (SEALED - 16) self.old s
+            → (outcome (B.opening self.old.key) (SEALED - 16) (with_piece s (given (λ step. step.taken) result piece.now))).texts
+            ≡ (outcome (B.opening self.old.key) (SEALED - 16) s).texts ++ handed (λ step. chunk_texts step.chunk) result }
+        ensures taken { IfOk result (λ step. step.taken ≡ min (SEALED - length self.old.held) (length piece.now)) }
+        ensures some { IfOk result (λ step. 0 < length piece.now → 0 < step.taken) }
+        ensures nothing { length piece.now ≡ 0 → IfOk result (λ step. chunk_texts step.chunk ≡ []) }
+        ensures again { IfErr result (λ fault. (earlier : StreamFaultValue) → self.old.status ≡ Status.Failed earlier → fault ≡ earlier) }
+        ensures unfailed { OnOk result (has_failed self.old.status ≡ false) }
+    {
+        let (taken, full) = match self.state.advance(piece) {
+            Ok(step) => step,
+            Err(fault) => return Err(fault),
+        };
+        if !full {
+            return Ok(Step { taken, chunk: None });
+        }
+        let text = &self.state.buffer.as_slice()[..SEALED - 16];
+        Ok(Step {
+            taken,
+            chunk: Some(text),
+        })
+    }
+
+    /// The input ended: what is held is tried as the last chunk, and its text
+    /// is lent. Answers no text where the last chunk came before. Nothing held
+    /// is [`Truncated`](StreamKind::Truncated), fewer than 16 bytes are
+    /// [`ChunkCut`](StreamKind::ChunkCut), and 16 behind other chunks are
+    /// [`EmptyLast`](StreamKind::EmptyLast): a writer makes no empty chunk but
+    /// for the empty text. What doesn't open is
+    /// [`ChunkDamaged`](StreamKind::ChunkDamaged). After a refusal each call is
+    /// refused with the same fault.
+    pub fn end(&mut self) -> Result<&[u8], StreamFault>
+        ensures* after { sem 𝓛 (Rests (opener_row B.row SEALED.row B.ChunkBox) self.entry (λ new.
+            (new.key ≡ self.old.key)
+            × ((s : Segment) → Stands B.opening (SEALED - 16) self.old s → Stands B.opening (SEALED - 16) new (with_end s))
+            × IfErr result (λ fault. new.status ≡ Status.Failed fault)
+            × OnOk result (new.status ≡ Status.Done))) }
+        ensures text { (s : Segment) → Stands B.opening (SEALED - 16) self.old s
+            → released (B.opening self.old.key) (SEALED - 16) (with_end s)
+            ≡ released (B.opening self.old.key) (SEALED - 16) s ++ handed_bytes result }
+        ensures fits { IfOk result (λ text. length text.now ≤ length self.old.held) }
+        ensures again { IfErr result (λ fault. (earlier : StreamFaultValue) → self.old.status ≡ Status.Failed earlier → fault ≡ earlier) }
+        ensures unfailed { OnOk result (has_failed self.old.status ≡ false) }
+    {
+        let len = match self.state.close() {
+            Ok(len) => len,
+            Err(fault) => return Err(fault),
+        };
+        Ok(&self.state.buffer.as_slice()[..len])
+    }
+}
 
 // Opens the block in the buffer in place.
 fn open_in<B: ChunkBox, const SEALED: usize>(

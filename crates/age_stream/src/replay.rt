@@ -13,10 +13,11 @@ use crate::nonce::CHUNK_LIMIT;
 use crate::opener::Opener;
 use crate::step::Status;
 use std::alloc::Global;
+use std::marker::Model;
 
-/// Feeds deliveries to an opener, and holds the text that it released.
+/// What a replay keeps.
 #[derive(Drop)]
-pub struct Replay<'k, B: ChunkBox, const SEALED: usize> {
+struct ReplayState<'k, B: ChunkBox, const SEALED: usize> {
     key: &'k B,
     opener: Opener<'k, B, SEALED>,
     text: Vec<u8>,
@@ -24,63 +25,20 @@ pub struct Replay<'k, B: ChunkBox, const SEALED: usize> {
     ghost sizes: { 17 ≤ SEALED },
 }
 
-impl<'k, B: ChunkBox, const SEALED: usize> Replay<'k, B, SEALED> {
-    ghost use Rattle.age_stream.specs.Replaying.{Replays, IsAt, with_bytes};
-    ghost use Rattle.age_stream.specs.Opening.{held_bytes};
+impl<'k, B: ChunkBox, const SEALED: usize> ReplayState<'k, B, SEALED> {
+    ghost use Rattle.age_stream.specs.Replaying.{IsAt, Replays, with_bytes};
+    ghost use Rattle.age_stream.specs.ReplaySteps.{replay_view};
     ghost use Rattle.age_stream.specs.Deliveries.{Standing, after_delivery};
     ghost use Rattle.age_stream.specs.declared.delivery.Delivery.TheVariants.{End, Restart};
-
-    /// A replay that was given nothing yet.
-    pub fn new(alloc: Global, key: &'k B) -> Self
-        requires least { 17 ≤ SEALED }
-        requires most { SEALED ≤ 65552 }
-        ensures key { result.key.now ≡ key.now }
-        ensures nothing { Replays B.opening result [] }
-    {
-        Replay {
-            key,
-            opener: Opener::at(key, 0),
-            text: Vec::new(alloc),
-            refused: 0,
-        }
-    }
-
-    /// The text that is held.
-    pub fn text(&self) -> &[u8]
-        ensures { result.now ≡ self.now.text.items }
-    {
-        self.text.as_slice()
-    }
-
-    /// Where the opener of the current segment stands.
-    pub fn status(&self) -> Status
-        ensures { result ≡ self.now.opener.status }
-    {
-        self.opener.status()
-    }
-
-    /// The number of the chunk at which the current segment stands.
-    pub fn index(&self) -> u64
-        ensures { result ≡ self.now.opener.index }
-    {
-        self.opener.index()
-    }
-
-    /// How many restarts were refused, at most 2^64 - 1.
-    pub fn refused(&self) -> u64
-        ensures { result ≡ self.now.refused }
-    {
-        self.refused
-    }
 
     // Feeds the front of a piece, and says how much was taken, unless the opener refused it.
     fn feed_once(&mut self, piece: &[u8]) -> Option<usize>
         requires some { 0 < length piece.now }
-        requires room { vec_len self.old.text + length (held_bytes self.old.opener) + length piece.now ≤ vec_capacity self.old.text }
+        requires room { vec_len self.old.text + length self.old.opener.held + length piece.now ≤ vec_capacity self.old.text }
         ensures taken { IfSome result (λ t. (0 < t) × (t ≤ length piece.now)
-            × (vec_len self.new.text + length (held_bytes self.new.opener) + length piece.now ≤ vec_capacity self.new.text + t)
-            × ((s : Standing) → IsAt B.opening self.old s → IsAt B.opening self.new (with_bytes s (take t piece.now)))) }
-        ensures refused { IfNone result ((s : Standing) → IsAt B.opening self.old s → IsAt B.opening self.new (with_bytes s piece.now)) }
+            × (vec_len self.new.text + length self.new.opener.held + length piece.now ≤ vec_capacity self.new.text + t)
+            × ((s : Standing) → IsAt B.opening (SEALED - 16) (replay_view self.old) s → IsAt B.opening (SEALED - 16) (replay_view self.new) (with_bytes s (take t piece.now)))) }
+        ensures refused { IfNone result ((s : Standing) → IsAt B.opening (SEALED - 16) (replay_view self.old) s → IsAt B.opening (SEALED - 16) (replay_view self.new) (with_bytes s piece.now)) }
         ensures key { self.new.key ≡ self.old.key }
     {
         match self.opener.feed(piece) {
@@ -95,8 +53,8 @@ impl<'k, B: ChunkBox, const SEALED: usize> Replay<'k, B, SEALED> {
 
     // Feeds a whole piece, for whose text there is room.
     fn feed_all(&mut self, piece: &[u8])
-        requires { vec_len self.old.text + length (held_bytes self.old.opener) + length piece.now ≤ vec_capacity self.old.text }
-        ensures fed { (s : Standing) → IsAt B.opening self.old s → IsAt B.opening self.new (with_bytes s piece.now) }
+        requires { vec_len self.old.text + length self.old.opener.held + length piece.now ≤ vec_capacity self.old.text }
+        ensures fed { (s : Standing) → IsAt B.opening (SEALED - 16) (replay_view self.old) s → IsAt B.opening (SEALED - 16) (replay_view self.new) (with_bytes s piece.now) }
         ensures key { self.new.key ≡ self.old.key }
     {
         let mut at = 0;
@@ -110,8 +68,8 @@ impl<'k, B: ChunkBox, const SEALED: usize> Replay<'k, B, SEALED> {
 
     // Takes a piece. Its text is made room for first.
     fn take_piece(&mut self, piece: &[u8]) -> Result<(), Memory>
-        ensures fed { OnOk result ((s : Standing) → IsAt B.opening self.old s → IsAt B.opening self.new (with_bytes s piece.now)) }
-        ensures err { OnErr result ((s : Standing) → IsAt B.opening self.old s → IsAt B.opening self.new s) }
+        ensures fed { OnOk result ((s : Standing) → IsAt B.opening (SEALED - 16) (replay_view self.old) s → IsAt B.opening (SEALED - 16) (replay_view self.new) (with_bytes s piece.now)) }
+        ensures err { OnErr result (replay_view self.new ≡ replay_view self.old) }
         ensures key { self.new.key ≡ self.old.key }
     {
         let held = self.opener.held_len();
@@ -124,8 +82,8 @@ impl<'k, B: ChunkBox, const SEALED: usize> Replay<'k, B, SEALED> {
 
     // Takes an end. Its text is made room for first.
     fn take_end(&mut self) -> Result<(), Memory>
-        ensures ended { OnOk result ((s : Standing) → IsAt B.opening self.old s → IsAt B.opening self.new (after_delivery (B.opening self.old.key.now) (SEALED - 16) s End)) }
-        ensures err { OnErr result ((s : Standing) → IsAt B.opening self.old s → IsAt B.opening self.new s) }
+        ensures ended { OnOk result ((s : Standing) → IsAt B.opening (SEALED - 16) (replay_view self.old) s → IsAt B.opening (SEALED - 16) (replay_view self.new) (after_delivery (B.opening self.old.key.now) (SEALED - 16) s End)) }
+        ensures err { OnErr result (replay_view self.new ≡ replay_view self.old) }
         ensures key { self.new.key ≡ self.old.key }
     {
         let held = self.opener.held_len();
@@ -149,7 +107,7 @@ impl<'k, B: ChunkBox, const SEALED: usize> Replay<'k, B, SEALED> {
 
     // Starts again at a chunk, where the text reaches it.
     fn restart(&mut self, k: u64)
-        ensures restarted { (s : Standing) → IsAt B.opening self.old s → IsAt B.opening self.new (after_delivery (B.opening self.old.key.now) (SEALED - 16) s (Restart k)) }
+        ensures restarted { (s : Standing) → IsAt B.opening (SEALED - 16) (replay_view self.old) s → IsAt B.opening (SEALED - 16) (replay_view self.new) (after_delivery (B.opening self.old.key.now) (SEALED - 16) s (Restart k)) }
         ensures key { self.new.key ≡ self.old.key }
     {
         if self.reaches(k) {
@@ -162,8 +120,8 @@ impl<'k, B: ChunkBox, const SEALED: usize> Replay<'k, B, SEALED> {
 
     // One delivery, for what it was given before.
     fn deliver(&mut self, delivery: &Delivery<'_>) -> Result<(), Memory>
-        ensures stands { OnOk result ((s : Standing) → IsAt B.opening self.old s → IsAt B.opening self.new (after_delivery (B.opening self.old.key.now) (SEALED - 16) s delivery.now)) }
-        ensures err { OnErr result ((s : Standing) → IsAt B.opening self.old s → IsAt B.opening self.new s) }
+        ensures stands { OnOk result ((s : Standing) → IsAt B.opening (SEALED - 16) (replay_view self.old) s → IsAt B.opening (SEALED - 16) (replay_view self.new) (after_delivery (B.opening self.old.key.now) (SEALED - 16) s delivery.now)) }
+        ensures err { OnErr result (replay_view self.new ≡ replay_view self.old) }
         ensures key { self.new.key ≡ self.old.key }
     {
         match delivery {
@@ -176,18 +134,102 @@ impl<'k, B: ChunkBox, const SEALED: usize> Replay<'k, B, SEALED> {
         }
     }
 
-    /// Takes a delivery. Where memory is refused nothing changes.
+    // The same, for each list of deliveries that it was given.
+    fn take(&mut self, delivery: &Delivery<'_>) -> Result<(), Memory>
+        ensures held { OnOk result ((deliveries : List DeliveryValue) → Replays B.opening (SEALED - 16) (replay_view self.old) deliveries → Replays B.opening (SEALED - 16) (replay_view self.new) (deliveries ++ delivery.now ∷ [])) }
+        ensures err { OnErr result (replay_view self.new ≡ replay_view self.old) }
+        ensures written { OnOk result ((deliveries : List DeliveryValue) (text : List ℕ) → Replays B.opening (SEALED - 16) (replay_view self.old) deliveries → chunk_count (SEALED - 16) text ≤ 281474976710656
+            → AreAuthentic (B.sealing self.old.key.now) (B.opening self.old.key.now) (SEALED - 16) text (deliveries ++ delivery.now ∷ [])
+            → IsPrefixOf self.new.text.items text × (self.new.opener.status ≡ Status.Done → self.new.text.items ≡ text)) }
+        ensures key { self.new.key ≡ self.old.key }
+    {
+        self.deliver(delivery)
+    }
+}
+
+/// Feeds deliveries to an opener, and holds the text that it released. A
+/// restart cuts the text to the chunks before it and makes a new opener.
+///
+/// A contract sees the key, the opener of the current segment, the text that
+/// is held and the number of restarts that were refused.
+#[derive(Drop)]
+pub struct Replay<'k, B: ChunkBox, const SEALED: usize> {
+    state: ReplayState<'k, B, SEALED>,
+}
+
+impl<'k, B: ChunkBox, const SEALED: usize> Model for Replay<'k, B, SEALED> {
+    ghost use Rattle.age_stream.specs.Replaying.{ReplayView};
+    ghost use Rattle.age_stream.specs.ReplaySteps.{replay_view};
+
+    ghost Value = { ReplayView B };
+
+    ghost view = { λ r. replay_view r.state };
+}
+
+impl<'k, B: ChunkBox, const SEALED: usize> Replay<'k, B, SEALED> {
+    ghost use Rattle.age_stream.specs.Replaying.{Replays};
+
+    /// A replay that was given nothing yet. Takes no memory.
+    pub fn new(alloc: Global, key: &'k B) -> Self
+        requires least { 17 ≤ SEALED }
+        requires most { SEALED ≤ 65552 }
+        ensures key { result.key ≡ key.now }
+        ensures nothing { Replays B.opening (SEALED - 16) result [] }
+    {
+        Replay {
+            state: ReplayState {
+                key,
+                opener: Opener::new(key),
+                text: Vec::new(alloc),
+                refused: 0,
+            },
+        }
+    }
+
+    /// The text that is held.
+    pub fn text(&self) -> &[u8]
+        ensures { result.now ≡ self.now.text }
+    {
+        self.state.text.as_slice()
+    }
+
+    /// Where the opener of the current segment stands.
+    pub fn status(&self) -> Status
+        ensures { result ≡ self.now.opener.status }
+    {
+        self.state.opener.status()
+    }
+
+    /// The number of the chunk at which the current segment stands.
+    pub fn index(&self) -> u64
+        ensures { result ≡ self.now.opener.index }
+    {
+        self.state.opener.index()
+    }
+
+    /// How many restarts were refused, at most 2^64 - 1.
+    pub fn refused(&self) -> u64
+        ensures { result ≡ self.now.refused }
+    {
+        self.state.refused
+    }
+
+    /// Takes a delivery: all bytes of a piece unless a fault comes, which then
+    /// is the status; an end; or a restart at chunk k, which is refused where
+    /// k is [`CHUNK_LIMIT`] or more or fewer than k chunks are held. Where
+    /// memory is refused nothing changes.
     pub fn take(&mut self, delivery: &Delivery<'_>) -> Result<(), Memory>
-        ensures held { OnOk result ((deliveries : List DeliveryValue) → Replays B.opening self.old deliveries → Replays B.opening self.new (deliveries ++ delivery.now ∷ [])) }
-        ensures err { OnErr result ((deliveries : List DeliveryValue) → Replays B.opening self.old deliveries → Replays B.opening self.new deliveries) }
+        ensures held { OnOk result ((deliveries : List DeliveryValue) → Replays B.opening (SEALED - 16) self.old deliveries → Replays B.opening (SEALED - 16) self.new (deliveries ++ delivery.now ∷ [])) }
+        ensures err { OnErr result (self.new ≡ self.old) }
 
         // While no block opens except as the writer of a text sealed it, what is held is the beginning of that text,
         // and the end is reported only with all of it.
-        ensures written { OnOk result ((deliveries : List DeliveryValue) (text : List ℕ) → Replays B.opening self.old deliveries → chunk_count (SEALED - 16) text ≤ 281474976710656
-            → AreAuthentic (B.sealing self.old.key.now) (B.opening self.old.key.now) (SEALED - 16) text (deliveries ++ delivery.now ∷ [])
-            → IsPrefixOf self.new.text.items text × (self.new.opener.status ≡ Status.Done → self.new.text.items ≡ text)) }
+        ensures written { OnOk result ((deliveries : List DeliveryValue) (text : List ℕ) → Replays B.opening (SEALED - 16) self.old deliveries → chunk_count (SEALED - 16) text ≤ 281474976710656
+            → AreAuthentic (B.sealing self.old.key) (B.opening self.old.key) (SEALED - 16) text (deliveries ++ delivery.now ∷ [])
+            → IsPrefixOf self.new.text text × (self.new.opener.status ≡ Status.Done → self.new.text ≡ text)) }
+        ensures key { self.new.key ≡ self.old.key }
     {
-        self.deliver(delivery)
+        self.state.take(delivery)
     }
 }
 

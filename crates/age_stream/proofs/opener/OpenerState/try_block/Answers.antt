@@ -2,7 +2,7 @@ use Rattle.std.proofs.Common.{◌≡◌, ℕ, ◌-◌, refl, ap, sym, ◌∙◌,
 use Rattle.age_stream.specs.Nonce.{nonce_bytes}
 use Rattle.age_stream.specs.Segment.{Outcome, one_block}
 use Rattle.age_stream.proofs.Blocks.{one_block-last, one_block-neither}
-use Rattle.age_stream.proofs.opener.Opener.try_block.Goals as goal
+use Rattle.age_stream.proofs.opener.OpenerState.try_block.Goals as goal
 
 pub returns-then-open_in-2 : goal.returns-then-open_in-2
 returns-then-open_in-2 g c =

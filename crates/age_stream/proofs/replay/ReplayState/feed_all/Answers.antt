@@ -1,9 +1,10 @@
 use Rattle.std.proofs.Common.{◌≡◌, ◌-◌, ◌+◌, ◌≤◌, ◌<◌, refl, ap, sym, subst, ◌∙◌, arith, length, take, drop, List, ℕ, [], ◌++◌, take-add, take-append-drop}
 use Rattle.std.proofs.lemmas.List.{take_rest, length-take, length-drop}
+use Rattle.age_stream.specs.ReplaySteps.{replay_view}
 use Rattle.age_stream.specs.Deliveries.{Standing}
 use Rattle.age_stream.specs.Replaying.{IsAt, with_bytes}
 use Rattle.age_stream.proofs.ReplaySteps.{with_bytes-append}
-use Rattle.age_stream.proofs.replay.Replay.feed_all.Goals as goal
+use Rattle.age_stream.proofs.replay.ReplayState.feed_all.Goals as goal
 
 pub loop-at-preserved : goal.loop-at-preserved
 loop-at-preserved g c =
@@ -20,7 +21,7 @@ loop-at-preserved g c =
       room = omega (arith, r.2, left, left2, c.loop-at.invariant.within);
       key = c.feed_once.ensures.key ∙ c.loop-at.invariant.key;
       fed = λ s h.
-          subst (IsAt g.B.ChunkBox.opening c.feed_once.new.self) (with_bytes-append s (take at piece) (take taken (take (length piece - at) (drop at piece))) ∙ ap (with_bytes s) on)
+          subst (IsAt g.B.ChunkBox.opening (g.row.SEALED - 16) (replay_view c.feed_once.new.self)) (with_bytes-append s (take at piece) (take taken (take (length piece - at) (drop at piece))) ∙ ap (with_bytes s) on)
           (r.3 (with_bytes s (take at piece)) (c.loop-at.invariant.fed s h));
     }
 
@@ -29,5 +30,5 @@ returns-in-None-clause-fed g c = λ s h.
     let piece = c.args.piece.now in
     let at = c.loop-at.at in
     let all : take at piece ++ take (length piece - at) (drop at piece) ≡ piece = ap (λ (ys : List ℕ). take at piece ++ ys) (take_rest piece at) ∙ take-append-drop at piece in
-    subst (IsAt g.B.ChunkBox.opening c.feed_once.new.self) (with_bytes-append s (take at piece) (take (length piece - at) (drop at piece)) ∙ ap (with_bytes s) all)
+    subst (IsAt g.B.ChunkBox.opening (g.row.SEALED - 16) (replay_view c.feed_once.new.self)) (with_bytes-append s (take at piece) (take (length piece - at) (drop at piece)) ∙ ap (with_bytes s) all)
     (c.in-None.ensures.refused (with_bytes s (take at piece)) (c.loop-at.invariant.fed s h))
