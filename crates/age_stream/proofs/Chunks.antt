@@ -1,12 +1,12 @@
 -- Facts about the chunks of a text.
-use Rattle.std.proofs.Common.{inl, inr, ◌≡◌, ℕ, zero, suc, ◌<◌, ◌≤◌, ◌+◌, ◌*◌, ◌-◌, ◌/◌, ◌^◌, refl, ap, sym, ◌∙◌, List, [], ◌∷◌, ◌++◌, length, take, drop, get_or, Bool, true, false, arith, rules}
+use Rattle.std.proofs.Common.{inl, inr, ◌≡◌, ℕ, zero, suc, ◌<◌, ◌≤◌, ◌+◌, ◌*◌, ◌-◌, ◌/◌, refl, ap, ◌∙◌, List, [], ◌∷◌, ◌++◌, length, take, drop, get_or, arith}
 use Rattle.std.specs.Simd.{first_chunks}
-use Rattle.std.specs.Prelude.{slice_get, Option, Some, None}
+use Rattle.std.specs.Prelude.{slice_get, Some, None}
 use Rattle.std.proofs.lemmas.List.{drop-drop, length-drop, drop-append-le, take-append-le}
 use Rattle.std.specs.List.{enumerate_from}
 use Rattle.std.proofs.lemmas.Bool.{cases_lt}
-use Rattle.std.proofs.Math.Nat.{le-div_iff_mul-le, div-mul-le_self}
-use Rattle.age_stream.specs.Payload.{last_index, last_chunk, chunk_count, chunks}
+use Rattle.std.proofs.Math.Nat.{le-div_iff_mul-le}
+use Rattle.age_stream.specs.Payload.{last_index, last_chunk}
 
 pub length-first_chunks : (n c : ℕ) (xs : List ℕ) → length (first_chunks n c xs) ≡ c
 length-first_chunks n zero xs = refl

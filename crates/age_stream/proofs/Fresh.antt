@@ -1,10 +1,10 @@
 -- A segment of no bytes.
-use Rattle.std.proofs.Common.{◌≡◌, ℕ, ◌<◌, ◌+◌, ◌*◌, ◌-◌, ◌/◌, refl, ap, sym, ◌∙◌, List, [], length, drop, false, arith}
+use Rattle.std.proofs.Common.{◌≡◌, ℕ, ◌<◌, ◌+◌, ◌*◌, ◌/◌, ap, ◌∙◌, List, [], length, drop, false, arith}
 use Rattle.std.specs.Simd.{first_chunks}
 use Rattle.std.specs.Prelude.{Option}
 use Rattle.std.proofs.lemmas.Nat.{div-mul-add}
 use Rattle.std.proofs.Math.Seq.{drop-nil}
-use Rattle.age_stream.specs.Segment.{Segment, Outcome, outcome, outcome_of, whole_blocks, rest_bytes}
+use Rattle.age_stream.specs.Segment.{outcome, outcome_of, rest_bytes}
 use Rattle.age_stream.specs.Deliveries.{fresh}
 use Rattle.age_stream.specs.declared.step.Status.TheVariants.{Open}
 

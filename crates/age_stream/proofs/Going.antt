@@ -1,19 +1,18 @@
 -- How an outcome goes on when more bytes come.
 use Rattle.std.proofs.Common.{inl, inr, ◌≡◌, ℕ, zero, suc, ◌<◌, ◌≤◌, ◌+◌, ◌*◌, ◌-◌, ◌/◌, refl, ap, sym, subst, ◌∙◌, List, [], ◌∷◌, ◌++◌, length, take, drop, get_or, Bool, true, false, arith}
 use Rattle.std.specs.Prelude.{Option, Some, None, cond, nat_lt, ◌||◌, ◌==◌, slice_get, ◌⊎◌}
-use Rattle.std.specs.List.{flat_map}
 use Rattle.std.specs.Simd.{first_chunks}
-use Rattle.std.proofs.lemmas.List.{length-append, length-drop, drop-append-le, drop-drop, drop_all, take_all, append-nil, append_assoc}
+use Rattle.std.proofs.lemmas.List.{length-append, length-drop, drop-append-le, drop-drop, drop_all, take_all, append-nil}
 use Rattle.std.proofs.lemmas.Bool.{cases_lt, lt-ltb, le-ltb}
-use Rattle.std.proofs.lemmas.Nat.{div-mul-add, div-add-mod'}
+use Rattle.std.proofs.lemmas.Nat.{div-mul-add}
 use Rattle.std.proofs.Math.Nat.{div-mul-le_self, le-div_iff_mul-le}
 use Rattle.age_stream.specs.Nonce.{nonce_bytes}
-use Rattle.age_stream.specs.Segment.{Segment, Outcome, outcome, outcome_of, stop, at_block, at_rest, after_last, after_front, one_block, front_texts, text_then, text_before_last, unless_greatest, whole_blocks, rest_bytes, failed, status_after, status_ended}
+use Rattle.age_stream.specs.Segment.{Segment, Outcome, outcome, outcome_of, stop, at_block, at_rest, after_last, after_front, one_block, front_texts, text_then, text_before_last, whole_blocks, rest_bytes, failed, status_after, status_ended}
 use Rattle.std.proofs.Math.Bool.{or-true, or-false}
 use Rattle.age_stream.specs.Deliveries.{with_piece, with_end}
 use Rattle.age_stream.specs.declared.step.Status.{Status}
-use Rattle.age_stream.specs.declared.step.Status.TheVariants.{Open, LastSeen, Done, Failed}
-use Rattle.age_stream.specs.declared.fault.StreamKind.TheVariants.{ChunkDamaged, ChunkCut, EmptyLast, Truncated, Trailing, TooManyChunks}
+use Rattle.age_stream.specs.declared.step.Status.TheVariants.{Open}
+use Rattle.age_stream.specs.declared.fault.StreamKind.TheVariants.{ChunkDamaged, ChunkCut, EmptyLast, Truncated, TooManyChunks}
 use Rattle.age_stream.proofs.Chunks.{length-first_chunks, first_chunks_more, first_chunks-append, slice_get-within, slice_get-past}
 use Rattle.age_stream.proofs.Segments.{by_test}
 

@@ -1,17 +1,17 @@
 -- A step of an opener, for each segment that it was given.
-use Rattle.std.proofs.Common.{inl, inr, ◌≡◌, ℕ, zero, suc, ◌<◌, ◌≤◌, ◌+◌, ◌*◌, ◌-◌, refl, ap, sym, subst, ◌∙◌, List, [], ◌∷◌, ◌++◌, length, take, drop, Bool, true, false, arith}
-use Rattle.std.specs.Prelude.{Option, Some, None, Result, Ok, Err, MatchResult, nat_lt, cond, ◌||◌, if◌then◌else◌}
-use Rattle.std.proofs.lemmas.List.{append-nil, append_assoc, length-take, length-drop, take-append-drop, nil_from_length, take_all}
-use Rattle.std.proofs.lemmas.Bool.{lt-ltb, le-ltb, cases_lt}
-use Rattle.age_stream.specs.Segment.{Segment, Outcome, outcome, one_block, rest_bytes, status_after, status_ended, failed}
-use Rattle.age_stream.specs.Deliveries.{with_piece, with_end}
+use Rattle.std.proofs.Common.{inl, inr, ◌≡◌, ℕ, ◌<◌, ◌≤◌, ◌+◌, ◌-◌, refl, ap, sym, subst, ◌∙◌, List, [], ◌∷◌, ◌++◌, length, take, drop, Bool, true, false, arith}
+use Rattle.std.specs.Prelude.{Option, Result, Ok, Err, MatchResult, nat_lt, cond, ◌||◌, if◌then◌else◌}
+use Rattle.std.proofs.lemmas.List.{append-nil, append_assoc, length-take, take-append-drop, take_all}
+use Rattle.std.proofs.lemmas.Bool.{cases_lt}
+use Rattle.age_stream.specs.Segment.{Segment, Outcome, outcome, one_block, rest_bytes, status_after}
+use Rattle.age_stream.specs.Deliveries.{with_piece}
 use Rattle.age_stream.specs.declared.opener.OpenerState.{OpenerState}
 use Rattle.age_stream.specs.declared.fault.StreamFault.{StreamFault}
 use Rattle.age_stream.specs.declared.step.Status.{Status}
 use Rattle.age_stream.specs.declared.step.Status.TheVariants.{Open, LastSeen, Done, Failed}
 use Rattle.age_stream.specs.Opening.{Stands, given, handed}
 use Rattle.age_stream.specs.OpenerSteps.{held_bytes, opener_view, TakesPart, TakesWhole, TakesNone}
-use Rattle.age_stream.proofs.Going.{going, going_part, going_whole, after_piece, rest_short, unended_piece, IsGoing, IsWhole}
+use Rattle.age_stream.proofs.Going.{going, going_part, going_whole, after_piece, unended_piece, IsGoing, IsWhole}
 
 piece_timely : (s : Segment) (ended : Bool) (p : List ℕ) → s.ended ≡ ended → (s.ended ≡ false → s.late ≡ false) → (with_piece s p).ended ≡ false → (with_piece s p).late ≡ false
 piece_timely s false p is t h = ap (λ (x : Segment). x.late) (unended_piece s p is) ∙ t is

@@ -1,15 +1,15 @@
 -- A step of a replay.
-use Rattle.std.proofs.Common.{◌≡◌, ℕ, ◌<◌, ◌≤◌, ◌+◌, ◌*◌, ◌-◌, refl, ap, sym, subst, ◌∙◌, List, [], ◌∷◌, ◌++◌, length, take, drop, Bool, true, false, arith}
+use Rattle.std.proofs.Common.{◌≡◌, ℕ, ◌<◌, ◌≤◌, ◌+◌, ◌*◌, refl, ap, sym, subst, ◌∙◌, List, [], ◌∷◌, ◌++◌, length, take, Bool, true, false, arith}
 use Rattle.std.specs.Prelude.{Option, Some, None, cond, min, nat_lt, nat_le, ◌&&◌, ◌||◌}
 use Rattle.std.specs.List.{flat_map}
 use Rattle.std.specs.Borrow.{Bor}
 use Rattle.std.proofs.lemmas.Grind.{flat_map-append}
-use Rattle.std.proofs.lemmas.List.{append-nil, append_assoc, length-append}
+use Rattle.std.proofs.lemmas.List.{append-nil, append_assoc}
 use Rattle.std.proofs.lemmas.Bool.{lt-ltb}
-use Rattle.std.proofs.Math.Bool.{or-true, or-false}
+use Rattle.std.proofs.Math.Bool.{or-false}
 use Rattle.age_stream.specs.Segment.{Segment, Outcome, outcome, released}
-use Rattle.age_stream.specs.Deliveries.{Standing, with_piece, with_end, text_held, accepts, after_delivery, fresh, standing, standing_from, begin}
-use Rattle.age_stream.specs.declared.delivery.Delivery.TheVariants.{Piece, End, Restart}
+use Rattle.age_stream.specs.Deliveries.{Standing, with_piece, with_end, text_held, accepts, after_delivery, fresh, standing}
+use Rattle.age_stream.specs.declared.delivery.Delivery.TheVariants.{End, Restart}
 use Rattle.age_stream.proofs.Fresh.{fresh_outcome}
 use Rattle.age_stream.specs.Opening.{Stands, chunk_texts}
 use Rattle.age_stream.specs.Lent.{lent_text}
@@ -65,6 +65,9 @@ joined : (start : ℕ) (bytes : List ℕ) (ended late : Bool) (p r : List ℕ)
 joined start bytes true late p r =
     ap (λ (l : Bool). record { start = start; bytes = bytes; ended = true; late = l }) (or_assoc late (nat_lt 0 (length p)) (nat_lt 0 (length r)) ∙ ap (λ (f : Bool). late || f) (some_append p r))
 joined start bytes false late p r = ap (λ (b : List ℕ). record { start = start; bytes = b; ended = false; late = late }) (append_assoc bytes p r)
+
+pub pieces_join : (s : Segment) (p r : List ℕ) → with_piece (with_piece s p) r ≡ with_piece s (p ++ r)
+pieces_join s p r = joined s.start s.bytes s.ended s.late p r
 
 pub with_bytes-append : (s : Standing) (p r : List ℕ) → with_bytes (with_bytes s p) r ≡ with_bytes s (p ++ r)
 with_bytes-append s p r =

@@ -8,8 +8,8 @@ use Rattle.age_stream.specs.declared.step.Status.{Status}
 use Rattle.age_stream.specs.declared.delivery.Delivery.{Delivery}
 use Rattle.age_stream.specs.declared.delivery.Delivery.TheVariants.{Piece, End, Restart}
 use Rattle.age_stream.specs.Payload.{payload}
-use Rattle.age_stream.specs.Segment.{Segment, Outcome, outcome, failed}
-use Rattle.age_stream.specs.declared.step.Status.TheVariants.{Open, LastSeen, Done, Failed}
+use Rattle.age_stream.specs.Segment.{Outcome, outcome, failed}
+use Rattle.age_stream.specs.declared.step.Status.TheVariants.{Open, LastSeen, Done}
 use Rattle.age_stream.specs.declared.fault.StreamKind.TheVariants.{ChunkDamaged, ChunkCut, EmptyLast, Truncated, Trailing, TooManyChunks}
 
 abbrev first : List ℕ

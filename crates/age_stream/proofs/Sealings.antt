@@ -1,13 +1,15 @@
 -- A step of a sealer, for each text that it was given.
-use Rattle.std.proofs.Common.{inl, inr, ◌≡◌, ℕ, zero, suc, ◌<◌, ◌≤◌, ◌+◌, ◌*◌, ◌-◌, ◌/◌, ◌^◌, refl, ap, sym, subst, ◌∙◌, List, [], ◌∷◌, ◌++◌, length, take, drop, get_or, Bool, true, false, arith}
-use Rattle.std.specs.Prelude.{Option, Some, None, map}
-use Rattle.std.specs.List.{flat_map, enumerate_from}
+use Rattle.std.proofs.Common.{inl, inr, ◌≡◌, ℕ, suc, ◌<◌, ◌≤◌, ◌+◌, ◌*◌, ◌-◌, ◌/◌, ap, sym, ◌∙◌, List, [], ◌∷◌, ◌++◌, length, take, drop, false, arith}
+use Rattle.std.specs.Prelude.{map, ◌⊎◌}
+use Rattle.std.specs.List.{enumerate_from}
 use Rattle.std.specs.Simd.{first_chunks}
-use Rattle.std.proofs.lemmas.List.{length-append, length-drop, length-take, drop-append-le, take-append-le, append-nil, append_assoc, map-append, drop_at, take_all}
+use Rattle.std.proofs.lemmas.List.{length-append, length-drop, drop-append-le, take-append-le, append-nil, append_assoc, map-append, drop_at, take_all}
+use Rattle.std.proofs.lemmas.Grind.{flat_map-append}
+use Rattle.std.proofs.lemmas.Bool.{cases_lt}
 use Rattle.std.proofs.lemmas.Nat.{div-mul-add}
 use Rattle.std.proofs.Math.Nat.{div-mul-le_self}
 use Rattle.age_stream.specs.Payload.{last_index, last_chunk, sealed_before_last, block_bytes, pair}
-use Rattle.age_stream.proofs.Chunks.{text_le, last_chunk_le, first_chunks_more, first_chunks-append, enumerate_from_more, length-first_chunks}
+use Rattle.age_stream.proofs.Chunks.{last_chunk_le, first_chunks_more, first_chunks-append, enumerate_from_more, length-first_chunks}
 
 -- the last index, by its bounds
 pub last_index_is : (m : ℕ) (text : List ℕ) (i : ℕ) → i * m ≤ length text - 1 → length text - 1 < (i + 1) * m → last_index m text ≡ i
@@ -82,3 +84,32 @@ module _ (m : ℕ) (positive : 0 < m) (text : List ℕ) (x : ℕ) (full : length
       ∙ (ap (map (pair sealing false)) (enumerate_from_more 0 (first_chunks m i text) (last_chunk m text)
       ∙ ap (λ (k : ℕ). enumerate_from 0 (first_chunks m i text) ++ (k, last_chunk m text) ∷ []) len)
       ∙ map-append (pair sealing false) (enumerate_from 0 (first_chunks m i text)) ((i, last_chunk m text) ∷ []))
+
+-- one byte more leaves the blocks before the last as they are, or adds one
+module _ (m : ℕ) (positive : 0 < m) (sealing : List ℕ → List ℕ → List ℕ) where
+  abbrev Begins : List ℕ → List ℕ → Type 0
+  Begins text more = (rest : List (List ℕ × List ℕ)) × (sealed_before_last sealing m (text ++ more) ≡ sealed_before_last sealing m text ++ rest)
+
+  one_more : (text : List ℕ) (x : ℕ) → Begins text (x ∷ [])
+  one_more text x = by_room (cases_lt (length (last_chunk m text)) m) where
+    by_room : (length (last_chunk m text) < m) ⊎ (m ≤ length (last_chunk m text)) → Begins text (x ∷ [])
+    by_room (inl l) = ([], grown_blocks m positive text (x ∷ []) (omega (arith, l)) sealing ∙ sym (append-nil (sealed_before_last sealing m text)))
+    by_room (inr r) = (
+      pair sealing false (last_index m text, last_chunk m text) ∷ [],
+      closed_blocks m positive text x (omega (arith, r, last_chunk_le m text positive)) sealing,
+    )
+
+  pub sealed_begins : (more text : List ℕ) → Begins text more
+  sealed_begins [] text = ([], ap (sealed_before_last sealing m) (append-nil text) ∙ sym (append-nil (sealed_before_last sealing m text)))
+  sealed_begins (x ∷ xs) text =
+      let a = one_more text x in
+      let b = sealed_begins xs (text ++ x ∷ []) in (
+        a.0 ++ b.0,
+        ap (sealed_before_last sealing m) (sym (append_assoc text (x ∷ []) xs))
+            ∙ (b.1 ∙ (ap (λ (ps : List (List ℕ × List ℕ)). ps ++ b.0) a.1 ∙ append_assoc (sealed_before_last sealing m text) a.0 b.0)),
+      )
+
+  pub payload_begins : (text more : List ℕ) → (rest : List ℕ) × (block_bytes (sealed_before_last sealing m text) ++ rest ≡ block_bytes (sealed_before_last sealing m (text ++ more)))
+  payload_begins text more =
+      let b = sealed_begins more text in
+      (block_bytes b.0, sym (ap block_bytes b.1 ∙ flat_map-append (λ (p : List ℕ × List ℕ). p.1) (sealed_before_last sealing m text) b.0))

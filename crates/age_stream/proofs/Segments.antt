@@ -1,9 +1,9 @@
 -- What a segment releases, where what opens is the writer's.
-use Rattle.std.proofs.Common.{take-add, inl, inr, ◌≡◌, ℕ, zero, suc, ◌<◌, ◌≤◌, ◌+◌, ◌*◌, ◌-◌, ◌/◌, ◌^◌, refl, ap, sym, subst, ◌∙◌, List, [], ◌∷◌, ◌++◌, length, take, drop, get_or, Bool, true, false, arith, rules}
-use Rattle.std.specs.Prelude.{Option, Some, None, IsSome, Contains, ◌==◌, map, nat_lt, cond, ◌||◌, ◌⊎◌, slice_get}
+use Rattle.std.proofs.Common.{take-add, inl, inr, ◌≡◌, ℕ, suc, ◌<◌, ◌≤◌, ◌+◌, ◌*◌, ◌-◌, ◌/◌, ◌^◌, refl, ap, sym, subst, ◌∙◌, List, [], ◌∷◌, ◌++◌, length, take, drop, get_or, Bool, true, false, arith, rules}
+use Rattle.std.specs.Prelude.{Option, Some, None, IsSome, Contains, ◌==◌, nat_lt, cond, ◌||◌, slice_get}
 use Rattle.std.specs.List.{enumerate_from, flat_map}
 use Rattle.std.specs.Simd.{first_chunks}
-use Rattle.std.proofs.lemmas.List.{get_or-map, length-map, append_assoc, append-nil, take_all, drop_more, drop_all, take-append-drop, get_or_append_left, length_push, get_or_push, length-drop, flat_map_more}
+use Rattle.std.proofs.lemmas.List.{get_or-map, length-map, append_assoc, append-nil, take_all, take-append-drop, get_or_append_left, length_push, get_or_push, flat_map_more}
 use Rattle.std.proofs.lemmas.Bool.{ltb-true, cases_lt, eq-eqb, ne_eqb}
 use Rattle.std.proofs.lemmas.Bool.Decides.{nat_tests}
 use Rattle.std.proofs.Math.Nat.{le-div_iff_mul-le}
@@ -13,8 +13,8 @@ use Rattle.age_stream.specs.Nonce.{nonce_bytes}
 use Rattle.age_stream.specs.Payload.{chunk_count, last_index, last_chunk, pair, sealed_before_last, sealed}
 use Rattle.age_stream.specs.Segment.{Segment, Outcome, outcome, text_before_last, unless_greatest, text_then, front_texts, after_last, at_block, at_rest, stop, whole_blocks, rest_bytes, failed}
 use Rattle.age_stream.specs.declared.step.Status.{Status}
-use Rattle.age_stream.specs.declared.step.Status.TheVariants.{Open, LastSeen, Done, Failed}
-use Rattle.age_stream.specs.declared.fault.StreamKind.TheVariants.{ChunkDamaged, ChunkCut, EmptyLast, Truncated, Trailing, TooManyChunks}
+use Rattle.age_stream.specs.declared.step.Status.TheVariants.{Open, Done}
+use Rattle.age_stream.specs.declared.fault.StreamKind.TheVariants.{ChunkDamaged, ChunkCut, EmptyLast, Truncated, TooManyChunks}
 use Rattle.age_stream.specs.Headline.{IsWriters, IsAuthentic, IsPrefixOf}
 use Rattle.age_stream.proofs.Nonces.{nonce_bytes-length, nonce_bytes-number, nonce_bytes-flag}
 use Rattle.age_stream.proofs.Chunks.{length-first_chunks, get_or-first_chunks, last_chunk_le, slice_get-within, slice_get-past}

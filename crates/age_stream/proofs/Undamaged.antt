@@ -1,24 +1,21 @@
 -- The writer's own payload, from any chunk on, opens to the end.
-use Rattle.std.proofs.Common.{inl, inr, ◌≡◌, ℕ, zero, suc, ◌<◌, ◌≤◌, ◌+◌, ◌*◌, ◌-◌, ◌/◌, refl, ap, sym, subst, ◌∙◌, List, [], ◌∷◌, ◌++◌, length, take, drop, get_or, Bool, true, false, arith}
-use Rattle.std.specs.Prelude.{Option, Some, None, cond, nat_lt, ◌||◌, ◌==◌, slice_get, ◌⊎◌, map, IsSome}
-use Rattle.std.specs.List.{flat_map, enumerate_from, AllByRecursion}
+use Rattle.std.proofs.Common.{inl, inr, ◌≡◌, ℕ, zero, suc, ◌<◌, ◌≤◌, ◌+◌, ◌*◌, ◌/◌, refl, ap, sym, subst, ◌∙◌, List, [], ◌∷◌, ◌++◌, length, take, drop, get_or, Bool, true, false, arith}
+use Rattle.std.specs.Prelude.{Option, Some, None, cond, nat_lt, ◌||◌, ◌==◌, slice_get, map}
+use Rattle.std.specs.List.{enumerate_from, AllByRecursion}
 use Rattle.std.specs.Simd.{first_chunks}
-use Rattle.std.proofs.Common.{rules}
 use Rattle.std.proofs.lemmas.Grind.{flat_map-append}
-use Rattle.std.proofs.lemmas.List.{length-append, length-drop, length-take, drop-append-le, take-append-le, append-nil, append_assoc, get_or_at, drop_all, take_at, drop_at, drop-drop, take_all}
+use Rattle.std.proofs.lemmas.List.{length-append, length-drop, length-take, append-nil, append_assoc, get_or_at, drop_all, take_at, drop_at, drop-drop, take_all}
 use Rattle.std.proofs.lemmas.Bool.{cases_lt, lt-ltb, le-ltb, eq-eqb, eqb-true, ltb-true}
 use Rattle.std.proofs.lemmas.Nat.{div-mul-add, mul-le}
-use Rattle.std.proofs.lemmas.Bool.Decides.{nat_tests}
-use Rattle.std.proofs.Math.Nat.{add-mul-div_left, div-mul-le_self}
+use Rattle.std.proofs.Math.Nat.{add-mul-div_left}
 use Rattle.age_stream.specs.Lawful.{IsLawful}
 use Rattle.age_stream.specs.Nonce.{nonce_bytes}
-use Rattle.age_stream.specs.Payload.{last_index, last_chunk, chunk_count, pair, sealed_before_last, sealed, block_bytes, payload}
-use Rattle.age_stream.specs.Segment.{Segment, Outcome, outcome, outcome_of, stop, at_block, at_rest, after_last, front_texts, text_then, text_before_last, unless_greatest, whole_blocks, rest_bytes, failed}
+use Rattle.age_stream.specs.Payload.{last_index, last_chunk, chunk_count, pair, sealed_before_last, block_bytes, payload}
+use Rattle.age_stream.specs.Segment.{Segment, Outcome, outcome, outcome_of, stop, at_block, at_rest, after_last, front_texts, text_then, unless_greatest, whole_blocks, rest_bytes}
 use Rattle.age_stream.specs.Headline.{IsAuthentic, IsWriters}
-use Rattle.age_stream.specs.declared.step.Status.{Status}
-use Rattle.age_stream.specs.declared.step.Status.TheVariants.{Open, LastSeen, Done, Failed}
+use Rattle.age_stream.specs.declared.step.Status.TheVariants.{Done}
 use Rattle.age_stream.proofs.Nonces.{nonce_bytes-length}
-use Rattle.age_stream.proofs.Chunks.{length-first_chunks, last_chunk_le, slice_get-within, slice_get-past}
+use Rattle.age_stream.proofs.Chunks.{length-first_chunks, last_chunk_le, slice_get-past}
 use Rattle.age_stream.proofs.Sealings.{last_index_le}
 use Rattle.age_stream.proofs.Segments.{by_test, writer_text}
 use Rattle.age_stream.proofs.Going.{front_on, slice_get_end}

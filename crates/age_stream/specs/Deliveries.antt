@@ -1,8 +1,7 @@
 -- What is held after a list of deliveries.
 use Rattle.std.specs.Prelude.{ℕ, ◌+◌, ◌*◌, Bool, true, false, ◌||◌, ◌&&◌, nat_lt, nat_le, min, List, [], ◌∷◌, ◌++◌, length, take, Option, if◌then◌else◌}
 use Rattle.std.specs.List.{flat_map}
-use Rattle.age_stream.specs.Segment.{Segment, Outcome, outcome}
-use Rattle.age_stream.specs.declared.step.Status.{Status}
+use Rattle.age_stream.specs.Segment.{Segment, outcome}
 use Rattle.age_stream.specs.declared.delivery.Delivery.{Delivery}
 use Rattle.age_stream.specs.declared.delivery.Delivery.TheVariants.{Piece, End, Restart}
 

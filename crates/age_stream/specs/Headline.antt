@@ -8,7 +8,7 @@ use Rattle.std.specs.List.{flat_map}
 use Rattle.std.specs.Borrow.{Bor}
 use Rattle.age_stream.specs.Payload.{sealed, payload, chunk_count}
 use Rattle.age_stream.specs.Segment.{Segment, outcome, front_texts, whole_blocks, rest_bytes}
-use Rattle.age_stream.specs.Deliveries.{Standing, standing, text_held, accepts}
+use Rattle.age_stream.specs.Deliveries.{standing, text_held, accepts}
 use Rattle.age_stream.specs.declared.delivery.Delivery.{Delivery}
 use Rattle.age_stream.specs.declared.delivery.Delivery.TheVariants.{Piece, End, Restart}
 

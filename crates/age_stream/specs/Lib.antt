@@ -15,3 +15,4 @@ pub mod Replaying
 pub mod ReplaySteps
 pub mod Headline
 pub mod FaultNumbers
+pub mod Laws

@@ -1,7 +1,6 @@
-use Rattle.std.proofs.Common.{rules, refl, ◌≡◌, ◌-◌, ◌≤◌, IfOk, ℕ, ◌+◌, ◌*◌, ◌<◌, length, take, drop, List, [], ◌∷◌, ◌++◌, ap, sym, subst, ◌∙◌, arith, take-add, Bool, true, false, min}
-use Rattle.std.specs.Prelude.{cond, nat_lt, ◌==◌, Option, Some, None}
+use Rattle.std.proofs.Common.{◌≡◌, ◌-◌, ◌≤◌, ℕ, ◌+◌, length, take, drop, List, ◌++◌, ap, sym, subst, ◌∙◌, arith, take-add, min}
 use Rattle.std.proofs.lemmas.Bool.Decides.{nat_tests}
-use Rattle.std.proofs.lemmas.List.{take_all, take_rest, append-nil, length-take, length-drop}
+use Rattle.std.proofs.lemmas.List.{take_all, take_rest, length-take, length-drop}
 use Rattle.age_stream.specs.Sealing.{Holds, step_len, lent, lent_bytes}
 use Rattle.age_stream.specs.Payload.{sealed_before_last, block_bytes, payload}
 use Rattle.age_stream.proofs.whole_text.seal_all.Goals as goal

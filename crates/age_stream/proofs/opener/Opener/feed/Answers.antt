@@ -1,4 +1,4 @@
-use Rattle.std.proofs.Common.{refl, ap, sym, ◌≡◌, ◌∙◌, ◌+◌, ◌≤◌, length, arith, ◌-◌, take, List, ℕ, Bool, true, false}
+use Rattle.std.proofs.Common.{refl, ap, ◌≡◌, true, false}
 use Rattle.age_stream.proofs.opener.Opener.feed.Goals as goal
 
 never : {A : Type 0} → true ≡ false → A

@@ -1,6 +1,6 @@
-use Rattle.std.proofs.Common.{◌≡◌, ℕ, ◌-◌, refl, ap, sym, ◌∙◌, List, [], ◌∷◌, length, take, Some, None, arith, true, false}
+use Rattle.std.proofs.Common.{◌≡◌, ℕ, ◌-◌, refl, ap, sym, ◌∙◌, length, take, Some, None, true}
 use Rattle.age_stream.specs.Nonce.{nonce_bytes}
-use Rattle.age_stream.specs.Segment.{Outcome, one_block}
+use Rattle.age_stream.specs.Segment.{Outcome}
 use Rattle.age_stream.proofs.Blocks.{one_block-last, one_block-neither}
 use Rattle.age_stream.proofs.opener.OpenerState.try_block.Goals as goal
 

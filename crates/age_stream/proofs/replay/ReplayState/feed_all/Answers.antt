@@ -1,7 +1,6 @@
-use Rattle.std.proofs.Common.{◌≡◌, ◌-◌, ◌+◌, ◌≤◌, ◌<◌, refl, ap, sym, subst, ◌∙◌, arith, length, take, drop, List, ℕ, [], ◌++◌, take-add, take-append-drop}
+use Rattle.std.proofs.Common.{◌≡◌, ◌-◌, ◌+◌, ap, sym, subst, ◌∙◌, arith, length, take, drop, List, ℕ, ◌++◌, take-add, take-append-drop}
 use Rattle.std.proofs.lemmas.List.{take_rest, length-take, length-drop}
 use Rattle.age_stream.specs.ReplaySteps.{replay_view}
-use Rattle.age_stream.specs.Deliveries.{Standing}
 use Rattle.age_stream.specs.Replaying.{IsAt, with_bytes}
 use Rattle.age_stream.proofs.ReplaySteps.{with_bytes-append}
 use Rattle.age_stream.proofs.replay.ReplayState.feed_all.Goals as goal

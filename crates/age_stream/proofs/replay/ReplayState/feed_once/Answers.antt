@@ -1,4 +1,4 @@
-use Rattle.std.proofs.Common.{◌≡◌, ◌-◌, ◌+◌, ◌≤◌, ◌<◌, refl, ap, sym, ◌∙◌, arith, length, List, ℕ, [], ◌++◌, append-nil}
+use Rattle.std.proofs.Common.{◌-◌, refl, ap, sym, ◌∙◌, arith, length, List, ℕ, [], ◌++◌, append-nil}
 use Rattle.std.proofs.lemmas.List.{length-append}
 use Rattle.age_stream.specs.ReplaySteps.{replay_view}
 use Rattle.age_stream.specs.Opening.{chunk_texts}
