@@ -8,3 +8,8 @@ use super::*;
 fn headers(rt: HostRuntime) {
     assert!(rt; header_rows(rt.alloc()));
 }
+
+#[test]
+fn deliveries(rt: HostRuntime) {
+    assert!(rt; delivery_rows(rt.alloc()));
+}

@@ -1,0 +1,5 @@
+use Rattle.age_stream.proofs.ReplaySteps.{pieces_join}
+use Rattle.age_stream.proofs.laws.pieces_join.Goals as goal
+
+pub returns : goal.returns
+returns c = pieces_join

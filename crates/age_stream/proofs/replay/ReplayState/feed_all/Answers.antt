@@ -1,0 +1,33 @@
+use Rattle.std.proofs.Common.{◌≡◌, ◌-◌, ◌+◌, ap, sym, subst, ◌∙◌, arith, length, take, drop, List, ℕ, ◌++◌, take-add, take-append-drop}
+use Rattle.std.proofs.lemmas.List.{take_rest, length-take, length-drop}
+use Rattle.age_stream.specs.ReplaySteps.{replay_view}
+use Rattle.age_stream.specs.Replaying.{IsAt, with_bytes}
+use Rattle.age_stream.proofs.ReplaySteps.{with_bytes-append}
+use Rattle.age_stream.proofs.replay.ReplayState.feed_all.Goals as goal
+
+pub loop-at-preserved : goal.loop-at-preserved
+loop-at-preserved g c =
+    let piece = c.args.piece.now in
+    let at = c.loop-at.at in
+    let taken = c.in-Some.taken in
+    let r = c.in-Some.ensures.taken in
+    let left = length-take (length piece - at) (drop at piece) in
+    let left2 = length-drop at piece in
+    let on : take at piece ++ take taken (take (length piece - at) (drop at piece)) ≡ take (at + taken) piece =
+    ap (λ (ys : List ℕ). take at piece ++ take taken ys) (take_rest piece at) ∙ sym (take-add at taken piece) in
+    record {
+      within = omega (arith, r.1, left, left2, c.loop-at.invariant.within);
+      room = omega (arith, r.2, left, left2, c.loop-at.invariant.within);
+      key = c.feed_once.ensures.key ∙ c.loop-at.invariant.key;
+      fed = λ s h.
+          subst (IsAt g.B.ChunkBox.opening (g.row.SEALED - 16) (replay_view c.feed_once.new.self)) (with_bytes-append s (take at piece) (take taken (take (length piece - at) (drop at piece))) ∙ ap (with_bytes s) on)
+          (r.3 (with_bytes s (take at piece)) (c.loop-at.invariant.fed s h));
+    }
+
+pub returns-in-None-clause-fed : goal.returns-in-None-clause-fed
+returns-in-None-clause-fed g c = λ s h.
+    let piece = c.args.piece.now in
+    let at = c.loop-at.at in
+    let all : take at piece ++ take (length piece - at) (drop at piece) ≡ piece = ap (λ (ys : List ℕ). take at piece ++ ys) (take_rest piece at) ∙ take-append-drop at piece in
+    subst (IsAt g.B.ChunkBox.opening (g.row.SEALED - 16) (replay_view c.feed_once.new.self)) (with_bytes-append s (take at piece) (take (length piece - at) (drop at piece)) ∙ ap (with_bytes s) all)
+    (c.in-None.ensures.refused (with_bytes s (take at piece)) (c.loop-at.invariant.fed s h))

@@ -1,0 +1,30 @@
+use Rattle.std.proofs.Common.{◌-◌, refl, ap, sym, ◌∙◌, arith, length, List, ℕ, [], ◌++◌, append-nil}
+use Rattle.std.proofs.lemmas.List.{length-append}
+use Rattle.age_stream.specs.ReplaySteps.{replay_view}
+use Rattle.age_stream.specs.Opening.{chunk_texts}
+use Rattle.age_stream.specs.Lent.{lent_text}
+use Rattle.age_stream.proofs.ReplaySteps.{replay_step, lent_flat}
+use Rattle.age_stream.proofs.replay.ReplayState.feed_once.Goals as goal
+
+pub returns-in-Ok-clause-taken : goal.returns-in-Ok-clause-taken
+returns-in-Ok-clause-taken g c =
+    let after = rw c.in-Ok.is at c.feed.follows.holds-at-none in
+    let ok = c.in-Ok.ensures in
+    let step = c.in-Ok.step in
+    let some = ok.some c.requires.some in
+    let len = ap length c.push_lent.ensures.items ∙ length-append c.args.self.now.text.items (lent_text step.chunk) in
+    let items = c.push_lent.ensures.items ∙ ap (λ (t : List ℕ). c.args.self.now.text.items ++ t) (sym (lent_flat step.chunk)) in
+    let long = c.push_lent.new.text.ok.0 in
+    let was = c.args.self.now.text.ok.0 in
+    let room = after.3 in (
+      some,
+      omega (arith, ok.taken),
+      omega (arith, len, long, was, room, c.requires.room, c.push_lent.ensures.capacity),
+      λ s h. replay_step g.B.ChunkBox.opening (g.row.SEALED - 16) (replay_view c.args.self.now) _ s _ (chunk_texts step.chunk) h refl after.0 refl (after.1 s.segment h.segment) (ok.texts s.segment h.segment) items,
+    )
+
+pub returns-in-Err-clause-refused : goal.returns-in-Err-clause-refused
+returns-in-Err-clause-refused g c =
+    let after = rw c.in-Err.is at c.feed.follows.holds-at-none in
+    let err = c.in-Err.ensures in
+    λ s h. replay_step g.B.ChunkBox.opening (g.row.SEALED - 16) (replay_view c.args.self.now) _ s _ [] h refl after.0 refl (after.1 s.segment h.segment) (err.texts s.segment h.segment) (sym (append-nil c.args.self.now.text.items))

@@ -1,0 +1,88 @@
+//! The refusals of a stream.
+
+ghost use Rattle.std.specs.Prelude.{◌≡◌, Some};
+ghost use Rattle.age_stream.specs.FaultNumbers.{number_of};
+
+use thiserror::Error;
+
+/// Why a payload, or a text to be sealed, was refused.
+#[derive(Clone, Copy, Debug, PartialEq, Eq, Error)]
+pub enum StreamKind {
+    /// A whole block, or the last one, opens neither as its chunk nor as the
+    /// last.
+    #[error("chunk damaged")]
+    ChunkDamaged,
+    /// The input ended with 1 to 15 bytes of a block, fewer than a tag.
+    #[error("chunk cut")]
+    ChunkCut,
+    /// The last chunk is empty though chunks came before it.
+    #[error("empty last chunk")]
+    EmptyLast,
+    /// The input ended before the last chunk.
+    #[error("payload truncated")]
+    Truncated,
+    /// Bytes came after the last chunk.
+    #[error("bytes after the last chunk")]
+    Trailing,
+    /// A further chunk would be number [`CHUNK_LIMIT`](crate::CHUNK_LIMIT).
+    #[error("too many chunks")]
+    TooManyChunks,
+}
+
+impl StreamKind {
+    /// The kind's number in the list of all faults: 17 to 22 in the order of
+    /// the variants.
+    pub fn number(&self) -> u8
+        ensures { result ≡ number_of self.now }
+    {
+        match self {
+            StreamKind::ChunkDamaged => 17,
+            StreamKind::ChunkCut => 18,
+            StreamKind::EmptyLast => 19,
+            StreamKind::Truncated => 20,
+            StreamKind::Trailing => 21,
+            StreamKind::TooManyChunks => 22,
+        }
+    }
+}
+
+/// A refusal, and the number of the chunk at which it came, from 0.
+#[derive(Clone, Copy, Debug, PartialEq, Eq, Error)]
+#[error("{kind} at chunk {chunk}")]
+pub struct StreamFault {
+    /// What is wrong.
+    pub kind: StreamKind,
+    /// The chunk, from 0.
+    pub chunk: u64,
+}
+
+impl StreamFault {
+    /// The fault's number: 17 to 22 in the order of the variants of
+    /// [`StreamKind`].
+    pub fn number(&self) -> u8
+        ensures { result ≡ number_of self.now.kind }
+    {
+        self.kind.number()
+    }
+
+    /// The chunk of the fault, from 0.
+    pub fn place(&self) -> Option<u64>
+        ensures { result ≡ Some self.now.chunk }
+    {
+        Some(self.chunk)
+    }
+}
+
+/// A growth of memory was refused.
+#[derive(Clone, Copy, Debug, PartialEq, Eq, Error)]
+#[error("out of memory")]
+pub struct Memory;
+
+impl Memory {
+    /// The number of want of memory in the list of all faults.
+    pub fn number(&self) -> u8
+        ensures { result ≡ 28 }
+    {
+        28
+    }
+}

@@ -1,0 +1,43 @@
+//! The payload of an age file (C2SP age.md, "Payload").
+//!
+//! A text is cut into chunks of 65,536 bytes; the last has 1 to 65,536, or
+//! none where the whole text is empty. Each chunk is sealed with 16 bytes more
+//! at a nonce of its own: eleven bytes of its number from 0, the highest
+//! first, and one byte that is 1 for the last chunk and 0 for the others. The
+//! blocks follow one another, and nothing comes behind the last.
+//!
+//! A [`Sealer`] takes a text in pieces and lends the blocks, and an [`Opener`]
+//! takes the blocks in pieces and lends the text, each out of one buffer of
+//! `SEALED` bytes, the length of a whole block. Neither takes memory. A
+//! [`ChunkBox`] is what seals and opens a chunk. [`Replay`] holds the text
+//! that came of any list of pieces, ends and restarts.
+#![tactic(auto)]
+
+mod chunk_box;
+mod clear_box;
+mod delivery;
+mod fault;
+mod headline;
+mod laws;
+mod nonce;
+mod opener;
+mod replay;
+mod sealer;
+mod step;
+mod whole_text;
+
+pub use chunk_box::ChunkBox;
+pub use clear_box::ClearBox;
+pub use delivery::Delivery;
+pub use fault::{Memory, StreamFault, StreamKind};
+pub use headline::held_is_written;
+pub use laws::{nonces_differ, pieces_join, released_grows, sealed_grows};
+pub use nonce::{CHUNK_LIMIT, nonce_of};
+pub use opener::Opener;
+pub use replay::Replay;
+pub use sealer::Sealer;
+pub use step::{Status, Step};
+pub use whole_text::{SealFault, seal_all};
+
+#[cfg(test)]
+mod tests;

@@ -1,0 +1,388 @@
+//! The reader's side: sealed chunks in, text out.
+ghost use Rattle.std.specs.Prelude.{◌≡◌, ◌≢◌, ℕ, ◌+◌, ◌-◌, ◌*◌, ◌^◌, ◌<◌, ◌≤◌, List, [], ◌∷◌, ◌++◌, length, take, drop, min, IfOk, OnOk, OnErr, IfErr, IsOk, None, Some, true, false, if◌then◌else◌};
+ghost use Rattle.std.specs.Bool.{OnTrue, OnFalse};
+ghost use Rattle.std.specs.Borrow.{sem};
+ghost use Rattle.std.specs.Io.BufRead.{Rests};
+ghost use Rattle.age_stream.specs.Lent.{lent_text};
+ghost use Rattle.age_stream.specs.Nonce.{nonce_bytes};
+ghost use Rattle.age_stream.specs.declared.step.Status.TheVariants.{Open};
+ghost use Rattle.age_stream.specs.declared.fault.StreamFault.{StreamFault as StreamFaultValue};
+
+use crate::chunk_box::ChunkBox;
+use crate::fault::{StreamFault, StreamKind};
+use crate::nonce::{CHUNK_LIMIT, nonce_of};
+use crate::step::{Status, Step};
+use arrayvec::ArrayVec;
+use std::marker::Model;
+
+/// What an opener holds.
+#[derive(Drop)]
+struct OpenerState<'k, B: ChunkBox, const SEALED: usize> {
+    key: &'k B,
+    // the bytes of the block that is open; or the text and the tag of one that was opened, until the next call
+    buffer: ArrayVec<u8, SEALED>,
+    lent: bool,
+    index: u64,
+    status: Status,
+    ghost sizes: { (17 ≤ SEALED) × (SEALED ≤ 65552) },
+    ghost limit: { index < 281474976710656 },
+    ghost room: { status ≡ Open → lent ≡ false → length buffer.items < SEALED },
+}
+
+impl<'k, B: ChunkBox, const SEALED: usize> OpenerState<'k, B, SEALED> {
+    ghost use Rattle.age_stream.specs.Segment.{Segment, Outcome, outcome, released, one_block, at_rest, status_ended, failed};
+    ghost use Rattle.age_stream.specs.Deliveries.{with_piece, with_end};
+    ghost use Rattle.age_stream.specs.Opening.{Stands, given, handed, has_failed};
+    ghost use Rattle.age_stream.specs.OpenerSteps.{held_bytes, opener_view, IsTried, TakesPart, TakesWhole, TakesNone, Ends, front_bytes};
+
+    // Empties the buffer of a text that was lent.
+    fn settle(&mut self)
+        ensures buffer { self.new.buffer.items ≡ held_bytes self.old }
+        ensures lent { self.new.lent ≡ false }
+        ensures same { (self.new.index ≡ self.old.index) × (self.new.key ≡ self.old.key) × (self.new.status ≡ self.old.status) }
+    {
+        if self.lent {
+            self.buffer.clear();
+            self.lent = false;
+        }
+    }
+
+    // Tries the block in the buffer, as one before the last and then as the last.
+    fn try_block(&mut self) -> Result<(), StreamFault>
+        requires full { length self.old.buffer.items ≡ SEALED }
+        requires open { self.old.status ≡ Status.Open }
+        requires lent { self.old.lent ≡ true }
+        ensures { IsTried (one_block (B.opening self.old.key.now) self.old.index self.old.buffer.items) self.old result self.new }
+    {
+        let index = self.index;
+        if open_in(self.key, index, false, &mut self.buffer) {
+            if index == CHUNK_LIMIT - 1 {
+                return Err(self.fail(StreamKind::TooManyChunks));
+            }
+            self.index = index + 1;
+            return Ok(());
+        }
+        if open_in(self.key, index, true, &mut self.buffer) {
+            self.status = Status::LastSeen;
+            return Ok(());
+        }
+        Err(self.fail(StreamKind::ChunkDamaged))
+    }
+
+    // Takes what the block has room for, and tries the block that is full.
+    fn take_open(&mut self, piece: &[u8]) -> Result<(usize, bool), StreamFault>
+        requires { self.old.status ≡ Status.Open }
+        ensures part { length (held_bytes self.old) + length piece.now < SEALED → TakesPart self.old piece.now result self.new }
+        ensures whole { SEALED ≤ length (held_bytes self.old) + length piece.now
+            → TakesWhole (one_block (B.opening self.old.key.now) self.old.index (held_bytes self.old ++ take (SEALED - length (held_bytes self.old)) piece.now)) self.old result self.new }
+        ensures short { length (held_bytes self.old) < SEALED }
+    {
+        self.settle();
+        let room = SEALED - self.buffer.len();
+        if piece.len() < room {
+            let _ = self.buffer.try_extend_from_slice(piece);
+            return Ok((piece.len(), false));
+        }
+        let _ = self.buffer.try_extend_from_slice(&piece[..room]);
+        self.lent = true;
+        self.try_block()?;
+        Ok((room, true))
+    }
+
+    // Takes nothing more.
+    fn take_none(&mut self, piece: &[u8]) -> Result<(usize, bool), StreamFault>
+        requires { self.old.status ≢ Status.Open }
+        ensures none { TakesNone self.old piece.now result self.new }
+        ensures sound { IfOk result (λ _. has_failed self.new.status ≡ false) }
+        ensures again { IfErr result (λ fault. (earlier : StreamFaultValue) → self.old.status ≡ Status.Failed earlier → fault ≡ earlier) }
+        ensures unfailed { OnOk result (has_failed self.old.status ≡ false) }
+        ensures still { length piece.now ≡ 0 → opener_view self.new ≡ opener_view self.old }
+    {
+        match self.status {
+            Status::Failed(fault) => Err(fault),
+            _ => {
+                if piece.is_empty() {
+                    return Ok((0, false));
+                }
+                Err(self.fail(StreamKind::Trailing))
+            }
+        }
+    }
+
+    // Takes what it takes of a piece, and says whether a text then stands in the buffer.
+    fn advance(&mut self, piece: &[u8]) -> Result<(usize, bool), StreamFault>
+        ensures stands { (s : Segment) → Stands B.opening (SEALED - 16) (opener_view self.old) s → Stands B.opening (SEALED - 16) (opener_view self.new) (with_piece s (given (λ a. a.0) result piece.now)) }
+        ensures texts { (s : Segment) → Stands B.opening (SEALED - 16) (opener_view self.old) s
+            → (outcome (B.opening self.old.key.now) (SEALED - 16) (with_piece s (given (λ a. a.0) result piece.now))).texts
+            ≡ (outcome (B.opening self.old.key.now) (SEALED - 16) s).texts ++ handed (λ a. if a.1 then take (SEALED - 16) self.new.buffer.items ∷ [] else []) result }
+        ensures fault { IfErr result (λ fault. self.new.status ≡ Status.Failed fault) }
+        ensures key { self.new.key ≡ self.old.key }
+        ensures full { IfOk result (λ a. a.1 ≡ true → length self.new.buffer.items ≡ SEALED) }
+        ensures taken { IfOk result (λ a. a.0 ≡ min (SEALED - length (held_bytes self.old)) (length piece.now)) }
+        ensures some { IfOk result (λ a. 0 < length piece.now → 0 < a.0) }
+        ensures sound { IfOk result (λ _. has_failed self.new.status ≡ false) }
+        ensures again { IfErr result (λ fault. (earlier : StreamFaultValue) → self.old.status ≡ Status.Failed earlier → fault ≡ earlier) }
+        ensures unfailed { OnOk result (has_failed self.old.status ≡ false) }
+        ensures still { length piece.now ≡ 0 → opener_view self.new ≡ opener_view self.old }
+        ensures nothing { length piece.now ≡ 0 → IfOk result (λ a. a.1 ≡ false) }
+        ensures room { IfOk result (λ a. length (held_bytes self.new) + length (if a.1 then take (SEALED - 16) self.new.buffer.items else []) ≤ length (held_bytes self.old) + a.0) }
+    {
+        match self.status {
+            Status::Open => self.take_open(piece),
+            _ => self.take_none(piece),
+        }
+    }
+
+    // Tries what is held as the last block.
+    fn end_open(&mut self) -> Result<usize, StreamFault>
+        requires { self.old.status ≡ Status.Open }
+        ensures ends { Ends (at_rest (B.opening self.old.key.now) [] self.old.index (held_bytes self.old) false true) self.old result self.new }
+        ensures done { OnOk result (self.new.status ≡ Status.Done) }
+    {
+        self.settle();
+        let len = self.buffer.len();
+        if len == 0 {
+            return Err(self.fail(StreamKind::Truncated));
+        }
+        if len < 16 {
+            return Err(self.fail(StreamKind::ChunkCut));
+        }
+        if len == 16 && self.index > 0 {
+            return Err(self.fail(StreamKind::EmptyLast));
+        }
+        let index = self.index;
+        if open_in(self.key, index, true, &mut self.buffer) {
+            self.status = Status::Done;
+            self.lent = true;
+            return Ok(len - 16);
+        }
+        Err(self.fail(StreamKind::ChunkDamaged))
+    }
+
+    // An end where no block is open.
+    fn end_none(&mut self) -> Result<usize, StreamFault>
+        requires { self.old.status ≢ Status.Open }
+        ensures ends { Ends (record { texts = []; index = self.old.index; status = status_ended self.old.status }) self.old result self.new }
+        ensures again { IfErr result (λ fault. (earlier : StreamFaultValue) → self.old.status ≡ Status.Failed earlier → fault ≡ earlier) }
+        ensures unfailed { OnOk result (has_failed self.old.status ≡ false) }
+        ensures done { OnOk result (self.new.status ≡ Status.Done) }
+    {
+        if let Status::Failed(fault) = self.status {
+            return Err(fault);
+        }
+        self.status = Status::Done;
+        Ok(0)
+    }
+
+    // Ends, and says how many bytes in front of the buffer are the last text.
+    fn close(&mut self) -> Result<usize, StreamFault>
+        ensures stands { (s : Segment) → Stands B.opening (SEALED - 16) (opener_view self.old) s → Stands B.opening (SEALED - 16) (opener_view self.new) (with_end s) }
+        ensures text { (s : Segment) → Stands B.opening (SEALED - 16) (opener_view self.old) s
+            → released (B.opening self.old.key.now) (SEALED - 16) (with_end s)
+            ≡ released (B.opening self.old.key.now) (SEALED - 16) s ++ front_bytes result self.new.buffer.items }
+        ensures fault { IfErr result (λ fault. self.new.status ≡ Status.Failed fault) }
+        ensures done { OnOk result (self.new.status ≡ Status.Done) }
+        ensures again { IfErr result (λ fault. (earlier : StreamFaultValue) → self.old.status ≡ Status.Failed earlier → fault ≡ earlier) }
+        ensures unfailed { OnOk result (has_failed self.old.status ≡ false) }
+        ensures key { self.new.key ≡ self.old.key }
+        ensures fits { IfOk result (λ len. (len ≤ length self.new.buffer.items) × (len ≤ length (held_bytes self.old))) }
+    {
+        match self.status {
+            Status::Open => self.end_open(),
+            _ => self.end_none(),
+        }
+    }
+
+    // Fails for good.
+    fn fail(&mut self, kind: StreamKind) -> StreamFault
+        ensures status { self.new.status ≡ failed kind self.old.index }
+        ensures fault { Status.Failed result ≡ failed kind self.old.index }
+        ensures same { (self.new.index ≡ self.old.index) × (self.new.key ≡ self.old.key) × (self.new.buffer ≡ self.old.buffer) × (self.new.lent ≡ self.old.lent) }
+    {
+        let fault = StreamFault {
+            kind,
+            chunk: self.index,
+        };
+        self.status = Status::Failed(fault);
+        fault
+    }
+}
+
+/// Opens a payload that comes in pieces, however they are cut. A whole block
+/// is tried at the nonce of a chunk that isn't the last, and then at that of
+/// the last one; what is left at the end of the input is tried as the last
+/// alone. A text is lent only once its tag was checked.
+///
+/// A contract sees the key, the bytes of the block that is open, the chunk's
+/// number and the status. They are what the outcome of a segment says: of all
+/// bytes since the opener was made, and of the end of the input.
+#[derive(Drop)]
+pub struct Opener<'k, B: ChunkBox, const SEALED: usize> {
+    state: OpenerState<'k, B, SEALED>,
+}
+
+impl<'k, B: ChunkBox, const SEALED: usize> Model for Opener<'k, B, SEALED> {
+    ghost use Rattle.age_stream.specs.Opening.{OpenerView};
+    ghost use Rattle.age_stream.specs.OpenerSteps.{opener_view};
+
+    ghost Value = { OpenerView B };
+
+    ghost view = { λ o. opener_view o.state };
+}
+
+impl<'k, B: ChunkBox, const SEALED: usize> Opener<'k, B, SEALED> {
+    ghost use Rattle.age_stream.specs.Segment.{Segment, outcome, released};
+    ghost use Rattle.age_stream.specs.Deliveries.{with_piece, with_end, fresh};
+    ghost use Rattle.age_stream.specs.Opening.{Stands, given, handed, handed_bytes, chunk_texts, has_failed};
+    ghost use Rattle.age_stream.specs.OpenerRow.{opener_row};
+
+    /// An opener of a whole payload. Takes no memory.
+    pub fn new(key: &'k B) -> Self
+        requires least { 17 ≤ SEALED }
+        requires most { SEALED ≤ 65552 }
+        ensures view { result ≡ record { key = key.now; held = []; index = 0; status = Status.Open } }
+        ensures stands { Stands B.opening (SEALED - 16) result (fresh 0) }
+    {
+        Opener::at(key, 0)
+    }
+
+    /// An opener of a payload from a chunk on, by the chunk's number, which is
+    /// below [`CHUNK_LIMIT`]. Takes no memory.
+    pub fn at(key: &'k B, index: u64) -> Self
+        requires least { 17 ≤ SEALED }
+        requires most { SEALED ≤ 65552 }
+        requires limit { index < 281474976710656 }
+        ensures view { result ≡ record { key = key.now; held = []; index = index; status = Status.Open } }
+        ensures stands { Stands B.opening (SEALED - 16) result (fresh index) }
+    {
+        Opener {
+            state: OpenerState {
+                key,
+                buffer: ArrayVec::new(),
+                lent: false,
+                index,
+                status: Status::Open,
+            },
+        }
+    }
+
+    /// The number of the chunk at which it stands: the one that it started
+    /// at, and one more for each chunk that was opened as not the last.
+    pub fn index(&self) -> u64
+        ensures index { result ≡ self.now.index }
+        ensures limit { result < 281474976710656 }
+    {
+        self.state.index
+    }
+
+    /// Where it stands.
+    pub fn status(&self) -> Status
+        ensures { result ≡ self.now.status }
+    {
+        self.state.status
+    }
+
+    // How many bytes of the open block are held.
+    pub(crate) fn held_len(&self) -> usize
+        ensures len { result ≡ length self.now.held }
+        ensures fits { result ≤ 65552 }
+    {
+        if self.state.lent {
+            0
+        } else {
+            self.state.buffer.len()
+        }
+    }
+
+    // How many bytes a chunk has.
+    pub(crate) fn chunk_len(&self) -> u64
+        ensures len { result ≡ SEALED - 16 }
+        ensures most { result ≤ 65536 }
+        ensures sizes { (17 ≤ SEALED) × (SEALED ≤ 65552) }
+    {
+        let _ = &self.state.lent;
+        (SEALED - 16) as u64
+    }
+
+    /// Takes bytes of the payload, up to the end of the block that is open,
+    /// and lends the text of a block that is full. Takes nothing of an empty
+    /// piece. A full block that opens neither as its chunk nor as the last is
+    /// [`ChunkDamaged`](StreamKind::ChunkDamaged), one that opens as chunk
+    /// number [`CHUNK_LIMIT`] less one and not the last is
+    /// [`TooManyChunks`](StreamKind::TooManyChunks), and bytes behind the last
+    /// chunk are [`Trailing`](StreamKind::Trailing). After a refusal each call
+    /// is refused with the same fault.
+    pub fn feed(&mut self, piece: &[u8]) -> Result<Step<'_>, StreamFault>
+        ensures* after { sem 𝓛 (Rests (opener_row B.row SEALED.row B.ChunkBox) self.entry (λ new.
+            (new.key ≡ self.old.key)
+            × ((s : Segment) → Stands B.opening (SEALED - 16) self.old s → Stands B.opening (SEALED - 16) new (with_piece s (given (λ step. step.taken) result piece.now)))
+            × IfErr result (λ fault. new.status ≡ Status.Failed fault)
+            × IfOk result (λ step. (has_failed new.status ≡ false) × (length new.held + length (lent_text step.chunk) ≤ length self.old.held + step.taken))
+            × (length piece.now ≡ 0 → new ≡ self.old))) }
+        ensures texts { (s : Segment) → Stands B.opening (SEALED - 16) self.old s
+            → (outcome (B.opening self.old.key) (SEALED - 16) (with_piece s (given (λ step. step.taken) result piece.now))).texts
+            ≡ (outcome (B.opening self.old.key) (SEALED - 16) s).texts ++ handed (λ step. chunk_texts step.chunk) result }
+        ensures taken { IfOk result (λ step. step.taken ≡ min (SEALED - length self.old.held) (length piece.now)) }
+        ensures some { IfOk result (λ step. 0 < length piece.now → 0 < step.taken) }
+        ensures nothing { length piece.now ≡ 0 → IfOk result (λ step. chunk_texts step.chunk ≡ []) }
+        ensures again { IfErr result (λ fault. (earlier : StreamFaultValue) → self.old.status ≡ Status.Failed earlier → fault ≡ earlier) }
+        ensures unfailed { OnOk result (has_failed self.old.status ≡ false) }
+    {
+        let (taken, full) = match self.state.advance(piece) {
+            Ok(step) => step,
+            Err(fault) => return Err(fault),
+        };
+        if !full {
+            return Ok(Step { taken, chunk: None });
+        }
+        let text = &self.state.buffer.as_slice()[..SEALED - 16];
+        Ok(Step {
+            taken,
+            chunk: Some(text),
+        })
+    }
+
+    /// The input ended: what is held is tried as the last chunk, and its text
+    /// is lent. Answers no text where the last chunk came before. Nothing held
+    /// is [`Truncated`](StreamKind::Truncated), fewer than 16 bytes are
+    /// [`ChunkCut`](StreamKind::ChunkCut), and 16 behind other chunks are
+    /// [`EmptyLast`](StreamKind::EmptyLast): a writer makes no empty chunk but
+    /// for the empty text. What doesn't open is
+    /// [`ChunkDamaged`](StreamKind::ChunkDamaged). After a refusal each call is
+    /// refused with the same fault.
+    pub fn end(&mut self) -> Result<&[u8], StreamFault>
+        ensures* after { sem 𝓛 (Rests (opener_row B.row SEALED.row B.ChunkBox) self.entry (λ new.
+            (new.key ≡ self.old.key)
+            × ((s : Segment) → Stands B.opening (SEALED - 16) self.old s → Stands B.opening (SEALED - 16) new (with_end s))
+            × IfErr result (λ fault. new.status ≡ Status.Failed fault)
+            × OnOk result (new.status ≡ Status.Done))) }
+        ensures text { (s : Segment) → Stands B.opening (SEALED - 16) self.old s
+            → released (B.opening self.old.key) (SEALED - 16) (with_end s)
+            ≡ released (B.opening self.old.key) (SEALED - 16) s ++ handed_bytes result }
+        ensures fits { IfOk result (λ text. length text.now ≤ length self.old.held) }
+        ensures again { IfErr result (λ fault. (earlier : StreamFaultValue) → self.old.status ≡ Status.Failed earlier → fault ≡ earlier) }
+        ensures unfailed { OnOk result (has_failed self.old.status ≡ false) }
+    {
+        let len = match self.state.close() {
+            Ok(len) => len,
+            Err(fault) => return Err(fault),
+        };
+        Ok(&self.state.buffer.as_slice()[..len])
+    }
+}
+
+// Opens the block in the buffer in place.
+fn open_in<B: ChunkBox, const SEALED: usize>(
+    key: &B,
+    index: u64,
+    last: bool,
+    buffer: &mut ArrayVec<u8, SEALED>,
+) -> bool
+    requires tag { 16 ≤ length buffer.old.items }
+    requires limit { SEALED ≤ 65552 }
+    ensures opened { OnTrue result (B.opening key.now (nonce_bytes index last) buffer.old.items ≡ Some (take (length buffer.old.items - 16) buffer.new.items)) }
+    ensures closed { OnFalse result ((B.opening key.now (nonce_bytes index last) buffer.old.items ≡ None) × (buffer.new.items ≡ buffer.old.items)) }
+    ensures len { length buffer.new.items ≡ length buffer.old.items }
+{
+    key.open_at(&nonce_of(index, last), buffer.as_mut_slice())
+}

@@ -1,0 +1,253 @@
+//! What a reader holds, under any deliveries.
+ghost use Rattle.std.specs.Prelude.{◌≡◌, ℕ, ◌+◌, ◌-◌, ◌*◌, ◌^◌, ◌<◌, ◌≤◌, List, [], ◌∷◌, ◌++◌, length, take, OnOk, OnErr, IsOk, IfSome, IfNone, vec_len, vec_capacity, nat_lt, nat_le, ◌&&◌};
+ghost use Rattle.std.specs.Bool.{OnTrue};
+ghost use Rattle.age_stream.specs.declared.delivery.Delivery.{Delivery as DeliveryValue};
+ghost use Rattle.age_stream.specs.Lent.{lent_text};
+ghost use Rattle.age_stream.specs.Payload.{chunk_count};
+ghost use Rattle.age_stream.specs.Headline.{AreAuthentic, IsPrefixOf};
+
+use crate::chunk_box::ChunkBox;
+use crate::delivery::Delivery;
+use crate::fault::Memory;
+use crate::nonce::CHUNK_LIMIT;
+use crate::opener::Opener;
+use crate::step::Status;
+use std::alloc::Global;
+use std::marker::Model;
+
+/// What a replay keeps.
+#[derive(Drop)]
+struct ReplayState<'k, B: ChunkBox, const SEALED: usize> {
+    key: &'k B,
+    opener: Opener<'k, B, SEALED>,
+    text: Vec<u8>,
+    refused: u64,
+    ghost sizes: { 17 ≤ SEALED },
+}
+
+impl<'k, B: ChunkBox, const SEALED: usize> ReplayState<'k, B, SEALED> {
+    ghost use Rattle.age_stream.specs.Replaying.{IsAt, Replays, with_bytes};
+    ghost use Rattle.age_stream.specs.ReplaySteps.{replay_view};
+    ghost use Rattle.age_stream.specs.Deliveries.{Standing, after_delivery};
+    ghost use Rattle.age_stream.specs.declared.delivery.Delivery.TheVariants.{End, Restart};
+
+    // Feeds the front of a piece, and says how much was taken, unless the opener refused it.
+    fn feed_once(&mut self, piece: &[u8]) -> Option<usize>
+        requires some { 0 < length piece.now }
+        requires room { vec_len self.old.text + length self.old.opener.held + length piece.now ≤ vec_capacity self.old.text }
+        ensures taken { IfSome result (λ t. (0 < t) × (t ≤ length piece.now)
+            × (vec_len self.new.text + length self.new.opener.held + length piece.now ≤ vec_capacity self.new.text + t)
+            × ((s : Standing) → IsAt B.opening (SEALED - 16) (replay_view self.old) s → IsAt B.opening (SEALED - 16) (replay_view self.new) (with_bytes s (take t piece.now)))) }
+        ensures refused { IfNone result ((s : Standing) → IsAt B.opening (SEALED - 16) (replay_view self.old) s → IsAt B.opening (SEALED - 16) (replay_view self.new) (with_bytes s piece.now)) }
+        ensures key { self.new.key ≡ self.old.key }
+    {
+        match self.opener.feed(piece) {
+            Ok(step) => {
+                let taken = step.taken;
+                push_lent(&mut self.text, step.chunk);
+                Some(taken)
+            }
+            Err(_) => None,
+        }
+    }
+
+    // Feeds a whole piece, for whose text there is room.
+    fn feed_all(&mut self, piece: &[u8])
+        requires { vec_len self.old.text + length self.old.opener.held + length piece.now ≤ vec_capacity self.old.text }
+        ensures fed { (s : Standing) → IsAt B.opening (SEALED - 16) (replay_view self.old) s → IsAt B.opening (SEALED - 16) (replay_view self.new) (with_bytes s piece.now) }
+        ensures key { self.new.key ≡ self.old.key }
+    {
+        let mut at = 0;
+        while at < piece.len() {
+            match self.feed_once(&piece[at..]) {
+                Some(taken) => at += taken,
+                None => return,
+            }
+        }
+    }
+
+    // Takes a piece. Its text is made room for first.
+    fn take_piece(&mut self, piece: &[u8]) -> Result<(), Memory>
+        ensures fed { OnOk result ((s : Standing) → IsAt B.opening (SEALED - 16) (replay_view self.old) s → IsAt B.opening (SEALED - 16) (replay_view self.new) (with_bytes s piece.now)) }
+        ensures err { OnErr result (replay_view self.new ≡ replay_view self.old) }
+        ensures key { self.new.key ≡ self.old.key }
+    {
+        let held = self.opener.held_len();
+        if self.text.reserve(held + piece.len()).is_err() {
+            return Err(Memory);
+        }
+        self.feed_all(piece);
+        Ok(())
+    }
+
+    // Takes an end. Its text is made room for first.
+    fn take_end(&mut self) -> Result<(), Memory>
+        ensures ended { OnOk result ((s : Standing) → IsAt B.opening (SEALED - 16) (replay_view self.old) s → IsAt B.opening (SEALED - 16) (replay_view self.new) (after_delivery (B.opening self.old.key.now) (SEALED - 16) s End)) }
+        ensures err { OnErr result (replay_view self.new ≡ replay_view self.old) }
+        ensures key { self.new.key ≡ self.old.key }
+    {
+        let held = self.opener.held_len();
+        if self.text.reserve(held).is_err() {
+            return Err(Memory);
+        }
+        match self.opener.end() {
+            Ok(text) => push_text(&mut self.text, text),
+            Err(_) => {}
+        }
+        Ok(())
+    }
+
+    // Whether so many chunks are held.
+    fn reaches(&self, k: u64) -> bool
+        ensures answer { result ≡ (nat_lt k 281474976710656 && nat_le (k * (SEALED - 16)) (length self.now.text.items)) }
+        ensures fits { OnTrue result (k * (SEALED - 16) < 2 ^ 64) }
+    {
+        k < CHUNK_LIMIT && k * self.opener.chunk_len() <= self.text.len() as u64
+    }
+
+    // Starts again at a chunk, where the text reaches it.
+    fn restart(&mut self, k: u64)
+        ensures restarted { (s : Standing) → IsAt B.opening (SEALED - 16) (replay_view self.old) s → IsAt B.opening (SEALED - 16) (replay_view self.new) (after_delivery (B.opening self.old.key.now) (SEALED - 16) s (Restart k)) }
+        ensures key { self.new.key ≡ self.old.key }
+    {
+        if self.reaches(k) {
+            self.text.truncate((k * self.opener.chunk_len()) as usize);
+            self.opener = Opener::at(self.key, k);
+        } else {
+            self.refused = self.refused.saturating_add(1);
+        }
+    }
+
+    // One delivery, for what it was given before.
+    fn deliver(&mut self, delivery: &Delivery<'_>) -> Result<(), Memory>
+        ensures stands { OnOk result ((s : Standing) → IsAt B.opening (SEALED - 16) (replay_view self.old) s → IsAt B.opening (SEALED - 16) (replay_view self.new) (after_delivery (B.opening self.old.key.now) (SEALED - 16) s delivery.now)) }
+        ensures err { OnErr result (replay_view self.new ≡ replay_view self.old) }
+        ensures key { self.new.key ≡ self.old.key }
+    {
+        match delivery {
+            Delivery::Piece(piece) => self.take_piece(piece),
+            Delivery::End => self.take_end(),
+            Delivery::Restart(k) => {
+                self.restart(*k);
+                Ok(())
+            }
+        }
+    }
+
+    // The same, for each list of deliveries that it was given.
+    fn take(&mut self, delivery: &Delivery<'_>) -> Result<(), Memory>
+        ensures held { OnOk result ((deliveries : List DeliveryValue) → Replays B.opening (SEALED - 16) (replay_view self.old) deliveries → Replays B.opening (SEALED - 16) (replay_view self.new) (deliveries ++ delivery.now ∷ [])) }
+        ensures err { OnErr result (replay_view self.new ≡ replay_view self.old) }
+        ensures written { OnOk result ((deliveries : List DeliveryValue) (text : List ℕ) → Replays B.opening (SEALED - 16) (replay_view self.old) deliveries → chunk_count (SEALED - 16) text ≤ 281474976710656
+            → AreAuthentic (B.sealing self.old.key.now) (B.opening self.old.key.now) (SEALED - 16) text (deliveries ++ delivery.now ∷ [])
+            → IsPrefixOf self.new.text.items text × (self.new.opener.status ≡ Status.Done → self.new.text.items ≡ text)) }
+        ensures key { self.new.key ≡ self.old.key }
+    {
+        self.deliver(delivery)
+    }
+}
+
+/// Feeds deliveries to an opener, and holds the text that it released. A
+/// restart cuts the text to the chunks before it and makes a new opener.
+///
+/// A contract sees the key, the opener of the current segment, the text that
+/// is held and the number of restarts that were refused.
+#[derive(Drop)]
+pub struct Replay<'k, B: ChunkBox, const SEALED: usize> {
+    state: ReplayState<'k, B, SEALED>,
+}
+
+impl<'k, B: ChunkBox, const SEALED: usize> Model for Replay<'k, B, SEALED> {
+    ghost use Rattle.age_stream.specs.Replaying.{ReplayView};
+    ghost use Rattle.age_stream.specs.ReplaySteps.{replay_view};
+
+    ghost Value = { ReplayView B };
+
+    ghost view = { λ r. replay_view r.state };
+}
+
+impl<'k, B: ChunkBox, const SEALED: usize> Replay<'k, B, SEALED> {
+    ghost use Rattle.age_stream.specs.Replaying.{Replays};
+
+    /// A replay that was given nothing yet. Takes no memory.
+    pub fn new(alloc: Global, key: &'k B) -> Self
+        requires least { 17 ≤ SEALED }
+        requires most { SEALED ≤ 65552 }
+        ensures key { result.key ≡ key.now }
+        ensures nothing { Replays B.opening (SEALED - 16) result [] }
+    {
+        Replay {
+            state: ReplayState {
+                key,
+                opener: Opener::new(key),
+                text: Vec::new(alloc),
+                refused: 0,
+            },
+        }
+    }
+
+    /// The text that is held.
+    pub fn text(&self) -> &[u8]
+        ensures { result.now ≡ self.now.text }
+    {
+        self.state.text.as_slice()
+    }
+
+    /// Where the opener of the current segment stands.
+    pub fn status(&self) -> Status
+        ensures { result ≡ self.now.opener.status }
+    {
+        self.state.opener.status()
+    }
+
+    /// The number of the chunk at which the current segment stands.
+    pub fn index(&self) -> u64
+        ensures { result ≡ self.now.opener.index }
+    {
+        self.state.opener.index()
+    }
+
+    /// How many restarts were refused, at most 2^64 - 1.
+    pub fn refused(&self) -> u64
+        ensures { result ≡ self.now.refused }
+    {
+        self.state.refused
+    }
+
+    /// Takes a delivery: all bytes of a piece unless a fault comes, which then
+    /// is the status; an end; or a restart at chunk k, which is refused where
+    /// k is [`CHUNK_LIMIT`] or more or fewer than k chunks are held. Where
+    /// memory is refused nothing changes.
+    pub fn take(&mut self, delivery: &Delivery<'_>) -> Result<(), Memory>
+        ensures held { OnOk result ((deliveries : List DeliveryValue) → Replays B.opening (SEALED - 16) self.old deliveries → Replays B.opening (SEALED - 16) self.new (deliveries ++ delivery.now ∷ [])) }
+        ensures err { OnErr result (self.new ≡ self.old) }
+
+        // While no block opens except as the writer of a text sealed it, what is held is the beginning of that text,
+        // and the end is reported only with all of it.
+        ensures written { OnOk result ((deliveries : List DeliveryValue) (text : List ℕ) → Replays B.opening (SEALED - 16) self.old deliveries → chunk_count (SEALED - 16) text ≤ 281474976710656
+            → AreAuthentic (B.sealing self.old.key) (B.opening self.old.key) (SEALED - 16) text (deliveries ++ delivery.now ∷ [])
+            → IsPrefixOf self.new.text text × (self.new.opener.status ≡ Status.Done → self.new.text ≡ text)) }
+        ensures key { self.new.key ≡ self.old.key }
+    {
+        self.state.take(delivery)
+    }
+}
+
+// Appends bytes to a text that has room for them.
+fn push_text(text: &mut Vec<u8>, bytes: &[u8])
+    requires { vec_len text.old + length bytes.now ≤ vec_capacity text.old }
+    ensures { text.new.items ≡ text.old.items ++ bytes.now }
+{
+    let _ = text.extend_from_slice(bytes);
+}
+
+// Appends what is lent, if anything is, to a text that has room for it.
+fn push_lent(text: &mut Vec<u8>, chunk: Option<&[u8]>)
+    requires { vec_len text.old + length (lent_text chunk) ≤ vec_capacity text.old }
+    ensures items { text.new.items ≡ text.old.items ++ lent_text chunk.entry }
+    ensures capacity { vec_capacity text.old ≤ vec_capacity text.new }
+{
+    if let Some(bytes) = chunk {
+        let _ = text.extend_from_slice(bytes);
+    }
+}

@@ -1,0 +1,24 @@
+//! What a call on a stream answers.
+
+use crate::fault::StreamFault;
+
+/// Where an opener stands.
+#[derive(Clone, Copy, Debug, PartialEq, Eq)]
+pub enum Status {
+    /// Blocks are still to come.
+    Open,
+    /// A whole block was the last one, and nothing may follow it.
+    LastSeen,
+    /// The input ended behind the last chunk.
+    Done,
+    /// It was refused, and each further call is refused with the same fault.
+    Failed(StreamFault),
+}
+
+/// How many bytes of a piece a call took, and what it lends until the next
+/// call: a sealer's block or an opener's text, if one came.
+#[derive(Drop)]
+pub struct Step<'a> {
+    pub taken: usize,
+    pub chunk: Option<&'a [u8]>,
+}

@@ -1,0 +1,80 @@
+//! Worked rows that run, and each public function once. The longer rows stand in the crate of the vectors.
+use crate::clear_box::ClearBox;
+use crate::delivery::Delivery;
+use crate::fault::{Memory, StreamFault, StreamKind};
+use crate::nonce::{CHUNK_LIMIT, nonce_of};
+use crate::opener::Opener;
+use crate::replay::Replay;
+use crate::sealer::Sealer;
+use crate::step::Status;
+use crate::whole_text::seal_all;
+use std::test::Fail;
+
+const SEALED_8: &[u8; 40] =
+    b"abcd\0\0\0\0\0\0\0\0\0\0\0\0\0\0\0\0efgh\0\0\0\0\0\0\0\0\0\0\x01\x01\0\0\0\0";
+
+#[test]
+fn eight_bytes_there_and_back(rt: HostRuntime) -> Result<(), Fail> {
+    let sealed = seal_all::<ClearBox, 20>(rt.alloc(), &ClearBox, b"abcdefgh")?;
+    assert_eq!(rt; sealed.as_slice(), SEALED_8.as_slice());
+    let key = ClearBox;
+    let mut replay = Replay::<ClearBox, 20>::new(rt.alloc(), &key);
+    assert!(rt; replay.take(&Delivery::Piece(sealed.as_slice())).is_ok());
+    assert!(rt; replay.status() == Status::LastSeen);
+    assert!(rt; replay.take(&Delivery::End).is_ok());
+    assert_eq!(rt; replay.text(), b"abcdefgh".as_slice());
+    assert!(rt; replay.status() == Status::Done);
+    assert_eq!(rt; replay.index(), 1);
+    assert!(rt; replay.take(&Delivery::Restart(3)).is_ok());
+    assert_eq!(rt; replay.refused(), 1);
+    Ok(())
+}
+
+#[test]
+fn a_chunk_is_lent_with_the_byte_behind_it(rt: HostRuntime) -> Result<(), Fail> {
+    let key = ClearBox;
+    let mut sealer = Sealer::<ClearBox, 20>::new(&key);
+    let first = sealer.feed(b"abcd")?;
+    assert_eq!(rt; first.taken, 4);
+    assert!(rt; first.chunk.is_none());
+    let second = sealer.feed(b"e")?;
+    assert_eq!(rt; second.taken, 1);
+    assert!(rt; second.chunk == Some(&SEALED_8[..20]));
+    assert!(rt; !sealer.is_finished());
+    let last = sealer.finish()?;
+    assert_eq!(rt; last, b"e\0\0\0\0\0\0\0\0\0\0\x01\x01\0\0\0\0".as_slice());
+    assert!(rt; sealer.is_finished());
+    Ok(())
+}
+
+#[test]
+fn an_opener_of_whole_blocks_of_a_file(rt: HostRuntime) -> Result<(), Fail> {
+    let key = ClearBox;
+    let mut opener = Opener::<ClearBox, 65_552>::new(&key);
+    let step = opener.feed(b"abc\0\0\0\0\0\0\0\0\0\0\0\x01\0\0\0\0")?;
+    assert_eq!(rt; step.taken, 19);
+    assert!(rt; step.chunk.is_none());
+    assert_eq!(rt; opener.end()?, b"abc".as_slice());
+    assert!(rt; opener.status() == Status::Done);
+    Ok(())
+}
+
+#[test]
+fn the_greatest_chunk_is_the_last(rt: HostRuntime) -> Result<(), Fail> {
+    let key = ClearBox;
+    let mut opener = Opener::<ClearBox, 20>::at(&key, CHUNK_LIMIT - 1);
+    let fault = StreamFault {
+        kind: StreamKind::TooManyChunks,
+        chunk: CHUNK_LIMIT - 1,
+    };
+    assert!(rt;
+        matches!(&opener.feed(b"XXXX\0\0\0\0\0\xff\xff\xff\xff\xff\xff\0\0\0\0\0"), Err(f) if *f == fault)
+    );
+    assert!(rt; matches!(&opener.end(), Err(f) if *f == fault));
+    assert_eq!(rt; opener.index(), CHUNK_LIMIT - 1);
+    assert_eq!(rt; fault.number(), 22);
+    assert_eq!(rt; fault.place(), Some(CHUNK_LIMIT - 1));
+    assert_eq!(rt; Memory.number(), 28);
+    assert_eq!(rt; nonce_of(1, true), *b"\0\0\0\0\0\0\0\0\0\0\x01\x01");
+    Ok(())
+}

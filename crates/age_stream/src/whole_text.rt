@@ -1,0 +1,60 @@
+//! A caller of the sealer: it feeds a text, and copies out the blocks that are lent.
+ghost use Rattle.std.specs.Prelude.{◌≡◌, ◌-◌, ◌≤◌, ◌++◌, IfOk, OnOk};
+ghost use Rattle.age_stream.specs.Payload.{payload};
+ghost use Rattle.age_stream.specs.Sealing.{lent, lent_bytes};
+
+use crate::chunk_box::ChunkBox;
+use crate::fault::StreamFault;
+use crate::sealer::Sealer;
+use std::alloc::{AllocError, Global};
+
+/// Why a text wasn't sealed.
+#[derive(Clone, Copy, Debug, PartialEq, Eq)]
+pub enum SealFault {
+    Stream(StreamFault),
+    Memory,
+}
+
+impl From<AllocError> for SealFault {
+    fn from(_e: AllocError) -> SealFault {
+        SealFault::Memory
+    }
+}
+
+impl From<StreamFault> for SealFault {
+    fn from(e: StreamFault) -> SealFault {
+        SealFault::Stream(e)
+    }
+}
+
+/// The payload of a text.
+pub fn seal_all<B: ChunkBox, const SEALED: usize>(
+    alloc: Global,
+    key: &B,
+    text: &[u8],
+) -> Result<Vec<u8>, SealFault>
+    requires least { 17 ≤ SEALED }
+    requires most { SEALED ≤ 65552 }
+    ensures { IfOk result (λ v. v.items ≡ payload (B.sealing key.now) (SEALED - 16) text.now) }
+{
+    let mut out = Vec::new(alloc);
+    let mut sealer = Sealer::<B, SEALED>::new(key);
+    let mut at = 0;
+    while at < text.len() {
+        let step = sealer.feed(&text[at..])?;
+        copy_lent(&mut out, step.chunk)?;
+        at += step.taken;
+    }
+    out.extend_from_slice(sealer.finish()?)?;
+    Ok(out)
+}
+
+// Copies out what is lent, if anything is.
+fn copy_lent(out: &mut Vec<u8>, chunk: Option<&[u8]>) -> Result<(), AllocError>
+    ensures { OnOk result (out.new.items ≡ out.old.items ++ lent_bytes (lent chunk.entry)) }
+{
+    match chunk {
+        Some(block) => out.extend_from_slice(block),
+        None => Ok(()),
+    }
+}

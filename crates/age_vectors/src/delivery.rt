@@ -1,0 +1,120 @@
+// Worked rows of a payload, sealed by a box that hides nothing: chunks of four bytes in blocks of twenty, and what is
+// held under cuts, swaps, repeats, restarts and bytes behind the end.
+use age_stream::{seal_all, ClearBox, Delivery, Replay, Sealer, Status, StreamFault, StreamKind};
+use std::alloc::Global;
+
+const EIGHT: &[u8; 40] = b"abcd\0\0\0\0\0\0\0\0\0\0\0\0\0\0\0\0efgh\0\0\0\0\0\0\0\0\0\0\x01\x01\0\0\0\0";
+
+const TEN: &[u8; 58] =
+    b"abcd\0\0\0\0\0\0\0\0\0\0\0\0\0\0\0\0efgh\0\0\0\0\0\0\0\0\0\0\x01\0\0\0\0\0ij\0\0\0\0\0\0\0\0\0\0\x02\x01\0\0\0\0";
+
+const NO_TEXT: &[u8; 16] = b"\0\0\0\0\0\0\0\0\0\0\0\x01\0\0\0\0";
+
+const LETTER_A: &[u8; 17] = b"a\0\0\0\0\0\0\0\0\0\0\0\0\0\0\0\0";
+
+const LETTER_B: &[u8; 17] = b"b\0\0\0\0\0\0\0\0\0\0\x01\x01\0\0\0\0";
+
+const EMPTY_SECOND: &[u8; 16] = b"\0\0\0\0\0\0\0\0\0\0\x01\x01\0\0\0\0";
+
+/// The worked rows of sealing and of delivery.
+pub fn delivery_rows(alloc: Global) -> bool {
+    sealing_rows(alloc)
+        && two_letters_in_two_pieces()
+        && damage_rows(alloc)
+        && restart_rows(alloc)
+        && (0..=58).all(|cut| is_cut_right(alloc, cut))
+}
+
+// Whole texts and their payloads.
+fn sealing_rows(alloc: Global) -> bool {
+    is_sealed(alloc, b"abcdefgh", EIGHT)
+        && is_sealed(alloc, b"abcdefghij", TEN)
+        && is_sealed(alloc, b"", NO_TEXT)
+}
+
+fn is_sealed(alloc: Global, text: &[u8], payload: &[u8]) -> bool {
+    match seal_all::<ClearBox, 20>(alloc, &ClearBox, text) {
+        Ok(sealed) => sealed.as_slice() == payload,
+        Err(_) => false,
+    }
+}
+
+// A block is lent with the byte behind it, and the last by `finish`.
+fn two_letters_in_two_pieces() -> bool {
+    let key = ClearBox;
+    let mut sealer = Sealer::<ClearBox, 17>::new(&key);
+    if !matches!(sealer.feed(b"a"), Ok(step) if step.taken == 1 && step.chunk.is_none()) {
+        return false;
+    }
+    if !matches!(sealer.feed(b"b"), Ok(step) if step.taken == 1 && step.chunk == Some(LETTER_A.as_slice())) {
+        return false;
+    }
+    matches!(sealer.finish(), Ok(block) if block == LETTER_B.as_slice())
+}
+
+// Whether these deliveries leave this text, at this chunk, with this status.
+fn leaves(alloc: Global, deliveries: &[Delivery<'_>], text: &[u8], index: u64, status: Status) -> bool {
+    let key = ClearBox;
+    let mut replay = Replay::<ClearBox, 20>::new(alloc, &key);
+    for delivery in deliveries {
+        if replay.take(delivery).is_err() {
+            return false;
+        }
+    }
+    replay.text() == text && replay.index() == index && replay.status() == status
+}
+
+fn failed(kind: StreamKind, chunk: u64) -> Status {
+    Status::Failed(StreamFault { kind, chunk })
+}
+
+// Blocks in another order, twice, with a byte more, and an empty last chunk.
+fn damage_rows(alloc: Global) -> bool {
+    let (first, second) = EIGHT.split_at(20);
+    leaves(alloc, &[Delivery::Piece(NO_TEXT), Delivery::End], b"", 0, Status::Done)
+        && leaves(alloc, &[Delivery::Piece(second), Delivery::Piece(first)], b"", 0, failed(StreamKind::ChunkDamaged, 0))
+        && leaves(alloc, &[Delivery::Piece(first), Delivery::Piece(first)], b"abcd", 1, failed(StreamKind::ChunkDamaged, 1))
+        && leaves(alloc, &[Delivery::Piece(EIGHT), Delivery::Piece(b"x"), Delivery::End], b"abcdefgh", 1, failed(StreamKind::Trailing, 1))
+        && leaves(alloc, &[Delivery::Piece(first), Delivery::Piece(EMPTY_SECOND), Delivery::End], b"abcd", 1, failed(StreamKind::EmptyLast, 1))
+}
+
+// The transfer starts again, at a chunk that is held or beyond it.
+fn restart_rows(alloc: Global) -> bool {
+    let (first, second) = EIGHT.split_at(20);
+    leaves(alloc, &[Delivery::Piece(first), Delivery::Restart(0), Delivery::Piece(EIGHT), Delivery::End], b"abcdefgh", 1, Status::Done)
+        && leaves(alloc, &[Delivery::Piece(EIGHT), Delivery::Restart(3)], b"abcdefgh", 1, Status::LastSeen)
+        && leaves(alloc, &[Delivery::Piece(EIGHT), Delivery::Restart(2)], b"abcdefgh", 2, Status::Open)
+        && leaves(alloc, &[Delivery::Piece(&EIGHT[..27]), Delivery::Restart(1), Delivery::Piece(second), Delivery::End], b"abcdefgh", 1, Status::Done)
+}
+
+// Ten bytes cut after so many of their payload, whole and byte by byte.
+fn is_cut_right(alloc: Global, cut: usize) -> bool {
+    let status = match cut {
+        58 => Status::Done,
+        36 => failed(StreamKind::EmptyLast, 1),
+        56 => failed(StreamKind::EmptyLast, 2),
+        0 | 20 | 40 => failed(StreamKind::Truncated, cut as u64 / 20),
+        1..=15 | 21..=35 | 41..=55 => failed(StreamKind::ChunkCut, cut as u64 / 20),
+        _ => failed(StreamKind::ChunkDamaged, cut as u64 / 20),
+    };
+    let text: &[u8] = match cut {
+        0..=19 => b"",
+        20..=39 => b"abcd",
+        40..=57 => b"abcdefgh",
+        _ => b"abcdefghij",
+    };
+    let index = cut as u64 / 20;
+    leaves(alloc, &[Delivery::Piece(&TEN[..cut]), Delivery::End], text, index, status)
+        && leaves_by_bytes(alloc, &TEN[..cut], text, index, status)
+}
+
+fn leaves_by_bytes(alloc: Global, bytes: &[u8], text: &[u8], index: u64, status: Status) -> bool {
+    let key = ClearBox;
+    let mut replay = Replay::<ClearBox, 20>::new(alloc, &key);
+    for byte in bytes {
+        if replay.take(&Delivery::Piece(&[*byte])).is_err() {
+            return false;
+        }
+    }
+    replay.take(&Delivery::End).is_ok() && replay.text() == text && replay.index() == index && replay.status() == status
+}
