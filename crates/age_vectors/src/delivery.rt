@@ -1,9 +1,10 @@
 // Worked rows of a payload, sealed by a box that hides nothing: chunks of four bytes in blocks of twenty, and what is
 // held under cuts, swaps, repeats, restarts and bytes behind the end.
-use age_stream::{seal_all, ClearBox, Delivery, Replay, Sealer, Status, StreamFault, StreamKind};
+use age_stream::{ClearBox, Delivery, Replay, Sealer, Status, StreamFault, StreamKind, seal_all};
 use std::alloc::Global;
 
-const EIGHT: &[u8; 40] = b"abcd\0\0\0\0\0\0\0\0\0\0\0\0\0\0\0\0efgh\0\0\0\0\0\0\0\0\0\0\x01\x01\0\0\0\0";
+const EIGHT: &[u8; 40] =
+    b"abcd\0\0\0\0\0\0\0\0\0\0\0\0\0\0\0\0efgh\0\0\0\0\0\0\0\0\0\0\x01\x01\0\0\0\0";
 
 const TEN: &[u8; 58] =
     b"abcd\0\0\0\0\0\0\0\0\0\0\0\0\0\0\0\0efgh\0\0\0\0\0\0\0\0\0\0\x01\0\0\0\0\0ij\0\0\0\0\0\0\0\0\0\0\x02\x01\0\0\0\0";
@@ -46,14 +47,21 @@ fn two_letters_in_two_pieces() -> bool {
     if !matches!(sealer.feed(b"a"), Ok(step) if step.taken == 1 && step.chunk.is_none()) {
         return false;
     }
-    if !matches!(sealer.feed(b"b"), Ok(step) if step.taken == 1 && step.chunk == Some(LETTER_A.as_slice())) {
+    if !matches!(sealer.feed(b"b"), Ok(step) if step.taken == 1 && step.chunk == Some(LETTER_A.as_slice()))
+    {
         return false;
     }
     matches!(sealer.finish(), Ok(block) if block == LETTER_B.as_slice())
 }
 
 // Whether these deliveries leave this text, at this chunk, with this status.
-fn leaves(alloc: Global, deliveries: &[Delivery<'_>], text: &[u8], index: u64, status: Status) -> bool {
+fn leaves(
+    alloc: Global,
+    deliveries: &[Delivery<'_>],
+    text: &[u8],
+    index: u64,
+    status: Status,
+) -> bool {
     let key = ClearBox;
     let mut replay = Replay::<ClearBox, 20>::new(alloc, &key);
     for delivery in deliveries {
@@ -71,20 +79,81 @@ fn failed(kind: StreamKind, chunk: u64) -> Status {
 // Blocks in another order, twice, with a byte more, and an empty last chunk.
 fn damage_rows(alloc: Global) -> bool {
     let (first, second) = EIGHT.split_at(20);
-    leaves(alloc, &[Delivery::Piece(NO_TEXT), Delivery::End], b"", 0, Status::Done)
-        && leaves(alloc, &[Delivery::Piece(second), Delivery::Piece(first)], b"", 0, failed(StreamKind::ChunkDamaged, 0))
-        && leaves(alloc, &[Delivery::Piece(first), Delivery::Piece(first)], b"abcd", 1, failed(StreamKind::ChunkDamaged, 1))
-        && leaves(alloc, &[Delivery::Piece(EIGHT), Delivery::Piece(b"x"), Delivery::End], b"abcdefgh", 1, failed(StreamKind::Trailing, 1))
-        && leaves(alloc, &[Delivery::Piece(first), Delivery::Piece(EMPTY_SECOND), Delivery::End], b"abcd", 1, failed(StreamKind::EmptyLast, 1))
+    leaves(
+        alloc,
+        &[Delivery::Piece(NO_TEXT), Delivery::End],
+        b"",
+        0,
+        Status::Done,
+    ) && leaves(
+        alloc,
+        &[Delivery::Piece(second), Delivery::Piece(first)],
+        b"",
+        0,
+        failed(StreamKind::ChunkDamaged, 0),
+    ) && leaves(
+        alloc,
+        &[Delivery::Piece(first), Delivery::Piece(first)],
+        b"abcd",
+        1,
+        failed(StreamKind::ChunkDamaged, 1),
+    ) && leaves(
+        alloc,
+        &[Delivery::Piece(EIGHT), Delivery::Piece(b"x"), Delivery::End],
+        b"abcdefgh",
+        1,
+        failed(StreamKind::Trailing, 1),
+    ) && leaves(
+        alloc,
+        &[
+            Delivery::Piece(first),
+            Delivery::Piece(EMPTY_SECOND),
+            Delivery::End,
+        ],
+        b"abcd",
+        1,
+        failed(StreamKind::EmptyLast, 1),
+    )
 }
 
 // The transfer starts again, at a chunk that is held or beyond it.
 fn restart_rows(alloc: Global) -> bool {
     let (first, second) = EIGHT.split_at(20);
-    leaves(alloc, &[Delivery::Piece(first), Delivery::Restart(0), Delivery::Piece(EIGHT), Delivery::End], b"abcdefgh", 1, Status::Done)
-        && leaves(alloc, &[Delivery::Piece(EIGHT), Delivery::Restart(3)], b"abcdefgh", 1, Status::LastSeen)
-        && leaves(alloc, &[Delivery::Piece(EIGHT), Delivery::Restart(2)], b"abcdefgh", 2, Status::Open)
-        && leaves(alloc, &[Delivery::Piece(&EIGHT[..27]), Delivery::Restart(1), Delivery::Piece(second), Delivery::End], b"abcdefgh", 1, Status::Done)
+    leaves(
+        alloc,
+        &[
+            Delivery::Piece(first),
+            Delivery::Restart(0),
+            Delivery::Piece(EIGHT),
+            Delivery::End,
+        ],
+        b"abcdefgh",
+        1,
+        Status::Done,
+    ) && leaves(
+        alloc,
+        &[Delivery::Piece(EIGHT), Delivery::Restart(3)],
+        b"abcdefgh",
+        1,
+        Status::LastSeen,
+    ) && leaves(
+        alloc,
+        &[Delivery::Piece(EIGHT), Delivery::Restart(2)],
+        b"abcdefgh",
+        2,
+        Status::Open,
+    ) && leaves(
+        alloc,
+        &[
+            Delivery::Piece(&EIGHT[..27]),
+            Delivery::Restart(1),
+            Delivery::Piece(second),
+            Delivery::End,
+        ],
+        b"abcdefgh",
+        1,
+        Status::Done,
+    )
 }
 
 // Ten bytes cut after so many of their payload, whole and byte by byte.
@@ -104,8 +173,13 @@ fn is_cut_right(alloc: Global, cut: usize) -> bool {
         _ => b"abcdefghij",
     };
     let index = cut as u64 / 20;
-    leaves(alloc, &[Delivery::Piece(&TEN[..cut]), Delivery::End], text, index, status)
-        && leaves_by_bytes(alloc, &TEN[..cut], text, index, status)
+    leaves(
+        alloc,
+        &[Delivery::Piece(&TEN[..cut]), Delivery::End],
+        text,
+        index,
+        status,
+    ) && leaves_by_bytes(alloc, &TEN[..cut], text, index, status)
 }
 
 fn leaves_by_bytes(alloc: Global, bytes: &[u8], text: &[u8], index: u64, status: Status) -> bool {
@@ -116,5 +190,8 @@ fn leaves_by_bytes(alloc: Global, bytes: &[u8], text: &[u8], index: u64, status:
             return false;
         }
     }
-    replay.take(&Delivery::End).is_ok() && replay.text() == text && replay.index() == index && replay.status() == status
+    replay.take(&Delivery::End).is_ok()
+        && replay.text() == text
+        && replay.index() == index
+        && replay.status() == status
 }
