@@ -173,13 +173,16 @@ fn is_cut_right(alloc: Global, cut: usize) -> bool {
         _ => b"abcdefghij",
     };
     let index = cut as u64 / 20;
+    let Some(front) = TEN.get(..cut) else {
+        return false;
+    };
     leaves(
         alloc,
-        &[Delivery::Piece(&TEN[..cut]), Delivery::End],
+        &[Delivery::Piece(front), Delivery::End],
         text,
         index,
         status,
-    ) && leaves_by_bytes(alloc, &TEN[..cut], text, index, status)
+    ) && leaves_by_bytes(alloc, front, text, index, status)
 }
 
 fn leaves_by_bytes(alloc: Global, bytes: &[u8], text: &[u8], index: u64, status: Status) -> bool {
