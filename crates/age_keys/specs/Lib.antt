@@ -1,0 +1,4 @@
+pub mod FaultNumbers
+pub mod Keys
+pub mod Opened
+pub mod PayloadBox
