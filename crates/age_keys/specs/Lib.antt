@@ -2,3 +2,4 @@ pub mod FaultNumbers
 pub mod Keys
 pub mod Opened
 pub mod PayloadBox
+pub mod X25519

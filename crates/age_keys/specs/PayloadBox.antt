@@ -1,5 +1,5 @@
 -- The sealing of chunks under a payload key is lawful, by the laws of the cipher.
-use Rattle.std.specs.Prelude.{◌≡◌, ℕ, List, []}
+use Rattle.std.specs.Prelude.{ℕ, List, []}
 use Rattle.std.proofs.Common.{sym}
 use Rattle.age_cipher.specs.Aead.{sealing}
 use Rattle.age_cipher.specs.Opening.{opening}

@@ -13,9 +13,11 @@ mod key;
 mod open;
 mod payload;
 mod unlock;
+mod x25519;
 
 pub use fault::KeyFault;
 pub use key::FileKey;
 pub use open::open_header;
 pub use payload::{PayloadKey, payload_key, position_key};
 pub use unlock::{KnownKey, Unlock};
+pub use x25519::X25519Stanza;

@@ -1,4 +1,4 @@
-use Rattle.std.proofs.Common.{◌≡◌, ◌-◌, ℕ, List, [], length, take, Option, None}
+use Rattle.std.proofs.Common.{◌-◌, [], length, take}
 use Rattle.std.specs.Prelude.{Bool, true, false}
 use Rattle.std.specs.Bool.{OnFalse}
 use Rattle.age_cipher.proofs.SealingLemmas.{opening_where_true, opening_where_false}
