@@ -21,3 +21,6 @@ pub use open::open_header;
 pub use payload::{PayloadKey, payload_key, position_key};
 pub use unlock::{KnownKey, Unlock};
 pub use x25519::X25519Stanza;
+
+#[cfg(test)]
+mod tests;
