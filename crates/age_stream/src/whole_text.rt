@@ -11,7 +11,9 @@ use std::alloc::{AllocError, Global};
 /// Why a text wasn't sealed.
 #[derive(Clone, Copy, Debug, PartialEq, Eq)]
 pub enum SealFault {
+    /// The sealer refused: the text has more chunks than a payload.
     Stream(StreamFault),
+    /// Memory was refused.
     Memory,
 }
 
@@ -27,7 +29,8 @@ impl From<StreamFault> for SealFault {
     }
 }
 
-/// The payload of a text.
+/// The payload of a text: its chunks, each sealed at its nonce, one behind the
+/// other (C2SP age.md, "Payload"), in chunks of `SEALED - 16` bytes.
 pub fn seal_all<B: ChunkBox, const SEALED: usize>(
     alloc: Global,
     key: &B,

@@ -1,0 +1,2 @@
+pub mod Base64Lemmas
+pub mod X25519Lemmas

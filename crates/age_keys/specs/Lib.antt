@@ -1,0 +1,5 @@
+pub mod FaultNumbers
+pub mod Keys
+pub mod Opened
+pub mod PayloadBox
+pub mod X25519

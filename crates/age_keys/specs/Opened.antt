@@ -1,0 +1,20 @@
+-- What opening a header may answer, by the unlocker's two relations.
+use Rattle.std.specs.Prelude.{◌≡◌, ◌⊎◌, ℕ, List, length}
+use Rattle.age_stanza.specs.declared.header.Header.{Header}
+use Rattle.age_keys.specs.declared.fault.KeyFault.{KeyFault}
+use Rattle.age_keys.specs.declared.fault.KeyFault.TheVariants.{ScryptNotAlone, MacMismatch}
+use Rattle.age_keys.specs.Keys.{IsScryptBeside, IsMacOf}
+
+-- the file key may be answered for the header
+pub record Opens (Allows : Header → List ℕ → Type 0) (h : Header) (key : List ℕ) : Type 0 where
+  pub alone : ¬ IsScryptBeside h
+  pub allowed : Allows h key
+  pub mac : IsMacOf h key
+  pub size : length key ≡ 16
+
+-- the fault may be answered for it, want of memory aside
+abbrev pub Refuses : (Header → List ℕ → Type 0) → (Header → KeyFault → Type 0) → Header → KeyFault → Type 0
+Refuses Allows Refused h fault =
+    (IsScryptBeside h → fault ≡ ScryptNotAlone)
+    × ((¬ IsScryptBeside h)
+    → Refused h fault ⊎ ((fault ≡ MacMismatch) × ((key : List ℕ) × Allows h key × (¬ IsMacOf h key))))

@@ -1,0 +1,15 @@
+-- The sealing of chunks under a payload key is lawful, by the laws of the cipher.
+use Rattle.std.specs.Prelude.{ℕ, List, []}
+use Rattle.std.proofs.Common.{sym}
+use Rattle.age_cipher.specs.Aead.{sealing}
+use Rattle.age_cipher.specs.Opening.{opening}
+use Rattle.age_cipher.proofs.SealingLemmas.{length-sealing, opening_of_sealing, sealing_of_opening}
+use Rattle.age_stream.specs.Lawful.{IsLawful}
+
+pub box_lawful : (key : List ℕ) → IsLawful (λ nonce text. sealing key nonce [] text) (λ nonce block. opening key nonce [] block)
+box_lawful key =
+    record {
+      longer = λ nonce text h. length-sealing key nonce [] text;
+      opens = λ nonce text h. opening_of_sealing key nonce [] text;
+      only = λ nonce text block h e. sym (sealing_of_opening key nonce [] block text e);
+    }

@@ -1,0 +1,35 @@
+//! The file key.
+
+ghost use Rattle.std.specs.Prelude.{◌≡◌};
+
+use std::marker::Model;
+
+/// The 16 bytes of a file key (C2SP age.md, "File key"). A contract sees the list of them.
+#[derive(Drop)]
+pub struct FileKey {
+    bytes: [u8; 16],
+}
+
+impl Model for FileKey {
+    ghost use Rattle.std.specs.Prelude.{List, ℕ};
+
+    ghost Value = { List ℕ };
+
+    ghost view = { λ k. k.bytes };
+}
+
+impl FileKey {
+    /// The file key of these bytes.
+    pub fn new(bytes: [u8; 16]) -> FileKey
+        ensures { result ≡ bytes }
+    {
+        FileKey { bytes }
+    }
+
+    /// The bytes of the key.
+    pub fn bytes(&self) -> &[u8; 16]
+        ensures { result.now ≡ self.now }
+    {
+        &self.bytes
+    }
+}

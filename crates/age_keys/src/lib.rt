@@ -1,0 +1,26 @@
+//! From the header of an age file to the key of its payload (C2SP age.md).
+//!
+//! A file key of 16 bytes is wrapped in the body of a stanza. An [`Unlock`] finds it there, and
+//! the header's MAC, an HMAC under a key that HKDF makes of the file key, confirms it:
+//! [`open_header`]. HKDF of the file key and the payload's nonce then gives the [`PayloadKey`],
+//! under which ChaCha20 and Poly1305 seal each chunk.
+//!
+//! No claim is made of constant time, and no key is wiped.
+#![tactic(auto)]
+
+mod fault;
+mod key;
+mod open;
+mod payload;
+mod unlock;
+mod x25519;
+
+pub use fault::KeyFault;
+pub use key::FileKey;
+pub use open::open_header;
+pub use payload::{PayloadKey, payload_key, position_key};
+pub use unlock::{KnownKey, Unlock};
+pub use x25519::X25519Stanza;
+
+#[cfg(test)]
+mod tests;

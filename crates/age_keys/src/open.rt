@@ -1,0 +1,80 @@
+//! Opens a header.
+
+ghost use Rattle.std.specs.Prelude.{◌≡◌, ◌≢◌, IfOk, IfErr};
+ghost use Rattle.std.specs.List.{list_any};
+ghost use Rattle.age_stanza.specs.Grammar.{HasText};
+ghost use Rattle.age_keys.specs.Keys.{is_scrypt, is_scrypt_beside, header_mac};
+ghost use Rattle.age_keys.specs.Opened.{Opens, Refuses};
+ghost use Rattle.age_keys.specs.declared.fault.KeyFault.TheVariants.{Memory};
+
+use crate::fault::KeyFault;
+use crate::key::FileKey;
+use crate::unlock::Unlock;
+use age_stanza::{Header, Stanza};
+use std::alloc::Global;
+
+/// Whether a stanza is of type `scrypt`.
+pub(crate) fn is_scrypt(stanza: &Stanza) -> bool
+    ensures { result ≡ is_scrypt stanza.now }
+{
+    match stanza.args.as_slice() {
+        [kind, ..] => kind.as_slice() == b"scrypt".as_slice(),
+        [] => false,
+    }
+}
+
+/// Whether some stanza is of type `scrypt`.
+pub(crate) fn has_scrypt(stanzas: &[Stanza]) -> bool
+    ensures { result ≡ list_any is_scrypt stanzas.now }
+{
+    stanzas.iter().any(is_scrypt)
+}
+
+/// Whether a scrypt stanza stands beside another stanza.
+pub(crate) fn is_scrypt_beside(header: &Header) -> bool
+    ensures { result ≡ is_scrypt_beside header.now }
+{
+    let stanzas = header.stanzas.as_slice();
+    stanzas.len() > 1 && has_scrypt(stanzas)
+}
+
+/// The MAC of a header under a file key. The only fault is a refusal of memory.
+pub(crate) fn mac_of(alloc: Global, header: &Header, key: &FileKey) -> Result<[u8; 32], KeyFault>
+    requires { HasText header.now }
+    ensures mac { IfOk result (λ mac. mac ≡ header_mac key.now header.now) }
+    ensures memory { IfErr result (λ fault. fault ≡ Memory) }
+{
+    let Ok(text) = age_stanza::mac_text(alloc, header) else {
+        return Err(KeyFault::Memory);
+    };
+    let secret = age_kdf::hkdf32(key.bytes(), &[], b"header");
+    Ok(age_kdf::hmac(&secret, &[text.as_slice()]))
+}
+
+/// Opens a header that [`is_header`](age_stanza::is_header), which is asked: answers the file key
+/// that the unlocker finds in it, once the header's MAC confirmed that key (C2SP age.md, "Header
+/// MAC").
+///
+/// It refuses, in this order, a scrypt stanza beside another stanza
+/// ([`KeyFault::ScryptNotAlone`]), whatever the unlocker refuses, want of memory for the text that
+/// the MAC covers, and a MAC that isn't that of the key ([`KeyFault::MacMismatch`]).
+pub fn open_header<U: Unlock>(
+    alloc: Global,
+    header: &Header,
+    unlock: &U,
+) -> Result<FileKey, KeyFault>
+    requires { HasText header.now }
+    ensures key { IfOk result (Opens (U.allows unlock.now) header.now) }
+    ensures refused { IfErr result (λ fault. fault ≢ Memory
+        → Refuses (U.allows unlock.now) (U.refuses unlock.now) header.now fault) }
+{
+    if is_scrypt_beside(header) {
+        return Err(KeyFault::ScryptNotAlone);
+    }
+    let key = unlock.unlock(alloc, header)?;
+    let mac = mac_of(alloc, header, &key)?;
+    if header.mac != mac {
+        return Err(KeyFault::MacMismatch);
+    }
+    Ok(key)
+}

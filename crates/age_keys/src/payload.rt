@@ -1,0 +1,61 @@
+//! The keys behind a header: that of the payload, and that of positions in it.
+
+ghost use Rattle.std.specs.Prelude.{◌≡◌, []};
+ghost use Rattle.age_cipher.specs.Aead.{sealing as sealing_with};
+ghost use Rattle.age_cipher.specs.Opening.{opening as opening_with};
+ghost use Rattle.age_keys.specs.Keys.{payload_key, position_key};
+ghost use Rattle.age_keys.specs.PayloadBox.{box_lawful};
+
+use crate::key::FileKey;
+use age_cipher::{open_in_place, seal_in_place};
+use age_stream::ChunkBox;
+use std::marker::Model;
+
+/// The key of a payload, which seals and opens its chunks (C2SP age.md, "Payload"). A contract
+/// sees the list of its 32 bytes.
+#[derive(Drop)]
+pub struct PayloadKey {
+    bytes: [u8; 32],
+}
+
+impl Model for PayloadKey {
+    ghost use Rattle.std.specs.Prelude.{List, ℕ};
+
+    ghost Value = { List ℕ };
+
+    ghost view = { λ k. k.bytes };
+}
+
+impl ChunkBox for PayloadKey {
+    ghost sealing = { λ key nonce text. sealing_with key nonce [] text };
+
+    ghost opening = { λ key nonce block. opening_with key nonce [] block };
+
+    ghost lawful = { λ key. box_lawful key };
+
+    fn seal_at(&self, nonce: &[u8; 12], block: &mut [u8]) {
+        seal_in_place(&self.bytes, nonce, &[], block);
+    }
+
+    fn open_at(&self, nonce: &[u8; 12], block: &mut [u8]) -> bool {
+        open_in_place(&self.bytes, nonce, &[], block)
+    }
+}
+
+/// The key of the payload behind a nonce: HKDF of the file key, salted with the nonce, under the
+/// label `payload` (C2SP age.md, "Payload").
+pub fn payload_key(key: &FileKey, nonce: &[u8; 16]) -> PayloadKey
+    ensures { result ≡ payload_key key.now nonce.now }
+{
+    PayloadKey {
+        bytes: age_kdf::hkdf32(key.bytes(), nonce, b"payload"),
+    }
+}
+
+/// The key of the tags of positions in a payload: HKDF of the file key, salted with the payload's
+/// nonce, under the label `age-tool position v2`. It is no part of the age format.
+pub fn position_key(key: &FileKey, nonce: &[u8; 16]) -> [u8; 32]
+    ensures { result ≡ position_key key.now nonce.now }
+{
+    age_kdf::hkdf32(key.bytes(), nonce, b"age-tool position v2")
+}

@@ -1,0 +1,77 @@
+//! What finds a file key in a header.
+
+ghost use Rattle.std.specs.Prelude.{◌≡◌, ◌≢◌, ℕ, List, MatchResult, IfSome, IfNone};
+ghost use Rattle.age_stanza.specs.declared.header.Header.{Header as HeaderValue};
+ghost use Rattle.age_keys.specs.declared.fault.KeyFault.{KeyFault as Fault};
+ghost use Rattle.age_keys.specs.declared.fault.KeyFault.TheVariants.{Memory};
+ghost use Rattle.age_keys.specs.Keys.{SpellsKey};
+
+use crate::fault::KeyFault;
+use crate::key::FileKey;
+use age_stanza::Header;
+use hex::FromHex;
+use std::alloc::Global;
+use std::marker::Model;
+
+/// Finds the file key in the stanzas of a header, or refuses it.
+///
+/// Whoever implements it states two relations: which key it may answer for a header, and which
+/// fault. [`open_header`](crate::open_header) promises what it does in their words.
+pub trait Unlock {
+    /// The keys that it may answer for a header.
+    ghost allows: { Self → HeaderValue → List ℕ → Type 0 };
+
+    /// The faults that it may answer for a header, want of memory aside.
+    ghost refuses: { Self → HeaderValue → Fault → Type 0 };
+
+    /// The file key of a header. Nothing is changed.
+    fn unlock(&self, alloc: Global, header: &Header) -> Result<FileKey, KeyFault>
+        ensures { MatchResult result (λ key. allows self.now header.now key)
+            (λ fault. fault ≢ Memory → refuses self.now header.now fault) };
+}
+
+/// A file key that is known: it is answered for every header. A contract sees the list of its
+/// bytes.
+#[derive(Drop)]
+pub struct KnownKey {
+    bytes: [u8; 16],
+}
+
+impl Model for KnownKey {
+    ghost use Rattle.std.specs.Prelude.{List, ℕ};
+
+    ghost Value = { List ℕ };
+
+    ghost view = { λ k. k.bytes };
+}
+
+impl KnownKey {
+    /// The known key of these bytes.
+    pub fn new(bytes: [u8; 16]) -> KnownKey
+        ensures { result ≡ bytes }
+    {
+        KnownKey { bytes }
+    }
+
+    /// The key that 32 hexadecimal digits of either case spell, two for each byte; `None` for
+    /// any other text.
+    pub fn read(text: &str) -> Option<KnownKey>
+        ensures key { IfSome result (λ key. SpellsKey text.now key) }
+        ensures none { IfNone result ((key : List ℕ) → SpellsKey text.now key → ⊥) }
+    {
+        match <[u8; 16] as FromHex>::from_hex(text) {
+            Ok(bytes) => Some(KnownKey::new(bytes)),
+            Err(_) => None,
+        }
+    }
+}
+
+impl Unlock for KnownKey {
+    ghost allows = { λ known _ key. key ≡ known };
+
+    ghost refuses = { λ _ _ _. ⊥ };
+
+    fn unlock(&self, _alloc: Global, _header: &Header) -> Result<FileKey, KeyFault> {
+        Ok(FileKey::new(self.bytes))
+    }
+}
