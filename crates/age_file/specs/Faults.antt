@@ -6,15 +6,29 @@ use Rattle.age_stanza.specs.declared.fault.HeadKind.TheVariants.{NotAge, Armored
 use Rattle.age_stanza.specs.declared.fault.HeadFault.{HeadFault}
 use Rattle.age_stanza.specs.FaultNumbers as head
 use Rattle.age_stanza.specs.Faults.{HasHeader, NoFault, IsFault, line_after}
+use Rattle.age_keys.specs.declared.fault.KeyFault.{KeyFault}
+use Rattle.age_keys.specs.declared.fault.KeyFault.TheVariants.{ScryptNotAlone, BadScrypt, WorkTooHigh, NoMatch, WrongKey, MacMismatch, BadX25519, Memory as KeyMemory}
+use Rattle.age_keys.specs.FaultNumbers as key
+use Rattle.age_stream.specs.declared.fault.StreamKind.{StreamKind}
+use Rattle.age_stream.specs.declared.fault.StreamKind.TheVariants.{ChunkDamaged, ChunkCut, EmptyLast, Truncated, Trailing, TooManyChunks}
+use Rattle.age_stream.specs.FaultNumbers as stream
 use Rattle.age_file.specs.declared.fault.FileFault.{FileFault}
-use Rattle.age_file.specs.declared.fault.FileFault.TheVariants.{Head, Read, Write, Memory, ReadNeverEnds}
+use Rattle.age_file.specs.declared.fault.FileFault.TheVariants.{Head, Key, NonceCut, Stream, BadPosition, OtherFile, ShortText, Read, Write, Memory, ReadNeverEnds, PositionForged, OldTextDiffers}
 
 abbrev pub number_of : FileFault → ℕ
 number_of (Head fault) = head.number_of fault.kind
+number_of (Key fault) = key.number_of fault
+number_of NonceCut = 16
+number_of (Stream fault) = stream.number_of fault.kind
+number_of BadPosition = 23
+number_of OtherFile = 24
+number_of ShortText = 25
 number_of Read = 26
 number_of Write = 27
 number_of Memory = 28
 number_of ReadNeverEnds = 29
+number_of PositionForged = 30
+number_of OldTextDiffers = 31
 
 abbrev pub head_name_of : HeadKind → List ℕ
 head_name_of NotAge = codes "NotAge"
@@ -27,16 +41,43 @@ head_name_of HeadTooLong = codes "HeadTooLong"
 head_name_of HeadCut = codes "HeadCut"
 head_name_of HeadMemory = codes "Memory"
 
+abbrev pub key_name_of : KeyFault → List ℕ
+key_name_of ScryptNotAlone = codes "ScryptNotAlone"
+key_name_of BadScrypt = codes "BadScrypt"
+key_name_of WorkTooHigh = codes "WorkTooHigh"
+key_name_of NoMatch = codes "NoMatch"
+key_name_of WrongKey = codes "WrongKey"
+key_name_of MacMismatch = codes "MacMismatch"
+key_name_of BadX25519 = codes "BadX25519"
+key_name_of KeyMemory = codes "Memory"
+
+abbrev pub stream_name_of : StreamKind → List ℕ
+stream_name_of ChunkDamaged = codes "ChunkDamaged"
+stream_name_of ChunkCut = codes "ChunkCut"
+stream_name_of EmptyLast = codes "EmptyLast"
+stream_name_of Truncated = codes "Truncated"
+stream_name_of Trailing = codes "Trailing"
+stream_name_of TooManyChunks = codes "TooManyChunks"
+
 abbrev pub name_of : FileFault → List ℕ
 name_of (Head fault) = head_name_of fault.kind
+name_of (Key fault) = key_name_of fault
+name_of NonceCut = codes "NonceCut"
+name_of (Stream fault) = stream_name_of fault.kind
+name_of BadPosition = codes "BadPosition"
+name_of OtherFile = codes "OtherFile"
+name_of ShortText = codes "ShortText"
 name_of Read = codes "Read"
 name_of Write = codes "Write"
 name_of Memory = codes "Memory"
 name_of ReadNeverEnds = codes "ReadNeverEnds"
+name_of PositionForged = codes "PositionForged"
+name_of OldTextDiffers = codes "OldTextDiffers"
 
--- the line of a header's fault
+-- the line of a header's fault, the chunk of a payload's
 abbrev pub place_of : FileFault → Option ℕ
 place_of (Head fault) = head.place_of fault
+place_of (Stream fault) = Some fault.chunk
 place_of other = None
 
 -- a header's fault; want of memory is one case, whichever layer it came from
@@ -46,6 +87,11 @@ fault_by_kind kind fault = Head fault
 
 abbrev pub fault_of : HeadFault → FileFault
 fault_of fault = fault_by_kind fault.kind fault
+
+-- an unlocker's fault as a file's, in the same way
+abbrev pub fault_of_key : KeyFault → FileFault
+fault_of_key KeyMemory = Memory
+fault_of_key fault = Key fault
 
 -- a count of failures rose, or is at its greatest value
 abbrev pub HasRisen : ℕ → ℕ → Type 0
@@ -80,6 +126,6 @@ NeverEnds old new = (bytes : List ℕ) × Consumes old new bytes × (2 ^ 63 ≤ 
 abbrev pub HeadFails : Option (List ℕ) → Option (List ℕ) → ℕ → ℕ → FileFault → Type 0
 HeadFails old new failed_old failed_new (Head fault) = TellsFault old new fault
 HeadFails old new failed_old failed_new Read = HasRisen failed_old failed_new
-HeadFails old new failed_old failed_new Write = ⊥
 HeadFails old new failed_old failed_new Memory = Unit {0}
 HeadFails old new failed_old failed_new ReadNeverEnds = NeverEnds old new
+HeadFails old new failed_old failed_new other = ⊥

@@ -2,10 +2,12 @@
 
 ghost use Rattle.std.specs.Prelude.{◌≡◌};
 ghost use Rattle.age_file.specs.declared.fault.FileFault.TheVariants.{Memory as MemoryFault};
-ghost use Rattle.age_file.specs.Faults.{number_of, place_of, name_of, head_name_of, fault_of};
+ghost use Rattle.age_file.specs.Faults.{number_of, place_of, name_of, head_name_of, key_name_of, stream_name_of, fault_of, fault_of_key};
 
 use crate::failed::Memory;
+use age_keys::KeyFault;
 use age_stanza::{HeadFault, HeadKind};
+use age_stream::{StreamFault, StreamKind};
 use std::alloc::{AllocError, AllocFailed};
 use thiserror::Error;
 
@@ -15,6 +17,24 @@ pub enum FileFault {
     /// The header is not one, at this line (1 to 8).
     #[error("{0}")]
     Head(HeadFault),
+    /// The header was not opened (9 to 15).
+    #[error("{0}")]
+    Key(KeyFault),
+    /// Fewer than 16 bytes follow the header (16).
+    #[error("payload nonce cut")]
+    NonceCut,
+    /// The payload, or the text to be sealed, was refused at this chunk (17 to 22).
+    #[error("{0}")]
+    Stream(StreamFault),
+    /// The text is not that of a position (23).
+    #[error("bad position")]
+    BadPosition,
+    /// The position belongs to another file (24).
+    #[error("position of another file")]
+    OtherFile,
+    /// The old text is shorter than the position needs (25).
+    #[error("old text too short")]
+    ShortText,
     /// A source failed in this call (26).
     #[error("the input could not be read")]
     Read,
@@ -27,6 +47,12 @@ pub enum FileFault {
     /// A source gave bytes by 2^63 pulls in one call (29).
     #[error("the input never ends")]
     ReadNeverEnds,
+    /// The position was not made under this file's key (30).
+    #[error("forged position")]
+    PositionForged,
+    /// The old text is not the one that the position was made for (31).
+    #[error("old text differs")]
+    OldTextDiffers,
 }
 
 impl From<AllocError> for FileFault {
@@ -64,6 +90,17 @@ impl From<HeadFault> for FileFault {
     }
 }
 
+impl From<KeyFault> for FileFault {
+    ghost from_gives = { λ fault e. e ≡ fault_of_key fault };
+
+    fn from(fault: KeyFault) -> FileFault {
+        match fault {
+            KeyFault::Memory => FileFault::Memory,
+            other => FileFault::Key(other),
+        }
+    }
+}
+
 impl FileFault {
     /// The number of this fault in the list of all faults.
     pub fn number(&self) -> u8
@@ -71,19 +108,28 @@ impl FileFault {
     {
         match self {
             FileFault::Head(fault) => fault.number(),
+            FileFault::Key(fault) => fault.number(),
+            FileFault::NonceCut => 16,
+            FileFault::Stream(fault) => fault.number(),
+            FileFault::BadPosition => 23,
+            FileFault::OtherFile => 24,
+            FileFault::ShortText => 25,
             FileFault::Read => 26,
             FileFault::Write => 27,
             FileFault::Memory => 28,
             FileFault::ReadNeverEnds => 29,
+            FileFault::PositionForged => 30,
+            FileFault::OldTextDiffers => 31,
         }
     }
 
-    /// The line of a header's fault, from 1.
+    /// The line of a header's fault, from 1, or the chunk of a payload's, from 0.
     pub fn place(&self) -> Option<u64>
         ensures { result ≡ place_of self.now }
     {
         match self {
             FileFault::Head(fault) => fault.place(),
+            FileFault::Stream(fault) => fault.place(),
             _ => None,
         }
     }
@@ -94,10 +140,18 @@ impl FileFault {
     {
         match self {
             FileFault::Head(fault) => head_name(fault.kind),
+            FileFault::Key(fault) => key_name(*fault),
+            FileFault::NonceCut => "NonceCut",
+            FileFault::Stream(fault) => stream_name(fault.kind),
+            FileFault::BadPosition => "BadPosition",
+            FileFault::OtherFile => "OtherFile",
+            FileFault::ShortText => "ShortText",
             FileFault::Read => "Read",
             FileFault::Write => "Write",
             FileFault::Memory => "Memory",
             FileFault::ReadNeverEnds => "ReadNeverEnds",
+            FileFault::PositionForged => "PositionForged",
+            FileFault::OldTextDiffers => "OldTextDiffers",
         }
     }
 }
@@ -115,5 +169,33 @@ fn head_name(kind: HeadKind) -> &'static str
         HeadKind::HeadTooLong => "HeadTooLong",
         HeadKind::HeadCut => "HeadCut",
         HeadKind::Memory => "Memory",
+    }
+}
+
+fn key_name(fault: KeyFault) -> &'static str
+    ensures { result.now ≡ key_name_of fault }
+{
+    match fault {
+        KeyFault::ScryptNotAlone => "ScryptNotAlone",
+        KeyFault::BadScrypt => "BadScrypt",
+        KeyFault::WorkTooHigh => "WorkTooHigh",
+        KeyFault::NoMatch => "NoMatch",
+        KeyFault::WrongKey => "WrongKey",
+        KeyFault::MacMismatch => "MacMismatch",
+        KeyFault::BadX25519 => "BadX25519",
+        KeyFault::Memory => "Memory",
+    }
+}
+
+fn stream_name(kind: StreamKind) -> &'static str
+    ensures { result.now ≡ stream_name_of kind }
+{
+    match kind {
+        StreamKind::ChunkDamaged => "ChunkDamaged",
+        StreamKind::ChunkCut => "ChunkCut",
+        StreamKind::EmptyLast => "EmptyLast",
+        StreamKind::Truncated => "Truncated",
+        StreamKind::Trailing => "Trailing",
+        StreamKind::TooManyChunks => "TooManyChunks",
     }
 }
