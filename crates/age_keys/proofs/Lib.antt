@@ -1,2 +1,3 @@
 pub mod Base64Lemmas
+pub mod ScryptLemmas
 pub mod X25519Lemmas

@@ -2,4 +2,5 @@ pub mod FaultNumbers
 pub mod Keys
 pub mod Opened
 pub mod PayloadBox
+pub mod Scrypt
 pub mod X25519

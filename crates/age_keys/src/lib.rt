@@ -12,6 +12,7 @@ mod fault;
 mod key;
 mod open;
 mod payload;
+mod scrypt;
 mod unlock;
 mod x25519;
 
@@ -19,6 +20,7 @@ pub use fault::KeyFault;
 pub use key::FileKey;
 pub use open::open_header;
 pub use payload::{PayloadKey, payload_key, position_key};
+pub use scrypt::scrypt_header;
 pub use unlock::{KnownKey, Unlock};
 pub use x25519::X25519Stanza;
 
