@@ -1,3 +1,4 @@
 pub mod Base64Lemmas
 pub mod ScryptLemmas
-pub mod X25519Lemmas
+pub mod StanzaLemmas
+pub mod WorkFactorLemmas

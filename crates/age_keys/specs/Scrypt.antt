@@ -13,21 +13,27 @@ use Rattle.age_keys.specs.Keys.{header_mac, wrapped}
 unfoldable pub wrap_key : List ℕ → List ℕ → ℕ → List ℕ
 wrap_key pass salt log = scrypt pass (codes "age-encryption.org/v1/scrypt" ++ salt) log
 
--- the characters of a work factor: decimal digits of whatever number, the first not zero
-pub record SpellsWorkFactor (characters : List ℕ) (log : ℕ) : Type 0 where
+-- the characters of a work factor: decimal digits, as many as there may be, and the first isn't zero
+pub record IsWorkFactor (characters : List ℕ) : Type 0 where
   pub digits : IsNumeral 10 characters
   pub no_leading_zero : slice_index characters 0 ≢ 48
-  pub value : digits_value 10 characters ≡ log
 
 -- the stanza `-> scrypt SALT LOG` of a salt of 16 bytes, a work factor and a body of 32 bytes
 pub record IsScryptStanza (s : Stanza) (salt : List ℕ) (log : ℕ) (body : List ℕ) : Type 0 where
   pub characters : List ℕ
   pub args : s.args ≡ codes "scrypt" ∷ text salt ∷ characters ∷ []
   pub body_is : s.body ≡ body
-  pub work_factor : SpellsWorkFactor characters log
+  pub work_factor : IsWorkFactor characters
+  pub log_is : digits_value 10 characters ≡ log
   pub salt_bytes : IsBytes salt
   pub salt_length : length salt ≡ 16
   pub body_length : length body ≡ 32
+
+-- it is the header's only one
+pub record HasScryptStanza (h : Header) (salt : List ℕ) (log : ℕ) (body : List ℕ) : Type 0 where
+  pub stanza : Stanza
+  pub alone : h.stanzas ≡ stanza ∷ []
+  pub lawful : IsScryptStanza stanza salt log body
 
 -- such a stanza, as it is written
 unfoldable pub scrypt_stanza : List ℕ → ℕ → List ℕ → Stanza

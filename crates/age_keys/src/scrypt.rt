@@ -2,14 +2,13 @@
 
 ghost use Rattle.std.specs.Prelude.{◌≡◌, ◌≤◌, [], ◌∷◌, length, IfOk, IfErr};
 ghost use Rattle.age_stanza.specs.Grammar.{HasText};
-ghost use Rattle.age_keys.specs.Keys.{wrapped};
 ghost use Rattle.age_keys.specs.Scrypt.{wrap_key, scrypt_stanza, scrypt_head};
 ghost use Rattle.age_keys.specs.declared.fault.KeyFault.TheVariants.{Memory};
 
 use crate::fault::KeyFault;
 use crate::key::FileKey;
 use crate::open::mac_of;
-use age_cipher::seal_in_place;
+use crate::wrap::wrapped;
 use age_scrypt::Steps;
 use age_stanza::{Arguments, Bytes, Header, Stanza, Stanzas};
 use base64::engine::general_purpose::STANDARD_NO_PAD;
@@ -38,16 +37,6 @@ pub(crate) fn wrap_key(
         Ok(key) => Ok(key),
         Err(_) => Err(KeyFault::Memory),
     }
-}
-
-/// A file key sealed under a wrap key.
-fn wrapped(wrap_key: &[u8; 32], key: &FileKey) -> [u8; 32]
-    ensures { result ≡ wrapped wrap_key.now key.now }
-{
-    let mut block = [0; 32];
-    block[..16].copy_from_slice(key.bytes());
-    seal_in_place(wrap_key, &[0; 12], &[], &mut block);
-    block
 }
 
 /// The stanza of a salt, a work factor and a body.
