@@ -1,8 +1,10 @@
 // What passphrases and known keys find in headers. The header was made by Python: hashlib's scrypt, HMAC over its
 // SHA-256, and RFC 8439 in plain whole numbers.
-ghost use Rattle.std.specs.Prelude.{◌<◌, IsTrue, codes};
+ghost use Rattle.std.specs.Prelude.{◌<◌, IsTrue, IfOk, codes};
 ghost use Rattle.age_stanza.specs.Grammar.{HeadText};
+ghost use Rattle.age_keys.specs.Opened.{Opens};
 ghost use Rattle.age_keys.specs.Scrypt.{scrypt_head};
+ghost use Rattle.age_vectors.specs.Keys.{OpensIn};
 
 use crate::header::parsed;
 use age_keys::{FileKey, KnownKey, Passphrase, Unlock, open_header, scrypt_header};
@@ -25,7 +27,9 @@ const AT_TEN: &[u8; 150] =
     b"age-encryption.org/v1\n-> scrypt EBESExQVFhcYGRobHB0eHw 10\nQh59WLlLxJRIkowFnzt99qkc7x6EgdHELDUQmvHY874\n--- 2qY5AgJS48JZMvxeEOs4EKHsGHn1+dq7Rvg3gLXzgBM\n";
 
 /// The number of the fault with which a header is refused, or the file key.
-fn answer<U: Unlock>(alloc: Global, header: &Header, unlock: &U) -> Result<[u8; 16], u8> {
+fn answer<U: Unlock>(alloc: Global, header: &Header, unlock: &U) -> Result<[u8; 16], u8>
+    ensures { IfOk result (Opens (U.allows unlock.now) header.now) }
+{
     if !is_header(header) {
         return Err(0);
     }
@@ -36,10 +40,22 @@ fn answer<U: Unlock>(alloc: Global, header: &Header, unlock: &U) -> Result<[u8; 
 }
 
 /// The same of the header in a text; 0 where none stands there.
-pub(crate) fn opened<U: Unlock>(alloc: Global, text: &[u8], unlock: &U) -> Result<[u8; 16], u8> {
+pub(crate) fn opened<U: Unlock>(alloc: Global, text: &[u8], unlock: &U) -> Result<[u8; 16], u8>
+    ensures { IfOk result (OpensIn (U.allows unlock.now) text.now) }
+{
     match parsed(alloc, text, HEAD_MAX) {
         Ok((_taken, header)) => answer(alloc, &header, unlock),
         Err(_fault) => Err(0),
+    }
+}
+
+/// Whether a text's header opens to the file key of all headers here. Where it does, it does so by the definitions.
+pub(crate) fn is_opened<U: Unlock>(alloc: Global, text: &[u8], unlock: &U) -> bool
+    ensures { IsTrue result → OpensIn (U.allows unlock.now) text.now KEY }
+{
+    match opened(alloc, text, unlock) {
+        Ok(key) => key == KEY,
+        Err(_number) => false,
     }
 }
 
@@ -80,7 +96,7 @@ fn passphrase_rows(alloc: Global) -> bool {
 fn known_key_rows(alloc: Global) -> bool {
     let mut other = KEY;
     other[15] ^= 1;
-    opened(alloc, &WRITTEN, &KnownKey::new(KEY)) == Ok(KEY)
+    is_opened(alloc, &WRITTEN, &KnownKey::new(KEY))
         && opened(alloc, &WRITTEN, &KnownKey::new(other)) == Err(14)
         && KnownKey::read("000102030405060708090A0b0c0d0e0f").is_some()
         && KnownKey::read("000102030405060708090A0b0c0d0e0").is_none()
