@@ -8,8 +8,9 @@ use Rattle.age_stream.specs.Lawful.{IsLawful}
 use Rattle.age_stream.specs.Payload.{chunk_count}
 use Rattle.age_stream.specs.Segment.{Segment, outcome}
 use Rattle.age_stream.specs.Deliveries.{Standing, standing, standing_from, after_delivery, begin, fresh, with_piece, with_end, text_held, accepts}
-use Rattle.age_stream.specs.Headline.{IsAuthentic, AreAuthentic, IsHeldRight, IsPrefixOf, IsStart, IsUndamaged}
+use Rattle.age_stream.specs.Headline.{IsAuthentic, AreAuthentic, IsHeldRight, IsReached, IsPrefixOf, IsStart, IsUndamaged}
 use Rattle.age_stream.specs.declared.step.Status.TheVariants.{Done}
+use Rattle.age_stream.proofs.Places.{in_place}
 use Rattle.age_stream.proofs.Undamaged.{rest_segment, rest_payload, rest_is_done}
 use Rattle.age_stream.proofs.Segments.{released_segment, by_test}
 use Rattle.age_stream.specs.declared.delivery.Delivery.{Delivery}
@@ -132,7 +133,13 @@ module _ (sealing : List ℕ → List ℕ → List ℕ) (opening : List ℕ → 
       let start : IsSound begin = record { small = omega arith; fits = omega arith; base = let z : 0 ≡ 0 * n = omega arith in ap (λ (k : ℕ). take k text) z } in
       let sound = sound_from ds begin start auth.0 in
       let r = released_segment sealing opening lawful n text few positive s.segment s.base sound.small sound.fits sound.base auth.1 in
-      record { prefix = r.prefix; done = r.done; whole = λ k u. let d = undamaged_done k ds auth u in (r.done d, d) }
+      let reached : IsReached sealing opening n text s.segment = record { limit = sound.small; within = sound.fits } in
+      record {
+        prefix = r.prefix;
+        done = r.done;
+        whole = λ k u. let d = undamaged_done k ds auth u in (r.done d, d);
+        place = in_place sealing opening lawful n text few positive s.segment auth.1 reached;
+      }
 
 on_from : (opening : List ℕ → List ℕ → Option (List ℕ)) (n : ℕ) (xs ys : List Delivery) (s : Standing) → standing_from opening n s (xs ++ ys) ≡ standing_from opening n (standing_from opening n s xs) ys
 on_from opening n [] ys s = refl

@@ -10,6 +10,7 @@ use Rattle.age_stream.specs.Opening.{OpenerView, Stands}
 use Rattle.age_stream.specs.Headline.{IsAuthentic, IsRest, ReleasesWritten}
 use Rattle.age_stream.specs.declared.step.Status.TheVariants.{Done}
 use Rattle.age_stream.proofs.Segments.{released_segment}
+use Rattle.age_stream.proofs.Places.{in_place}
 use Rattle.age_stream.proofs.Undamaged.{rest_segment, rest_payload, rest_is_done}
 
 module _ (sealing : List ℕ → List ℕ → List ℕ) (opening : List ℕ → List ℕ → Option (List ℕ)) (lawful : IsLawful sealing opening)
@@ -32,6 +33,7 @@ module _ (sealing : List ℕ → List ℕ → List ℕ) (opening : List ℕ → 
         prefix = r.prefix;
         done = r.done;
         whole = λ rest. let d = rest_done text few s auth rest in (r.done d, d);
+        place = in_place sealing opening lawful n text few positive s auth reached;
       }
 
 -- an opener that stands for the segment has its status

@@ -9,6 +9,7 @@ use Rattle.std.specs.List.{flat_map}
 use Rattle.std.specs.Borrow.{Bor}
 use Rattle.age_stream.specs.Payload.{sealed, payload, chunk_count}
 use Rattle.age_stream.specs.Segment.{Segment, front_texts, whole_blocks, rest_bytes}
+use Rattle.age_stream.specs.Places.{IsInPlace}
 use Rattle.age_stream.specs.Deliveries.{standing, accepts}
 use Rattle.age_stream.specs.declared.delivery.Delivery.{Delivery}
 use Rattle.age_stream.specs.declared.delivery.Delivery.TheVariants.{Piece, End, Restart}
@@ -53,12 +54,13 @@ module _ (sealing : List ℕ → List ℕ → List ℕ) (opening : List ℕ → 
     pub rest : flat_map (λ (piece : Bor (List ℕ)). piece.now) pieces ≡ drop (k * (n + 16)) (payload sealing n text)
     pub below : k < chunk_count n text
 
-  -- what is held is the beginning of the text, its end is reported only with all of it, and an undamaged payload, or the
-  -- rest of one, gives all of it and its end
+  -- what is held is the beginning of the text, its end is reported only with all of it, an undamaged payload, or the rest
+  -- of one, gives all of it and its end, and each block of the current segment stands in its place
   pub record IsHeldRight (deliveries : List Delivery) (held : List ℕ) (status : Status) : Type 0 where
     pub prefix : IsPrefixOf held text
     pub done : status ≡ Done → held ≡ text
     pub whole : (k : ℕ) → IsUndamaged k deliveries → (held ≡ text) × (status ≡ Done)
+    pub place : IsInPlace sealing opening n text (standing opening n deliveries).segment status
 
   -- the segment starts at a chunk that the text reaches
   pub record IsReached (s : Segment) : Type 0 where
@@ -77,6 +79,7 @@ module _ (sealing : List ℕ → List ℕ → List ℕ) (opening : List ℕ → 
     pub prefix : IsPrefixOf (take (s.start * n) text ++ released) text
     pub done : status ≡ Done → take (s.start * n) text ++ released ≡ text
     pub whole : IsRest s → (take (s.start * n) text ++ released ≡ text) × (status ≡ Done)
+    pub place : IsInPlace sealing opening n text s status
 
 module _ (sealing : List ℕ → List ℕ → List ℕ) (opening : List ℕ → List ℕ → Option (List ℕ)) (n : ℕ) where
   -- the headline: for every text of at most 2^48 chunks, while no delivered block opens except as its writer sealed it

@@ -13,6 +13,7 @@ pub mod OpenerSteps
 pub mod OpenerRow
 pub mod Replaying
 pub mod ReplaySteps
+pub mod Places
 pub mod Headline
 pub mod FaultNumbers
 pub mod Laws

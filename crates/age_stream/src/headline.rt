@@ -10,8 +10,11 @@ use crate::chunk_box::ChunkBox;
 /// While no delivered block opens at a nonce except as the writer of a text
 /// sealed it there, what is held is the beginning of the text, the end is
 /// reported only with all of it, and an undamaged payload, or its rest from a
-/// held chunk on, gives all of the text. The same of one segment, behind the
-/// text before its start.
+/// held chunk on, gives all of the text. Each block stands in its place: the
+/// outcome is that of comparing blocks with the writer's, so that
+/// [`ChunkDamaged`](crate::StreamKind::ChunkDamaged) stands at the first that
+/// is none, and [`TooManyChunks`](crate::StreamKind::TooManyChunks) never
+/// comes. The same of one segment, behind the text before its start.
 pub fn held_is_written<B: ChunkBox, const SEALED: usize>()
     requires least { 17 ≤ SEALED }
     ensures held { (key : B) (deliveries : List Delivery) → HoldsWritten (B.sealing key) (B.opening key) (SEALED - 16) deliveries

@@ -221,7 +221,8 @@ impl<'k, B: ChunkBox, const SEALED: usize> Replay<'k, B, SEALED> {
         ensures err { OnErr result (self.new ≡ self.old) }
 
         // While no block opens except as the writer of a text sealed it, what is held is the beginning of that text, the
-        // end is reported only with all of it, and an undamaged payload, or its rest, gives all of it.
+        // end is reported only with all of it, an undamaged payload, or its rest, gives all of it, and each block stands in
+        // its place.
         ensures written { OnOk result ((deliveries : List DeliveryValue) → Replays B.opening (SEALED - 16) self.old deliveries
             → HoldsWritten (B.sealing self.old.key) (B.opening self.old.key) (SEALED - 16) (deliveries ++ delivery.now ∷ []) self.new.text self.new.opener.status) }
         ensures key { self.new.key ≡ self.old.key }
