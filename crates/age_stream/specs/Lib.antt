@@ -15,5 +15,6 @@ pub mod Replaying
 pub mod ReplaySteps
 pub mod Places
 pub mod Headline
+pub mod Drills
 pub mod FaultNumbers
 pub mod Laws

@@ -14,6 +14,19 @@ use crate::step::Status;
 use std::alloc::Global;
 use std::marker::Model;
 
+/// What is held after a list of deliveries.
+#[derive(Drop)]
+pub struct Drill {
+    /// The text that is held.
+    pub text: Vec<u8>,
+    /// Where the opener of the last segment stands.
+    pub status: Status,
+    /// The number of the chunk at which the last segment stands.
+    pub index: u64,
+    /// How many restarts were refused, at most 2^64 - 1.
+    pub refused: u64,
+}
+
 /// What a replay keeps.
 #[derive(Drop)]
 struct ReplayState<'k, B: ChunkBox, const SEALED: usize> {
@@ -210,6 +223,24 @@ impl<'k, B: ChunkBox, const SEALED: usize> Replay<'k, B, SEALED> {
         ensures { result ≡ self.now.refused }
     {
         self.state.refused
+    }
+
+    // What it holds, with its text.
+    pub(crate) fn into_drill(self) -> Drill
+        ensures text { result.text.items ≡ self.entry.text }
+        ensures status { result.status ≡ self.entry.opener.status }
+        ensures index { result.index ≡ self.entry.opener.index }
+        ensures refused { result.refused ≡ self.entry.refused }
+    {
+        let status = self.status();
+        let index = self.index();
+        let refused = self.refused();
+        Drill {
+            text: self.state.text,
+            status,
+            index,
+            refused,
+        }
     }
 
     /// Takes a delivery: all bytes of a piece unless a fault comes, which then
