@@ -8,12 +8,14 @@
 mod cipher;
 mod delivery;
 mod header;
+mod hostile;
 mod kdf;
 mod scrypt;
 
 pub use cipher::{rfc_aead, rfc_chacha, rfc_poly1305};
 pub use delivery::delivery_rows;
 pub use header::header_rows;
+pub use hostile::hostile_rows;
 pub use kdf::{rfc_hkdf, rfc_hmac, rfc_pbkdf2};
 pub use scrypt::rfc_scrypt;
 
