@@ -4,3 +4,4 @@ pub mod Reports
 pub mod Writes
 pub mod Unread
 pub mod Intakes
+pub mod AgeFile
