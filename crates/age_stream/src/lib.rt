@@ -31,7 +31,7 @@ pub use clear_box::ClearBox;
 pub use delivery::Delivery;
 pub use fault::{Memory, StreamFault, StreamKind};
 pub use headline::held_is_written;
-pub use laws::{nonces_differ, pieces_join, released_grows, sealed_grows};
+pub use laws::{chunks_are_counted, nonces_differ, pieces_join, released_grows, sealed_grows};
 pub use nonce::{CHUNK_LIMIT, nonce_of};
 pub use opener::Opener;
 pub use replay::Replay;
