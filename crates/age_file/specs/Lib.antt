@@ -5,3 +5,8 @@ pub mod Writes
 pub mod Unread
 pub mod Intakes
 pub mod AgeFile
+pub mod Starts
+pub mod Releases
+pub mod Flows
+pub mod Decrypts
+pub mod Pours

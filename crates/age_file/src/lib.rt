@@ -5,6 +5,7 @@
 //! what its header holds and how much plaintext the bytes behind it would be.
 #![tactic(auto)]
 
+mod decryption;
 mod failed;
 mod fault;
 mod head;
@@ -12,11 +13,15 @@ mod inspection;
 mod intake;
 mod mem_sink;
 mod mem_source;
+mod pour;
+mod progress;
 mod put;
 mod report;
 mod sink;
 mod source;
+mod start;
 
+pub use decryption::{Done, Stopped, decrypt};
 pub use failed::{Failed, Memory};
 pub use fault::FileFault;
 pub use inspection::inspect;
