@@ -4,3 +4,5 @@ pub mod Reports
 pub mod Writes
 pub mod Unread
 pub mod Intakes
+pub mod Bindings
+pub mod PositionTexts
