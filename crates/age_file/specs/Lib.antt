@@ -10,3 +10,5 @@ pub mod Releases
 pub mod Flows
 pub mod Decrypts
 pub mod Pours
+pub mod Bindings
+pub mod PositionTexts
