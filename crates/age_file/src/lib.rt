@@ -33,3 +33,6 @@ pub use put::put_all;
 pub use report::{Report, StanzaReport, StanzaReports};
 pub use sink::{Sink, Writing};
 pub use source::{Reading, Source};
+
+#[cfg(test)]
+mod tests;
