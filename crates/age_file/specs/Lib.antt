@@ -6,3 +6,6 @@ pub mod Unread
 pub mod Intakes
 pub mod Bindings
 pub mod PositionTexts
+pub mod Ports
+pub mod Seals
+pub mod AgeFile

@@ -15,6 +15,7 @@ mod mem_source;
 mod position;
 mod put;
 mod report;
+mod sealing;
 mod sink;
 mod source;
 
