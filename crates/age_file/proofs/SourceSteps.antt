@@ -93,7 +93,7 @@ pull_fails n old new text pulls failed_old failed_new OldTextDiffers same is gav
 -- why a piece wasn't sealed
 pub seal_fails : {B : Type 0} (sealing : B → List ℕ → List ℕ → List ℕ) (n : ℕ) (a b : SealerView B) (old new : Ports) (was now : Tally) (text piece : List ℕ) (fault : FileFault)
     → was.failures ≡ old.write_failed → new.write_failed ≡ now.failures → GoesOn sealing n a b text → Holds n a [] → SealFails sealing n b was now piece fault → SealingFails n old new (text ++ piece) fault
-seal_fails sealing n a b old new was now text piece (Stream fault) same is goes fresh f = f.0 text (goes.holds [] fresh)
+seal_fails sealing n a b old new was now text piece (Stream fault) same is goes fresh f = (f.0 text (goes.holds [] fresh), f.1)
 seal_fails sealing n a b old new was now text piece Write same is goes fresh f = subst (λ (k : ℕ). HasRisen k new.write_failed) same (subst (λ (k : ℕ). HasRisen was.failures k) (sym is) f)
 seal_fails sealing n a b old new was now text piece (Head fault) same is goes fresh f = absurd f
 seal_fails sealing n a b old new was now text piece (Key fault) same is goes fresh f = absurd f

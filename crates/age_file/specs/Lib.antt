@@ -9,3 +9,5 @@ pub mod PositionTexts
 pub mod Ports
 pub mod Seals
 pub mod AgeFile
+pub mod Secrets
+pub mod Encrypts

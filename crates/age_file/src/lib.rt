@@ -5,6 +5,7 @@
 //! what its header holds and how much plaintext the bytes behind it would be.
 #![tactic(auto)]
 
+mod encryption;
 mod failed;
 mod fault;
 mod head;
@@ -16,9 +17,11 @@ mod position;
 mod put;
 mod report;
 mod sealing;
+mod secret;
 mod sink;
 mod source;
 
+pub use encryption::{Written, encrypt};
 pub use failed::{Failed, Memory};
 pub use fault::FileFault;
 pub use inspection::inspect;
@@ -27,5 +30,6 @@ pub use mem_source::MemSource;
 pub use position::Position;
 pub use put::put_all;
 pub use report::{Report, StanzaReport, StanzaReports};
+pub use secret::Secret;
 pub use sink::{Sink, Writing};
 pub use source::{Reading, Source};

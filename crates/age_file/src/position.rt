@@ -44,7 +44,10 @@ fn tag_of(key: &[u8; 32], index: u64, file_id: &[u8; 32], chain: &[u8; 32]) -> [
     let mut digits = Buffer::new();
     let index = digits.format(index).as_bytes();
     let (id, links) = (spelled(file_id), spelled(chain));
-    age_kdf::hmac(key, &[b"age-position/v2 ", index, b" ", &id, b" ", &links, b" "])
+    age_kdf::hmac(
+        key,
+        &[b"age-position/v2 ", index, b" ", &id, b" ", &links, b" "],
+    )
 }
 
 /// The next link of a chain, over one more chunk.

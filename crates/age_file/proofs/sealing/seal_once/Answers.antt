@@ -21,7 +21,7 @@ returns-in-Err-clause-sealed g c =
         wrote = record { bytes = Appends-nil _; count = omega arith };
         blocks = λ text h. ap (front_of (g.B.ChunkBox.sealing key) n) (append-nil text) ∙ sym (append-nil (front_of (g.B.ChunkBox.sealing key) n text));
       };
-      answered = (too_long n c.args.sealer.now c.args.piece.now (omega (arith, c.requires.least)) c.requires.feeding.sound refused.0, refl);
+      answered = (too_long n c.args.sealer.now c.args.piece.now (omega (arith, c.requires.least)) c.requires.feeding.sound refused.0, ap (λ f. f.kind) refused.1);
     }
 
 pub returns-in-Ok-put_all-clause-sealed : goal.returns-in-Ok-put_all-clause-sealed

@@ -67,12 +67,21 @@ seal_piece-requires g c =
     let blocks : front_of (g.B.ChunkBox.sealing c.args.sealer.now.key) n text ≡ front_of (g.B.ChunkBox.sealing c.pulls.sealer.key) n text =
     ap (λ k. front_of (g.B.ChunkBox.sealing k) n text) (sym kept.goes.key) in (
       search rules,
-      (c.requires.least, (c.requires.most, (kept.goes.feeding, record {
-        text = text;
-        holds = kept.goes.holds [] c.requires.fresh.1;
-        small = omega (arith, pulled.small, pulled.most, c.bytes.ensures.most);
-        count = omega (arith, c.requires.room, kept.wrote.count, ap length blocks);
-      }))),
+      (
+        c.requires.least,
+        (
+          c.requires.most,
+          (
+            kept.goes.feeding,
+            record {
+              text = text;
+              holds = kept.goes.holds [] c.requires.fresh.1;
+              small = omega (arith, pulled.small, pulled.most, c.bytes.ensures.most);
+              count = omega (arith, c.requires.room, kept.wrote.count, ap length blocks);
+            },
+          ),
+        ),
+      ),
     )
 
 pub returns-in-Err-seal_piece-clause-fails : goal.returns-in-Err-seal_piece-clause-fails
