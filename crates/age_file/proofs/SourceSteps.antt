@@ -1,9 +1,8 @@
 -- A source's text, piece by piece, and what of its payload was written.
-use Rattle.std.proofs.Common.{◌≡◌, ℕ, ◌+◌, ◌-◌, ◌*◌, ◌^◌, ◌<◌, ◌≤◌, ◌/◌, refl, sym, ap, subst, ◌∙◌, List, [], ◌∷◌, ◌++◌, length, Option, append-nil, append_assoc, true, false, arith}
+use Rattle.std.proofs.Common.{◌≡◌, ℕ, ◌<◌, ◌≤◌, ◌/◌, sym, ap, subst, ◌∙◌, List, [], ◌∷◌, ◌++◌, length, append-nil, append_assoc, true, false, arith}
 use Rattle.std.specs.Prelude.{map}
 use Rattle.std.specs.List.{enumerate_from}
 use Rattle.std.specs.Simd.{first_chunks}
-use Rattle.std.specs.Io.KnownBytes.{Appends}
 use Rattle.std.proofs.lemmas.Grind.{flat_map-append}
 use Rattle.std.proofs.lemmas.List.{length-append}
 use Rattle.age_stream.specs.Headline.{IsPrefixOf}
@@ -13,7 +12,7 @@ use Rattle.age_stream.proofs.Sealings.{payload_begins}
 use Rattle.age_file.specs.Faults.{HasRisen}
 use Rattle.age_file.specs.Intakes.{PullFails}
 use Rattle.age_file.specs.Ports.{Ports}
-use Rattle.age_file.specs.Seals.{front_of, SealsSome, GoesOn, SealFails, SealingFails, HasRoom, Tally, Wrote}
+use Rattle.age_file.specs.Seals.{front_of, SealsSome, GoesOn, SealFails, SealingFails, Tally, Wrote}
 use Rattle.age_file.specs.declared.fault.FileFault.{FileFault}
 use Rattle.age_file.specs.declared.fault.FileFault.TheVariants.{Head, Key, NonceCut, Stream, BadPosition, OtherFile, ShortText, Read, Write, Memory, ReadNeverEnds, PositionForged, OldTextDiffers}
 use Rattle.age_file.proofs.Bytes.{Appends-then}

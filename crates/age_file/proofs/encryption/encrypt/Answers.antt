@@ -29,11 +29,13 @@ returns-in-Ok-seal_all-clause-done g c =
     let begins = subst (λ (t : List ℕ). BeginsFile s t) (sym c.as_slice.ensures.value) c.in_ok-front.ensures.front in
     let is : c.payload_key-key.result ≡ payload_key s.key s.nonce =
     c.payload_key-key.ensures ∙ (ap (λ k. payload_key k c.secret.inside.payload_nonce) c.new-2.ensures ∙ ap (λ v. payload_key v.key v.nonce) c.secret.view_is) in
+    let len = whole_length front put.out put.cut put.parts put.answered.0 in
+    let count : c.put_all.new.written ≡ length front = omega (arith, put.count, len) in
     let old = ports (g.S.Source.remaining c.args.reader.now) (g.S.Source.failed c.args.reader.now) (g.O.Sink.taken c.args.writer.now) (g.O.Sink.failed c.args.writer.now) in
     let mid = ports (g.S.Source.remaining c.args.reader.now) (g.S.Source.failed c.args.reader.now) (g.O.Sink.taken c.put_all.new.sink) (g.O.Sink.failed c.put_all.new.sink) in
     let new = ports (g.S.Source.remaining c.seal_all.new.source) (g.S.Source.failed c.seal_all.new.source) (g.O.Sink.taken c.seal_all.new.sink) (g.O.Sink.failed c.seal_all.new.sink) in
     sealed_all s front begins old mid new c.put_all.new.written c.seal_all.new.written refl refl put.answered.1 (whole _ _ front put.out put.cut put.parts put.answered.0 put.wrote)
-    (put.count ∙ whole_length front put.out put.cut put.parts put.answered.0) c.in-Ok-seal_all.plain
+    count c.in-Ok-seal_all.plain
     (subst (λ (k : List ℕ). SealsAll (λ nonce text. sealing k nonce [] text) 65536 mid new c.put_all.new.written c.seal_all.new.written c.in-Ok-seal_all.plain) is c.in-Ok-seal_all.ensures.sealed)
 
 pub returns-clause-fails : goal.returns-clause-fails
@@ -44,9 +46,11 @@ returns-clause-fails g c =
     let begins = subst (λ (t : List ℕ). BeginsFile s t) (sym c.as_slice.ensures.value) c.in_ok-front.ensures.front in
     let is : c.payload_key-key.result ≡ payload_key s.key s.nonce =
     c.payload_key-key.ensures ∙ (ap (λ k. payload_key k c.secret.inside.payload_nonce) c.new-2.ensures ∙ ap (λ v. payload_key v.key v.nonce) c.secret.view_is) in
+    let len = whole_length front put.out put.cut put.parts put.answered.0 in
+    let count : c.put_all.new.written ≡ length front = omega (arith, put.count, len) in
     let old = ports (g.S.Source.remaining c.args.reader.now) (g.S.Source.failed c.args.reader.now) (g.O.Sink.taken c.args.writer.now) (g.O.Sink.failed c.args.writer.now) in
     let mid = ports (g.S.Source.remaining c.args.reader.now) (g.S.Source.failed c.args.reader.now) (g.O.Sink.taken c.put_all.new.sink) (g.O.Sink.failed c.put_all.new.sink) in
     let new = ports (g.S.Source.remaining c.seal_all.new.source) (g.S.Source.failed c.seal_all.new.source) (g.O.Sink.taken c.seal_all.new.sink) (g.O.Sink.failed c.seal_all.new.sink) in
     sealing_stopped s front begins old mid new c.put_all.new.written c.seal_all.new.written refl refl put.answered.1 (whole _ _ front put.out put.cut put.parts put.answered.0 put.wrote)
-    (put.count ∙ whole_length front put.out put.cut put.parts put.answered.0) c.in-Err.fault
+    count c.in-Err.fault
     (subst (λ (k : List ℕ). SealsFront (λ nonce text. sealing k nonce [] text) 65536 mid new c.put_all.new.written c.seal_all.new.written c.in-Err.fault) is c.in-Err.ensures.fails)

@@ -1,5 +1,5 @@
-use Rattle.std.proofs.Common.{min, ◌^◌, ◌≡◌, ◌+◌, ◌-◌, length, take, drop, sym, ap, subst, ◌∙◌, arith, List, ℕ, [], append-nil, refl}
-use Rattle.std.proofs.lemmas.List.{take_rest, length-take, take-append-drop, take_all}
+use Rattle.std.proofs.Common.{min, ◌^◌, ◌≡◌, ◌+◌, ◌-◌, length, take, drop, sym, ap, subst, ◌∙◌, arith, List, ℕ}
+use Rattle.std.proofs.lemmas.List.{take_rest, length-take, take-append-drop}
 use Rattle.std.proofs.Common.{take-add, ◌++◌}
 use Rattle.std.specs.Io.KnownBytes.{Appends}
 use Rattle.age_file.proofs.Bytes.{Appends-then, Appends-Keeps, risen}

@@ -1,6 +1,5 @@
-use Rattle.std.proofs.Common.{◌≡◌, ◌+◌, ◌-◌, ◌*◌, ◌^◌, ◌≤◌, ◌<◌, length, ap, sym, subst, ◌∙◌, min, arith, List, ℕ, [], ◌++◌, refl, append-nil, rules}
+use Rattle.std.proofs.Common.{◌+◌, ◌-◌, ◌*◌, ◌^◌, ◌≤◌, length, ap, sym, subst, ◌∙◌, min, arith, ℕ, ◌++◌, rules}
 use Rattle.std.proofs.lemmas.Nat.{mul-le}
-use Rattle.age_stream.specs.Payload.{payload}
 use Rattle.age_file.specs.Ports.{ports}
 use Rattle.age_file.specs.Faults.{HasRisen}
 use Rattle.age_file.specs.Seals.{front_of, tally, Wrote, SealingFails, SealsAll, SealsFront}

@@ -1,4 +1,4 @@
-use Rattle.std.proofs.Common.{length, ◌-◌, ◌≡◌, ◌≤◌, take, [], ℕ}
+use Rattle.std.proofs.Common.{length, ◌-◌, ◌≡◌, ◌≤◌, take, []}
 use Rattle.age_file.specs.Seals.{tally, SealsSome, GoesOn}
 use Rattle.age_file.proofs.sealing.seal_piece.Given as goal
 
