@@ -14,3 +14,6 @@ pub mod Releases
 pub mod Flows
 pub mod Decrypts
 pub mod Pours
+pub mod Seals
+pub mod Secrets
+pub mod Encrypts

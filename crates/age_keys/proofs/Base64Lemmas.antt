@@ -14,25 +14,23 @@ unfolding text
 text_of_decoded s b h e = decode_of_strict standard_no_pad s b (refl, refl) h e
 
 -- and the text of bytes decodes to them
-pub decoded_of_text : (s b : List ℕ) → IsBytes b → s ≡ text b → decode_of standard_no_pad s ≡ Ok b
+decoded_of_text : (s b : List ℕ) → IsBytes b → s ≡ text b → decode_of standard_no_pad s ≡ Ok b
 unfolding text
 decoded_of_text s b h e = rw e (decode_of-encode_of standard_no_pad b refl h)
 
--- the text of 32 bytes has 43 characters
-pub share_characters : (s share : List ℕ) → length share ≡ 32 → s ≡ text share → length s ≡ 43
-share_characters s share len e = ap length e ∙ length-text share ∙ ap (λ n. (4 * n + 2) / 3) len
+-- the text of n bytes has so many characters
+pub characters_of : (s b : List ℕ) (n : ℕ) → length b ≡ n → s ≡ text b → length s ≡ (4 * n + 2) / 3
+characters_of s b n len e = ap length e ∙ length-text b ∙ ap (λ k. (4 * k + 2) / 3) len
 
 same_bytes : (s a b : List ℕ) → decode_of standard_no_pad s ≡ Ok a → decode_of standard_no_pad s ≡ Ok b → a ≡ b
 same_bytes s a b x y = ap (λ r. result_unwrap_or r []) (sym x ∙ y)
 
--- what 43 characters decode to, in room for as many bytes as they might spell, has 32 bytes
-pub share_size : (s share out : List ℕ) (n : ℕ) → n ≤ 33 → length out ≡ 33 → decode_of standard_no_pad s ≡ Ok (take n out)
-    → IsBytes share → length share ≡ 32 → s ≡ text share → n ≡ 32
-share_size s share out n room out_len e fits len is =
-    let same : take n out ≡ share = same_bytes s (take n out) share e (decoded_of_text s share fits is) in
-    let l : length (take n out) ≡ 32 = ap length same ∙ len in
+-- what decodes to the front of a longer list is the text of no more bytes than that front has
+pub decoded_size : (s b out : List ℕ) (n : ℕ) → n ≤ length out → decode_of standard_no_pad s ≡ Ok (take n out) → IsBytes b → s ≡ text b → n ≡ length b
+decoded_size s b out n room e fits is =
+    let same : take n out ≡ b = same_bytes s (take n out) b e (decoded_of_text s b fits is) in
+    let l : length (take n out) ≡ length b = ap length same in
     omega (arith, l, length-take n out)
 
-pub never_decodes : (s share : List ℕ) (error : DecodeError) → decode_of standard_no_pad s ≡ Err error
-    → IsBytes share → s ≡ text share → ⊥
-never_decodes s share error e fits is = cc (sym e ∙ decoded_of_text s share fits is)
+pub never_decodes : (s b : List ℕ) (error : DecodeError) → decode_of standard_no_pad s ≡ Err error → IsBytes b → s ≡ text b → ⊥
+never_decodes s b error e fits is = cc (sym e ∙ decoded_of_text s b fits is)

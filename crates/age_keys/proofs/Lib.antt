@@ -1,2 +1,4 @@
 pub mod Base64Lemmas
-pub mod X25519Lemmas
+pub mod ScryptLemmas
+pub mod StanzaLemmas
+pub mod WorkFactorLemmas

@@ -11,14 +11,20 @@
 mod fault;
 mod key;
 mod open;
+mod passphrase;
 mod payload;
+mod scrypt;
+mod text;
 mod unlock;
+mod wrap;
 mod x25519;
 
 pub use fault::KeyFault;
 pub use key::FileKey;
 pub use open::open_header;
+pub use passphrase::Passphrase;
 pub use payload::{PayloadKey, payload_key, position_key};
+pub use scrypt::scrypt_header;
 pub use unlock::{KnownKey, Unlock};
 pub use x25519::X25519Stanza;
 

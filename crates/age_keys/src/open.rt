@@ -2,6 +2,7 @@
 
 ghost use Rattle.std.specs.Prelude.{◌≡◌, ◌≢◌, IfOk, IfErr};
 ghost use Rattle.std.specs.List.{list_any};
+ghost use Rattle.base64.specs.GeneralPurpose.{IsBytes};
 ghost use Rattle.age_stanza.specs.Grammar.{HasText};
 ghost use Rattle.age_keys.specs.Keys.{is_scrypt, is_scrypt_beside, header_mac};
 ghost use Rattle.age_keys.specs.Opened.{Opens, Refuses};
@@ -42,6 +43,7 @@ pub(crate) fn is_scrypt_beside(header: &Header) -> bool
 pub(crate) fn mac_of(alloc: Global, header: &Header, key: &FileKey) -> Result<[u8; 32], KeyFault>
     requires { HasText header.now }
     ensures mac { IfOk result (λ mac. mac ≡ header_mac key.now header.now) }
+    ensures bytes { IfOk result IsBytes }
     ensures memory { IfErr result (λ fault. fault ≡ Memory) }
 {
     let Ok(text) = age_stanza::mac_text(alloc, header) else {

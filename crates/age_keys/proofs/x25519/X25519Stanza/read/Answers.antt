@@ -1,6 +1,6 @@
-use Rattle.std.proofs.Common.{◌∙◌, ◌∷◌, [], sym, ap}
+use Rattle.std.proofs.Common.{◌∙◌, ◌∷◌, [], sym, ap, arith}
 use Rattle.std.specs.Prelude.{codes}
-use Rattle.age_keys.proofs.X25519Lemmas.{two_arguments}
+use Rattle.age_keys.proofs.StanzaLemmas.{two_arguments}
 use Rattle.age_keys.proofs.x25519.X25519Stanza.read.Goals as goal
 
 pub returns-clause-read : goal.returns-clause-read
@@ -10,9 +10,9 @@ returns-clause-read c =
     two_arguments (codes "X25519") c.share-item.result c.args.stanza.now.args (sym c.is_x25519.ensures ∙ c.if-not-is_x25519.false)
     (rw slice at c.in-len2.len_at_least) (rw slice at c.in-len2.len_below) (rw slice at c.share-item.is) in
     record {
-      args = two ∙ ap (λ t. codes "X25519" ∷ t ∷ []) (sym c.as_slice-2.ensures ∙ c.in-Some.ensures.share);
-      body_is = sym (c.in-Some-body_of.ensures.body ∙ c.as_slice-3.ensures);
-      share_bytes = c.in-Some.ensures.bytes;
-      share_length = c.in-Some.ensures.len;
-      body_length = c.in-Some-body_of.ensures.len;
+      args = two ∙ ap (λ t. codes "X25519" ∷ t ∷ []) (sym c.as_slice-2.ensures ∙ c.if-not-read_text.ensures.read);
+      body_is = sym (c.in-Some.ensures.body ∙ c.as_slice-3.ensures);
+      share_bytes = c.read_text.ensures.bytes;
+      share_length = omega arith;
+      body_length = c.in-Some.ensures.len;
     }

@@ -1,0 +1,156 @@
+-- The header of a scrypt stanza has a text.
+use Rattle.std.proofs.Common.{◌≡◌, ℕ, zero, suc, ◌+◌, ◌-◌, ◌<◌, ◌≤◌, List, [], ◌∷◌, ◌++◌, length, get_or, take, drop, refl, ap, ap₂, ◌∙◌, arith}
+use borrow.Rule.Slice.PartMut.{put_mid}
+use Rattle.std.specs.Prelude.{codes}
+use Rattle.std.specs.Fmt.{decimal}
+use Rattle.std.specs.List.{flat_map, AllByRecursion}
+use Rattle.std.specs.Str.Parse.{AllDigits}
+use Rattle.std.proofs.lemmas.Fmt.{decimal_is_IsNumeral, length-decimal-le}
+use Rattle.std.proofs.lemmas.List.{length-append, length-drop, append-nil, take_at, drop_all}
+use Rattle.std.proofs.lemmas.Str.Parse.{digit_from_value}
+use Rattle.base64.specs.GeneralPurpose.{IsBytes}
+use Rattle.base64.specs.Rfc4648.{encode_symbols}
+use Rattle.age_stanza.specs.declared.header.Header.{Header}
+use Rattle.age_stanza.specs.declared.header.Stanza.{Stanza}
+use Rattle.age_stanza.specs.Text.{text}
+use Rattle.age_stanza.specs.Grammar.{line, in_lines, stanza_text, head_text, IsStanza, HasText}
+use Rattle.age_stanza.proofs.Elements.{visible_from_test}
+use Rattle.age_stanza.proofs.TextLengths.{length-body, length-head}
+use Rattle.age_stanza.proofs.Texts.{the_symbols, text-symbols, length-text}
+use Rattle.age_keys.specs.Keys.{header_mac, wrapped}
+use Rattle.age_keys.specs.Scrypt.{wrap_key, scrypt_stanza, scrypt_head}
+
+abbrev pub IsVisible : ℕ → Type 0
+IsVisible c = (33 ≤ c) × (c ≤ 126)
+
+visible_at : (xs : List ℕ) (i : ℕ) → AllByRecursion IsVisible xs → i < length xs → IsVisible (get_or xs i 0)
+visible_at [] i h lt = absurd (omega arith)
+visible_at (x ∷ xs) zero h lt = h.0
+visible_at (x ∷ xs) (suc i) h lt = visible_at xs i h.1 (omega arith)
+
+-- ---- the arguments are of visible characters
+
+symbols_visible : (t m : List ℕ) → ((i : ℕ) → i < 64 → IsVisible (get_or t i 0)) → IsBytes m → AllByRecursion IsVisible (encode_symbols t m)
+unfolding encode_symbols
+symbols_visible t [] h fits = tt
+symbols_visible t (a ∷ []) h fits =
+    let fa : a < 256 = fits 0 in
+    (h _ (omega arith), (h _ (omega arith), tt))
+symbols_visible t (a ∷ b ∷ []) h fits =
+    let fa : a < 256 = fits 0 in
+    let fb : b < 256 = fits 1 in
+    (h _ (omega arith), (h _ (omega arith), (h _ (omega arith), tt)))
+symbols_visible t (a ∷ b ∷ c ∷ rest) h fits =
+    let fa : a < 256 = fits 0 in
+    let fb : b < 256 = fits 1 in
+    let fc : c < 256 = fits 2 in
+    (h _ (omega arith), (h _ (omega arith), (h _ (omega arith), (h _ (omega arith), symbols_visible t rest h (λ i. fits (suc (suc (suc i))))))))
+
+pub text_visible : (m : List ℕ) → IsBytes m → AllByRecursion IsVisible (text m)
+text_visible m fits = rw text-symbols (symbols_visible the_symbols m (λ i lt. visible_at the_symbols i (visible_from_test the_symbols refl) lt) fits)
+
+digits_visible : (ds : List ℕ) → AllDigits 10 ds → AllByRecursion IsVisible ds
+digits_visible [] h = tt
+digits_visible (c ∷ cs) h =
+    let range = digit_from_value c h.0 in
+    ((omega arith, omega arith), digits_visible cs h.1)
+
+-- a work factor below a hundred has two digits at most
+factor_size : (log : ℕ) → log ≤ 22 → length (decimal log) ≤ 2
+factor_size log few = length-decimal-le 2 log (omega arith) (omega arith) (omega arith)
+
+-- ---- the stanza, and the header
+
+pub scrypt_lawful : (salt body : List ℕ) (log : ℕ) → length salt ≡ 16 → IsBytes salt → IsBytes body → log ≤ 22 → IsStanza (scrypt_stanza salt log body)
+unfolding scrypt_stanza
+scrypt_lawful salt body log size fits body_fits few =
+    let numeral = (decimal_is_IsNumeral log (omega arith)).0 in
+    let characters : 0 < length (text salt) = omega (arith, length-text salt) in
+    record {
+      some_argument = omega arith;
+      arguments = ((omega arith, visible_from_test (codes "scrypt") refl), ((characters, text_visible salt fits), ((numeral.0, digits_visible (decimal log) numeral.1), tt)));
+      body = body_fits;
+    }
+
+three_arguments : (a b c body : List ℕ) → length (stanza_text (record { args = a ∷ b ∷ c ∷ []; body = body })) ≡ length a + length b + length c + length (in_lines 0 (text body)) + 6
+three_arguments a b c body =
+    let lines : List ℕ = in_lines 0 (text body) in
+    let args : List ℕ = flat_map (λ x. 32 ∷ x) (a ∷ b ∷ c ∷ []) in
+    let whole = length-append (line (codes "->" ++ args)) lines in
+    let ended = length-append (codes "->" ++ args) (10 ∷ []) in
+    let first = length-append a ((32 ∷ b) ++ ((32 ∷ c) ++ [])) in
+    let second = length-append b ((32 ∷ c) ++ []) in
+    let third = length-append c [] in
+    omega arith
+
+scrypt_size : (salt body : List ℕ) (log : ℕ) → length salt ≡ 16 → length body ≡ 32 → log ≤ 22 → length (stanza_text (scrypt_stanza salt log body)) ≤ 100
+unfolding scrypt_stanza
+scrypt_size salt body log size body_size few =
+    let factor = factor_size log few in
+    let lines = length-body body in
+    let characters = length-text salt in
+    let whole = three_arguments (codes "scrypt") (text salt) (decimal log) body in
+    omega arith
+
+-- a MAC of 32 bytes doesn't change the length
+size_of_one : (s : Stanza) (mac : List ℕ) → length mac ≡ 32 → length (head_text (record { stanzas = s ∷ []; mac = mac })) ≡ length (stanza_text s) + 70
+size_of_one s mac long =
+    length-head (record { stanzas = s ∷ []; mac = mac }) long
+    ∙ ap (λ n. n + 70) (omega (arith, length-append (stanza_text s) []))
+
+pub scrypt_has_text : (salt body mac : List ℕ) (log : ℕ) → length salt ≡ 16 → IsBytes salt → length body ≡ 32 → IsBytes body → log ≤ 22 → length mac ≡ 32 → IsBytes mac
+    → HasText (record { stanzas = scrypt_stanza salt log body ∷ []; mac = mac })
+scrypt_has_text salt body mac log size fits body_size body_fits few mac_size mac_fits =
+    let h : Header = record { stanzas = scrypt_stanza salt log body ∷ []; mac = mac } in
+    let whole = size_of_one (scrypt_stanza salt log body) mac mac_size in
+    let part = scrypt_size salt body log size body_size few in (
+      head_text h,
+      record {
+        spells = record {
+          lawful = record { some_stanza = omega arith; stanzas = (scrypt_lawful salt body log size fits body_fits few, tt); mac_length = mac_size; mac = mac_fits };
+          bytes_are = refl;
+        };
+        within = omega arith;
+      },
+    )
+
+-- a MAC of 32 bytes in the place of another
+pub other_mac : (h : Header) (mac : List ℕ) → HasText h → length mac ≡ 32 → IsBytes mac → HasText (record { stanzas = h.stanzas; mac = mac })
+other_mac h mac has mac_size mac_fits =
+    let other : Header = record { stanzas = h.stanzas; mac = mac } in
+    let lawful = has.1.spells.lawful in
+    let size = ap length has.1.spells.bytes_are in
+    let within = has.1.within in
+    let before = length-head h lawful.mac_length in
+    let after = length-head other mac_size in (
+      head_text other,
+      record {
+        spells = record {
+          lawful = record { some_stanza = lawful.some_stanza; stanzas = lawful.stanzas; mac_length = mac_size; mac = mac_fits };
+          bytes_are = refl;
+        };
+        within = omega arith;
+      },
+    )
+
+-- the MAC covers the stanzas alone
+pub scrypt_head_is : (pass salt key wrap body mac : List ℕ) (log : ℕ) (h : Header) → wrap ≡ wrap_key pass salt log → body ≡ wrapped wrap key
+    → h.stanzas ≡ scrypt_stanza salt log body ∷ [] → mac ≡ header_mac key h → record { stanzas = h.stanzas; mac = mac } ≡ scrypt_head pass log salt key
+unfolding scrypt_head header_mac
+scrypt_head_is pass salt key wrap body mac log h wrap_is body_is stanzas_are mac_is =
+    let same : h.stanzas ≡ scrypt_stanza salt log (wrapped (wrap_key pass salt log) key) ∷ [] = cc in
+    let over_none : header_mac key h ≡ header_mac key (record { stanzas = h.stanzas; mac = [] }) = refl in
+    ap₂ (λ (ss : List Stanza) (m : List ℕ). let made : Header = record { stanzas = ss; mac = m } in made) same
+    (mac_is ∙ over_none ∙ ap (λ (ss : List Stanza). header_mac key (record { stanzas = ss; mac = [] })) same)
+
+-- ---- bytes that are written behind others
+
+-- over the second part of an array
+pub over_the_end : (a z s : List ℕ) → length a ≡ 28 → length z ≡ 16 → put_mid 28 16 (a ++ z) s ≡ a ++ s
+over_the_end a z s first second =
+    ap₂ (λ (f e : List ℕ). f ++ (s ++ e)) (take_at a z 28 (omega arith)) (drop_all 16 (drop 28 (a ++ z)) (omega (arith, length-drop 28 (a ++ z), length-append a z)))
+    ∙ ap (λ (t : List ℕ). a ++ t) (append-nil s)
+
+-- all but the last 16 bytes
+pub front_of : (a z : List ℕ) → length z ≡ 16 → take (length (a ++ z) - 16) (a ++ z) ≡ a
+front_of a z size = take_at a z (length (a ++ z) - 16) (omega (arith, length-append a z))

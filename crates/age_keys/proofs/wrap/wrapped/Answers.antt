@@ -1,0 +1,13 @@
+use Rattle.std.proofs.Common.{[], ◌∙◌, List, ℕ, ap, refl}
+use Rattle.std.specs.Prelude.{replicate}
+use Rattle.age_cipher.specs.Aead.{sealing}
+use Rattle.age_keys.specs.Keys.{wrapped}
+use Rattle.age_keys.proofs.ScryptLemmas.{front_of}
+use Rattle.age_keys.proofs.wrap.wrapped.Goals as goal
+
+pub returns : goal.returns
+unfolding wrapped
+returns c =
+    c.seal_in_place.ensures
+    ∙ ap (λ (x : List ℕ). sealing c.args.wrap_key.now (replicate 12 0) [] x)
+    (front_of c.copy_from_slice.new.self _ refl ∙ (c.copy_from_slice.ensures.after ∙ c.bytes.ensures))

@@ -1,0 +1,107 @@
+//! The scrypt stanza.
+
+ghost use Rattle.std.specs.Prelude.{◌≡◌, ◌≤◌, [], ◌∷◌, length, IfOk, IfErr};
+ghost use Rattle.age_stanza.specs.Grammar.{HasText};
+ghost use Rattle.age_keys.specs.Scrypt.{wrap_key, scrypt_stanza, scrypt_head};
+ghost use Rattle.age_keys.specs.declared.fault.KeyFault.TheVariants.{Memory};
+
+use crate::fault::KeyFault;
+use crate::key::FileKey;
+use crate::open::mac_of;
+use crate::wrap::wrapped;
+use age_scrypt::Steps;
+use age_stanza::{Arguments, Bytes, Header, Stanza, Stanzas};
+use base64::engine::general_purpose::STANDARD_NO_PAD;
+use std::alloc::{AllocError, Global};
+
+/// What stands before the stanza's salt in the salt that scrypt is given.
+const LABEL: &[u8; 28] = b"age-encryption.org/v1/scrypt";
+
+/// The key that a file key is wrapped under (C2SP age.md, "The scrypt recipient type"). The only
+/// fault is a refusal of memory.
+pub(crate) fn wrap_key(
+    alloc: Global,
+    pass: &[u8],
+    salt: &[u8; 16],
+    log: u32,
+) -> Result<[u8; 32], KeyFault>
+    requires least { 1 ≤ log }
+    requires most { log ≤ 22 }
+    ensures key { IfOk result (λ key. key ≡ wrap_key pass.now salt.now log) }
+    ensures memory { IfErr result (λ fault. fault ≡ Memory) }
+{
+    let mut labelled = [0; 44];
+    labelled[..28].copy_from_slice(LABEL);
+    labelled[28..].copy_from_slice(salt);
+    match age_scrypt::derive(alloc, pass, &labelled, log, &mut Steps::new()) {
+        Ok(key) => Ok(key),
+        Err(_) => Err(KeyFault::Memory),
+    }
+}
+
+/// The stanza of a salt, a work factor and a body.
+fn scrypt_stanza(
+    alloc: Global,
+    salt: &[u8; 16],
+    log: u32,
+    body: &[u8; 32],
+) -> Result<Stanza, AllocError>
+    ensures { IfOk result (λ stanza. stanza ≡ scrypt_stanza salt.now log body.now) }
+{
+    let mut args = Arguments::new(alloc);
+    args.push(Bytes::from_vec(b"scrypt".to_vec(alloc)?))?;
+    args.push(Bytes::from_vec(STANDARD_NO_PAD.encode(alloc, salt)?.into_bytes()))?;
+    args.push(Bytes::from_vec(log.to_string(alloc)?.into_bytes()))?;
+    Ok(Stanza {
+        args,
+        body: Bytes::from_vec(body.to_vec(alloc)?),
+    })
+}
+
+/// The header of one such stanza, and a MAC of zeros.
+fn header_of(
+    alloc: Global,
+    salt: &[u8; 16],
+    log: u32,
+    body: &[u8; 32],
+) -> Result<Header, AllocError>
+    requires { log ≤ 22 }
+    ensures value { IfOk result (λ header. header.stanzas ≡ scrypt_stanza salt.now log body.now ∷ []) }
+    ensures text { IfOk result HasText }
+{
+    let mut stanzas = Stanzas::new(alloc);
+    stanzas.push(scrypt_stanza(alloc, salt, log, body)?)?;
+    Ok(Header {
+        stanzas,
+        mac: [0; 32],
+    })
+}
+
+/// The header of a file key that is wrapped under a passphrase: one scrypt stanza, and the MAC
+/// that the file key gives it (C2SP age.md, "The scrypt recipient type", "Header MAC").
+///
+/// It asks for a passphrase of 1 to 65,536 bytes and a work factor `log` of 1 to 22. The only
+/// fault is a refusal of memory ([`KeyFault::Memory`]): the passphrase's table takes
+/// `1,024 * 2^log` bytes.
+pub fn scrypt_header(
+    alloc: Global,
+    pass: &[u8],
+    log: u32,
+    salt: &[u8; 16],
+    key: &FileKey,
+) -> Result<Header, KeyFault>
+    requires pass_least { 1 ≤ length pass.now }
+    requires pass_most { length pass.now ≤ 65536 }
+    requires log_least { 1 ≤ log }
+    requires log_most { log ≤ 22 }
+    ensures head { IfOk result (λ header. header ≡ scrypt_head pass.now log salt.now key.now) }
+    ensures text { IfOk result HasText }
+    ensures memory { IfErr result (λ fault. fault ≡ Memory) }
+{
+    let wrap_key = wrap_key(alloc, pass, salt, log)?;
+    let Ok(mut header) = header_of(alloc, salt, log, &wrapped(&wrap_key, key)) else {
+        return Err(KeyFault::Memory);
+    };
+    header.mac = mac_of(alloc, &header, key)?;
+    Ok(header)
+}

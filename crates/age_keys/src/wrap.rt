@@ -1,0 +1,34 @@
+//! A file key in the body of a stanza: sealed under a wrap key, with a nonce of zeros and no
+//! associated data.
+
+ghost use Rattle.std.specs.Prelude.{◌≡◌, ◌≢◌, ℕ, List, IfSome, IfNone};
+ghost use Rattle.age_keys.specs.Keys.{wrapped};
+
+use crate::key::FileKey;
+use age_cipher::{open_in_place, seal_in_place};
+
+const NONCE: &[u8; 12] = &[0; 12];
+
+/// A file key, wrapped.
+pub(crate) fn wrapped(wrap_key: &[u8; 32], key: &FileKey) -> [u8; 32]
+    ensures { result ≡ wrapped wrap_key.now key.now }
+{
+    let mut block = [0; 32];
+    block[..16].copy_from_slice(key.bytes());
+    seal_in_place(wrap_key, NONCE, &[], &mut block);
+    block
+}
+
+/// The file key of which this is the wrapping; `None` where there is no such key.
+pub(crate) fn unwrapped(wrap_key: &[u8; 32], body: &[u8; 32]) -> Option<FileKey>
+    ensures key { IfSome result (λ key. body.now ≡ wrapped wrap_key.now key) }
+    ensures none { IfNone result ((key : List ℕ) → body.now ≢ wrapped wrap_key.now key) }
+{
+    let mut block = *body;
+    if !open_in_place(wrap_key, NONCE, &[], &mut block) {
+        return None;
+    }
+    let mut key = [0; 16];
+    key.copy_from_slice(&block[..16]);
+    Some(FileKey::new(key))
+}
