@@ -4,3 +4,16 @@ pub mod Reports
 pub mod Writes
 pub mod Unread
 pub mod Intakes
+pub mod AgeFile
+pub mod Bindings
+pub mod PositionTexts
+pub mod Ports
+pub mod Starts
+pub mod Marks
+pub mod Releases
+pub mod Flows
+pub mod Decrypts
+pub mod Pours
+pub mod Seals
+pub mod Secrets
+pub mod Encrypts

@@ -1,5 +1,5 @@
 -- Sources and sinks over memory: what each call answers and leaves, by their plan of failures.
-use Rattle.std.specs.Prelude.{◌≡◌, ◌≢◌, ◌⊎◌, ℕ, ◌+◌, ◌-◌, ◌^◌, ◌<◌, min, List, [], ◌++◌, length, take, drop, Option, Some, Result, Ok, Err}
+use Rattle.std.specs.Prelude.{◌≡◌, ◌≢◌, ◌⊎◌, ℕ, ◌+◌, ◌-◌, ◌^◌, min, List, [], ◌++◌, length, take, drop, Option, Some, Result, Ok, Err}
 use Rattle.age_file.specs.declared.failed.Failed.{Failed}
 
 -- a count after one more; it stays at the greatest value of its type

@@ -2,9 +2,12 @@
 //!
 //! A `Source` gives bytes and a `Sink` takes them. Both count their failures, and those over memory tell their bytes,
 //! so that the contract of an engine can name what it read and what it wrote. `inspect` reads a whole file and reports
-//! what its header holds and how much plaintext the bytes behind it would be.
+//! what its header holds and how much plaintext the bytes behind it would be. `encrypt` writes a file of what it reads, and
+//! `decrypt` the text of a file whose header an unlocker opens; where it stops, it hands out the position to go on from.
 #![tactic(auto)]
 
+mod decryption;
+mod encryption;
 mod failed;
 mod fault;
 mod head;
@@ -12,17 +15,30 @@ mod inspection;
 mod intake;
 mod mem_sink;
 mod mem_source;
+mod position;
+mod pour;
+mod progress;
 mod put;
 mod report;
+mod sealing;
+mod secret;
 mod sink;
 mod source;
+mod start;
 
+pub use decryption::{Done, Stopped, decrypt};
+pub use encryption::{Written, encrypt};
 pub use failed::{Failed, Memory};
 pub use fault::FileFault;
 pub use inspection::inspect;
 pub use mem_sink::MemSink;
 pub use mem_source::MemSource;
+pub use position::Position;
 pub use put::put_all;
 pub use report::{Report, StanzaReport, StanzaReports};
+pub use secret::Secret;
 pub use sink::{Sink, Writing};
 pub use source::{Reading, Source};
+
+#[cfg(test)]
+mod tests;

@@ -1,4 +1,4 @@
-use Rattle.std.proofs.Common.{◌++◌, ◌∙◌, arith, length}
+use Rattle.std.proofs.Common.{◌++◌, ◌∙◌, arith}
 use Rattle.std.proofs.lemmas.List.{length-append}
 use Rattle.age_file.proofs.Bytes.{rest_pulled}
 use Rattle.age_file.proofs.inspection.count_rest.Goals as goal

@@ -1,4 +1,4 @@
-use Rattle.std.proofs.Common.{length, ◌-◌, ◌≡◌, ◌+◌, ◌≤◌, take, ℕ}
+use Rattle.std.proofs.Common.{length, ◌-◌, ◌≡◌, ◌+◌, ◌≤◌, take}
 use Rattle.std.specs.Io.KnownBytes.{Appends}
 use Rattle.age_file.proofs.put.put_all.Given as goal
 

@@ -1,0 +1,107 @@
+-- A file's front, and what of the file was written.
+use Rattle.std.proofs.Common.{◌≡◌, ℕ, refl, sym, ap, subst, ◌∙◌, List, [], ◌++◌, length, append_assoc, arith}
+use Rattle.std.proofs.lemmas.List.{length-append}
+use Rattle.std.specs.Io.KnownBytes.{Consumes, Appends}
+use Rattle.std.proofs.KnownBytes.{Consumes-nil}
+use Rattle.age_stream.specs.Payload.{payload}
+use Rattle.age_keys.specs.Keys.{header_mac, IsMacOf}
+use Rattle.age_keys.specs.Scrypt.{scrypt_head}
+use Rattle.age_file.specs.AgeFile.{box}
+use Rattle.age_file.specs.Encrypts.{AgeFile, BeginsFile, Encrypts, EncryptsFront, EncryptFails, WhyStopped}
+use Rattle.age_file.specs.Faults.{HasRisen}
+use Rattle.age_file.specs.Ports.{Ports}
+use Rattle.age_file.specs.Seals.{SealingFails, SealsAll, SealsFront}
+use Rattle.age_file.specs.Secrets.{SecretView}
+use Rattle.age_file.specs.declared.fault.FileFault.{FileFault}
+use Rattle.age_file.specs.declared.fault.FileFault.TheVariants.{Head, Key, NonceCut, Stream, BadPosition, OtherFile, ShortText, Read, Write, Memory, ReadNeverEnds, PositionForged, OldTextDiffers}
+use Rattle.age_file.proofs.Bytes.{Appends-then}
+
+mac_holds : (pass : List ℕ) (log : ℕ) (salt key : List ℕ) → IsMacOf (scrypt_head pass log salt key) key
+unfolding scrypt_head header_mac
+mac_holds pass log salt key = refl
+
+module _ (s : SecretView) (front : List ℕ) (begins : BeginsFile s front) where
+  pub file_of : (text : List ℕ) → AgeFile s text (front ++ payload (box s.key s.nonce) 65536 text)
+  file_of text =
+      record {
+        front = begins.front;
+        head = begins.head;
+        mac = mac_holds s.pass s.log s.salt s.key;
+        size = begins.size;
+        parts = ap (λ (t : List ℕ). t ++ payload (box s.key s.nonce) 65536 text) begins.parts;
+      }
+
+  -- the sink failed in the front
+  pub front_cut : (old new : Ports) (coming : new.coming ≡ old.coming) (failed : HasRisen old.write_failed new.write_failed) (out cut : List ℕ) → front ≡ out ++ cut → Appends old.taken new.taken out
+      → EncryptsFront s old new Write
+  front_cut old new coming failed out cut parts wrote =
+      record {
+        text = [];
+        file = front ++ payload (box s.key s.nonce) 65536 [];
+        out = out;
+        is = file_of [];
+        read = subst (λ t. Consumes old.coming t []) (sym coming) (Consumes-nil old.coming);
+        wrote = wrote;
+        prefix = (cut ++ payload (box s.key s.nonce) 65536 [], sym (append_assoc out cut (payload (box s.key s.nonce) 65536 [])) ∙ ap (λ (t : List ℕ). t ++ payload (box s.key s.nonce) 65536 []) (sym parts));
+        why = failed;
+      }
+
+  -- the payload that followed
+  module _ (old mid new : Ports) (mid_written new_written : ℕ) (coming : mid.coming ≡ old.coming) (read_failed : mid.read_failed ≡ old.read_failed) (write_failed : mid.write_failed ≡ old.write_failed)
+      (wrote : Appends old.taken mid.taken front) (count : mid_written ≡ length front) where
+    pub sealed_all : (plain : ℕ) → SealsAll (box s.key s.nonce) 65536 mid new mid_written new_written plain → Encrypts s old new (record { plain = plain; file = new_written })
+    sealed_all plain a =
+        record {
+          text = a.text;
+          file = front ++ payload (box s.key s.nonce) 65536 a.text;
+          is = file_of a.text;
+          read = subst (λ t. Consumes t new.coming a.text) coming a.moved.read;
+          at_end = a.at_end;
+          wrote = Appends-then old.taken mid.taken new.taken front (payload (box s.key s.nonce) 65536 a.text) wrote a.moved.wrote;
+          plain_is = a.plain_is;
+          file_is = omega (arith, a.moved.count, count, length-append front (payload (box s.key s.nonce) 65536 a.text));
+          none_failed = (a.none_failed.0 ∙ read_failed, a.none_failed.1 ∙ write_failed);
+        }
+
+    why_stopped : (text : List ℕ) (fault : FileFault) → SealingFails 65536 mid new text fault → WhyStopped old new text fault
+    why_stopped text (Stream fault) f = (omega (arith, f.0), f.1)
+    why_stopped text Read f = subst (λ (k : ℕ). HasRisen k new.read_failed) read_failed f
+    why_stopped text Write f = subst (λ (k : ℕ). HasRisen k new.write_failed) write_failed f
+    why_stopped text ReadNeverEnds f = f
+    why_stopped text (Head fault) f = absurd f
+    why_stopped text (Key fault) f = absurd f
+    why_stopped text NonceCut f = absurd f
+    why_stopped text BadPosition f = absurd f
+    why_stopped text OtherFile f = absurd f
+    why_stopped text ShortText f = absurd f
+    why_stopped text Memory f = absurd f
+    why_stopped text PositionForged f = absurd f
+    why_stopped text OldTextDiffers f = absurd f
+
+    stopped : (fault : FileFault) → SealsFront (box s.key s.nonce) 65536 mid new mid_written new_written fault → EncryptsFront s old new fault
+    stopped fault a =
+        record {
+          text = a.text;
+          file = front ++ payload (box s.key s.nonce) 65536 a.text;
+          out = front ++ a.out;
+          is = file_of a.text;
+          read = subst (λ t. Consumes t new.coming a.text) coming a.moved.read;
+          wrote = Appends-then old.taken mid.taken new.taken front a.out wrote a.moved.wrote;
+          prefix = (a.prefix.0, append_assoc front a.out a.prefix.0 ∙ ap (λ (t : List ℕ). front ++ t) a.prefix.1);
+          why = why_stopped a.text fault a.fails;
+        }
+
+    pub sealing_stopped : (fault : FileFault) → SealsFront (box s.key s.nonce) 65536 mid new mid_written new_written fault → EncryptFails s old new fault
+    sealing_stopped Memory a = absurd a.fails
+    sealing_stopped (Stream fault) a = stopped (Stream fault) a
+    sealing_stopped Read a = stopped Read a
+    sealing_stopped Write a = stopped Write a
+    sealing_stopped ReadNeverEnds a = stopped ReadNeverEnds a
+    sealing_stopped (Head fault) a = stopped (Head fault) a
+    sealing_stopped (Key fault) a = stopped (Key fault) a
+    sealing_stopped NonceCut a = stopped NonceCut a
+    sealing_stopped BadPosition a = stopped BadPosition a
+    sealing_stopped OtherFile a = stopped OtherFile a
+    sealing_stopped ShortText a = stopped ShortText a
+    sealing_stopped PositionForged a = stopped PositionForged a
+    sealing_stopped OldTextDiffers a = stopped OldTextDiffers a

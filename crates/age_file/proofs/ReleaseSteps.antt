@@ -1,0 +1,171 @@
+-- Feeding an opener and writing what it releases, one call after another.
+use Rattle.std.proofs.Common.{◌<◌, ◌*◌, Some, None, ◌≡◌, ℕ, ◌+◌, ◌≤◌, List, [], ◌++◌, length, take, Option, refl, sym, ap, subst, ◌∙◌, arith, append-nil, append_assoc}
+use Rattle.std.specs.List.{flat_map}
+use Rattle.std.specs.Borrow.{Bor}
+use Rattle.std.proofs.lemmas.Grind.{flat_map-append}
+use Rattle.std.proofs.lemmas.List.{length-append, length-take}
+use Rattle.std.specs.Io.KnownBytes.{Appends}
+use Rattle.age_stream.specs.Segment.{Segment, outcome, released}
+use Rattle.age_stream.specs.Deliveries.{with_piece}
+use Rattle.age_stream.specs.Opening.{OpenerView, Stands, chunk_texts}
+use Rattle.age_stream.proofs.ReplaySteps.{pieces_join, lent_flat}
+use Rattle.age_stream.specs.Lent.{lent_text}
+use Rattle.age_file.specs.Faults.{HasRisen}
+use Rattle.age_file.specs.Releases.{Tally, Releases, FeedGoes, FeedFails}
+use Rattle.age_file.specs.declared.fault.FileFault.{FileFault}
+use Rattle.age_file.specs.declared.fault.FileFault.TheVariants.{Stream, Write}
+use Rattle.age_stream.specs.Lawful.{IsLawful}
+use Rattle.age_file.specs.Bindings.{link}
+use Rattle.age_file.specs.declared.progress.Progress.{Progress}
+use Rattle.age_file.specs.Marks.{Advances, Marks}
+use Rattle.age_file.proofs.MarkSteps.{no_piece, piece_start, mark_step, mark_none, mark_cut}
+use Rattle.age_file.proofs.Bytes.{Appends-then}
+use Rattle.std.proofs.KnownBytes.{Appends-nil}
+
+-- a chunk is one text at most
+chunk_few : (chunk : Option (Bor (List ℕ))) → length (chunk_texts chunk) ≤ 1
+chunk_few None = omega arith
+chunk_few (Some chunk) = omega arith
+
+-- more texts are more text
+pub more_text : (op : List ℕ → List ℕ → Option (List ℕ)) (n : ℕ) (s next : Segment) (ts : List (List ℕ)) (text : List ℕ)
+    → (outcome op n next).texts ≡ (outcome op n s).texts ++ ts → flat_map (λ (t : List ℕ). t) ts ≡ text → released op n next ≡ released op n s ++ text
+more_text op n s next ts text e f =
+    ap (flat_map (λ (t : List ℕ). t)) e
+    ∙ (flat_map-append (λ (t : List ℕ). t) (outcome op n s).texts ts ∙ ap (λ (x : List ℕ). released op n s ++ x) f)
+
+module _ {B : Type 0} (opening : B → List ℕ → List ℕ → Option (List ℕ)) (n : ℕ) where
+  pub releases_none : (o : OpenerView B) (was : Tally) → Releases opening n (λ s. with_piece s []) o o was was []
+  releases_none o was =
+      record {
+        out = [];
+        key = refl;
+        wrote = Appends-nil was.taken;
+        named = refl;
+        count = omega arith;
+        stands = λ s h. subst (Stands opening n o) (sym (no_piece s)) h;
+        text = λ s h. ap (released (opening o.key) n) (no_piece s) ∙ sym (append-nil (released (opening o.key) n s));
+        marks = λ positive s base len h m. subst (λ (t : Segment). Marks (opening o.key) n base t [] was.progress) (sym (no_piece s)) m;
+      }
+
+  -- a step, and then a step to any next segment
+  pub releases_next : (a : List ℕ) (next next' : Segment → Segment) (old mid new : OpenerView B) (was between now : Tally) (cut : List ℕ)
+      → ((s : Segment) → next (with_piece s a) ≡ next' s)
+      → Releases opening n (λ s. with_piece s a) old mid was between [] → Releases opening n next mid new between now cut → Releases opening n next' old new was now cut
+  releases_next a next next' old mid new was between now cut same p q =
+      let op = opening old.key in
+      record {
+        out = p.out ++ q.out;
+        key = q.key ∙ p.key;
+        wrote = Appends-then was.taken between.taken now.taken p.out q.out p.wrote q.wrote;
+        named = q.named ∙ p.named;
+        count = omega (arith, p.count, q.count, length-append p.out q.out);
+        stands = λ s h. subst (Stands opening n new) (same s) (q.stands (with_piece s a) (p.stands s h));
+        text = λ s h.
+            let r = released op n s in
+            let t : released op n (next (with_piece s a)) ≡ released op n (with_piece s a) ++ (q.out ++ cut) =
+            subst (λ k. released (opening k) n (next (with_piece s a)) ≡ released (opening k) n (with_piece s a) ++ (q.out ++ cut)) p.key (q.text (with_piece s a) (p.stands s h)) in
+            let u : released op n (with_piece s a) ≡ r ++ p.out = p.text s h ∙ ap (λ (x : List ℕ). r ++ x) (append-nil p.out) in
+            ap (released op n) (sym (same s)) ∙ (t ∙ (ap (λ (x : List ℕ). x ++ (q.out ++ cut)) u
+            ∙ (append_assoc r p.out (q.out ++ cut) ∙ ap (λ (x : List ℕ). r ++ x) (sym (append_assoc p.out q.out cut)))));
+        marks = λ positive s base len h m.
+            let len' : length base ≡ (with_piece s a).start * n = len ∙ ap (λ (k : ℕ). k * n) (sym (piece_start s a)) in
+            let first = subst (λ k. Marks (opening k) n base (with_piece s a) [] between.progress) (sym p.key) (p.marks positive s base len h m) in
+            let then = q.marks positive (with_piece s a) base len' (p.stands s h) first in
+            subst (λ (t : Segment). Marks op n base t cut now.progress) (same s) (subst (λ k. Marks (opening k) n base (next (with_piece s a)) cut now.progress) p.key then);
+      }
+
+  pub releases_then : (a b : List ℕ) (old mid new : OpenerView B) (was between now : Tally) (cut : List ℕ)
+      → Releases opening n (λ s. with_piece s a) old mid was between [] → Releases opening n (λ s. with_piece s b) mid new between now cut
+      → Releases opening n (λ s. with_piece s (a ++ b)) old new was now cut
+  releases_then a b old mid new was between now cut p q = releases_next a (λ s. with_piece s b) (λ s. with_piece s (a ++ b)) old mid new was between now cut (λ s. pieces_join s a b) p q
+
+  -- what `marks` asks of a piece that was fed
+  abbrev pub IsMarkedOn : OpenerView B → List ℕ → Progress → Progress → List ℕ → Type 0
+  IsMarkedOn old fed was now cut =
+      0 < n → (s : Segment) (base : List ℕ) → length base ≡ s.start * n → Stands opening n old s
+      → Marks (opening old.key) n base s [] was → Marks (opening old.key) n base (with_piece s fed) cut now
+
+  -- what the opener lent of a piece was written whole, and counted
+  pub marks_whole : (sealing : List ℕ → List ℕ → List ℕ) (old new : OpenerView B) (was now : Progress) (fed : List ℕ) (chunk : Option (Bor (List ℕ))) (index : ℕ) (link_is : List ℕ)
+      → IsLawful sealing (opening old.key) → new.key ≡ old.key → index ≡ new.index
+      → ((s : Segment) → Stands opening n old s → Stands opening n new (with_piece s fed))
+      → ((s : Segment) → Stands opening n old s → (outcome (opening old.key) n (with_piece s fed)).texts ≡ (outcome (opening old.key) n s).texts ++ chunk_texts chunk)
+      → link_is ≡ link was.chain (lent_text chunk)
+      → Advances was.index was.chain index link_is now → IsMarkedOn old fed was now []
+  marks_whole sealing old new was now fed chunk index link_is lawful key is stands texts linked a positive s base len h m =
+      let a' = subst (λ (l : List ℕ). Advances was.index was.chain index l now) (linked ∙ ap (link was.chain) (sym (lent_flat chunk))) a in
+      let at : index ≡ (outcome (opening old.key) n (with_piece s fed)).index = is ∙ ((stands s h).index ∙ ap (λ k. (outcome (opening k) n (with_piece s fed)).index) key) in
+      mark_step sealing (opening old.key) lawful n positive base s fed (chunk_texts chunk) index was now len h.timely (stands s h).timely (texts s h) (chunk_few chunk) at a' m
+
+  -- the opener refused it, and lent nothing
+  pub marks_refused : (sealing : List ℕ → List ℕ → List ℕ) (old new : OpenerView B) (was : Progress) (fed : List ℕ)
+      → IsLawful sealing (opening old.key)
+      → ((s : Segment) → Stands opening n old s → Stands opening n new (with_piece s fed))
+      → ((s : Segment) → Stands opening n old s → (outcome (opening old.key) n (with_piece s fed)).texts ≡ (outcome (opening old.key) n s).texts ++ [])
+      → IsMarkedOn old fed was was []
+  marks_refused sealing old new was fed lawful stands texts positive s base len h m =
+      mark_none sealing (opening old.key) lawful n positive base s fed was len h.timely (stands s h).timely (texts s h) m
+
+  -- some of what it lent was not written
+  pub marks_cut : (sealing : List ℕ → List ℕ → List ℕ) (old new : OpenerView B) (was now : Progress) (fed : List ℕ) (chunk : Option (Bor (List ℕ))) (out cut : List ℕ)
+      → IsLawful sealing (opening old.key)
+      → ((s : Segment) → Stands opening n old s → Stands opening n new (with_piece s fed))
+      → ((s : Segment) → Stands opening n old s → (outcome (opening old.key) n (with_piece s fed)).texts ≡ (outcome (opening old.key) n s).texts ++ chunk_texts chunk)
+      → lent_text chunk ≡ out ++ cut → 0 < length cut → now.index ≡ was.index → now.chain ≡ was.chain → IsMarkedOn old fed was now cut
+  marks_cut sealing old new was now fed chunk out cut lawful stands texts lent some index chain_same positive s base len h m =
+      mark_cut sealing (opening old.key) lawful n positive base s fed (chunk_texts chunk) out cut was now len h.timely (stands s h).timely (texts s h) (chunk_few chunk) (lent_flat chunk ∙ lent) some index chain_same m
+
+  -- a call that took the front of a piece and lent a chunk, of which so much was written
+  pub fed_front : (old new : OpenerView B) (was now : Tally) (piece : List ℕ) (taken : ℕ) (chunk : Option (Bor (List ℕ))) (out cut : List ℕ)
+      → new.key ≡ old.key
+      → ((s : Segment) → Stands opening n old s → Stands opening n new (with_piece s (take taken piece)))
+      → ((s : Segment) → Stands opening n old s → (outcome (opening old.key) n (with_piece s (take taken piece))).texts ≡ (outcome (opening old.key) n s).texts ++ chunk_texts chunk)
+      → lent_text chunk ≡ out ++ cut → Appends was.taken now.taken out → now.label ≡ was.label → now.progress.written ≡ was.progress.written + length out
+      → IsMarkedOn old (take taken piece) was.progress now.progress cut
+      → Releases opening n (λ s. with_piece s (take taken piece)) old new was now cut
+  fed_front old new was now piece taken chunk out cut key stands texts lent wrote named count marks =
+      record {
+        out = out;
+        key = key;
+        wrote = wrote;
+        named = named;
+        count = count;
+        stands = stands;
+        text = λ s h. more_text (opening old.key) n s (with_piece s (take taken piece)) (chunk_texts chunk) (out ++ cut) (texts s h) (lent_flat chunk ∙ lent);
+        marks = marks;
+      }
+
+  -- how much it then holds and wrote
+  pub goes_front : (old new : OpenerView B) (was now : Tally) (piece : List ℕ) (taken : ℕ) (chunk : Option (Bor (List ℕ))) (out cut : List ℕ)
+      → taken ≤ length piece → length new.held + length (lent_text chunk) ≤ length old.held + taken
+      → lent_text chunk ≡ out ++ cut → now.progress.written ≡ was.progress.written + length out → cut ≡ [] → now.failed ≡ was.failed
+      → (taken ≡ length (take taken piece)) × FeedGoes opening n old new was now (take taken piece) cut
+  goes_front old new was now piece taken chunk out cut le room lent count whole failed =
+      let len : length (lent_text chunk) ≡ length out = ap length (lent ∙ (ap (λ (t : List ℕ). out ++ t) whole ∙ append-nil out)) in
+      (omega (arith, le, length-take taken piece), (omega (arith, le, room, count, len, length-take taken piece), whole, failed))
+
+  goes_then : (a b : List ℕ) (old mid new : OpenerView B) (was between now : Tally) → FeedGoes opening n old mid was between a [] → FeedGoes opening n mid new between now b [] → FeedGoes opening n old new was now (a ++ b) []
+  goes_then a b old mid new was between now p q = (omega (arith, p.0, q.0, length-append a b), refl, q.2 ∙ p.2)
+
+  -- one call more, for a piece of which the front was fed
+  pub record Both (old new : OpenerView B) (was now : Tally) (fed : List ℕ) : Type 0 where
+    pub releases : Releases opening n (λ s. with_piece s fed) old new was now []
+    pub goes : FeedGoes opening n old new was now fed []
+
+  pub both_then : (a b c : List ℕ) (old mid new : OpenerView B) (was between now : Tally) (cut : List ℕ) → a ++ b ≡ c
+      → Releases opening n (λ s. with_piece s a) old mid was between [] → FeedGoes opening n old mid was between a []
+      → Releases opening n (λ s. with_piece s b) mid new between now cut → FeedGoes opening n mid new between now b cut
+      → Both old new was now c
+  both_then a b c old mid new was between now cut e p pg q qg =
+      let q' = subst (λ (t : List ℕ). Releases opening n (λ s. with_piece s b) mid new between now t) qg.1 q in
+      let qg' : FeedGoes opening n mid new between now b [] = (qg.0, refl, qg.2) in
+      subst (λ (t : List ℕ). Both old new was now t) e
+      (record { releases = releases_then a b old mid new was between now [] p q'; goes = goes_then a b old mid new was between now pg qg' })
+
+  -- a fault after steps that went on
+  pub fails_then : (a : List ℕ) (old mid new : OpenerView B) (was between now : Tally) (left cut : List ℕ) (fault : FileFault)
+      → FeedGoes opening n old mid was between a [] → FeedFails opening n new between now left cut fault → FeedFails opening n new was now left cut fault
+  fails_then a old mid new was between now left cut (Stream f) p h = (h.0, h.1, h.2, h.3 ∙ p.2)
+  fails_then a old mid new was between now left cut Write p h = subst (λ (k : ℕ). HasRisen k now.failed) p.2 h
+  fails_then a old mid new was between now left cut other p h = h

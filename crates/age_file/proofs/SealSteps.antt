@@ -1,0 +1,171 @@
+-- One feed of a sealer, and what then was written.
+use Rattle.std.proofs.Common.{◌≡◌, ℕ, suc, ◌+◌, ◌-◌, ◌*◌, ◌^◌, ◌<◌, ◌≤◌, refl, sym, ap, subst, ◌∙◌, List, [], ◌∷◌, ◌++◌, length, take, drop, Option, append-nil, append_assoc, take-append-drop, take-add, Bool, false, true, arith}
+use Rattle.std.specs.Prelude.{nat_lt, ◌==◌, ◌&&◌, ◌||◌, map}
+use Rattle.std.specs.List.{enumerate_from, AllByRecursion}
+use Rattle.std.specs.Simd.{first_chunks}
+use Rattle.std.proofs.Math.Nat.{div-le_self}
+use Rattle.std.proofs.lemmas.Nat.{mul-le}
+use Rattle.std.specs.Borrow.{Bor}
+use Rattle.std.proofs.lemmas.Bool.{ltb-true, eqb-true}
+use Rattle.std.proofs.lemmas.Bool.Decides.{nat_tests}
+use Rattle.std.proofs.lemmas.List.{length-take, length-append, length-drop, take_rest, take_at}
+use Rattle.age_stream.specs.Lawful.{IsLawful}
+use Rattle.age_stream.specs.Nonce.{nonce_bytes}
+use Rattle.age_stream.specs.Payload.{last_index, pair, block_bytes}
+use Rattle.age_stream.specs.Sealing.{SealerView, Holds, step_len, needs_too_many, lent, lent_bytes}
+use Rattle.age_stream.proofs.Chunks.{length-first_chunks}
+use Rattle.age_stream.proofs.Nonces.{nonce_bytes-length}
+use Rattle.age_stream.proofs.Sealings.{last_index_le}
+use Rattle.age_stream.proofs.Undamaged.{all_full}
+use Rattle.age_file.specs.Faults.{HasRisen}
+use Rattle.age_file.specs.Seals.{front_of, IsTooLong, SealsSome, GoesOn, SealFails, HasRoom, Tally, Wrote}
+use Rattle.age_file.specs.declared.fault.FileFault.{FileFault}
+use Rattle.age_file.specs.declared.fault.FileFault.TheVariants.{Head, Key, NonceCut, Stream, BadPosition, OtherFile, ShortText, Read, Write, Memory, ReadNeverEnds, PositionForged, OldTextDiffers}
+use Rattle.age_file.proofs.Bytes.{Appends-then}
+
+pub step_len_le : (m : ℕ) (held piece : List ℕ) → step_len m held piece ≤ length piece
+step_len_le m held piece = grind (arith, nat_tests)
+
+pub step_len_some : (m : ℕ) (held piece : List ℕ) → 0 < length piece → 0 < step_len m held piece
+step_len_some m held piece h = grind (arith, nat_tests, h)
+
+both : (a b : Bool) → (a && b) ≡ true → (a ≡ true) × (b ≡ true)
+both true b e = (refl, e)
+both false b e = cc
+
+-- a sealer that was never refused is refused only where all 2^48 chunks are full and more comes
+pub too_long : {B : Type 0} (n : ℕ) (s : SealerView B) (piece : List ℕ) → 0 < n → s.failed ≡ false → needs_too_many n s piece ≡ true → IsTooLong n s piece
+too_long n s piece positive sound refused text holds =
+    let tests = both (nat_lt 0 (length piece)) (length s.held == n && s.index == 281474976710655) (ap (λ (b : Bool). b || (nat_lt 0 (length piece) && (length s.held == n && s.index == 281474976710655))) (sym sound) ∙ refused) in
+    let full = both (length s.held == n) (s.index == 281474976710655) tests.1 in
+    let more : 0 < length piece = ltb-true 0 (length piece) tests.0 in
+    let held : length s.held ≡ n = eqb-true (length s.held) n full.0 in
+    let index : last_index n text ≡ 281474976710655 = sym holds.index ∙ eqb-true s.index 281474976710655 full.1 in
+    let tail : length s.held ≡ length text - last_index n text * n = ap length holds.held ∙ length-drop (last_index n text * n) text in
+    let before : 281474976710655 * n ≤ length text - 1 = subst (λ (k : ℕ). k * n ≤ length text - 1) index (last_index_le n text) in
+    let exact : length text - 281474976710655 * n ≡ n = sym (tail ∙ ap (λ (k : ℕ). length text - k * n) index) ∙ held in
+    omega (arith, more, before, exact, positive, length-append text piece)
+
+-- the front of a piece that a sealer took, where what it lent was written but for a part that wasn't
+pub some_sealed : {B : Type 0} (sealing : B → List ℕ → List ℕ → List ℕ) (n : ℕ) (old new : SealerView B) (was now : Tally) (piece : List ℕ) (taken : ℕ) (chunk : Option (Bor (List ℕ))) (out cut : List ℕ)
+    → lent_bytes (lent chunk) ≡ out ++ cut → Wrote was now out
+    → ((text : List ℕ) → Holds n old text → front_of (sealing old.key) n (text ++ take taken piece) ≡ front_of (sealing old.key) n text ++ lent_bytes (lent chunk))
+    → SealsSome sealing n old new was now piece (take taken piece) (drop taken piece) cut
+some_sealed sealing n old new was now piece taken chunk out cut is wrote blocks =
+    record {
+      out = out;
+      parts = sym (take-append-drop taken piece);
+      wrote = wrote;
+      blocks = λ text h. blocks text h ∙ ap (λ (t : List ℕ). front_of (sealing old.key) n text ++ t) is;
+    }
+
+-- ---- one after the other
+
+module _ {B : Type 0} (sealing : B → List ℕ → List ℕ → List ℕ) (n : ℕ) where
+  pub goes_then : (a b c : SealerView B) (fed more : List ℕ) → GoesOn sealing n a b fed → GoesOn sealing n b c more → GoesOn sealing n a c (fed ++ more)
+  goes_then a b c fed more p q =
+      record {
+        key = q.key ∙ p.key;
+        feeding = q.feeding;
+        holds = λ text h. subst (λ (t : List ℕ). Holds n c t) (append_assoc text fed more) (q.holds (text ++ fed) (p.holds text h));
+      }
+
+  -- what a piece's front gave, and then what of the rest
+  pub some_then : (a b c : SealerView B) (was mid now : Tally) (front rest fed left cut : List ℕ)
+      → SealsSome sealing n a b was mid front front [] [] → GoesOn sealing n a b front → SealsSome sealing n b c mid now rest fed left cut
+      → SealsSome sealing n a c was now (front ++ rest) (front ++ fed) left cut
+  some_then a b c was mid now front rest fed left cut p goes q =
+      record {
+        out = p.out ++ q.out;
+        parts = ap (λ (t : List ℕ). front ++ t) q.parts ∙ sym (append_assoc front fed left);
+        wrote = record {
+          bytes = Appends-then was.taken mid.taken now.taken p.out q.out p.wrote.bytes q.wrote.bytes;
+          count = omega (arith, p.wrote.count, q.wrote.count, length-append p.out q.out);
+        };
+        blocks = λ text h.
+            let one = p.blocks text h in
+            let two = q.blocks (text ++ front) (goes.holds text h) in
+            let key = sealing a.key in
+            ap (front_of key n) (sym (append_assoc text front fed))
+            ∙ (ap (λ (k : B). front_of (sealing k) n ((text ++ front) ++ fed)) (sym goes.key)
+            ∙ (two
+            ∙ (ap (λ (k : B). front_of (sealing k) n (text ++ front) ++ (q.out ++ cut)) goes.key
+            ∙ (ap (λ (t : List ℕ). t ++ (q.out ++ cut)) (one ∙ ap (λ (t : List ℕ). front_of key n text ++ t) (append-nil p.out))
+            ∙ (append_assoc (front_of key n text) p.out (q.out ++ cut) ∙ ap (λ (t : List ℕ). front_of key n text ++ t) (sym (append_assoc p.out q.out cut)))))));
+      }
+
+  -- only the part that was fed
+  pub fed_alone : (a b : SealerView B) (was now : Tally) (piece fed left cut : List ℕ) → SealsSome sealing n a b was now piece fed left cut → SealsSome sealing n a b was now fed fed [] cut
+  fed_alone a b was now piece fed left cut p = record { out = p.out; parts = sym (append-nil fed); wrote = p.wrote; blocks = p.blocks }
+
+  -- the rest of a piece, as a slice has it
+  pub next_some : (a b c : SealerView B) (was mid now : Tally) (piece : List ℕ) (at : ℕ) (fed left cut : List ℕ)
+      → SealsSome sealing n a b was mid (take at piece) (take at piece) [] [] → GoesOn sealing n a b (take at piece)
+      → SealsSome sealing n b c mid now (take (length piece - at) (drop at piece)) fed left cut → SealsSome sealing n a c was now piece (take at piece ++ fed) left cut
+  next_some a b c was mid now piece at fed left cut p goes q =
+      subst (λ (t : List ℕ). SealsSome sealing n a c was now t (take at piece ++ fed) left cut) (ap (λ (t : List ℕ). take at piece ++ t) (take_rest piece at) ∙ take-append-drop at piece)
+      (some_then a b c was mid now (take at piece) (take (length piece - at) (drop at piece)) fed left cut p goes q)
+
+  -- what was fed up to the next place
+  pub fed_is : (piece : List ℕ) (at taken : ℕ) (fed left : List ℕ) → take (length piece - at) (drop at piece) ≡ fed ++ left → taken ≡ length fed → take at piece ++ fed ≡ take (at + taken) piece
+  fed_is piece at taken fed left parts len =
+      let e : fed ≡ take taken (drop at piece) = sym (take_at fed left taken (sym len)) ∙ ap (take taken) (sym parts ∙ take_rest piece at) in
+      ap (λ (t : List ℕ). take at piece ++ t) e ∙ sym (take-add at taken piece)
+
+  pub fails_then : (a b : SealerView B) (was mid now : Tally) (front rest : List ℕ) (fault : FileFault) → mid.failures ≡ was.failures → GoesOn sealing n a b front
+      → SealFails sealing n b mid now rest fault → SealFails sealing n a was now (front ++ rest) fault
+  fails_then a b was mid now front rest (Stream fault) same goes f =
+      (λ text h. subst (λ (t : List ℕ). 281474976710656 * n < length t) (append_assoc text front rest) (f.0 (text ++ front) (goes.holds text h)), f.1)
+  fails_then a b was mid now front rest Write same goes f = subst (λ (k : ℕ). HasRisen k now.failures) same f
+  fails_then a b was mid now front rest (Head fault) same goes f = absurd f
+  fails_then a b was mid now front rest (Key fault) same goes f = absurd f
+  fails_then a b was mid now front rest NonceCut same goes f = absurd f
+  fails_then a b was mid now front rest BadPosition same goes f = absurd f
+  fails_then a b was mid now front rest OtherFile same goes f = absurd f
+  fails_then a b was mid now front rest ShortText same goes f = absurd f
+  fails_then a b was mid now front rest Read same goes f = absurd f
+  fails_then a b was mid now front rest Memory same goes f = absurd f
+  fails_then a b was mid now front rest ReadNeverEnds same goes f = absurd f
+  fails_then a b was mid now front rest PositionForged same goes f = absurd f
+  fails_then a b was mid now front rest OldTextDiffers same goes f = absurd f
+
+-- ---- sizes
+
+-- the blocks of so many chunks of n bytes
+module _ (sealing : List ℕ → List ℕ → List ℕ) (opening : List ℕ → List ℕ → Option (List ℕ)) (lawful : IsLawful sealing opening) (n : ℕ) where
+  blocks_length : (i : ℕ) (chunks : List (List ℕ)) → AllByRecursion (λ (x : List ℕ). length x ≡ n) chunks
+      → length (block_bytes (map (pair sealing false) (enumerate_from i chunks))) ≡ length chunks * (n + 16)
+  blocks_length i [] all = omega arith
+  blocks_length i (x ∷ xs) all =
+      let block = sealing (nonce_bytes i false) x in
+      let one : length block ≡ n + 16 = lawful.longer (nonce_bytes i false) x (nonce_bytes-length i false) ∙ ap (λ (k : ℕ). k + 16) all.0 in
+      let rest = blocks_length (i + 1) xs all.1 in
+      let more : suc (length xs) * (n + 16) ≡ (n + 16) + length xs * (n + 16) = omega arith in
+      length-append block (block_bytes (map (pair sealing false) (enumerate_from (i + 1) xs))) ∙ omega (arith, one, rest, more)
+
+  pub front_length : (text : List ℕ) → length (front_of sealing n text) ≡ last_index n text * (n + 16)
+  front_length text =
+      let q = last_index n text in
+      blocks_length 0 (first_chunks n q text) (all_full n q text (omega (arith, last_index_le n text)))
+      ∙ ap (λ (k : ℕ). k * (n + 16)) (length-first_chunks n q text)
+
+  pub front_small : (text : List ℕ) → n + 16 ≤ 65552 → length (front_of sealing n text) ≤ length text * 65552
+  front_small text most =
+      let q = last_index n text in
+      let few : q ≤ length text = omega (arith, div-le_self (length text - 1) n) in
+      omega (arith, front_length text, mul-le q (n + 16) (length text) 65552 few most)
+
+-- after a piece's front the count of what was written has room for a block
+pub room_left : {B : Type 0} (sealing : B → List ℕ → List ℕ → List ℕ) (opening : List ℕ → List ℕ → Option (List ℕ)) (n : ℕ) (a b : SealerView B) (was now : Tally) (piece : List ℕ) (at : ℕ)
+    → IsLawful (sealing a.key) opening → n + 16 ≤ 65552 → HasRoom sealing n a was.written (length piece)
+    → SealsSome sealing n a b was now (take at piece) (take at piece) [] [] → now.written ≤ 2 ^ 127
+room_left sealing opening n a b was now piece at lawful most room some =
+    let text = room.text in
+    let fed = take at piece in
+    let blocks = some.blocks text room.holds in
+    let fits = front_small (sealing a.key) opening lawful n (text ++ fed) most in
+    let len : length (front_of (sealing a.key) n (text ++ fed)) ≡ length (front_of (sealing a.key) n text) + length some.out =
+    ap length blocks ∙ (length-append (front_of (sealing a.key) n text) (some.out ++ []) ∙ ap (λ (t : List ℕ). length (front_of (sealing a.key) n text) + length t) (append-nil some.out)) in
+    let short : length (text ++ fed) ≤ 2 ^ 96 = omega (arith, length-append text fed, length-take at piece, room.small) in
+    let product : length (text ++ fed) * 65552 ≤ 2 ^ 96 * 65552 = mul-le (length (text ++ fed)) 65552 (2 ^ 96) 65552 short (omega arith) in
+    omega (arith, some.wrote.count, room.count, len, fits, product)

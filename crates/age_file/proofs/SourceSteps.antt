@@ -1,0 +1,130 @@
+-- A source's text, piece by piece, and what of its payload was written.
+use Rattle.std.proofs.Common.{◌≡◌, ℕ, ◌<◌, ◌≤◌, ◌/◌, sym, ap, subst, ◌∙◌, List, [], ◌∷◌, ◌++◌, length, append-nil, append_assoc, true, false, arith}
+use Rattle.std.specs.Prelude.{map}
+use Rattle.std.specs.List.{enumerate_from}
+use Rattle.std.specs.Simd.{first_chunks}
+use Rattle.std.proofs.lemmas.Grind.{flat_map-append}
+use Rattle.std.proofs.lemmas.List.{length-append}
+use Rattle.age_stream.specs.Headline.{IsPrefixOf}
+use Rattle.age_stream.specs.Payload.{pair, block_bytes, payload, sealed_before_last, last_index, last_chunk}
+use Rattle.age_stream.specs.Sealing.{SealerView, Holds}
+use Rattle.age_stream.proofs.Sealings.{payload_begins}
+use Rattle.age_file.specs.Faults.{HasRisen}
+use Rattle.age_file.specs.Intakes.{PullFails}
+use Rattle.age_file.specs.Ports.{Ports}
+use Rattle.age_file.specs.Seals.{front_of, SealsSome, GoesOn, SealFails, SealingFails, Tally, Wrote}
+use Rattle.age_file.specs.declared.fault.FileFault.{FileFault}
+use Rattle.age_file.specs.declared.fault.FileFault.TheVariants.{Head, Key, NonceCut, Stream, BadPosition, OtherFile, ShortText, Read, Write, Memory, ReadNeverEnds, PositionForged, OldTextDiffers}
+use Rattle.age_file.proofs.Bytes.{Appends-then}
+use Rattle.age_file.proofs.SealSteps.{goes_then}
+
+-- the blocks before the last begin the payload
+pub front_begins : (sealing : List ℕ → List ℕ → List ℕ) (n : ℕ) (text : List ℕ) → IsPrefixOf (front_of sealing n text) (payload sealing n text)
+front_begins sealing n text = (
+  block_bytes (pair sealing true (last_index n text, last_chunk n text) ∷ []),
+  sym (flat_map-append (λ (p : List ℕ × List ℕ). p.1) (sealed_before_last sealing n text) (pair sealing true (last_index n text, last_chunk n text) ∷ [])),
+)
+
+prefix_trans : (a b c : List ℕ) → IsPrefixOf a b → IsPrefixOf b c → IsPrefixOf a c
+prefix_trans a b c p q = (p.0 ++ q.0, sym (append_assoc a p.0 q.0) ∙ (ap (λ (t : List ℕ). t ++ q.0) p.1 ∙ q.1))
+
+zero_div : (n : ℕ) → 0 < n → 0 / n ≡ 0
+zero_div n positive = omega arith
+
+-- no text has no such blocks
+pub no_front : (sealing : List ℕ → List ℕ → List ℕ) (n : ℕ) → 0 < n → front_of sealing n [] ≡ []
+no_front sealing n positive = ap (λ (q : ℕ). block_bytes (map (pair sealing false) (enumerate_from 0 (first_chunks n q [])))) (zero_div n positive)
+
+module _ {B : Type 0} (sealing : B → List ℕ → List ℕ → List ℕ) (n : ℕ) (a b d : SealerView B) (was mid now : Tally) (text piece fed left cut : List ℕ)
+    (goes : GoesOn sealing n a b text) (fresh : Holds n a []) (wrote : Wrote was mid (front_of (sealing a.key) n text)) (some : SealsSome sealing n b d mid now piece fed left cut) (positive : 0 < n) where
+  -- the blocks that the piece brought
+  brought : front_of (sealing a.key) n (text ++ fed) ≡ front_of (sealing a.key) n text ++ (some.out ++ cut)
+  brought =
+      ap (λ (k : B). front_of (sealing k) n (text ++ fed)) (sym goes.key)
+      ∙ (some.blocks text (goes.holds [] fresh) ∙ ap (λ (k : B). front_of (sealing k) n text ++ (some.out ++ cut)) goes.key)
+
+  both : Wrote was now (front_of (sealing a.key) n text ++ some.out)
+  both =
+      record {
+        bytes = Appends-then was.taken mid.taken now.taken (front_of (sealing a.key) n text) some.out wrote.bytes some.wrote.bytes;
+        count = omega (arith, wrote.count, some.wrote.count, length-append (front_of (sealing a.key) n text) some.out);
+      }
+
+  -- a whole piece
+  pub piece_done : left ≡ [] → cut ≡ [] → GoesOn sealing n b d fed → GoesOn sealing n a d (text ++ piece) × Wrote was now (front_of (sealing a.key) n (text ++ piece))
+  piece_done none whole more =
+      let same : fed ≡ piece = sym (some.parts ∙ ap (λ (t : List ℕ). fed ++ t) none ∙ append-nil fed) in
+      let blocks : front_of (sealing a.key) n text ++ some.out ≡ front_of (sealing a.key) n (text ++ piece) =
+      ap (λ (t : List ℕ). front_of (sealing a.key) n text ++ t) (sym (append-nil some.out) ∙ ap (λ (t : List ℕ). some.out ++ t) (sym whole))
+      ∙ (sym brought ∙ ap (λ (t : List ℕ). front_of (sealing a.key) n (text ++ t)) same) in (
+        subst (λ (t : List ℕ). GoesOn sealing n a d (text ++ t)) same (goes_then sealing n a b d text fed goes more),
+        subst (λ (t : List ℕ). Wrote was now t) blocks both,
+      )
+
+  -- a piece at which it stopped
+  pub piece_cut : (out : List ℕ) × Wrote was now out × IsPrefixOf out (payload (sealing a.key) n (text ++ piece))
+  piece_cut =
+      let key = sealing a.key in
+      let first : IsPrefixOf (front_of key n text ++ some.out) (front_of key n (text ++ fed)) = (cut, append_assoc (front_of key n text) some.out cut ∙ sym brought) in
+      let grown = payload_begins n positive key (text ++ fed) left in
+      let whole : (text ++ fed) ++ left ≡ text ++ piece = append_assoc text fed left ∙ ap (λ (t : List ℕ). text ++ t) (sym some.parts) in
+      let second : IsPrefixOf (front_of key n (text ++ fed)) (payload key n (text ++ piece)) =
+      subst (λ (t : List ℕ). IsPrefixOf (front_of key n (text ++ fed)) (payload key n t)) whole (prefix_trans _ _ _ grown (front_begins key n ((text ++ fed) ++ left))) in
+      (front_of key n text ++ some.out, both, prefix_trans _ _ _ first second)
+
+-- why no more came
+pub pull_fails : (n : ℕ) (old new : Ports) (text : List ℕ) (pulls failed_old failed_new : ℕ) (fault : FileFault) → failed_old ≡ old.read_failed → new.read_failed ≡ failed_new → pulls ≤ length text
+    → PullFails pulls failed_old failed_new fault → SealingFails n old new text fault
+pull_fails n old new text pulls failed_old failed_new Read same is gave f = subst (λ (k : ℕ). HasRisen k new.read_failed) same (subst (λ (k : ℕ). HasRisen failed_old k) (sym is) f)
+pull_fails n old new text pulls failed_old failed_new ReadNeverEnds same is gave f = omega (arith, gave, f)
+pull_fails n old new text pulls failed_old failed_new (Head fault) same is gave f = absurd f
+pull_fails n old new text pulls failed_old failed_new (Key fault) same is gave f = absurd f
+pull_fails n old new text pulls failed_old failed_new NonceCut same is gave f = absurd f
+pull_fails n old new text pulls failed_old failed_new (Stream fault) same is gave f = absurd f
+pull_fails n old new text pulls failed_old failed_new BadPosition same is gave f = absurd f
+pull_fails n old new text pulls failed_old failed_new OtherFile same is gave f = absurd f
+pull_fails n old new text pulls failed_old failed_new ShortText same is gave f = absurd f
+pull_fails n old new text pulls failed_old failed_new Write same is gave f = absurd f
+pull_fails n old new text pulls failed_old failed_new Memory same is gave f = absurd f
+pull_fails n old new text pulls failed_old failed_new PositionForged same is gave f = absurd f
+pull_fails n old new text pulls failed_old failed_new OldTextDiffers same is gave f = absurd f
+
+-- why a piece wasn't sealed
+pub seal_fails : {B : Type 0} (sealing : B → List ℕ → List ℕ → List ℕ) (n : ℕ) (a b : SealerView B) (old new : Ports) (was now : Tally) (text piece : List ℕ) (fault : FileFault)
+    → was.failures ≡ old.write_failed → new.write_failed ≡ now.failures → GoesOn sealing n a b text → Holds n a [] → SealFails sealing n b was now piece fault → SealingFails n old new (text ++ piece) fault
+seal_fails sealing n a b old new was now text piece (Stream fault) same is goes fresh f = (f.0 text (goes.holds [] fresh), f.1)
+seal_fails sealing n a b old new was now text piece Write same is goes fresh f = subst (λ (k : ℕ). HasRisen k new.write_failed) same (subst (λ (k : ℕ). HasRisen was.failures k) (sym is) f)
+seal_fails sealing n a b old new was now text piece (Head fault) same is goes fresh f = absurd f
+seal_fails sealing n a b old new was now text piece (Key fault) same is goes fresh f = absurd f
+seal_fails sealing n a b old new was now text piece NonceCut same is goes fresh f = absurd f
+seal_fails sealing n a b old new was now text piece BadPosition same is goes fresh f = absurd f
+seal_fails sealing n a b old new was now text piece OtherFile same is goes fresh f = absurd f
+seal_fails sealing n a b old new was now text piece ShortText same is goes fresh f = absurd f
+seal_fails sealing n a b old new was now text piece Read same is goes fresh f = absurd f
+seal_fails sealing n a b old new was now text piece Memory same is goes fresh f = absurd f
+seal_fails sealing n a b old new was now text piece ReadNeverEnds same is goes fresh f = absurd f
+seal_fails sealing n a b old new was now text piece PositionForged same is goes fresh f = absurd f
+seal_fails sealing n a b old new was now text piece OldTextDiffers same is goes fresh f = absurd f
+
+-- ---- the last block
+
+module _ {B : Type 0} (sealing : B → List ℕ → List ℕ → List ℕ) (n : ℕ) (a b : SealerView B) (was mid now : Tally) (text : List ℕ)
+    (key : b.key ≡ a.key) (holds : Holds n b text) (wrote : Wrote was mid (front_of (sealing a.key) n text)) (out cut : List ℕ) (last : Wrote mid now out)
+    (blocks : (t : List ℕ) → Holds n b t → payload (sealing b.key) n t ≡ front_of (sealing b.key) n t ++ (out ++ cut)) where
+  whole : payload (sealing a.key) n text ≡ (front_of (sealing a.key) n text ++ out) ++ cut
+  whole =
+      ap (λ (k : B). payload (sealing k) n text) (sym key)
+      ∙ (blocks text holds ∙ (ap (λ (k : B). front_of (sealing k) n text ++ (out ++ cut)) key ∙ sym (append_assoc (front_of (sealing a.key) n text) out cut)))
+
+  pub last_written : Wrote was now (front_of (sealing a.key) n text ++ out)
+  last_written =
+      record {
+        bytes = Appends-then was.taken mid.taken now.taken (front_of (sealing a.key) n text) out wrote.bytes last.bytes;
+        count = omega (arith, wrote.count, last.count, length-append (front_of (sealing a.key) n text) out);
+      }
+
+  pub last_begins : IsPrefixOf (front_of (sealing a.key) n text ++ out) (payload (sealing a.key) n text)
+  last_begins = (cut, sym whole)
+
+  pub last_whole : cut ≡ [] → Wrote was now (payload (sealing a.key) n text)
+  last_whole none = subst (λ (t : List ℕ). Wrote was now t) (sym (whole ∙ ap (λ (t : List ℕ). (front_of (sealing a.key) n text ++ out) ++ t) none ∙ append-nil (front_of (sealing a.key) n text ++ out))) last_written

@@ -1,0 +1,79 @@
+use Rattle.std.proofs.Common.{◌≡◌, ◌+◌, ◌-◌, length, take, drop, ap, sym, subst, ◌∙◌, arith, List, ℕ, [], ◌++◌, refl, append-nil, rules}
+use Rattle.std.proofs.KnownBytes.{Appends-nil}
+use Rattle.std.proofs.lemmas.List.{take-append-drop, take_rest, length-append, length-drop}
+use Rattle.age_file.specs.Seals.{SealsSome, GoesOn, SealFails, front_of, tally}
+use Rattle.age_file.proofs.SealSteps.{next_some, fed_alone, fed_is, goes_then, fails_then, room_left}
+use Rattle.age_file.proofs.sealing.seal_piece.Goals as goal
+
+pub loop-at-init : goal.loop-at-init
+loop-at-init g c =
+    let key = c.args.sealer.now.key in
+    let n = g.row.SEALED - 16 in
+    record {
+      within = omega arith;
+      some = record {
+        out = [];
+        parts = refl;
+        wrote = record { bytes = Appends-nil _; count = omega arith };
+        blocks = λ text h. ap (front_of (g.B.ChunkBox.sealing key) n) (append-nil text) ∙ sym (append-nil (front_of (g.B.ChunkBox.sealing key) n text));
+      };
+      goes = record { key = refl; feeding = c.requires.feeding; holds = λ text h. rw (append-nil text) h };
+      failures = refl;
+      named = refl;
+    }
+
+pub seal_once-requires : goal.seal_once-requires
+seal_once-requires g c =
+    let kept = c.loop-at.invariant in
+    let key = c.args.sealer.now.key in (
+      search rules,
+      (c.requires.least, (kept.goes.feeding, room_left g.B.ChunkBox.sealing (g.B.ChunkBox.opening key) (g.row.SEALED - 16) c.args.sealer.now c.loop-at.sealer _ _ c.args.piece.now c.loop-at.at (g.met.B.ChunkBox.lawful key) (omega (arith, c.requires.least, c.requires.most)) c.requires.room kept.some)),
+    )
+
+pub loop-at-preserved : goal.loop-at-preserved
+loop-at-preserved g c =
+    let kept = c.loop-at.invariant in
+    let n = g.row.SEALED - 16 in
+    let sealing = g.B.ChunkBox.sealing in
+    let piece = c.args.piece.now in
+    let at = c.loop-at.at in
+    let s = c.in-Ok.ensures.sealed in
+    let was = tally (g.O.Sink.taken c.args.sink.now) (g.O.Sink.failed c.args.sink.now) c.args.written.now in
+    let mid = tally (g.O.Sink.taken c.loop-at.sink) (g.O.Sink.failed c.loop-at.sink) c.loop-at.written in
+    let now = tally (g.O.Sink.taken c.seal_once.new.sink) (g.O.Sink.failed c.seal_once.new.sink) c.seal_once.new.written in
+    let a = c.args.sealer.now in
+    let b = c.loop-at.sealer in
+    let d = c.seal_once.new.sealer in
+    let same : take at piece ++ s.fed ≡ take (at + c.in-Ok.n) piece = fed_is sealing n piece at c.in-Ok.n s.fed s.left s.some.parts s.answered.0 in
+    let whole : SealsSome sealing n a d was now piece (take at piece ++ s.fed) s.left [] =
+    subst (λ (t : List ℕ). SealsSome sealing n a d was now piece (take at piece ++ s.fed) s.left t) s.answered.2 (next_some sealing n a b d was mid now piece at s.fed s.left s.cut kept.some kept.goes s.some) in
+    record {
+      within = omega (arith, ap length s.some.parts, length-append s.fed s.left, s.answered.0, length-drop c.loop-at.at c.args.piece.now, ap length (take_rest c.args.piece.now c.loop-at.at), kept.within);
+      some = subst (λ (t : List ℕ). SealsSome sealing n a d was now t t [] []) same (fed_alone sealing n a d was now piece (take at piece ++ s.fed) s.left [] whole);
+      goes = subst (λ (t : List ℕ). GoesOn sealing n a d t) same (goes_then sealing n a b d (take at piece) s.fed kept.goes s.answered.4);
+      failures = s.answered.3 ∙ kept.failures;
+      named = c.in-Ok.ensures.named ∙ kept.named;
+    }
+
+pub returns-in-Err-clause-sealed : goal.returns-in-Err-clause-sealed
+returns-in-Err-clause-sealed g c =
+    let kept = c.loop-at.invariant in
+    let n = g.row.SEALED - 16 in
+    let sealing = g.B.ChunkBox.sealing in
+    let piece = c.args.piece.now in
+    let at = c.loop-at.at in
+    let s = c.in-Err.ensures.sealed in
+    let was = tally (g.O.Sink.taken c.args.sink.now) (g.O.Sink.failed c.args.sink.now) c.args.written.now in
+    let mid = tally (g.O.Sink.taken c.loop-at.sink) (g.O.Sink.failed c.loop-at.sink) c.loop-at.written in
+    let now = tally (g.O.Sink.taken c.seal_once.new.sink) (g.O.Sink.failed c.seal_once.new.sink) c.seal_once.new.written in
+    let a = c.args.sealer.now in
+    let b = c.loop-at.sealer in
+    let d = c.seal_once.new.sealer in
+    let whole : take at piece ++ take (length piece - at) (drop at piece) ≡ piece = ap (λ (t : List ℕ). take at piece ++ t) (take_rest piece at) ∙ take-append-drop at piece in
+    record {
+      fed = take at piece ++ s.fed;
+      left = s.left;
+      cut = s.cut;
+      some = next_some sealing n a b d was mid now piece at s.fed s.left s.cut kept.some kept.goes s.some;
+      answered = subst (λ (t : List ℕ). SealFails sealing n a was now t c.in-Err.fault) whole (fails_then sealing n a b was mid now (take at piece) (take (length piece - at) (drop at piece)) c.in-Err.fault kept.failures kept.goes s.answered);
+    }

@@ -1,0 +1,133 @@
+use Rattle.std.proofs.Common.{◌≡◌, ◌-◌, ◌<◌, length, ap, sym, subst, ◌∙◌, arith, List, ℕ, [], ◌++◌, refl, append-nil, rules}
+use Rattle.std.proofs.KnownBytes.{Appends-nil, Consumes-nil}
+use Rattle.std.proofs.lemmas.List.{length-append}
+use Rattle.age_file.specs.Intakes.{Pulled}
+use Rattle.age_file.specs.Seals.{Wrote, front_of, tally}
+use Rattle.age_file.specs.Ports.{ports}
+use Rattle.age_file.proofs.Bytes.{cut_pulled}
+use Rattle.age_file.proofs.SourceSteps.{front_begins, no_front, piece_done, piece_cut, pull_fails, seal_fails}
+use Rattle.age_file.proofs.sealing.seal_source.Goals as goal
+
+pub pulls-init : goal.pulls-init
+pulls-init g c =
+    let sealing = g.B.ChunkBox.sealing c.args.sealer.now.key in
+    let n = g.row.SEALED - 16 in
+    let none = no_front sealing n (omega (arith, c.requires.least)) in
+    let now = tally (g.O.Sink.taken c.args.sink.now) (g.O.Sink.failed c.args.sink.now) c.args.written.now in
+    record {
+      text = [];
+      pulled = record { consumed = Consumes-nil _; each_gave = omega (arith, c.requires.unread.1); small = omega (arith, c.requires.unread.1); most = omega (arith, c.requires.unread.1) };
+      unread = c.requires.unread.0;
+      plain_is = refl;
+      goes = record { key = refl; feeding = c.requires.fresh.0; holds = λ text h. rw (append-nil text) h };
+      wrote = subst (λ (t : List ℕ). Wrote now now t) (sym none) (record { bytes = Appends-nil now.taken; count = omega arith });
+      read_failed = refl;
+      write_failed = refl;
+      named = refl;
+    }
+
+pub returns-in-Ok-false-clause-sealed : goal.returns-in-Ok-false-clause-sealed
+returns-in-Ok-false-clause-sealed g c =
+    let kept = c.pulls.invariant in
+    let r = rw c.in-Ok-false.field-0-test at c.in-Ok-false.ensures in
+    let all = cut_pulled _ _ _ kept.text _ r.answered.0 (r.pulled _ kept.text kept.pulled) in
+    record {
+      text = kept.text;
+      moved = record { read = all.consumed; wrote = kept.wrote.bytes; count = kept.wrote.count; small = omega (arith, all.small, all.most) };
+      at_end = r.answered.2;
+      plain_is = kept.plain_is;
+      none_failed = (r.answered.3 ∙ kept.read_failed, kept.write_failed);
+      key = kept.goes.key;
+      feeding = kept.goes.feeding;
+      holds = kept.goes.holds [] c.requires.fresh.1;
+    }
+
+pub returns-in-Err-clause-fails : goal.returns-in-Err-clause-fails
+returns-in-Err-clause-fails g c =
+    let kept = c.pulls.invariant in
+    let r = c.in-Err.ensures in
+    let all = cut_pulled _ _ _ kept.text _ r.answered.0 (r.pulled _ kept.text kept.pulled) in
+    let sealing = g.B.ChunkBox.sealing c.args.sealer.now.key in
+    let n = g.row.SEALED - 16 in
+    record {
+      text = kept.text;
+      out = front_of sealing n kept.text;
+      moved = record { read = all.consumed; wrote = kept.wrote.bytes; count = kept.wrote.count; small = omega (arith, all.small, all.most) };
+      prefix = front_begins sealing n kept.text;
+      fails = pull_fails n (ports (g.S.Source.remaining c.args.source.now) (g.S.Source.failed c.args.source.now) (g.O.Sink.taken c.args.sink.now) (g.O.Sink.failed c.args.sink.now))
+          (ports (g.S.Source.remaining c.refill.new.source) (g.S.Source.failed c.refill.new.source) (g.O.Sink.taken c.pulls.sink) (g.O.Sink.failed c.pulls.sink)) kept.text _ _ _ c.in-Err.fault kept.read_failed refl kept.pulled.each_gave r.answered.2;
+    }
+
+pub seal_piece-requires : goal.seal_piece-requires
+seal_piece-requires g c =
+    let kept = c.pulls.invariant in
+    let text = kept.text in
+    let n = g.row.SEALED - 16 in
+    let pulled = kept.pulled in
+    let blocks : front_of (g.B.ChunkBox.sealing c.args.sealer.now.key) n text ≡ front_of (g.B.ChunkBox.sealing c.pulls.sealer.key) n text =
+    ap (λ k. front_of (g.B.ChunkBox.sealing k) n text) (sym kept.goes.key) in (
+      search rules,
+      (
+        c.requires.least,
+        (
+          c.requires.most,
+          (
+            kept.goes.feeding,
+            record {
+              text = text;
+              holds = kept.goes.holds [] c.requires.fresh.1;
+              small = omega (arith, pulled.small, pulled.most, c.bytes.ensures.most);
+              count = omega (arith, c.requires.room, kept.wrote.count, ap length blocks);
+            },
+          ),
+        ),
+      ),
+    )
+
+pub returns-in-Err-seal_piece-clause-fails : goal.returns-in-Err-seal_piece-clause-fails
+returns-in-Err-seal_piece-clause-fails g c =
+    let kept = c.pulls.invariant in
+    let r = rw c.in-Ok-true.field-0-test at c.in-Ok-true.ensures in
+    let s = c.in-Err-seal_piece.ensures.sealed in
+    let n = g.row.SEALED - 16 in
+    let positive : 0 < n = omega (arith, c.requires.least) in
+    let piece = c.bytes.result.now in
+    let was = tally (g.O.Sink.taken c.args.sink.now) (g.O.Sink.failed c.args.sink.now) c.args.written.now in
+    let mid = tally (g.O.Sink.taken c.pulls.sink) (g.O.Sink.failed c.pulls.sink) c.pulls.written in
+    let now = tally (g.O.Sink.taken c.seal_piece.new.sink) (g.O.Sink.failed c.seal_piece.new.sink) c.seal_piece.new.written in
+    let old = ports (g.S.Source.remaining c.args.source.now) (g.S.Source.failed c.args.source.now) (g.O.Sink.taken c.args.sink.now) (g.O.Sink.failed c.args.sink.now) in
+    let new = ports (g.S.Source.remaining c.refill.new.source) (g.S.Source.failed c.refill.new.source) (g.O.Sink.taken c.seal_piece.new.sink) (g.O.Sink.failed c.seal_piece.new.sink) in
+    let all = rw (← c.bytes.ensures.bytes) at (r.pulled old.coming kept.text kept.pulled) in
+    let cut = piece_cut g.B.ChunkBox.sealing n c.args.sealer.now c.pulls.sealer c.seal_piece.new.sealer was mid now kept.text piece s.fed s.left s.cut kept.goes c.requires.fresh.1 kept.wrote s.some positive in
+    record {
+      text = kept.text ++ piece;
+      out = cut.0;
+      moved = record { read = all.consumed; wrote = cut.1.bytes; count = cut.1.count; small = omega (arith, all.small, all.most) };
+      prefix = cut.2;
+      fails = seal_fails g.B.ChunkBox.sealing n c.args.sealer.now c.pulls.sealer old new mid now kept.text piece c.in-Err-seal_piece.fault kept.write_failed refl kept.goes c.requires.fresh.1 s.answered;
+    }
+
+pub pulls-preserved : goal.pulls-preserved
+pulls-preserved g c =
+    let kept = c.pulls.invariant in
+    let r = rw c.in-Ok-true.field-0-test at c.in-Ok-true.ensures in
+    let s = c.in-Ok.ensures.sealed in
+    let n = g.row.SEALED - 16 in
+    let positive : 0 < n = omega (arith, c.requires.least) in
+    let piece = c.bytes.result.now in
+    let was = tally (g.O.Sink.taken c.args.sink.now) (g.O.Sink.failed c.args.sink.now) c.args.written.now in
+    let mid = tally (g.O.Sink.taken c.pulls.sink) (g.O.Sink.failed c.pulls.sink) c.pulls.written in
+    let now = tally (g.O.Sink.taken c.seal_piece.new.sink) (g.O.Sink.failed c.seal_piece.new.sink) c.seal_piece.new.written in
+    let all = rw (← c.bytes.ensures.bytes) at (r.pulled (g.S.Source.remaining c.args.source.now) kept.text kept.pulled) in
+    let done = piece_done g.B.ChunkBox.sealing n c.args.sealer.now c.pulls.sealer c.seal_piece.new.sealer was mid now kept.text piece s.fed s.left s.cut kept.goes c.requires.fresh.1 kept.wrote s.some positive s.answered.0 s.answered.1 s.answered.3 in
+    record {
+      text = kept.text ++ piece;
+      pulled = subst (λ (k : ℕ). Pulled (g.S.Source.remaining c.args.source.now) (g.S.Source.remaining c.refill.new.source) k (kept.text ++ piece)) (sym c.use_all.ensures.pulls) all;
+      unread = c.use_all.ensures.bytes;
+      plain_is = omega (arith, kept.plain_is, length-append kept.text c.bytes.result.now, ap length (c.bytes.ensures.bytes ∙ sym c.bytes-in-pulls.ensures.bytes));
+      goes = done.0;
+      wrote = done.1;
+      read_failed = r.answered.4 ∙ kept.read_failed;
+      write_failed = s.answered.2 ∙ kept.write_failed;
+      named = c.in-Ok.ensures.named ∙ kept.named;
+    }

@@ -1,0 +1,22 @@
+use Rattle.std.proofs.Common.{◌-◌, ◌^◌, ◌≡◌, ℕ, [], List, length}
+use Rattle.age_file.specs.Intakes.{Pulled}
+use Rattle.age_file.specs.Seals.{tally, Wrote, GoesOn, front_of}
+use Rattle.age_file.proofs.sealing.seal_source.Given as goal
+
+-- the text that came so far
+abbrev pub invariant-pulls : goal.invariant-pulls
+invariant-pulls g l = record {
+  text : List ℕ;
+  pulled : Pulled (g.S.Source.remaining l.fn.source) (g.S.Source.remaining l.source) l.intake.pulls text;
+  unread : l.intake.bytes ≡ [];
+  plain_is : l.plain ≡ length text;
+  goes : GoesOn g.B.ChunkBox.sealing (g.row.SEALED - 16) l.fn.sealer l.sealer text;
+  wrote : Wrote (tally (g.O.Sink.taken l.fn.sink) (g.O.Sink.failed l.fn.sink) l.fn.written) (tally (g.O.Sink.taken l.sink) (g.O.Sink.failed l.sink) l.written)
+      (front_of (g.B.ChunkBox.sealing l.fn.sealer.key) (g.row.SEALED - 16) text);
+  read_failed : g.S.Source.failed l.source ≡ g.S.Source.failed l.fn.source;
+  write_failed : g.O.Sink.failed l.sink ≡ g.O.Sink.failed l.fn.sink;
+  named : g.O.Sink.label l.sink ≡ g.O.Sink.label l.fn.sink;
+}
+
+abbrev pub decreases-pulls : goal.decreases-pulls
+decreases-pulls g l = 2 ^ 63 - l.intake.pulls

@@ -1,0 +1,25 @@
+-- What binds a position to its file and to the text before it. Not of the age format.
+use Rattle.std.specs.Prelude.{ℕ, List, ◌++◌, codes, replicate, fold}
+use Rattle.std.specs.Fmt.{decimal}
+use Rattle.sha2.specs.Sha256.{sha256}
+use Rattle.age_stanza.specs.Text.{text}
+use Rattle.age_kdf.specs.Hmac.{hmac}
+
+-- the chain over chunks, one link a chunk: each is the digest of the link before it and the chunk
+abbrev pub link : List ℕ → List ℕ → List ℕ
+link so_far chunk = sha256 (so_far ++ chunk)
+
+unfoldable pub chain : List (List ℕ) → List ℕ
+chain chunks = fold link (replicate 32 0) chunks
+
+-- what tells a file from others: the digest of its header's bytes and its payload nonce
+unfoldable pub file_id : List ℕ → List ℕ → List ℕ
+file_id front nonce = sha256 (front ++ nonce)
+
+-- the text of a position up to its tag
+unfoldable pub position_front : ℕ → List ℕ → List ℕ → List ℕ
+position_front index id links = codes "age-position/v2 " ++ decimal index ++ codes " " ++ text id ++ codes " " ++ text links ++ codes " "
+
+-- the tag of a position under a position key
+unfoldable pub position_tag : List ℕ → ℕ → List ℕ → List ℕ → List ℕ
+position_tag key index id links = hmac key (position_front index id links)

@@ -1,0 +1,61 @@
+-- What an encryption did.
+use Rattle.std.specs.Prelude.{◌≡◌, ℕ, ◌^◌, ◌<◌, ◌≤◌, List, ◌++◌, length}
+use Rattle.std.specs.Io.KnownBytes.{Consumes, Appends, IsAtEnd}
+use Rattle.age_stanza.specs.Grammar.{HeadText}
+use Rattle.age_stream.specs.Headline.{IsPrefixOf}
+use Rattle.age_stream.specs.declared.fault.StreamKind.TheVariants.{TooManyChunks}
+use Rattle.age_keys.specs.Scrypt.{scrypt_head}
+use Rattle.age_file.specs.AgeFile.{FileOf}
+use Rattle.age_file.specs.Faults.{HasRisen}
+use Rattle.age_file.specs.Ports.{Ports, NoneFailed}
+use Rattle.age_file.specs.Secrets.{SecretView}
+use Rattle.age_file.specs.declared.encryption.Written.{Written}
+use Rattle.age_file.specs.declared.fault.FileFault.{FileFault}
+use Rattle.age_file.specs.declared.fault.FileFault.TheVariants.{Stream, Read, Write, Memory, ReadNeverEnds}
+
+-- the bytes are the age file of the text for the passphrase: its header has one scrypt stanza
+abbrev pub AgeFile : SecretView → List ℕ → List ℕ → Type 0
+AgeFile s text bytes = FileOf (scrypt_head s.pass s.log s.salt s.key) s.key s.nonce text bytes
+
+-- what stands before the payload: the header's text and the payload nonce
+pub record BeginsFile (s : SecretView) (bytes : List ℕ) : Type 0 where
+  pub front : List ℕ
+  pub head : HeadText (scrypt_head s.pass s.log s.salt s.key) front
+  pub parts : bytes ≡ front ++ s.nonce
+  pub size : length s.nonce ≡ 16
+
+-- the age file of all that the source gave was written, and both are counted
+pub record Encrypts (s : SecretView) (old new : Ports) (written : Written) : Type 0 where
+  pub text : List ℕ
+  pub file : List ℕ
+  pub is : AgeFile s text file
+  pub read : Consumes old.coming new.coming text
+  pub at_end : IsAtEnd new.coming
+  pub wrote : Appends old.taken new.taken file
+  pub plain_is : written.plain ≡ length text
+  pub file_is : written.file ≡ length file
+  pub none_failed : NoneFailed old new
+
+-- why it stopped, after this text was read
+abbrev pub WhyStopped : Ports → Ports → List ℕ → FileFault → Type 0
+WhyStopped old new text (Stream fault) = (2 ^ 64 < length text) × (fault.kind ≡ TooManyChunks)
+WhyStopped old new text Read = HasRisen old.read_failed new.read_failed
+WhyStopped old new text Write = HasRisen old.write_failed new.write_failed
+WhyStopped old new text ReadNeverEnds = 2 ^ 63 ≤ length text
+WhyStopped old new text other = ⊥
+
+-- a front of the age file of what was read was written
+pub record EncryptsFront (s : SecretView) (old new : Ports) (fault : FileFault) : Type 0 where
+  pub text : List ℕ
+  pub file : List ℕ
+  pub out : List ℕ
+  pub is : AgeFile s text file
+  pub read : Consumes old.coming new.coming text
+  pub wrote : Appends old.taken new.taken out
+  pub prefix : IsPrefixOf out file
+  pub why : WhyStopped old new text fault
+
+-- want of memory comes before anything was read or written
+abbrev pub EncryptFails : SecretView → Ports → Ports → FileFault → Type 0
+EncryptFails s old new Memory = new ≡ old
+EncryptFails s old new fault = EncryptsFront s old new fault

@@ -1,0 +1,139 @@
+-- What a sealer was fed, and what of its blocks was written. What only the private parts of the engines cite.
+use Rattle.std.specs.Prelude.{◌≡◌, ℕ, ◌+◌, ◌*◌, ◌^◌, ◌<◌, ◌≤◌, List, [], ◌++◌, length, Option, Result, MatchResult, false}
+use Rattle.std.specs.Io.KnownBytes.{Consumes, Appends, IsAtEnd}
+use Rattle.age_stream.specs.Sealing.{SealerView, Holds}
+use Rattle.age_stream.specs.Payload.{sealed_before_last, block_bytes, payload}
+use Rattle.age_stream.specs.Headline.{IsPrefixOf}
+use Rattle.age_stream.specs.declared.fault.StreamKind.TheVariants.{TooManyChunks}
+use Rattle.age_file.specs.Faults.{HasRisen}
+use Rattle.age_file.specs.Ports.{Ports, NoneFailed}
+use Rattle.age_file.specs.declared.fault.FileFault.{FileFault}
+use Rattle.age_file.specs.declared.fault.FileFault.TheVariants.{Stream, Read, Write, ReadNeverEnds}
+
+-- what a sink took, its count of failures, and the count of what was written
+pub record Tally : Type 0 where
+  pub taken : Option (List ℕ)
+  pub failures : ℕ
+  pub written : ℕ
+
+abbrev pub tally : Option (List ℕ) → ℕ → ℕ → Tally
+tally taken failures written = record { taken = taken; failures = failures; written = written }
+
+-- so many bytes were written
+pub record Wrote (was now : Tally) (out : List ℕ) : Type 0 where
+  pub bytes : Appends was.taken now.taken out
+  pub count : now.written ≡ was.written + length out
+
+-- the blocks before the last, joined
+abbrev pub front_of : (List ℕ → List ℕ → List ℕ) → ℕ → List ℕ → List ℕ
+front_of sealing n text = block_bytes (sealed_before_last sealing n text)
+
+-- a sealer that may be fed: neither finished nor refused
+pub record IsFeeding {B : Type 0} (s : SealerView B) : Type 0 where
+  pub unfinished : s.finished ≡ false
+  pub sound : s.failed ≡ false
+
+-- what the sealer holds and the piece are more than 2^48 chunks
+abbrev pub IsTooLong : {B : Type 0} → ℕ → SealerView B → List ℕ → Type 0
+IsTooLong n old piece = (text : List ℕ) → Holds n old text → 281474976710656 * n < length (text ++ piece)
+
+module _ {B : Type 0} (sealing : B → List ℕ → List ℕ → List ℕ) (n : ℕ) where
+  -- what was written and is still to be written fits its count: the blocks of a text that isn't too long, and something before them
+  pub record HasRoom (s : SealerView B) (written more : ℕ) : Type 0 where
+    pub text : List ℕ
+    pub holds : Holds n s text
+    pub small : length text + more ≤ 2 ^ 96
+    pub count : written ≤ 2 ^ 126 + length (front_of (sealing s.key) n text)
+
+  -- the sealer was given more, and goes on
+  pub record GoesOn (old new : SealerView B) (fed : List ℕ) : Type 0 where
+    pub key : new.key ≡ old.key
+    pub feeding : IsFeeding new
+    pub holds : (text : List ℕ) → Holds n old text → Holds n new (text ++ fed)
+
+  abbrev pub SealFails : SealerView B → Tally → Tally → List ℕ → FileFault → Type 0
+  SealFails old was now piece (Stream fault) = IsTooLong n old piece × (fault.kind ≡ TooManyChunks)
+  SealFails old was now piece Write = HasRisen was.failures now.failures
+  SealFails old was now piece other = ⊥
+
+  -- of a piece the sealer was fed the front; its blocks grew by what was written, and by what wasn't where the sink failed
+  pub record SealsSome (old new : SealerView B) (was now : Tally) (piece fed left cut : List ℕ) : Type 0 where
+    pub out : List ℕ
+    pub parts : piece ≡ fed ++ left
+    pub wrote : Wrote was now out
+    pub blocks : (text : List ℕ) → Holds n old text → front_of (sealing old.key) n (text ++ fed) ≡ front_of (sealing old.key) n text ++ (out ++ cut)
+
+  -- one feed
+  pub record SealsOnce (old new : SealerView B) (was now : Tally) (piece : List ℕ) (result : Result ℕ FileFault) : Type 0 where
+    pub fed : List ℕ
+    pub left : List ℕ
+    pub cut : List ℕ
+    pub some : SealsSome old new was now piece fed left cut
+    pub answered : MatchResult result
+        (λ taken. (taken ≡ length fed) × (0 < length piece → 0 < taken) × (cut ≡ []) × (now.failures ≡ was.failures) × GoesOn old new fed)
+        (SealFails old was now piece)
+
+  -- a whole piece
+  pub record SealsPiece (old new : SealerView B) (was now : Tally) (piece : List ℕ) (result : Result (Unit {0}) FileFault) : Type 0 where
+    pub fed : List ℕ
+    pub left : List ℕ
+    pub cut : List ℕ
+    pub some : SealsSome old new was now piece fed left cut
+    pub answered : MatchResult result
+        (λ _. (left ≡ []) × (cut ≡ []) × (now.failures ≡ was.failures) × GoesOn old new fed)
+        (SealFails old was now piece)
+
+-- the last block of what the sealer holds: what of it was written, and what wasn't where the sink failed
+module _ {B : Type 0} (sealing : B → List ℕ → List ℕ → List ℕ) (n : ℕ) where
+  pub record SealsLast (old : SealerView B) (was now : Tally) (result : Result (Unit {0}) FileFault) : Type 0 where
+    pub out : List ℕ
+    pub cut : List ℕ
+    pub wrote : Wrote was now out
+    pub blocks : (text : List ℕ) → Holds n old text → payload (sealing old.key) n text ≡ front_of (sealing old.key) n text ++ (out ++ cut)
+    pub answered : MatchResult result (λ _. (cut ≡ []) × (now.failures ≡ was.failures)) (λ fault. (fault ≡ Write) × HasRisen was.failures now.failures)
+
+-- ---- a whole source
+
+-- so much was read from a source, and so much written
+pub record ReadsWrites (old new : Ports) (written_old written_new : ℕ) (text out : List ℕ) : Type 0 where
+  pub read : Consumes old.coming new.coming text
+  pub wrote : Appends old.taken new.taken out
+  pub count : written_new ≡ written_old + length out
+  pub small : length text ≤ 2 ^ 80
+
+-- why a source wasn't sealed to its end
+abbrev pub SealingFails : ℕ → Ports → Ports → List ℕ → FileFault → Type 0
+SealingFails n old new text (Stream fault) = (281474976710656 * n < length text) × (fault.kind ≡ TooManyChunks)
+SealingFails n old new text Read = HasRisen old.read_failed new.read_failed
+SealingFails n old new text Write = HasRisen old.write_failed new.write_failed
+SealingFails n old new text ReadNeverEnds = 2 ^ 63 ≤ length text
+SealingFails n old new text other = ⊥
+
+-- a source was read to its end, and but for the last chunk its text was sealed and written
+module _ {B : Type 0} (sealing : B → List ℕ → List ℕ → List ℕ) (n : ℕ) where
+  pub record SealsSource (before after : SealerView B) (old new : Ports) (written_old written_new plain : ℕ) : Type 0 where
+    pub text : List ℕ
+    pub moved : ReadsWrites old new written_old written_new text (front_of (sealing before.key) n text)
+    pub at_end : IsAtEnd new.coming
+    pub plain_is : plain ≡ length text
+    pub none_failed : NoneFailed old new
+    pub key : after.key ≡ before.key
+    pub feeding : IsFeeding after
+    pub holds : Holds n after text
+
+module _ (sealing : List ℕ → List ℕ → List ℕ) (n : ℕ) where
+  -- all of it was
+  pub record SealsAll (old new : Ports) (written_old written_new plain : ℕ) : Type 0 where
+    pub text : List ℕ
+    pub moved : ReadsWrites old new written_old written_new text (payload sealing n text)
+    pub at_end : IsAtEnd new.coming
+    pub plain_is : plain ≡ length text
+    pub none_failed : NoneFailed old new
+
+  -- it wasn't, and a front of the payload of what was read was written
+  pub record SealsFront (old new : Ports) (written_old written_new : ℕ) (fault : FileFault) : Type 0 where
+    pub text : List ℕ
+    pub out : List ℕ
+    pub moved : ReadsWrites old new written_old written_new text out
+    pub prefix : IsPrefixOf out (payload sealing n text)
+    pub fails : SealingFails n old new text fault

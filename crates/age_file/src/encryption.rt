@@ -1,0 +1,71 @@
+//! Encrypts a file under a passphrase.
+
+ghost use Rattle.std.specs.Prelude.{◌≡◌, IfOk, IfErr};
+ghost use Rattle.age_file.specs.Encrypts.{BeginsFile, Encrypts, EncryptFails};
+ghost use Rattle.age_file.specs.Ports.{ports};
+ghost use Rattle.age_file.specs.declared.fault.FileFault.TheVariants.{Memory};
+
+use crate::fault::FileFault;
+use crate::intake::Intake;
+use crate::put::put_all;
+use crate::sealing::seal_all;
+use crate::secret::Secret;
+use crate::sink::Sink;
+use crate::source::Source;
+use age_keys::{FileKey, PayloadKey, payload_key, scrypt_header};
+use age_stanza::encode_head;
+use std::alloc::Global;
+
+/// How many bytes were read, and how many written.
+#[derive(Clone, Copy, Debug, PartialEq, Eq)]
+pub struct Written {
+    /// The length of the plaintext.
+    pub plain: u128,
+    /// The length of the file.
+    pub file: u128,
+}
+
+/// What stands before the payload: the header's text and the payload nonce. It refuses for want of memory alone.
+fn front_of(alloc: Global, secret: &Secret<'_>) -> Result<Vec<u8>, FileFault>
+    ensures front { IfOk result (λ v. BeginsFile secret.now v.items) }
+    ensures memory { IfErr result (λ fault. fault ≡ Memory) }
+{
+    let key = FileKey::new(secret.file_key);
+    let header = scrypt_header(alloc, secret.pass, secret.log, &secret.salt, &key)?;
+    let mut front = encode_head(alloc, &header)?;
+    front.extend_from_slice(&secret.payload_nonce)?;
+    Ok(front)
+}
+
+/// Encrypts all that a source gives under a passphrase, into an age file (C2SP age.md): the header with one scrypt
+/// stanza, the payload nonce, and the payload in chunks of 65,536 bytes. Flushes at the end.
+///
+/// It refuses with [`FileFault::Memory`] (28) before it reads or writes anything, with `Read` (26), `Write` (27) and
+/// `ReadNeverEnds` (29), and with `TooManyChunks` (22) where the source gave more than 2^64 bytes. What was written by then is
+/// a front of the age file of what was read.
+pub fn encrypt<S: Source, O: Sink>(
+    alloc: Global,
+    secret: &Secret<'_>,
+    reader: &mut S,
+    writer: &mut O,
+) -> Result<Written, FileFault>
+    ensures done { IfOk result (Encrypts secret.now
+        (ports (S.remaining reader.old) (S.failed reader.old) (O.taken writer.old) (O.failed writer.old))
+        (ports (S.remaining reader.new) (S.failed reader.new) (O.taken writer.new) (O.failed writer.new))) }
+    ensures fails { IfErr result (EncryptFails secret.now
+        (ports (S.remaining reader.old) (S.failed reader.old) (O.taken writer.old) (O.failed writer.old))
+        (ports (S.remaining reader.new) (S.failed reader.new) (O.taken writer.new) (O.failed writer.new))) }
+    ensures named { O.label writer.new ≡ O.label writer.old }
+{
+    let front = front_of(alloc, secret)?;
+    let mut intake = Intake::new(alloc)?;
+    let key = payload_key(&FileKey::new(secret.file_key), &secret.payload_nonce);
+    let mut file = 0;
+    let Ok(()) = put_all(writer, front.as_slice(), &mut file) else {
+        return Err(FileFault::Write);
+    };
+    match seal_all::<PayloadKey, 65552, S, O>(&key, reader, &mut intake, writer, &mut file) {
+        Ok(plain) => Ok(Written { plain, file }),
+        Err(fault) => Err(fault),
+    }
+}

@@ -1,0 +1,91 @@
+//! Positions in a payload, at which a reader goes on after a stop.
+
+ghost use Rattle.std.specs.Prelude.{◌≡◌, ◌<◌};
+ghost use Rattle.age_stanza.specs.Text.{text};
+ghost use Rattle.age_file.specs.Bindings.{link, file_id, position_tag};
+
+use base64::engine::general_purpose::STANDARD_NO_PAD;
+use itoa::Buffer;
+use sha2::{Digest, Sha256};
+
+/// A place in a payload at which a reader goes on after a stop, bound to the file and to the text before it. It is no
+/// part of the age format.
+#[derive(Clone, Copy, Debug, PartialEq, Eq)]
+pub struct Position {
+    /// The chunk at which reading goes on, from 0; below 2^48.
+    pub index: u64,
+    /// The SHA-256 of the header's bytes and the payload nonce.
+    pub file_id: [u8; 32],
+    /// The chain over the chunks before: 32 zero bytes, then for each chunk the SHA-256 of the link before it and the
+    /// chunk.
+    pub chain: [u8; 32],
+    /// The HMAC of the position's text before the tag, under the position key of the file.
+    pub tag: [u8; 32],
+    ghost within: { index < 281474976710656 },
+}
+
+/// The base64 text of 32 bytes, without padding.
+#[tactic(auto, unfolding(age_stanza::specs::Text::text))]
+fn spelled(bytes: &[u8; 32]) -> [u8; 43]
+    ensures { result ≡ text bytes.now }
+{
+    let mut text = [0; 43];
+    let Ok(_) = STANDARD_NO_PAD.encode_slice(bytes, &mut text) else {
+        unreachable!();
+    };
+    text
+}
+
+/// The tag of a position under a position key.
+#[tactic(auto, unfolding(crate::specs::Bindings::position_tag, crate::specs::Bindings::position_front))]
+fn tag_of(key: &[u8; 32], index: u64, file_id: &[u8; 32], chain: &[u8; 32]) -> [u8; 32]
+    ensures { result ≡ position_tag key.now index file_id.now chain.now }
+{
+    let mut digits = Buffer::new();
+    let index = digits.format(index).as_bytes();
+    let (id, links) = (spelled(file_id), spelled(chain));
+    age_kdf::hmac(
+        key,
+        &[b"age-position/v2 ", index, b" ", &id, b" ", &links, b" "],
+    )
+}
+
+/// The next link of a chain, over one more chunk.
+pub(crate) fn next_link(chain: &[u8; 32], chunk: &[u8]) -> [u8; 32]
+    ensures { result ≡ link chain.now chunk.now }
+{
+    let mut digest = Sha256::new();
+    digest.update(chain);
+    digest.update(chunk);
+    digest.finalize()
+}
+
+/// What tells a file from others: the digest of its header's bytes and its payload nonce.
+#[tactic(auto, unfolding(crate::specs::Bindings::file_id))]
+pub(crate) fn file_id(front: &[u8], nonce: &[u8; 16]) -> [u8; 32]
+    ensures { result ≡ file_id front.now nonce.now }
+{
+    let mut digest = Sha256::new();
+    digest.update(front);
+    digest.update(nonce);
+    digest.finalize()
+}
+
+impl Position {
+    /// The position of this index, file and chain, with its tag under a position key.
+    pub(crate) fn tagged(key: &[u8; 32], index: u64, file_id: [u8; 32], chain: [u8; 32]) -> Position
+        requires { index < 281474976710656 }
+        ensures index { result.index ≡ index }
+        ensures file_id { result.file_id ≡ file_id }
+        ensures chain { result.chain ≡ chain }
+        ensures tag { result.tag ≡ position_tag key.now index file_id chain }
+    {
+        let tag = tag_of(key, index, &file_id, &chain);
+        Position {
+            index,
+            file_id,
+            chain,
+            tag,
+        }
+    }
+}
