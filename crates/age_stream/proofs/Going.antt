@@ -16,7 +16,7 @@ use Rattle.age_stream.specs.declared.fault.StreamKind.TheVariants.{ChunkDamaged,
 use Rattle.age_stream.proofs.Chunks.{length-first_chunks, first_chunks_more, first_chunks-append, slice_get-within, slice_get-past}
 use Rattle.age_stream.proofs.Segments.{by_test}
 
-first_chunks-add : (z q d : ℕ) (xs : List ℕ) → first_chunks z (q + d) xs ≡ first_chunks z q xs ++ first_chunks z d (drop (q * z) xs)
+pub first_chunks-add : (z q d : ℕ) (xs : List ℕ) → first_chunks z (q + d) xs ≡ first_chunks z q xs ++ first_chunks z d (drop (q * z) xs)
 first_chunks-add z zero d xs =
     let a : 0 + d ≡ d = omega arith in
     let b : 0 ≡ 0 * z = omega arith in

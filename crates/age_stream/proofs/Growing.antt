@@ -15,7 +15,7 @@ use Rattle.age_stream.proofs.Going.{going, going_outcome, IsGoing, unended_piece
 
 module _ (opening : List ℕ → List ℕ → Option (List ℕ)) (n : ℕ) where
   -- the texts of an outcome begin with these
-  abbrev Begins : List (List ℕ) → Outcome → Type 0
+  abbrev pub Begins : List (List ℕ) → Outcome → Type 0
   Begins texts o = (more : List (List ℕ)) × (o.texts ≡ texts ++ more)
 
   begins_last : (texts : List (List ℕ)) (i : ℕ) (o : Option (List ℕ)) (x ended : Bool) → Begins texts (after_last opening texts i o x ended)
@@ -36,7 +36,7 @@ module _ (opening : List ℕ → List ℕ → Option (List ℕ)) (n : ℕ) where
   begins_block texts i b (Some t) x ended = ([], sym (append-nil texts))
   begins_block texts i b None x ended = begins_last texts i (opening (nonce_bytes i true) b) x ended
 
-  begins_stop : (texts : List (List ℕ)) (i : ℕ) (b : Option (List ℕ)) (behind : Bool) (rest : List ℕ) (late ended : Bool) → Begins texts (stop opening texts i b behind rest late ended)
+  pub begins_stop : (texts : List (List ℕ)) (i : ℕ) (b : Option (List ℕ)) (behind : Bool) (rest : List ℕ) (late ended : Bool) → Begins texts (stop opening texts i b behind rest late ended)
   begins_stop texts i None behind rest late ended = begins_rest texts i rest late ended
   begins_stop texts i (Some b) behind rest late ended = begins_block texts i b (opening (nonce_bytes i false) b) (behind || late) ended
 
@@ -87,7 +87,7 @@ module _ (opening : List ℕ → List ℕ → Option (List ℕ)) (n : ℕ) where
   index_block texts i b (Some t) x ended = refl
   index_block texts i b None x ended = index_last texts i (opening (nonce_bytes i true) b) x ended
 
-  index_stop : (texts : List (List ℕ)) (i : ℕ) (b : Option (List ℕ)) (behind : Bool) (rest : List ℕ) (late ended : Bool) → (stop opening texts i b behind rest late ended).index ≡ i
+  pub index_stop : (texts : List (List ℕ)) (i : ℕ) (b : Option (List ℕ)) (behind : Bool) (rest : List ℕ) (late ended : Bool) → (stop opening texts i b behind rest late ended).index ≡ i
   index_stop texts i None behind rest late ended = index_rest texts i rest late ended
   index_stop texts i (Some b) behind rest late ended = index_block texts i b (opening (nonce_bytes i false) b) (behind || late) ended
 

@@ -8,8 +8,9 @@ use Rattle.age_stream.specs.Lawful.{IsLawful}
 use Rattle.age_stream.specs.Payload.{chunk_count}
 use Rattle.age_stream.specs.Segment.{Segment, outcome}
 use Rattle.age_stream.specs.Deliveries.{Standing, standing, standing_from, after_delivery, begin, fresh, with_piece, with_end, text_held, accepts}
-use Rattle.age_stream.specs.Headline.{IsAuthentic, AreAuthentic, IsHeldRight, IsPrefixOf, IsStart, IsUndamaged, IsWholeHeld}
+use Rattle.age_stream.specs.Headline.{IsAuthentic, AreAuthentic, IsHeldRight, IsReached, IsPrefixOf, IsStart, IsUndamaged}
 use Rattle.age_stream.specs.declared.step.Status.TheVariants.{Done}
+use Rattle.age_stream.proofs.Places.{in_place}
 use Rattle.age_stream.proofs.Undamaged.{rest_segment, rest_payload, rest_is_done}
 use Rattle.age_stream.proofs.Segments.{released_segment, by_test}
 use Rattle.age_stream.specs.declared.delivery.Delivery.{Delivery}
@@ -88,14 +89,6 @@ module _ (sealing : List ℕ → List ℕ → List ℕ) (opening : List ℕ → 
   sound_from (d ∷ ds) s sound h =
       sound_from ds (after_delivery opening n s d) (sound_after d s sound (given_up_front Good ds (after_delivery opening n s d) h)) h
 
-  pub held_right : (ds : List Delivery) → AreAuthentic sealing opening n text ds → IsHeldRight sealing opening n text ds
-  held_right ds auth =
-      let s = standing opening n ds in
-      let start : IsSound begin = record { small = omega arith; fits = omega arith; base = let z : 0 ≡ 0 * n = omega arith in ap (λ (k : ℕ). take k text) z } in
-      let sound = sound_from ds begin start auth.0 in
-      let r = released_segment sealing opening lawful n text few positive s.segment s.base sound.small sound.fits sound.base auth.1 in
-      record { prefix = r.prefix; done = r.done }
-
   on : (xs ys : List Delivery) (s : Standing) → standing_from opening n s (xs ++ ys) ≡ standing_from opening n (standing_from opening n s xs) ys
   on [] ys s = refl
   on (x ∷ xs) ys s = on xs ys (after_delivery opening n s x)
@@ -121,8 +114,8 @@ module _ (sealing : List ℕ → List ℕ → List ℕ) (opening : List ℕ → 
             ∙ (ap (λ (s : Standing). s.segment) (on later.0 (Restart k ∷ []) begin) ∙ restart_segment (standing opening n later.0) k later.2)
       ]
 
-  pub whole_held : (k : ℕ) (ds : List Delivery) → AreAuthentic sealing opening n text ds → IsUndamaged sealing opening n text k ds → IsWholeHeld sealing opening n text ds
-  whole_held k ds auth u =
+  undamaged_done : (k : ℕ) (ds : List Delivery) → AreAuthentic sealing opening n text ds → IsUndamaged sealing opening n text k ds → (outcome opening n (standing opening n ds).segment).status ≡ Done
+  undamaged_done k ds auth u =
       let s = rest_segment sealing opening lawful n positive text few k u.below in
       let last : (standing opening n ds).segment ≡ s =
       ap (λ (x : List Delivery). (standing opening n x).segment) u.is
@@ -131,9 +124,22 @@ module _ (sealing : List ℕ → List ℕ → List ℕ) (opening : List ℕ → 
       ∙ (ap with_end (pieces_on u.pieces (standing opening n u.front) k [] (starts_fresh u.front k u.starts))
       ∙ ap (λ (bs : List ℕ). record { start = k; bytes = bs; ended = true; late = false }) (u.rest ∙ rest_payload sealing opening lawful n positive text few k u.below)))) in
       let good : Good s = subst Good last auth.1 in
-      let status : (outcome opening n (standing opening n ds).segment).status ≡ Done =
-      ap (λ (x : Segment). (outcome opening n x).status) last ∙ rest_is_done sealing opening lawful n positive text few k u.below good in
-      record { text_is = (held_right ds auth).done status; done = status }
+      ap (λ (x : Segment). (outcome opening n x).status) last ∙ rest_is_done sealing opening lawful n positive text few k u.below good
+
+  pub held_right : (ds : List Delivery) → AreAuthentic sealing opening n text ds
+      → IsHeldRight sealing opening n text ds (text_held opening n (standing opening n ds)) (outcome opening n (standing opening n ds).segment).status
+  held_right ds auth =
+      let s = standing opening n ds in
+      let start : IsSound begin = record { small = omega arith; fits = omega arith; base = let z : 0 ≡ 0 * n = omega arith in ap (λ (k : ℕ). take k text) z } in
+      let sound = sound_from ds begin start auth.0 in
+      let r = released_segment sealing opening lawful n text few positive s.segment s.base sound.small sound.fits sound.base auth.1 in
+      let reached : IsReached sealing opening n text s.segment = record { limit = sound.small; within = sound.fits } in
+      record {
+        prefix = r.prefix;
+        done = r.done;
+        whole = λ k u. let d = undamaged_done k ds auth u in (r.done d, d);
+        place = in_place sealing opening lawful n text few positive s.segment auth.1 reached;
+      }
 
 on_from : (opening : List ℕ → List ℕ → Option (List ℕ)) (n : ℕ) (xs ys : List Delivery) (s : Standing) → standing_from opening n s (xs ++ ys) ≡ standing_from opening n (standing_from opening n s xs) ys
 on_from opening n [] ys s = refl

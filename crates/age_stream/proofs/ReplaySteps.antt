@@ -1,5 +1,5 @@
 -- A step of a replay.
-use Rattle.std.proofs.Common.{◌≡◌, ℕ, ◌<◌, ◌≤◌, ◌+◌, ◌*◌, refl, ap, sym, subst, ◌∙◌, List, [], ◌∷◌, ◌++◌, length, take, Bool, true, false, arith}
+use Rattle.std.proofs.Common.{◌≡◌, ℕ, ◌<◌, ◌+◌, ◌*◌, refl, ap, sym, subst, ◌∙◌, List, [], ◌∷◌, ◌++◌, length, take, Bool, true, false, arith}
 use Rattle.std.specs.Prelude.{Option, Some, None, cond, min, nat_lt, nat_le, ◌&&◌, ◌||◌}
 use Rattle.std.specs.List.{flat_map}
 use Rattle.std.specs.Borrow.{Bor}
@@ -15,10 +15,9 @@ use Rattle.age_stream.specs.Opening.{Stands, chunk_texts}
 use Rattle.age_stream.specs.Lent.{lent_text}
 use Rattle.age_stream.specs.Replaying.{ReplayView, IsAt, Replays, with_bytes}
 use Rattle.age_stream.specs.Lawful.{IsLawful}
-use Rattle.age_stream.specs.Payload.{chunk_count}
-use Rattle.age_stream.specs.Headline.{AreAuthentic, IsPrefixOf}
+use Rattle.age_stream.specs.Headline.{HoldsWritten, IsHeldRight}
 use Rattle.age_stream.specs.declared.delivery.Delivery.{Delivery}
-use Rattle.age_stream.specs.declared.step.Status.TheVariants.{Done}
+use Rattle.age_stream.specs.declared.step.Status.{Status}
 use Rattle.age_stream.proofs.Held.{held_right, standing_more}
 
 pub lent_flat : (chunk : Option (Bor (List ℕ))) → flat_map (λ (t : List ℕ). t) (chunk_texts chunk) ≡ lent_text chunk
@@ -155,16 +154,15 @@ module _ {B : Type 0} (opening : B → List ℕ → List ℕ → Option (List �
 
 module _ {B : Type 0} (sealing : B → List ℕ → List ℕ → List ℕ) (opening : B → List ℕ → List ℕ → Option (List ℕ)) (n : ℕ) (old new : ReplayView B)
     (lawful : IsLawful (sealing old.key) (opening old.key)) (positive : 0 < n) (key : new.key ≡ old.key) where
-  pub written : (ds : List Delivery) (text : List ℕ) → Replays opening n new ds → chunk_count n text ≤ 281474976710656
-      → AreAuthentic (sealing old.key) (opening old.key) n text ds
-      → IsPrefixOf new.text text × (new.opener.status ≡ Done → new.text ≡ text)
-  written ds text h few auth =
+  pub written : (ds : List Delivery) → Replays opening n new ds → HoldsWritten (sealing old.key) (opening old.key) n ds new.text new.opener.status
+  written ds h text few auth =
       let m = n in
       let op = opening old.key in
-      let r = held_right (sealing old.key) op lawful m text few positive ds auth in
       let k : standing (opening new.key) m ds ≡ standing op m ds = ap (λ k. standing (opening k) m ds) key in
       let is : new.text ≡ text_held op m (standing op m ds) =
       h.text ∙ (ap (λ s. text_held (opening new.key) m s) k ∙ ap (λ k. text_held (opening k) m (standing op m ds)) key) in
       let status : new.opener.status ≡ (outcome op m (standing op m ds).segment).status =
       h.segment.status ∙ (ap (λ k. (outcome (opening k) m (standing (opening new.key) m ds).segment).status) (h.key ∙ key) ∙ ap (λ s. (outcome op m s.segment).status) k) in
-      ((r.prefix.0, ap (λ t. t ++ r.prefix.0) is ∙ r.prefix.1), λ d. is ∙ r.done (sym status ∙ d))
+      let Right : List ℕ → Status → Type 0 = IsHeldRight (sealing old.key) op m text ds in
+      subst (λ (t : List ℕ). Right t new.opener.status) (sym is)
+      (subst (Right (text_held op m (standing op m ds))) (sym status) (held_right (sealing old.key) op lawful m text few positive ds auth))

@@ -107,11 +107,11 @@ module _ (sealing : List ℕ → List ℕ → List ℕ) (opening : List ℕ → 
     pub joins : take (i * n) text ++ flat_map (λ (t : List ℕ). t) texts ≡ take ((i + length texts) * n) text
     pub small : i < 281474976710656 → i + length texts < 281474976710656
 
-  opens_before : (i : ℕ) (o : Option (List ℕ)) (x : List ℕ) → unless_greatest i o ≡ Some x → (nat_lt (i + 1) 281474976710656 ≡ true) × (o ≡ Some x)
+  pub opens_before : (i : ℕ) (o : Option (List ℕ)) (x : List ℕ) → unless_greatest i o ≡ Some x → (nat_lt (i + 1) 281474976710656 ≡ true) × (o ≡ Some x)
   opens_before i None x e = cc
   opens_before i (Some y) x e = tested (nat_lt (i + 1) 281474976710656) y x e
 
-  next_within : (i : ℕ) → i < chunk_count n text → false ≡ (i + 1 == chunk_count n text) → (i + 1) * n ≤ length text
+  pub next_within : (i : ℕ) → i < chunk_count n text → false ≡ (i + 1 == chunk_count n text) → (i + 1) * n ≤ length text
   next_within i below flag =
       let ne : i + 1 < chunk_count n text = grind (arith, nat_tests) in
       let q : i + 1 ≤ (length text - 1) / n = omega (arith, ne) in

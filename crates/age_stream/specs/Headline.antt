@@ -1,14 +1,16 @@
 -- What the deliveries may hold, and what then holds of the text.
-use Rattle.std.specs.Prelude.{◌≡◌, ℕ, ◌+◌, ◌*◌, ◌/◌, ◌<◌, ◌≤◌, Bool, true, false, List, [], ◌∷◌, ◌++◌, length, drop, Contains, IsSome, Option, slice_index_or}
+use Rattle.std.specs.Prelude.{◌≡◌, ℕ, ◌+◌, ◌*◌, ◌/◌, ◌<◌, ◌≤◌, Bool, true, false, List, [], ◌∷◌, ◌++◌, length, take, drop, Contains, IsSome, Option, slice_index_or}
 use Rattle.std.specs.List.{AllByRecursion}
+use Rattle.age_stream.specs.declared.step.Status.{Status}
 use Rattle.age_stream.specs.declared.step.Status.TheVariants.{Done}
 use Rattle.age_stream.specs.Nonce.{nonce_bytes}
 use Rattle.std.specs.Prelude.{◌⊎◌, map}
 use Rattle.std.specs.List.{flat_map}
 use Rattle.std.specs.Borrow.{Bor}
 use Rattle.age_stream.specs.Payload.{sealed, payload, chunk_count}
-use Rattle.age_stream.specs.Segment.{Segment, outcome, front_texts, whole_blocks, rest_bytes}
-use Rattle.age_stream.specs.Deliveries.{standing, text_held, accepts}
+use Rattle.age_stream.specs.Segment.{Segment, front_texts, whole_blocks, rest_bytes}
+use Rattle.age_stream.specs.Places.{IsInPlace}
+use Rattle.age_stream.specs.Deliveries.{standing, accepts}
 use Rattle.age_stream.specs.declared.delivery.Delivery.{Delivery}
 use Rattle.age_stream.specs.declared.delivery.Delivery.TheVariants.{Piece, End, Restart}
 
@@ -37,11 +39,6 @@ module _ (sealing : List ℕ → List ℕ → List ℕ) (opening : List ℕ → 
   AreAuthentic deliveries =
       AllByRecursion IsAuthentic (standing opening n deliveries).given_up × IsAuthentic (standing opening n deliveries).segment
 
-  -- what is held is the beginning of the text, and the end is reported only with all of it
-  pub record IsHeldRight (deliveries : List Delivery) : Type 0 where
-    pub prefix : IsPrefixOf (text_held opening n (standing opening n deliveries)) text
-    pub done : (outcome opening n (standing opening n deliveries).segment).status ≡ Done → text_held opening n (standing opening n deliveries) ≡ text
-
   -- the deliveries may be anything up to a restart at k that is accepted, or up to the beginning
   abbrev pub IsStart : ℕ → List Delivery → Type 0
   IsStart k front =
@@ -57,7 +54,40 @@ module _ (sealing : List ℕ → List ℕ → List ℕ) (opening : List ℕ → 
     pub rest : flat_map (λ (piece : Bor (List ℕ)). piece.now) pieces ≡ drop (k * (n + 16)) (payload sealing n text)
     pub below : k < chunk_count n text
 
-  -- all of the text is held, and its end is reported
-  pub record IsWholeHeld (deliveries : List Delivery) : Type 0 where
-    pub text_is : text_held opening n (standing opening n deliveries) ≡ text
-    pub done : (outcome opening n (standing opening n deliveries).segment).status ≡ Done
+  -- what is held is the beginning of the text, its end is reported only with all of it, an undamaged payload, or the rest
+  -- of one, gives all of it and its end, and each block of the current segment stands in its place
+  pub record IsHeldRight (deliveries : List Delivery) (held : List ℕ) (status : Status) : Type 0 where
+    pub prefix : IsPrefixOf held text
+    pub done : status ≡ Done → held ≡ text
+    pub whole : (k : ℕ) → IsUndamaged k deliveries → (held ≡ text) × (status ≡ Done)
+    pub place : IsInPlace sealing opening n text (standing opening n deliveries).segment status
+
+  -- the segment starts at a chunk that the text reaches
+  pub record IsReached (s : Segment) : Type 0 where
+    pub limit : s.start < 281474976710656
+    pub within : s.start * n ≤ length text
+
+  -- the segment is the payload from its start on, and an end
+  pub record IsRest (s : Segment) : Type 0 where
+    pub below : s.start < chunk_count n text
+    pub bytes : s.bytes ≡ drop (s.start * (n + 16)) (payload sealing n text)
+    pub ended : s.ended ≡ true
+    pub timely : s.late ≡ false
+
+  -- the same of one segment, behind the text before its start
+  pub record IsReleasedRight (s : Segment) (released : List ℕ) (status : Status) : Type 0 where
+    pub prefix : IsPrefixOf (take (s.start * n) text ++ released) text
+    pub done : status ≡ Done → take (s.start * n) text ++ released ≡ text
+    pub whole : IsRest s → (take (s.start * n) text ++ released ≡ text) × (status ≡ Done)
+    pub place : IsInPlace sealing opening n text s status
+
+module _ (sealing : List ℕ → List ℕ → List ℕ) (opening : List ℕ → List ℕ → Option (List ℕ)) (n : ℕ) where
+  -- the headline: for every text of at most 2^48 chunks, while no delivered block opens except as its writer sealed it
+  abbrev pub HoldsWritten : List Delivery → List ℕ → Status → Type 0
+  HoldsWritten deliveries held status = (text : List ℕ) → chunk_count n text ≤ 281474976710656
+      → AreAuthentic sealing opening n text deliveries → IsHeldRight sealing opening n text deliveries held status
+
+  -- the headline of one segment
+  abbrev pub ReleasesWritten : Segment → List ℕ → Status → Type 0
+  ReleasesWritten s released status = (text : List ℕ) → chunk_count n text ≤ 281474976710656 → IsReached sealing opening n text s
+      → IsAuthentic sealing opening n text s → IsReleasedRight sealing opening n text s released status

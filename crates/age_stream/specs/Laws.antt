@@ -1,10 +1,14 @@
 -- Laws over the definitions. A chunk has n bytes.
-use Rattle.std.specs.Prelude.{◌≡◌, ℕ, ◌<◌, ◌≤◌, Bool, false, List, ◌++◌, Option}
+use Rattle.std.specs.Prelude.{◌≡◌, ℕ, ◌+◌, ◌-◌, ◌*◌, ◌<◌, ◌≤◌, Bool, false, List, ◌++◌, length, take, Option}
+use Rattle.std.specs.List.{flat_map}
+use Rattle.std.specs.Simd.{first_chunks}
+use Rattle.age_stream.specs.Lawful.{IsLawful}
 use Rattle.age_stream.specs.Nonce.{nonce_bytes}
 use Rattle.age_stream.specs.Payload.{sealed_before_last, block_bytes}
 use Rattle.age_stream.specs.Segment.{Segment, outcome, released}
 use Rattle.age_stream.specs.Deliveries.{with_piece}
 use Rattle.age_stream.specs.Headline.{IsPrefixOf}
+use Rattle.age_stream.specs.declared.step.Status.TheVariants.{Open}
 
 -- no two chunks of a payload have the same nonce
 abbrev pub NoncesDiffer : Type 0
@@ -23,3 +27,22 @@ ReleasedGrows = (opening : List ℕ → List ℕ → Option (List ℕ)) (n : ℕ
 abbrev pub SealedGrows : Type 0
 SealedGrows = (sealing : List ℕ → List ℕ → List ℕ) (n : ℕ) (text more : List ℕ) → 0 < n
     → IsPrefixOf (block_bytes (sealed_before_last sealing n text)) (block_bytes (sealed_before_last sealing n (text ++ more)))
+
+-- the chunks that a segment counts: what it released of its blocks before the last
+abbrev pub counted : (List ℕ → List ℕ → Option (List ℕ)) → ℕ → Segment → List (List ℕ)
+counted opening n s = take ((outcome opening n s).index - s.start) (outcome opening n s).texts
+
+-- behind a base of so many whole chunks as stand before the segment, the chunks that it counts are those in front of all
+-- text so far; while it is open they are all that it released
+pub record IsCounted (opening : List ℕ → List ℕ → Option (List ℕ)) (n : ℕ) (base : List ℕ) (s : Segment) : Type 0 where
+  pub count : s.start + length (counted opening n s) ≡ (outcome opening n s).index
+  pub within : (outcome opening n s).index * n ≤ length (base ++ released opening n s)
+  pub join : base ++ flat_map (λ (chunk : List ℕ). chunk) (counted opening n s) ≡ take ((outcome opening n s).index * n) (base ++ released opening n s)
+  pub chunks : (i : ℕ) → i ≤ (outcome opening n s).index
+      → first_chunks n i (base ++ released opening n s) ≡ take i (first_chunks n s.start base ++ counted opening n s)
+  pub all : (outcome opening n s).status ≡ Open → counted opening n s ≡ (outcome opening n s).texts
+
+-- so it is of every segment under a lawful box, whatever its blocks are
+abbrev pub ChunksAreCounted : Type 0
+ChunksAreCounted = (sealing : List ℕ → List ℕ → List ℕ) (opening : List ℕ → List ℕ → Option (List ℕ)) → IsLawful sealing opening
+    → (n : ℕ) (base : List ℕ) (s : Segment) → length base ≡ s.start * n → IsCounted opening n base s

@@ -13,6 +13,8 @@ pub mod OpenerSteps
 pub mod OpenerRow
 pub mod Replaying
 pub mod ReplaySteps
+pub mod Places
 pub mod Headline
+pub mod Drills
 pub mod FaultNumbers
 pub mod Laws

@@ -1,5 +1,5 @@
 //! Laws over the definitions, for the layers above.
-ghost use Rattle.age_stream.specs.Laws.{NoncesDiffer, PiecesJoin, ReleasedGrows, SealedGrows};
+ghost use Rattle.age_stream.specs.Laws.{ChunksAreCounted, NoncesDiffer, PiecesJoin, ReleasedGrows, SealedGrows};
 
 /// No two chunks of a payload have the same nonce.
 pub fn nonces_differ()
@@ -21,4 +21,11 @@ pub fn released_grows()
 /// more.
 pub fn sealed_grows()
     ensures { SealedGrows }
+{}
+
+/// The index of a segment counts the whole chunks in front of the text: behind
+/// a base of `start` whole chunks, what was released of the blocks before the
+/// last joins to the first `index` chunks of all text so far.
+pub fn chunks_are_counted()
+    ensures { ChunksAreCounted }
 {}

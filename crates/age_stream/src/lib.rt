@@ -9,13 +9,14 @@
 //! A [`Sealer`] takes a text in pieces and lends the blocks, and an [`Opener`]
 //! takes the blocks in pieces and lends the text, each out of one buffer of
 //! `SEALED` bytes, the length of a whole block. Neither takes memory. A
-//! [`ChunkBox`] is what seals and opens a chunk. [`Replay`] holds the text
-//! that came of any list of pieces, ends and restarts.
+//! [`ChunkBox`] is what seals and opens a chunk. [`Replay`] and [`drill`] hold
+//! the text that came of any list of pieces, ends and restarts.
 #![tactic(auto)]
 
 mod chunk_box;
 mod clear_box;
 mod delivery;
+mod drilling;
 mod fault;
 mod headline;
 mod laws;
@@ -29,12 +30,13 @@ mod whole_text;
 pub use chunk_box::ChunkBox;
 pub use clear_box::ClearBox;
 pub use delivery::Delivery;
+pub use drilling::drill;
 pub use fault::{Memory, StreamFault, StreamKind};
 pub use headline::held_is_written;
-pub use laws::{nonces_differ, pieces_join, released_grows, sealed_grows};
+pub use laws::{chunks_are_counted, nonces_differ, pieces_join, released_grows, sealed_grows};
 pub use nonce::{CHUNK_LIMIT, nonce_of};
 pub use opener::Opener;
-pub use replay::Replay;
+pub use replay::{Drill, Replay};
 pub use sealer::Sealer;
 pub use step::{Status, Step};
 pub use whole_text::{SealFault, seal_all};

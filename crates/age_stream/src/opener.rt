@@ -1,9 +1,11 @@
 //! The reader's side: sealed chunks in, text out.
 ghost use Rattle.std.specs.Prelude.{◌≡◌, ◌≢◌, ℕ, ◌+◌, ◌-◌, ◌*◌, ◌^◌, ◌<◌, ◌≤◌, List, [], ◌∷◌, ◌++◌, length, take, drop, min, IfOk, OnOk, OnErr, IfErr, IsOk, None, Some, true, false, if◌then◌else◌};
 ghost use Rattle.std.specs.Bool.{OnTrue, OnFalse};
+ghost use Rattle.std.specs.List.{flat_map};
 ghost use Rattle.std.specs.Borrow.{sem};
 ghost use Rattle.std.specs.Io.BufRead.{Rests};
 ghost use Rattle.age_stream.specs.Lent.{lent_text};
+ghost use Rattle.age_stream.specs.Headline.{ReleasesWritten};
 ghost use Rattle.age_stream.specs.Nonce.{nonce_bytes};
 ghost use Rattle.age_stream.specs.declared.step.Status.TheVariants.{Open};
 ghost use Rattle.age_stream.specs.declared.fault.StreamFault.{StreamFault as StreamFaultValue};
@@ -76,6 +78,7 @@ impl<'k, B: ChunkBox, const SEALED: usize> OpenerState<'k, B, SEALED> {
         ensures whole { SEALED ≤ length (held_bytes self.old) + length piece.now
             → TakesWhole (one_block (B.opening self.old.key.now) self.old.index (held_bytes self.old ++ take (SEALED - length (held_bytes self.old)) piece.now)) self.old result self.new }
         ensures short { length (held_bytes self.old) < SEALED }
+        ensures key { self.new.key ≡ self.old.key }
     {
         self.settle();
         let room = SEALED - self.buffer.len();
@@ -115,6 +118,9 @@ impl<'k, B: ChunkBox, const SEALED: usize> OpenerState<'k, B, SEALED> {
         ensures texts { (s : Segment) → Stands B.opening (SEALED - 16) (opener_view self.old) s
             → (outcome (B.opening self.old.key.now) (SEALED - 16) (with_piece s (given (λ a. a.0) result piece.now))).texts
             ≡ (outcome (B.opening self.old.key.now) (SEALED - 16) s).texts ++ handed (λ a. if a.1 then take (SEALED - 16) self.new.buffer.items ∷ [] else []) result }
+        ensures written { (s : Segment) → Stands B.opening (SEALED - 16) (opener_view self.old) s
+            → ReleasesWritten (B.sealing self.old.key.now) (B.opening self.old.key.now) (SEALED - 16) (with_piece s (given (λ a. a.0) result piece.now))
+            (released (B.opening self.old.key.now) (SEALED - 16) s ++ flat_map (λ text. text) (handed (λ a. if a.1 then take (SEALED - 16) self.new.buffer.items ∷ [] else []) result)) self.new.status }
         ensures fault { IfErr result (λ fault. self.new.status ≡ Status.Failed fault) }
         ensures key { self.new.key ≡ self.old.key }
         ensures full { IfOk result (λ a. a.1 ≡ true → length self.new.buffer.items ≡ SEALED) }
@@ -180,6 +186,9 @@ impl<'k, B: ChunkBox, const SEALED: usize> OpenerState<'k, B, SEALED> {
         ensures text { (s : Segment) → Stands B.opening (SEALED - 16) (opener_view self.old) s
             → released (B.opening self.old.key.now) (SEALED - 16) (with_end s)
             ≡ released (B.opening self.old.key.now) (SEALED - 16) s ++ front_bytes result self.new.buffer.items }
+        ensures written { (s : Segment) → Stands B.opening (SEALED - 16) (opener_view self.old) s
+            → ReleasesWritten (B.sealing self.old.key.now) (B.opening self.old.key.now) (SEALED - 16) (with_end s)
+            (released (B.opening self.old.key.now) (SEALED - 16) s ++ front_bytes result self.new.buffer.items) self.new.status }
         ensures fault { IfErr result (λ fault. self.new.status ≡ Status.Failed fault) }
         ensures done { OnOk result (self.new.status ≡ Status.Done) }
         ensures again { IfErr result (λ fault. (earlier : StreamFaultValue) → self.old.status ≡ Status.Failed earlier → fault ≡ earlier) }
@@ -313,12 +322,16 @@ impl<'k, B: ChunkBox, const SEALED: usize> Opener<'k, B, SEALED> {
     /// chunk are [`Trailing`](StreamKind::Trailing). After a refusal each call
     /// is refused with the same fault.
     pub fn feed(&mut self, piece: &[u8]) -> Result<Step<'_>, StreamFault>
+        // At last the headline: while what opens is the writer's, what was released is the beginning of the text.
         ensures* after { sem 𝓛 (Rests (opener_row B.row SEALED.row B.ChunkBox) self.entry (λ new.
             (new.key ≡ self.old.key)
             × ((s : Segment) → Stands B.opening (SEALED - 16) self.old s → Stands B.opening (SEALED - 16) new (with_piece s (given (λ step. step.taken) result piece.now)))
             × IfErr result (λ fault. new.status ≡ Status.Failed fault)
             × IfOk result (λ step. (has_failed new.status ≡ false) × (length new.held + length (lent_text step.chunk) ≤ length self.old.held + step.taken))
-            × (length piece.now ≡ 0 → new ≡ self.old))) }
+            × (length piece.now ≡ 0 → new ≡ self.old)
+            × ((s : Segment) → Stands B.opening (SEALED - 16) self.old s
+            → ReleasesWritten (B.sealing self.old.key) (B.opening self.old.key) (SEALED - 16) (with_piece s (given (λ step. step.taken) result piece.now))
+            (released (B.opening self.old.key) (SEALED - 16) s ++ flat_map (λ text. text) (handed (λ step. chunk_texts step.chunk) result)) new.status))) }
         ensures texts { (s : Segment) → Stands B.opening (SEALED - 16) self.old s
             → (outcome (B.opening self.old.key) (SEALED - 16) (with_piece s (given (λ step. step.taken) result piece.now))).texts
             ≡ (outcome (B.opening self.old.key) (SEALED - 16) s).texts ++ handed (λ step. chunk_texts step.chunk) result }
@@ -351,11 +364,15 @@ impl<'k, B: ChunkBox, const SEALED: usize> Opener<'k, B, SEALED> {
     /// [`ChunkDamaged`](StreamKind::ChunkDamaged). After a refusal each call is
     /// refused with the same fault.
     pub fn end(&mut self) -> Result<&[u8], StreamFault>
+        // At last the headline: while what opens is the writer's, Ok comes only with all of the text.
         ensures* after { sem 𝓛 (Rests (opener_row B.row SEALED.row B.ChunkBox) self.entry (λ new.
             (new.key ≡ self.old.key)
             × ((s : Segment) → Stands B.opening (SEALED - 16) self.old s → Stands B.opening (SEALED - 16) new (with_end s))
             × IfErr result (λ fault. new.status ≡ Status.Failed fault)
-            × OnOk result (new.status ≡ Status.Done))) }
+            × OnOk result (new.status ≡ Status.Done)
+            × ((s : Segment) → Stands B.opening (SEALED - 16) self.old s
+            → ReleasesWritten (B.sealing self.old.key) (B.opening self.old.key) (SEALED - 16) (with_end s)
+            (released (B.opening self.old.key) (SEALED - 16) s ++ handed_bytes result) new.status))) }
         ensures text { (s : Segment) → Stands B.opening (SEALED - 16) self.old s
             → released (B.opening self.old.key) (SEALED - 16) (with_end s)
             ≡ released (B.opening self.old.key) (SEALED - 16) s ++ handed_bytes result }

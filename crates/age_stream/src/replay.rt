@@ -3,8 +3,7 @@ ghost use Rattle.std.specs.Prelude.{◌≡◌, ℕ, ◌+◌, ◌-◌, ◌*◌, �
 ghost use Rattle.std.specs.Bool.{OnTrue};
 ghost use Rattle.age_stream.specs.declared.delivery.Delivery.{Delivery as DeliveryValue};
 ghost use Rattle.age_stream.specs.Lent.{lent_text};
-ghost use Rattle.age_stream.specs.Payload.{chunk_count};
-ghost use Rattle.age_stream.specs.Headline.{AreAuthentic, IsPrefixOf};
+ghost use Rattle.age_stream.specs.Headline.{HoldsWritten};
 
 use crate::chunk_box::ChunkBox;
 use crate::delivery::Delivery;
@@ -14,6 +13,19 @@ use crate::opener::Opener;
 use crate::step::Status;
 use std::alloc::Global;
 use std::marker::Model;
+
+/// What is held after a list of deliveries.
+#[derive(Drop)]
+pub struct Drill {
+    /// The text that is held.
+    pub text: Vec<u8>,
+    /// Where the opener of the last segment stands.
+    pub status: Status,
+    /// The number of the chunk at which the last segment stands.
+    pub index: u64,
+    /// How many restarts were refused, at most 2^64 - 1.
+    pub refused: u64,
+}
 
 /// What a replay keeps.
 #[derive(Drop)]
@@ -138,9 +150,8 @@ impl<'k, B: ChunkBox, const SEALED: usize> ReplayState<'k, B, SEALED> {
     fn take(&mut self, delivery: &Delivery<'_>) -> Result<(), Memory>
         ensures held { OnOk result ((deliveries : List DeliveryValue) → Replays B.opening (SEALED - 16) (replay_view self.old) deliveries → Replays B.opening (SEALED - 16) (replay_view self.new) (deliveries ++ delivery.now ∷ [])) }
         ensures err { OnErr result (replay_view self.new ≡ replay_view self.old) }
-        ensures written { OnOk result ((deliveries : List DeliveryValue) (text : List ℕ) → Replays B.opening (SEALED - 16) (replay_view self.old) deliveries → chunk_count (SEALED - 16) text ≤ 281474976710656
-            → AreAuthentic (B.sealing self.old.key.now) (B.opening self.old.key.now) (SEALED - 16) text (deliveries ++ delivery.now ∷ [])
-            → IsPrefixOf self.new.text.items text × (self.new.opener.status ≡ Status.Done → self.new.text.items ≡ text)) }
+        ensures written { OnOk result ((deliveries : List DeliveryValue) → Replays B.opening (SEALED - 16) (replay_view self.old) deliveries
+            → HoldsWritten (B.sealing self.old.key.now) (B.opening self.old.key.now) (SEALED - 16) (deliveries ++ delivery.now ∷ []) self.new.text.items self.new.opener.status) }
         ensures key { self.new.key ≡ self.old.key }
     {
         self.deliver(delivery)
@@ -214,6 +225,24 @@ impl<'k, B: ChunkBox, const SEALED: usize> Replay<'k, B, SEALED> {
         self.state.refused
     }
 
+    // What it holds, with its text.
+    pub(crate) fn into_drill(self) -> Drill
+        ensures text { result.text.items ≡ self.entry.text }
+        ensures status { result.status ≡ self.entry.opener.status }
+        ensures index { result.index ≡ self.entry.opener.index }
+        ensures refused { result.refused ≡ self.entry.refused }
+    {
+        let status = self.status();
+        let index = self.index();
+        let refused = self.refused();
+        Drill {
+            text: self.state.text,
+            status,
+            index,
+            refused,
+        }
+    }
+
     /// Takes a delivery: all bytes of a piece unless a fault comes, which then
     /// is the status; an end; or a restart at chunk k, which is refused where
     /// k is [`CHUNK_LIMIT`] or more or fewer than k chunks are held. Where
@@ -222,11 +251,11 @@ impl<'k, B: ChunkBox, const SEALED: usize> Replay<'k, B, SEALED> {
         ensures held { OnOk result ((deliveries : List DeliveryValue) → Replays B.opening (SEALED - 16) self.old deliveries → Replays B.opening (SEALED - 16) self.new (deliveries ++ delivery.now ∷ [])) }
         ensures err { OnErr result (self.new ≡ self.old) }
 
-        // While no block opens except as the writer of a text sealed it, what is held is the beginning of that text,
-        // and the end is reported only with all of it.
-        ensures written { OnOk result ((deliveries : List DeliveryValue) (text : List ℕ) → Replays B.opening (SEALED - 16) self.old deliveries → chunk_count (SEALED - 16) text ≤ 281474976710656
-            → AreAuthentic (B.sealing self.old.key) (B.opening self.old.key) (SEALED - 16) text (deliveries ++ delivery.now ∷ [])
-            → IsPrefixOf self.new.text text × (self.new.opener.status ≡ Status.Done → self.new.text ≡ text)) }
+        // While no block opens except as the writer of a text sealed it, what is held is the beginning of that text, the
+        // end is reported only with all of it, an undamaged payload, or its rest, gives all of it, and each block stands in
+        // its place.
+        ensures written { OnOk result ((deliveries : List DeliveryValue) → Replays B.opening (SEALED - 16) self.old deliveries
+            → HoldsWritten (B.sealing self.old.key) (B.opening self.old.key) (SEALED - 16) (deliveries ++ delivery.now ∷ []) self.new.text self.new.opener.status) }
         ensures key { self.new.key ≡ self.old.key }
     {
         self.state.take(delivery)

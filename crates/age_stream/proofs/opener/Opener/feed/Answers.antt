@@ -8,7 +8,7 @@ pub returns-in-Err : goal.returns-in-Err
 returns-in-Err g c =
     let e = c.in-Err.ensures in
     rw (← c.self.view_is) (
-      (refl, λ _. tt, (ap (λ k. k.now) e.key, e.stands, e.fault, tt, e.still)),
+      (refl, λ _. tt, (ap (λ k. k.now) e.key, e.stands, e.fault, tt, e.still, e.written)),
       record { after = tt; texts = e.texts; taken = tt; some = tt; nothing = λ _. tt; again = e.again; unfailed = tt },
     )
 
@@ -16,7 +16,7 @@ pub returns-then-not-full : goal.returns-then-not-full
 returns-then-not-full g c =
     let e = rw c.if-not-full.true at c.in-Ok.ensures in
     rw (← c.self.view_is) (
-      (refl, λ _. tt, (ap (λ k. k.now) e.key, e.stands, tt, (e.sound, e.room), e.still)),
+      (refl, λ _. tt, (ap (λ k. k.now) e.key, e.stands, tt, (e.sound, e.room), e.still, e.written)),
       record { after = tt; texts = e.texts; taken = e.taken; some = e.some; nothing = λ _. refl; again = tt; unfailed = e.unfailed },
     )
 
@@ -24,6 +24,6 @@ pub returns : goal.returns
 returns g c =
     let e = rw c.if-not-full.false at c.in-Ok.ensures in
     rw (← c.self.view_is, c.as_slice.ensures.value) (
-      (refl, λ _. tt, (ap (λ k. k.now) e.key, e.stands, tt, (e.sound, e.room), e.still)),
+      (refl, λ _. tt, (ap (λ k. k.now) e.key, e.stands, tt, (e.sound, e.room), e.still, e.written)),
       record { after = tt; texts = e.texts; taken = e.taken; some = e.some; nothing = λ h. never (e.nothing h); again = tt; unfailed = e.unfailed },
     )

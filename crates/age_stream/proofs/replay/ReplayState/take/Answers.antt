@@ -13,7 +13,7 @@ pub returns-clause-written : goal.returns-clause-written
 returns-clause-written g c =
     let positive : 0 < g.row.SEALED - 16 = omega (arith, c.args.self.now.sizes) in
     IfOk-weaker c.deliver.result _ _
-    (λ _ f ds text h few auth.
+    (λ _ f ds h.
     let now = replays_more g.B.ChunkBox.opening (g.row.SEALED - 16) (replay_view c.args.self.now) (replay_view c.deliver.new.self) (ap (λ k. k.now) c.deliver.ensures.key) ds c.args.delivery.now h f in
-    written g.B.ChunkBox.sealing g.B.ChunkBox.opening (g.row.SEALED - 16) (replay_view c.args.self.now) (replay_view c.deliver.new.self) (g.met.B.ChunkBox.lawful c.args.self.now.key.now) positive (ap (λ k. k.now) c.deliver.ensures.key) (ds ++ c.args.delivery.now ∷ []) text now few auth)
+    written g.B.ChunkBox.sealing g.B.ChunkBox.opening (g.row.SEALED - 16) (replay_view c.args.self.now) (replay_view c.deliver.new.self) (g.met.B.ChunkBox.lawful c.args.self.now.key.now) positive (ap (λ k. k.now) c.deliver.ensures.key) (ds ++ c.args.delivery.now ∷ []) now)
     c.deliver.ensures.stands

@@ -1,0 +1,7 @@
+use Rattle.std.proofs.Common.{◌≡◌, ◌-◌, take}
+use Rattle.age_stream.specs.Replaying.{Replays}
+use Rattle.age_stream.proofs.drilling.drill.Given as goal
+
+abbrev pub invariant-loop-event : goal.invariant-loop-event
+invariant-loop-event g l =
+    (l.replay.key ≡ l.key) × Replays g.B.ChunkBox.opening (g.row.SEALED - 16) l.replay (take l.event-index l.events)

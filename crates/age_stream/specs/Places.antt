@@ -1,0 +1,34 @@
+-- Each block in its place: what a segment gives where its blocks are compared with the writer's. A chunk has n bytes.
+use Rattle.std.specs.Prelude.{◌≡◌, ◌≢◌, ℕ, ◌+◌, ◌-◌, ◌*◌, ◌<◌, Bool, true, false, ◌&&◌, List, take, drop, Option, None, if◌then◌else◌}
+use Rattle.std.specs.List.{list_any}
+use Rattle.std.specs.Str.{bytes_eq}
+use Rattle.age_stream.specs.Nonce.{nonce_bytes}
+use Rattle.age_stream.specs.Payload.{sealed}
+use Rattle.age_stream.specs.Segment.{Segment, outcome, failed}
+use Rattle.age_stream.specs.declared.step.Status.{Status}
+use Rattle.age_stream.specs.declared.fault.StreamKind.TheVariants.{ChunkDamaged, TooManyChunks}
+
+-- block j of these bytes, or what is left of them there
+abbrev pub block_at : ℕ → List ℕ → ℕ → List ℕ
+block_at n bytes j = take (n + 16) (drop (j * (n + 16)) bytes)
+
+module _ (sealing : List ℕ → List ℕ → List ℕ) (opening : List ℕ → List ℕ → Option (List ℕ)) (n : ℕ) (text : List ℕ) where
+  -- whether the writer of the text sealed a chunk as this block at this nonce
+  abbrev pub is_writers : List ℕ → List ℕ → Bool
+  is_writers nonce block = list_any (λ (pair : List ℕ × List ℕ). bytes_eq pair.0 nonce && bytes_eq pair.1 block) (sealed sealing n text)
+
+  -- opening that compares the block with the writer's
+  abbrev pub compared : List ℕ → List ℕ → Option (List ℕ)
+  compared nonce block = if is_writers nonce block then opening nonce block else None
+
+  -- block number i is none of the writer's, and those before it are the writer's, each at its number
+  pub record IsFirstWrong (s : Segment) (i : ℕ) : Type 0 where
+    pub before : (j : ℕ) → s.start + j < i → is_writers (nonce_bytes (s.start + j) false) (block_at n s.bytes j) ≡ true
+    pub there : (last : Bool) → is_writers (nonce_bytes i last) (block_at n s.bytes (i - s.start)) ≡ false
+
+  -- the outcome is that of comparing blocks with the writer's; one is refused as damaged where it is the first that is
+  -- none, and there are never too many
+  pub record IsInPlace (s : Segment) (status : Status) : Type 0 where
+    pub compares : outcome opening n s ≡ outcome compared n s
+    pub damaged : (i : ℕ) → status ≡ failed ChunkDamaged i → IsFirstWrong s i
+    pub few : (i : ℕ) → status ≢ failed TooManyChunks i

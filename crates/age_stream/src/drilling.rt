@@ -1,0 +1,31 @@
+//! Whole lists of deliveries.
+ghost use Rattle.std.specs.Prelude.{◌-◌, ◌≤◌, IfOk};
+ghost use Rattle.age_stream.specs.Drills.{IsHeldAfter};
+ghost use Rattle.age_stream.specs.Headline.{HoldsWritten};
+
+use crate::chunk_box::ChunkBox;
+use crate::delivery::Delivery;
+use crate::fault::Memory;
+use crate::replay::{Drill, Replay};
+use std::alloc::Global;
+
+/// Gives deliveries to a new [`Replay`], and answers what it then holds.
+pub fn drill<B: ChunkBox, const SEALED: usize>(
+    alloc: Global,
+    key: &B,
+    events: &[Delivery<'_>],
+) -> Result<Drill, Memory>
+    requires least { 17 ≤ SEALED }
+    requires most { SEALED ≤ 65552 }
+    ensures held { IfOk result (λ drill. IsHeldAfter (B.opening key.now) (SEALED - 16) events.now drill) }
+
+    // While no block opens except as the writer of a text sealed it, what is held is the beginning of that text, the end is
+    // reported only with all of it, an undamaged payload, or its rest, gives all of it, and each block stands in its place.
+    ensures written { IfOk result (λ drill. HoldsWritten (B.sealing key.now) (B.opening key.now) (SEALED - 16) events.now drill.text.items drill.status) }
+{
+    let mut replay = Replay::<B, SEALED>::new(alloc, key);
+    for event in events {
+        replay.take(event)?;
+    }
+    Ok(replay.into_drill())
+}
