@@ -34,3 +34,7 @@ decoded_size s b out n room e fits is =
 
 pub never_decodes : (s b : List ℕ) (error : DecodeError) → decode_of standard_no_pad s ≡ Err error → IsBytes b → s ≡ text b → ⊥
 never_decodes s b error e fits is = cc (sym e ∙ decoded_of_text s b fits is)
+
+-- different bytes have different texts
+pub one_text : (a b : List ℕ) → IsBytes a → IsBytes b → text a ≡ text b → a ≡ b
+one_text a b a_fits b_fits e = same_bytes (text a) a b (decoded_of_text (text a) a a_fits refl) (decoded_of_text (text a) b b_fits e)

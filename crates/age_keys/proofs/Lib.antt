@@ -1,4 +1,6 @@
 pub mod Base64Lemmas
+pub mod PassphraseLemmas
 pub mod ScryptLemmas
+pub mod SharedLemmas
 pub mod StanzaLemmas
 pub mod WorkFactorLemmas

@@ -146,9 +146,10 @@ scrypt_head_is pass salt key wrap body mac log h wrap_is body_is stanzas_are mac
 -- ---- bytes that are written behind others
 
 -- over the second part of an array
-pub over_the_end : (a z s : List ℕ) → length a ≡ 28 → length z ≡ 16 → put_mid 28 16 (a ++ z) s ≡ a ++ s
-over_the_end a z s first second =
-    ap₂ (λ (f e : List ℕ). f ++ (s ++ e)) (take_at a z 28 (omega arith)) (drop_all 16 (drop 28 (a ++ z)) (omega (arith, length-drop 28 (a ++ z), length-append a z)))
+pub over_the_end : (n k : ℕ) (a z s : List ℕ) → length a ≡ n → length z ≡ k → put_mid n k (a ++ z) s ≡ a ++ s
+over_the_end n k a z s first second =
+    ap₂ (λ (f e : List ℕ). f ++ (s ++ e)) (take_at a z n (omega arith))
+    (drop_all k (drop n (a ++ z)) (omega (arith, length-drop n (a ++ z), length-append a z)))
     ∙ ap (λ (t : List ℕ). a ++ t) (append-nil s)
 
 -- all but the last 16 bytes

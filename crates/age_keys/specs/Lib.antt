@@ -1,7 +1,9 @@
 pub mod FaultNumbers
 pub mod Keys
+pub mod Laws
 pub mod Opened
 pub mod Passphrase
 pub mod PayloadBox
 pub mod Scrypt
+pub mod SharedSecret
 pub mod X25519

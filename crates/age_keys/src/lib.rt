@@ -10,10 +10,12 @@
 
 mod fault;
 mod key;
+mod laws;
 mod open;
 mod passphrase;
 mod payload;
 mod scrypt;
+mod shared_secret;
 mod text;
 mod unlock;
 mod wrap;
@@ -21,10 +23,12 @@ mod x25519;
 
 pub use fault::KeyFault;
 pub use key::FileKey;
+pub use laws::passphrase_opens;
 pub use open::open_header;
 pub use passphrase::Passphrase;
 pub use payload::{PayloadKey, payload_key, position_key};
 pub use scrypt::scrypt_header;
+pub use shared_secret::SharedSecret;
 pub use unlock::{KnownKey, Unlock};
 pub use x25519::X25519Stanza;
 

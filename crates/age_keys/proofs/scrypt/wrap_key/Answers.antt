@@ -11,5 +11,5 @@ returns-in-Ok-clause-key c =
     let label : c.copy_from_slice.new.self ≡ codes "age-encryption.org/v1/scrypt" = c.copy_from_slice.ensures.after in
     c.in-Ok.ensures.key
     ∙ ap (λ (s : List ℕ). scrypt c.args.pass.now s c.args.log)
-    (over_the_end _ _ c.copy_from_slice-2.new.self (ap length label) refl
+    (over_the_end 28 16 _ _ c.copy_from_slice-2.new.self (ap length label) refl
     ∙ ap₂ (λ (a s : List ℕ). a ++ s) label c.copy_from_slice-2.ensures.after)

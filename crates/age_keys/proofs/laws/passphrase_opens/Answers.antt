@@ -1,0 +1,5 @@
+use Rattle.age_keys.proofs.PassphraseLemmas.{opens_alone}
+use Rattle.age_keys.proofs.laws.passphrase_opens.Goals as goal
+
+pub returns : goal.returns
+returns c = opens_alone

@@ -1,0 +1,64 @@
+-- What a shared secret finds in a header, and what it refuses (C2SP age.md, "The X25519 recipient type").
+use Rattle.std.specs.Prelude.{◌≡◌, ◌⊎◌, ℕ, Bool, true, false, List, ◌∷◌, ◌++◌, Any, replicate, codes}
+use Rattle.std.specs.List.{list_any, AllByRecursion}
+use Rattle.age_stanza.specs.declared.header.Stanza.{Stanza}
+use Rattle.age_stanza.specs.declared.header.Header.{Header}
+use Rattle.age_kdf.specs.Hkdf.{hkdf32}
+use Rattle.age_keys.specs.declared.fault.KeyFault.{KeyFault}
+use Rattle.age_keys.specs.declared.fault.KeyFault.TheVariants.{NoMatch, WrongKey, BadX25519}
+use Rattle.age_keys.specs.Keys.{wrapped}
+use Rattle.age_keys.specs.X25519.{is_x25519, IsX25519Stanza, ReadRefuses}
+
+-- a shared secret, and the recipient for whom the stanzas are
+pub record Shared : Type 0 where
+  pub secret : List ℕ
+  pub recipient : List ℕ
+
+-- the key that a file key is wrapped under: HKDF of the shared secret, salted with the stanza's share and the recipient
+unfoldable pub shared_wrap_key : Shared → List ℕ → List ℕ
+shared_wrap_key x share = hkdf32 x.secret (share ++ x.recipient) (codes "age-encryption.org/v1/X25519")
+
+-- the stanza's body opens to the key
+pub record OpensTo (x : Shared) (s : Stanza) (key : List ℕ) : Type 0 where
+  pub share : List ℕ
+  pub body : List ℕ
+  pub stanza : IsX25519Stanza s share body
+  pub opens : body ≡ wrapped (shared_wrap_key x share) key
+
+-- it opens to no key
+abbrev pub StaysShut : Shared → Stanza → Type 0
+StaysShut x s = (key : List ℕ) → ¬ OpensTo x s key
+
+abbrev pub has_x25519 : Header → Bool
+has_x25519 h = list_any is_x25519 h.stanzas
+
+abbrev pub IsZero : Shared → Type 0
+IsZero x = x.secret ≡ replicate 32 0
+
+-- a stanza of type X25519 that isn't of the lawful shape
+abbrev pub IsBadStanza : Stanza → Type 0
+IsBadStanza s = ReadRefuses s BadX25519
+
+-- the secret isn't zero, and no X25519 stanza is bad
+pub record IsUsable (x : Shared) (h : Header) : Type 0 where
+  pub secret : ¬ IsZero x
+  pub stanzas : AllByRecursion (λ s. ¬ IsBadStanza s) h.stanzas
+
+-- the key of the first stanza that opens
+pub record IsFirstKey (x : Shared) (stanzas : List Stanza) (key : List ℕ) : Type 0 where
+  pub before : List Stanza
+  pub stanza : Stanza
+  pub after : List Stanza
+  pub parts : stanzas ≡ before ++ stanza ∷ after
+  pub shut : AllByRecursion (StaysShut x) before
+  pub opens : OpensTo x stanza key
+
+abbrev pub IsSharedKey : Shared → Header → List ℕ → Type 0
+IsSharedKey x h key = IsUsable x h × IsFirstKey x h.stanzas key
+
+-- the faults that a shared secret may answer for it: the first that applies
+abbrev pub SharedRefuses : Shared → Header → KeyFault → Type 0
+SharedRefuses x h NoMatch = has_x25519 h ≡ false
+SharedRefuses x h BadX25519 = (has_x25519 h ≡ true) × (IsZero x ⊎ Any IsBadStanza h.stanzas)
+SharedRefuses x h WrongKey = (has_x25519 h ≡ true) × IsUsable x h × AllByRecursion (StaysShut x) h.stanzas
+SharedRefuses x h other = ⊥

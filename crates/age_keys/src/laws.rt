@@ -1,0 +1,11 @@
+//! Laws over the definitions alone. Each function makes no call: what its contract says holds of
+//! every header and all bytes.
+
+ghost use Rattle.age_keys.specs.Laws.{PassphraseOpens};
+
+/// The passphrase that a header of [`scrypt_header`](crate::scrypt_header) was made for opens it,
+/// where the limit is no less than its work factor: nothing but the file key may be answered for
+/// it, want of memory aside.
+pub fn passphrase_opens()
+    ensures { PassphraseOpens }
+{}

@@ -1,0 +1,149 @@
+//! A shared secret, which finds the file key in X25519 stanzas.
+
+ghost use Rattle.std.specs.Prelude.{◌≡◌, ◌++◌, Any, IfSome, IfNone, MatchResult};
+ghost use Rattle.std.specs.Bool.{OnTrue, OnFalse};
+ghost use Rattle.std.specs.List.{list_any, AllByRecursion};
+ghost use Rattle.age_keys.specs.X25519.{is_x25519};
+ghost use Rattle.age_keys.specs.SharedSecret.{shared_wrap_key, OpensTo, StaysShut, IsBadStanza, IsFirstKey, IsSharedKey, SharedRefuses};
+
+use crate::fault::KeyFault;
+use crate::key::FileKey;
+use crate::unlock::Unlock;
+use crate::wrap::unwrapped;
+use crate::x25519::{X25519Stanza, is_x25519};
+use age_stanza::{Header, Stanza};
+use std::alloc::Global;
+use std::marker::Model;
+
+/// Whether some stanza is of type `X25519`.
+fn has_x25519(stanzas: &[Stanza]) -> bool
+    ensures { result ≡ list_any is_x25519 stanzas.now }
+{
+    stanzas.iter().any(is_x25519)
+}
+
+/// Whether a stanza is of type `X25519`, but not of its shape.
+fn is_bad(stanza: &Stanza) -> bool
+    ensures bad { OnTrue result (IsBadStanza stanza.now) }
+    ensures fine { OnFalse result (¬ IsBadStanza stanza.now) }
+{
+    match X25519Stanza::read(stanza) {
+        Err(KeyFault::BadX25519) => true,
+        _ => false,
+    }
+}
+
+/// Whether there is such a stanza.
+fn has_bad(stanzas: &[Stanza]) -> bool
+    ensures bad { OnTrue result (Any IsBadStanza stanzas.now) }
+    ensures fine { OnFalse result (AllByRecursion (λ s. ¬ IsBadStanza s) stanzas.now) }
+{
+    for stanza in stanzas {
+        if is_bad(stanza) {
+            return true;
+        }
+    }
+    false
+}
+
+/// Twice 32 bytes.
+fn joined(first: &[u8; 32], second: &[u8; 32]) -> [u8; 64]
+    ensures { result ≡ first.now ++ second.now }
+{
+    let mut both = [0; 64];
+    both[..32].copy_from_slice(first);
+    both[32..].copy_from_slice(second);
+    both
+}
+
+/// A shared secret, which was computed elsewhere of a stanza's share and the recipient's identity,
+/// and the recipient. A contract sees both.
+///
+/// It finds the file key in the first X25519 stanza of a header that opens (C2SP age.md, "The
+/// X25519 recipient type"); stanzas of other types are passed over. It refuses, in this order, a
+/// header without an X25519 stanza ([`KeyFault::NoMatch`]), one with an X25519 stanza of another
+/// shape, or any where the secret is zero ([`KeyFault::BadX25519`]), and a header none of whose
+/// X25519 stanzas opens ([`KeyFault::WrongKey`]). It takes no memory.
+#[derive(Drop)]
+pub struct SharedSecret {
+    secret: [u8; 32],
+    recipient: [u8; 32],
+}
+
+impl Model for SharedSecret {
+    ghost use Rattle.age_keys.specs.SharedSecret.{Shared};
+
+    ghost Value = { Shared };
+
+    ghost view = { λ x. record { secret = x.secret; recipient = x.recipient } };
+}
+
+impl SharedSecret {
+    /// A shared secret, and the recipient that it was computed for.
+    pub fn new(shared: &[u8; 32], recipient: &[u8; 32]) -> SharedSecret
+        ensures { result ≡ record { secret = shared.now; recipient = recipient.now } }
+    {
+        SharedSecret {
+            secret: *shared,
+            recipient: *recipient,
+        }
+    }
+
+    /// The file key of a header, or the refusal. It takes no memory and never answers
+    /// [`KeyFault::Memory`].
+    pub fn find(&self, header: &Header) -> Result<FileKey, KeyFault>
+        ensures { MatchResult result (IsSharedKey self.now header.now)
+            (SharedRefuses self.now header.now) }
+    {
+        let stanzas = header.stanzas.as_slice();
+        if !has_x25519(stanzas) {
+            return Err(KeyFault::NoMatch);
+        }
+        if self.secret == [0; 32] || has_bad(stanzas) {
+            return Err(KeyFault::BadX25519);
+        }
+        self.first_key(stanzas).ok_or(KeyFault::WrongKey)
+    }
+
+    /// The key that the file key is wrapped under in the stanza of a share.
+    fn wrap_key(&self, share: &[u8; 32]) -> [u8; 32]
+        ensures { result ≡ shared_wrap_key self.now share.now }
+    {
+        let salt = joined(share, &self.recipient);
+        age_kdf::hkdf32(&self.secret, &salt, b"age-encryption.org/v1/X25519")
+    }
+
+    /// The file key in a stanza; `None` where there is none.
+    fn key_in(&self, stanza: &Stanza) -> Option<FileKey>
+        ensures key { IfSome result (OpensTo self.now stanza.now) }
+        ensures none { IfNone result (StaysShut self.now stanza.now) }
+    {
+        match X25519Stanza::read(stanza) {
+            Ok(read) => unwrapped(&self.wrap_key(&read.share), &read.body),
+            Err(_) => None,
+        }
+    }
+
+    /// The file key in the first stanza that opens.
+    fn first_key(&self, stanzas: &[Stanza]) -> Option<FileKey>
+        ensures key { IfSome result (IsFirstKey self.now stanzas.now) }
+        ensures none { IfNone result (AllByRecursion (StaysShut self.now) stanzas.now) }
+    {
+        for stanza in stanzas {
+            if let Some(key) = self.key_in(stanza) {
+                return Some(key);
+            }
+        }
+        None
+    }
+}
+
+impl Unlock for SharedSecret {
+    ghost allows = { IsSharedKey };
+
+    ghost refuses = { SharedRefuses };
+
+    fn unlock(&self, _alloc: Global, header: &Header) -> Result<FileKey, KeyFault> {
+        self.find(header)
+    }
+}
