@@ -1,10 +1,12 @@
 -- The numbers and places of faults, and when each comes.
-use Rattle.std.specs.Prelude.{◌≡◌, ◌⊎◌, ℕ, ◌^◌, ◌-◌, ◌<◌, ◌≤◌, List, length, Option, Some, None, codes}
+use Rattle.std.specs.Prelude.{◌≡◌, ◌⊎◌, ℕ, ◌^◌, ◌-◌, ◌<◌, ◌≤◌, List, ◌++◌, length, Option, Some, None, codes}
 use Rattle.std.specs.Io.KnownBytes.{Consumes, IsAtEnd}
 use Rattle.age_stanza.specs.declared.fault.HeadKind.{HeadKind}
 use Rattle.age_stanza.specs.declared.fault.HeadKind.TheVariants.{NotAge, Armored, BadStanzaLine, BadBody, BadEndLine, NoStanza, HeadTooLong, HeadCut, Memory as HeadMemory}
 use Rattle.age_stanza.specs.declared.fault.HeadFault.{HeadFault}
 use Rattle.age_stanza.specs.FaultNumbers as head
+use Rattle.age_stanza.specs.declared.header.Header.{Header}
+use Rattle.age_stanza.specs.Grammar.{HeadText}
 use Rattle.age_stanza.specs.Faults.{HasHeader, NoFault, IsFault, line_after}
 use Rattle.age_keys.specs.declared.fault.KeyFault.{KeyFault}
 use Rattle.age_keys.specs.declared.fault.KeyFault.TheVariants.{ScryptNotAlone, BadScrypt, WorkTooHigh, NoMatch, WrongKey, MacMismatch, BadX25519, Memory as KeyMemory}
@@ -121,6 +123,15 @@ pub record TellsFault (old new : Option (List ℕ)) (fault : HeadFault) : Type 0
 -- a source gave so much that it is taken for one that never ends
 abbrev pub NeverEnds : Option (List ℕ) → Option (List ℕ) → Type 0
 NeverEnds old new = (bytes : List ℕ) × Consumes old new bytes × (2 ^ 63 ≤ length bytes)
+
+-- the bytes that came hold no header
+abbrev pub IsInHeader : Option (List ℕ) → Option (List ℕ) → Type 0
+IsInHeader old new = (bytes : List ℕ) × Consumes old new bytes × (HasHeader bytes → ⊥)
+
+-- fewer bytes came than those of a header and a payload nonce
+abbrev pub IsShort : Option (List ℕ) → Option (List ℕ) → Type 0
+IsShort old new = (bytes : List ℕ) × Consumes old new bytes
+    × ((h : Header) (front rest : List ℕ) → HeadText h front → bytes ≡ front ++ rest → length rest < 16)
 
 -- why a header was not read: what the source's bytes and its count of failures have to be for each fault
 abbrev pub HeadFails : Option (List ℕ) → Option (List ℕ) → ℕ → ℕ → FileFault → Type 0

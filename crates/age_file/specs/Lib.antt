@@ -4,10 +4,15 @@ pub mod Reports
 pub mod Writes
 pub mod Unread
 pub mod Intakes
+pub mod AgeFile
+pub mod Starts
+pub mod Releases
+pub mod Flows
+pub mod Decrypts
+pub mod Pours
 pub mod Bindings
 pub mod PositionTexts
 pub mod Ports
 pub mod Seals
-pub mod AgeFile
 pub mod Secrets
 pub mod Encrypts

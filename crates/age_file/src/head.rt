@@ -1,7 +1,8 @@
 //! Reads the header at the front of a source.
 
-ghost use Rattle.std.specs.Prelude.{◌≡◌, [], IfOk, IfErr, OnOk};
-ghost use Rattle.age_file.specs.Faults.{HeadFails};
+ghost use Rattle.std.specs.Prelude.{◌≡◌, ◌≢◌, [], IfOk, IfErr, OnOk};
+ghost use Rattle.age_file.specs.declared.fault.FileFault.TheVariants.{Memory};
+ghost use Rattle.age_file.specs.Faults.{HeadFails, IsInHeader};
 ghost use Rattle.age_file.specs.Intakes.{ReadsHead};
 
 use crate::fault::FileFault;
@@ -27,6 +28,7 @@ pub(crate) fn read_head<S: Source>(
     ensures found { IfOk result (ReadsHead (S.remaining source.old) (S.remaining source.new) intake.new) }
     ensures unfailed { OnOk result (S.failed source.new ≡ S.failed source.old) }
     ensures fails { IfErr result (HeadFails (S.remaining source.old) (S.remaining source.new) (S.failed source.old) (S.failed source.new)) }
+    ensures early { IfErr result (λ fault. fault ≢ Memory → IsInHeader (S.remaining source.old) (S.remaining source.new)) }
 {
     let mut parser = HeadParser::new(alloc);
     let mut len = 0;

@@ -6,6 +6,7 @@
 #![tactic(auto)]
 
 mod encryption;
+mod decryption;
 mod failed;
 mod fault;
 mod head;
@@ -13,6 +14,8 @@ mod inspection;
 mod intake;
 mod mem_sink;
 mod mem_source;
+mod pour;
+mod progress;
 mod position;
 mod put;
 mod report;
@@ -20,8 +23,10 @@ mod sealing;
 mod secret;
 mod sink;
 mod source;
+mod start;
 
 pub use encryption::{Written, encrypt};
+pub use decryption::{Done, Stopped, decrypt};
 pub use failed::{Failed, Memory};
 pub use fault::FileFault;
 pub use inspection::inspect;

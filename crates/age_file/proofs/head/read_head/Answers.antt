@@ -1,6 +1,6 @@
 use Rattle.std.proofs.Common.{◌++◌, take, arith}
 use Rattle.std.proofs.lemmas.List.{length-append, length-take}
-use Rattle.age_file.proofs.Bytes.{piece_fails, end_fails, cut_pulled, head_pulled}
+use Rattle.age_file.proofs.Bytes.{piece_fails, piece_early, end_fails, cut_pulled, head_pulled}
 use Rattle.age_file.proofs.head.read_head.Goals as goal
 
 pub returns-in-Ok-false-clause-fails : goal.returns-in-Ok-false-clause-fails
@@ -29,3 +29,16 @@ returns-in-Err-feed-clause-fails g c =
     let feeds = rw kept.parser_is at c.in-Err-feed.ensures in
     let all = rw (← c.bytes.ensures.bytes) at (c.refill.ensures.pulled _ kept.held kept.pulled) in
     rw c.from-in-Err-feed.ensures (piece_fails _ _ _ _ kept.held c.bytes.result.now c.in-Err-feed.fault all.consumed feeds.1)
+
+pub returns-in-Err-clause-early : goal.returns-in-Err-clause-early
+returns-in-Err-clause-early g c =
+    let kept = c.pieces.invariant in
+    let all = cut_pulled _ _ _ kept.held _ c.in-Err.ensures.answered.0 (c.in-Err.ensures.pulled _ kept.held kept.pulled) in
+    λ not. (kept.held, all.consumed, kept.none)
+
+pub returns-in-Err-feed-clause-early : goal.returns-in-Err-feed-clause-early
+returns-in-Err-feed-clause-early g c =
+    let kept = c.pieces.invariant in
+    let feeds = rw kept.parser_is at c.in-Err-feed.ensures in
+    let all = rw (← c.bytes.ensures.bytes) at (c.refill.ensures.pulled _ kept.held kept.pulled) in
+    piece_early _ _ kept.held c.bytes.result.now c.in-Err-feed.fault c.from-in-Err-feed.result c.from-in-Err-feed.ensures all.consumed feeds.1

@@ -1,0 +1,130 @@
+-- What flows, one turn after another.
+use Rattle.std.proofs.Common.{◌≡◌, ℕ, ◌+◌, ◌≤◌, List, [], ◌++◌, length, Option, refl, sym, ap, subst, ◌∙◌, arith, append-nil, append_assoc, Bool, true, false}
+use Rattle.std.specs.Prelude.{Result, MatchResult, Ok, Err}
+use Rattle.age_stream.specs.Deliveries.{with_piece}
+use Rattle.age_file.specs.Faults.{HasRisen}
+use Rattle.age_file.specs.Unread.{Unread}
+use Rattle.age_file.specs.Intakes.{Pulled, Refills, Refilled, PullFails}
+use Rattle.age_file.specs.Releases.{Releases, FeedsPiece, FeedFails}
+use Rattle.age_file.specs.Flows.{Flow, HasRoom, SameFailures, FlowFails, TurnGoes, Flows, Turns, OpensAll}
+use Rattle.age_file.specs.declared.fault.FileFault.{FileFault}
+use Rattle.age_file.specs.declared.fault.FileFault.TheVariants.{Stream, Read, Write, ReadNeverEnds}
+use Rattle.age_file.proofs.ReleaseSteps.{releases_none, releases_then}
+
+joined_parts : (a pf qf x y m left : List ℕ) → a ++ pf ≡ x ++ m → m ++ qf ≡ y ++ left → a ++ (pf ++ qf) ≡ (x ++ y) ++ left
+joined_parts a pf qf x y m left p q =
+    sym (append_assoc a pf qf) ∙ (ap (λ (t : List ℕ). t ++ qf) p ∙ (append_assoc x m qf ∙ (ap (λ (t : List ℕ). x ++ t) q ∙ sym (append_assoc x y left))))
+
+module _ {B : Type 0} (opening : B → List ℕ → List ℕ → Option (List ℕ)) (n : ℕ) where
+  pub flows_none : (f : Flow B) → Flows opening n f f f.unread.bytes []
+  flows_none f =
+      record {
+        fed = [];
+        fresh = [];
+        parts = append-nil f.unread.bytes;
+        releases = releases_none opening n f.opener f.tally;
+        pulled = λ start bytes h. subst (λ (t : List ℕ). Pulled start f.coming f.unread.pulls t) (sym (append-nil bytes)) h;
+      }
+
+  pub flows_then : (old mid new : Flow B) (left cut : List ℕ) → Flows opening n old mid mid.unread.bytes [] → Flows opening n mid new left cut → Flows opening n old new left cut
+  flows_then old mid new left cut p q =
+      record {
+        fed = p.fed ++ q.fed;
+        fresh = p.fresh ++ q.fresh;
+        parts = joined_parts old.unread.bytes p.fresh q.fresh p.fed q.fed mid.unread.bytes left p.parts q.parts;
+        releases = releases_then opening n p.fed q.fed old.opener mid.opener new.opener old.tally mid.tally new.tally cut p.releases q.releases;
+        pulled = λ start bytes h. subst (λ (t : List ℕ). Pulled start new.coming new.unread.pulls t) (append_assoc bytes p.fresh q.fresh) (q.pulled start (bytes ++ p.fresh) (p.pulled start bytes h));
+      }
+
+  -- the failures of a turn
+  pull_fails : (old new : Flow B) (pulls : ℕ) (fault : FileFault) → new.unread.bytes ≡ [] → new.unread.pulls ≡ pulls → new.tally.failed ≡ old.tally.failed
+      → PullFails pulls old.read_failed new.read_failed fault → (fault ≡ ReadNeverEnds → new.read_failed ≡ old.read_failed) → FlowFails old new new.unread.bytes [] fault
+  pull_fails old new pulls Read none count same h k = (none, refl, h)
+  pull_fails old new pulls ReadNeverEnds none count same h k = (none, refl, count ∙ h, (same, k refl))
+  pull_fails old new pulls other none count same h k = absurd h
+
+  turn_answers : (old new : Flow B) (mid : Unread) (result : Result Bool FileFault) → mid.pulls ≡ old.unread.pulls → HasRoom old
+      → length new.opener.held + new.tally.progress.written ≤ length old.opener.held + old.tally.progress.written + length old.unread.bytes → new.tally.failed ≡ old.tally.failed
+      → Refilled new.coming old.read_failed new.read_failed mid new.unread result
+      → MatchResult result (TurnGoes old new new.unread.bytes []) (FlowFails old new new.unread.bytes [])
+  turn_answers old new mid (Ok true) count room goes same h = (refl, refl, (same, h.4), (omega (arith, room.0, goes, h.1, h.3, count), h.2), h.3 ∙ ap (λ (k : ℕ). k + 1) count)
+  turn_answers old new mid (Ok false) count room goes same h = (h.0, refl, (same, h.3), h.2, omega (arith, room.0, room.1, goes))
+  turn_answers old new mid (Err fault) count room goes same h = pull_fails old new mid.pulls fault h.0 h.1 same h.2 h.3
+
+  -- a piece was fed whole, and the next was pulled
+  pub turned : (old new : Flow B) (mid : Unread) (piece : List ℕ) (result : Result Bool FileFault) → piece ≡ old.unread.bytes → mid.pulls ≡ old.unread.pulls → HasRoom old
+      → FeedsPiece opening n old.opener new.opener old.tally new.tally piece (Ok tt)
+      → Refills old.coming new.coming old.read_failed new.read_failed mid new.unread result
+      → Turns opening n old new result
+  turned old new mid piece result is count room f r =
+      let goes = f.answered.1 in
+      let all : f.fed ≡ old.unread.bytes = sym (append-nil f.fed) ∙ (ap (λ (t : List ℕ). f.fed ++ t) (sym f.answered.0) ∙ (sym f.parts ∙ is)) in
+      record {
+        left = new.unread.bytes;
+        cut = [];
+        flows = record {
+          fed = f.fed;
+          fresh = new.unread.bytes;
+          parts = ap (λ (t : List ℕ). t ++ new.unread.bytes) (sym all);
+          releases = subst (λ (t : List ℕ). Releases opening n (λ s. with_piece s f.fed) old.opener new.opener old.tally new.tally t) goes.1 f.releases;
+          pulled = λ start bytes h. r.pulled start bytes (subst (λ (k : ℕ). Pulled start old.coming k bytes) (sym count) h);
+        };
+        answered = turn_answers old new mid result count room (omega (arith, goes.0, ap length all)) goes.2 r.answered;
+      }
+
+  feed_fails : (old new : Flow B) (left cut : List ℕ) (fault : FileFault) → new.read_failed ≡ old.read_failed → FeedFails opening n new.opener old.tally new.tally left cut fault → FlowFails old new left cut fault
+  feed_fails old new left cut (Stream f) same h = (h.0, h.1, h.2, (h.3, same))
+  feed_fails old new left cut Write same h = h
+  feed_fails old new left cut other same h = absurd h
+
+  -- a piece was refused, or the sink failed
+  pub stopped : (old new : Flow B) (piece : List ℕ) (fault : FileFault) → piece ≡ old.unread.bytes → new.coming ≡ old.coming → new.read_failed ≡ old.read_failed → new.unread ≡ old.unread
+      → FeedsPiece opening n old.opener new.opener old.tally new.tally piece (Err fault)
+      → Turns opening n old new (Err fault)
+  stopped old new piece fault is coming same unread f =
+      record {
+        left = f.left;
+        cut = f.cut;
+        flows = record {
+          fed = f.fed;
+          fresh = [];
+          parts = append-nil old.unread.bytes ∙ (sym is ∙ f.parts);
+          releases = f.releases;
+          pulled = λ start bytes h. subst (λ (t : List ℕ). Pulled start new.coming new.unread.pulls t) (sym (append-nil bytes)) (subst (λ (c : Option (List ℕ)). Pulled start c new.unread.pulls bytes) (sym coming) (subst (λ (u : Unread). Pulled start old.coming u.pulls bytes) (sym unread) h));
+        };
+        answered = feed_fails old new f.left f.cut fault same f.answered;
+      }
+
+  flow_fails_then : (old mid new : Flow B) (left cut : List ℕ) (fault : FileFault) → SameFailures old mid → FlowFails mid new left cut fault → FlowFails old new left cut fault
+  flow_fails_then old mid new left cut (Stream f) p h = (h.0, h.1, h.2, (h.3.0 ∙ p.0, h.3.1 ∙ p.1))
+  flow_fails_then old mid new left cut Write p h = subst (λ (k : ℕ). HasRisen k new.tally.failed) p.0 h
+  flow_fails_then old mid new left cut Read p h = (h.0, h.1, subst (λ (k : ℕ). HasRisen k new.read_failed) p.1 h.2)
+  flow_fails_then old mid new left cut ReadNeverEnds p h = (h.0, h.1, h.2, (h.3.0 ∙ p.0, h.3.1 ∙ p.1))
+  flow_fails_then old mid new left cut other p h = absurd h
+
+  pub all_stopped : (old mid new : Flow B) (fault : FileFault) → Flows opening n old mid mid.unread.bytes [] → SameFailures old mid → Turns opening n mid new (Err fault) → OpensAll opening n old new (Err fault)
+  all_stopped old mid new fault p same t =
+      record { left = t.left; cut = t.cut; flows = flows_then old mid new t.left t.cut p t.flows; answered = flow_fails_then old mid new t.left t.cut fault same t.answered }
+
+  pub all_done : (old mid new : Flow B) → Flows opening n old mid mid.unread.bytes [] → SameFailures old mid → Turns opening n mid new (Ok false) → OpensAll opening n old new (Ok tt)
+  all_done old mid new p same t =
+      record {
+        left = t.left;
+        cut = t.cut;
+        flows = flows_then old mid new t.left t.cut p t.flows;
+        answered = (t.answered.0, t.answered.1, (t.answered.2.0 ∙ same.0, t.answered.2.1 ∙ same.1), t.answered.3, t.answered.4);
+      }
+
+  pub record On (old new : Flow B) : Type 0 where
+    pub flows : Flows opening n old new new.unread.bytes []
+    pub same : SameFailures old new
+    pub room : HasRoom new
+
+  pub on : (old mid new : Flow B) → Flows opening n old mid mid.unread.bytes [] → SameFailures old mid → Turns opening n mid new (Ok true) → On old new
+  on old mid new p same t =
+      let a = t.answered in
+      record {
+        flows = flows_then old mid new new.unread.bytes [] p (subst (λ (c : List ℕ). Flows opening n mid new new.unread.bytes c) a.1 (subst (λ (l : List ℕ). Flows opening n mid new l t.cut) a.0 t.flows));
+        same = (a.2.0 ∙ same.0, a.2.1 ∙ same.1);
+        room = a.3;
+      }

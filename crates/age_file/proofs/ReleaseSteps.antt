@@ -1,0 +1,121 @@
+-- Feeding an opener and writing what it releases, one call after another.
+use Rattle.std.proofs.Common.{◌≡◌, ℕ, ◌+◌, ◌≤◌, List, [], ◌++◌, length, take, Option, refl, sym, ap, subst, ◌∙◌, arith, append-nil, append_assoc}
+use Rattle.std.specs.List.{flat_map}
+use Rattle.std.specs.Borrow.{Bor}
+use Rattle.std.proofs.lemmas.Grind.{flat_map-append}
+use Rattle.std.proofs.lemmas.List.{length-append, length-take}
+use Rattle.std.specs.Io.KnownBytes.{Appends}
+use Rattle.age_stream.specs.Segment.{Segment, outcome, released}
+use Rattle.age_stream.specs.Deliveries.{with_piece}
+use Rattle.age_stream.specs.Opening.{OpenerView, Stands, chunk_texts}
+use Rattle.age_stream.proofs.ReplaySteps.{pieces_join, with_bytes-nil, lent_flat}
+use Rattle.age_stream.specs.Lent.{lent_text}
+use Rattle.age_file.specs.Faults.{HasRisen}
+use Rattle.age_file.specs.Releases.{Tally, Releases, FeedGoes, FeedFails}
+use Rattle.age_file.specs.declared.fault.FileFault.{FileFault}
+use Rattle.age_file.specs.declared.fault.FileFault.TheVariants.{Stream, Write}
+use Rattle.age_file.proofs.Bytes.{Appends-then}
+use Rattle.std.proofs.KnownBytes.{Appends-nil}
+
+-- no bytes
+pub no_piece : (s : Segment) → with_piece s [] ≡ s
+no_piece s = ap (λ st. st.segment) (with_bytes-nil (record { given_up = []; base = []; segment = s; refused = 0 }))
+
+-- more texts are more text
+pub more_text : (op : List ℕ → List ℕ → Option (List ℕ)) (n : ℕ) (s next : Segment) (ts : List (List ℕ)) (text : List ℕ)
+    → (outcome op n next).texts ≡ (outcome op n s).texts ++ ts → flat_map (λ (t : List ℕ). t) ts ≡ text → released op n next ≡ released op n s ++ text
+more_text op n s next ts text e f =
+    ap (flat_map (λ (t : List ℕ). t)) e
+    ∙ (flat_map-append (λ (t : List ℕ). t) (outcome op n s).texts ts ∙ ap (λ (x : List ℕ). released op n s ++ x) f)
+
+module _ {B : Type 0} (opening : B → List ℕ → List ℕ → Option (List ℕ)) (n : ℕ) where
+  pub releases_none : (o : OpenerView B) (was : Tally) → Releases opening n (λ s. with_piece s []) o o was was []
+  releases_none o was =
+      record {
+        out = [];
+        key = refl;
+        wrote = Appends-nil was.taken;
+        named = refl;
+        count = omega arith;
+        stands = λ s h. subst (Stands opening n o) (sym (no_piece s)) h;
+        text = λ s h. ap (released (opening o.key) n) (no_piece s) ∙ sym (append-nil (released (opening o.key) n s));
+      }
+
+  -- a step, and then a step to any next segment
+  pub releases_next : (a : List ℕ) (next next' : Segment → Segment) (old mid new : OpenerView B) (was between now : Tally) (cut : List ℕ)
+      → ((s : Segment) → next (with_piece s a) ≡ next' s)
+      → Releases opening n (λ s. with_piece s a) old mid was between [] → Releases opening n next mid new between now cut → Releases opening n next' old new was now cut
+  releases_next a next next' old mid new was between now cut same p q =
+      let op = opening old.key in
+      record {
+        out = p.out ++ q.out;
+        key = q.key ∙ p.key;
+        wrote = Appends-then was.taken between.taken now.taken p.out q.out p.wrote q.wrote;
+        named = q.named ∙ p.named;
+        count = omega (arith, p.count, q.count, length-append p.out q.out);
+        stands = λ s h. subst (Stands opening n new) (same s) (q.stands (with_piece s a) (p.stands s h));
+        text = λ s h.
+            let r = released op n s in
+            let t : released op n (next (with_piece s a)) ≡ released op n (with_piece s a) ++ (q.out ++ cut) =
+            subst (λ k. released (opening k) n (next (with_piece s a)) ≡ released (opening k) n (with_piece s a) ++ (q.out ++ cut)) p.key (q.text (with_piece s a) (p.stands s h)) in
+            let u : released op n (with_piece s a) ≡ r ++ p.out = p.text s h ∙ ap (λ (x : List ℕ). r ++ x) (append-nil p.out) in
+            ap (released op n) (sym (same s)) ∙ (t ∙ (ap (λ (x : List ℕ). x ++ (q.out ++ cut)) u
+            ∙ (append_assoc r p.out (q.out ++ cut) ∙ ap (λ (x : List ℕ). r ++ x) (sym (append_assoc p.out q.out cut)))));
+      }
+
+  pub releases_then : (a b : List ℕ) (old mid new : OpenerView B) (was between now : Tally) (cut : List ℕ)
+      → Releases opening n (λ s. with_piece s a) old mid was between [] → Releases opening n (λ s. with_piece s b) mid new between now cut
+      → Releases opening n (λ s. with_piece s (a ++ b)) old new was now cut
+  releases_then a b old mid new was between now cut p q = releases_next a (λ s. with_piece s b) (λ s. with_piece s (a ++ b)) old mid new was between now cut (λ s. pieces_join s a b) p q
+
+  -- a call that took the front of a piece and lent a chunk, of which so much was written
+  pub fed_front : (old new : OpenerView B) (was now : Tally) (piece : List ℕ) (taken : ℕ) (chunk : Option (Bor (List ℕ))) (out cut : List ℕ)
+      → new.key ≡ old.key
+      → ((s : Segment) → Stands opening n old s → Stands opening n new (with_piece s (take taken piece)))
+      → ((s : Segment) → Stands opening n old s → (outcome (opening old.key) n (with_piece s (take taken piece))).texts ≡ (outcome (opening old.key) n s).texts ++ chunk_texts chunk)
+      → lent_text chunk ≡ out ++ cut → Appends was.taken now.taken out → now.label ≡ was.label → now.progress.written ≡ was.progress.written + length out
+      → Releases opening n (λ s. with_piece s (take taken piece)) old new was now cut
+  fed_front old new was now piece taken chunk out cut key stands texts lent wrote named count =
+      record {
+        out = out;
+        key = key;
+        wrote = wrote;
+        named = named;
+        count = count;
+        stands = stands;
+        text = λ s h. more_text (opening old.key) n s (with_piece s (take taken piece)) (chunk_texts chunk) (out ++ cut) (texts s h) (lent_flat chunk ∙ lent);
+      }
+
+  -- how much it then holds and wrote
+  pub goes_front : (old new : OpenerView B) (was now : Tally) (piece : List ℕ) (taken : ℕ) (chunk : Option (Bor (List ℕ))) (out cut : List ℕ)
+      → taken ≤ length piece → length new.held + length (lent_text chunk) ≤ length old.held + taken
+      → lent_text chunk ≡ out ++ cut → now.progress.written ≡ was.progress.written + length out → cut ≡ [] → now.failed ≡ was.failed
+      → (taken ≡ length (take taken piece)) × FeedGoes opening n old new was now (take taken piece) cut
+  goes_front old new was now piece taken chunk out cut le room lent count whole failed =
+      let len : length (lent_text chunk) ≡ length out = ap length (lent ∙ (ap (λ (t : List ℕ). out ++ t) whole ∙ append-nil out)) in
+      (omega (arith, le, length-take taken piece), (omega (arith, le, room, count, len, length-take taken piece), whole, failed))
+
+  goes_then : (a b : List ℕ) (old mid new : OpenerView B) (was between now : Tally) → FeedGoes opening n old mid was between a [] → FeedGoes opening n mid new between now b [] → FeedGoes opening n old new was now (a ++ b) []
+  goes_then a b old mid new was between now p q = (omega (arith, p.0, q.0, length-append a b), refl, q.2 ∙ p.2)
+
+  -- one call more, for a piece of which the front was fed
+  pub record Both (old new : OpenerView B) (was now : Tally) (fed : List ℕ) : Type 0 where
+    pub releases : Releases opening n (λ s. with_piece s fed) old new was now []
+    pub goes : FeedGoes opening n old new was now fed []
+
+  pub both_then : (a b c : List ℕ) (old mid new : OpenerView B) (was between now : Tally) (cut : List ℕ) → a ++ b ≡ c
+      → Releases opening n (λ s. with_piece s a) old mid was between [] → FeedGoes opening n old mid was between a []
+      → Releases opening n (λ s. with_piece s b) mid new between now cut → FeedGoes opening n mid new between now b cut
+      → Both old new was now c
+  both_then a b c old mid new was between now cut e p pg q qg =
+      let q' = subst (λ (t : List ℕ). Releases opening n (λ s. with_piece s b) mid new between now t) qg.1 q in
+      let qg' : FeedGoes opening n mid new between now b [] = (qg.0, refl, qg.2) in
+      subst (λ (t : List ℕ). Both old new was now t) e
+      (record { releases = releases_then a b old mid new was between now [] p q'; goes = goes_then a b old mid new was between now pg qg' })
+
+  -- a fault after steps that went on
+  pub fails_then : (a : List ℕ) (old mid new : OpenerView B) (was between now : Tally) (left cut : List ℕ) (fault : FileFault)
+      → FeedGoes opening n old mid was between a [] → FeedFails opening n new between now left cut fault → FeedFails opening n new was now left cut fault
+  fails_then a old mid new was between now left cut (Stream f) p h = (h.0, h.1, h.2, h.3 ∙ p.2)
+  fails_then a old mid new was between now left cut Write p h = subst (λ (k : ℕ). HasRisen k now.failed) p.2 h
+  fails_then a old mid new was between now left cut other p h = h

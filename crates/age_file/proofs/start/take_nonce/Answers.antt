@@ -1,0 +1,47 @@
+use Rattle.std.proofs.Common.{◌≡◌, ◌+◌, take, [], List, ℕ, sym, subst, arith, append-nil, ◌∙◌}
+use Rattle.std.proofs.lemmas.List.{length-take, take_all}
+use Rattle.age_file.specs.Starts.{Uses}
+use Rattle.age_file.proofs.StartSteps.{uses_then, uses_front, nonce_fails}
+use Rattle.age_file.proofs.start.take_nonce.Goals as goal
+
+pub returns-in-Ok-false-clause-fails : goal.returns-in-Ok-false-clause-fails
+returns-in-Ok-false-clause-fails g c =
+    let kept = c.parts.invariant in
+    let r = rw c.in-Ok-false.field-0-test at c.in-Ok-false.ensures.answers in
+    let short = take c.parts.have c.parts.nonce in (
+      (
+        short,
+        omega (arith, length-take c.parts.have c.parts.nonce),
+        uses_then (g.S.Source.remaining c.args.source.now) (g.S.Source.remaining c.parts.source) (g.S.Source.remaining c.some_bytes.new.source) c.args.intake.now c.parts.intake c.some_bytes.new.intake short [] short (append-nil short) kept.uses c.some_bytes.ensures.uses,
+        r.0,
+      ),
+      r.1,
+    )
+
+pub returns-in-Err-clause-fails : goal.returns-in-Err-clause-fails
+returns-in-Err-clause-fails g c =
+    let kept = c.parts.invariant in
+    nonce_fails (g.S.Source.remaining c.args.source.now) (g.S.Source.remaining c.parts.source) (g.S.Source.remaining c.some_bytes.new.source) _ _ _ c.args.intake.now c.parts.intake c.some_bytes.new.intake (take c.parts.have c.parts.nonce) c.in-Err.fault (omega (arith, length-take c.parts.have c.parts.nonce)) kept.unfailed kept.uses c.some_bytes.ensures.uses c.in-Err.ensures.answers.0 c.in-Err.ensures.answers.1
+
+pub parts-preserved : goal.parts-preserved
+parts-preserved g c =
+    let kept = c.parts.invariant in
+    let r = rw c.in-Ok-true.field-0-test at c.in-Ok-true.ensures.answers in
+    let n = c.copy_some-n.result in
+    let piece = c.bytes.result.now in
+    let short = take c.parts.have c.parts.nonce in
+    let rem = g.S.Source.remaining in
+    let there = uses_then (rem c.args.source.now) (rem c.parts.source) (rem c.some_bytes.new.source) c.args.intake.now c.parts.intake c.some_bytes.new.intake short [] short (append-nil short) kept.uses c.some_bytes.ensures.uses in
+    record {
+      most = omega (arith, kept.most, c.copy_some-n.ensures.count);
+      room = c.copy_some-n.array_long;
+      uses = uses_then (rem c.args.source.now) (rem c.some_bytes.new.source) (rem c.some_bytes.new.source) c.args.intake.now c.some_bytes.new.intake c.use_front.new.self short (take n piece) (take (c.parts.have + n) c.copy_some-n.new.into)
+          (sym c.copy_some-n.ensures.bytes) there (uses_front (rem c.some_bytes.new.source) c.some_bytes.new.intake c.use_front.new.self piece n c.use_front.ensures.pulls c.bytes.ensures.bytes c.use_front.ensures.bytes);
+      unfailed = r.1 ∙ kept.unfailed;
+    }
+
+pub returns-clause-found : goal.returns-clause-found
+returns-clause-found g c =
+    let kept = c.parts.invariant in
+    let whole : take c.parts.have c.parts.nonce ≡ c.parts.nonce = take_all c.parts.have c.parts.nonce (omega (arith, kept.room)) in
+    subst (λ (t : List ℕ). Uses (g.S.Source.remaining c.args.source.now) (g.S.Source.remaining c.parts.source) c.args.intake.now c.parts.intake t) whole kept.uses

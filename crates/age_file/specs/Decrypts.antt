@@ -1,0 +1,133 @@
+-- What a decryption did.
+use Rattle.std.specs.Prelude.{◌≡◌, ◌⊎◌, ℕ, ◌≤◌, List, [], ◌++◌, length, Option, Some, Result, Ok, Err, Bool, true, false}
+use Rattle.std.specs.Io.KnownBytes.{Consumes, Appends, IsAtEnd}
+use Rattle.age_stanza.specs.declared.header.Header.{Header}
+use Rattle.age_stanza.specs.Grammar.{HeadText}
+use Rattle.age_stream.specs.declared.step.Status.TheVariants.{Failed, Done}
+use Rattle.age_stream.specs.Payload.{payload, chunk_count}
+use Rattle.age_stream.specs.Segment.{Segment, outcome, released}
+use Rattle.age_stream.specs.Headline.{IsPrefixOf, IsAuthentic}
+use Rattle.age_keys.specs.declared.fault.KeyFault.{KeyFault}
+use Rattle.age_keys.specs.declared.fault.KeyFault.TheVariants.{Memory as KeyMemory}
+use Rattle.age_keys.specs.Keys.{IsScryptBeside}
+use Rattle.age_keys.specs.Opened.{Opens}
+use Rattle.age_file.specs.Faults.{HasRisen, NeverEnds, IsShort}
+use Rattle.age_file.specs.AgeFile.{box, unbox, FileOf}
+use Rattle.age_file.specs.Starts.{StartFails}
+use Rattle.age_file.specs.declared.fault.FileFault.{FileFault}
+use Rattle.age_file.specs.declared.fault.FileFault.TheVariants.{Stream, Read, Write, Memory, ReadNeverEnds}
+
+-- what a source has to come and a sink took, and how often each failed
+pub record Ports : Type 0 where
+  pub coming : Option (List ℕ)
+  pub read_failed : ℕ
+  pub taken : Option (List ℕ)
+  pub write_failed : ℕ
+
+abbrev pub ports : Option (List ℕ) → ℕ → Option (List ℕ) → ℕ → Ports
+ports coming read_failed taken write_failed = record { coming = coming; read_failed = read_failed; taken = taken; write_failed = write_failed }
+
+abbrev pub NoneFailed : Ports → Ports → Type 0
+NoneFailed old new = (new.read_failed ≡ old.read_failed) × (new.write_failed ≡ old.write_failed)
+
+-- one piece from a start, with an end or without
+abbrev pub segment : ℕ → List ℕ → Bool → Segment
+segment start bytes ended = record { start = start; bytes = bytes; ended = ended; late = false }
+
+-- a run: a file whose header was opened and whose nonce was read, the bytes that were pulled behind it, whether the source
+-- ended there, and what was written
+pub record Run : Type 0 where
+  pub header : Header
+  pub front : List ℕ
+  pub key : List ℕ
+  pub nonce : List ℕ
+  pub bytes : List ℕ
+  pub ended : Bool
+  pub out : List ℕ
+
+abbrev pub segment_of : Run → Segment
+segment_of r = segment 0 r.bytes r.ended
+
+-- the text that the bytes release, each chunk of which opened
+abbrev pub text_of : Run → List ℕ
+text_of r = released (unbox r.key r.nonce) 65536 (segment_of r)
+
+-- this run is what was read and written: so many bytes, which begin the text
+pub record IsRun (Allows : Header → List ℕ → Type 0) (old new : Ports) (written : ℕ) (r : Run) : Type 0 where
+  pub text : HeadText r.header r.front
+  pub opens : Opens Allows r.header r.key
+  pub size : length r.nonce ≡ 16
+  pub read : Consumes old.coming new.coming ((r.front ++ r.nonce) ++ r.bytes)
+  pub at_end : r.ended ≡ true → IsAtEnd new.coming
+  pub wrote : Appends old.taken new.taken r.out
+  pub count : written ≡ length r.out
+  pub prefix : IsPrefixOf r.out (text_of r)
+
+-- no block that came and is tried opens, except as the writer of this text sealed it
+abbrev pub IsAuthenticRun : Run → List ℕ → Type 0
+IsAuthenticRun r text = (chunk_count 65536 text ≤ 281474976710656) × IsAuthentic (box r.key r.nonce) (unbox r.key r.nonce) 65536 text (segment_of r)
+
+-- then what was written begins that text, or is all of it
+abbrev pub WritesOf : Run → Type 0
+WritesOf r = (text : List ℕ) → IsAuthenticRun r text → IsPrefixOf r.out text
+
+abbrev pub WritesAll : Run → Type 0
+WritesAll r = (text : List ℕ) → IsAuthenticRun r text → r.out ≡ text
+
+-- nothing was written
+abbrev pub WritesNone : Ports → Ports → ℕ → Type 0
+WritesNone old new written = Appends old.taken new.taken [] × (written ≡ 0)
+
+module _ (Allows : Header → List ℕ → Type 0) (Refused : Header → KeyFault → Type 0) where
+  -- a run of which all text was written
+  pub record Wrote (old new : Ports) (written : ℕ) (r : Run) : Type 0 where
+    pub is : IsRun Allows old new written r
+    pub whole : r.out ≡ text_of r
+    pub of : WritesOf r
+
+  -- a run of which all text was written, or none yet: fewer bytes were pulled than a header and a nonce
+  abbrev pub WroteSoFar : Ports → Ports → ℕ → Type 0
+  WroteSoFar old new written = (WritesNone old new written × IsShort old.coming new.coming) ⊎ ((r : Run) × Wrote old new written r)
+
+  abbrev pub DecryptFails : Ports → Ports → ℕ → FileFault → Type 0
+  DecryptFails old new written (Stream fault) =
+      (r : Run) × Wrote old new written r × ((outcome (unbox r.key r.nonce) 65536 (segment_of r)).status ≡ Failed fault) × NoneFailed old new
+  DecryptFails old new written Write = ((r : Run) × IsRun Allows old new written r × WritesOf r) × HasRisen old.write_failed new.write_failed
+  DecryptFails old new written Read = WroteSoFar old new written × HasRisen old.read_failed new.read_failed
+  DecryptFails old new written ReadNeverEnds = WroteSoFar old new written × NeverEnds old.coming new.coming
+  DecryptFails old new written fault = WritesNone old new written × StartFails Allows Refused old.coming new.coming old.read_failed new.read_failed fault
+
+  -- the source ended, the end is reported, and all was written
+  pub record DecryptDone (old new : Ports) (written : ℕ) (r : Run) : Type 0 where
+    pub wrote : Wrote old new written r
+    pub ended : r.ended ≡ true
+    pub done : (outcome (unbox r.key r.nonce) 65536 (segment_of r)).status ≡ Done
+    pub all : WritesAll r
+    pub none_failed : NoneFailed old new
+
+  abbrev pub Decrypts : Ports → Ports → ℕ → Result (Unit {0}) FileFault → Type 0
+  Decrypts old new written (Ok done) = (r : Run) × DecryptDone old new written r
+  Decrypts old new written (Err fault) = DecryptFails old new written fault
+
+-- the source is an age file of this text, and the unlocker has its key and no other, and no fault but want of memory; no block of the payload
+-- opens except as its writer sealed it
+pub record IsUndamaged (Allows : Header → List ℕ → Type 0) (Refused : Header → KeyFault → Type 0) (coming : Option (List ℕ)) (text : List ℕ) : Type 0 where
+  pub header : Header
+  pub key : List ℕ
+  pub nonce : List ℕ
+  pub bytes : List ℕ
+  pub file : FileOf header key nonce text bytes
+  pub all : coming ≡ Some bytes
+  pub few : chunk_count 65536 text ≤ 281474976710656
+  pub alone : ¬ IsScryptBeside header
+  pub only : (k : List ℕ) → Allows header k → k ≡ key
+  pub never : (fault : KeyFault) → Refused header fault → fault ≡ KeyMemory
+  pub authentic : IsAuthentic (box key nonce) (unbox key nonce) 65536 text (segment 0 (payload (box key nonce) 65536 text) true)
+
+-- what may stop its decryption all the same
+abbrev pub StopsOutside : FileFault → Type 0
+StopsOutside Read = Unit {0}
+StopsOutside Write = Unit {0}
+StopsOutside Memory = Unit {0}
+StopsOutside ReadNeverEnds = Unit {0}
+StopsOutside other = ⊥

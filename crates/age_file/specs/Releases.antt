@@ -1,0 +1,66 @@
+-- What an opener was fed, and what of its text was written. Only private functions cite this. A chunk has n bytes.
+use Rattle.std.specs.Prelude.{◌≡◌, ℕ, ◌+◌, ◌≤◌, List, [], ◌++◌, length, Option, Result, MatchResult}
+use Rattle.std.specs.Io.KnownBytes.{Appends}
+use Rattle.age_stream.specs.declared.step.Status.TheVariants.{Failed, Done}
+use Rattle.age_stream.specs.Segment.{Segment, released}
+use Rattle.age_stream.specs.Deliveries.{with_piece, with_end}
+use Rattle.age_stream.specs.Opening.{OpenerView, Stands}
+use Rattle.age_file.specs.Faults.{HasRisen}
+use Rattle.age_file.specs.declared.progress.Progress.{Progress}
+use Rattle.age_file.specs.declared.fault.FileFault.{FileFault}
+use Rattle.age_file.specs.declared.fault.FileFault.TheVariants.{Stream, Write}
+
+-- what a sink took, how often it failed, its name, and how far the run has come
+pub record Tally : Type 0 where
+  pub taken : Option (List ℕ)
+  pub failed : ℕ
+  pub label : List ℕ
+  pub progress : Progress
+
+abbrev pub tally : Option (List ℕ) → ℕ → List ℕ → Progress → Tally
+tally taken failed label progress = record { taken = taken; failed = failed; label = label; progress = progress }
+
+module _ {B : Type 0} (opening : B → List ℕ → List ℕ → Option (List ℕ)) (n : ℕ) where
+  -- for each segment that the opener stood for, it stands for the next, whose text is more by what was written and what was cut off
+  pub record Releases (next : Segment → Segment) (old new : OpenerView B) (was now : Tally) (cut : List ℕ) : Type 0 where
+    pub out : List ℕ
+    pub key : new.key ≡ old.key
+    pub wrote : Appends was.taken now.taken out
+    pub named : now.label ≡ was.label
+    pub count : now.progress.written ≡ was.progress.written + length out
+    pub stands : (s : Segment) → Stands opening n old s → Stands opening n new (next s)
+    pub text : (s : Segment) → Stands opening n old s → released (opening old.key) n (next s) ≡ released (opening old.key) n s ++ (out ++ cut)
+
+  -- a fault of the opener, or of the sink, with what was left of the piece and cut off
+  abbrev pub FeedFails : OpenerView B → Tally → Tally → List ℕ → List ℕ → FileFault → Type 0
+  FeedFails new was now left cut (Stream fault) = (new.status ≡ Failed fault) × (left ≡ []) × (cut ≡ []) × (now.failed ≡ was.failed)
+  FeedFails new was now left cut Write = HasRisen was.failed now.failed
+  FeedFails new was now left cut other = ⊥
+
+  -- what the opener holds and what was written is no more than what it held, and was fed
+  abbrev pub FeedGoes : OpenerView B → OpenerView B → Tally → Tally → List ℕ → List ℕ → Type 0
+  FeedGoes old new was now fed cut = (length new.held + now.progress.written ≤ length old.held + was.progress.written + length fed) × (cut ≡ []) × (now.failed ≡ was.failed)
+
+  -- one call: the opener took the front of the piece
+  pub record FeedsOnce (old new : OpenerView B) (was now : Tally) (piece : List ℕ) (result : Result ℕ FileFault) : Type 0 where
+    pub fed : List ℕ
+    pub left : List ℕ
+    pub cut : List ℕ
+    pub parts : piece ≡ fed ++ left
+    pub releases : Releases (λ s. with_piece s fed) old new was now cut
+    pub answered : MatchResult result (λ taken. (taken ≡ length fed) × FeedGoes old new was now fed cut) (FeedFails new was now left cut)
+
+  -- calls for a whole piece
+  pub record FeedsPiece (old new : OpenerView B) (was now : Tally) (piece : List ℕ) (result : Result (Unit {0}) FileFault) : Type 0 where
+    pub fed : List ℕ
+    pub left : List ℕ
+    pub cut : List ℕ
+    pub parts : piece ≡ fed ++ left
+    pub releases : Releases (λ s. with_piece s fed) old new was now cut
+    pub answered : MatchResult result (λ _. (left ≡ []) × FeedGoes old new was now fed cut) (FeedFails new was now left cut)
+
+  -- the end, for each segment that the opener stood for
+  pub record Closes (old new : OpenerView B) (was now : Tally) (result : Result (Unit {0}) FileFault) : Type 0 where
+    pub cut : List ℕ
+    pub releases : Releases with_end old new was now cut
+    pub answered : MatchResult result (λ _. (new.status ≡ Done) × (cut ≡ []) × (now.failed ≡ was.failed)) (FeedFails new was now [] cut)

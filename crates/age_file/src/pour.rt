@@ -1,0 +1,183 @@
+//! Opens what a source gives, and writes each chunk once its tag was checked.
+
+ghost use Rattle.std.specs.Prelude.{◌≡◌, ◌+◌, ◌-◌, ◌*◌, ◌^◌, ◌<◌, ◌≤◌, [], length, IfOk};
+ghost use Rattle.age_file.specs.Releases.{tally, FeedsOnce, FeedsPiece, Closes};
+ghost use Rattle.age_file.specs.Flows.{flow, HasRoom, Turns, OpensAll};
+ghost use Rattle.age_file.specs.Pours.{stage, HasPlace, Pours};
+
+use crate::fault::FileFault;
+use crate::intake::Intake;
+use crate::progress::Progress;
+use crate::put::put_all;
+use crate::sink::Sink;
+use crate::source::Source;
+use age_stream::{ChunkBox, Opener};
+
+/// Feeds the front of a piece, and writes the chunk that comes out.
+fn feed_once<B: ChunkBox, const SEALED: usize, O: Sink>(
+    opener: &mut Opener<'_, B, SEALED>,
+    piece: &[u8],
+    sink: &mut O,
+    progress: &mut Progress,
+) -> Result<usize, FileFault>
+    requires small { length opener.old.held + progress.old.written + length piece.now < 2 ^ 128 }
+    ensures fed { FeedsOnce B.opening (SEALED - 16) opener.old opener.new
+        (tally (O.taken sink.old) (O.failed sink.old) (O.label sink.old) progress.old)
+        (tally (O.taken sink.new) (O.failed sink.new) (O.label sink.new) progress.new) piece.now result }
+    ensures some { IfOk result (λ n. 0 < length piece.now → 0 < n) }
+{
+    match opener.feed(piece) {
+        Err(fault) => Err(FileFault::Stream(fault)),
+        Ok(step) => {
+            let taken = step.taken;
+            if let Some(chunk) = step.chunk {
+                let Ok(()) = put_all(sink, chunk, &mut progress.written) else {
+                    return Err(FileFault::Write);
+                };
+            }
+            Ok(taken)
+        }
+    }
+}
+
+/// Feeds a whole piece, and writes the chunks that come out.
+fn feed_piece<B: ChunkBox, const SEALED: usize, O: Sink>(
+    opener: &mut Opener<'_, B, SEALED>,
+    piece: &[u8],
+    sink: &mut O,
+    progress: &mut Progress,
+) -> Result<(), FileFault>
+    requires small { length opener.old.held + progress.old.written + length piece.now < 2 ^ 128 }
+    ensures fed { FeedsPiece B.opening (SEALED - 16) opener.old opener.new
+        (tally (O.taken sink.old) (O.failed sink.old) (O.label sink.old) progress.old)
+        (tally (O.taken sink.new) (O.failed sink.new) (O.label sink.new) progress.new) piece.now result }
+{
+    let mut at = 0;
+    while at < piece.len() {
+        match feed_once(opener, &piece[at..], sink, progress) {
+            Ok(n) => at += n,
+            Err(fault) => return Err(fault),
+        }
+    }
+    Ok(())
+}
+
+/// Feeds what was pulled, and pulls again. False: the source is at its end.
+fn turn<B: ChunkBox, const SEALED: usize, S: Source, O: Sink>(
+    opener: &mut Opener<'_, B, SEALED>,
+    source: &mut S,
+    intake: &mut Intake,
+    sink: &mut O,
+    progress: &mut Progress,
+) -> Result<bool, FileFault>
+    requires { HasRoom (flow opener.old (tally (O.taken sink.old) (O.failed sink.old) (O.label sink.old) progress.old)
+        (S.remaining source.old) (S.failed source.old) intake.old) }
+    ensures { Turns B.opening (SEALED - 16)
+        (flow opener.old (tally (O.taken sink.old) (O.failed sink.old) (O.label sink.old) progress.old)
+        (S.remaining source.old) (S.failed source.old) intake.old)
+        (flow opener.new (tally (O.taken sink.new) (O.failed sink.new) (O.label sink.new) progress.new)
+        (S.remaining source.new) (S.failed source.new) intake.new) result }
+{
+    match feed_piece(opener, intake.bytes(), sink, progress) {
+        Ok(()) => {}
+        Err(fault) => return Err(fault),
+    }
+    intake.use_all();
+    intake.refill(source)
+}
+
+/// Opens what a source gives, up to its end.
+fn open_all<B: ChunkBox, const SEALED: usize, S: Source, O: Sink>(
+    opener: &mut Opener<'_, B, SEALED>,
+    source: &mut S,
+    intake: &mut Intake,
+    sink: &mut O,
+    progress: &mut Progress,
+) -> Result<(), FileFault>
+    requires { HasRoom (flow opener.old (tally (O.taken sink.old) (O.failed sink.old) (O.label sink.old) progress.old)
+        (S.remaining source.old) (S.failed source.old) intake.old) }
+    ensures { OpensAll B.opening (SEALED - 16)
+        (flow opener.old (tally (O.taken sink.old) (O.failed sink.old) (O.label sink.old) progress.old)
+        (S.remaining source.old) (S.failed source.old) intake.old)
+        (flow opener.new (tally (O.taken sink.new) (O.failed sink.new) (O.label sink.new) progress.new)
+        (S.remaining source.new) (S.failed source.new) intake.new) result }
+{
+    'turns: loop {
+        match turn(opener, source, intake, sink, progress) {
+            Ok(true) => {}
+            Ok(false) => return Ok(()),
+            Err(fault) => return Err(fault),
+        }
+    }
+}
+
+/// Ends the opener, and writes the chunk that comes out.
+fn close<B: ChunkBox, const SEALED: usize, O: Sink>(
+    opener: &mut Opener<'_, B, SEALED>,
+    sink: &mut O,
+    progress: &mut Progress,
+) -> Result<(), FileFault>
+    requires { length opener.old.held + progress.old.written < 2 ^ 128 }
+    ensures { Closes B.opening (SEALED - 16) opener.old opener.new
+        (tally (O.taken sink.old) (O.failed sink.old) (O.label sink.old) progress.old)
+        (tally (O.taken sink.new) (O.failed sink.new) (O.label sink.new) progress.new) result }
+{
+    match opener.end() {
+        Err(fault) => Err(FileFault::Stream(fault)),
+        Ok(text) => {
+            let Ok(()) = put_all(sink, text, &mut progress.written) else {
+                return Err(FileFault::Write);
+            };
+            Ok(())
+        }
+    }
+}
+
+/// The same, and then flushes.
+fn finish<B: ChunkBox, const SEALED: usize, O: Sink>(
+    opener: &mut Opener<'_, B, SEALED>,
+    sink: &mut O,
+    progress: &mut Progress,
+) -> Result<(), FileFault>
+    requires { length opener.old.held + progress.old.written < 2 ^ 128 }
+    ensures { Closes B.opening (SEALED - 16) opener.old opener.new
+        (tally (O.taken sink.old) (O.failed sink.old) (O.label sink.old) progress.old)
+        (tally (O.taken sink.new) (O.failed sink.new) (O.label sink.new) progress.new) result }
+{
+    match close(opener, sink, progress) {
+        Ok(()) => {}
+        Err(fault) => return Err(fault),
+    }
+    let Ok(()) = sink.flush() else {
+        return Err(FileFault::Write);
+    };
+    Ok(())
+}
+
+/// Opens what a source gives from a chunk on, up to its end, and writes each chunk once its tag was checked.
+pub(crate) fn pour<B: ChunkBox, const SEALED: usize, S: Source, O: Sink>(
+    key: &B,
+    index: u64,
+    source: &mut S,
+    intake: &mut Intake,
+    sink: &mut O,
+    progress: &mut Progress,
+) -> Result<(), FileFault>
+    requires least { 17 ≤ SEALED }
+    requires most { SEALED ≤ 65552 }
+    requires limit { index < 281474976710656 }
+    requires room { HasPlace (stage (tally (O.taken sink.old) (O.failed sink.old) (O.label sink.old) progress.old)
+        (S.remaining source.old) (S.failed source.old) intake.old) }
+    ensures { Pours (B.opening key.now) (SEALED - 16) index
+        (stage (tally (O.taken sink.old) (O.failed sink.old) (O.label sink.old) progress.old)
+        (S.remaining source.old) (S.failed source.old) intake.old)
+        (stage (tally (O.taken sink.new) (O.failed sink.new) (O.label sink.new) progress.new)
+        (S.remaining source.new) (S.failed source.new) intake.new) result }
+{
+    let mut opener = Opener::<B, SEALED>::at(key, index);
+    match open_all(&mut opener, source, intake, sink, progress) {
+        Ok(()) => {}
+        Err(fault) => return Err(fault),
+    }
+    finish(&mut opener, sink, progress)
+}

@@ -1,0 +1,89 @@
+//! Reads a file up to its payload.
+
+ghost use Rattle.std.specs.Prelude.{◌≡◌, ◌+◌, ◌-◌, ◌≤◌, [], ◌++◌, length, take, min, IfOk, IfErr, OnOk};
+ghost use Rattle.age_file.specs.Starts.{Uses, SomeAnswers, NonceFails, StartsAt, StartFails};
+
+use crate::fault::FileFault;
+use crate::head::read_head;
+use crate::intake::Intake;
+use crate::source::Source;
+use age_keys::{FileKey, Unlock, open_header};
+use age_stanza::one_header;
+use std::alloc::Global;
+
+/// What a file's payload is opened with.
+#[derive(Drop)]
+pub(crate) struct Unlocked {
+    pub(crate) key: FileKey,
+    pub(crate) nonce: [u8; 16],
+}
+
+/// Sees that some byte is there. False: the source is at its end.
+fn some_bytes<S: Source>(source: &mut S, intake: &mut Intake) -> Result<bool, FileFault>
+    ensures answers { SomeAnswers (S.remaining source.new) (S.failed source.old) (S.failed source.new) intake.new result }
+    ensures uses { Uses (S.remaining source.old) (S.remaining source.new) intake.old intake.new [] }
+{
+    if !intake.bytes().is_empty() {
+        return Ok(true);
+    }
+    intake.refill(source)
+}
+
+/// Copies as much as there is room for, and says how much.
+fn copy_some(from: &[u8], into: &mut [u8; 16], have: usize) -> usize
+    requires { have ≤ 16 }
+    ensures count { result ≡ min (16 - have) (length from.now) }
+    ensures bytes { take (have + result) into.new ≡ take have into.old ++ take result from.now }
+{
+    let n = (16 - have).min(from.len());
+    into[have..have + n].copy_from_slice(&from[..n]);
+    n
+}
+
+/// Reads the payload nonce.
+fn take_nonce<S: Source>(source: &mut S, intake: &mut Intake) -> Result<[u8; 16], FileFault>
+    ensures found { IfOk result (Uses (S.remaining source.old) (S.remaining source.new) intake.old intake.new) }
+    ensures unfailed { OnOk result (S.failed source.new ≡ S.failed source.old) }
+    ensures fails { IfErr result (NonceFails (S.remaining source.old) (S.remaining source.new) (S.failed source.old) (S.failed source.new) intake.old intake.new) }
+{
+    let mut nonce = [0; 16];
+    let mut have = 0;
+    'parts: while have < 16 {
+        match some_bytes(source, intake) {
+            Ok(true) => {}
+            Ok(false) => return Err(FileFault::NonceCut),
+            Err(fault) => return Err(fault),
+        }
+        let n = copy_some(intake.bytes(), &mut nonce, have);
+        intake.use_front(n);
+        have += n;
+    }
+    Ok(nonce)
+}
+
+/// Reads a file up to its payload: the header, which is opened, and the payload nonce.
+pub(crate) fn start<U: Unlock, S: Source>(
+    alloc: Global,
+    unlock: &U,
+    source: &mut S,
+    intake: &mut Intake,
+) -> Result<Unlocked, FileFault>
+    requires { (intake.old.bytes ≡ []) × (intake.old.pulls ≡ 0) }
+    ensures found { IfOk result (StartsAt (U.allows unlock.now) (S.remaining source.old) (S.remaining source.new) intake.new) }
+    ensures unfailed { OnOk result (S.failed source.new ≡ S.failed source.old) }
+    ensures fails { IfErr result (StartFails (U.allows unlock.now) (U.refuses unlock.now) (S.remaining source.old) (S.remaining source.new) (S.failed source.old) (S.failed source.new)) }
+{
+    one_header();
+    let header = match read_head(alloc, source, intake) {
+        Ok(head) => head.header,
+        Err(fault) => return Err(fault),
+    };
+    let key = match open_header(alloc, &header, unlock) {
+        Ok(key) => key,
+        Err(fault) => return Err(FileFault::from(fault)),
+    };
+    match take_nonce(source, intake) {
+        Ok(nonce) => Ok(Unlocked { key, nonce }),
+        Err(fault) => Err(fault),
+    }
+}
