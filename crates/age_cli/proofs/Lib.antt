@@ -1,2 +1,4 @@
 pub mod EntryLemmas
 pub mod Simple
+pub mod Numbers
+pub mod Literals

@@ -8,6 +8,7 @@
 mod commands;
 mod ending;
 mod files;
+mod help;
 mod host_files;
 mod inspection;
 mod mem_entry;

@@ -1,0 +1,73 @@
+//! The command that encrypts a file.
+
+ghost use Rattle.std.specs.Prelude.{◌≡◌, ◌++◌, ◌≤◌, ℕ, List, true, length, Some, IfOk, IfErr, OnOk, OnErr};
+ghost use Rattle.age_file.specs.Secrets.{SecretView};
+ghost use Rattle.age_cli.specs.Requests.{text_of};
+ghost use Rattle.age_cli.specs.Openers.{IsPassphraseIn, without_line_feed};
+ghost use Rattle.age_cli.specs.Encryptions.{IsRandomIn, random_name, EncryptsFile};
+ghost use Rattle.age_cli.specs.Endings.{is_usage};
+ghost use Rattle.age_cli.specs.Held.{SparesBut};
+
+use crate::ending::{Ending, Usage};
+use crate::files::FileSet;
+use crate::front::read_front;
+use crate::opener::{read_pass, trimmed};
+use crate::request::Encrypting;
+use age_file::{FileFault, Secret, encrypt};
+use std::alloc::Global;
+
+/// Where random bytes come from if no file is named.
+const RANDOM: &str = "/dev/urandom";
+
+/// The random parts of an age file.
+#[derive(Clone, Copy)]
+struct Random {
+    file_key: [u8; 16],
+    salt: [u8; 16],
+    payload_nonce: [u8; 16],
+}
+
+/// The random parts, from the first 48 bytes of a file.
+fn read_random<F: FileSet>(alloc: Global, files: &mut F, name: &str) -> Result<Random, Ending>
+    ensures told { F.tells files.new ≡ F.tells files.old }
+    ensures kept { F.entry files.new ≡ F.entry files.old }
+    ensures read { IfOk result (λ r. F.tells files.old ≡ true → (pass : List ℕ) (log : ℕ)
+        → IsRandomIn (F.entry files.old name.now) (record { pass = pass; log = log; salt = r.salt; key = r.file_key; nonce = r.payload_nonce })) }
+{
+    let mut source = files.open(alloc, name)?;
+    let bytes = read_front(alloc, &mut source, 48)?;
+    if bytes.len() < 48 {
+        return Err(Ending::Usage(Usage::BadRandomFile));
+    }
+    let mut random = Random {
+        file_key: [0; 16],
+        salt: [0; 16],
+        payload_nonce: [0; 16],
+    };
+    random.file_key.copy_from_slice(&bytes[..16]);
+    random.salt.copy_from_slice(&bytes[16..32]);
+    random.payload_nonce.copy_from_slice(&bytes[32..48]);
+    Ok(random)
+}
+
+/// Makes the output, and encrypts the input into it.
+fn write_out<F: FileSet>(
+    alloc: Global,
+    files: &mut F,
+    source: &mut F::In,
+    secret: &Secret<'_>,
+    to: &str,
+) -> Result<(), FileFault>
+    ensures told { F.tells files.new ≡ F.tells files.old }
+    ensures done { OnOk result (F.tells files.old ≡ true → (before after : Ports) × (written : Written)
+        × (before.coming ≡ F.In.remaining source.old) × (before.taken ≡ Some []) × Encrypts secret.now before after written × (F.entry files.new to.now ≡ after.taken)) }
+    ensures others { F.tells files.old ≡ true → SparesBut to.now (F.entry files.old) (F.entry files.new) }
+{
+    let mut out = files.create(alloc, to)?;
+    let encrypted = encrypt(alloc, secret, source, &mut out);
+    let closed = files.close(out);
+    match encrypted {
+        Ok(_) => closed,
+        Err(fault) => Err(fault),
+    }
+}
