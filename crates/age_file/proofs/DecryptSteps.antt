@@ -1,5 +1,5 @@
 -- From what was read and poured to what a decryption did.
-use Rattle.std.proofs.Common.{inl, inr, ◌≡◌, ℕ, ◌*◌, ◌<◌, ◌≤◌, List, [], ◌++◌, length, take, Option, sym, ap, subst, ◌∙◌, arith, append_assoc}
+use Rattle.std.proofs.Common.{◌/◌, min, replicate, Some, None, refl, inl, inr, ◌≡◌, ℕ, ◌*◌, ◌<◌, ◌≤◌, List, [], ◌++◌, length, take, Option, sym, ap, subst, ◌∙◌, arith, append_assoc}
 use Rattle.std.specs.Prelude.{Result, MatchResult, Ok, Err}
 use Rattle.age_stanza.specs.declared.header.Header.{Header}
 use Rattle.age_stream.specs.declared.step.Status.TheVariants.{Done}
@@ -8,14 +8,24 @@ use Rattle.age_stream.specs.Headline.{IsPrefixOf}
 use Rattle.age_stream.proofs.Segments.{released_segment}
 use Rattle.age_keys.specs.declared.fault.KeyFault.{KeyFault}
 use Rattle.age_cipher.specs.Opening.{opening}
-use Rattle.age_keys.specs.Keys.{payload_key}
+use Rattle.age_keys.specs.Keys.{payload_key, position_key}
 use Rattle.age_keys.specs.PayloadBox.{box_lawful}
 use Rattle.age_file.specs.Faults.{HasRisen}
 use Rattle.age_file.specs.Intakes.{Pulled}
 use Rattle.age_file.specs.AgeFile.{box, unbox}
 use Rattle.age_file.specs.Pours.{Stage, Pours, PourFails, PourDone}
 use Rattle.age_file.specs.Starts.{StartsAt, StartFails}
-use Rattle.age_file.specs.Decrypts.{Ports, Run, segment_of, text_of, IsRun, WritesNone, IsAuthenticRun, WritesOf, WritesAll, DecryptFails, Decrypts}
+use Rattle.age_file.specs.Decrypts.{Run, segment_of, text_of, IsRun, IsPositionOf, IsAuthenticRun, WritesOf, WritesAll, DecryptFails, DecryptDone}
+use Rattle.age_file.specs.Ports.{Ports}
+use Rattle.age_file.specs.Bindings.{file_id, chain, position_tag}
+use Rattle.age_file.specs.Marks.{IsMarked}
+use Rattle.age_file.specs.declared.position.Position.{Position}
+use Rattle.age_file.specs.declared.progress.Progress.{Progress}
+use Rattle.std.proofs.lemmas.List.{length-append}
+use Rattle.std.proofs.Math.Nat.{le-div_iff_mul-le}
+use Rattle.age_stream.proofs.Chunks.{first_chunks-append}
+use Rattle.std.specs.Simd.{first_chunks}
+use Rattle.std.specs.Io.KnownBytes.{Appends}
 use Rattle.age_file.specs.declared.start.Unlocked.{Unlocked}
 use Rattle.age_file.specs.declared.fault.FileFault.{FileFault}
 use Rattle.age_file.specs.declared.fault.FileFault.TheVariants.{Stream, Read, Write, ReadNeverEnds}
@@ -40,6 +50,38 @@ writes_of r p text auth = prefix_trans r.out (text_of r) text p (released_run r 
 pub writes_all : (r : Run) → r.out ≡ text_of r → (outcome (unbox r.key r.nonce) 65536 (segment_of r)).status ≡ Done → WritesAll r
 writes_all r e d text auth = e ∙ (released_run r text auth).1 d
 
+-- the run's progress is that of what it wrote
+position_is : (r : Run) (unlocked : Unlocked) (progress : Progress) (p : Position) → r.key ≡ unlocked.key → r.nonce ≡ unlocked.nonce → unlocked.id ≡ file_id r.front r.nonce
+    → IsPrefixOf r.out (text_of r) → IsMarked (unbox r.key r.nonce) 65536 r.out (segment_of r) progress
+    → p.index ≡ progress.index → p.file_id ≡ unlocked.id → p.chain ≡ progress.chain → p.tag ≡ position_tag (position_key unlocked.key unlocked.nonce) progress.index unlocked.id progress.chain
+    → IsPositionOf r p
+position_is r unlocked progress p key nonce id begins m index file chain_same tag =
+    let over : p.chain ≡ chain (first_chunks 65536 p.index r.out) = chain_same ∙ (m.chain_is ∙ ap (λ (k : ℕ). chain (first_chunks 65536 k r.out)) (sym index)) in
+    let least : p.index ≡ min (length r.out / 65536) (outcome (unbox r.key r.nonce) 65536 (segment_of r)).index = index ∙ m.index in
+    record {
+      index = least;
+      file_id_is = file ∙ id;
+      chain_is = over;
+      tag_is = tag
+          ∙ (ap (λ (k : List ℕ). position_tag (position_key k unlocked.nonce) progress.index unlocked.id progress.chain) (sym key)
+          ∙ (ap (λ (k : List ℕ). position_tag (position_key r.key k) progress.index unlocked.id progress.chain) (sym nonce)
+          ∙ (ap (λ (k : ℕ). position_tag (position_key r.key r.nonce) k unlocked.id progress.chain) (sym index)
+          ∙ (ap (λ (k : List ℕ). position_tag (position_key r.key r.nonce) p.index k progress.chain) (sym file)
+          ∙ ap (λ (k : List ℕ). position_tag (position_key r.key r.nonce) p.index p.file_id k) (sym chain_same)))));
+      carries = λ text auth.
+          let rest = writes_of r begins text auth in
+          let positive : 0 < 65536 = omega arith in
+          let le : p.index ≤ length r.out / 65536 = omega (arith, least) in
+          let within : p.index * 65536 ≤ length r.out = (le-div_iff_mul-le positive).0 le in (
+            omega (arith, within, ap length rest.1, length-append r.out rest.0),
+            over ∙ (sym (ap chain (first_chunks-append 65536 p.index r.out rest.0 within)) ∙ ap (λ (t : List ℕ). chain (first_chunks 65536 p.index t)) rest.1),
+          );
+    }
+
+no_chain : replicate 32 0 ≡ chain (first_chunks 65536 0 [])
+unfolding chain
+no_chain = refl
+
 module _ (Allows : Header → List ℕ → Type 0) (Refused : Header → KeyFault → Type 0) where
   abbrev pub before : Option (List ℕ) → ℕ → Stage → Ports
   before a i old = record { coming = a; read_failed = i; taken = old.tally.taken; write_failed = old.tally.failed }
@@ -47,38 +89,68 @@ module _ (Allows : Header → List ℕ → Type 0) (Refused : Header → KeyFaul
   abbrev pub after : Stage → Ports
   after new = record { coming = new.coming; read_failed = new.read_failed; taken = new.tally.taken; write_failed = new.tally.failed }
 
-  answered : (a : Option (List ℕ)) (i : ℕ) (old new : Stage) (r : Run) (pulled : List ℕ) (result : Result (Unit {0}) FileFault) → old.read_failed ≡ i → Pulled a new.coming new.unread.pulls pulled
-      → IsRun Allows (before a i old) (after new) new.tally.progress.written r
-      → MatchResult result (λ _. PourDone (unbox r.key r.nonce) 65536 old new (segment_of r) r.out) (PourFails (unbox r.key r.nonce) 65536 old new (segment_of r) r.out)
-      → Decrypts Allows Refused (before a i old) (after new) new.tally.progress.written result
-  answered a i old new r pulled (Ok u) same h is f =
-      (r, record { wrote = record { is = is; whole = f.2; of = writes_of r is.prefix }; ended = f.0; done = f.1; all = writes_all r f.2 f.1; none_failed = (f.3.1 ∙ same, f.3.0) })
-  answered a i old new r pulled (Err (Stream x)) same h is f = (r, record { is = is; whole = f.1; of = writes_of r is.prefix }, f.0, (f.2.1 ∙ same, f.2.0))
-  answered a i old new r pulled (Err Write) same h is f = ((r, is, writes_of r is.prefix), f)
-  answered a i old new r pulled (Err Read) same h is f = (inr (r, record { is = is; whole = f.0; of = writes_of r is.prefix }), subst (λ (m : ℕ). HasRisen m new.read_failed) same f.1)
-  answered a i old new r pulled (Err ReadNeverEnds) same h is f = (inr (r, record { is = is; whole = f.0; of = writes_of r is.prefix }), (pulled, h.consumed, omega (arith, h.each_gave, f.1)))
-  answered a i old new r pulled (Err other) same h is f = absurd f
+  fails : (a : Option (List ℕ)) (i : ℕ) (old new : Stage) (r : Run) (pulled : List ℕ) (p : Position) (fault : FileFault) → old.read_failed ≡ i → Pulled a new.coming new.unread.pulls pulled
+      → IsRun Allows (before a i old) (after new) new.tally.progress.written r → IsPositionOf r p
+      → PourFails (unbox r.key r.nonce) 65536 old new (segment_of r) r.out fault
+      → DecryptFails Allows Refused (before a i old) (after new) new.tally.progress.written (Some p) fault
+  fails a i old new r pulled p (Stream x) same h is at f = (r, record { is = is; whole = f.1; of = writes_of r is.prefix }, at, f.0, (f.2.1 ∙ same, f.2.0))
+  fails a i old new r pulled p Write same h is at f = (r, is, writes_of r is.prefix, at, f)
+  fails a i old new r pulled p Read same h is at f = (inr (r, record { is = is; whole = f.0; of = writes_of r is.prefix }, at), subst (λ (m : ℕ). HasRisen m new.read_failed) same f.1)
+  fails a i old new r pulled p ReadNeverEnds same h is at f = (inr (r, record { is = is; whole = f.0; of = writes_of r is.prefix }, at), (pulled, h.consumed, omega (arith, h.each_gave, f.1)))
+  fails a i old new r pulled p other same h is at f = absurd f
 
-  pub decrypts : (a : Option (List ℕ)) (i : ℕ) (unlocked : Unlocked) (key : List ℕ) (old new : Stage) (result : Result (Unit {0}) FileFault) → old.tally.progress.written ≡ 0 → old.read_failed ≡ i
+  -- what was read and poured
+  pub record IsPoured (a : Option (List ℕ)) (i : ℕ) (unlocked : Unlocked) (old new : Stage) (result : Result (Unit {0}) FileFault) : Type 0 where
+    pub run : Run
+    pub key_is : run.key ≡ unlocked.key
+    pub nonce_is : run.nonce ≡ unlocked.nonce
+    pub id : unlocked.id ≡ file_id run.front run.nonce
+    pub is : IsRun Allows (before a i old) (after new) new.tally.progress.written run
+    pub pulled : Pulled a new.coming new.unread.pulls ((run.front ++ run.nonce) ++ run.bytes)
+    pub marks : IsMarked (unbox run.key run.nonce) 65536 run.out (segment_of run) new.tally.progress
+    pub answered : MatchResult result (λ _. PourDone (unbox run.key run.nonce) 65536 old new (segment_of run) run.out) (PourFails (unbox run.key run.nonce) 65536 old new (segment_of run) run.out)
+
+  pub poured : (a : Option (List ℕ)) (i : ℕ) (unlocked : Unlocked) (key : List ℕ) (old new : Stage) (result : Result (Unit {0}) FileFault)
+      → old.tally.progress.written ≡ 0 → old.tally.progress.index ≡ 0 → old.tally.progress.chain ≡ replicate 32 0
       → key ≡ payload_key unlocked.key unlocked.nonce → StartsAt Allows a old.coming old.unread unlocked
-      → Pours (λ nonce block. opening key nonce [] block) 65536 0 old new result
-      → Decrypts Allows Refused (before a i old) (after new) new.tally.progress.written result
-  decrypts a i unlocked key old new result none same is s q =
+      → Pours (λ nonce block. opening key nonce [] block) 65536 0 old new result → IsPoured a i unlocked old new result
+  poured a i unlocked key old new result none index chain_none is s q =
       let p = subst (λ (t : List ℕ). Pours (λ nonce block. opening t nonce [] block) 65536 0 old new result) is q in
       let head = s.front ++ unlocked.nonce in
-      let r : Run = record { header = s.header; front = s.front; key = unlocked.key; nonce = unlocked.nonce; bytes = p.bytes; ended = p.ended; out = p.out } in
       let all : Pulled a new.coming new.unread.pulls ((head ++ old.unread.bytes) ++ p.fresh) = p.pulled a (head ++ old.unread.bytes) s.pulled in
       let parts : (head ++ old.unread.bytes) ++ p.fresh ≡ head ++ p.bytes = append_assoc head old.unread.bytes p.fresh ∙ ap (λ (t : List ℕ). head ++ t) p.parts in
       let pulls : Pulled a new.coming new.unread.pulls (head ++ p.bytes) = subst (λ (t : List ℕ). Pulled a new.coming new.unread.pulls t) parts all in
-      answered a i old new r (head ++ p.bytes) result same pulls
-      (record { text = s.text; opens = s.opens; size = s.size; read = pulls.consumed; at_end = p.at_end; wrote = p.wrote; count = omega (arith, p.count, none); prefix = p.prefix })
-      p.answered
+      let zero_len : length {A = ℕ} [] ≡ 0 * 65536 = omega arith in
+      record {
+        run = record { header = s.header; front = s.front; key = unlocked.key; nonce = unlocked.nonce; bytes = p.bytes; ended = p.ended; out = p.out };
+        key_is = refl;
+        nonce_is = refl;
+        id = s.id;
+        is = record { text = s.text; opens = s.opens; size = s.size; read = pulls.consumed; at_end = p.at_end; wrote = p.wrote; count = omega (arith, p.count, none); prefix = p.prefix };
+        pulled = pulls;
+        marks = p.marks [] zero_len index (chain_none ∙ no_chain);
+        answered = p.answered;
+      }
+
+  pub decrypt_done : (a : Option (List ℕ)) (i : ℕ) (unlocked : Unlocked) (old new : Stage) → old.read_failed ≡ i → (p : IsPoured a i unlocked old new (Ok tt))
+      → DecryptDone Allows (before a i old) (after new) new.tally.progress.written p.run
+  decrypt_done a i unlocked old new same p =
+      let f = p.answered in
+      record { wrote = record { is = p.is; whole = f.2; of = writes_of p.run p.is.prefix }; ended = f.0; done = f.1; all = writes_all p.run f.2 f.1; none_failed = (f.3.1 ∙ same, f.3.0) }
+
+  pub decrypt_fails : (a : Option (List ℕ)) (i : ℕ) (unlocked : Unlocked) (old new : Stage) (fault : FileFault) (position : Position) → old.read_failed ≡ i → IsPoured a i unlocked old new (Err fault)
+      → position.index ≡ new.tally.progress.index → position.file_id ≡ unlocked.id → position.chain ≡ new.tally.progress.chain
+      → position.tag ≡ position_tag (position_key unlocked.key unlocked.nonce) new.tally.progress.index unlocked.id new.tally.progress.chain
+      → DecryptFails Allows Refused (before a i old) (after new) new.tally.progress.written (Some position) fault
+  decrypt_fails a i unlocked old new fault position same p index file chain_same tag =
+      fails a i old new p.run ((p.run.front ++ p.run.nonce) ++ p.run.bytes) position fault same p.pulled p.is
+      (position_is p.run unlocked new.tally.progress position p.key_is p.nonce_is p.id p.is.prefix p.marks index file chain_same tag) p.answered
 
   -- no payload came to be opened
-  pub start_fails : (old new : Ports) (written : ℕ) (fault : FileFault) → WritesNone old new written → StartFails Allows Refused old.coming new.coming old.read_failed new.read_failed fault
-      → DecryptFails Allows Refused old new written fault
-  start_fails old new written Read none f = (inl (none, f.0), f.1)
-  start_fails old new written ReadNeverEnds none f = (inl (none, f.0), f.1)
-  start_fails old new written (Stream x) none f = absurd f
-  start_fails old new written Write none f = absurd f
-  start_fails old new written other none f = (none, f)
+  pub start_fails : (old new : Ports) (fault : FileFault) → Appends old.taken new.taken [] → StartFails Allows Refused old.coming new.coming old.read_failed new.read_failed fault
+      → DecryptFails Allows Refused old new 0 None fault
+  start_fails old new Read none f = (inl ((none, refl, refl), f.0), f.1)
+  start_fails old new ReadNeverEnds none f = (inl ((none, refl, refl), f.0), f.1)
+  start_fails old new (Stream x) none f = absurd f
+  start_fails old new Write none f = absurd f
+  start_fails old new other none f = ((none, refl, refl), f)

@@ -1,5 +1,5 @@
 -- From what an opener did to the segment that it was given.
-use Rattle.std.proofs.Common.{◌≡◌, ℕ, List, [], ◌++◌, Option, refl, sym, ap, subst, ◌∙◌, append-nil, append_assoc, true, false}
+use Rattle.std.proofs.Common.{◌<◌, ◌*◌, length, ◌≡◌, ℕ, List, [], ◌++◌, Option, refl, sym, ap, subst, ◌∙◌, append-nil, append_assoc, true, false}
 use Rattle.std.specs.Prelude.{Result, MatchResult, Ok, Err}
 use Rattle.std.specs.List.{flat_map}
 use Rattle.age_stream.specs.declared.step.Status.TheVariants.{Done}
@@ -16,6 +16,11 @@ use Rattle.age_file.specs.Decrypts.{segment}
 use Rattle.age_file.specs.Pours.{Stage, Pours, PourFails, PourDone}
 use Rattle.age_file.specs.declared.fault.FileFault.{FileFault}
 use Rattle.age_file.specs.declared.fault.FileFault.TheVariants.{Stream, Read, Write, ReadNeverEnds}
+use Rattle.age_stream.specs.Lawful.{IsLawful}
+use Rattle.std.specs.Simd.{first_chunks}
+use Rattle.age_file.specs.Bindings.{chain}
+use Rattle.age_file.specs.Marks.{Marks, IsMarked}
+use Rattle.age_file.proofs.MarkSteps.{no_piece, mark_fresh, marked}
 use Rattle.age_file.proofs.ReleaseSteps.{releases_next}
 
 module _ (op : List ℕ → List ℕ → Option (List ℕ)) (n k : ℕ) where
@@ -29,7 +34,7 @@ module _ (op : List ℕ → List ℕ → Option (List ℕ)) (n k : ℕ) where
   exact fed left out cut e none whole =
       sym (append-nil out) ∙ (ap (λ (t : List ℕ). out ++ t) (sym whole) ∙ (sym e ∙ ap (λ (t : List ℕ). released op n (segment k t false)) (sym (append-nil fed) ∙ ap (λ (t : List ℕ). fed ++ t) (sym none))))
 
-module _ {B : Type 0} (opening : B → List ℕ → List ℕ → Option (List ℕ)) (n : ℕ) where
+module _ {B : Type 0} (sealing : B → List ℕ → List ℕ → List ℕ) (opening : B → List ℕ → List ℕ → Option (List ℕ)) (lawful : (key : B) → IsLawful (sealing key) (opening key)) (n : ℕ) (positive : 0 < n) where
   abbrev pub stage_of : Flow B → Stage
   stage_of f = record { tally = f.tally; coming = f.coming; read_failed = f.read_failed; unread = f.unread }
 
@@ -46,6 +51,16 @@ module _ {B : Type 0} (opening : B → List ℕ → List ℕ → Option (List �
         → (o : Releases opening n next old new was now cut) → new.status ≡ (outcome (opening K) n (next (fresh k))).status
     status_of next old new was now cut key h o =
         (o.stands (fresh k) h).status ∙ ap (λ c. (outcome (opening c) n (next (fresh k))).status) (o.key ∙ key)
+
+    -- what the progress then counts, behind a base
+    marks_of : (next : Segment → Segment) (old new : OpenerView B) (was now : Tally) (more cut : List ℕ) (last : Segment) → old.key ≡ K → Stands opening n old (fresh k)
+        → with_piece (next (fresh k)) more ≡ last → (o : Releases opening n next old new was now cut) → (base : List ℕ) → length base ≡ k * n → was.progress.index ≡ k
+        → was.progress.chain ≡ chain (first_chunks n k base) → IsMarked (opening K) n (base ++ o.out) last now.progress
+    marks_of next old new was now more cut last key h is o base len index chain_is =
+        let e = from_start next old new was now cut key h o in
+        let first = mark_fresh (sealing old.key) (opening old.key) (lawful old.key) n positive base k was.progress len index chain_is in
+        let m = subst (λ c. Marks (opening c) n base (next (fresh k)) cut now.progress) key (o.marks positive (fresh k) base len h first) in
+        marked (sealing K) (opening K) (lawful K) n positive base (next (fresh k)) last more o.out cut now.progress is e m
 
     stop_fails : (old new : Flow B) (fed left out cut : List ℕ) (fault : FileFault) → released (opening K) n (segment k fed false) ≡ out ++ cut
         → new.opener.status ≡ (outcome (opening K) n (segment k fed false)).status
@@ -76,6 +91,7 @@ module _ {B : Type 0} (opening : B → List ℕ → List ℕ → Option (List �
           wrote = f.releases.wrote;
           named = f.releases.named;
           count = f.releases.count;
+          marks = marks_of next old.opener new.opener old.tally new.tally a.left a.cut (segment k (f.fed ++ a.left) false) key h refl f.releases;
           prefix = prefix_of (opening K) n k f.fed a.left f.releases.out a.cut e;
           answered = stop_fails old new f.fed a.left f.releases.out a.cut fault e s a.answered;
         }
@@ -114,6 +130,7 @@ module _ {B : Type 0} (opening : B → List ℕ → List ℕ → Option (List �
           wrote = all.wrote;
           named = all.named;
           count = all.count;
+          marks = marks_of next old.opener new old.tally now [] c.cut (segment k f.fed true) key h (no_piece (segment k f.fed true)) all;
           prefix = (c.cut, sym e);
           answered = done_or_fails old mid new now f.fed all.out c.cut result go.2 e s c.answered;
         }

@@ -1,5 +1,5 @@
 -- Feeding an opener and writing what it releases, one call after another.
-use Rattle.std.proofs.Common.{◌≡◌, ℕ, ◌+◌, ◌≤◌, List, [], ◌++◌, length, take, Option, refl, sym, ap, subst, ◌∙◌, arith, append-nil, append_assoc}
+use Rattle.std.proofs.Common.{◌<◌, ◌*◌, Some, None, ◌≡◌, ℕ, ◌+◌, ◌≤◌, List, [], ◌++◌, length, take, Option, refl, sym, ap, subst, ◌∙◌, arith, append-nil, append_assoc}
 use Rattle.std.specs.List.{flat_map}
 use Rattle.std.specs.Borrow.{Bor}
 use Rattle.std.proofs.lemmas.Grind.{flat_map-append}
@@ -8,18 +8,24 @@ use Rattle.std.specs.Io.KnownBytes.{Appends}
 use Rattle.age_stream.specs.Segment.{Segment, outcome, released}
 use Rattle.age_stream.specs.Deliveries.{with_piece}
 use Rattle.age_stream.specs.Opening.{OpenerView, Stands, chunk_texts}
-use Rattle.age_stream.proofs.ReplaySteps.{pieces_join, with_bytes-nil, lent_flat}
+use Rattle.age_stream.proofs.ReplaySteps.{pieces_join, lent_flat}
 use Rattle.age_stream.specs.Lent.{lent_text}
 use Rattle.age_file.specs.Faults.{HasRisen}
 use Rattle.age_file.specs.Releases.{Tally, Releases, FeedGoes, FeedFails}
 use Rattle.age_file.specs.declared.fault.FileFault.{FileFault}
 use Rattle.age_file.specs.declared.fault.FileFault.TheVariants.{Stream, Write}
+use Rattle.age_stream.specs.Lawful.{IsLawful}
+use Rattle.age_file.specs.Bindings.{link}
+use Rattle.age_file.specs.declared.progress.Progress.{Progress}
+use Rattle.age_file.specs.Marks.{Advances, Marks}
+use Rattle.age_file.proofs.MarkSteps.{no_piece, piece_start, mark_step, mark_none, mark_cut}
 use Rattle.age_file.proofs.Bytes.{Appends-then}
 use Rattle.std.proofs.KnownBytes.{Appends-nil}
 
--- no bytes
-pub no_piece : (s : Segment) → with_piece s [] ≡ s
-no_piece s = ap (λ st. st.segment) (with_bytes-nil (record { given_up = []; base = []; segment = s; refused = 0 }))
+-- a chunk is one text at most
+chunk_few : (chunk : Option (Bor (List ℕ))) → length (chunk_texts chunk) ≤ 1
+chunk_few None = omega arith
+chunk_few (Some chunk) = omega arith
 
 -- more texts are more text
 pub more_text : (op : List ℕ → List ℕ → Option (List ℕ)) (n : ℕ) (s next : Segment) (ts : List (List ℕ)) (text : List ℕ)
@@ -39,6 +45,7 @@ module _ {B : Type 0} (opening : B → List ℕ → List ℕ → Option (List �
         count = omega arith;
         stands = λ s h. subst (Stands opening n o) (sym (no_piece s)) h;
         text = λ s h. ap (released (opening o.key) n) (no_piece s) ∙ sym (append-nil (released (opening o.key) n s));
+        marks = λ positive s base len h m. subst (λ (t : Segment). Marks (opening o.key) n base t [] was.progress) (sym (no_piece s)) m;
       }
 
   -- a step, and then a step to any next segment
@@ -61,6 +68,11 @@ module _ {B : Type 0} (opening : B → List ℕ → List ℕ → Option (List �
             let u : released op n (with_piece s a) ≡ r ++ p.out = p.text s h ∙ ap (λ (x : List ℕ). r ++ x) (append-nil p.out) in
             ap (released op n) (sym (same s)) ∙ (t ∙ (ap (λ (x : List ℕ). x ++ (q.out ++ cut)) u
             ∙ (append_assoc r p.out (q.out ++ cut) ∙ ap (λ (x : List ℕ). r ++ x) (sym (append_assoc p.out q.out cut)))));
+        marks = λ positive s base len h m.
+            let len' : length base ≡ (with_piece s a).start * n = len ∙ ap (λ (k : ℕ). k * n) (sym (piece_start s a)) in
+            let first = subst (λ k. Marks (opening k) n base (with_piece s a) [] between.progress) (sym p.key) (p.marks positive s base len h m) in
+            let then = q.marks positive (with_piece s a) base len' (p.stands s h) first in
+            subst (λ (t : Segment). Marks op n base t cut now.progress) (same s) (subst (λ k. Marks (opening k) n base (next (with_piece s a)) cut now.progress) p.key then);
       }
 
   pub releases_then : (a b : List ℕ) (old mid new : OpenerView B) (was between now : Tally) (cut : List ℕ)
@@ -68,14 +80,51 @@ module _ {B : Type 0} (opening : B → List ℕ → List ℕ → Option (List �
       → Releases opening n (λ s. with_piece s (a ++ b)) old new was now cut
   releases_then a b old mid new was between now cut p q = releases_next a (λ s. with_piece s b) (λ s. with_piece s (a ++ b)) old mid new was between now cut (λ s. pieces_join s a b) p q
 
+  -- what `marks` asks of a piece that was fed
+  abbrev pub IsMarkedOn : OpenerView B → List ℕ → Progress → Progress → List ℕ → Type 0
+  IsMarkedOn old fed was now cut =
+      0 < n → (s : Segment) (base : List ℕ) → length base ≡ s.start * n → Stands opening n old s
+      → Marks (opening old.key) n base s [] was → Marks (opening old.key) n base (with_piece s fed) cut now
+
+  -- what the opener lent of a piece was written whole, and counted
+  pub marks_whole : (sealing : List ℕ → List ℕ → List ℕ) (old new : OpenerView B) (was now : Progress) (fed : List ℕ) (chunk : Option (Bor (List ℕ))) (index : ℕ) (link_is : List ℕ)
+      → IsLawful sealing (opening old.key) → new.key ≡ old.key → index ≡ new.index
+      → ((s : Segment) → Stands opening n old s → Stands opening n new (with_piece s fed))
+      → ((s : Segment) → Stands opening n old s → (outcome (opening old.key) n (with_piece s fed)).texts ≡ (outcome (opening old.key) n s).texts ++ chunk_texts chunk)
+      → link_is ≡ link was.chain (lent_text chunk)
+      → Advances was.index was.chain index link_is now → IsMarkedOn old fed was now []
+  marks_whole sealing old new was now fed chunk index link_is lawful key is stands texts linked a positive s base len h m =
+      let a' = subst (λ (l : List ℕ). Advances was.index was.chain index l now) (linked ∙ ap (link was.chain) (sym (lent_flat chunk))) a in
+      let at : index ≡ (outcome (opening old.key) n (with_piece s fed)).index = is ∙ ((stands s h).index ∙ ap (λ k. (outcome (opening k) n (with_piece s fed)).index) key) in
+      mark_step sealing (opening old.key) lawful n positive base s fed (chunk_texts chunk) index was now len h.timely (stands s h).timely (texts s h) (chunk_few chunk) at a' m
+
+  -- the opener refused it, and lent nothing
+  pub marks_refused : (sealing : List ℕ → List ℕ → List ℕ) (old new : OpenerView B) (was : Progress) (fed : List ℕ)
+      → IsLawful sealing (opening old.key)
+      → ((s : Segment) → Stands opening n old s → Stands opening n new (with_piece s fed))
+      → ((s : Segment) → Stands opening n old s → (outcome (opening old.key) n (with_piece s fed)).texts ≡ (outcome (opening old.key) n s).texts ++ [])
+      → IsMarkedOn old fed was was []
+  marks_refused sealing old new was fed lawful stands texts positive s base len h m =
+      mark_none sealing (opening old.key) lawful n positive base s fed was len h.timely (stands s h).timely (texts s h) m
+
+  -- some of what it lent was not written
+  pub marks_cut : (sealing : List ℕ → List ℕ → List ℕ) (old new : OpenerView B) (was now : Progress) (fed : List ℕ) (chunk : Option (Bor (List ℕ))) (out cut : List ℕ)
+      → IsLawful sealing (opening old.key)
+      → ((s : Segment) → Stands opening n old s → Stands opening n new (with_piece s fed))
+      → ((s : Segment) → Stands opening n old s → (outcome (opening old.key) n (with_piece s fed)).texts ≡ (outcome (opening old.key) n s).texts ++ chunk_texts chunk)
+      → lent_text chunk ≡ out ++ cut → 0 < length cut → now.index ≡ was.index → now.chain ≡ was.chain → IsMarkedOn old fed was now cut
+  marks_cut sealing old new was now fed chunk out cut lawful stands texts lent some index chain_same positive s base len h m =
+      mark_cut sealing (opening old.key) lawful n positive base s fed (chunk_texts chunk) out cut was now len h.timely (stands s h).timely (texts s h) (chunk_few chunk) (lent_flat chunk ∙ lent) some index chain_same m
+
   -- a call that took the front of a piece and lent a chunk, of which so much was written
   pub fed_front : (old new : OpenerView B) (was now : Tally) (piece : List ℕ) (taken : ℕ) (chunk : Option (Bor (List ℕ))) (out cut : List ℕ)
       → new.key ≡ old.key
       → ((s : Segment) → Stands opening n old s → Stands opening n new (with_piece s (take taken piece)))
       → ((s : Segment) → Stands opening n old s → (outcome (opening old.key) n (with_piece s (take taken piece))).texts ≡ (outcome (opening old.key) n s).texts ++ chunk_texts chunk)
       → lent_text chunk ≡ out ++ cut → Appends was.taken now.taken out → now.label ≡ was.label → now.progress.written ≡ was.progress.written + length out
+      → IsMarkedOn old (take taken piece) was.progress now.progress cut
       → Releases opening n (λ s. with_piece s (take taken piece)) old new was now cut
-  fed_front old new was now piece taken chunk out cut key stands texts lent wrote named count =
+  fed_front old new was now piece taken chunk out cut key stands texts lent wrote named count marks =
       record {
         out = out;
         key = key;
@@ -84,6 +133,7 @@ module _ {B : Type 0} (opening : B → List ℕ → List ℕ → Option (List �
         count = count;
         stands = stands;
         text = λ s h. more_text (opening old.key) n s (with_piece s (take taken piece)) (chunk_texts chunk) (out ++ cut) (texts s h) (lent_flat chunk ∙ lent);
+        marks = marks;
       }
 
   -- how much it then holds and wrote

@@ -1,5 +1,6 @@
 -- What a decryption did.
-use Rattle.std.specs.Prelude.{◌≡◌, ◌⊎◌, ℕ, ◌≤◌, List, [], ◌++◌, length, Option, Some, Result, Ok, Err, Bool, true, false}
+use Rattle.std.specs.Prelude.{◌≡◌, ◌⊎◌, ℕ, ◌*◌, ◌/◌, ◌≤◌, min, List, [], ◌++◌, length, Option, Some, None, IsSomeAnd, Bool, true, false}
+use Rattle.std.specs.Simd.{first_chunks}
 use Rattle.std.specs.Io.KnownBytes.{Consumes, Appends, IsAtEnd}
 use Rattle.age_stanza.specs.declared.header.Header.{Header}
 use Rattle.age_stanza.specs.Grammar.{HeadText}
@@ -9,26 +10,16 @@ use Rattle.age_stream.specs.Segment.{Segment, outcome, released}
 use Rattle.age_stream.specs.Headline.{IsPrefixOf, IsAuthentic}
 use Rattle.age_keys.specs.declared.fault.KeyFault.{KeyFault}
 use Rattle.age_keys.specs.declared.fault.KeyFault.TheVariants.{Memory as KeyMemory}
-use Rattle.age_keys.specs.Keys.{IsScryptBeside}
+use Rattle.age_keys.specs.Keys.{IsScryptBeside, position_key}
 use Rattle.age_keys.specs.Opened.{Opens}
 use Rattle.age_file.specs.Faults.{HasRisen, NeverEnds, IsShort}
 use Rattle.age_file.specs.AgeFile.{box, unbox, FileOf}
+use Rattle.age_file.specs.Bindings.{file_id, chain, position_tag}
+use Rattle.age_file.specs.declared.position.Position.{Position}
+use Rattle.age_file.specs.Ports.{Ports, NoneFailed}
 use Rattle.age_file.specs.Starts.{StartFails}
 use Rattle.age_file.specs.declared.fault.FileFault.{FileFault}
 use Rattle.age_file.specs.declared.fault.FileFault.TheVariants.{Stream, Read, Write, Memory, ReadNeverEnds}
-
--- what a source has to come and a sink took, and how often each failed
-pub record Ports : Type 0 where
-  pub coming : Option (List ℕ)
-  pub read_failed : ℕ
-  pub taken : Option (List ℕ)
-  pub write_failed : ℕ
-
-abbrev pub ports : Option (List ℕ) → ℕ → Option (List ℕ) → ℕ → Ports
-ports coming read_failed taken write_failed = record { coming = coming; read_failed = read_failed; taken = taken; write_failed = write_failed }
-
-abbrev pub NoneFailed : Ports → Ports → Type 0
-NoneFailed old new = (new.read_failed ≡ old.read_failed) × (new.write_failed ≡ old.write_failed)
 
 -- one piece from a start, with an end or without
 abbrev pub segment : ℕ → List ℕ → Bool → Segment
@@ -74,28 +65,34 @@ WritesOf r = (text : List ℕ) → IsAuthenticRun r text → IsPrefixOf r.out te
 abbrev pub WritesAll : Run → Type 0
 WritesAll r = (text : List ℕ) → IsAuthenticRun r text → r.out ≡ text
 
--- nothing was written
-abbrev pub WritesNone : Ports → Ports → ℕ → Type 0
-WritesNone old new written = Appends old.taken new.taken [] × (written ≡ 0)
+-- and a position carries the chain over that text's first chunks
+abbrev pub CarriesOf : Run → Position → Type 0
+CarriesOf r p = (text : List ℕ) → IsAuthenticRun r text → (p.index * 65536 ≤ length text) × (p.chain ≡ chain (first_chunks 65536 p.index text))
 
-module _ (Allows : Header → List ℕ → Type 0) (Refused : Header → KeyFault → Type 0) where
+-- where a reader may go on: the whole chunks that were written, as far as they were released as not last, with the file's
+-- id, the chain over those chunks, and the tag
+pub record IsPositionOf (r : Run) (p : Position) : Type 0 where
+  pub index : p.index ≡ min (length r.out / 65536) (outcome (unbox r.key r.nonce) 65536 (segment_of r)).index
+  pub file_id_is : p.file_id ≡ file_id r.front r.nonce
+  pub chain_is : p.chain ≡ chain (first_chunks 65536 p.index r.out)
+  pub tag_is : p.tag ≡ position_tag (position_key r.key r.nonce) p.index p.file_id p.chain
+  pub carries : CarriesOf r p
+
+-- nothing was written, and there is no position
+abbrev pub WritesNone : Ports → Ports → ℕ → Option Position → Type 0
+WritesNone old new written position = Appends old.taken new.taken [] × (written ≡ 0) × (position ≡ None)
+
+module _ (Allows : Header → List ℕ → Type 0) where
   -- a run of which all text was written
   pub record Wrote (old new : Ports) (written : ℕ) (r : Run) : Type 0 where
     pub is : IsRun Allows old new written r
     pub whole : r.out ≡ text_of r
     pub of : WritesOf r
 
-  -- a run of which all text was written, or none yet: fewer bytes were pulled than a header and a nonce
-  abbrev pub WroteSoFar : Ports → Ports → ℕ → Type 0
-  WroteSoFar old new written = (WritesNone old new written × IsShort old.coming new.coming) ⊎ ((r : Run) × Wrote old new written r)
-
-  abbrev pub DecryptFails : Ports → Ports → ℕ → FileFault → Type 0
-  DecryptFails old new written (Stream fault) =
-      (r : Run) × Wrote old new written r × ((outcome (unbox r.key r.nonce) 65536 (segment_of r)).status ≡ Failed fault) × NoneFailed old new
-  DecryptFails old new written Write = ((r : Run) × IsRun Allows old new written r × WritesOf r) × HasRisen old.write_failed new.write_failed
-  DecryptFails old new written Read = WroteSoFar old new written × HasRisen old.read_failed new.read_failed
-  DecryptFails old new written ReadNeverEnds = WroteSoFar old new written × NeverEnds old.coming new.coming
-  DecryptFails old new written fault = WritesNone old new written × StartFails Allows Refused old.coming new.coming old.read_failed new.read_failed fault
+  -- a run of which all text was written, with its position; or none yet: fewer bytes were pulled than a header and a nonce
+  abbrev pub WroteSoFar : Ports → Ports → ℕ → Option Position → Type 0
+  WroteSoFar old new written position =
+      (WritesNone old new written position × IsShort old.coming new.coming) ⊎ ((r : Run) × Wrote old new written r × IsSomeAnd position (IsPositionOf r))
 
   -- the source ended, the end is reported, and all was written
   pub record DecryptDone (old new : Ports) (written : ℕ) (r : Run) : Type 0 where
@@ -105,9 +102,17 @@ module _ (Allows : Header → List ℕ → Type 0) (Refused : Header → KeyFaul
     pub all : WritesAll r
     pub none_failed : NoneFailed old new
 
-  abbrev pub Decrypts : Ports → Ports → ℕ → Result (Unit {0}) FileFault → Type 0
-  Decrypts old new written (Ok done) = (r : Run) × DecryptDone old new written r
-  Decrypts old new written (Err fault) = DecryptFails old new written fault
+  -- when each fault comes, and what was written then
+  abbrev pub DecryptFails : (Header → KeyFault → Type 0) → Ports → Ports → ℕ → Option Position → FileFault → Type 0
+  DecryptFails Refused old new written position (Stream fault) =
+      (r : Run) × Wrote old new written r × IsSomeAnd position (IsPositionOf r)
+      × ((outcome (unbox r.key r.nonce) 65536 (segment_of r)).status ≡ Failed fault) × NoneFailed old new
+  DecryptFails Refused old new written position Write =
+      (r : Run) × IsRun Allows old new written r × WritesOf r × IsSomeAnd position (IsPositionOf r) × HasRisen old.write_failed new.write_failed
+  DecryptFails Refused old new written position Read = WroteSoFar old new written position × HasRisen old.read_failed new.read_failed
+  DecryptFails Refused old new written position ReadNeverEnds = WroteSoFar old new written position × NeverEnds old.coming new.coming
+  DecryptFails Refused old new written position fault =
+      WritesNone old new written position × StartFails Allows Refused old.coming new.coming old.read_failed new.read_failed fault
 
 -- the source is an age file of this text, and the unlocker has its key and no other, and no fault but want of memory; no block of the payload
 -- opens except as its writer sealed it

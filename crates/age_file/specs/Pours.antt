@@ -1,5 +1,6 @@
 -- What was made of the bytes behind a nonce. Only private functions cite this. A chunk has n bytes.
 use Rattle.std.specs.Prelude.{◌≡◌, ℕ, ◌+◌, ◌*◌, ◌^◌, ◌≤◌, List, ◌++◌, length, Option, Result, MatchResult, Bool, true}
+use Rattle.std.specs.Simd.{first_chunks}
 use Rattle.std.specs.Io.KnownBytes.{Appends, IsAtEnd}
 use Rattle.age_stream.specs.declared.step.Status.TheVariants.{Failed, Done}
 use Rattle.age_stream.specs.Segment.{Segment, outcome, released}
@@ -8,6 +9,8 @@ use Rattle.age_file.specs.Faults.{HasRisen}
 use Rattle.age_file.specs.Unread.{Unread}
 use Rattle.age_file.specs.Intakes.{Pulled}
 use Rattle.age_file.specs.Releases.{Tally}
+use Rattle.age_file.specs.Bindings.{chain}
+use Rattle.age_file.specs.Marks.{IsMarked}
 use Rattle.age_file.specs.Decrypts.{segment}
 use Rattle.age_file.specs.declared.fault.FileFault.{FileFault}
 use Rattle.age_file.specs.declared.fault.FileFault.TheVariants.{Stream, Read, Write, ReadNeverEnds}
@@ -53,4 +56,6 @@ module _ (opening : List ℕ → List ℕ → Option (List ℕ)) (n : ℕ) where
     pub named : new.tally.label ≡ old.tally.label
     pub count : new.tally.progress.written ≡ old.tally.progress.written + length out
     pub prefix : IsPrefixOf out (released opening n (segment start bytes ended))
+    pub marks : (base : List ℕ) → length base ≡ start * n → old.tally.progress.index ≡ start → old.tally.progress.chain ≡ chain (first_chunks n start base)
+        → IsMarked opening n (base ++ out) (segment start bytes ended) new.tally.progress
     pub answered : MatchResult result (λ _. PourDone old new (segment start bytes ended) out) (PourFails old new (segment start bytes ended) out)

@@ -1,11 +1,12 @@
 -- What an opener was fed, and what of its text was written. Only private functions cite this. A chunk has n bytes.
-use Rattle.std.specs.Prelude.{◌≡◌, ℕ, ◌+◌, ◌≤◌, List, [], ◌++◌, length, Option, Result, MatchResult}
+use Rattle.std.specs.Prelude.{◌≡◌, ℕ, ◌+◌, ◌*◌, ◌<◌, ◌≤◌, List, [], ◌++◌, length, Option, Result, MatchResult}
 use Rattle.std.specs.Io.KnownBytes.{Appends}
 use Rattle.age_stream.specs.declared.step.Status.TheVariants.{Failed, Done}
 use Rattle.age_stream.specs.Segment.{Segment, released}
 use Rattle.age_stream.specs.Deliveries.{with_piece, with_end}
 use Rattle.age_stream.specs.Opening.{OpenerView, Stands}
 use Rattle.age_file.specs.Faults.{HasRisen}
+use Rattle.age_file.specs.Marks.{Marks}
 use Rattle.age_file.specs.declared.progress.Progress.{Progress}
 use Rattle.age_file.specs.declared.fault.FileFault.{FileFault}
 use Rattle.age_file.specs.declared.fault.FileFault.TheVariants.{Stream, Write}
@@ -21,7 +22,8 @@ abbrev pub tally : Option (List ℕ) → ℕ → List ℕ → Progress → Tally
 tally taken failed label progress = record { taken = taken; failed = failed; label = label; progress = progress }
 
 module _ {B : Type 0} (opening : B → List ℕ → List ℕ → Option (List ℕ)) (n : ℕ) where
-  -- for each segment that the opener stood for, it stands for the next, whose text is more by what was written and what was cut off
+  -- for each segment that the opener stood for, it stands for the next, whose text is more by what was written and what was cut off;
+  -- behind any base, the progress goes on counting the chunks that were written
   pub record Releases (next : Segment → Segment) (old new : OpenerView B) (was now : Tally) (cut : List ℕ) : Type 0 where
     pub out : List ℕ
     pub key : new.key ≡ old.key
@@ -30,6 +32,8 @@ module _ {B : Type 0} (opening : B → List ℕ → List ℕ → Option (List �
     pub count : now.progress.written ≡ was.progress.written + length out
     pub stands : (s : Segment) → Stands opening n old s → Stands opening n new (next s)
     pub text : (s : Segment) → Stands opening n old s → released (opening old.key) n (next s) ≡ released (opening old.key) n s ++ (out ++ cut)
+    pub marks : 0 < n → (s : Segment) (base : List ℕ) → length base ≡ s.start * n → Stands opening n old s
+        → Marks (opening old.key) n base s [] was.progress → Marks (opening old.key) n base (next s) cut now.progress
 
   -- a fault of the opener, or of the sink, with what was left of the piece and cut off
   abbrev pub FeedFails : OpenerView B → Tally → Tally → List ℕ → List ℕ → FileFault → Type 0

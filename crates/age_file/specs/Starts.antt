@@ -7,6 +7,7 @@ use Rattle.age_keys.specs.declared.fault.KeyFault.{KeyFault}
 use Rattle.age_keys.specs.declared.fault.KeyFault.TheVariants.{Memory as KeyMemory}
 use Rattle.age_keys.specs.Opened.{Opens, Refuses}
 use Rattle.age_file.specs.Faults.{HasRisen, TellsFault, NeverEnds, IsShort}
+use Rattle.age_file.specs.Bindings.{file_id}
 use Rattle.age_file.specs.Unread.{Unread}
 use Rattle.age_file.specs.Intakes.{Pulled, PullFails}
 use Rattle.age_file.specs.declared.start.Unlocked.{Unlocked}
@@ -41,6 +42,7 @@ pub record StartsAt (Allows : Header → List ℕ → Type 0) (old new : Option 
   pub text : HeadText header front
   pub opens : Opens Allows header unlocked.key
   pub size : length unlocked.nonce ≡ 16
+  pub id : unlocked.id ≡ file_id front unlocked.nonce
   pub pulled : Pulled old new unread.pulls ((front ++ unlocked.nonce) ++ unread.bytes)
 
 -- why there is no payload

@@ -1,5 +1,5 @@
 -- What a write of some bytes did.
-use Rattle.std.specs.Prelude.{◌≡◌, ℕ, ◌+◌, List, [], ◌++◌, length, Option, Result, MatchResult}
+use Rattle.std.specs.Prelude.{◌≡◌, ℕ, ◌+◌, ◌<◌, List, [], ◌++◌, length, Option, Result, MatchResult, OnErr}
 use Rattle.std.specs.Io.KnownBytes.{Appends}
 use Rattle.age_file.specs.declared.failed.Failed.{Failed}
 use Rattle.age_file.specs.Faults.{HasRisen}
@@ -12,3 +12,4 @@ pub record Writes (taken_old taken_new : Option (List ℕ)) (failed_old failed_n
   pub wrote : Appends taken_old taken_new out
   pub count : written_new ≡ written_old + length out
   pub answered : MatchResult result (λ _. (cut ≡ []) × (failed_new ≡ failed_old)) (λ _. HasRisen failed_old failed_new)
+  pub stopped : OnErr result (0 < length cut)

@@ -1,16 +1,21 @@
 //! Decrypts a file.
 
-ghost use Rattle.std.specs.Prelude.{◌≡◌, ℕ, List, Ok, Err, IfOk, IfErr};
-ghost use Rattle.age_file.specs.Decrypts.{ports, Decrypts, DecryptDone, DecryptFails, Run, IsUndamaged, StopsOutside};
+ghost use Rattle.std.specs.Prelude.{◌≡◌, ℕ, List, None, Some, IfOk, IfErr, replicate};
+ghost use Rattle.age_keys.specs.Keys.{position_key};
+ghost use Rattle.age_file.specs.Ports.{ports};
+ghost use Rattle.age_file.specs.Bindings.{position_tag};
+ghost use Rattle.age_file.specs.Decrypts.{DecryptDone, DecryptFails, Run, IsUndamaged, StopsOutside};
 
 use crate::fault::FileFault;
 use crate::intake::Intake;
+use crate::position::Position;
 use crate::pour::pour;
 use crate::progress::Progress;
 use crate::sink::Sink;
 use crate::source::Source;
-use crate::start::start;
-use age_keys::{PayloadKey, Unlock, payload_key};
+use crate::start::{Unlocked, start};
+use age_keys::{PayloadKey, Unlock, payload_key, position_key};
+use age_stanza::one_header;
 use std::alloc::Global;
 
 /// A file was decrypted to its end, into so many bytes.
@@ -20,62 +25,83 @@ pub struct Done {
     pub written: u128,
 }
 
-/// Why a decryption stopped, and how many bytes were written.
+/// Why a decryption stopped, and how far it came.
 #[derive(Clone, Copy, Debug, PartialEq, Eq)]
 pub struct Stopped {
     /// Why it stopped.
     pub fault: FileFault,
     /// How many bytes were written.
     pub written: u128,
+    /// Where a reader may go on, from the moment the payload nonce was read: behind the whole chunks before the last that
+    /// were written.
+    pub position: Option<Position>,
 }
 
-fn decrypt_into<U: Unlock, S: Source, O: Sink>(
-    alloc: Global,
-    unlock: &U,
-    source: &mut S,
-    sink: &mut O,
-    progress: &mut Progress,
-) -> Result<(), FileFault>
-    requires { progress.old.written ≡ 0 }
-    ensures decrypts { Decrypts (U.allows unlock.now) (U.refuses unlock.now)
-        (ports (S.remaining source.old) (S.failed source.old) (O.taken sink.old) (O.failed sink.old))
-        (ports (S.remaining source.new) (S.failed source.new) (O.taken sink.new) (O.failed sink.new)) progress.new.written result }
-    ensures named { O.label sink.new ≡ O.label sink.old }
+impl Stopped {
+    /// A stop before anything was written.
+    fn early(fault: FileFault) -> Stopped
+        ensures { result ≡ record { fault = fault; written = 0; position = None } }
+    {
+        Stopped {
+            fault,
+            written: 0,
+            position: None,
+        }
+    }
+}
+
+/// Where a reader of this file may go on.
+fn position_of(unlocked: &Unlocked, progress: &Progress) -> Position
+    ensures index { result.index ≡ progress.now.index }
+    ensures file_id { result.file_id ≡ unlocked.now.id }
+    ensures chain { result.chain ≡ progress.now.chain }
+    ensures tag { result.tag ≡ position_tag (position_key unlocked.now.key unlocked.now.nonce) progress.now.index unlocked.now.id progress.now.chain }
 {
-    let Ok(mut intake) = Intake::new(alloc) else {
-        return Err(FileFault::Memory);
-    };
-    let unlocked = match start(alloc, unlock, source, &mut intake) {
-        Ok(unlocked) => unlocked,
-        Err(fault) => return Err(fault),
-    };
-    let key = payload_key(&unlocked.key, &unlocked.nonce);
-    pour::<PayloadKey, 65552, S, O>(&key, 0, source, &mut intake, sink, progress)
+    let key = position_key(&unlocked.key, &unlocked.nonce);
+    Position::tagged(&key, progress.index, unlocked.id, progress.chain)
 }
 
-/// Decrypts a file: opens its header, and writes each chunk once its tag was checked.
+/// Decrypts a file: opens its header, and writes each chunk of the text once the tag of its block was checked (C2SP
+/// age.md). It reads to the end of the source, and flushes before it answers that it is done.
+///
+/// It stops with the header's fault (1 to 8), the unlocker's or a wrong header MAC (9 to 15), `NonceCut` (16), a fault of
+/// the payload (17 to 22), `Read` (26), `Write` (27), `Memory` (28) and `ReadNeverEnds` (29). All memory is taken before
+/// the payload nonce is read, so that nothing was written where it was refused.
 pub fn decrypt<U: Unlock, S: Source, O: Sink>(
     alloc: Global,
     unlock: &U,
     reader: &mut S,
     writer: &mut O,
 ) -> Result<Done, Stopped>
-    ensures done { IfOk result (λ done. (r : Run) × DecryptDone (U.allows unlock.now) (U.refuses unlock.now)
+    ensures done { IfOk result (λ done. (r : Run) × DecryptDone (U.allows unlock.now)
         (ports (S.remaining reader.old) (S.failed reader.old) (O.taken writer.old) (O.failed writer.old))
         (ports (S.remaining reader.new) (S.failed reader.new) (O.taken writer.new) (O.failed writer.new)) done.written r) }
     ensures stopped { IfErr result (λ stopped. DecryptFails (U.allows unlock.now) (U.refuses unlock.now)
         (ports (S.remaining reader.old) (S.failed reader.old) (O.taken writer.old) (O.failed writer.old))
-        (ports (S.remaining reader.new) (S.failed reader.new) (O.taken writer.new) (O.failed writer.new)) stopped.written stopped.fault) }
+        (ports (S.remaining reader.new) (S.failed reader.new) (O.taken writer.new) (O.failed writer.new)) stopped.written stopped.position stopped.fault) }
+    // An age file that is undamaged is decrypted, unless reading, writing or memory fails.
+    ensures undamaged { (text : List ℕ) → IsUndamaged (U.allows unlock.now) (U.refuses unlock.now) (S.remaining reader.old) text
+        → IfErr result (λ stopped. StopsOutside stopped.fault) }
     ensures named { O.label writer.new ≡ O.label writer.old }
 {
+    one_header();
+    let Ok(mut intake) = Intake::new(alloc) else {
+        return Err(Stopped::early(FileFault::Memory));
+    };
+    let unlocked = match start(alloc, unlock, reader, &mut intake) {
+        Ok(unlocked) => unlocked,
+        Err(fault) => return Err(Stopped::early(fault)),
+    };
+    let key = payload_key(&unlocked.key, &unlocked.nonce);
     let mut progress = Progress::new();
-    match decrypt_into(alloc, unlock, reader, writer, &mut progress) {
+    match pour::<PayloadKey, 65552, S, O>(&key, 0, reader, &mut intake, writer, &mut progress) {
         Ok(()) => Ok(Done {
             written: progress.written,
         }),
         Err(fault) => Err(Stopped {
             fault,
             written: progress.written,
+            position: Some(position_of(&unlocked, &progress)),
         }),
     }
 }

@@ -1,17 +1,29 @@
 //! Opens what a source gives, and writes each chunk once its tag was checked.
 
 ghost use Rattle.std.specs.Prelude.{◌≡◌, ◌+◌, ◌-◌, ◌*◌, ◌^◌, ◌<◌, ◌≤◌, [], length, IfOk};
+ghost use Rattle.age_stream.specs.Lent.{lent_text};
 ghost use Rattle.age_file.specs.Releases.{tally, FeedsOnce, FeedsPiece, Closes};
 ghost use Rattle.age_file.specs.Flows.{flow, HasRoom, Turns, OpensAll};
 ghost use Rattle.age_file.specs.Pours.{stage, HasPlace, Pours};
 
 use crate::fault::FileFault;
 use crate::intake::Intake;
+use crate::position::next_link;
 use crate::progress::Progress;
 use crate::put::put_all;
 use crate::sink::Sink;
 use crate::source::Source;
 use age_stream::{ChunkBox, Opener};
+
+/// The bytes of a chunk that was lent, or none.
+fn lent_bytes(chunk: Option<&[u8]>) -> &[u8]
+    ensures { result.now ≡ lent_text chunk.entry }
+{
+    match chunk {
+        Some(chunk) => chunk,
+        None => &[],
+    }
+}
 
 /// Feeds the front of a piece, and writes the chunk that comes out.
 fn feed_once<B: ChunkBox, const SEALED: usize, O: Sink>(
@@ -26,18 +38,18 @@ fn feed_once<B: ChunkBox, const SEALED: usize, O: Sink>(
         (tally (O.taken sink.new) (O.failed sink.new) (O.label sink.new) progress.new) piece.now result }
     ensures some { IfOk result (λ n. 0 < length piece.now → 0 < n) }
 {
-    match opener.feed(piece) {
-        Err(fault) => Err(FileFault::Stream(fault)),
+    let (taken, link) = match opener.feed(piece) {
+        Err(fault) => return Err(FileFault::Stream(fault)),
         Ok(step) => {
-            let taken = step.taken;
-            if let Some(chunk) = step.chunk {
-                let Ok(()) = put_all(sink, chunk, &mut progress.written) else {
-                    return Err(FileFault::Write);
-                };
-            }
-            Ok(taken)
+            let chunk = lent_bytes(step.chunk);
+            let Ok(()) = put_all(sink, chunk, &mut progress.written) else {
+                return Err(FileFault::Write);
+            };
+            (step.taken, next_link(&progress.chain, chunk))
         }
-    }
+    };
+    progress.advance(opener.index(), link);
+    Ok(taken)
 }
 
 /// Feeds a whole piece, and writes the chunks that come out.

@@ -6,9 +6,10 @@ ghost use Rattle.age_file.specs.Starts.{Uses, SomeAnswers, NonceFails, StartsAt,
 use crate::fault::FileFault;
 use crate::head::read_head;
 use crate::intake::Intake;
+use crate::position::file_id;
 use crate::source::Source;
 use age_keys::{FileKey, Unlock, open_header};
-use age_stanza::one_header;
+use age_stanza::{encode_head, one_header};
 use std::alloc::Global;
 
 /// What a file's payload is opened with.
@@ -16,6 +17,8 @@ use std::alloc::Global;
 pub(crate) struct Unlocked {
     pub(crate) key: FileKey,
     pub(crate) nonce: [u8; 16],
+    // what tells the file from others
+    pub(crate) id: [u8; 32],
 }
 
 /// Sees that some byte is there. False: the source is at its end.
@@ -82,8 +85,15 @@ pub(crate) fn start<U: Unlock, S: Source>(
         Ok(key) => key,
         Err(fault) => return Err(FileFault::from(fault)),
     };
+    let front = match encode_head(alloc, &header) {
+        Ok(front) => front,
+        Err(fault) => return Err(FileFault::from(fault)),
+    };
     match take_nonce(source, intake) {
-        Ok(nonce) => Ok(Unlocked { key, nonce }),
+        Ok(nonce) => {
+            let id = file_id(front.as_slice(), &nonce);
+            Ok(Unlocked { key, nonce, id })
+        }
         Err(fault) => Err(fault),
     }
 }

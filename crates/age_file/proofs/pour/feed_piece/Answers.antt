@@ -1,6 +1,6 @@
 use Rattle.std.proofs.Common.{◌≡◌, ◌+◌, ◌-◌, length, take, drop, sym, ap, ◌∙◌, arith, List, ℕ, [], ◌++◌, append-nil, refl, take-add}
 use Rattle.std.proofs.lemmas.List.{take_rest, take-append-drop, length-append, length-drop, append_assoc, take_at, take_all}
-use Rattle.age_file.proofs.ReleaseSteps.{both_then, releases_then, fails_then}
+use Rattle.age_file.proofs.ReleaseSteps.{both_then, releases_none, releases_then, fails_then}
 use Rattle.age_file.specs.Releases.{tally}
 use Rattle.age_file.proofs.pour.feed_piece.Goals as goal
 
@@ -14,6 +14,15 @@ on piece fed left at n parts count =
 all_of : (piece fed left : List ℕ) (at : ℕ) → take (length piece - at) (drop at piece) ≡ fed ++ left → piece ≡ (take at piece ++ fed) ++ left
 all_of piece fed left at parts =
     sym (take-append-drop at piece) ∙ (ap (λ (t : List ℕ). take at piece ++ t) (sym (take_rest piece at) ∙ parts) ∙ sym (append_assoc (take at piece) fed left))
+
+pub loop-at-init : goal.loop-at-init
+loop-at-init g c =
+    let was = tally (g.O.Sink.taken c.args.sink.now) (g.O.Sink.failed c.args.sink.now) (g.O.Sink.label c.args.sink.now) c.args.progress.now in
+    record {
+      within = omega arith;
+      releases = releases_none g.B.ChunkBox.opening (g.row.SEALED - 16) c.args.opener.now was;
+      goes = (omega arith, refl, refl);
+    }
 
 pub loop-at-preserved : goal.loop-at-preserved
 loop-at-preserved g c =

@@ -1,5 +1,5 @@
 use Rattle.std.proofs.Common.{min, ◌^◌, ◌≡◌, ◌+◌, ◌-◌, length, take, drop, sym, ap, subst, ◌∙◌, arith, List, ℕ}
-use Rattle.std.proofs.lemmas.List.{take_rest, length-take, take-append-drop}
+use Rattle.std.proofs.lemmas.List.{take_rest, length-take, length-drop, take-append-drop}
 use Rattle.std.proofs.Common.{take-add, ◌++◌}
 use Rattle.std.specs.Io.KnownBytes.{Appends}
 use Rattle.age_file.proofs.Bytes.{Appends-then, Appends-Keeps, risen}
@@ -15,6 +15,7 @@ returns-in_default-clause-writes g c =
       parts = sym (take-append-drop at c.args.bytes.now);
       wrote = Appends-Keeps _ _ _ _ kept.wrote c.in_default.ensures.bytes;
       count = omega (arith, kept.count, kept.within, length-take c.loop-at.at c.args.bytes.now);
+      stopped = omega (arith, c.loop-at-test.true, length-drop at c.args.bytes.now);
       answered = risen _ _ (c.in_default.ensures.counted ∙ ap (λ k. min (k + 1) (2 ^ 64 - 1)) kept.failed);
     }
 
