@@ -22,27 +22,31 @@ abbrev pub random_name : Option Text → Text
 random_name None = codes "/dev/urandom"
 random_name (Some name) = name
 
--- the output holds what the engine promises for the input and the secret, and all else is as it was
-pub record EncryptsFile (s : SecretView) (from to : Text) (old new : Held) : Type 0 where
+-- the engine's promise for the input's bytes and the secret, of what the output then holds
+pub record EncryptsOut (s : SecretView) (input output : Option (List ℕ)) : Type 0 where
   pub before : Ports
   pub after : Ports
   pub written : Written
-  pub input : old from ≡ before.coming
+  pub coming : input ≡ before.coming
   pub empty : before.taken ≡ Some []
   pub done : Encrypts s before after written
-  pub output : new to ≡ after.taken
+  pub taken : output ≡ after.taken
+
+-- of what stands under the names that are asked for: the passphrase, the work factor and the random bytes make the secret
+pub record EncryptsFile (pass : Text) (log : ℕ) (random : Option Text) (from to : Text) (old new : Held) : Type 0 where
+  pub secret : SecretView
+  pub passphrase : IsPassphraseIn (old pass) secret.pass
+  pub log_is : secret.log ≡ log
+  pub random_is : IsRandomIn (old (random_name random)) secret
+  pub output : EncryptsOut secret (old from) (new to)
   pub others : SparesBut to old new
 
--- the same, of what the words give for each argument: the passphrase, the work factor and the random bytes make the secret
+-- the same, of what the words give for each argument
 pub record EncryptsRows (rows : List Row) (old new : Held) : Type 0 where
-  pub secret : SecretView
   pub pass : Text
   pub from : Text
   pub to : Text
   pub pass_is : first_of (codes "pass") rows ≡ Some pass
   pub from_is : first_of (codes "IN") rows ≡ Some from
   pub to_is : first_of (codes "OUT") rows ≡ Some to
-  pub passphrase : IsPassphraseIn (old pass) secret.pass
-  pub log : secret.log ≡ number_or 18 (one_of (codes "log") rows)
-  pub random : IsRandomIn (old (random_name (first_of (codes "random") rows))) secret
-  pub encrypts : EncryptsFile secret from to old new
+  pub encrypts : EncryptsFile pass (number_or 18 (one_of (codes "log") rows)) (first_of (codes "random") rows) from to old new

@@ -10,6 +10,10 @@ Held = Text → Option (List ℕ)
 abbrev pub SparesBut : Text → Held → Held → Type 0
 SparesBut to old new = (q : Text) → (q ≡ to → ⊥) → new q ≡ old q
 
+-- only what stands under these two names may differ, where they are given
+abbrev pub SparesBoth : Option Text → Option Text → Held → Held → Type 0
+SparesBoth to save old new = (q : Text) → (to ≡ Some q → ⊥) → (save ≡ Some q → ⊥) → new q ≡ old q
+
 -- only the output and the file of `--save`
 abbrev pub Spares : List Row → Held → Held → Type 0
-Spares rows old new = (q : Text) → (first_of (codes "OUT") rows ≡ Some q → ⊥) → (first_of (codes "save") rows ≡ Some q → ⊥) → new q ≡ old q
+Spares rows old new = SparesBoth (first_of (codes "OUT") rows) (first_of (codes "save") rows) old new

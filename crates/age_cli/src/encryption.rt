@@ -1,10 +1,8 @@
 //! The command that encrypts a file.
 
-ghost use Rattle.std.specs.Prelude.{◌≡◌, ◌++◌, ◌≤◌, ℕ, List, true, length, Some, IfOk, IfErr, OnOk, OnErr};
-ghost use Rattle.age_file.specs.Secrets.{SecretView};
+ghost use Rattle.std.specs.Prelude.{◌≡◌, ℕ, List, true, IfOk, IfErr, OnOk};
 ghost use Rattle.age_cli.specs.Requests.{text_of};
-ghost use Rattle.age_cli.specs.Openers.{IsPassphraseIn, without_line_feed};
-ghost use Rattle.age_cli.specs.Encryptions.{IsRandomIn, random_name, EncryptsFile};
+ghost use Rattle.age_cli.specs.Encryptions.{IsRandomIn, random_name, EncryptsOut, EncryptsFile};
 ghost use Rattle.age_cli.specs.Endings.{is_usage};
 ghost use Rattle.age_cli.specs.Held.{SparesBut};
 
@@ -58,9 +56,7 @@ fn write_out<F: FileSet>(
     secret: &Secret<'_>,
     to: &str,
 ) -> Result<(), FileFault>
-    ensures told { F.tells files.new ≡ F.tells files.old }
-    ensures done { OnOk result (F.tells files.old ≡ true → (before after : Ports) × (written : Written)
-        × (before.coming ≡ F.In.remaining source.old) × (before.taken ≡ Some []) × Encrypts secret.now before after written × (F.entry files.new to.now ≡ after.taken)) }
+    ensures done { OnOk result (F.tells files.old ≡ true → EncryptsOut secret.now (F.In.remaining source.old) (F.entry files.new to.now)) }
     ensures others { F.tells files.old ≡ true → SparesBut to.now (F.entry files.old) (F.entry files.new) }
 {
     let mut out = files.create(alloc, to)?;
@@ -69,5 +65,46 @@ fn write_out<F: FileSet>(
     match encrypted {
         Ok(_) => closed,
         Err(fault) => Err(fault),
+    }
+}
+
+/// The name of the file of random bytes.
+fn random_name<'a>(asked: &Encrypting<'a>) -> &'a str
+    ensures { result.now ≡ random_name (text_of asked.now.random) }
+{
+    match asked.random {
+        Some(name) => name,
+        None => RANDOM,
+    }
+}
+
+/// Encrypts a file as the words ask.
+pub(crate) fn encrypt_file<F: FileSet>(
+    alloc: Global,
+    files: &mut F,
+    asked: &Encrypting<'_>,
+) -> Result<(), Ending>
+    ensures done { OnOk result (F.tells files.old ≡ true → EncryptsFile asked.now.pass.now asked.now.log (text_of asked.now.random) asked.now.from.now asked.now.to.now (F.entry files.old) (F.entry files.new)) }
+    ensures usage { IfErr result (λ e. is_usage e ≡ true → F.entry files.new ≡ F.entry files.old) }
+    ensures spares { F.tells files.old ≡ true → SparesBut asked.now.to.now (F.entry files.old) (F.entry files.new) }
+{
+    if asked.from == asked.to {
+        return Err(Ending::Usage(Usage::SameFile));
+    }
+    let pass = read_pass(alloc, files, asked.pass)?;
+    let random = read_random(alloc, files, random_name(asked))?;
+    let Some(secret) = Secret::new(
+        trimmed(pass.as_slice()),
+        asked.log,
+        &random.salt,
+        &random.file_key,
+        &random.payload_nonce,
+    ) else {
+        return Err(Ending::Usage(Usage::BadPassphraseFile));
+    };
+    let mut source = files.open(alloc, asked.from)?;
+    match write_out(alloc, files, &mut source, &secret, asked.to) {
+        Ok(()) => Ok(()),
+        Err(fault) => Err(Ending::Fault(fault)),
     }
 }
