@@ -12,7 +12,7 @@ use Rattle.age_cli.specs.Held.{Held, SparesBut}
 -- the first 48 bytes of a file: the file key, the stanza's salt and the payload nonce
 pub record IsRandomIn (held : Option (List ℕ)) (s : SecretView) : Type 0 where
   pub rest : List ℕ
-  pub bytes : held ≡ Some ((s.key ++ s.salt ++ s.nonce) ++ rest)
+  pub bytes : held ≡ Some (s.key ++ (s.salt ++ (s.nonce ++ rest)))
   pub key_length : length s.key ≡ 16
   pub salt_length : length s.salt ≡ 16
   pub nonce_length : length s.nonce ≡ 16

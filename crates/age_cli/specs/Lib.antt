@@ -11,3 +11,4 @@ pub mod Openers
 pub mod OpenerSteps
 pub mod Encryptions
 pub mod Decryptions
+pub mod Randoms

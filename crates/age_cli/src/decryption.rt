@@ -9,7 +9,7 @@ ghost use Rattle.age_cli.specs.Held.{SparesBut, SparesBoth};
 
 use crate::ending::{Ending, Usage};
 use crate::files::FileSet;
-use crate::opener::{Unlocker, choose, read_material, unlocker};
+use crate::opener::{Unlocker, choose, read_material, unlocker_of};
 use crate::print::put_bytes;
 use crate::request::Decrypting;
 use age_file::{FileFault, Position, decrypt};
@@ -97,7 +97,7 @@ pub(crate) fn decrypt_file<F: FileSet>(
         return Err(Ending::Usage(Usage::SameFile));
     }
     let material = read_material(alloc, files, chosen)?;
-    let unlocker = unlocker(&material, asked.unlocking.max_log)?;
+    let unlocker = unlocker_of(&material, asked.unlocking.max_log)?;
     let mut source = files.open(alloc, asked.from)?;
     match write_out(alloc, files, &mut source, &unlocker, asked.to) {
         Ok(()) => Ok(()),

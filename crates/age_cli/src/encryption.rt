@@ -1,8 +1,9 @@
 //! The command that encrypts a file.
 
-ghost use Rattle.std.specs.Prelude.{◌≡◌, ℕ, List, true, IfOk, IfErr, OnOk};
+ghost use Rattle.std.specs.Prelude.{◌≡◌, ◌++◌, ℕ, List, Some, true, IfOk, IfErr, IfSome, OnOk};
 ghost use Rattle.age_cli.specs.Requests.{text_of};
-ghost use Rattle.age_cli.specs.Encryptions.{IsRandomIn, random_name, EncryptsOut, EncryptsFile};
+ghost use Rattle.age_cli.specs.Encryptions.{random_name, EncryptsOut, EncryptsFile};
+ghost use Rattle.age_cli.specs.Randoms.{IsRandom};
 ghost use Rattle.age_cli.specs.Endings.{is_usage};
 ghost use Rattle.age_cli.specs.Held.{SparesBut};
 
@@ -25,27 +26,33 @@ struct Random {
     payload_nonce: [u8; 16],
 }
 
+/// The random parts in bytes, one behind the other.
+fn random_of(bytes: &[u8]) -> Option<Random>
+    ensures { IfSome result (λ r. IsRandom bytes.now r) }
+{
+    let (file_key, rest) = bytes.split_first_chunk::<16>()?;
+    let (salt, rest) = rest.split_first_chunk::<16>()?;
+    let payload_nonce = rest.first_chunk::<16>()?;
+    Some(Random {
+        file_key: *file_key,
+        salt: *salt,
+        payload_nonce: *payload_nonce,
+    })
+}
+
 /// The random parts, from the first 48 bytes of a file.
 fn read_random<F: FileSet>(alloc: Global, files: &mut F, name: &str) -> Result<Random, Ending>
     ensures told { F.tells files.new ≡ F.tells files.old }
     ensures kept { F.entry files.new ≡ F.entry files.old }
-    ensures read { IfOk result (λ r. F.tells files.old ≡ true → (pass : List ℕ) (log : ℕ)
-        → IsRandomIn (F.entry files.old name.now) (record { pass = pass; log = log; salt = r.salt; key = r.file_key; nonce = r.payload_nonce })) }
+    ensures read { IfOk result (λ r. F.tells files.old ≡ true
+        → (bytes : List ℕ) × (rest : List ℕ) × (F.entry files.old name.now ≡ Some (bytes ++ rest)) × IsRandom bytes r) }
 {
     let mut source = files.open(alloc, name)?;
     let bytes = read_front(alloc, &mut source, 48)?;
-    if bytes.len() < 48 {
-        return Err(Ending::Usage(Usage::BadRandomFile));
+    match random_of(bytes.as_slice()) {
+        Some(random) => Ok(random),
+        None => Err(Ending::Usage(Usage::BadRandomFile)),
     }
-    let mut random = Random {
-        file_key: [0; 16],
-        salt: [0; 16],
-        payload_nonce: [0; 16],
-    };
-    random.file_key.copy_from_slice(&bytes[..16]);
-    random.salt.copy_from_slice(&bytes[16..32]);
-    random.payload_nonce.copy_from_slice(&bytes[32..48]);
-    Ok(random)
 }
 
 /// Makes the output, and encrypts the input into it.

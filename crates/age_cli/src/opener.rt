@@ -1,6 +1,6 @@
 //! What opens a file, as the options and the files make it.
 
-ghost use Rattle.std.specs.Prelude.{◌≡◌, inl, inr, true, IfOk, IfSome, Some, List, ℕ};
+ghost use Rattle.std.specs.Prelude.{◌≡◌, true, IfOk, IfSome, Some};
 ghost use Rattle.age_cli.specs.Requests.{text_of};
 ghost use Rattle.age_cli.specs.Openers.{Opener, IsOpener, without_line_feed, IsPassphraseIn, IsSharedIn};
 ghost use Rattle.age_cli.specs.OpenerSteps.{IsChosen, IsMaterial, IsMade, opener_of};
@@ -84,6 +84,14 @@ pub(crate) fn read_pass<F: FileSet>(
     Ok(bytes)
 }
 
+/// The shared secret and the recipient behind it.
+fn shared_of(bytes: &[u8]) -> Option<SharedSecret>
+    ensures { IfSome result (IsSharedIn (Some bytes.now)) }
+{
+    let (shared, recipient) = bytes.split_first_chunk::<32>()?;
+    Some(SharedSecret::new(shared, recipient.as_array::<32>()?))
+}
+
 /// The shared secret and the recipient in a file.
 fn read_shared<F: FileSet>(
     alloc: Global,
@@ -98,14 +106,10 @@ fn read_shared<F: FileSet>(
     let Some(bytes) = read_up_to(alloc, &mut source, 64)? else {
         return Err(Ending::Usage(Usage::BadSharedFile));
     };
-    if bytes.len() != 64 {
-        return Err(Ending::Usage(Usage::BadSharedFile));
+    match shared_of(bytes.as_slice()) {
+        Some(shared) => Ok(shared),
+        None => Err(Ending::Usage(Usage::BadSharedFile)),
     }
-    let mut shared = [0; 32];
-    let mut recipient = [0; 32];
-    shared.copy_from_slice(&bytes[..32]);
-    recipient.copy_from_slice(&bytes[32..]);
-    Ok(SharedSecret::new(&shared, &recipient))
 }
 
 /// What the chosen option's file holds.
@@ -116,7 +120,7 @@ pub(crate) fn read_material<F: FileSet>(
 ) -> Result<Material, Ending>
     ensures told { F.tells files.new ≡ F.tells files.old }
     ensures kept { F.entry files.new ≡ F.entry files.old }
-    ensures read { IfOk result (λ m. F.tells files.old ≡ true → IsMaterial (F.entry files.old) chosen m) }
+    ensures read { IfOk result (λ m. F.tells files.old ≡ true → IsMaterial (F.entry files.old) chosen.entry m) }
 {
     match chosen {
         Chosen::Pass(name) => Ok(Material::Pass(read_pass(alloc, files, name)?)),
@@ -154,7 +158,7 @@ impl<'a> Unlock for Unlocker<'a> {
 }
 
 /// The unlocker of what the files held.
-pub(crate) fn unlocker<'a>(material: &'a Material, max_log: u32) -> Result<Unlocker<'a>, Usage>
+pub(crate) fn unlocker_of<'a>(material: &'a Material, max_log: u32) -> Result<Unlocker<'a>, Usage>
     ensures { IfOk result (λ u. IsMade material.now max_log (opener_of u)) }
 {
     match material {
