@@ -111,7 +111,9 @@ fn put_fault<E: Sink>(alloc: Global, faults: &mut E, fault: FileFault) -> Result
     let name = fault.name();
     let line = match fault.place() {
         Some(line) if number <= 8 => format!(in alloc; "age_tool: {number} {name} line {line}\n")?,
-        Some(chunk) if number <= 20 => format!(in alloc; "age_tool: {number} {name} chunk {chunk}\n")?,
+        Some(chunk) if number <= 20 => format!(in alloc;
+            "age_tool: {number} {name} chunk {chunk}\n"
+        )?,
         _ => format!(in alloc; "age_tool: {number} {name}\n")?,
     };
     put_bytes(faults, line.as_bytes())
