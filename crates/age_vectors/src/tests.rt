@@ -1,3 +1,4 @@
+mod commands;
 mod inspection;
 mod memory;
 mod program;
