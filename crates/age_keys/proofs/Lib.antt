@@ -1,4 +1,5 @@
 pub mod Base64Lemmas
+pub mod PartLemmas
 pub mod PassphraseLemmas
 pub mod ScryptLemmas
 pub mod SharedLemmas

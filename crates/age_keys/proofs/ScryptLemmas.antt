@@ -1,12 +1,11 @@
 -- The header of a scrypt stanza has a text.
-use Rattle.std.proofs.Common.{◌≡◌, ℕ, zero, suc, ◌+◌, ◌-◌, ◌<◌, ◌≤◌, List, [], ◌∷◌, ◌++◌, length, get_or, take, drop, refl, ap, ap₂, ◌∙◌, arith}
-use borrow.Rule.Slice.PartMut.{put_mid}
+use Rattle.std.proofs.Common.{◌≡◌, ℕ, zero, suc, ◌+◌, ◌<◌, ◌≤◌, List, [], ◌∷◌, ◌++◌, length, get_or, refl, ap, ap₂, ◌∙◌, arith}
 use Rattle.std.specs.Prelude.{codes}
 use Rattle.std.specs.Fmt.{decimal}
 use Rattle.std.specs.List.{flat_map, AllByRecursion}
 use Rattle.std.specs.Str.Parse.{AllDigits}
 use Rattle.std.proofs.lemmas.Fmt.{decimal_is_IsNumeral, length-decimal-le}
-use Rattle.std.proofs.lemmas.List.{length-append, length-drop, append-nil, take_at, drop_all}
+use Rattle.std.proofs.lemmas.List.{length-append}
 use Rattle.std.proofs.lemmas.Str.Parse.{digit_from_value}
 use Rattle.base64.specs.GeneralPurpose.{IsBytes}
 use Rattle.base64.specs.Rfc4648.{encode_symbols}
@@ -142,16 +141,3 @@ scrypt_head_is pass salt key wrap body mac log h wrap_is body_is stanzas_are mac
     let over_none : header_mac key h ≡ header_mac key (record { stanzas = h.stanzas; mac = [] }) = refl in
     ap₂ (λ (ss : List Stanza) (m : List ℕ). let made : Header = record { stanzas = ss; mac = m } in made) same
     (mac_is ∙ over_none ∙ ap (λ (ss : List Stanza). header_mac key (record { stanzas = ss; mac = [] })) same)
-
--- ---- bytes that are written behind others
-
--- over the second part of an array
-pub over_the_end : (n k : ℕ) (a z s : List ℕ) → length a ≡ n → length z ≡ k → put_mid n k (a ++ z) s ≡ a ++ s
-over_the_end n k a z s first second =
-    ap₂ (λ (f e : List ℕ). f ++ (s ++ e)) (take_at a z n (omega arith))
-    (drop_all k (drop n (a ++ z)) (omega (arith, length-drop n (a ++ z), length-append a z)))
-    ∙ ap (λ (t : List ℕ). a ++ t) (append-nil s)
-
--- all but the last 16 bytes
-pub front_of : (a z : List ℕ) → length z ≡ 16 → take (length (a ++ z) - 16) (a ++ z) ≡ a
-front_of a z size = take_at a z (length (a ++ z) - 16) (omega (arith, length-append a z))

@@ -1,10 +1,11 @@
 //! The X25519 stanza.
 
-ghost use Rattle.std.specs.Prelude.{◌≡◌, ◌≢◌, length, IfSome, IfNone, IfOk, IfErr};
+ghost use Rattle.std.specs.Prelude.{◌≡◌, IfOk, IfErr};
 ghost use Rattle.age_keys.specs.X25519.{is_x25519, IsX25519Stanza, ReadRefuses};
 
 use crate::fault::KeyFault;
 use crate::text::read_text;
+use crate::wrap::body_of;
 use age_stanza::Stanza;
 
 /// An X25519 stanza (C2SP age.md, "The X25519 recipient type"): `-> X25519 SHARE` and a body.
@@ -24,20 +25,6 @@ pub(crate) fn is_x25519(stanza: &Stanza) -> bool
         [kind, ..] => kind.as_slice() == b"X25519".as_slice(),
         [] => false,
     }
-}
-
-/// The 32 bytes of a body.
-pub(crate) fn body_of(body: &[u8]) -> Option<[u8; 32]>
-    ensures body { IfSome result (λ bytes. bytes ≡ body.now) }
-    ensures len { IfSome result (λ bytes. length bytes ≡ 32) }
-    ensures none { IfNone result (length body.now ≢ 32) }
-{
-    if body.len() != 32 {
-        return None;
-    }
-    let mut bytes = [0; 32];
-    bytes.copy_from_slice(body);
-    Some(bytes)
 }
 
 impl X25519Stanza {

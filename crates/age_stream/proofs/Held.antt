@@ -1,6 +1,6 @@
 -- What is held after a list of deliveries, where what opens is the writer's.
 use Rattle.std.proofs.Common.{inl, inr, ◌≡◌, ℕ, ◌<◌, ◌≤◌, ◌+◌, ◌*◌, refl, ap, sym, subst, ◌∙◌, List, [], ◌∷◌, ◌++◌, length, take, Bool, true, false, arith}
-use Rattle.std.specs.Prelude.{Option, cond, min, nat_lt, nat_le, ◌&&◌, map}
+use Rattle.std.specs.Prelude.{Option, cond, min, nat_lt, nat_le, map}
 use Rattle.std.specs.List.{flat_map, AllByRecursion}
 use Rattle.std.proofs.lemmas.List.{take-append-le, length-append, append-nil, append_assoc}
 use Rattle.std.proofs.lemmas.Bool.{ltb-true, leb-true}
@@ -10,7 +10,7 @@ use Rattle.age_stream.specs.Segment.{Segment, outcome}
 use Rattle.age_stream.specs.Deliveries.{Standing, standing, standing_from, after_delivery, begin, fresh, with_piece, with_end, text_held, accepts}
 use Rattle.age_stream.specs.Headline.{IsAuthentic, AreAuthentic, IsHeldRight, IsReached, IsPrefixOf, IsStart, IsUndamaged}
 use Rattle.age_stream.specs.declared.step.Status.TheVariants.{Done}
-use Rattle.age_stream.proofs.Places.{in_place}
+use Rattle.age_stream.proofs.Places.{both, in_place}
 use Rattle.age_stream.proofs.Undamaged.{rest_segment, rest_payload, rest_is_done}
 use Rattle.age_stream.proofs.Segments.{released_segment, by_test}
 use Rattle.age_stream.specs.declared.delivery.Delivery.{Delivery}
@@ -24,10 +24,6 @@ all_front P (y ∷ ys) x h = (h.0, all_front P ys x h.1)
 all_last : (P : Segment → Type 0) (xs : List Segment) (x : Segment) → AllByRecursion P (xs ++ x ∷ []) → P x
 all_last P [] x h = h.0
 all_last P (y ∷ ys) x h = all_last P ys x h.1
-
-and_parts : (a b : Bool) → (a && b) ≡ true → (a ≡ true) × (b ≡ true)
-and_parts true b e = (refl, e)
-and_parts false b e = cc
 
 module _ (sealing : List ℕ → List ℕ → List ℕ) (opening : List ℕ → List ℕ → Option (List ℕ)) (lawful : IsLawful sealing opening)
     (n : ℕ) (text : List ℕ) (few : chunk_count n text ≤ 281474976710656) (positive : 0 < n) where
@@ -51,7 +47,7 @@ module _ (sealing : List ℕ → List ℕ → List ℕ) (opening : List ℕ → 
   restarted s k sound good sure =
       let p = held_prefix s sound good in
       let held = text_held opening n s in
-      let a : (nat_lt k 281474976710656 ≡ true) × (nat_le (k * n) (length held) ≡ true) = and_parts (nat_lt k 281474976710656) (nat_le (k * n) (length held)) sure in
+      let a : (nat_lt k 281474976710656 ≡ true) × (nat_le (k * n) (length held) ≡ true) = both (nat_lt k 281474976710656) (nat_le (k * n) (length held)) sure in
       let le : k * n ≤ length held = leb-true (k * n) (length held) a.1 in
       let len : length (held ++ p.0) ≡ length held + length p.0 = length-append held p.0 in
       let len2 : length (held ++ p.0) ≡ length text = ap length p.1 in

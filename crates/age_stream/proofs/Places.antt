@@ -22,7 +22,7 @@ use Rattle.age_stream.proofs.Chunks.{length-first_chunks, get_or-first_chunks}
 use Rattle.age_stream.proofs.Segments.{by_test, writer_text, next_within, opens_before, front_carries, IsPair-from_Contains}
 use Rattle.age_stream.proofs.Going.{place, at_place, past_place, rest_short}
 
-both : (a b : Bool) → (a && b) ≡ true → (a ≡ true) × (b ≡ true)
+pub both : (a b : Bool) → (a && b) ≡ true → (a ≡ true) × (b ≡ true)
 both true b e = (refl, e)
 both false b e = cc
 

@@ -1,6 +1,7 @@
 //! Worked rows that run, and each public function once. The longer rows stand in the crate of the vectors.
 use crate::clear_box::ClearBox;
 use crate::delivery::Delivery;
+use crate::drilling::drill;
 use crate::fault::{Memory, StreamFault, StreamKind};
 use crate::nonce::{CHUNK_LIMIT, nonce_of};
 use crate::opener::Opener;
@@ -76,5 +77,53 @@ fn the_greatest_chunk_is_the_last(rt: HostRuntime) -> Result<(), Fail> {
     assert_eq!(rt; fault.place(), Some(CHUNK_LIMIT - 1));
     assert_eq!(rt; Memory.number(), 28);
     assert_eq!(rt; nonce_of(1, true), *b"\0\0\0\0\0\0\0\0\0\0\x01\x01");
+    Ok(())
+}
+
+// Run it with each allocation refused in turn (rt try --test --fail-alloc N): a refused growth is told and changes
+// nothing, and the next call takes the same delivery.
+#[test]
+fn a_refused_growth_changes_nothing(rt: HostRuntime) -> Result<(), Fail> {
+    let key = ClearBox;
+    let mut replay = Replay::<ClearBox, 20>::new(rt.alloc(), &key);
+    let (first, second) = SEALED_8.split_at(20);
+    for delivery in [
+        Delivery::Piece(first),
+        Delivery::Restart(0),
+        Delivery::Piece(first),
+        Delivery::Piece(&second[..10]),
+        Delivery::Piece(&second[10..]),
+        Delivery::End,
+    ] {
+        let before = (replay.text().len(), replay.status(), replay.index());
+        if replay.take(&delivery).is_err() {
+            let after = (replay.text().len(), replay.status(), replay.index());
+            assert!(rt; after.0 == before.0 && after.1 == before.1 && after.2 == before.2);
+            assert!(rt; replay.take(&delivery).is_ok());
+        }
+    }
+    assert_eq!(rt; replay.text(), b"abcdefgh".as_slice());
+    assert!(rt; replay.status() == Status::Done);
+    Ok(())
+}
+
+// The same of a whole drill, which then begins again.
+#[test]
+fn a_refused_drill_is_told(rt: HostRuntime) -> Result<(), Fail> {
+    let (_, second) = SEALED_8.split_at(20);
+    let events = [
+        Delivery::Piece(SEALED_8),
+        Delivery::Restart(1),
+        Delivery::Piece(second),
+        Delivery::End,
+    ];
+    let held = match drill::<ClearBox, 20>(rt.alloc(), &ClearBox, &events) {
+        Ok(held) => held,
+        Err(Memory) => drill::<ClearBox, 20>(rt.alloc(), &ClearBox, &events)?,
+    };
+    assert_eq!(rt; held.text.as_slice(), b"abcdefgh".as_slice());
+    assert!(rt; held.status == Status::Done);
+    assert_eq!(rt; held.index, 1);
+    assert_eq!(rt; held.refused, 0);
     Ok(())
 }

@@ -1,2 +1,3 @@
 pub mod Header
 pub mod HeaderRows
+pub mod Keys

@@ -1,12 +1,15 @@
 // Worked rows of a payload, sealed by a box that hides nothing: chunks of four bytes in blocks of twenty, and what is
 // held under cuts, swaps, repeats, restarts and bytes behind the end.
-use age_stream::{ClearBox, Delivery, Replay, Sealer, Status, StreamFault, StreamKind, seal_all};
+use age_stream::{
+    CHUNK_LIMIT, ClearBox, Delivery, Opener, Replay, Sealer, Status, StreamFault, StreamKind,
+    seal_all,
+};
 use std::alloc::Global;
 
 const EIGHT: &[u8; 40] =
     b"abcd\0\0\0\0\0\0\0\0\0\0\0\0\0\0\0\0efgh\0\0\0\0\0\0\0\0\0\0\x01\x01\0\0\0\0";
 
-const TEN: &[u8; 58] =
+pub(crate) const TEN: &[u8; 58] =
     b"abcd\0\0\0\0\0\0\0\0\0\0\0\0\0\0\0\0efgh\0\0\0\0\0\0\0\0\0\0\x01\0\0\0\0\0ij\0\0\0\0\0\0\0\0\0\0\x02\x01\0\0\0\0";
 
 const NO_TEXT: &[u8; 16] = b"\0\0\0\0\0\0\0\0\0\0\0\x01\0\0\0\0";
@@ -17,13 +20,21 @@ const LETTER_B: &[u8; 17] = b"b\0\0\0\0\0\0\0\0\0\0\x01\x01\0\0\0\0";
 
 const EMPTY_SECOND: &[u8; 16] = b"\0\0\0\0\0\0\0\0\0\0\x01\x01\0\0\0\0";
 
+const FORGED: &[u8; 20] = b"XXXX\0\0\0\0\0\0\0\0\0\0\0\0\0\0\0\0";
+
+const LAST_OF_ALL: &[u8; 20] = b"XXXX\0\0\0\0\0\xff\xff\xff\xff\xff\xff\x01\0\0\0\0";
+
+const ONE_TOO_MANY: &[u8; 20] = b"XXXX\0\0\0\0\0\xff\xff\xff\xff\xff\xff\0\0\0\0\0";
+
 /// The worked rows of sealing and of delivery.
 pub fn delivery_rows(alloc: Global) -> bool {
     sealing_rows(alloc)
         && two_letters_in_two_pieces()
         && damage_rows(alloc)
+        && is_forged_block_released(alloc)
         && restart_rows(alloc)
-        && (0..=58).all(|cut| is_cut_right(alloc, cut))
+        && byte_by_byte(alloc)
+        && at_the_greatest_number()
 }
 
 // Whole texts and their payloads.
@@ -72,7 +83,7 @@ fn leaves(
     replay.text() == text && replay.index() == index && replay.status() == status
 }
 
-fn failed(kind: StreamKind, chunk: u64) -> Status {
+pub(crate) fn failed(kind: StreamKind, chunk: u64) -> Status {
     Status::Failed(StreamFault { kind, chunk })
 }
 
@@ -116,6 +127,11 @@ fn damage_rows(alloc: Global) -> bool {
     )
 }
 
+// A block that the writer didn't seal is released where it opens.
+fn is_forged_block_released(alloc: Global) -> bool {
+    leaves(alloc, &[Delivery::Piece(FORGED)], b"XXXX", 1, Status::Open)
+}
+
 // The transfer starts again, at a chunk that is held or beyond it.
 fn restart_rows(alloc: Global) -> bool {
     let (first, second) = EIGHT.split_at(20);
@@ -144,6 +160,12 @@ fn restart_rows(alloc: Global) -> bool {
         Status::Open,
     ) && leaves(
         alloc,
+        &[Delivery::Piece(EIGHT), Delivery::Restart(2), Delivery::End],
+        b"abcdefgh",
+        2,
+        failed(StreamKind::Truncated, 2),
+    ) && leaves(
+        alloc,
         &[
             Delivery::Piece(&EIGHT[..27]),
             Delivery::Restart(1),
@@ -156,45 +178,33 @@ fn restart_rows(alloc: Global) -> bool {
     )
 }
 
-// Ten bytes cut after so many of their payload, whole and byte by byte.
-fn is_cut_right(alloc: Global, cut: usize) -> bool {
-    let status = match cut {
-        58 => Status::Done,
-        36 => failed(StreamKind::EmptyLast, 1),
-        56 => failed(StreamKind::EmptyLast, 2),
-        0 | 20 | 40 => failed(StreamKind::Truncated, cut as u64 / 20),
-        1..=15 | 21..=35 | 41..=55 => failed(StreamKind::ChunkCut, cut as u64 / 20),
-        _ => failed(StreamKind::ChunkDamaged, cut as u64 / 20),
-    };
-    let text: &[u8] = match cut {
-        0..=19 => b"",
-        20..=39 => b"abcd",
-        40..=57 => b"abcdefgh",
-        _ => b"abcdefghij",
-    };
-    let index = cut as u64 / 20;
-    let Some(front) = TEN.get(..cut) else {
-        return false;
-    };
-    leaves(
-        alloc,
-        &[Delivery::Piece(front), Delivery::End],
-        text,
-        index,
-        status,
-    ) && leaves_by_bytes(alloc, front, text, index, status)
-}
-
-fn leaves_by_bytes(alloc: Global, bytes: &[u8], text: &[u8], index: u64, status: Status) -> bool {
+// The pieces may be single bytes.
+fn byte_by_byte(alloc: Global) -> bool {
     let key = ClearBox;
     let mut replay = Replay::<ClearBox, 20>::new(alloc, &key);
-    for byte in bytes {
+    for byte in EIGHT {
         if replay.take(&Delivery::Piece(&[*byte])).is_err() {
             return false;
         }
     }
     replay.take(&Delivery::End).is_ok()
-        && replay.text() == text
-        && replay.index() == index
-        && replay.status() == status
+        && replay.text() == b"abcdefgh".as_slice()
+        && replay.index() == 1
+        && replay.status() == Status::Done
+}
+
+// A block at the greatest number is the last one, or one too many.
+fn at_the_greatest_number() -> bool {
+    let key = ClearBox;
+    let limit = CHUNK_LIMIT - 1;
+    let mut opener = Opener::<ClearBox, 20>::at(&key, limit);
+    if !matches!(opener.feed(LAST_OF_ALL), Ok(step) if step.chunk == Some(b"XXXX".as_slice())) {
+        return false;
+    }
+    if opener.status() != Status::LastSeen || opener.index() != limit {
+        return false;
+    }
+    let mut opener = Opener::<ClearBox, 20>::at(&key, limit);
+    opener.feed(ONE_TOO_MANY).is_err()
+        && opener.status() == failed(StreamKind::TooManyChunks, limit)
 }

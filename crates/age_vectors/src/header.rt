@@ -61,7 +61,7 @@ const ARMOR_CR: &[u8; 36] = b"-----BEGIN AGE ENCRYPTED FILE-----\r\n";
 
 /// The header that some bytes begin with and its length, or the fault, where the bytes come in
 /// pieces of `step` bytes and then end.
-fn parsed(alloc: Global, bytes: &[u8], step: usize) -> Result<(usize, Header), HeadFault>
+pub(crate) fn parsed(alloc: Global, bytes: &[u8], step: usize) -> Result<(usize, Header), HeadFault>
     requires { 0 < step }
     ensures ok { IfOk result (λ found. HeadText found.1 (take found.0 bytes.now)) }
     ensures err { IfErr result (λ fault. IsTold bytes.now fault) }

@@ -8,14 +8,20 @@
 mod cipher;
 mod delivery;
 mod header;
+mod hostile;
 mod kdf;
+mod keys;
 mod scrypt;
+mod shared;
 
 pub use cipher::{rfc_aead, rfc_chacha, rfc_poly1305};
 pub use delivery::delivery_rows;
 pub use header::header_rows;
+pub use hostile::hostile_rows;
 pub use kdf::{rfc_hkdf, rfc_hmac, rfc_pbkdf2};
+pub use keys::key_rows;
 pub use scrypt::rfc_scrypt;
+pub use shared::shared_rows;
 
 #[cfg(test)]
 mod tests;

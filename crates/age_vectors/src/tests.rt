@@ -13,3 +13,8 @@ fn headers(rt: HostRuntime) {
 fn deliveries(rt: HostRuntime) {
     assert!(rt; delivery_rows(rt.alloc()));
 }
+
+#[test]
+fn hostile_bytes(rt: HostRuntime) {
+    assert!(rt; hostile_rows(rt.alloc()));
+}

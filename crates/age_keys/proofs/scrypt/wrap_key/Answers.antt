@@ -2,7 +2,7 @@ use Rattle.std.proofs.Common.{◌≡◌, List, ℕ, ap, ap₂, ◌++◌, ◌∙�
 use Rattle.std.specs.Prelude.{codes}
 use Rattle.age_scrypt.specs.Scrypt.{scrypt}
 use Rattle.age_keys.specs.Scrypt.{wrap_key}
-use Rattle.age_keys.proofs.ScryptLemmas.{over_the_end}
+use Rattle.age_keys.proofs.PartLemmas.{over_the_end}
 use Rattle.age_keys.proofs.scrypt.wrap_key.Goals as goal
 
 pub returns-in-Ok-clause-key : goal.returns-in-Ok-clause-key

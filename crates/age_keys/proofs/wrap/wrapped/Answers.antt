@@ -2,7 +2,7 @@ use Rattle.std.proofs.Common.{[], ◌∙◌, List, ℕ, ap, refl}
 use Rattle.std.specs.Prelude.{replicate}
 use Rattle.age_cipher.specs.Aead.{sealing}
 use Rattle.age_keys.specs.Keys.{wrapped}
-use Rattle.age_keys.proofs.ScryptLemmas.{front_of}
+use Rattle.age_keys.proofs.PartLemmas.{front_of}
 use Rattle.age_keys.proofs.wrap.wrapped.Goals as goal
 
 pub returns : goal.returns

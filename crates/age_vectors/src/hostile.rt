@@ -1,0 +1,152 @@
+// Hostile bytes: a payload of three blocks, sealed by a box that hides nothing, cut at every byte, with its blocks in
+// wrong orders, and started again at every chunk; each with its pieces whole and byte by byte.
+use crate::delivery::{TEN, failed};
+use age_stream::{ClearBox, Delivery, Status, StreamKind, drill};
+use std::alloc::Global;
+
+/// What a drill leaves of hostile bytes.
+pub fn hostile_rows(alloc: Global) -> bool {
+    (0..=58).all(|cut| is_cut_right(alloc, cut))
+        && (0..6).all(|order| is_order_right(alloc, order))
+        && (0..=3).all(|k| is_restart_right(alloc, k))
+}
+
+/// What is expected of a drill.
+#[derive(Clone, Copy)]
+struct Expected<'a> {
+    text: &'a [u8],
+    index: u64,
+    status: Status,
+    refused: u64,
+}
+
+// Whether these deliveries leave this, with their pieces whole and byte by byte.
+fn leaves(alloc: Global, events: &[Delivery<'_>], expected: Expected<'_>) -> bool {
+    let Some(cut) = by_bytes(alloc, events) else {
+        return false;
+    };
+    leaves_at_once(alloc, events, expected) && leaves_at_once(alloc, cut.as_slice(), expected)
+}
+
+fn leaves_at_once(alloc: Global, events: &[Delivery<'_>], expected: Expected<'_>) -> bool {
+    match drill::<ClearBox, 20>(alloc, &ClearBox, events) {
+        Ok(held) => {
+            held.text.as_slice() == expected.text
+                && held.index == expected.index
+                && held.status == expected.status
+                && held.refused == expected.refused
+        }
+        Err(_) => false,
+    }
+}
+
+// The same deliveries with each piece cut into single bytes, or nothing where memory is refused.
+fn by_bytes<'a>(alloc: Global, events: &[Delivery<'a>]) -> Option<Vec<Delivery<'a>>> {
+    let mut cut = Vec::new(alloc);
+    for event in events {
+        match *event {
+            Delivery::Piece(piece) => push_bytes(&mut cut, piece)?,
+            other => cut.push(other).ok()?,
+        }
+    }
+    Some(cut)
+}
+
+fn push_bytes<'a>(cut: &mut Vec<Delivery<'a>>, piece: &'a [u8]) -> Option<()> {
+    for byte in piece.chunks(1) {
+        cut.push(Delivery::Piece(byte)).ok()?;
+    }
+    Some(())
+}
+
+// The payload cut after so many bytes.
+fn is_cut_right(alloc: Global, cut: usize) -> bool {
+    let index = cut as u64 / 20;
+    let status = match cut {
+        58 => Status::Done,
+        36 | 56 => failed(StreamKind::EmptyLast, index),
+        0 | 20 | 40 => failed(StreamKind::Truncated, index),
+        1..=15 | 21..=35 | 41..=55 => failed(StreamKind::ChunkCut, index),
+        _ => failed(StreamKind::ChunkDamaged, index),
+    };
+    let text: &[u8] = match cut {
+        0..=19 => b"",
+        20..=39 => b"abcd",
+        40..=57 => b"abcdefgh",
+        _ => b"abcdefghij",
+    };
+    let Some(front) = TEN.get(..cut) else {
+        return false;
+    };
+    leaves(
+        alloc,
+        &[Delivery::Piece(front), Delivery::End],
+        Expected {
+            text,
+            index,
+            status,
+            refused: 0,
+        },
+    )
+}
+
+// The three blocks in each order.
+fn is_order_right(alloc: Global, order: usize) -> bool {
+    let (first, rest) = TEN.split_at(20);
+    let (second, third) = rest.split_at(20);
+    let (a, b, c) = match order {
+        0 => (first, second, third),
+        1 => (first, third, second),
+        2 => (second, first, third),
+        3 => (second, third, first),
+        4 => (third, first, second),
+        _ => (third, second, first),
+    };
+    let (text, index, status): (&[u8], u64, Status) = match order {
+        0 => (b"abcdefghij", 2, Status::Done),
+        1 => (b"abcd", 1, failed(StreamKind::ChunkDamaged, 1)),
+        _ => (b"", 0, failed(StreamKind::ChunkDamaged, 0)),
+    };
+    leaves(
+        alloc,
+        &[
+            Delivery::Piece(a),
+            Delivery::Piece(b),
+            Delivery::Piece(c),
+            Delivery::End,
+        ],
+        Expected {
+            text,
+            index,
+            status,
+            refused: 0,
+        },
+    )
+}
+
+// The whole payload, then again from each chunk on; there is no chunk 3, and a restart there changes nothing.
+fn is_restart_right(alloc: Global, k: u64) -> bool {
+    let (_, from_second) = TEN.split_at(20);
+    let (_, from_third) = TEN.split_at(40);
+    let again: &[u8] = match k {
+        0 => TEN,
+        1 => from_second,
+        2 => from_third,
+        _ => b"",
+    };
+    leaves(
+        alloc,
+        &[
+            Delivery::Piece(TEN),
+            Delivery::Restart(k),
+            Delivery::Piece(again),
+            Delivery::End,
+        ],
+        Expected {
+            text: b"abcdefghij",
+            index: 2,
+            status: Status::Done,
+            refused: if k < 3 { 0 } else { 1 },
+        },
+    )
+}

@@ -1,0 +1,245 @@
+// What passphrases and known keys find in headers. The header was made by Python: hashlib's scrypt, HMAC over its
+// SHA-256, and RFC 8439 in plain whole numbers.
+ghost use Rattle.std.specs.Prelude.{◌<◌, IsTrue, IfOk, codes};
+ghost use Rattle.age_stanza.specs.Grammar.{HeadText};
+ghost use Rattle.age_keys.specs.Opened.{Opens};
+ghost use Rattle.age_keys.specs.Scrypt.{scrypt_head};
+ghost use Rattle.age_vectors.specs.Keys.{OpensIn};
+
+use crate::header::parsed;
+use age_keys::{FileKey, KnownKey, Passphrase, Unlock, open_header, scrypt_header};
+use age_stanza::{Arguments, Bytes, HEAD_MAX, Header, Stanza, Stanzas, encode_head, is_header};
+use std::alloc::{AllocError, Global};
+
+const SALT: [u8; 16] = [
+    16, 17, 18, 19, 20, 21, 22, 23, 24, 25, 26, 27, 28, 29, 30, 31,
+];
+
+/// The file key of each header here that opens.
+pub(crate) const KEY: [u8; 16] = [0, 1, 2, 3, 4, 5, 6, 7, 8, 9, 10, 11, 12, 13, 14, 15];
+
+/// The header of the passphrase `kudebafon`, at work factor 1.
+const WRITTEN: [u8; 149] =
+    *b"age-encryption.org/v1\n-> scrypt EBESExQVFhcYGRobHB0eHw 1\n1z3f/yTFiUXDwVbiU/TZ2AupEaKH6mWRdiP4zJo1RGw\n--- j2RWCWPgvXImsyfN390ggNwin5ht9nxij7u+aGwWgss\n";
+
+/// The same at work factor 10.
+const AT_TEN: &[u8; 150] =
+    b"age-encryption.org/v1\n-> scrypt EBESExQVFhcYGRobHB0eHw 10\nQh59WLlLxJRIkowFnzt99qkc7x6EgdHELDUQmvHY874\n--- 2qY5AgJS48JZMvxeEOs4EKHsGHn1+dq7Rvg3gLXzgBM\n";
+
+/// The number of the fault with which a header is refused, or the file key.
+fn answer<U: Unlock>(alloc: Global, header: &Header, unlock: &U) -> Result<[u8; 16], u8>
+    ensures { IfOk result (Opens (U.allows unlock.now) header.now) }
+{
+    if !is_header(header) {
+        return Err(0);
+    }
+    match open_header(alloc, header, unlock) {
+        Ok(key) => Ok(*key.bytes()),
+        Err(fault) => Err(fault.number()),
+    }
+}
+
+/// The same of the header in a text; 0 where none stands there.
+pub(crate) fn opened<U: Unlock>(alloc: Global, text: &[u8], unlock: &U) -> Result<[u8; 16], u8>
+    ensures { IfOk result (OpensIn (U.allows unlock.now) text.now) }
+{
+    match parsed(alloc, text, HEAD_MAX) {
+        Ok((_taken, header)) => answer(alloc, &header, unlock),
+        Err(_fault) => Err(0),
+    }
+}
+
+/// Whether a text's header opens to the file key of all headers here. Where it does, it does so by the definitions.
+pub(crate) fn is_opened<U: Unlock>(alloc: Global, text: &[u8], unlock: &U) -> bool
+    ensures { IsTrue result → OpensIn (U.allows unlock.now) text.now KEY }
+{
+    match opened(alloc, text, unlock) {
+        Ok(key) => key == KEY,
+        Err(_number) => false,
+    }
+}
+
+/// What a passphrase opens a header to.
+fn by_passphrase(alloc: Global, text: &[u8], pass: &[u8], max_log: u32) -> Result<[u8; 16], u8> {
+    match Passphrase::new(pass, max_log) {
+        Some(passphrase) => opened(alloc, text, &passphrase),
+        None => Err(0),
+    }
+}
+
+/// Whether `scrypt_header` makes Python's header. Where it does, the definition gives it.
+fn writes_python_s_header(alloc: Global) -> bool
+    ensures { IsTrue result → HeadText (scrypt_head (codes "kudebafon") 1 SALT KEY) WRITTEN }
+{
+    let Ok(header) = scrypt_header(alloc, b"kudebafon", 1, &SALT, &FileKey::new(KEY)) else {
+        return false;
+    };
+    match encode_head(alloc, &header) {
+        Ok(text) => text.as_slice() == WRITTEN.as_slice(),
+        Err(_fault) => false,
+    }
+}
+
+/// The right passphrase and others, and limits.
+fn passphrase_rows(alloc: Global) -> bool {
+    by_passphrase(alloc, &WRITTEN, b"kudebafon", 1) == Ok(KEY)
+        && by_passphrase(alloc, &WRITTEN, b"kudebafon", 22) == Ok(KEY)
+        && by_passphrase(alloc, &WRITTEN, b"Kudebafon", 1) == Err(13)
+        && by_passphrase(alloc, AT_TEN, b"kudebafon", 10) == Ok(KEY)
+        && by_passphrase(alloc, AT_TEN, b"kudebafon", 9) == Err(11)
+        && Passphrase::new(b"", 1).is_none()
+        && Passphrase::new(b"x", 0).is_none()
+        && Passphrase::new(b"x", 23).is_none()
+}
+
+/// A known key, right and wrong.
+fn known_key_rows(alloc: Global) -> bool {
+    let mut other = KEY;
+    other[15] ^= 1;
+    is_opened(alloc, &WRITTEN, &KnownKey::new(KEY))
+        && opened(alloc, &WRITTEN, &KnownKey::new(other)) == Err(14)
+        && KnownKey::read("000102030405060708090A0b0c0d0e0f").is_some()
+        && KnownKey::read("000102030405060708090A0b0c0d0e0").is_none()
+}
+
+/// The text of some stanzas in a header with a MAC of zeros.
+pub(crate) fn around(alloc: Global, stanzas: &[u8]) -> Result<Vec<u8>, AllocError> {
+    let mut text = Vec::from_slice(alloc, b"age-encryption.org/v1\n")?;
+    text.extend_from_slice(stanzas)?;
+    text.extend_from_slice(b"--- AAAAAAAAAAAAAAAAAAAAAAAAAAAAAAAAAAAAAAAAAAA\n")?;
+    Ok(text)
+}
+
+/// Whether a passphrase with the limit 11 refuses these stanzas with this number.
+fn refuses(alloc: Global, stanzas: &[u8], number: u8) -> bool {
+    match around(alloc, stanzas) {
+        Ok(text) => by_passphrase(alloc, text.as_slice(), b"x", 11) == Err(number),
+        Err(_) => false,
+    }
+}
+
+/// The same of one stanza of these arguments, with a body of 32 zero bytes.
+fn refuses_one(alloc: Global, arguments: &[u8], number: u8) -> Result<bool, AllocError> {
+    let mut stanza = Vec::from_slice(alloc, b"-> ")?;
+    stanza.extend_from_slice(arguments)?;
+    stanza.extend_from_slice(b"\nAAAAAAAAAAAAAAAAAAAAAAAAAAAAAAAAAAAAAAAAAAA\n")?;
+    Ok(refuses(alloc, stanza.as_slice(), number))
+}
+
+/// Stanzas of another number of arguments, or with another salt.
+fn salt_rows(alloc: Global) -> Result<bool, AllocError> {
+    Ok(
+        refuses_one(alloc, b"x", 12)?
+            && refuses_one(alloc, b"scrypt AAAAAAAAAAAAAAAAAAAAAA", 10)?
+            && refuses_one(alloc, b"scrypt AAAAAAAAAAAAAAAAAAAAAA 1 1", 10)?
+            && refuses_one(alloc, b"scrypt AAAAAAAAAAAAAAAAAAAAA 1", 10)?
+            && refuses_one(alloc, b"scrypt AAAAAAAAAAAAAAAAAAAAAAA 1", 10)?
+            && refuses_one(alloc, b"scrypt AAAAAAAAAAAAAAAAAAAAAB 1", 10)?
+            && refuses_one(alloc, b"scrypt AAAAAAAAAAAAAAAAAAAAA= 1", 10)?,
+    )
+}
+
+/// Work factors.
+fn work_factor_rows(alloc: Global) -> Result<bool, AllocError> {
+    let mut long = Vec::from_slice(alloc, b"scrypt AAAAAAAAAAAAAAAAAAAAAA ")?;
+    long.resize(long.len() + 400, b'9')?;
+    Ok(
+        refuses_one(alloc, b"scrypt AAAAAAAAAAAAAAAAAAAAAA 018", 10)?
+            && refuses_one(alloc, b"scrypt AAAAAAAAAAAAAAAAAAAAAA 0", 10)?
+            && refuses_one(alloc, b"scrypt AAAAAAAAAAAAAAAAAAAAAA +1", 10)?
+            && refuses_one(alloc, b"scrypt AAAAAAAAAAAAAAAAAAAAAA 1x", 10)?
+            && refuses_one(alloc, b"scrypt AAAAAAAAAAAAAAAAAAAAAA 12", 11)?
+            && refuses_one(alloc, b"scrypt AAAAAAAAAAAAAAAAAAAAAA 23", 11)?
+            && refuses_one(alloc, b"scrypt AAAAAAAAAAAAAAAAAAAAAA 4294967297", 11)?
+            && refuses_one(alloc, b"scrypt AAAAAAAAAAAAAAAAAAAAAA 1", 13)?
+            && refuses_one(alloc, long.as_slice(), 11)?,
+    )
+}
+
+/// A body of 31 bytes, and scrypt stanzas beside others.
+fn stanza_rows(alloc: Global) -> bool {
+    refuses(
+        alloc,
+        b"-> scrypt AAAAAAAAAAAAAAAAAAAAAA 1\nAAAAAAAAAAAAAAAAAAAAAAAAAAAAAAAAAAAAAAAAAA\n",
+        10,
+    ) && refuses(
+        alloc,
+        b"-> scrypt AAAAAAAAAAAAAAAAAAAAAA 1\n\n-> scrypt AAAAAAAAAAAAAAAAAAAAAA 1\n\n",
+        9,
+    ) && refuses(alloc, b"-> scrypt\n\n-> X25519\n\n", 9)
+        && refuses(alloc, b"-> X25519\n\n-> x scrypt\n\n", 12)
+}
+
+/// The same header with another body in its one stanza.
+fn with_body(
+    alloc: Global,
+    stanza: &Stanza,
+    body: &[u8],
+    mac: [u8; 32],
+) -> Result<Header, AllocError> {
+    let mut args = Arguments::new(alloc);
+    for argument in stanza.args.as_slice() {
+        args.push(Bytes::from_vec(argument.as_slice().to_vec(alloc)?))?;
+    }
+    let mut stanzas = Stanzas::new(alloc);
+    stanzas.push(Stanza {
+        args,
+        body: Bytes::from_vec(body.to_vec(alloc)?),
+    })?;
+    Ok(Header { stanzas, mac })
+}
+
+/// Whether a header is refused for its MAC, where the MAC has one bit inverted, and for its
+/// body, where the body has.
+fn is_noticed(alloc: Global, bit: usize) -> Result<bool, AllocError>
+    requires { bit < 256 }
+{
+    let Some(passphrase) = Passphrase::new(b"kudebafon", 1) else {
+        return Ok(false);
+    };
+    let Ok((_taken, mut header)) = parsed(alloc, &WRITTEN, HEAD_MAX) else {
+        return Ok(false);
+    };
+    let [stanza] = header.stanzas.as_slice() else {
+        return Ok(false);
+    };
+    let mut body = stanza.body.as_slice().to_vec(alloc)?;
+    let Some(byte) = body.get_mut(bit / 8) else {
+        return Ok(false);
+    };
+    *byte ^= 1 << (bit % 8);
+    let other = with_body(alloc, stanza, body.as_slice(), header.mac)?;
+    header.mac[bit / 8] ^= 1 << (bit % 8);
+    Ok(
+        answer(alloc, &header, &passphrase) == Err(14)
+            && answer(alloc, &other, &passphrase) == Err(13),
+    )
+}
+
+/// The rows of passphrases and known keys: a header that Python made, opened and written; each
+/// shape that is refused, with its number; each bit of the MAC and of the body inverted. False too
+/// where memory is refused. True says that the definition gives Python's header.
+pub fn key_rows(alloc: Global) -> bool
+    ensures { IsTrue result → HeadText (scrypt_head (codes "kudebafon") 1 SALT KEY) WRITTEN }
+{
+    if !passphrase_rows(alloc) || !known_key_rows(alloc) || !stanza_rows(alloc) {
+        return false;
+    }
+    if !matches!(&salt_rows(alloc), Ok(true)) || !matches!(&work_factor_rows(alloc), Ok(true)) {
+        return false;
+    }
+    if !(0..256).all(|bit| matches!(&is_noticed(alloc, bit), Ok(true))) {
+        return false;
+    }
+    writes_python_s_header(alloc)
+}
+
+#[cfg(test)]
+mod tests {
+    use super::*;
+
+    #[test]
+    fn keys(rt: HostRuntime) {
+        assert!(rt; key_rows(rt.alloc()));
+    }
+}

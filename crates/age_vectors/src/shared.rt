@@ -1,0 +1,99 @@
+// What a shared secret finds in the X25519 stanzas of headers, which Python made.
+ghost use Rattle.std.specs.Prelude.{IsTrue};
+ghost use Rattle.age_keys.specs.SharedSecret.{IsSharedKey};
+ghost use Rattle.age_vectors.specs.Keys.{OpensIn};
+
+use crate::keys::{KEY, around, is_opened, opened};
+use age_keys::SharedSecret;
+use std::alloc::Global;
+
+const SECRET: [u8; 32] = [
+    64, 65, 66, 67, 68, 69, 70, 71, 72, 73, 74, 75, 76, 77, 78, 79, 80, 81, 82, 83, 84, 85, 86, 87,
+    88, 89, 90, 91, 92, 93, 94, 95,
+];
+
+const RECIPIENT: [u8; 32] = [
+    96, 97, 98, 99, 100, 101, 102, 103, 104, 105, 106, 107, 108, 109, 110, 111, 112, 113, 114, 115,
+    116, 117, 118, 119, 120, 121, 122, 123, 124, 125, 126, 127,
+];
+
+/// A header of one X25519 stanza.
+const ONE: [u8; 168] =
+    *b"age-encryption.org/v1\n-> X25519 AQIDBAUGBwgJCgsMDQ4PEBESExQVFhcYGRobHB0eHyA\njZAdkj7SfLxba9aaDaLOH15VqHxjezbflkA4yhWbOAQ\n--- bFHWTtINPd+NDhBKPJJS9Mjszxl4rvMbhTUfrtdiPco\n";
+
+/// Two, of which the second opens.
+const SECOND: &[u8] =
+    b"age-encryption.org/v1\n-> X25519 AQIDBAUGBwgJCgsMDQ4PEBESExQVFhcYGRobHB0eHyA\nj3qlNpeG/TXms2TPf47danvdz6ztdPR3yBvwF3MZghI\n-> X25519 ISIjJCUmJygpKissLS4vMDEyMzQ1Njc4OTo7PD0+P0A\nsaYyWtf1wzZgzf9vl9J/7nBFmW0FB4AEmpbiUeNVh+o\n--- bXk/jjBCNQusHcRRx8swxJZE7qK3Mqd7ifEGAgCYmUo\n";
+
+/// The same, and another stanza between them.
+const OTHER_BETWEEN: &[u8] =
+    b"age-encryption.org/v1\n-> X25519 AQIDBAUGBwgJCgsMDQ4PEBESExQVFhcYGRobHB0eHyA\nj3qlNpeG/TXms2TPf47danvdz6ztdPR3yBvwF3MZghI\n-> x\n\n-> X25519 ISIjJCUmJygpKissLS4vMDEyMzQ1Njc4OTo7PD0+P0A\nsaYyWtf1wzZgzf9vl9J/7nBFmW0FB4AEmpbiUeNVh+o\n--- o3wDOasAjDCzmjR1DNxHmM8X2kr9aYljLojyka/fAHo\n";
+
+/// Two that open, to different keys; the MAC is the first one's.
+const BOTH: [u8; 266] =
+    *b"age-encryption.org/v1\n-> X25519 AQIDBAUGBwgJCgsMDQ4PEBESExQVFhcYGRobHB0eHyA\njZAdkj7SfLxba9aaDaLOH15VqHxjezbflkA4yhWbOAQ\n-> X25519 ISIjJCUmJygpKissLS4vMDEyMzQ1Njc4OTo7PD0+P0A\neW76kh89C/64FSe3TwqnNiwgPUXJGJlt1Y5MoUcY2p0\n--- 7Y2k7eubz0pobTPGaIJsUajg7t05Ng7ko+tRc06PF3c\n";
+
+/// Stanzas of which one has a share of 31 bytes.
+const SHORT_FIRST: &[u8] =
+    b"-> X25519 AQIDBAUGBwgJCgsMDQ4PEBESExQVFhcYGRobHB0eHw\nj3qlNpeG/TXms2TPf47danvdz6ztdPR3yBvwF3MZghI\n-> X25519 ISIjJCUmJygpKissLS4vMDEyMzQ1Njc4OTo7PD0+P0A\nsaYyWtf1wzZgzf9vl9J/7nBFmW0FB4AEmpbiUeNVh+o\n";
+
+const SHORT_SECOND: &[u8] =
+    b"-> X25519 AQIDBAUGBwgJCgsMDQ4PEBESExQVFhcYGRobHB0eHyA\njZAdkj7SfLxba9aaDaLOH15VqHxjezbflkA4yhWbOAQ\n-> X25519 ISIjJCUmJygpKissLS4vMDEyMzQ1Njc4OTo7PD0+Pw\nsaYyWtf1wzZgzf9vl9J/7nBFmW0FB4AEmpbiUeNVh+o\n";
+
+/// Whether a shared secret refuses these stanzas with this number.
+fn refuses(alloc: Global, stanzas: &[u8], number: u8) -> bool {
+    match around(alloc, stanzas) {
+        Ok(text) => {
+            opened(
+                alloc,
+                text.as_slice(),
+                &SharedSecret::new(&SECRET, &RECIPIENT),
+            ) == Err(number)
+        }
+        Err(_) => false,
+    }
+}
+
+/// Another secret, a zero secret, and stanzas that are refused.
+fn refused_rows(alloc: Global) -> bool {
+    let other = SharedSecret::new(&RECIPIENT, &RECIPIENT);
+    let zero = SharedSecret::new(&[0; 32], &RECIPIENT);
+    opened(alloc, &ONE, &other) == Err(13)
+        && opened(alloc, &ONE, &zero) == Err(15)
+        && refuses(alloc, SHORT_FIRST, 15)
+        && refuses(alloc, SHORT_SECOND, 15)
+        && refuses(alloc, b"-> x\n\n", 12)
+        && refuses(alloc, b"-> X25519\n\n-> scrypt\n\n", 9)
+}
+
+/// The rows of a shared secret: headers of one X25519 stanza and of two, another secret, a zero
+/// secret, and stanzas that are refused. False too where memory is refused. True says that the
+/// definition finds the file key in the headers that Python made of one stanza, and of two that open.
+pub fn shared_rows(alloc: Global) -> bool
+    ensures one { IsTrue result
+        → OpensIn (IsSharedKey (record { secret = SECRET; recipient = RECIPIENT })) ONE KEY }
+    ensures first { IsTrue result
+        → OpensIn (IsSharedKey (record { secret = SECRET; recipient = RECIPIENT })) BOTH KEY }
+{
+    let shared = SharedSecret::new(&SECRET, &RECIPIENT);
+    if !refused_rows(alloc) {
+        return false;
+    }
+    if !is_opened(alloc, SECOND, &shared) || !is_opened(alloc, OTHER_BETWEEN, &shared) {
+        return false;
+    }
+    if !is_opened(alloc, &BOTH, &shared) {
+        return false;
+    }
+    is_opened(alloc, &ONE, &shared)
+}
+
+#[cfg(test)]
+mod tests {
+    use super::*;
+
+    #[test]
+    fn shared_secrets(rt: HostRuntime) {
+        assert!(rt; shared_rows(rt.alloc()));
+    }
+}
