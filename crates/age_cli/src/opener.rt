@@ -93,11 +93,7 @@ fn shared_of(bytes: &[u8]) -> Option<SharedSecret>
 }
 
 /// The shared secret and the recipient in a file.
-fn read_shared<F: FileSet>(
-    alloc: Global,
-    files: &mut F,
-    name: &str,
-) -> Result<SharedSecret, Ending>
+fn read_shared<F: FileSet>(alloc: Global, files: &mut F, name: &str) -> Result<SharedSecret, Ending>
     ensures told { F.tells files.new ≡ F.tells files.old }
     ensures kept { F.entry files.new ≡ F.entry files.old }
     ensures read { IfOk result (λ s. F.tells files.old ≡ true → IsSharedIn (F.entry files.old name.now) s) }

@@ -12,6 +12,7 @@ ghost use Rattle.age_cli.specs.Held.{Spares};
 ghost use Rattle.age_cli.specs.Runs.{Reports, Inspects};
 
 use crate::decryption::decrypt_file;
+use crate::drill::drill_file;
 use crate::encryption::encrypt_file;
 use crate::ending::{Ending, Usage};
 use crate::files::FileSet;
@@ -77,6 +78,7 @@ fn obey<F: FileSet, I: Source, O: Sink>(
         }
         Ok(Some(Request::Encrypt(asked))) => encrypt_file(alloc, files, &asked),
         Ok(Some(Request::Decrypt(asked))) => decrypt_file(alloc, files, &asked),
+        Ok(Some(Request::Drill(asked))) => drill_file(alloc, files, &asked, output),
         Ok(None) => Err(Ending::Usage(Usage::Unread)),
     }
 }
@@ -111,7 +113,9 @@ fn put_fault<E: Sink>(alloc: Global, faults: &mut E, fault: FileFault) -> Result
     let name = fault.name();
     let line = match fault.place() {
         Some(line) if number <= 8 => format!(in alloc; "age_tool: {number} {name} line {line}\n")?,
-        Some(chunk) if number <= 20 => format!(in alloc; "age_tool: {number} {name} chunk {chunk}\n")?,
+        Some(chunk) if number <= 20 => format!(in alloc;
+            "age_tool: {number} {name} chunk {chunk}\n"
+        )?,
         _ => format!(in alloc; "age_tool: {number} {name}\n")?,
     };
     put_bytes(faults, line.as_bytes())
