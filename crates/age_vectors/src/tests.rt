@@ -1,3 +1,4 @@
+mod drill;
 mod inspection;
 mod memory;
 mod program;
