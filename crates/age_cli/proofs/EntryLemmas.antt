@@ -1,5 +1,5 @@
 -- The files of a list, after one is put.
-use Rattle.std.proofs.Common.{◌≡◌, ◌≢◌, ℕ, ◌<◌, List, [], ◌∷◌, ◌++◌, length, get_or, Option, Some, None, true, false, Bool, refl, sym, ap, ◌∙◌, subst, arith}
+use Rattle.std.proofs.Common.{◌≡◌, ℕ, List, [], ◌∷◌, ◌++◌, length, get_or, Option, Some, None, true, false, Bool, refl, sym, ap, ◌∙◌, arith}
 use Rattle.std.specs.Prelude.{position, option_map, find, nat_lt, is_some}
 use Rattle.std.proofs.Common.{cond}
 use Rattle.std.specs.Option.{option_or}
@@ -7,7 +7,6 @@ use borrow.Author.Tests.{ltb-false}
 use Rattle.std.proofs.lemmas.Option.{slice_get_past}
 use Rattle.std.specs.List.{position_or_len}
 use Rattle.std.proofs.Math.ListN.{set}
-use Rattle.std.specs.Str.{bytes_eq}
 use Rattle.std.proofs.lemmas.Slice.Eq.{bytes_eq-Decides}
 use Rattle.std.proofs.lemmas.List.Folds.{find-set, find_past, find-append, find_at}
 use Rattle.std.proofs.lemmas.List.Quantifiers.{position-Some}

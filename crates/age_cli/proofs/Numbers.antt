@@ -1,8 +1,8 @@
 -- What a number of the command line is.
-use Rattle.std.proofs.Common.{◌≡◌, ℕ, List, Option, Some, None, Bool, true, false, not, is_some, refl, sym, ap, ◌∙◌}
+use Rattle.std.proofs.Common.{◌≡◌, ℕ, List, Option, Some, None, true, not, is_some, refl, sym, ap, ◌∙◌}
 use Rattle.std.specs.Prelude.{Result, Ok, option_and_then, option_map, slice_get}
 use Rattle.std.specs.Str.Parse.{ParsesUnsigned}
-use Rattle.clap.specs.Words.{Text, first_of, found_of, matched_of, one_text, one_of, rows_of, ReadsOne, read_as}
+use Rattle.clap.specs.Words.{Text, matched_of, one_text, one_of, rows_of, ReadsOne, read_as}
 use Rattle.clap.specs.declared.parser.matches.Found.{Found}
 use Rattle.clap.specs.declared.parser.matches.MatchedArg.{MatchedArg}
 use Rattle.clap.proofs.WalkLemmas.{one_text-rows}

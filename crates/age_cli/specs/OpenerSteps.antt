@@ -1,6 +1,6 @@
 -- From the options to what opens a file, step by step. What only private code cites.
 use Rattle.std.proofs.Common.{inl, inr}
-use Rattle.std.specs.Prelude.{◌≡◌, ◌⊎◌, ℕ, List, Option, Some, None}
+use Rattle.std.specs.Prelude.{◌≡◌, ℕ, List, Option, Some, None}
 use Rattle.clap.specs.Words.{Text}
 use Rattle.age_keys.specs.Keys.{SpellsKey}
 use Rattle.age_cli.specs.Requests.{text_of}

@@ -130,7 +130,6 @@ module _ (sealing : List ℕ → List ℕ → List ℕ) (opening : List ℕ → 
 
   -- the index rose: by one, and the text that came is one chunk more
   record IsRaised (base : List ℕ) (s : Segment) (piece : List ℕ) (ts : List (List ℕ)) : Type 0 where
-    open_before : (outcome opening n s).status ≡ Open
     by_one : at (with_piece s piece) ≡ at s + 1
     one : length ts ≡ 1
     chunks : first_chunks n (at (with_piece s piece)) (base ++ released opening n (with_piece s piece)) ≡ first_chunks n (at s) (base ++ released opening n s) ++ ts
@@ -163,7 +162,6 @@ module _ (sealing : List ℕ → List ℕ → List ℕ) (opening : List ℕ → 
       ∙ (ap (λ (k : ℕ). take (at next) (first_chunks n k base ++ (texts ++ ts))) start
       ∙ take_all (at next) (base_chunks ++ (texts ++ ts)) (omega (arith, length-append base_chunks (texts ++ ts), length-append texts ts, length-first_chunks n s.start base, count, by_one, one)))) in
       record {
-        open_before = o;
         by_one = by_one;
         one = one;
         chunks = there ∙ (sym (append_assoc base_chunks texts ts) ∙ ap (λ (xs : List (List ℕ)). xs ++ ts) (sym here));

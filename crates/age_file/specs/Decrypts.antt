@@ -114,8 +114,8 @@ module _ (Allows : Header → List ℕ → Type 0) where
   DecryptFails Refused old new written position fault =
       WritesNone old new written position × StartFails Allows Refused old.coming new.coming old.read_failed new.read_failed fault
 
--- the source is an age file of this text, and the unlocker has its key and no other, and no fault but want of memory; no block of the payload
--- opens except as its writer sealed it
+-- the source is an age file of this text, and the unlocker has its key and no other, and no fault but want of memory; no
+-- block of the payload opens except as its writer sealed it
 pub record IsUndamaged (Allows : Header → List ℕ → Type 0) (Refused : Header → KeyFault → Type 0) (coming : Option (List ℕ)) (text : List ℕ) : Type 0 where
   pub header : Header
   pub key : List ℕ

@@ -2,11 +2,12 @@
 //!
 //! A `Source` gives bytes and a `Sink` takes them. Both count their failures, and those over memory tell their bytes,
 //! so that the contract of an engine can name what it read and what it wrote. `inspect` reads a whole file and reports
-//! what its header holds and how much plaintext the bytes behind it would be.
+//! what its header holds and how much plaintext the bytes behind it would be. `encrypt` writes a file of what it reads, and
+//! `decrypt` the text of a file whose header an unlocker opens; where it stops, it hands out the position to go on from.
 #![tactic(auto)]
 
-mod encryption;
 mod decryption;
+mod encryption;
 mod failed;
 mod fault;
 mod head;
@@ -26,8 +27,8 @@ mod sink;
 mod source;
 mod start;
 
-pub use encryption::{Written, encrypt};
 pub use decryption::{Done, Stopped, decrypt};
+pub use encryption::{Written, encrypt};
 pub use failed::{Failed, Memory};
 pub use fault::FileFault;
 pub use inspection::inspect;
@@ -39,3 +40,6 @@ pub use report::{Report, StanzaReport, StanzaReports};
 pub use secret::Secret;
 pub use sink::{Sink, Writing};
 pub use source::{Reading, Source};
+
+#[cfg(test)]
+mod tests;

@@ -1,3 +1,4 @@
+mod commands;
 mod drill;
 mod inspection;
 mod memory;

@@ -110,10 +110,7 @@ fn deliveries_in_the_clear(rt: HostRuntime) -> Result<(), Fail> {
             b"piece 20 20\npiece 40 0\nrestart 18446744073709551615\nend\n".as_slice(),
             "1 failed-17 0\n2 failed-17 0\n3 refused-25 0\n4 failed-17 0\n",
         ),
-        (
-            b"piece 0 25\nend\n".as_slice(),
-            "1 open 4\n2 failed-18 4\n",
-        ),
+        (b"piece 0 25\nend\n".as_slice(), "1 open 4\n2 failed-18 4\n"),
         (
             b"piece 0 40\npiece 0 1\nend\n".as_slice(),
             "1 last 8\n2 failed-21 8\n3 failed-21 8\n",

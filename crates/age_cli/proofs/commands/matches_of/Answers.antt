@@ -1,6 +1,6 @@
-use Rattle.std.proofs.Common.{◌≡◌, ◌∙◌, ap, rules}
+use Rattle.std.proofs.Common.{◌≡◌, ◌∙◌, ap}
 use Rattle.std.proofs.lemmas.Result.{IfOk-weaker}
-use Rattle.clap.specs.Words.{App, app_of, is_simple, is_simple_and_free, subcommand_of, fault_of, FailsBy}
+use Rattle.clap.specs.Words.{App, app_of, is_simple, is_simple_and_free, subcommand_of, fault_of}
 use Rattle.clap.specs.Walk.{texts}
 use Rattle.clap.proofs.FaultLemmas.{fails_as}
 use Rattle.age_cli.specs.Commands.{age_tool}

@@ -1,4 +1,4 @@
-use Rattle.std.proofs.Common.{◌≡◌, ◌∙◌, ap, sym, subst, Some}
+use Rattle.std.proofs.Common.{◌∙◌, ap, sym, subst, Some}
 use Rattle.age_cli.specs.Decryptions.{DecryptsOut}
 use Rattle.age_cli.specs.OpenerSteps.{opener_of}
 use Rattle.age_cli.proofs.OpenerLemmas.{opener_made}

@@ -1,4 +1,4 @@
-use Rattle.std.proofs.Common.{◌≡◌, ◌∙◌, ap, sym, subst, List, ℕ, Option}
+use Rattle.std.proofs.Common.{◌∙◌, ap, sym, subst}
 use Rattle.age_cli.specs.Encryptions.{EncryptsOut, random_name}
 use Rattle.age_cli.specs.Openers.{without_line_feed}
 use Rattle.age_cli.specs.Requests.{text_of}
@@ -22,7 +22,7 @@ returns-in-Ok-clause-done g c = λ told.
     let input = ap (λ f. f c.args.asked.now.from.now) (sym k2) ∙ sym (c.in_ok-source.ensures.found t2).1 in
     record {
       secret = secret;
-      passphrase = (c.in_ok-pass.pass.items, (c.in_ok-pass.ensures.read told, ap (λ s. s.pass) is ∙ (c.trimmed.ensures ∙ ap without_line_feed c.as_slice.ensures.value)));
+      passphrase = (c.in_ok-pass.pass.items, c.in_ok-pass.ensures.read told, ap (λ s. s.pass) is ∙ (c.trimmed.ensures ∙ ap without_line_feed c.as_slice.ensures.value));
       log_is = ap (λ s. s.log) is;
       random_is = random_in _ random.0 random.1 c.in_ok-random.random secret held random.3 (ap (λ s. s.key) is) (ap (λ s. s.salt) is) (ap (λ s. s.nonce) is);
       output = subst (λ o. EncryptsOut secret o (entry c.write_out.new.files c.args.asked.now.to.now)) (sym input) (c.in-Ok.ensures.done t3);

@@ -1,4 +1,4 @@
-use Rattle.std.proofs.Common.{◌≡◌, ◌∙◌, ◌++◌, ap, sym, arith, List, ℕ, length, drop, refl}
+use Rattle.std.proofs.Common.{◌∙◌, ◌++◌, ap, arith, List, ℕ, drop, refl}
 use Rattle.age_cli.proofs.Cuts.{cut_in_two, front_length}
 use Rattle.age_cli.proofs.encryption.random_of.Goals as goal
 

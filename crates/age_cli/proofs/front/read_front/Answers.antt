@@ -1,4 +1,4 @@
-use Rattle.std.proofs.Common.{◌++◌, ◌∙◌, take, arith, ap, length}
+use Rattle.std.proofs.Common.{take, arith, ap, length}
 use Rattle.std.proofs.lemmas.List.{length-append, length-take}
 use Rattle.age_file.proofs.Bytes.{Consumes-then}
 use Rattle.age_cli.proofs.front.read_front.Goals as goal

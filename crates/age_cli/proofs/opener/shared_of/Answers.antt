@@ -1,4 +1,4 @@
-use Rattle.std.proofs.Common.{◌≡◌, ◌∙◌, ◌++◌, ap, sym, subst, arith, List, ℕ, length, Some}
+use Rattle.std.proofs.Common.{◌∙◌, ◌++◌, ap, sym, subst, arith, List, ℕ, length, Some}
 use Rattle.age_cli.specs.Openers.{IsSharedIn}
 use Rattle.age_cli.proofs.Cuts.{cut_in_two, front_length}
 use Rattle.age_cli.proofs.opener.shared_of.Goals as goal
