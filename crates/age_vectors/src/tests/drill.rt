@@ -10,6 +10,10 @@ use std::test::Fail;
 const CLEAR: &[u8] =
     b"abcd\0\0\0\0\0\0\0\0\0\0\0\0\0\0\0\0efgh\0\0\0\0\0\0\0\0\0\0\x01\x01\0\0\0\0";
 
+/// `abcdefghij`, sealed in the clear in three chunks.
+const THREE: &[u8] =
+    b"abcd\0\0\0\0\0\0\0\0\0\0\0\0\0\0\0\0efgh\0\0\0\0\0\0\0\0\0\0\x01\0\0\0\0\0ij\0\0\0\0\0\0\0\0\0\0\x02\x01\0\0\0\0";
+
 /// `abcdefgh`, sealed under the passphrase `correct horse` with work factor 1: an age file that Python made, with a
 /// header of 149 bytes.
 const SEALED: &[u8] =
@@ -121,6 +125,55 @@ fn deliveries_in_the_clear(rt: HostRuntime) -> Result<(), Fail> {
     Ok(())
 }
 
+// A payload of three chunks that ends early is refused by the place where it ends.
+#[test]
+fn payloads_that_are_cut(rt: HostRuntime) -> Result<(), Fail> {
+    let alloc = rt.alloc();
+    for (len, held, fault) in [
+        (0, 0, 20),
+        (1, 0, 18),
+        (15, 0, 18),
+        (16, 0, 17),
+        (19, 0, 17),
+        (20, 4, 20),
+        (21, 4, 18),
+        (35, 4, 18),
+        (36, 4, 19),
+        (37, 4, 17),
+        (39, 4, 17),
+        (40, 8, 20),
+        (41, 8, 18),
+        (55, 8, 18),
+        (56, 8, 19),
+        (57, 8, 17),
+    ] {
+        let script = format!(in alloc; "piece 0 {len}\nend\n")?;
+        let told = format!(in alloc; "1 open {held}\n2 failed-{fault} {held}\n")?;
+        let want = (0, told.as_str(), "");
+        see_clear(&rt, alloc, script.as_bytes(), THREE, want)?;
+    }
+    let want = (0, "1 open 8\n2 done 10\n", "");
+    see_clear(&rt, alloc, b"piece 0 58\nend\n", THREE, want)
+}
+
+#[test]
+fn chunks_out_of_order(rt: HostRuntime) -> Result<(), Fail> {
+    let alloc = rt.alloc();
+    for (script, told) in [
+        (
+            b"piece 0 20\npiece 40 18\npiece 20 20\nend\n".as_slice(),
+            "1 open 4\n2 open 4\n3 failed-17 4\n4 failed-17 4\n",
+        ),
+        (
+            b"piece 20 20\npiece 0 20\npiece 40 18\nend\n".as_slice(),
+            "1 failed-17 0\n2 failed-17 0\n3 failed-17 0\n4 failed-17 0\n",
+        ),
+    ] {
+        see_clear(&rt, alloc, script, THREE, (0, told, ""))?;
+    }
+    Ok(())
+}
+
 // The script is checked whole: nothing is printed.
 #[test]
 fn bad_lines(rt: HostRuntime) -> Result<(), Fail> {
@@ -191,22 +244,51 @@ fn scripts_that_are_too_long(rt: HostRuntime) -> Result<(), Fail> {
     see_clear(&rt, alloc, longer.as_slice(), CLEAR, too_long)
 }
 
-// The payload's length is tested before the script's lines, and a fault of the header before it.
 #[test]
-fn payloads_that_are_too_long(rt: HostRuntime) -> Result<(), Fail> {
+fn the_longest_payload(rt: HostRuntime) -> Result<(), Fail> {
     let alloc = rt.alloc();
-    let most = vec![in alloc; 0u8; 16_777_216]?;
-    let taken = (0, "1 open 0\n", "");
-    see_clear(&rt, alloc, b"flip 16777215\n", most.as_slice(), taken)?;
-    let longer = vec![in alloc; 0u8; 16_777_217]?;
-    let too_long = (2, "", "age_tool: payload too long\n");
-    see_clear(&rt, alloc, b"bad\n", longer.as_slice(), too_long)?;
+    let payload = vec![in alloc; 0u8; 16_777_216]?;
+    let want = (0, "1 open 0\n", "");
+    see_clear(&rt, alloc, b"flip 16777215\n", payload.as_slice(), want)
+}
+
+// The payload's length is tested before the script's lines.
+#[test]
+fn a_longer_payload(rt: HostRuntime) -> Result<(), Fail> {
+    let alloc = rt.alloc();
+    let payload = vec![in alloc; 0u8; 16_777_217]?;
+    let want = (2, "", "age_tool: payload too long\n");
+    see_clear(&rt, alloc, b"bad\n", payload.as_slice(), want)
+}
+
+fn with_a_longer_payload(alloc: Global) -> Result<Vec<u8>, Fail> {
     let mut file = SEALED[..165].to_vec(alloc)?;
-    file.extend_from_slice(longer.as_slice())?;
-    let bytes = file.as_slice();
-    see_sealed(&rt, alloc, b"bad\n", b"correct horse", bytes, too_long)?;
-    let wrong = (1, "", "age_tool: 13 WrongKey\n");
-    see_sealed(&rt, alloc, b"bad\n", b"x", bytes, wrong)
+    file.resize(165 + 16_777_217, 0)?;
+    Ok(file)
+}
+
+#[test]
+fn an_age_file_with_a_longer_payload(rt: HostRuntime) -> Result<(), Fail> {
+    let alloc = rt.alloc();
+    let file = with_a_longer_payload(alloc)?;
+    let want = (2, "", "age_tool: payload too long\n");
+    see_sealed(
+        &rt,
+        alloc,
+        b"bad\n",
+        b"correct horse",
+        file.as_slice(),
+        want,
+    )
+}
+
+// A fault of the key comes before the payload's length.
+#[test]
+fn a_wrong_key_of_a_longer_payload(rt: HostRuntime) -> Result<(), Fail> {
+    let alloc = rt.alloc();
+    let file = with_a_longer_payload(alloc)?;
+    let want = (1, "", "age_tool: 13 WrongKey\n");
+    see_sealed(&rt, alloc, b"bad\n", b"x", file.as_slice(), want)
 }
 
 #[test]
