@@ -2,7 +2,7 @@
 use Rattle.std.proofs.Common.{◌≡◌, refl, codes, List, [], ◌∷◌, Option, Some, None, option_map}
 use Rattle.clap.specs.Words.{Row, Text, first_of, one_of}
 use Rattle.clap.proofs.OnLiterals.{clap_on_literals}
-use Rattle.age_cli.specs.Commands.{age_tool, encrypting, decrypting, inspecting}
+use Rattle.age_cli.specs.Commands.{age_tool, encrypting, decrypting, inspecting, drilling}
 use Rattle.age_cli.specs.Asked.{refusals, named}
 use Rattle.age_cli.specs.Requests.{number_or}
 use Rattle.std.specs.Prelude.{ℕ}
@@ -14,9 +14,9 @@ abbrev out_and_limit : Option (Text × List Row) → Option (Text × Option Text
 out_and_limit = option_map (λ p. (p.0, first_of (codes "OUT") p.1, first_of (codes "save") p.1, number_or 22 (one_of (codes "max-log") p.1)))
 
 pub words_are_taken : refusals words ≡ []
-unfolding refusals clap_on_literals age_tool encrypting decrypting inspecting
+unfolding refusals clap_on_literals age_tool encrypting decrypting inspecting drilling
 words_are_taken = refl
 
 pub words_ask : out_and_limit (named words) ≡ Some (codes "decrypt", Some (codes "B"), None, 9)
-unfolding named clap_on_literals age_tool encrypting decrypting inspecting
+unfolding named clap_on_literals age_tool encrypting decrypting inspecting drilling
 words_ask = refl

@@ -4,6 +4,7 @@ use Rattle.clap.specs.Words.{App, Rule, Text, app_of, new_app, new_rule, with_ru
 use Rattle.clap.specs.Simple.{on_top}
 use Rattle.clap.specs.declared.builder.command.Command.TheViews.{out-Command}
 use Rattle.clap.specs.declared.builder.command.Command.{Command}
+use Rattle.clap.specs.declared.builder.ArgAction.TheVariants.{SetTrue}
 use Rattle.clap.specs.declared.builder.value_parser.ValueParser.TheVariants as vp
 
 -- `--ID VALUE`
@@ -16,6 +17,10 @@ required_rule r = record r { required = true }
 -- `--ID N` for N from 1 to 22
 abbrev pub number_rule : Text → Rule
 number_rule id = record (option_rule id) { parser = Some (vp.Signed (pos 1) (pos 22)) }
+
+-- `--ID`
+abbrev pub flag_rule : Text → Rule
+flag_rule id = record (new_rule id) { long = Some id; action = Some SetTrue }
 
 -- some option of the command reaches its subcommands
 abbrev pub has_globals : Command → Bool
@@ -48,8 +53,13 @@ decrypting = with_both_files (with_unlocking (new_app (codes "decrypt")))
 unfoldable pub inspecting : App
 inspecting = with_rule (new_app (codes "inspect")) (new_rule (codes "FILE"))
 
+-- `drill [--clear] [--pass FILE] SCRIPT IN`
+unfoldable pub drilling : App
+drilling = with_rule (with_rule (with_rule (with_rule (new_app (codes "drill")) (flag_rule (codes "clear")))
+    (option_rule (codes "pass"))) (required_rule (new_rule (codes "SCRIPT")))) (required_rule (new_rule (codes "IN")))
+
 -- the whole program, which reads the words after its name
 unfoldable pub age_tool : App
-age_tool = with_subcommand (with_subcommand (with_subcommand
+age_tool = with_subcommand (with_subcommand (with_subcommand (with_subcommand
     (on_top (λ s. record s { no_binary_name = true; subcommand_required = true }) (new_app (codes "age_tool")))
-    encrypting.top) decrypting.top) inspecting.top
+    encrypting.top) decrypting.top) inspecting.top) drilling.top

@@ -1,5 +1,5 @@
 -- What a command asks for, by what stands for each of its arguments.
-use Rattle.std.specs.Prelude.{◌≡◌, ℕ, List, Option, Some, codes, option_map}
+use Rattle.std.specs.Prelude.{◌≡◌, ℕ, true, false, List, Option, Some, None, codes, option_map}
 use Rattle.std.specs.Option.{option_map_or}
 use Rattle.std.specs.Str.Parse.{digits_value, without_leading_plus}
 use Rattle.std.specs.Borrow.{Bor}
@@ -8,8 +8,9 @@ use Rattle.age_cli.specs.Asked.{Asks}
 use Rattle.age_cli.specs.declared.request.Encrypting.{Encrypting}
 use Rattle.age_cli.specs.declared.request.Unlocking.{Unlocking}
 use Rattle.age_cli.specs.declared.request.Decrypting.{Decrypting}
+use Rattle.age_cli.specs.declared.request.Drilling.{Drilling}
 use Rattle.age_cli.specs.declared.request.Request.{Request}
-use Rattle.age_cli.specs.declared.request.Request.TheVariants.{Inspect, Decrypt, Encrypt}
+use Rattle.age_cli.specs.declared.request.Request.TheVariants.{Inspect, Decrypt, Encrypt, Drill}
 
 -- the number that a text spells, or this one where there is no text
 abbrev pub number_or : ℕ → Option Text → ℕ
@@ -37,9 +38,17 @@ pub record IsDecrypting (rows : List Row) (d : Decrypting) : Type 0 where
   pub from : Some d.from.now ≡ first_of (codes "IN") rows
   pub to : Some d.to.now ≡ first_of (codes "OUT") rows
 
+pub record IsDrilling (rows : List Row) (d : Drilling) : Type 0 where
+  pub clear : one_of (codes "clear") rows ≡ Some (codes "true") → d.clear ≡ true
+  pub sealed : one_of (codes "clear") rows ≡ None → d.clear ≡ false
+  pub pass : text_of d.pass ≡ first_of (codes "pass") rows
+  pub script : Some d.script.now ≡ first_of (codes "SCRIPT") rows
+  pub from : Some d.from.now ≡ first_of (codes "IN") rows
+
 abbrev pub IsRequest : Text → List Row → Request → Type 0
 IsRequest name rows (Encrypt e) = (name ≡ codes "encrypt") × IsEncrypting rows e
 IsRequest name rows (Decrypt d) = (name ≡ codes "decrypt") × IsDecrypting rows d
+IsRequest name rows (Drill d) = (name ≡ codes "drill") × IsDrilling rows d
 IsRequest name rows (Inspect file) = (name ≡ codes "inspect") × (text_of file ≡ first_of (codes "FILE") rows)
 
 -- the words ask for this

@@ -3,12 +3,12 @@
 ghost use Rattle.std.specs.Prelude.{◌≡◌, false, IfOk};
 ghost use Rattle.clap.specs.Words.{app_of, rule_of, new_rule, with_rule, with_subcommand, new_app, FailsBy, subcommand_rows_of};
 ghost use Rattle.clap.specs.Walk.{texts};
-ghost use Rattle.age_cli.specs.Commands.{HasApp, has_globals, option_rule, number_rule, required_rule, with_unlocking, with_both_files};
-ghost use Rattle.age_cli.specs.Commands.{encrypting, decrypting, inspecting, age_tool};
+ghost use Rattle.age_cli.specs.Commands.{HasApp, has_globals, option_rule, number_rule, flag_rule, required_rule, with_unlocking, with_both_files};
+ghost use Rattle.age_cli.specs.Commands.{encrypting, decrypting, inspecting, drilling, age_tool};
 ghost use Rattle.age_cli.specs.Asked.{refusals, named};
 
 use crate::help;
-use clap::{Arg, ArgMatches, Command, Error};
+use clap::{Arg, ArgAction, ArgMatches, Command, Error};
 use std::alloc::{AllocError, Global};
 
 /// `--ID VALUE`.
@@ -25,6 +25,17 @@ fn number<'a>(alloc: Global, id: &'a str, help: &'a str) -> Arg<'a>
     ensures local { result.global ≡ false }
 {
     option(alloc, id, "N", help).value_parser(clap::value_parser!(u32).range(1..=22))
+}
+
+/// `--ID`.
+fn flag<'a>(alloc: Global, id: &'a str, help: &'a str) -> Arg<'a>
+    ensures rule { rule_of result ≡ flag_rule id.entry.now }
+    ensures local { result.global ≡ false }
+{
+    Arg::new(alloc, id)
+        .long(id)
+        .action(ArgAction::SetTrue)
+        .help(help)
 }
 
 /// A word that has to be there.
@@ -104,6 +115,17 @@ fn inspect<'a>(alloc: Global) -> Result<Command<'a>, AllocError>
     add(plain, Arg::new(alloc, "FILE").help(help::INSPECTED))
 }
 
+#[tactic(auto, unfolding(crate::specs::Commands::drilling))]
+fn drill<'a>(alloc: Global) -> Result<Command<'a>, AllocError>
+    ensures { IfOk result (HasApp drilling) }
+{
+    let plain = command(alloc, "drill", help::DRILL, help::AFTER_DRILL);
+    let with_clear = add(plain, flag(alloc, "clear", help::CLEAR))?;
+    let with_pass = add(with_clear, option(alloc, "pass", "FILE", help::PASS))?;
+    let with_script = add(with_pass, operand(alloc, "SCRIPT", help::SCRIPT))?;
+    add(with_script, operand(alloc, "IN", help::DRILLED))
+}
+
 /// Adds a command of the program's.
 fn enter<'a>(program: Command<'a>, sub: Command<'a>) -> Result<Command<'a>, AllocError>
     requires own { has_globals program ≡ false }
@@ -125,7 +147,8 @@ fn program<'a>(alloc: Global) -> Result<Command<'a>, AllocError>
         .subcommand_required(true);
     let first = enter(bare, encrypt(alloc)?)?;
     let second = enter(first, decrypt(alloc)?)?;
-    enter(second, inspect(alloc)?)
+    let third = enter(second, inspect(alloc)?)?;
+    enter(third, drill(alloc)?)
 }
 
 /// What the words give for each argument.

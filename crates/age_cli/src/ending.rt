@@ -21,21 +21,33 @@ pub(crate) enum Usage {
     BadSharedFile,
     /// Fewer than 48 bytes.
     BadRandomFile,
+    /// Neither of the options that say what opens a payload for a drill, or both.
+    GiveClearOrPass,
+    /// A script of more bytes or lines than a drill takes.
+    ScriptTooLong,
+    /// This line of a script, from 1, isn't one.
+    BadScriptLine(usize),
+    /// A payload of more bytes than a drill takes.
+    PayloadTooLong,
     /// The words are taken, and ask for nothing that can be done.
     Unread,
 }
 
 impl fmt::Display for Usage {
     fn fmt<W: fmt::Write>(&self, f: &mut fmt::Formatter<W>) -> fmt::Result {
-        f.write_str(match self {
-            Usage::GiveOneOpener => "give one of --pass, --file-key and --shared",
-            Usage::BadFileKey => "bad file key",
-            Usage::SameFile => "same file named twice",
-            Usage::BadPassphraseFile => "bad passphrase file",
-            Usage::BadSharedFile => "bad shared file",
-            Usage::BadRandomFile => "bad random file",
-            Usage::Unread => "bad command line",
-        })
+        match self {
+            Usage::GiveOneOpener => write!(f, "give one of --pass, --file-key and --shared"),
+            Usage::BadFileKey => write!(f, "bad file key"),
+            Usage::SameFile => write!(f, "same file named twice"),
+            Usage::BadPassphraseFile => write!(f, "bad passphrase file"),
+            Usage::BadSharedFile => write!(f, "bad shared file"),
+            Usage::BadRandomFile => write!(f, "bad random file"),
+            Usage::GiveClearOrPass => write!(f, "give one of --clear and --pass"),
+            Usage::ScriptTooLong => write!(f, "script too long"),
+            Usage::BadScriptLine(line) => write!(f, "bad script line {line}"),
+            Usage::PayloadTooLong => write!(f, "payload too long"),
+            Usage::Unread => write!(f, "bad command line"),
+        }
     }
 }
 

@@ -31,6 +31,17 @@ pub(crate) const AFTER_INSPECT: &str = "Example: age_tool inspect notes.txt.age
 
 Nothing is decrypted: the report says how long the header is, which stanzas it has, and how long the plaintext would be.";
 
+pub(crate) const DRILL: &str =
+    "Deliver a payload by a script, and tell after each line what is held";
+
+pub(crate) const AFTER_DRILL: &str =
+    "Example: age_tool drill --pass passphrase.txt script.txt notes.txt.age
+
+Give one of --clear and --pass. Each line of the script ends with a line feed and is one of: `piece OFFSET LENGTH` delivers these bytes of \
+the payload; `flip OFFSET` inverts all bits of a byte of the payload for later pieces; `end` ends the input; `restart INDEX` starts again \
+at a chunk. Each line is answered by its number, the status (open, last, done, failed-N or refused-25) and the count of plaintext bytes \
+held. A script has at most 1,000 lines and 1,048,576 bytes, a payload at most 16,777,216 bytes.";
+
 pub(crate) const PASS: &str =
     "File with the passphrase, 1 to 65,536 bytes; one line feed at its end isn't part of it";
 
@@ -58,5 +69,13 @@ pub(crate) const FILE_OUT: &str = "The age file to write; another name than IN";
 pub(crate) const FILE_IN: &str = "The age file to decrypt";
 
 pub(crate) const PLAIN_OUT: &str = "The file to write; another name than IN and the file of --save";
+
+pub(crate) const CLEAR: &str =
+    "IN is a payload whose chunks, 4 bytes and 16 of a mark, are in the clear: an example";
+
+pub(crate) const SCRIPT: &str = "The file with the script";
+
+pub(crate) const DRILLED: &str =
+    "The age file whose payload is delivered, or with --clear the payload";
 
 pub(crate) const INSPECTED: &str = "The age file; standard input where none is named";

@@ -7,6 +7,7 @@
 
 mod commands;
 mod decryption;
+mod drill;
 mod encryption;
 mod ending;
 mod files;
@@ -21,6 +22,7 @@ mod print;
 mod program;
 mod reading;
 mod request;
+mod script;
 
 pub use files::FileSet;
 pub use host_files::HostFiles;

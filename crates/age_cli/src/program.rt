@@ -12,6 +12,7 @@ ghost use Rattle.age_cli.specs.Held.{Spares};
 ghost use Rattle.age_cli.specs.Runs.{Reports, Inspects};
 
 use crate::decryption::decrypt_file;
+use crate::drill::drill_file;
 use crate::encryption::encrypt_file;
 use crate::ending::{Ending, Usage};
 use crate::files::FileSet;
@@ -77,6 +78,7 @@ fn obey<F: FileSet, I: Source, O: Sink>(
         }
         Ok(Some(Request::Encrypt(asked))) => encrypt_file(alloc, files, &asked),
         Ok(Some(Request::Decrypt(asked))) => decrypt_file(alloc, files, &asked),
+        Ok(Some(Request::Drill(asked))) => drill_file(alloc, files, &asked, output),
         Ok(None) => Err(Ending::Usage(Usage::Unread)),
     }
 }

@@ -1,13 +1,13 @@
 //! Reads what the words ask for.
 
-ghost use Rattle.std.specs.Prelude.{◌≡◌, ◌≤◌, [], Some, IfOk, IfErr, IfSome, option_map, codes};
+ghost use Rattle.std.specs.Prelude.{◌≡◌, ◌≤◌, [], true, false, Some, None, IfOk, IfErr, IfSome, option_map, codes};
 ghost use Rattle.clap.specs.Words.{subcommand_rows_of, rows_of, found_of, one_of, first_of, kind_of};
 ghost use Rattle.clap.specs.Walk.{texts};
 ghost use Rattle.age_cli.specs.Asked.{refusals};
-ghost use Rattle.age_cli.specs.Requests.{number_or, text_of, IsEncrypting, IsUnlocking, IsDecrypting, Requests};
+ghost use Rattle.age_cli.specs.Requests.{number_or, text_of, IsEncrypting, IsUnlocking, IsDecrypting, IsDrilling, Requests};
 
 use crate::commands::matches_of;
-use crate::request::{Decrypting, Encrypting, Request, Unlocking};
+use crate::request::{Decrypting, Drilling, Encrypting, Request, Unlocking};
 use clap::error::ErrorKind;
 use clap::{ArgMatches, Error};
 use std::alloc::Global;
@@ -33,6 +33,14 @@ fn text<'a>(matches: &ArgMatches<'a>, id: &str) -> Option<&'a str>
     ensures { text_of result ≡ first_of id.now (rows_of (found_of matches.now)) }
 {
     matches.get_str(id)
+}
+
+/// Whether a flag is given.
+fn flag(matches: &ArgMatches<'_>, id: &str) -> bool
+    ensures given { one_of id.now (rows_of (found_of matches.now)) ≡ Some (codes "true") → result ≡ true }
+    ensures none { one_of id.now (rows_of (found_of matches.now)) ≡ None → result ≡ false }
+{
+    matches.get_flag(id)
 }
 
 /// The command that the words name, with its own matches.
@@ -76,6 +84,17 @@ fn decrypting<'a>(matches: &ArgMatches<'a>) -> Option<Decrypting<'a>>
     })
 }
 
+fn drilling<'a>(matches: &ArgMatches<'a>) -> Option<Drilling<'a>>
+    ensures { IfSome result (IsDrilling (rows_of (found_of matches.now))) }
+{
+    Some(Drilling {
+        clear: flag(matches, "clear"),
+        pass: text(matches, "pass"),
+        script: text(matches, "SCRIPT")?,
+        from: text(matches, "IN")?,
+    })
+}
+
 /// What the words ask for. A request is there wherever the words are taken, since each word that is taken is of an
 /// argument that the command has; the parser of command lines doesn't promise this, so there is an answer for none.
 pub(crate) fn read_request<'a>(
@@ -103,6 +122,12 @@ pub(crate) fn read_request<'a>(
     }
     if name == "inspect" {
         return Ok(Some(Request::Inspect(text(inner, "FILE"))));
+    }
+    if name == "drill" {
+        return match drilling(inner) {
+            Some(asked) => Ok(Some(Request::Drill(asked))),
+            None => Ok(None),
+        };
     }
     Ok(None)
 }

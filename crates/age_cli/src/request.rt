@@ -28,6 +28,15 @@ pub(crate) struct Decrypting<'a> {
     pub(crate) to: &'a str,
 }
 
+/// What `drill` is asked.
+#[derive(Clone, Copy, Debug)]
+pub(crate) struct Drilling<'a> {
+    pub(crate) clear: bool,
+    pub(crate) pass: Option<&'a str>,
+    pub(crate) script: &'a str,
+    pub(crate) from: &'a str,
+}
+
 /// What the program is asked.
 #[derive(Clone, Copy, Debug)]
 pub(crate) enum Request<'a> {
@@ -37,4 +46,6 @@ pub(crate) enum Request<'a> {
     Decrypt(Decrypting<'a>),
     /// To inspect the file of this name, or the input.
     Inspect(Option<&'a str>),
+    /// To deliver a payload by a script.
+    Drill(Drilling<'a>),
 }

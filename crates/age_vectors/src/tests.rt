@@ -1,4 +1,5 @@
 mod commands;
+mod drill;
 mod inspection;
 mod memory;
 mod program;
