@@ -1,7 +1,9 @@
 // Hostile bytes: a payload of three blocks, sealed by a box that hides nothing, cut at every byte, with its blocks in
-// wrong orders, and started again at every chunk; each with its pieces whole and byte by byte.
+// wrong orders, and started again at every chunk; and sealed under a real key, with each of its bits inverted. Each with its
+// pieces whole and byte by byte.
 use crate::delivery::{TEN, failed};
-use age_stream::{ClearBox, Delivery, Status, StreamKind, drill};
+use age_keys::{FileKey, PayloadKey, payload_key};
+use age_stream::{ChunkBox, ClearBox, Delivery, Status, StreamKind, drill, seal_all};
 use std::alloc::Global;
 
 /// What a drill leaves of hostile bytes.
@@ -9,6 +11,7 @@ pub fn hostile_rows(alloc: Global) -> bool {
     (0..=58).all(|cut| is_cut_right(alloc, cut))
         && (0..6).all(|order| is_order_right(alloc, order))
         && (0..=3).all(|k| is_restart_right(alloc, k))
+        && are_bits_right(alloc)
 }
 
 /// What is expected of a drill.
@@ -21,15 +24,26 @@ struct Expected<'a> {
 }
 
 // Whether these deliveries leave this, with their pieces whole and byte by byte.
-fn leaves(alloc: Global, events: &[Delivery<'_>], expected: Expected<'_>) -> bool {
+fn leaves<B: ChunkBox>(
+    alloc: Global,
+    key: &B,
+    events: &[Delivery<'_>],
+    expected: Expected<'_>,
+) -> bool {
     let Some(cut) = by_bytes(alloc, events) else {
         return false;
     };
-    leaves_at_once(alloc, events, expected) && leaves_at_once(alloc, cut.as_slice(), expected)
+    leaves_at_once(alloc, key, events, expected)
+        && leaves_at_once(alloc, key, cut.as_slice(), expected)
 }
 
-fn leaves_at_once(alloc: Global, events: &[Delivery<'_>], expected: Expected<'_>) -> bool {
-    match drill::<ClearBox, 20>(alloc, &ClearBox, events) {
+fn leaves_at_once<B: ChunkBox>(
+    alloc: Global,
+    key: &B,
+    events: &[Delivery<'_>],
+    expected: Expected<'_>,
+) -> bool {
+    match drill::<B, 20>(alloc, key, events) {
         Ok(held) => {
             held.text.as_slice() == expected.text
                 && held.index == expected.index
@@ -80,6 +94,7 @@ fn is_cut_right(alloc: Global, cut: usize) -> bool {
     };
     leaves(
         alloc,
+        &ClearBox,
         &[Delivery::Piece(front), Delivery::End],
         Expected {
             text,
@@ -109,6 +124,7 @@ fn is_order_right(alloc: Global, order: usize) -> bool {
     };
     leaves(
         alloc,
+        &ClearBox,
         &[
             Delivery::Piece(a),
             Delivery::Piece(b),
@@ -136,6 +152,7 @@ fn is_restart_right(alloc: Global, k: u64) -> bool {
     };
     leaves(
         alloc,
+        &ClearBox,
         &[
             Delivery::Piece(TEN),
             Delivery::Restart(k),
@@ -147,6 +164,40 @@ fn is_restart_right(alloc: Global, k: u64) -> bool {
             index: 2,
             status: Status::Done,
             refused: if k < 3 { 0 } else { 1 },
+        },
+    )
+}
+
+// The same text under a real key, with each bit of its payload inverted alone.
+fn are_bits_right(alloc: Global) -> bool {
+    let key = payload_key(&FileKey::new([7; 16]), &[9; 16]);
+    let Ok(sealed) = seal_all::<PayloadKey, 20>(alloc, &key, b"abcdefghij") else {
+        return false;
+    };
+    (0..58 * 8).all(|bit| is_bit_right(alloc, &key, sealed.as_slice(), bit))
+}
+
+fn is_bit_right(alloc: Global, key: &PayloadKey, sealed: &[u8], bit: usize) -> bool {
+    let Ok(mut bytes) = sealed.to_vec(alloc) else {
+        return false;
+    };
+    if let Some(byte) = bytes.get_mut(bit / 8) {
+        *byte ^= 1 << (bit % 8);
+    }
+    let (text, index): (&[u8], u64) = match bit / 160 {
+        0 => (b"", 0),
+        1 => (b"abcd", 1),
+        _ => (b"abcdefgh", 2),
+    };
+    leaves(
+        alloc,
+        key,
+        &[Delivery::Piece(bytes.as_slice()), Delivery::End],
+        Expected {
+            text,
+            index,
+            status: failed(StreamKind::ChunkDamaged, index),
+            refused: 0,
         },
     )
 }
