@@ -3,18 +3,18 @@ use Rattle.std.proofs.Common.{◌≡◌, true, refl, List, [], None, ap, ◌∙�
 use Rattle.clap.specs.Words.{is_simple, is_simple_and_free, Row, Text}
 use Rattle.age_cli.specs.Asked.{named, Asks}
 use Rattle.clap.proofs.OnLiterals.{clap_on_literals}
-use Rattle.age_cli.specs.Commands.{age_tool, inspecting}
+use Rattle.age_cli.specs.Commands.{age_tool, encrypting, decrypting, inspecting}
 
 pub is_simple-age_tool : is_simple age_tool ≡ true
-unfolding clap_on_literals age_tool inspecting
+unfolding clap_on_literals age_tool encrypting decrypting inspecting
 is_simple-age_tool = refl
 
 pub is_free-age_tool : is_simple_and_free age_tool ≡ true
-unfolding clap_on_literals age_tool inspecting
+unfolding clap_on_literals age_tool encrypting decrypting inspecting
 is_free-age_tool = refl
 
 named-nothing : named [] ≡ None
-unfolding named clap_on_literals age_tool inspecting
+unfolding named clap_on_literals age_tool encrypting decrypting inspecting
 named-nothing = refl
 
 -- no words name no command

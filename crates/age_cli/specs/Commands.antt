@@ -1,9 +1,21 @@
 -- The commands of the program, as its parser of command lines sees them.
-use Rattle.std.specs.Prelude.{◌≡◌, Bool, true, false, codes}
-use Rattle.clap.specs.Words.{App, app_of, new_app, new_rule, with_rule, with_subcommand}
+use Rattle.std.specs.Prelude.{◌≡◌, Bool, pos, true, false, Some, codes}
+use Rattle.clap.specs.Words.{App, Rule, Text, app_of, new_app, new_rule, with_rule, with_subcommand}
 use Rattle.clap.specs.Simple.{on_top}
 use Rattle.clap.specs.declared.builder.command.Command.TheViews.{out-Command}
 use Rattle.clap.specs.declared.builder.command.Command.{Command}
+use Rattle.clap.specs.declared.builder.value_parser.ValueParser.TheVariants as vp
+
+-- `--ID VALUE`
+abbrev pub option_rule : Text → Rule
+option_rule id = record (new_rule id) { long = Some id; value_names = 1 }
+
+abbrev pub required_rule : Rule → Rule
+required_rule r = record r { required = true }
+
+-- `--ID N` for N from 1 to 22
+abbrev pub number_rule : Text → Rule
+number_rule id = record (option_rule id) { parser = Some (vp.Signed (pos 1) (pos 22)) }
 
 -- some option of the command reaches its subcommands
 abbrev pub has_globals : Command → Bool
@@ -13,12 +25,31 @@ has_globals c = (out-Command c).has_globals
 abbrev pub HasApp : App → Command → Type 0
 HasApp a c = (app_of c ≡ a) × (has_globals c ≡ false)
 
+-- `[--pass FILE] [--file-key HEX] [--shared FILE] [--max-log N] [--save FILE]`
+abbrev pub with_unlocking : App → App
+with_unlocking a = with_rule (with_rule (with_rule (with_rule (with_rule a
+    (option_rule (codes "pass"))) (option_rule (codes "file-key"))) (option_rule (codes "shared")))
+    (number_rule (codes "max-log"))) (option_rule (codes "save"))
+
+-- `IN OUT`
+abbrev pub with_both_files : App → App
+with_both_files a = with_rule (with_rule a (required_rule (new_rule (codes "IN")))) (required_rule (new_rule (codes "OUT")))
+
+-- `encrypt --pass FILE [--log N] [--random FILE] IN OUT`
+unfoldable pub encrypting : App
+encrypting = with_both_files (with_rule (with_rule (with_rule (new_app (codes "encrypt"))
+    (required_rule (option_rule (codes "pass")))) (number_rule (codes "log"))) (option_rule (codes "random")))
+
+-- `decrypt`, what opens the file, `IN OUT`
+unfoldable pub decrypting : App
+decrypting = with_both_files (with_unlocking (new_app (codes "decrypt")))
+
 -- `inspect [FILE]`
 unfoldable pub inspecting : App
 inspecting = with_rule (new_app (codes "inspect")) (new_rule (codes "FILE"))
 
 -- the whole program, which reads the words after its name
 unfoldable pub age_tool : App
-age_tool = with_subcommand
+age_tool = with_subcommand (with_subcommand (with_subcommand
     (on_top (λ s. record s { no_binary_name = true; subcommand_required = true }) (new_app (codes "age_tool")))
-    inspecting.top
+    encrypting.top) decrypting.top) inspecting.top

@@ -1,10 +1,15 @@
 -- How runs end.
-use Rattle.std.specs.Prelude.{ℕ}
+use Rattle.std.specs.Prelude.{ℕ, Bool, true, false, if◌then◌else◌}
 use Rattle.age_cli.specs.declared.ending.Ending.{Ending}
-use Rattle.age_cli.specs.declared.ending.Ending.TheVariants.{Words, Unread, Fault}
+use Rattle.age_cli.specs.declared.ending.Ending.TheVariants.{Words, Usage, Fault, Unsaved}
+
+-- the command line was refused
+abbrev pub is_usage : Ending → Bool
+is_usage (Words text) = true
+is_usage (Usage usage) = true
+is_usage (Fault fault) = false
+is_usage (Unsaved fault second) = false
 
 -- the status of the program: 1 on a fault, 2 for a bad command line
 abbrev pub status_of : Ending → ℕ
-status_of (Words text) = 2
-status_of Unread = 2
-status_of (Fault fault) = 1
+status_of e = if is_usage e then 2 else 1

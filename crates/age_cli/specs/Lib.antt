@@ -5,3 +5,10 @@ pub mod Requests
 pub mod Endings
 pub mod ReportTexts
 pub mod Runs
+pub mod Held
+pub mod Fronts
+pub mod Openers
+pub mod OpenerSteps
+pub mod Encryptions
+pub mod Decryptions
+pub mod Randoms

@@ -1,15 +1,45 @@
 -- What a command asks for, by what stands for each of its arguments.
-use Rattle.std.specs.Prelude.{◌≡◌, List, Option, codes, option_map}
+use Rattle.std.specs.Prelude.{◌≡◌, ℕ, List, Option, Some, codes, option_map}
+use Rattle.std.specs.Option.{option_map_or}
+use Rattle.std.specs.Str.Parse.{digits_value, without_leading_plus}
 use Rattle.std.specs.Borrow.{Bor}
-use Rattle.clap.specs.Words.{Row, Text, first_of}
+use Rattle.clap.specs.Words.{Row, Text, first_of, one_of}
 use Rattle.age_cli.specs.Asked.{Asks}
+use Rattle.age_cli.specs.declared.request.Encrypting.{Encrypting}
+use Rattle.age_cli.specs.declared.request.Unlocking.{Unlocking}
+use Rattle.age_cli.specs.declared.request.Decrypting.{Decrypting}
 use Rattle.age_cli.specs.declared.request.Request.{Request}
-use Rattle.age_cli.specs.declared.request.Request.TheVariants.{Inspect}
+use Rattle.age_cli.specs.declared.request.Request.TheVariants.{Inspect, Decrypt, Encrypt}
+
+-- the number that a text spells, or this one where there is no text
+abbrev pub number_or : ℕ → Option Text → ℕ
+number_or default text = option_map_or (λ t. digits_value 10 (without_leading_plus t)) text default
 
 abbrev pub text_of : Option (Bor Text) → Option Text
 text_of = option_map (λ s. s.now)
 
+pub record IsEncrypting (rows : List Row) (e : Encrypting) : Type 0 where
+  pub pass : Some e.pass.now ≡ first_of (codes "pass") rows
+  pub log : e.log ≡ number_or 18 (one_of (codes "log") rows)
+  pub random : text_of e.random ≡ first_of (codes "random") rows
+  pub from : Some e.from.now ≡ first_of (codes "IN") rows
+  pub to : Some e.to.now ≡ first_of (codes "OUT") rows
+
+pub record IsUnlocking (rows : List Row) (u : Unlocking) : Type 0 where
+  pub pass : text_of u.pass ≡ first_of (codes "pass") rows
+  pub file_key : text_of u.file_key ≡ first_of (codes "file-key") rows
+  pub shared : text_of u.shared ≡ first_of (codes "shared") rows
+  pub max_log : u.max_log ≡ number_or 22 (one_of (codes "max-log") rows)
+
+pub record IsDecrypting (rows : List Row) (d : Decrypting) : Type 0 where
+  pub unlocking : IsUnlocking rows d.unlocking
+  pub save : text_of d.save ≡ first_of (codes "save") rows
+  pub from : Some d.from.now ≡ first_of (codes "IN") rows
+  pub to : Some d.to.now ≡ first_of (codes "OUT") rows
+
 abbrev pub IsRequest : Text → List Row → Request → Type 0
+IsRequest name rows (Encrypt e) = (name ≡ codes "encrypt") × IsEncrypting rows e
+IsRequest name rows (Decrypt d) = (name ≡ codes "decrypt") × IsDecrypting rows d
 IsRequest name rows (Inspect file) = (name ≡ codes "inspect") × (text_of file ≡ first_of (codes "FILE") rows)
 
 -- the words ask for this

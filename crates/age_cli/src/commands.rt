@@ -3,16 +3,47 @@
 ghost use Rattle.std.specs.Prelude.{◌≡◌, false, IfOk};
 ghost use Rattle.clap.specs.Words.{app_of, rule_of, new_rule, with_rule, with_subcommand, new_app, FailsBy, subcommand_rows_of};
 ghost use Rattle.clap.specs.Walk.{texts};
-ghost use Rattle.age_cli.specs.Commands.{HasApp, has_globals, inspecting, age_tool};
+ghost use Rattle.age_cli.specs.Commands.{HasApp, has_globals, option_rule, number_rule, required_rule, with_unlocking, with_both_files};
+ghost use Rattle.age_cli.specs.Commands.{encrypting, decrypting, inspecting, age_tool};
 ghost use Rattle.age_cli.specs.Asked.{refusals, named};
 
+use crate::help;
 use clap::{Arg, ArgMatches, Command, Error};
 use std::alloc::{AllocError, Global};
 
-fn command<'a>(alloc: Global, name: &'a str, about: &'a str) -> Command<'a>
+/// `--ID VALUE`.
+fn option<'a>(alloc: Global, id: &'a str, value: &'a str, help: &'a str) -> Arg<'a>
+    ensures rule { rule_of result ≡ option_rule id.entry.now }
+    ensures local { result.global ≡ false }
+{
+    Arg::new(alloc, id).long(id).value_name(value).help(help)
+}
+
+/// `--ID N`, for N from 1 to 22.
+fn number<'a>(alloc: Global, id: &'a str, help: &'a str) -> Arg<'a>
+    ensures rule { rule_of result ≡ number_rule id.entry.now }
+    ensures local { result.global ≡ false }
+{
+    option(alloc, id, "N", help).value_parser(clap::value_parser!(u32).range(1..=22))
+}
+
+/// A word that has to be there.
+fn operand<'a>(alloc: Global, id: &'a str, help: &'a str) -> Arg<'a>
+    ensures rule { rule_of result ≡ required_rule (new_rule id.entry.now) }
+    ensures local { result.global ≡ false }
+{
+    Arg::new(alloc, id).required(true).help(help)
+}
+
+fn command<'a>(
+    alloc: Global,
+    name: &'a str,
+    about: &'a str,
+    after: &'a str,
+) -> Command<'a>
     ensures { HasApp (new_app name.entry.now) result }
 {
-    Command::new(alloc, name).about(about)
+    Command::new(alloc, name).about(about).after_help(after)
 }
 
 /// Adds an argument of the command's own.
@@ -24,17 +55,58 @@ fn add<'a>(command: Command<'a>, arg: Arg<'a>) -> Result<Command<'a>, AllocError
     command.arg(arg)
 }
 
+/// The options that say what opens a file, and where a stop's position goes.
+fn add_unlocking<'a>(alloc: Global, to: Command<'a>) -> Result<Command<'a>, AllocError>
+    requires { has_globals to ≡ false }
+    ensures { IfOk result (HasApp (with_unlocking (app_of to.entry))) }
+{
+    let with_pass = add(to, option(alloc, "pass", "FILE", help::PASS))?;
+    let with_key = add(with_pass, option(alloc, "file-key", "HEX", help::FILE_KEY))?;
+    let with_shared = add(with_key, option(alloc, "shared", "FILE", help::SHARED))?;
+    let with_limit = add(with_shared, number(alloc, "max-log", help::MAX_LOG))?;
+    add(with_limit, option(alloc, "save", "FILE", help::SAVE))
+}
+
+fn add_both_files<'a>(
+    alloc: Global,
+    to: Command<'a>,
+    from_help: &'a str,
+    to_help: &'a str,
+) -> Result<Command<'a>, AllocError>
+    requires { has_globals to ≡ false }
+    ensures { IfOk result (HasApp (with_both_files (app_of to.entry))) }
+{
+    let with_input = add(to, operand(alloc, "IN", from_help))?;
+    add(with_input, operand(alloc, "OUT", to_help))
+}
+
+#[tactic(auto, unfolding(crate::specs::Commands::encrypting))]
+fn encrypt<'a>(alloc: Global) -> Result<Command<'a>, AllocError>
+    ensures { IfOk result (HasApp encrypting) }
+{
+    let plain = command(alloc, "encrypt", help::ENCRYPT, help::AFTER_ENCRYPT);
+    let pass = option(alloc, "pass", "FILE", help::PASS).required(true);
+    let with_pass = add(plain, pass)?;
+    let with_log = add(with_pass, number(alloc, "log", help::LOG))?;
+    let with_random = add(with_log, option(alloc, "random", "FILE", help::RANDOM))?;
+    add_both_files(alloc, with_random, help::PLAIN_IN, help::FILE_OUT)
+}
+
+#[tactic(auto, unfolding(crate::specs::Commands::decrypting))]
+fn decrypt<'a>(alloc: Global) -> Result<Command<'a>, AllocError>
+    ensures { IfOk result (HasApp decrypting) }
+{
+    let plain = command(alloc, "decrypt", help::DECRYPT, help::AFTER_DECRYPT);
+    let unlocking = add_unlocking(alloc, plain)?;
+    add_both_files(alloc, unlocking, help::FILE_IN, help::PLAIN_OUT)
+}
+
 #[tactic(auto, unfolding(crate::specs::Commands::inspecting))]
 fn inspect<'a>(alloc: Global) -> Result<Command<'a>, AllocError>
     ensures { IfOk result (HasApp inspecting) }
 {
-    let plain = command(
-        alloc,
-        "inspect",
-        "Report what the header of an age file holds",
-    );
-    let file = Arg::new(alloc, "FILE").help("The age file; standard input where none is named");
-    add(plain, file)
+    let plain = command(alloc, "inspect", help::INSPECT, help::AFTER_INSPECT);
+    add(plain, Arg::new(alloc, "FILE").help(help::INSPECTED))
 }
 
 /// Adds a command of the program's.
@@ -51,11 +123,14 @@ fn program<'a>(alloc: Global) -> Result<Command<'a>, AllocError>
     ensures { IfOk result (HasApp age_tool) }
 {
     let bare = Command::new(alloc, "age_tool")
-        .about("Inspect age files. Without words: inspect standard input.")
+        .about(help::PROGRAM)
+        .after_help(help::AFTER_PROGRAM)
         .bin_name("age_tool")?
         .no_binary_name(true)
         .subcommand_required(true);
-    enter(bare, inspect(alloc)?)
+    let first = enter(bare, encrypt(alloc)?)?;
+    let second = enter(first, decrypt(alloc)?)?;
+    enter(second, inspect(alloc)?)
 }
 
 /// What the words give for each argument.

@@ -1,9 +1,43 @@
 //! Why a run did not do what it was asked.
 
 ghost use Rattle.std.specs.Prelude.{◌≡◌};
-ghost use Rattle.age_cli.specs.declared.ending.Ending.TheVariants.{Fault};
+ghost use Rattle.age_cli.specs.declared.ending.Ending.TheVariants.{Fault, Usage as UsageEnding};
 
 use age_file::FileFault;
+use std::fmt;
+
+/// A command line that asks for nothing that can be done.
+#[derive(Clone, Copy, Debug, PartialEq, Eq)]
+pub(crate) enum Usage {
+    /// None of the options that say what opens the file, or more than one.
+    GiveOneOpener,
+    /// No 32 hexadecimal digits.
+    BadFileKey,
+    /// A name stands for two files that have to differ.
+    SameFile,
+    /// No passphrase of 1 to 65,536 bytes.
+    BadPassphraseFile,
+    /// No 64 bytes.
+    BadSharedFile,
+    /// Fewer than 48 bytes.
+    BadRandomFile,
+    /// The words are taken, and ask for nothing that can be done.
+    Unread,
+}
+
+impl fmt::Display for Usage {
+    fn fmt<W: fmt::Write>(&self, f: &mut fmt::Formatter<W>) -> fmt::Result {
+        f.write_str(match self {
+            Usage::GiveOneOpener => "give one of --pass, --file-key and --shared",
+            Usage::BadFileKey => "bad file key",
+            Usage::SameFile => "same file named twice",
+            Usage::BadPassphraseFile => "bad passphrase file",
+            Usage::BadSharedFile => "bad shared file",
+            Usage::BadRandomFile => "bad random file",
+            Usage::Unread => "bad command line",
+        })
+    }
+}
 
 /// How a run ended that did not do what it was asked.
 #[derive(Debug, Drop)]
@@ -11,9 +45,11 @@ pub(crate) enum Ending {
     /// The words are refused, with this text.
     Words(String),
     /// The words are taken, and ask for nothing that can be done.
-    Unread,
+    Usage(Usage),
     /// A fault.
     Fault(FileFault),
+    /// A fault, and one more as the position was saved.
+    Unsaved(FileFault, FileFault),
 }
 
 impl From<FileFault> for Ending {
@@ -21,6 +57,14 @@ impl From<FileFault> for Ending {
 
     fn from(fault: FileFault) -> Ending {
         Ending::Fault(fault)
+    }
+}
+
+impl From<Usage> for Ending {
+    ghost from_gives = { λ u e. e ≡ UsageEnding u };
+
+    fn from(usage: Usage) -> Ending {
+        Ending::Usage(usage)
     }
 }
 
@@ -33,8 +77,8 @@ impl Ending {
         ensures { result ≡ status_of self.now }
     {
         match self {
-            Ending::Words(_) | Ending::Unread => 2,
-            Ending::Fault(_) => 1,
+            Ending::Words(_) | Ending::Usage(_) => 2,
+            Ending::Fault(_) | Ending::Unsaved(_, _) => 1,
         }
     }
 }

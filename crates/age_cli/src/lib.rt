@@ -6,12 +6,17 @@
 #![tactic(auto)]
 
 mod commands;
+mod decryption;
+mod encryption;
 mod ending;
 mod files;
+mod front;
+mod help;
 mod host_files;
 mod inspection;
 mod mem_entry;
 mod mem_files;
+mod opener;
 mod print;
 mod program;
 mod reading;

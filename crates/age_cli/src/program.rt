@@ -1,13 +1,19 @@
 //! The program, over words, files, a source and sinks.
 
-ghost use Rattle.std.specs.Prelude.{◌≡◌, ◌≤◌, List, [], OnOk, IsOk, codes};
-ghost use Rattle.clap.specs.Words.{Row, first_of, kind_of};
+ghost use Rattle.std.specs.Prelude.{◌≡◌, ◌≤◌, List, [], true, OnOk, IfErr, IsOk, codes};
+ghost use Rattle.clap.specs.Words.{Row, Text, first_of, kind_of};
 ghost use Rattle.clap.specs.Walk.{texts};
 ghost use Rattle.clap.specs.declared.error.ErrorKind.TheVariants.{OutOfMemory};
-ghost use Rattle.age_cli.specs.Asked.{Asks};
+ghost use Rattle.age_cli.specs.Asked.{Asks, refusals};
+ghost use Rattle.age_cli.specs.Encryptions.{EncryptsRows};
+ghost use Rattle.age_cli.specs.Decryptions.{DecryptsRows};
+ghost use Rattle.age_cli.specs.Endings.{is_usage};
+ghost use Rattle.age_cli.specs.Held.{Spares};
 ghost use Rattle.age_cli.specs.Runs.{Reports, Inspects};
 
-use crate::ending::Ending;
+use crate::decryption::decrypt_file;
+use crate::encryption::encrypt_file;
+use crate::ending::{Ending, Usage};
 use crate::files::FileSet;
 use crate::inspection::{report, report_file};
 use crate::print::put_bytes;
@@ -49,7 +55,14 @@ fn obey<F: FileSet, I: Source, O: Sink>(
     ensures report { words.now ≡ [] → OnOk result (Reports (I.remaining input.old) (I.remaining input.new) (O.taken output.old) (O.taken output.new)) }
     ensures inspects { (rows : List Row) → Asks (texts words.now) (codes "inspect") rows → OnOk result (
         Inspects (first_of (codes "FILE") rows) (F.tells files.old) (F.entry files.old) (I.remaining input.old) (I.remaining input.new) (O.taken output.old) (O.taken output.new)) }
-    ensures kept { F.entry files.new ≡ F.entry files.old }
+    ensures encrypts { (rows : List Row) → Asks (texts words.now) (codes "encrypt") rows → OnOk result (F.tells files.old ≡ true
+        → EncryptsRows rows (F.entry files.old) (F.entry files.new)) }
+    ensures decrypts { (rows : List Row) → Asks (texts words.now) (codes "decrypt") rows → OnOk result (F.tells files.old ≡ true
+        → DecryptsRows rows (F.entry files.old) (F.entry files.new)) }
+    ensures spares { (rows : List Row) (name : Text) → Asks (texts words.now) name rows → F.tells files.old ≡ true
+        → Spares rows (F.entry files.old) (F.entry files.new) }
+    ensures usage { IfErr result (λ e. is_usage e ≡ true → F.entry files.new ≡ F.entry files.old) }
+    ensures refused { (refusals (texts words.now) ≡ [] → ⊥) → F.entry files.new ≡ F.entry files.old }
 {
     if words.is_empty() {
         report(alloc, input, output)?;
@@ -62,7 +75,9 @@ fn obey<F: FileSet, I: Source, O: Sink>(
             report(alloc, input, output)?;
             Ok(())
         }
-        Ok(None) => Err(Ending::Unread),
+        Ok(Some(Request::Encrypt(asked))) => encrypt_file(alloc, files, &asked),
+        Ok(Some(Request::Decrypt(asked))) => decrypt_file(alloc, files, &asked),
+        Ok(None) => Err(Ending::Usage(Usage::Unread)),
     }
 }
 
@@ -74,8 +89,15 @@ fn tell<E: Sink>(alloc: Global, faults: &mut E, ending: &Ending) {
 fn put_ending<E: Sink>(alloc: Global, faults: &mut E, ending: &Ending) -> Result<(), FileFault> {
     match ending {
         Ending::Words(text) => put_bytes(faults, text.as_bytes())?,
-        Ending::Unread => put_bytes(faults, b"age_tool: bad command line\n")?,
+        Ending::Usage(usage) => {
+            let line = format!(in alloc; "age_tool: {usage}\n")?;
+            put_bytes(faults, line.as_bytes())?;
+        }
         Ending::Fault(fault) => put_fault(alloc, faults, *fault)?,
+        Ending::Unsaved(fault, second) => {
+            put_fault(alloc, faults, *fault)?;
+            put_fault(alloc, faults, *second)?;
+        }
     }
     match faults.flush() {
         Ok(()) => Ok(()),
@@ -83,12 +105,14 @@ fn put_ending<E: Sink>(alloc: Global, faults: &mut E, ending: &Ending) -> Result
     }
 }
 
+/// One line: the fault's number and name, and the line of a header's fault or the chunk of a payload's.
 fn put_fault<E: Sink>(alloc: Global, faults: &mut E, fault: FileFault) -> Result<(), FileFault> {
     let number = fault.number();
     let name = fault.name();
     let line = match fault.place() {
-        Some(line) => format!(in alloc; "age_tool: {number} {name} line {line}\n")?,
-        None => format!(in alloc; "age_tool: {number} {name}\n")?,
+        Some(line) if number <= 8 => format!(in alloc; "age_tool: {number} {name} line {line}\n")?,
+        Some(chunk) if number <= 20 => format!(in alloc; "age_tool: {number} {name} chunk {chunk}\n")?,
+        _ => format!(in alloc; "age_tool: {number} {name}\n")?,
     };
     put_bytes(faults, line.as_bytes())
 }
@@ -97,7 +121,7 @@ fn put_fault<E: Sink>(alloc: Global, faults: &mut E, fault: FileFault) -> Result
 /// one line to `faults`, and 2 for a bad command line, whose text goes there too.
 ///
 /// Without words, or with `inspect`, it reads the input to its end and writes the report; with `inspect FILE` it reads
-/// that file. Help that is asked for goes to the output, with status 0.
+/// that file. `encrypt` and `decrypt` read IN and write OUT. Help that is asked for goes to the output, with status 0.
 pub fn run<F: FileSet, I: Source, O: Sink, E: Sink>(
     alloc: Global,
     words: &[&str],
@@ -112,7 +136,17 @@ pub fn run<F: FileSet, I: Source, O: Sink, E: Sink>(
         → Reports (I.remaining input.old) (I.remaining input.new) (O.taken output.old) (O.taken output.new) }
     ensures inspects { (rows : List Row) → Asks (texts words.now) (codes "inspect") rows → result ≡ 0
         → Inspects (first_of (codes "FILE") rows) (F.tells files.old) (F.entry files.old) (I.remaining input.old) (I.remaining input.new) (O.taken output.old) (O.taken output.new) }
-    ensures kept { F.entry files.new ≡ F.entry files.old }
+    // 0 means that OUT holds what the engine promises for what the names stood for at the call.
+    ensures encrypts { (rows : List Row) → Asks (texts words.now) (codes "encrypt") rows → result ≡ 0 → F.tells files.old ≡ true
+        → EncryptsRows rows (F.entry files.old) (F.entry files.new) }
+    ensures decrypts { (rows : List Row) → Asks (texts words.now) (codes "decrypt") rows → result ≡ 0 → F.tells files.old ≡ true
+        → DecryptsRows rows (F.entry files.old) (F.entry files.new) }
+    // Whatever the status, no file but OUT and that of --save differs.
+    ensures spares { (rows : List Row) (name : Text) → Asks (texts words.now) name rows → F.tells files.old ≡ true
+        → Spares rows (F.entry files.old) (F.entry files.new) }
+    // A bad command line, and words that ask for help, change no file.
+    ensures usage { result ≡ 2 → F.entry files.new ≡ F.entry files.old }
+    ensures refused { (refusals (texts words.now) ≡ [] → ⊥) → F.entry files.new ≡ F.entry files.old }
 {
     match obey(alloc, words, files, input, output) {
         Ok(()) => 0,

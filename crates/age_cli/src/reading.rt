@@ -1,16 +1,32 @@
 //! Reads what the words ask for.
 
-ghost use Rattle.std.specs.Prelude.{◌≡◌, [], Some, IfOk, IfErr, IfSome, option_map};
-ghost use Rattle.clap.specs.Words.{subcommand_rows_of, rows_of, found_of, first_of, kind_of};
+ghost use Rattle.std.specs.Prelude.{◌≡◌, ◌≤◌, [], Some, IfOk, IfErr, IfSome, option_map, codes};
+ghost use Rattle.clap.specs.Words.{subcommand_rows_of, rows_of, found_of, one_of, first_of, kind_of};
 ghost use Rattle.clap.specs.Walk.{texts};
 ghost use Rattle.age_cli.specs.Asked.{refusals};
-ghost use Rattle.age_cli.specs.Requests.{text_of, Requests};
+ghost use Rattle.age_cli.specs.Requests.{number_or, text_of, IsEncrypting, IsUnlocking, IsDecrypting, Requests};
 
 use crate::commands::matches_of;
-use crate::request::Request;
+use crate::request::{Decrypting, Encrypting, Request, Unlocking};
 use clap::error::ErrorKind;
 use clap::{ArgMatches, Error};
 use std::alloc::Global;
+
+/// A number from 1 to 22, or this one where the words have none. The parser of command lines promises the range of no
+/// number of a command, so it is tested here.
+fn number(matches: &ArgMatches<'_>, id: &str, default: u32) -> Option<u32>
+    requires low { 1 ≤ default }
+    requires high { default ≤ 22 }
+    ensures value { IfSome result (λ n. n ≡ number_or default (one_of id.now (rows_of (found_of matches.now)))) }
+    ensures low { IfSome result (λ n. 1 ≤ n) }
+    ensures high { IfSome result (λ n. n ≤ 22) }
+{
+    match matches.get_one::<u32>(id) {
+        Some(n) if n >= 1 && n <= 22 => Some(n),
+        None if !matches.contains_id(id) => Some(default),
+        _ => None,
+    }
+}
 
 /// The first value of an argument.
 fn text<'a>(matches: &ArgMatches<'a>, id: &str) -> Option<&'a str>
@@ -26,6 +42,40 @@ fn command_of<'m, 'a>(matches: &'m ArgMatches<'a>) -> Option<(&'a str, &'m ArgMa
     matches.subcommand()
 }
 
+fn encrypting<'a>(matches: &ArgMatches<'a>) -> Option<Encrypting<'a>>
+    ensures { IfSome result (IsEncrypting (rows_of (found_of matches.now))) }
+{
+    Some(Encrypting {
+        pass: text(matches, "pass")?,
+        log: number(matches, "log", 18)?,
+        random: text(matches, "random"),
+        from: text(matches, "IN")?,
+        to: text(matches, "OUT")?,
+    })
+}
+
+fn unlocking<'a>(matches: &ArgMatches<'a>) -> Option<Unlocking<'a>>
+    ensures { IfSome result (IsUnlocking (rows_of (found_of matches.now))) }
+{
+    Some(Unlocking {
+        pass: text(matches, "pass"),
+        file_key: text(matches, "file-key"),
+        shared: text(matches, "shared"),
+        max_log: number(matches, "max-log", 22)?,
+    })
+}
+
+fn decrypting<'a>(matches: &ArgMatches<'a>) -> Option<Decrypting<'a>>
+    ensures { IfSome result (IsDecrypting (rows_of (found_of matches.now))) }
+{
+    Some(Decrypting {
+        unlocking: unlocking(matches)?,
+        save: text(matches, "save"),
+        from: text(matches, "IN")?,
+        to: text(matches, "OUT")?,
+    })
+}
+
 /// What the words ask for. A request is there wherever the words are taken, since each word that is taken is of an
 /// argument that the command has; the parser of command lines doesn't promise this, so there is an answer for none.
 pub(crate) fn read_request<'a>(
@@ -39,6 +89,18 @@ pub(crate) fn read_request<'a>(
     let Some((name, inner)) = command_of(&matches) else {
         return Ok(None);
     };
+    if name == "encrypt" {
+        return match encrypting(inner) {
+            Some(asked) => Ok(Some(Request::Encrypt(asked))),
+            None => Ok(None),
+        };
+    }
+    if name == "decrypt" {
+        return match decrypting(inner) {
+            Some(asked) => Ok(Some(Request::Decrypt(asked))),
+            None => Ok(None),
+        };
+    }
     if name == "inspect" {
         return Ok(Some(Request::Inspect(text(inner, "FILE"))));
     }

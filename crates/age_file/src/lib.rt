@@ -16,6 +16,7 @@ mod intake;
 mod mem_sink;
 mod mem_source;
 mod position;
+mod position_text;
 mod pour;
 mod progress;
 mod put;

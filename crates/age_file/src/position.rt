@@ -26,7 +26,7 @@ pub struct Position {
 
 /// The base64 text of 32 bytes, without padding.
 #[tactic(auto, unfolding(age_stanza::specs::Text::text))]
-fn spelled(bytes: &[u8; 32]) -> [u8; 43]
+pub(crate) fn spelled(bytes: &[u8; 32]) -> [u8; 43]
     ensures { result ≡ text bytes.now }
 {
     let mut text = [0; 43];

@@ -1,0 +1,30 @@
+use Rattle.std.proofs.Common.{◌≡◌, ◌∙◌, ap, sym, subst, List, ℕ, Option}
+use Rattle.age_cli.specs.Encryptions.{EncryptsOut, random_name}
+use Rattle.age_cli.specs.Openers.{without_line_feed}
+use Rattle.age_cli.specs.Requests.{text_of}
+use Rattle.age_cli.proofs.EncryptionSteps.{random_in}
+use Rattle.age_cli.proofs.encryption.encrypt_file.Goals as goal
+
+pub returns-in-Ok-clause-done : goal.returns-in-Ok-clause-done
+returns-in-Ok-clause-done g c = λ told.
+    let entry = g.F.FileSet.entry in
+    let t1 = c.in_ok-pass.ensures.told ∙ told in
+    let t2 = c.in_ok-random.ensures.told ∙ t1 in
+    let t3 = c.in_ok-source.ensures.told ∙ t2 in
+    let k1 = c.in_ok-pass.ensures.kept in
+    let k2 = c.in_ok-random.ensures.kept ∙ k1 in
+    let k3 = c.in_ok-source.ensures.kept ∙ k2 in
+    let secret = c.in-Some.secret in
+    let is = c.in-Some.ensures.1 in
+    let random = c.in_ok-random.ensures.read t1 in
+    let name = c.random_name.ensures in
+    let held = ap (λ f. f (random_name (text_of c.args.asked.now.random))) (sym k1) ∙ (ap (λ q. entry c.read_pass.new.files q) (sym name) ∙ random.2) in
+    let input = ap (λ f. f c.args.asked.now.from.now) (sym k2) ∙ sym (c.in_ok-source.ensures.found t2).1 in
+    record {
+      secret = secret;
+      passphrase = (c.in_ok-pass.pass.items, (c.in_ok-pass.ensures.read told, ap (λ s. s.pass) is ∙ (c.trimmed.ensures ∙ ap without_line_feed c.as_slice.ensures.value)));
+      log_is = ap (λ s. s.log) is;
+      random_is = random_in _ random.0 random.1 c.in_ok-random.random secret held random.3 (ap (λ s. s.key) is) (ap (λ s. s.salt) is) (ap (λ s. s.nonce) is);
+      output = subst (λ o. EncryptsOut secret o (entry c.write_out.new.files c.args.asked.now.to.now)) (sym input) (c.in-Ok.ensures.done t3);
+      others = λ q other. c.in-Ok.ensures.others t3 q other ∙ ap (λ f. f q) k3;
+    }

@@ -1,0 +1,52 @@
+-- What `encrypt` did.
+use Rattle.std.specs.Prelude.{◌≡◌, ℕ, List, [], ◌++◌, length, Option, Some, None, codes}
+use Rattle.clap.specs.Words.{Row, Text, first_of, one_of}
+use Rattle.age_file.specs.Ports.{Ports}
+use Rattle.age_file.specs.Secrets.{SecretView}
+use Rattle.age_file.specs.Encrypts.{Encrypts}
+use Rattle.age_file.specs.declared.encryption.Written.{Written}
+use Rattle.age_cli.specs.Requests.{number_or}
+use Rattle.age_cli.specs.Openers.{IsPassphraseIn}
+use Rattle.age_cli.specs.Held.{Held, SparesBut}
+
+-- the first 48 bytes of a file: the file key, the stanza's salt and the payload nonce
+pub record IsRandomIn (held : Option (List ℕ)) (s : SecretView) : Type 0 where
+  pub rest : List ℕ
+  pub bytes : held ≡ Some (s.key ++ (s.salt ++ (s.nonce ++ rest)))
+  pub key_length : length s.key ≡ 16
+  pub salt_length : length s.salt ≡ 16
+  pub nonce_length : length s.nonce ≡ 16
+
+-- the file of random bytes, where none is named
+abbrev pub random_name : Option Text → Text
+random_name None = codes "/dev/urandom"
+random_name (Some name) = name
+
+-- the engine's promise for the input's bytes and the secret, of what the output then holds
+pub record EncryptsOut (s : SecretView) (input output : Option (List ℕ)) : Type 0 where
+  pub before : Ports
+  pub after : Ports
+  pub written : Written
+  pub coming : input ≡ before.coming
+  pub empty : before.taken ≡ Some []
+  pub done : Encrypts s before after written
+  pub taken : output ≡ after.taken
+
+-- of what stands under the names that are asked for: the passphrase, the work factor and the random bytes make the secret
+pub record EncryptsFile (pass : Text) (log : ℕ) (random : Option Text) (from to : Text) (old new : Held) : Type 0 where
+  pub secret : SecretView
+  pub passphrase : IsPassphraseIn (old pass) secret.pass
+  pub log_is : secret.log ≡ log
+  pub random_is : IsRandomIn (old (random_name random)) secret
+  pub output : EncryptsOut secret (old from) (new to)
+  pub others : SparesBut to old new
+
+-- the same, of what the words give for each argument
+pub record EncryptsRows (rows : List Row) (old new : Held) : Type 0 where
+  pub pass : Text
+  pub from : Text
+  pub to : Text
+  pub pass_is : first_of (codes "pass") rows ≡ Some pass
+  pub from_is : first_of (codes "IN") rows ≡ Some from
+  pub to_is : first_of (codes "OUT") rows ≡ Some to
+  pub encrypts : EncryptsFile pass (number_or 18 (one_of (codes "log") rows)) (first_of (codes "random") rows) from to old new

@@ -1,0 +1,117 @@
+//! The command that encrypts a file.
+
+ghost use Rattle.std.specs.Prelude.{◌≡◌, ◌++◌, ℕ, List, Some, true, IfOk, IfErr, IfSome, OnOk};
+ghost use Rattle.age_cli.specs.Requests.{text_of};
+ghost use Rattle.age_cli.specs.Encryptions.{random_name, EncryptsOut, EncryptsFile};
+ghost use Rattle.age_cli.specs.Randoms.{IsRandom};
+ghost use Rattle.age_cli.specs.Endings.{is_usage};
+ghost use Rattle.age_cli.specs.Held.{SparesBut};
+
+use crate::ending::{Ending, Usage};
+use crate::files::FileSet;
+use crate::front::read_front;
+use crate::opener::{read_pass, trimmed};
+use crate::request::Encrypting;
+use age_file::{FileFault, Secret, encrypt};
+use std::alloc::Global;
+
+/// Where random bytes come from if no file is named.
+const RANDOM: &str = "/dev/urandom";
+
+/// The random parts of an age file.
+#[derive(Clone, Copy)]
+struct Random {
+    file_key: [u8; 16],
+    salt: [u8; 16],
+    payload_nonce: [u8; 16],
+}
+
+/// The random parts in bytes, one behind the other.
+fn random_of(bytes: &[u8]) -> Option<Random>
+    ensures { IfSome result (λ r. IsRandom bytes.now r) }
+{
+    let (file_key, rest) = bytes.split_first_chunk::<16>()?;
+    let (salt, rest) = rest.split_first_chunk::<16>()?;
+    let payload_nonce = rest.first_chunk::<16>()?;
+    Some(Random {
+        file_key: *file_key,
+        salt: *salt,
+        payload_nonce: *payload_nonce,
+    })
+}
+
+/// The random parts, from the first 48 bytes of a file.
+fn read_random<F: FileSet>(alloc: Global, files: &mut F, name: &str) -> Result<Random, Ending>
+    ensures told { F.tells files.new ≡ F.tells files.old }
+    ensures kept { F.entry files.new ≡ F.entry files.old }
+    ensures read { IfOk result (λ r. F.tells files.old ≡ true
+        → (bytes : List ℕ) × (rest : List ℕ) × (F.entry files.old name.now ≡ Some (bytes ++ rest)) × IsRandom bytes r) }
+{
+    let mut source = files.open(alloc, name)?;
+    let bytes = read_front(alloc, &mut source, 48)?;
+    match random_of(bytes.as_slice()) {
+        Some(random) => Ok(random),
+        None => Err(Ending::Usage(Usage::BadRandomFile)),
+    }
+}
+
+/// Makes the output, and encrypts the input into it.
+fn write_out<F: FileSet>(
+    alloc: Global,
+    files: &mut F,
+    source: &mut F::In,
+    secret: &Secret<'_>,
+    to: &str,
+) -> Result<(), FileFault>
+    ensures done { OnOk result (F.tells files.old ≡ true → EncryptsOut secret.now (F.In.remaining source.old) (F.entry files.new to.now)) }
+    ensures others { F.tells files.old ≡ true → SparesBut to.now (F.entry files.old) (F.entry files.new) }
+{
+    let mut out = files.create(alloc, to)?;
+    let encrypted = encrypt(alloc, secret, source, &mut out);
+    let closed = files.close(out);
+    match encrypted {
+        Ok(_) => closed,
+        Err(fault) => Err(fault),
+    }
+}
+
+/// The name of the file of random bytes.
+fn random_name<'a>(asked: &Encrypting<'a>) -> &'a str
+    ensures { result.now ≡ random_name (text_of asked.now.random) }
+{
+    match asked.random {
+        Some(name) => name,
+        None => RANDOM,
+    }
+}
+
+/// Encrypts a file as the words ask.
+pub(crate) fn encrypt_file<F: FileSet>(
+    alloc: Global,
+    files: &mut F,
+    asked: &Encrypting<'_>,
+) -> Result<(), Ending>
+    ensures done { OnOk result (F.tells files.old ≡ true → EncryptsFile asked.now.pass.now asked.now.log (text_of asked.now.random) asked.now.from.now asked.now.to.now (F.entry files.old) (F.entry files.new)) }
+    ensures usage { IfErr result (λ e. is_usage e ≡ true → F.entry files.new ≡ F.entry files.old) }
+    ensures spares { F.tells files.old ≡ true → SparesBut asked.now.to.now (F.entry files.old) (F.entry files.new) }
+{
+    if asked.from == asked.to {
+        return Err(Ending::Usage(Usage::SameFile));
+    }
+    let pass = read_pass(alloc, files, asked.pass)?;
+    let random = read_random(alloc, files, random_name(asked))?;
+    let Some(secret) = Secret::new(
+        trimmed(pass.as_slice()),
+        asked.log,
+        &random.salt,
+        &random.file_key,
+        &random.payload_nonce,
+    ) else {
+        return Err(Ending::Usage(Usage::BadPassphraseFile));
+    };
+    let mut source = files.open(alloc, asked.from)?;
+    match write_out(alloc, files, &mut source, &secret, asked.to) {
+        Ok(()) => Ok(()),
+        Err(fault) => Err(Ending::Fault(fault)),
+    }
+}

@@ -1,0 +1,65 @@
+//! What stands at the front of a source.
+
+ghost use Rattle.std.specs.Prelude.{◌≡◌, ◌+◌, ◌^◌, ◌<◌, ◌≤◌, length, take, IfOk, IfSome};
+ghost use Rattle.std.specs.Io.KnownBytes.{Consumes, IsAtEnd};
+ghost use Rattle.age_cli.specs.Fronts.{IsFront};
+
+use age_file::{FileFault, Source};
+use std::alloc::Global;
+
+/// How many bytes are pulled at once, at most.
+const ROOM: usize = 4096;
+
+/// Pulls at most so many bytes into the front of a buffer.
+fn pull_some<S: Source>(
+    source: &mut S,
+    buffer: &mut [u8; ROOM],
+    most: usize,
+) -> Result<usize, FileFault>
+    requires some { 0 < most }
+    requires room { most ≤ 4096 }
+    ensures count { IfOk result (λ n. n ≤ most) }
+    ensures bytes { IfOk result (λ n. Consumes (S.remaining source.old) (S.remaining source.new) (take n buffer.new)) }
+    ensures ended { IfOk result (λ n. n ≡ 0 → IsAtEnd (S.remaining source.new)) }
+{
+    match source.pull(&mut buffer[..most]) {
+        Ok(n) => Ok(n),
+        Err(_) => Err(FileFault::Read),
+    }
+}
+
+/// The first bytes of a source: so many, or all that it gives where it ends before. Not a byte more is pulled.
+pub(crate) fn read_front<S: Source>(
+    alloc: Global,
+    source: &mut S,
+    most: usize,
+) -> Result<Vec<u8>, FileFault>
+    ensures { IfOk result (λ v. IsFront (S.remaining source.old) (S.remaining source.new) most v.items) }
+{
+    let mut held = Vec::new(alloc);
+    let mut buffer = [0; ROOM];
+    'pieces: while held.len() < most {
+        let n = pull_some(source, &mut buffer, (most - held.len()).min(ROOM))?;
+        if n == 0 {
+            return Ok(held);
+        }
+        held.extend_from_slice(&buffer[..n])?;
+    }
+    Ok(held)
+}
+
+/// All bytes of a source that gives at most so many; `None` where it gives more. At most one byte more is pulled.
+pub(crate) fn read_up_to<S: Source>(
+    alloc: Global,
+    source: &mut S,
+    most: usize,
+) -> Result<Option<Vec<u8>>, FileFault>
+    requires { most < 2 ^ 32 }
+    ensures { IfOk result (λ o. IfSome o (λ v. Consumes (S.remaining source.old) (S.remaining source.new) v.items × IsAtEnd (S.remaining source.new))) }
+{
+    let front = read_front(alloc, source, most + 1)?;
+    if front.len() > most {
+        return Ok(None);
+    }
+    Ok(Some(front))
+}

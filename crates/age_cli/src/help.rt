@@ -1,0 +1,54 @@
+//! The texts of the help.
+
+pub(crate) const PROGRAM: &str = "Encrypt, decrypt and inspect age files (age-encryption.org/v1).";
+
+pub(crate) const AFTER_PROGRAM: &str = "Without words it inspects standard input, as `age_tool inspect` does.
+
+Exit status: 0 on success; 1 on a fault, told in one line such as `age_tool: 13 WrongKey`; 2 for a bad command line, and then no file \
+was changed. docs/FAULTS.md says of each fault what it means, what stands afterwards and what to do.
+
+`age_tool COMMAND --help` explains a command.";
+
+pub(crate) const ENCRYPT: &str = "Encrypt a file under a passphrase";
+
+pub(crate) const AFTER_ENCRYPT: &str = "Example: age_tool encrypt --pass passphrase.txt notes.txt notes.txt.age
+
+Any age program opens the result with the passphrase. OUT is made anew; what an encryption that stops has written stays there.";
+
+pub(crate) const DECRYPT: &str = "Decrypt an age file";
+
+pub(crate) const AFTER_DECRYPT: &str = "Example: age_tool decrypt --pass passphrase.txt notes.txt.age notes.txt
+
+Give one of --pass, --file-key and --shared. Every chunk is checked before it is written. Only status 0 means that OUT is the whole \
+plaintext: after a fault OUT holds a front of it.";
+
+pub(crate) const INSPECT: &str = "Report what the header of an age file holds";
+
+pub(crate) const AFTER_INSPECT: &str = "Example: age_tool inspect notes.txt.age
+
+Nothing is decrypted: the report says how long the header is, which stanzas it has, and how long the plaintext would be.";
+
+pub(crate) const PASS: &str = "File with the passphrase, 1 to 65,536 bytes; one line feed at its end isn't part of it";
+
+pub(crate) const LOG: &str = "Work factor, 1 to 22: how hard a guess at the passphrase is, and how much memory opening takes (1 KiB times two to \
+the N) [default: 18]";
+
+pub(crate) const RANDOM: &str = "Where 48 random bytes come from [default: /dev/urandom]. The same bytes must never be used for two files";
+
+pub(crate) const FILE_KEY: &str = "The file key, 32 hexadecimal digits";
+
+pub(crate) const SHARED: &str = "File with the shared secret of an X25519 stanza and then its recipient, 32 bytes each";
+
+pub(crate) const MAX_LOG: &str = "Greatest work factor that is accepted, 1 to 22 [default: 22]";
+
+pub(crate) const SAVE: &str = "Where the position goes if the decryption stops, so that it can be resumed";
+
+pub(crate) const PLAIN_IN: &str = "The file to encrypt";
+
+pub(crate) const FILE_OUT: &str = "The age file to write; another name than IN";
+
+pub(crate) const FILE_IN: &str = "The age file to decrypt";
+
+pub(crate) const PLAIN_OUT: &str = "The file to write; another name than IN and the file of --save";
+
+pub(crate) const INSPECTED: &str = "The age file; standard input where none is named";
