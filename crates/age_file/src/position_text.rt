@@ -1,16 +1,24 @@
 //! The text of a position.
 
-ghost use Rattle.std.specs.Prelude.{◌≡◌, IfOk, IfErr};
-ghost use Rattle.age_file.specs.PositionTexts.{position_text};
-ghost use Rattle.age_file.specs.declared.fault.FileFault.TheVariants.{Memory};
+ghost use Rattle.std.specs.Prelude.{◌≡◌, ◌≢◌, ◌<◌, ℕ, List, length, IfOk, IfErr, IfSome, IfNone, decimal};
+ghost use Rattle.age_file.specs.PositionTexts.{position_text, NoPosition, IsDigest, index_text, field_text, fields_text};
+ghost use Rattle.age_file.specs.declared.fault.FileFault.TheVariants.{BadPosition, Memory};
 
 use crate::fault::FileFault;
 use crate::position::{Position, spelled};
+use base64::engine::general_purpose::STANDARD_NO_PAD;
 use itoa::Buffer;
 use std::alloc::{AllocError, Global};
+use std::str::from_utf8;
 
 /// What every position's text begins with.
 const VERSION: &[u8; 16] = b"age-position/v2 ";
+
+/// No index is so great.
+const INDEXES: u64 = 281_474_976_710_656;
+
+/// How many characters follow the index: three times a space and 43 characters, and a line feed.
+const FIELDS: usize = 133;
 
 #[tactic(auto, unfolding(crate::specs::Bindings::position_front))]
 fn text_of(alloc: Global, position: &Position) -> Result<Vec<u8>, AllocError>
@@ -29,6 +37,87 @@ fn text_of(alloc: Global, position: &Position) -> Result<Vec<u8>, AllocError>
     Ok(text)
 }
 
+/// The number that digits spell, without leading zeros, where it is an index.
+fn number_of(digits: &[u8]) -> Option<u64>
+    ensures limit { IfSome result (λ index. index < 281474976710656) }
+    ensures some { IfSome result (λ index. digits.now ≡ decimal index) }
+    ensures none { IfNone result ((index : ℕ) → index < 281474976710656 → digits.now ≢ decimal index) }
+{
+    let Ok(text) = from_utf8(digits) else {
+        return None;
+    };
+    let Ok(index) = text.parse::<u64>() else {
+        return None;
+    };
+    let mut buffer = Buffer::new();
+    if index < INDEXES && buffer.format(index).as_bytes() == digits {
+        Some(index)
+    } else {
+        None
+    }
+}
+
+/// The index that a text up to its index tells.
+fn index_of(front: &[u8]) -> Option<u64>
+    ensures limit { IfSome result (λ index. index < 281474976710656) }
+    ensures some { IfSome result (λ index. front.now ≡ index_text index) }
+    ensures none { IfNone result ((index : ℕ) → index < 281474976710656 → front.now ≢ index_text index) }
+{
+    if front.len() < 16 || &front[..16] != VERSION.as_slice() {
+        return None;
+    }
+    number_of(&front[16..])
+}
+
+/// The 32 bytes of a field: a space, and their text.
+fn digest_of(field: &[u8]) -> Option<[u8; 32]>
+    requires { length field.now ≡ 44 }
+    ensures some { IfSome result (λ bytes. field.now ≡ field_text bytes) }
+    ensures none { IfNone result ((bytes : List ℕ) → IsDigest bytes → field.now ≢ field_text bytes) }
+{
+    if field[0] != b' ' {
+        return None;
+    }
+    let mut room = [0; 33];
+    let mut bytes = [0; 32];
+    match STANDARD_NO_PAD.decode_slice_unchecked(&field[1..], &mut room) {
+        Ok(len) if len == 32 => {
+            bytes.copy_from_slice(&room[..len]);
+            Some(bytes)
+        }
+        _ => None,
+    }
+}
+
+/// The position of an index, with what the text behind it tells.
+fn position_of(index: u64, fields: &[u8]) -> Option<Position>
+    requires index { index < 281474976710656 }
+    requires size { length fields.now ≡ 133 }
+    ensures index { IfSome result (λ p. p.index ≡ index) }
+    ensures fields { IfSome result (λ p. fields.now ≡ fields_text p.file_id p.chain p.tag) }
+    ensures none { IfNone result ((id links tag : List ℕ) → IsDigest id → IsDigest links → IsDigest tag
+        → fields.now ≢ fields_text id links tag) }
+{
+    if fields[132] != b'\n' {
+        return None;
+    }
+    let Some(file_id) = digest_of(&fields[..44]) else {
+        return None;
+    };
+    let Some(chain) = digest_of(&fields[44..88]) else {
+        return None;
+    };
+    let Some(tag) = digest_of(&fields[88..132]) else {
+        return None;
+    };
+    Some(Position {
+        index,
+        file_id,
+        chain,
+        tag,
+    })
+}
+
 impl Position {
     /// The text of a position: `age-position/v2 INDEX ID CHAIN TAG` and a line feed, INDEX in decimal, the others as the
     /// 43 characters of unpadded base64 (RFC 4648, section 4). It refuses for want of memory alone.
@@ -37,5 +126,24 @@ impl Position {
         ensures memory { IfErr result (λ fault. fault ≡ Memory) }
     {
         Ok(text_of(alloc, self)?)
+    }
+
+    /// Reads the text of a position. It refuses every other text with `BadPosition`, one with leading zeros, without the
+    /// line feed or with characters behind it too. It takes no memory.
+    pub fn read(text: &[u8]) -> Result<Position, FileFault>
+        ensures read { IfOk result (λ position. text.now ≡ position_text position) }
+        ensures fault { IfErr result (λ fault. fault ≡ BadPosition) }
+        ensures refused { IfErr result (λ _. NoPosition text.now) }
+    {
+        let Some(at) = text.len().checked_sub(FIELDS) else {
+            return Err(FileFault::BadPosition);
+        };
+        let Some(index) = index_of(&text[..at]) else {
+            return Err(FileFault::BadPosition);
+        };
+        match position_of(index, &text[at..]) {
+            Some(position) => Ok(position),
+            None => Err(FileFault::BadPosition),
+        }
     }
 }
