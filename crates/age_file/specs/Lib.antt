@@ -17,3 +17,5 @@ pub mod Pours
 pub mod Seals
 pub mod Secrets
 pub mod Encrypts
+pub mod Passages
+pub mod Copies

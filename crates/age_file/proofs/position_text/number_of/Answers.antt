@@ -15,7 +15,7 @@ pub returns-else-index-lt-INDEXES-clause-none : goal.returns-else-index-lt-INDEX
 returns-else-index-lt-INDEXES-clause-none c = λ index lt e.
     let same : c.in-Ok-parse.index ≡ index = read_as index c.in-Ok-parse.index c.in-Ok.text.now c.parse.result c.in-Ok-parse.is lt (c.in-Ok.ensures.cases.0 ∙ e) c.parse.ensures.value.0 in
     elim c.else-index-lt-INDEXES.branch [
-      else-index-lt-INDEXES-via-then-index-lt-INDEXES+else-eq w ↦ 
-      never_differs w.as_bytes.result.now c.args.digits.now w.if-eq.ensures (w.as_bytes.ensures.value ∙ w.format.ensures.text ∙ ap decimal same ∙ sym e)
-    | else-index-lt-INDEXES-via-else-index-lt-INDEXES w ↦ omega (arith, same, w.if-index-lt-INDEXES.false)
+      | else-index-lt-INDEXES-via-then-index-lt-INDEXES+else-eq w ↦
+          never_differs w.as_bytes.result.now c.args.digits.now w.if-eq.ensures (w.as_bytes.ensures.value ∙ w.format.ensures.text ∙ ap decimal same ∙ sym e)
+      | else-index-lt-INDEXES-via-else-index-lt-INDEXES w ↦ omega (arith, same, w.if-index-lt-INDEXES.false)
     ]
