@@ -23,6 +23,7 @@ mod pour;
 mod progress;
 mod put;
 mod report;
+mod resumption;
 mod sealing;
 mod secret;
 mod sink;

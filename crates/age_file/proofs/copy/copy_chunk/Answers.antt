@@ -3,13 +3,14 @@ use Rattle.std.proofs.lemmas.List.{length-append, length-take}
 use Rattle.std.proofs.KnownBytes.{Appends-nil}
 use Rattle.std.specs.Io.KnownBytes.{Appends}
 use Rattle.sha2.specs.Hashers.{Holds256}
+use Rattle.age_stream.specs.Headline.{IsPrefixOf}
 use Rattle.age_file.specs.Faults.{HasRisen}
 use Rattle.age_file.specs.Passages.{side}
 use Rattle.age_file.specs.Releases.{tally}
 use Rattle.age_file.proofs.Bytes.{Appends-then}
 use Rattle.age_file.proofs.StartSteps.{uses_front}
 use Rattle.age_file.proofs.PassageSteps.{passes_then, passes_same, dries_same}
-use Rattle.age_file.proofs.CopySteps.{copy_dry, all_out}
+use Rattle.age_file.proofs.CopySteps.{copy_dry, all_out, front_written}
 use Rattle.age_file.proofs.copy.copy_chunk.Goals as goal
 
 pub parts-init : goal.parts-init
@@ -67,6 +68,10 @@ returns-in_default g c =
     let kept = c.parts.invariant in
     let r = rw c.in-Ok-true.field-0-test at c.in-Ok-true.ensures.answers in
     let put = c.in_default.ensures.writes in
+    let old = side (g.S.Source.remaining c.args.source.now) (g.S.Source.failed c.args.source.now) c.args.intake.now in
+    let mid = side (g.S.Source.remaining c.parts.source) (g.S.Source.failed c.parts.source) c.parts.intake in
+    let new = side (g.S.Source.remaining c.some_bytes.new.source) (g.S.Source.failed c.some_bytes.new.source) c.some_bytes.new.intake in
+    let used = passes_same old mid new kept.copied kept.passes (record { uses = c.some_bytes.ensures.uses; unfailed = r.1 }) in
     let n = c.min-n.result in
     let bytes = c.bytes-in-parts.result.now in
     record {
@@ -76,7 +81,7 @@ returns-in_default g c =
       count = omega (arith, kept.count, put.count, length-append kept.copied put.out);
       answered = (
         omega (arith, kept.size, put.stopped, ap length put.parts, length-append put.out put.cut, length-take n bytes, c.min-n.ensures, length-append kept.copied put.out),
-        (subst (λ (m : ℕ). HasRisen m (g.O.Sink.failed c.put_all.new.sink)) kept.failures put.answered, r.1 ∙ kept.passes.unfailed),
+        (kept.copied, used, subst (λ (t : List ℕ). IsPrefixOf (kept.copied ++ put.out) (kept.copied ++ t)) c.bytes-in-parts.ensures.bytes (front_written kept.copied put.out put.cut bytes n put.parts), subst (λ (m : ℕ). HasRisen m (g.O.Sink.failed c.put_all.new.sink)) kept.failures put.answered),
       );
     }
 
