@@ -13,7 +13,11 @@ pub mod Marks
 pub mod Releases
 pub mod Flows
 pub mod Decrypts
+pub mod Resumes
 pub mod Pours
+pub mod GoingOn
 pub mod Seals
 pub mod Secrets
 pub mod Encrypts
+pub mod Passages
+pub mod Copies

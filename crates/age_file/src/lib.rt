@@ -6,6 +6,7 @@
 //! `decrypt` the text of a file whose header an unlocker opens; where it stops, it hands out the position to go on from.
 #![tactic(auto)]
 
+mod copy;
 mod decryption;
 mod encryption;
 mod failed;
@@ -15,12 +16,14 @@ mod inspection;
 mod intake;
 mod mem_sink;
 mod mem_source;
+mod passage;
 mod position;
 mod position_text;
 mod pour;
 mod progress;
 mod put;
 mod report;
+mod resumption;
 mod sealing;
 mod secret;
 mod sink;

@@ -38,7 +38,7 @@ pub(crate) fn spelled(bytes: &[u8; 32]) -> [u8; 43]
 
 /// The tag of a position under a position key.
 #[tactic(auto, unfolding(crate::specs::Bindings::position_tag, crate::specs::Bindings::position_front))]
-fn tag_of(key: &[u8; 32], index: u64, file_id: &[u8; 32], chain: &[u8; 32]) -> [u8; 32]
+pub(crate) fn tag_of(key: &[u8; 32], index: u64, file_id: &[u8; 32], chain: &[u8; 32]) -> [u8; 32]
     ensures { result ≡ position_tag key.now index file_id.now chain.now }
 {
     let mut digits = Buffer::new();

@@ -22,7 +22,7 @@ pub(crate) struct Unlocked {
 }
 
 /// Sees that some byte is there. False: the source is at its end.
-fn some_bytes<S: Source>(source: &mut S, intake: &mut Intake) -> Result<bool, FileFault>
+pub(crate) fn some_bytes<S: Source>(source: &mut S, intake: &mut Intake) -> Result<bool, FileFault>
     ensures answers { SomeAnswers (S.remaining source.new) (S.failed source.old) (S.failed source.new) intake.new result }
     ensures uses { Uses (S.remaining source.old) (S.remaining source.new) intake.old intake.new [] }
 {

@@ -311,3 +311,86 @@ fn a_byte_behind_a_full_last_chunk(rt: HostRuntime) -> Result<(), Fail> {
     see_position(&rt, position, 1);
     Ok(())
 }
+
+/// The text of the position behind two chunks of the long text, by python's base64.
+const POSITION_TEXT: &[u8; 150] =
+    b"age-position/v2 2 d1OYKDfjAFYr1YZ8jnp3n37BEIqWWo6NZKua5lA6O3I Z/+/pb0gy0Qz9r4nrfQPNKnIsXURwLLWg+TFayQJBo4 hEND0PoQZoUO3u7dpzXqdX+6bFzqNvs/DBT45+lEskk\n";
+
+#[test]
+fn a_position_of_python_is_read_and_written(rt: HostRuntime) -> Result<(), Fail> {
+    let Ok(position) = Position::read(POSITION_TEXT) else {
+        assert!(rt; false, "refused");
+        return Ok(());
+    };
+    see_position(&rt, Some(position), 2);
+    let Ok(text) = position.text(rt.alloc()) else {
+        assert!(rt; false, "no text");
+        return Ok(());
+    };
+    assert!(rt; text.as_slice() == POSITION_TEXT.as_slice());
+    Ok(())
+}
+
+/// The text of an index and three digests of 32 zero bytes, and this end.
+fn zero_position(alloc: Global, front: &[u8], end: &[u8]) -> Result<Vec<u8>, Fail> {
+    let mut text = front.to_vec(alloc)?;
+    for _ in 0..3 {
+        text.extend_from_slice(b" AAAAAAAAAAAAAAAAAAAAAAAAAAAAAAAAAAAAAAAAAAA")?;
+    }
+    text.extend_from_slice(end)?;
+    Ok(text)
+}
+
+#[test]
+fn an_index_in_its_limits_is_read(rt: HostRuntime) -> Result<(), Fail> {
+    for (front, index) in [
+        (b"age-position/v2 0".as_slice(), 0),
+        (b"age-position/v2 3", 3),
+        (b"age-position/v2 281474976710655", 281_474_976_710_655),
+    ] {
+        let text = zero_position(rt.alloc(), front, b"\n")?;
+        let Ok(position) = Position::read(text.as_slice()) else {
+            assert!(rt; false, "refused");
+            return Ok(());
+        };
+        assert_eq!(rt; position.index, index);
+        assert_eq!(rt; position.file_id, [0; 32]);
+        assert_eq!(rt; position.chain, [0; 32]);
+        assert_eq!(rt; position.tag, [0; 32]);
+    }
+    Ok(())
+}
+
+#[test]
+fn other_texts_are_no_positions(rt: HostRuntime) -> Result<(), Fail> {
+    for (front, end) in [
+        (b"age-position/v2 03".as_slice(), b"\n".as_slice()),
+        (b"age-position/v2 +3", b"\n"),
+        (b"age-position/v2 ", b"\n"),
+        (b"age-position/v2 281474976710656", b"\n"),
+        (b"age-position/v2 18446744073709551616", b"\n"),
+        (b"age-position/v2 3 ", b"\n"),
+        (b"age-position/v1 3", b"\n"),
+        (b"age-position/v2 3", b""),
+        (b"age-position/v2 3", b"\n\n"),
+        (b"age-position/v2 3", b"\r\n"),
+        (b"", b""),
+    ] {
+        let text = zero_position(rt.alloc(), front, end)?;
+        let answer = Position::read(text.as_slice());
+        assert!(rt; matches!(answer, Err(FileFault::BadPosition)));
+    }
+    let old = b"age-position/v1 2 d1OYKDfjAFYr1YZ8jnp3n37BEIqWWo6NZKua5lA6O3I\n";
+    assert!(rt; matches!(Position::read(old), Err(FileFault::BadPosition)));
+    // The last character has low bits that no byte takes.
+    let mut loose = zero_position(rt.alloc(), b"age-position/v2 3", b"")?;
+    loose.pop();
+    loose.extend_from_slice(b"B\n")?;
+    assert!(rt;
+        matches!(
+            Position::read(loose.as_slice()),
+            Err(FileFault::BadPosition)
+        )
+    );
+    Ok(())
+}

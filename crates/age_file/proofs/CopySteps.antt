@@ -1,0 +1,87 @@
+-- What was copied, one step after another.
+use Rattle.std.proofs.Common.{append_assoc, replicate, ◌≡◌, ℕ, suc, ◌+◌, ◌*◌, ◌<◌, ◌≤◌, Err, List, [], ◌∷◌, ◌++◌, length, take, drop, refl, sym, ap, subst, ◌∙◌, arith, append-nil}
+use Rattle.std.proofs.lemmas.List.{length-append, take_all, take-append-drop}
+use Rattle.std.proofs.Math.Seq.{drop-append_seam}
+use Rattle.std.proofs.Math.Nat.{mul-le-mul_right}
+use Rattle.std.specs.Simd.{first_chunks}
+use Rattle.std.specs.Io.KnownBytes.{Appends}
+use Rattle.age_stream.proofs.Chunks.{first_chunks-append, first_chunks_more}
+use Rattle.age_stream.specs.Headline.{IsPrefixOf}
+use Rattle.age_file.specs.Faults.{HasRisen}
+use Rattle.age_file.specs.Bindings.{link, chain}
+use Rattle.age_file.specs.Releases.{Tally}
+use Rattle.age_file.specs.Passages.{Side, Passes, Dries}
+use Rattle.age_file.specs.Copies.{CopyFails, CopiesChunk, CopiesAll, CopiesText, TextFails}
+use Rattle.age_file.specs.declared.fault.FileFault.{FileFault}
+use Rattle.age_file.specs.declared.fault.FileFault.TheVariants.{ShortText, Read, Write, ReadNeverEnds, OldTextDiffers}
+use Rattle.age_file.proofs.Bytes.{Appends-then}
+use Rattle.age_file.proofs.MarkSteps.{chain_on}
+use Rattle.age_file.proofs.PassageSteps.{passes_then, dries_then}
+
+-- the chain over one chunk more
+pub chain_more : (n i : ℕ) (out chunk : List ℕ) → length out ≡ i * n → length chunk ≡ n
+    → chain (first_chunks n (suc i) (out ++ chunk)) ≡ link (chain (first_chunks n i out)) chunk
+chain_more n i out chunk whole size =
+    let behind : drop (i * n) (out ++ chunk) ≡ chunk = rw (← whole) (drop-append_seam out chunk) in
+    let last : take n (drop (i * n) (out ++ chunk)) ≡ chunk = ap (take n) behind ∙ take_all n chunk (omega (arith, size)) in
+    ap chain (first_chunks_more n i (out ++ chunk)
+    ∙ ap (λ (xs : List (List ℕ)). xs ++ take n (drop (i * n) (out ++ chunk)) ∷ []) (first_chunks-append n i out chunk (omega (arith, whole)))
+    ∙ ap (λ (c : List ℕ). first_chunks n i out ++ c ∷ []) last)
+    ∙ chain_on (first_chunks n i out) chunk
+
+copy_fails : (x y z : Side) (a b c : Tally) (p q : List ℕ) (fault : FileFault) → Passes x y p → b.failed ≡ a.failed → CopyFails y z b c q fault → CopyFails x z a c (p ++ q) fault
+copy_fails x y z a b c p q ShortText f same g = (passes_then x y z p q f g.0, g.1, g.2, g.3 ∙ same)
+copy_fails x y z a b c p q Write f same g =
+    let more : IsPrefixOf (p ++ q) ((p ++ g.0) ++ z.unread.bytes) =
+    (g.2.0, append_assoc p q g.2.0 ∙ ap (λ (t : List ℕ). p ++ t) g.2.1 ∙ sym (append_assoc p g.0 z.unread.bytes)) in
+    (p ++ g.0, passes_then x y z p g.0 f g.1, more, subst (λ (m : ℕ). HasRisen m c.failed) same g.3)
+copy_fails x y z a b c p q Read f same g = (dries_then x y z p q Read f g.0, g.1 ∙ same)
+copy_fails x y z a b c p q ReadNeverEnds f same g = (dries_then x y z p q ReadNeverEnds f g.0, g.1 ∙ same)
+copy_fails x y z a b c p q other f same g = absurd g
+
+within : (n chunks i : ℕ) (p q : List ℕ) → length p ≡ i * n → i < chunks → length q < n → length (p ++ q) < chunks * n
+within n chunks i p q size lt short =
+    let more : suc i * n ≤ chunks * n = mul-le-mul_right n lt in
+    omega (arith, more, size, short, length-append p q)
+
+-- whole chunks, and then one that was not copied
+pub chunk_failed : (n chunks i : ℕ) (x y z : Side) (a b c : Tally) (p : List ℕ) (fault : FileFault) → length p ≡ i * n → i < chunks → Passes x y p → Appends a.taken b.taken p
+    → b.label ≡ a.label → b.failed ≡ a.failed → b.progress.written ≡ a.progress.written + length p → CopiesChunk n y z b c (Err fault) → CopiesAll n chunks x z a c (Err fault)
+chunk_failed n chunks i x y z a b c p fault size lt f wrote named same count g = record {
+  out = p ++ g.out;
+  wrote = Appends-then a.taken b.taken c.taken p g.out wrote g.wrote;
+  named = g.named ∙ named;
+  count = omega (arith, count, g.count, length-append p g.out);
+  answered = (within n chunks i p g.out size lt g.answered.0, copy_fails x y z a b c p g.out fault f same g.answered.1);
+}
+
+-- the front of a piece was written behind what was used
+pub front_written : (used out cut bytes : List ℕ) (n : ℕ) → take n bytes ≡ out ++ cut → IsPrefixOf (used ++ out) (used ++ bytes)
+front_written used out cut bytes n parts = (
+  cut ++ drop n bytes,
+  append_assoc used out (cut ++ drop n bytes)
+      ∙ ap (λ (t : List ℕ). used ++ t) (sym (append_assoc out cut (drop n bytes)) ∙ ap (λ (t : List ℕ). t ++ drop n bytes) (sym parts) ∙ take-append-drop n bytes),
+)
+
+-- a pull gave no more
+pub copy_dry : (x z : Side) (a b : Tally) (p : List ℕ) (fault : FileFault) → Dries x z p fault → b.failed ≡ a.failed → CopyFails x z a b p fault
+copy_dry x z a b p Read g same = (g, same)
+copy_dry x z a b p ReadNeverEnds g same = (g, same)
+copy_dry x z a b p other g same = absurd g.why
+
+-- what was written whole
+pub all_out : (piece out cut : List ℕ) → piece ≡ out ++ cut → cut ≡ [] → out ≡ piece
+all_out piece out cut parts none = sym (parts ∙ ap (λ (xs : List ℕ). out ++ xs) none ∙ append-nil out)
+
+-- the chain over no chunk
+pub no_chain : replicate 32 0 ≡ chain []
+unfolding chain
+no_chain = refl
+
+-- a copy that failed, of an old text
+pub text_fails : (n chunks : ℕ) (links : List ℕ) (x z : Side) (a c : Tally) (fault : FileFault) → CopiesAll n chunks x z a c (Err fault) → CopiesText n chunks links x z a c (Err fault)
+text_fails n chunks links x z a c fault g = record { out = g.out; wrote = g.wrote; named = g.named; count = g.count; answered = as_text fault g.answered }
+  where
+    as_text : (f : FileFault) → (length g.out < chunks * n) × CopyFails x z a c g.out f → TextFails n chunks links x z a c g.out f
+    as_text OldTextDiffers h = absurd h.1
+    as_text other h = h

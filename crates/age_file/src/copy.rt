@@ -1,0 +1,78 @@
+//! Copies an old text, chunk by chunk, with the chain over it.
+
+ghost use Rattle.std.specs.Prelude.{◌≡◌, ◌+◌, ◌^◌, ◌<◌, ◌≤◌, replicate};
+ghost use Rattle.age_file.specs.Releases.{tally};
+ghost use Rattle.age_file.specs.Passages.{side};
+ghost use Rattle.age_file.specs.Copies.{CopiesChunk, CopiesAll};
+
+use crate::fault::FileFault;
+use crate::intake::Intake;
+use crate::progress::Progress;
+use crate::put::put_all;
+use crate::sink::Sink;
+use crate::source::Source;
+use crate::start::some_bytes;
+use sha2::{Digest, Sha256};
+
+/// The bytes of a chunk before the last.
+const CHUNK: usize = 65_536;
+
+/// Copies a chunk, and counts it.
+fn copy_chunk<S: Source, O: Sink>(
+    source: &mut S,
+    intake: &mut Intake,
+    sink: &mut O,
+    progress: &mut Progress,
+) -> Result<(), FileFault>
+    requires room { progress.old.written ≤ 2 ^ 64 }
+    requires limit { progress.old.index + 1 < 281474976710656 }
+    ensures { CopiesChunk 65536 (side (S.remaining source.old) (S.failed source.old) intake.old)
+        (side (S.remaining source.new) (S.failed source.new) intake.new)
+        (tally (O.taken sink.old) (O.failed sink.old) (O.label sink.old) progress.old)
+        (tally (O.taken sink.new) (O.failed sink.new) (O.label sink.new) progress.new) result }
+{
+    let mut digest = Sha256::new();
+    digest.update(&progress.chain);
+    let mut left = CHUNK;
+    'parts: while left > 0 {
+        match some_bytes(source, intake) {
+            Ok(true) => {}
+            Ok(false) => return Err(FileFault::ShortText),
+            Err(fault) => return Err(fault),
+        }
+        let n = left.min(intake.bytes().len());
+        let piece = &intake.bytes()[..n];
+        let Ok(()) = put_all(sink, piece, &mut progress.written) else {
+            return Err(FileFault::Write);
+        };
+        digest.update(piece);
+        intake.use_front(n);
+        left -= n;
+    }
+    progress.advance(progress.index + 1, digest.finalize());
+    Ok(())
+}
+
+/// Copies so many chunks of an old text from its start.
+pub(crate) fn copy_chunks<S: Source, O: Sink>(
+    source: &mut S,
+    intake: &mut Intake,
+    chunks: u64,
+    sink: &mut O,
+    progress: &mut Progress,
+) -> Result<(), FileFault>
+    requires limit { chunks < 281474976710656 }
+    requires fresh { (progress.old.written ≡ 0) × (progress.old.index ≡ 0) × (progress.old.chain ≡ replicate 32 0) }
+    ensures { CopiesAll 65536 chunks (side (S.remaining source.old) (S.failed source.old) intake.old)
+        (side (S.remaining source.new) (S.failed source.new) intake.new)
+        (tally (O.taken sink.old) (O.failed sink.old) (O.label sink.old) progress.old)
+        (tally (O.taken sink.new) (O.failed sink.new) (O.label sink.new) progress.new) result }
+{
+    for _copied in 0..chunks {
+        match copy_chunk(source, intake, sink, progress) {
+            Ok(()) => {}
+            Err(fault) => return Err(fault),
+        }
+    }
+    Ok(())
+}
