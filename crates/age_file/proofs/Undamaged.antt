@@ -1,13 +1,14 @@
 -- What can't stop the decryption of an age file that is undamaged.
 use Rattle.std.proofs.Common.{inl, inr, ◌≡◌, ℕ, ◌+◌, ◌*◌, ◌<◌, List, [], ◌++◌, length, take, drop, Option, Some, None, refl, sym, ap, subst, ◌∙◌, arith, append-nil, append_assoc, Bool, true, false}
 use Rattle.std.specs.Prelude.{nat_lt}
-use Rattle.std.proofs.lemmas.List.{length-append, drop_at, take_at}
+use Rattle.std.proofs.lemmas.List.{length-append, drop_at, take_at, drop_all}
 use Rattle.std.specs.Io.KnownBytes.{Consumes, IsAtEnd}
 use Rattle.age_stanza.specs.declared.header.Header.{Header}
 use Rattle.age_stanza.specs.declared.fault.HeadFault.{HeadFault}
 use Rattle.age_stanza.specs.Grammar.{HeadText}
 use Rattle.age_stanza.specs.Laws.{OneHeader}
 use Rattle.age_stream.specs.declared.fault.StreamFault.{StreamFault}
+use Rattle.age_stream.specs.declared.fault.StreamKind.TheVariants.{Truncated}
 use Rattle.age_stream.specs.declared.step.Status.TheVariants.{Open, Failed, Done}
 use Rattle.age_stream.specs.Payload.{payload, chunk_count}
 use Rattle.age_stream.specs.Segment.{outcome, status_after, status_ended}
@@ -23,7 +24,8 @@ use Rattle.age_file.specs.AgeFile.{box, unbox}
 use Rattle.age_file.specs.Ports.{Ports}
 use Rattle.age_file.specs.Faults.{IsHeadFault, IsSourcesFault}
 use Rattle.age_file.specs.declared.position.Position.{Position}
-use Rattle.age_file.specs.Decrypts.{segment, Run, segment_of, DecryptFails, IsUndamaged, StopsOutside}
+use Rattle.age_file.specs.Starts.{StartFails}
+use Rattle.age_file.specs.Decrypts.{segment, DecryptFails, IsWhole, IsUndamaged, StopsOutside}
 use Rattle.age_file.specs.declared.fault.FileFault.{FileFault}
 use Rattle.age_file.specs.declared.fault.FileFault.TheVariants.{Head, Key, NonceCut, Stream, Read, Write, Memory, ReadNeverEnds}
 
@@ -37,12 +39,19 @@ told before after bytes used is consumed = left after (subst (λ (b : Option (Li
 none_left : (after : Option (List ℕ)) (rest : List ℕ) → after ≡ Some rest → IsAtEnd after → rest ≡ []
 none_left after rest is ended = subst IsAtEnd is ended
 
+whole_dropped : (all : List ℕ) → all ≡ drop (0 * 65552) all
+whole_dropped all = (let z : 0 * 65552 ≡ 0 = omega arith in ap (λ (k : ℕ). drop k all) (sym z))
+
 -- two texts that begin with as many bytes
 same_front : (a b x y : List ℕ) → length a ≡ length b → a ++ x ≡ b ++ y → (a ≡ b) × (x ≡ y)
 same_front a b x y len e = (
   sym (take_at a x (length b) len) ∙ (ap (take (length b)) e ∙ take_at b y (length b) refl),
   sym (drop_at a x (length b) len) ∙ (ap (drop (length b)) e ∙ drop_at b y (length b) refl),
 )
+
+-- an end without bytes
+no_bytes : (op : List ℕ → List ℕ → Option (List ℕ)) (k : ℕ) → (outcome op 65536 (segment k [] true)).status ≡ Failed (record { kind = Truncated; chunk = k + 0 })
+no_bytes op k = refl
 
 -- a segment that failed stays so with more bytes and an end
 failed_after : (some : Bool) (i : ℕ) (fault : StreamFault) → status_after some i (Failed fault) ≡ Failed fault
@@ -62,18 +71,19 @@ failed_stays op n k bytes more false fault e none =
     let end = after_end op n (segment k (bytes ++ more) false) (λ o. let clash : Open ≡ Failed fault = sym o ∙ later in cc) in
     end.status ∙ ap status_ended later
 
-module _ (one : OneHeader) (Allows : Header → List ℕ → Type 0) (Refused : Header → KeyFault → Type 0) (coming : Option (List ℕ)) (text : List ℕ) (u : IsUndamaged Allows Refused coming text) where
+module _ (one : OneHeader) (Allows : Header → List ℕ → Type 0) (Refused : Header → KeyFault → Type 0) (coming : Option (List ℕ)) (text : List ℕ) (u : IsWhole Allows Refused coming text) where
   -- what was read of the header is the file's
-  record IsFront (h : Header) (front behind : List ℕ) : Type 0 where
-    header_is : h ≡ u.header
-    rest_is : behind ≡ u.nonce ++ payload (box u.key u.nonce) 65536 text
+  pub record IsFront (h : Header) (front behind : List ℕ) : Type 0 where
+    pub header_is : h ≡ u.header
+    pub front_is : front ≡ u.file.front
+    pub rest_is : behind ≡ u.nonce ++ payload (box u.key u.nonce) 65536 text
 
   fronts : (h : Header) (front behind : List ℕ) → HeadText h front → u.bytes ≡ front ++ behind → IsFront h front behind
   fronts h front behind text_is parts =
       let file = u.file in
       let e : file.front ++ (u.nonce ++ payload (box u.key u.nonce) 65536 text) ≡ front ++ behind = sym (append_assoc file.front u.nonce (payload (box u.key u.nonce) 65536 text)) ∙ (sym file.parts ∙ parts) in
       let same = one u.header h file.front front (u.nonce ++ payload (box u.key u.nonce) 65536 text) behind file.head.spells text_is.spells e in
-      record { header_is = sym same.0; rest_is = sym (same_front file.front front (u.nonce ++ payload (box u.key u.nonce) 65536 text) behind (ap length same.1) e).1 }
+      record { header_is = sym same.0; front_is = sym same.1; rest_is = sym (same_front file.front front (u.nonce ++ payload (box u.key u.nonce) 65536 text) behind (ap length same.1) e).1 }
 
   no_head_fault : (fault : HeadFault) → IsSourcesFault coming fault → ⊥
   no_head_fault fault f =
@@ -98,45 +108,97 @@ module _ (one : OneHeader) (Allows : Header → List ℕ → Type 0) (Refused : 
       let none : t.0 ≡ [] = none_left after t.0 t.2 ended in
       omega (arith, lt, ap length same.rest_is, length-append short t.0, ap length none, length-append u.nonce (payload (box u.key u.nonce) 65536 text), u.file.size)
 
-  -- the whole payload opens to its end
-  payload_done : (outcome (unbox u.key u.nonce) 65536 (segment 0 (payload (box u.key u.nonce) 65536 text) true)).status ≡ Done
-  payload_done =
-      let lawful = box_lawful (payload_key u.key u.nonce) in
-      let positive : 0 < 65536 = omega arith in
-      let below : 0 < chunk_count 65536 text = omega arith in
-      let z : 0 * (65536 + 16) ≡ 0 = omega arith in
-      let all = payload (box u.key u.nonce) 65536 text in
-      let e = ap (λ (k : ℕ). drop k all) (sym z) ∙ rest_payload (box u.key u.nonce) (unbox u.key u.nonce) lawful 65536 positive text u.few 0 below in
-      ap (λ (t : List ℕ). (outcome (unbox u.key u.nonce) 65536 (segment 0 t true)).status) e
-      ∙ rest_is_done (box u.key u.nonce) (unbox u.key u.nonce) lawful 65536 positive text u.few 0 below
-      (subst (λ (t : List ℕ). IsAuthentic (box u.key u.nonce) (unbox u.key u.nonce) 65536 text (segment 0 t true)) e u.authentic)
+  -- no fault of what is before a payload
+  pub start_undamaged : (after : Option (List ℕ)) (i j : ℕ) (fault : FileFault) → StartFails Allows Refused coming after i j fault → StopsOutside fault
+  start_undamaged after i j (Head x) f = absurd (no_head_fault x f.of_all)
+  start_undamaged after i j (Key x) f = absurd (no_key_fault after f.0 f.1 f.2 x f.3 f.4 f.5 f.6)
+  start_undamaged after i j NonceCut f = absurd (no_nonce_cut after f.0 f.1 f.3 f.4 f.6 f.7 f.8)
+  start_undamaged after i j Read f = tt
+  start_undamaged after i j Write f = tt
+  start_undamaged after i j Memory f = tt
+  start_undamaged after i j ReadNeverEnds f = tt
+  start_undamaged after i j other f = absurd f
 
-  no_stream_fault : (after : Option (List ℕ)) (r : Run) (fault : StreamFault) → HeadText r.header r.front → Allows r.header r.key → length r.nonce ≡ 16 → Consumes coming after ((r.front ++ r.nonce) ++ r.bytes)
-      → (r.ended ≡ true → IsAtEnd after) → (outcome (unbox r.key r.nonce) 65536 (segment_of r)).status ≡ Failed fault → ⊥
-  no_stream_fault after r fault text_is allows size consumed at_end failed =
-      let t = told coming after u.bytes ((r.front ++ r.nonce) ++ r.bytes) u.all consumed in
-      let all = payload (box u.key u.nonce) 65536 text in
-      let parts : u.bytes ≡ r.front ++ (r.nonce ++ (r.bytes ++ t.0)) =
-      t.1 ∙ (append_assoc (r.front ++ r.nonce) r.bytes t.0 ∙ append_assoc r.front r.nonce (r.bytes ++ t.0)) in
-      let same = fronts r.header r.front (r.nonce ++ (r.bytes ++ t.0)) text_is parts in
-      let behind = same_front r.nonce u.nonce (r.bytes ++ t.0) all (size ∙ sym u.file.size) same.rest_is in
-      let key : r.key ≡ u.key = u.only r.key (subst (λ (x : Header). Allows x r.key) same.header_is allows) in
-      let here : (outcome (unbox u.key u.nonce) 65536 (segment 0 r.bytes r.ended)).status ≡ Failed fault =
-      subst (λ (k : List ℕ). (outcome (unbox k u.nonce) 65536 (segment 0 r.bytes r.ended)).status ≡ Failed fault) key
-      (subst (λ (k : List ℕ). (outcome (unbox r.key k) 65536 (segment 0 r.bytes r.ended)).status ≡ Failed fault) behind.0 failed) in
-      let stays = failed_stays (unbox u.key u.nonce) 65536 0 r.bytes t.0 r.ended fault here (λ e. none_left after t.0 t.2 (at_end e)) in
-      let clash : Done ≡ Failed fault = sym payload_done ∙ (ap (λ (x : List ℕ). (outcome (unbox u.key u.nonce) 65536 (segment 0 x true)).status) (sym behind.1) ∙ stays) in
-      cc
+  -- what was read behind the nonce is the payload's beginning
+  pub record IsOpenedAs (key nonce behind : List ℕ) (after : Option (List ℕ)) : Type 0 where
+    pub key_is : key ≡ u.key
+    pub nonce_is : nonce ≡ u.nonce
+    pub left : List ℕ
+    pub left_is : after ≡ Some left
+    pub payload_is : behind ++ left ≡ payload (box u.key u.nonce) 65536 text
+
+  -- the file's front is that which was read
+  pub front_is : (after : Option (List ℕ)) (h : Header) (front nonce behind : List ℕ) → HeadText h front → Consumes coming after ((front ++ nonce) ++ behind) → front ≡ u.file.front
+  front_is after h front nonce behind text_is consumed =
+      let t = told coming after u.bytes ((front ++ nonce) ++ behind) u.all consumed in
+      let parts : u.bytes ≡ front ++ (nonce ++ (behind ++ t.0)) = t.1 ∙ (append_assoc (front ++ nonce) behind t.0 ∙ append_assoc front nonce (behind ++ t.0)) in
+      (fronts h front (nonce ++ (behind ++ t.0)) text_is parts).front_is
+
+  pub opened_as : (after : Option (List ℕ)) (h : Header) (front key nonce behind : List ℕ) → HeadText h front → Allows h key → length nonce ≡ 16
+      → Consumes coming after ((front ++ nonce) ++ behind) → IsOpenedAs key nonce behind after
+  opened_as after h front key nonce behind text_is allows size consumed =
+      let t = told coming after u.bytes ((front ++ nonce) ++ behind) u.all consumed in
+      let parts : u.bytes ≡ front ++ (nonce ++ (behind ++ t.0)) = t.1 ∙ (append_assoc (front ++ nonce) behind t.0 ∙ append_assoc front nonce (behind ++ t.0)) in
+      let same = fronts h front (nonce ++ (behind ++ t.0)) text_is parts in
+      let both = same_front nonce u.nonce (behind ++ t.0) (payload (box u.key u.nonce) 65536 text) (size ∙ sym u.file.size) same.rest_is in
+      record {
+        key_is = u.only key (subst (λ (x : Header). Allows x key) same.header_is allows);
+        nonce_is = both.0;
+        left = t.0;
+        left_is = t.2;
+        payload_is = both.1;
+      }
+
+  -- from a chunk of the text on, whose blocks are the writer's
+  module _ (k : ℕ) (below : k < chunk_count 65536 text) (authentic : IsAuthentic (box u.key u.nonce) (unbox u.key u.nonce) 65536 text (segment k (drop (k * 65552) (payload (box u.key u.nonce) 65536 text)) true)) where
+    -- the rest of the payload opens to its end
+    rest_done : (outcome (unbox u.key u.nonce) 65536 (segment k (drop (k * 65552) (payload (box u.key u.nonce) 65536 text)) true)).status ≡ Done
+    rest_done =
+        let lawful = box_lawful (payload_key u.key u.nonce) in
+        let positive : 0 < 65536 = omega arith in
+        let e = rest_payload (box u.key u.nonce) (unbox u.key u.nonce) lawful 65536 positive text u.few k below in
+        ap (λ (t : List ℕ). (outcome (unbox u.key u.nonce) 65536 (segment k t true)).status) e
+        ∙ rest_is_done (box u.key u.nonce) (unbox u.key u.nonce) lawful 65536 positive text u.few k below
+        (subst (λ (t : List ℕ). IsAuthentic (box u.key u.nonce) (unbox u.key u.nonce) 65536 text (segment k t true)) e authentic)
+
+    pub no_stream_fault : (after : Option (List ℕ)) (key nonce passed bytes : List ℕ) (ended : Bool) (fault : StreamFault) → IsOpenedAs key nonce (passed ++ bytes) after → length passed ≡ k * 65552
+        → (ended ≡ true → IsAtEnd after) → (outcome (unbox key nonce) 65536 (segment k bytes ended)).status ≡ Failed fault → ⊥
+    no_stream_fault after key nonce passed bytes ended fault o size at_end failed =
+        let all = payload (box u.key u.nonce) 65536 text in
+        let rest : bytes ++ o.left ≡ drop (k * 65552) all =
+        sym (drop_at passed (bytes ++ o.left) (k * 65552) size) ∙ ap (drop (k * 65552)) (sym (append_assoc passed bytes o.left) ∙ o.payload_is) in
+        let here : (outcome (unbox u.key u.nonce) 65536 (segment k bytes ended)).status ≡ Failed fault =
+        subst (λ (x : List ℕ). (outcome (unbox x u.nonce) 65536 (segment k bytes ended)).status ≡ Failed fault) o.key_is
+        (subst (λ (x : List ℕ). (outcome (unbox key x) 65536 (segment k bytes ended)).status ≡ Failed fault) o.nonce_is failed) in
+        let stays = failed_stays (unbox u.key u.nonce) 65536 k bytes o.left ended fault here (λ e. none_left after o.left o.left_is (at_end e)) in
+        let clash : Done ≡ Failed fault = sym rest_done ∙ (ap (λ (x : List ℕ). (outcome (unbox u.key u.nonce) 65536 (segment k x true)).status) (sym rest) ∙ stays) in
+        cc
+
+    -- the blocks before that chunk are all there
+    pub no_early_end : (after : Option (List ℕ)) (key nonce passed : List ℕ) → IsOpenedAs key nonce passed after → length passed < k * 65552 → IsAtEnd after → ⊥
+    no_early_end after key nonce passed o short ended =
+        let all = payload (box u.key u.nonce) 65536 text in
+        let none : o.left ≡ [] = none_left after o.left o.left_is ended in
+        let nothing : drop (k * 65552) all ≡ [] = drop_all (k * 65552) all (omega (arith, short, ap length o.payload_is, length-append passed o.left, ap length none)) in
+        let clash : Done ≡ Failed (record { kind = Truncated; chunk = k + 0 }) =
+        sym rest_done ∙ (ap (λ (x : List ℕ). (outcome (unbox u.key u.nonce) 65536 (segment k x true)).status) nothing ∙ no_bytes (unbox u.key u.nonce) k) in
+        cc
 
 pub undamaged : OneHeader → (Allows : Header → List ℕ → Type 0) (Refused : Header → KeyFault → Type 0) (old new : Ports) (written : ℕ) (position : Option Position) (fault : FileFault) (text : List ℕ)
     → IsUndamaged Allows Refused old.coming text → DecryptFails Allows Refused old new written position fault → StopsOutside fault
-undamaged one Allows Refused old new written position (Head x) text u f = absurd (no_head_fault one Allows Refused old.coming text u x f.1.of_all)
-undamaged one Allows Refused old new written position (Key x) text u f = absurd (no_key_fault one Allows Refused old.coming text u new.coming f.1.0 f.1.1 f.1.2 x f.1.3 f.1.4 f.1.5 f.1.6)
-undamaged one Allows Refused old new written position NonceCut text u f = absurd (no_nonce_cut one Allows Refused old.coming text u new.coming f.1.0 f.1.1 f.1.3 f.1.4 f.1.6 f.1.7 f.1.8)
+undamaged one Allows Refused old new written position (Head x) text u f = start_undamaged one Allows Refused old.coming text u.whole new.coming old.read_failed new.read_failed (Head x) f.1
+undamaged one Allows Refused old new written position (Key x) text u f = start_undamaged one Allows Refused old.coming text u.whole new.coming old.read_failed new.read_failed (Key x) f.1
+undamaged one Allows Refused old new written position NonceCut text u f = start_undamaged one Allows Refused old.coming text u.whole new.coming old.read_failed new.read_failed NonceCut f.1
 undamaged one Allows Refused old new written position (Stream x) text u f =
     let r = f.0 in
     let is = f.1.is in
-    absurd (no_stream_fault one Allows Refused old.coming text u new.coming r x is.text is.opens.allowed is.size is.read is.at_end f.3)
+    let w = u.whole in
+    let all = payload (box w.key w.nonce) 65536 text in
+    let below : 0 < chunk_count 65536 text = omega arith in
+    let authentic = subst (λ (t : List ℕ). IsAuthentic (box w.key w.nonce) (unbox w.key w.nonce) 65536 text (segment 0 t true)) (whole_dropped all) u.authentic in
+    let o = opened_as one Allows Refused old.coming text w new.coming r.header r.front r.key r.nonce r.bytes is.text is.opens.allowed is.size is.read in
+    let none : length {A = ℕ} [] ≡ 0 * 65552 = omega arith in
+    absurd (no_stream_fault one Allows Refused old.coming text w 0 below authentic new.coming r.key r.nonce [] r.bytes r.ended x o none is.at_end f.3)
 undamaged one Allows Refused old new written position Read text u f = tt
 undamaged one Allows Refused old new written position Write text u f = tt
 undamaged one Allows Refused old new written position Memory text u f = tt

@@ -114,9 +114,8 @@ module _ (Allows : Header → List ℕ → Type 0) where
   DecryptFails Refused old new written position fault =
       WritesNone old new written position × StartFails Allows Refused old.coming new.coming old.read_failed new.read_failed fault
 
--- the source is an age file of this text, and the unlocker has its key and no other, and no fault but want of memory; no
--- block of the payload opens except as its writer sealed it
-pub record IsUndamaged (Allows : Header → List ℕ → Type 0) (Refused : Header → KeyFault → Type 0) (coming : Option (List ℕ)) (text : List ℕ) : Type 0 where
+-- the source is an age file of this text, and the unlocker has its key and no other, and no fault but want of memory
+pub record IsWhole (Allows : Header → List ℕ → Type 0) (Refused : Header → KeyFault → Type 0) (coming : Option (List ℕ)) (text : List ℕ) : Type 0 where
   pub header : Header
   pub key : List ℕ
   pub nonce : List ℕ
@@ -127,7 +126,11 @@ pub record IsUndamaged (Allows : Header → List ℕ → Type 0) (Refused : Head
   pub alone : ¬ IsScryptBeside header
   pub only : (k : List ℕ) → Allows header k → k ≡ key
   pub never : (fault : KeyFault) → Refused header fault → fault ≡ KeyMemory
-  pub authentic : IsAuthentic (box key nonce) (unbox key nonce) 65536 text (segment 0 (payload (box key nonce) 65536 text) true)
+
+-- and no block of the payload opens except as its writer sealed it
+pub record IsUndamaged (Allows : Header → List ℕ → Type 0) (Refused : Header → KeyFault → Type 0) (coming : Option (List ℕ)) (text : List ℕ) : Type 0 where
+  pub whole : IsWhole Allows Refused coming text
+  pub authentic : IsAuthentic (box whole.key whole.nonce) (unbox whole.key whole.nonce) 65536 text (segment 0 (payload (box whole.key whole.nonce) 65536 text) true)
 
 -- what may stop its decryption all the same
 abbrev pub StopsOutside : FileFault → Type 0

@@ -39,7 +39,7 @@ pub struct Stopped {
 
 impl Stopped {
     /// A stop before anything was written.
-    fn early(fault: FileFault) -> Stopped
+    pub(crate) fn early(fault: FileFault) -> Stopped
         ensures { result ≡ record { fault = fault; written = 0; position = None } }
     {
         Stopped {
@@ -51,7 +51,7 @@ impl Stopped {
 }
 
 /// Where a reader of this file may go on.
-fn position_of(unlocked: &Unlocked, progress: &Progress) -> Position
+pub(crate) fn position_of(unlocked: &Unlocked, progress: &Progress) -> Position
     ensures index { result.index ≡ progress.now.index }
     ensures file_id { result.file_id ≡ unlocked.now.id }
     ensures chain { result.chain ≡ progress.now.chain }

@@ -40,6 +40,7 @@ pub use mem_source::MemSource;
 pub use position::Position;
 pub use put::put_all;
 pub use report::{Report, StanzaReport, StanzaReports};
+pub use resumption::resume;
 pub use secret::Secret;
 pub use sink::{Sink, Writing};
 pub use source::{Reading, Source};

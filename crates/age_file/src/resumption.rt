@@ -1,6 +1,6 @@
 //! Goes on with a decryption that stopped.
 
-ghost use Rattle.std.specs.Prelude.{◌≡◌, ◌^◌, ◌<◌, ◌≤◌, [], replicate};
+ghost use Rattle.std.specs.Prelude.{◌≡◌, ℕ, List, ◌^◌, ◌<◌, ◌≤◌, [], replicate, IfOk, IfErr};
 ghost use Rattle.age_keys.specs.Keys.{position_key};
 ghost use Rattle.age_file.specs.Bindings.{position_tag};
 ghost use Rattle.age_file.specs.Releases.{tally};
@@ -8,11 +8,14 @@ ghost use Rattle.age_file.specs.Passages.{side};
 ghost use Rattle.age_file.specs.Copies.{CopiesText};
 ghost use Rattle.age_file.specs.Pours.{stage};
 ghost use Rattle.age_file.specs.GoingOn.{HasPulled, GoesOn};
-ghost use Rattle.age_file.specs.Resumes.{VerdictOn};
+ghost use Rattle.age_file.specs.Ports.{ports};
+ghost use Rattle.age_file.specs.Decrypts.{StopsOutside};
+ghost use Rattle.age_file.specs.Resumes.{VerdictOn, Resumption, ResumeDone, ResumeFails, IsUndamagedRest, resume_ports};
 ghost use Rattle.age_cipher.specs.Opening.{opening};
 ghost use Rattle.age_keys.specs.Keys.{payload_key};
 
 use crate::copy::copy_chunks;
+use crate::decryption::{Done, Stopped, position_of};
 use crate::fault::FileFault;
 use crate::intake::Intake;
 use crate::passage::pass_over;
@@ -21,8 +24,10 @@ use crate::pour::pour;
 use crate::progress::Progress;
 use crate::sink::Sink;
 use crate::source::Source;
-use crate::start::Unlocked;
-use age_keys::{PayloadKey, payload_key, position_key};
+use crate::start::{Unlocked, start};
+use age_keys::{PayloadKey, Unlock, payload_key, position_key};
+use age_stanza::one_header;
+use std::alloc::Global;
 
 /// Whether a position is this file's, and was made under its key.
 fn verify(unlocked: &Unlocked, position: &Position) -> Result<(), FileFault>
@@ -87,4 +92,73 @@ fn open_rest<S: Source, O: Sink>(
         Err(fault) => return Err(fault),
     }
     pour::<PayloadKey, 65552, S, O>(key, index, reader, intake, writer, progress)
+}
+
+/// Goes on with a decryption that stopped, from its position: opens the file's header, copies the old text up to the
+/// position, passes over the blocks of that text, and writes each chunk behind them once the tag of its block was checked.
+/// What was written at the end is the whole text, not its rest alone.
+///
+/// Up to the payload nonce it stops as [`decrypt`](crate::decrypt) does. Then it stops with `OtherFile` (24) where the
+/// position is of another file, and with `PositionForged` (30) where its tag isn't that of the file's key; nothing was
+/// written. `ShortText` (25) comes where the old text ended before the position, and `OldTextDiffers` (31) where its chunks
+/// aren't those that the position was made for; what was copied stands. `Truncated` (20) with its chunk comes where the
+/// source ends in the blocks that are passed over. Else it stops as `decrypt` does. A position is handed out once the
+/// old text was found to be the position's. All memory is taken before the payload nonce is read.
+pub fn resume<U: Unlock, S: Source, L: Source, O: Sink>(
+    alloc: Global,
+    unlock: &U,
+    position: &Position,
+    reader: &mut S,
+    old_reader: &mut L,
+    writer: &mut O,
+) -> Result<Done, Stopped>
+    ensures done { IfOk result (λ done. (r : Resumption) × ResumeDone (U.allows unlock.now) position.now
+        (resume_ports (ports (S.remaining reader.old) (S.failed reader.old) (O.taken writer.old) (O.failed writer.old)) (L.remaining old_reader.old) (L.failed old_reader.old))
+        (resume_ports (ports (S.remaining reader.new) (S.failed reader.new) (O.taken writer.new) (O.failed writer.new)) (L.remaining old_reader.new) (L.failed old_reader.new)) done.written r) }
+    ensures stopped { IfErr result (λ stopped. ResumeFails (U.allows unlock.now) position.now (U.refuses unlock.now)
+        (resume_ports (ports (S.remaining reader.old) (S.failed reader.old) (O.taken writer.old) (O.failed writer.old)) (L.remaining old_reader.old) (L.failed old_reader.old))
+        (resume_ports (ports (S.remaining reader.new) (S.failed reader.new) (O.taken writer.new) (O.failed writer.new)) (L.remaining old_reader.new) (L.failed old_reader.new)) stopped.written stopped.position stopped.fault) }
+    ensures named { O.label writer.new ≡ O.label writer.old }
+{
+    one_header();
+    let (Ok(mut intake), Ok(mut old_intake)) = (Intake::new(alloc), Intake::new(alloc)) else {
+        return Err(Stopped::early(FileFault::Memory));
+    };
+    let unlocked = match start(alloc, unlock, reader, &mut intake) {
+        Ok(unlocked) => unlocked,
+        Err(fault) => return Err(Stopped::early(fault)),
+    };
+    match verify(&unlocked, position) {
+        Ok(()) => {}
+        Err(fault) => return Err(Stopped::early(fault)),
+    }
+    let mut progress = Progress::new();
+    match copy_old(position, old_reader, &mut old_intake, writer, &mut progress) {
+        Ok(()) => {}
+        Err(fault) => {
+            return Err(Stopped {
+                fault,
+                written: progress.written,
+                position: None,
+            });
+        }
+    }
+    let key = payload_key(&unlocked.key, &unlocked.nonce);
+    match open_rest(
+        &key,
+        position.index,
+        reader,
+        &mut intake,
+        writer,
+        &mut progress,
+    ) {
+        Ok(()) => Ok(Done {
+            written: progress.written,
+        }),
+        Err(fault) => Err(Stopped {
+            fault,
+            written: progress.written,
+            position: Some(position_of(&unlocked, &progress)),
+        }),
+    }
 }

@@ -1,0 +1,443 @@
+-- From what was read, copied, passed over and poured to what a resumed decryption did.
+use Rattle.std.proofs.Common.{◌≡◌, ℕ, ◌+◌, ◌*◌, ◌<◌, ◌≤◌, ◌/◌, min, List, [], ◌++◌, length, take, drop, Option, Some, None, refl, inl, inr, sym, ap, subst, ◌∙◌, suc, arith, append-nil, append_assoc}
+use Rattle.std.specs.Prelude.{Result, MatchResult, Ok, Err}
+use Rattle.std.specs.Simd.{first_chunks}
+use Rattle.std.specs.Io.KnownBytes.{Consumes, Appends}
+use Rattle.std.proofs.KnownBytes.{Consumes-nil}
+use Rattle.std.proofs.lemmas.List.{length-append, length-take, take_at, take-append-drop, take-append-le}
+use Rattle.std.proofs.Math.Nat.{mul-le-mul_right, le-div_iff_mul-le}
+use Rattle.age_stanza.specs.declared.header.Header.{Header}
+use Rattle.age_stream.specs.declared.step.Status.TheVariants.{Done}
+use Rattle.age_stream.specs.Segment.{outcome}
+use Rattle.age_stream.specs.Headline.{IsPrefixOf}
+use Rattle.age_stream.proofs.Chunks.{first_chunks-append}
+use Rattle.age_stream.proofs.Segments.{released_segment}
+use Rattle.age_keys.specs.declared.fault.KeyFault.{KeyFault}
+use Rattle.age_cipher.specs.Opening.{opening}
+use Rattle.age_keys.specs.Keys.{payload_key, position_key}
+use Rattle.age_keys.specs.PayloadBox.{box_lawful}
+use Rattle.age_file.specs.AgeFile.{box, unbox}
+use Rattle.age_file.specs.Bindings.{file_id, chain, position_tag}
+use Rattle.age_file.specs.Copies.{CopiesText}
+use Rattle.age_file.specs.Faults.{HasRisen}
+use Rattle.age_file.specs.GoingOn.{side_of, GoesOn, PoursBehind}
+use Rattle.age_file.specs.Intakes.{Pulled}
+use Rattle.age_file.specs.Marks.{IsMarked}
+use Rattle.age_file.specs.Passages.{Side, Passes, Dries, PassFails}
+use Rattle.age_file.specs.Pours.{Stage, Pours, PourFails, PourDone}
+use Rattle.age_file.specs.Releases.{Tally}
+use Rattle.age_file.specs.Resumes.{ResumePorts, OpenedFile, Reads, BeginsWith, WritesOld, IsOldText, Resumption, segment_at, fresh_text, IsResumption, IsAuthenticResumption, ResumesOf, ResumesAll, IsNextPosition, IsSame, Accepts, StopsInOld, StopsInPassed, ResumeDone, ResumeFails, PositionRefused}
+use Rattle.age_file.specs.Starts.{StartsAt, StartFails}
+use Rattle.age_file.specs.Unread.{Unread}
+use Rattle.age_file.specs.declared.fault.FileFault.{FileFault}
+use Rattle.age_file.specs.declared.fault.FileFault.TheVariants.{Stream, OtherFile, ShortText, Read, Write, ReadNeverEnds, PositionForged, OldTextDiffers}
+use Rattle.age_file.specs.declared.position.Position.{Position}
+use Rattle.age_file.specs.declared.progress.Progress.{Progress}
+use Rattle.age_file.specs.declared.start.Unlocked.{Unlocked}
+use Rattle.age_file.proofs.Bytes.{Appends-then}
+use Rattle.age_file.proofs.DecryptSteps.{prefix_trans}
+
+-- ---- the old text
+
+-- nothing was pulled yet
+fresh_pulled : (a : Option (List ℕ)) (u : Unread) → u.bytes ≡ [] → u.pulls ≡ 0 → Pulled a a u.pulls ([] ++ u.bytes)
+fresh_pulled a u none zero = record {
+  consumed = subst (λ (t : List ℕ). Consumes a a t) (sym none) (Consumes-nil a);
+  each_gave = omega (arith, zero);
+  small = omega (arith, ap length none);
+  most = omega (arith, zero);
+}
+
+-- what was used of the old text, from its start
+used_old : (x z : Side) (used : List ℕ) → x.unread.bytes ≡ [] → x.unread.pulls ≡ 0 → Passes x z used → Pulled x.coming z.coming z.unread.pulls (used ++ z.unread.bytes)
+used_old x z used none zero f = f.uses x.coming [] (fresh_pulled x.coming x.unread none zero)
+
+dried_old : (x z : Side) (used : List ℕ) (fault : FileFault) → x.unread.bytes ≡ [] → x.unread.pulls ≡ 0 → Dries x z used fault → Pulled x.coming z.coming z.unread.pulls used
+dried_old x z used fault none zero f =
+    subst (λ (t : List ℕ). Pulled x.coming z.coming z.unread.pulls t) (ap (λ (t : List ℕ). used ++ t) f.used ∙ append-nil used)
+    (f.uses x.coming [] (fresh_pulled x.coming x.unread none zero))
+
+-- the front of what begins as another text
+cut_prefix : (x y z : List ℕ) → IsPrefixOf x z → IsPrefixOf y z → length x ≤ length y → IsPrefixOf x y
+cut_prefix x y z p q le =
+    let both : take (length x) (y ++ q.0) ≡ x = ap (take (length x)) (q.1 ∙ sym p.1) ∙ take_at x p.0 (length x) refl in
+    let short : take (length x) (y ++ q.0) ≡ take (length x) y = take-append-le (length x) y q.0 le in
+    (drop (length x) y, ap (λ (t : List ℕ). t ++ drop (length x) y) (sym (sym short ∙ both)) ∙ take-append-drop (length x) y)
+
+told_prefix : (all : List ℕ) (now : Option (List ℕ)) (pulled : List ℕ) → Consumes (Some all) now pulled → IsPrefixOf pulled all
+told_prefix all None pulled h = absurd h
+told_prefix all (Some rest) pulled h = (rest, sym h)
+
+take_prefix : (n : ℕ) (text : List ℕ) → IsPrefixOf (take n text) text
+take_prefix n text = (drop n text, take-append-drop n text)
+
+-- what was written of an old text is the beginning of the text that it is of
+old_of : (p : Position) (coming now : Option (List ℕ)) (pulled copied : List ℕ) → Consumes coming now pulled → IsPrefixOf copied pulled → length copied ≤ p.index * 65536
+    → (text : List ℕ) → BeginsWith p coming text → IsPrefixOf copied text
+old_of p coming now pulled copied read front le text b =
+    let part = told_prefix b.all now pulled (subst (λ (c : Option (List ℕ)). Consumes c now pulled) b.told read) in
+    let size : length (take (p.index * 65536) text) ≡ p.index * 65536 = omega (arith, length-take (p.index * 65536) text, b.within) in
+    let begins = cut_prefix copied (take (p.index * 65536) text) b.all (prefix_trans copied pulled b.all front part) b.begins (omega (arith, size, le)) in
+    prefix_trans copied (take (p.index * 65536) text) text begins (take_prefix (p.index * 65536) text)
+
+-- the old text is that of the position, so that of each text that the position is bound to
+old_text_of : (p : Position) (copied : List ℕ) → length copied ≡ p.index * 65536 → chain (first_chunks 65536 p.index copied) ≡ p.chain → IsOldText p copied
+old_text_of p copied size same = record { size = size; same = same; bound = λ text b. b.tells (same ∙ b.carries) }
+
+-- ---- the headline
+
+-- the text of a run, where what opens is the writer's
+resumed_text : (p : Position) (r : Resumption) (text : List ℕ) → IsAuthenticResumption p r text → p.index < 281474976710656
+    → IsPrefixOf (r.copied ++ fresh_text p r) text
+    × ((outcome (unbox r.file.key r.file.nonce) 65536 (segment_at p r)).status ≡ Done → r.copied ++ fresh_text p r ≡ text)
+resumed_text p r text auth limit =
+    let positive : 0 < 65536 = omega arith in
+    let o = released_segment (box r.file.key r.file.nonce) (unbox r.file.key r.file.nonce) (box_lawful (payload_key r.file.key r.file.nonce)) 65536 text auth.few positive
+    (segment_at p r) r.copied limit auth.within auth.old_text auth.authentic in
+    (o.prefix, o.done)
+
+append_prefix : (x y z : List ℕ) → IsPrefixOf y z → IsPrefixOf (x ++ y) (x ++ z)
+append_prefix x y z p = (p.0, append_assoc x y p.0 ∙ ap (λ (t : List ℕ). x ++ t) p.1)
+
+resumes_of : (p : Position) (r : Resumption) → p.index < 281474976710656 → IsPrefixOf r.out (fresh_text p r) → ResumesOf p r
+resumes_of p r limit begins text auth =
+    prefix_trans (r.copied ++ r.out) (r.copied ++ fresh_text p r) text (append_prefix r.copied r.out (fresh_text p r) begins) (resumed_text p r text auth limit).0
+
+resumes_all : (p : Position) (r : Resumption) → p.index < 281474976710656 → r.out ≡ fresh_text p r → (outcome (unbox r.file.key r.file.nonce) 65536 (segment_at p r)).status ≡ Done → ResumesAll p r
+resumes_all p r limit whole done text auth = ap (λ (t : List ℕ). r.copied ++ t) whole ∙ (resumed_text p r text auth limit).1 done
+
+-- ---- a run that stopped in the old text, or before it
+
+module _ (Allows : Header → List ℕ → Type 0) (Refused : Header → KeyFault → Type 0) (p : Position) where
+  abbrev pub before : Option (List ℕ) → ℕ → Tally → Side → ResumePorts
+  before a i first x = record { main = record { coming = a; read_failed = i; taken = first.taken; write_failed = first.failed }; old_coming = x.coming; old_failed = x.failed }
+
+  abbrev pub after : Stage → Side → ResumePorts
+  after new z = record { main = record { coming = new.coming; read_failed = new.read_failed; taken = new.tally.taken; write_failed = new.tally.failed }; old_coming = z.coming; old_failed = z.failed }
+
+  abbrev opened : (a b : Option (List ℕ)) (u : Unread) (unlocked : Unlocked) → StartsAt Allows a b u unlocked → OpenedFile
+  opened a b u unlocked s = record { header = s.header; front = s.front; key = unlocked.key; nonce = unlocked.nonce }
+
+  reads_of : (a b : Option (List ℕ)) (u : Unread) (unlocked : Unlocked) (s : StartsAt Allows a b u unlocked) (c : Option (List ℕ)) (rest : List ℕ)
+      → Consumes a c ((s.front ++ unlocked.nonce) ++ rest) → Reads Allows a c (opened a b u unlocked s) rest
+  reads_of a b u unlocked s c rest read = record { text = s.text; opens = s.opens; size = s.size; read = read }
+
+  -- no payload came to be opened
+  pub start_fails : (old new : ResumePorts) (fault : FileFault) → Appends old.main.taken new.main.taken []
+      → StartFails Allows Refused old.main.coming new.main.coming old.main.read_failed new.main.read_failed fault → ResumeFails Allows p Refused old new 0 None fault
+  start_fails old new Read none f = inl ((none, refl, refl), f.0, f.1)
+  start_fails old new ReadNeverEnds none f = inl ((none, refl, refl), f.0, f.1)
+  start_fails old new (Stream x) none f = absurd f
+  start_fails old new Write none f = absurd f
+  start_fails old new OtherFile none f = absurd f
+  start_fails old new ShortText none f = absurd f
+  start_fails old new PositionForged none f = absurd f
+  start_fails old new OldTextDiffers none f = absurd f
+  start_fails old new other none f = ((none, refl, refl), f)
+
+  -- the position was refused
+  pub verdict_fails : (old new : ResumePorts) (u : Unread) (unlocked : Unlocked) (fault : FileFault) → Appends old.main.taken new.main.taken []
+      → StartsAt Allows old.main.coming new.main.coming u unlocked → PositionRefused p unlocked.id unlocked.key unlocked.nonce fault → ResumeFails Allows p Refused old new 0 None fault
+  verdict_fails old new u unlocked OtherFile none s f =
+      ((none, refl, refl), opened old.main.coming new.main.coming u unlocked s, u.bytes, reads_of old.main.coming new.main.coming u unlocked s new.main.coming u.bytes s.pulled.consumed, λ own. f (own ∙ sym s.id))
+  verdict_fails old new u unlocked PositionForged none s f =
+      ((none, refl, refl), opened old.main.coming new.main.coming u unlocked s, u.bytes, reads_of old.main.coming new.main.coming u unlocked s new.main.coming u.bytes s.pulled.consumed, f.0 ∙ s.id, f.1)
+  verdict_fails old new u unlocked other none s f = absurd f
+
+  -- the position is this file's
+  abbrev pub IsVerified : Unlocked → Type 0
+  IsVerified unlocked = (p.file_id ≡ unlocked.id) × (p.tag ≡ position_tag (position_key unlocked.key unlocked.nonce) p.index p.file_id p.chain)
+
+  accepts_of : (a b : Option (List ℕ)) (u : Unread) (unlocked : Unlocked) (s : StartsAt Allows a b u unlocked) → IsVerified unlocked → (c : Option (List ℕ)) (rest : List ℕ)
+      → Consumes a c ((s.front ++ unlocked.nonce) ++ rest) → Accepts Allows p a c (opened a b u unlocked s) rest
+  accepts_of a b u unlocked s v c rest read = record { reads = reads_of a b u unlocked s c rest read; own = v.0 ∙ s.id; tagged = v.1 }
+
+  module _ (a : Option (List ℕ)) (i : ℕ) (unlocked : Unlocked) (s1 : Stage) (s : StartsAt Allows a s1.coming s1.unread unlocked) (v : IsVerified unlocked) (same : s1.read_failed ≡ i)
+      (first : Tally) (zero : first.progress.written ≡ 0) (x z : Side) (none : x.unread.bytes ≡ []) (pulls : x.unread.pulls ≡ 0) where
+    abbrev file : OpenedFile
+    file = opened a s1.coming s1.unread unlocked s
+
+    abbrev head : List ℕ
+    head = s.front ++ unlocked.nonce
+
+    -- the copy of the old text stopped
+    stops_in_old : (out pulled : List ℕ) → Appends first.taken s1.tally.taken out → s1.tally.progress.written ≡ first.progress.written + length out → length out < p.index * 65536
+        → Pulled x.coming z.coming z.unread.pulls pulled → IsPrefixOf out pulled → StopsInOld Allows p (before a i first x) (after s1 z) s1.tally.progress.written None
+    stops_in_old out pulled wrote count short read front = record {
+      file = file;
+      rest = s1.unread.bytes;
+      accepts = accepts_of a s1.coming s1.unread unlocked s v s1.coming s1.unread.bytes s.pulled.consumed;
+      copied = out;
+      short = short;
+      writes = record {
+        pulled = pulled;
+        read = read.consumed;
+        front = front;
+        wrote = wrote;
+        count = omega (arith, count, zero);
+        of = old_of p x.coming z.coming pulled out read.consumed front (omega (arith, short));
+      };
+      none = refl;
+    }
+
+    pub copy_fails : (fault : FileFault) → CopiesText 65536 p.index p.chain x z first s1.tally (Err fault) → ResumeFails Allows p Refused (before a i first x) (after s1 z) s1.tally.progress.written None fault
+    unfolding stops_in_old
+    copy_fails ShortText c =
+        let f = c.answered in
+        let used = used_old x z c.out none pulls f.1.0 in
+        let all : Pulled x.coming z.coming z.unread.pulls c.out = subst (λ (t : List ℕ). Pulled x.coming z.coming z.unread.pulls t) (ap (λ (t : List ℕ). c.out ++ t) f.1.1 ∙ append-nil c.out) used in
+        (stops_in_old c.out c.out c.wrote c.count f.0 all ([], append-nil c.out), refl, f.1.2)
+    copy_fails Write c =
+        let f = c.answered in
+        (inl (stops_in_old c.out (f.1.0 ++ z.unread.bytes) c.wrote c.count f.0 (used_old x z f.1.0 none pulls f.1.1) f.1.2), f.1.3)
+    copy_fails Read c =
+        let f = c.answered in
+        inr (inl (stops_in_old c.out c.out c.wrote c.count f.0 (dried_old x z c.out Read none pulls f.1.0) ([], append-nil c.out), f.1.0.why))
+    copy_fails ReadNeverEnds c =
+        let f = c.answered in
+        let all = dried_old x z c.out ReadNeverEnds none pulls f.1.0 in
+        inr (inl (stops_in_old c.out c.out c.wrote c.count f.0 all ([], append-nil c.out), (c.out, all.consumed, omega (arith, all.each_gave, f.1.0.why))))
+    copy_fails OldTextDiffers c =
+        let f = c.answered in
+        let used = used_old x z c.out none pulls f.0.1 in
+        let front : IsPrefixOf c.out (c.out ++ z.unread.bytes) = (z.unread.bytes, refl) in
+        let le : length c.out ≤ p.index * 65536 = omega (arith, f.0.0) in (
+          refl,
+          file,
+          s1.unread.bytes,
+          accepts_of a s1.coming s1.unread unlocked s v s1.coming s1.unread.bytes s.pulled.consumed,
+          c.out,
+          record {
+            pulled = c.out ++ z.unread.bytes;
+            read = used.consumed;
+            front = front;
+            wrote = c.wrote;
+            count = omega (arith, c.count, zero);
+            of = old_of p x.coming z.coming (c.out ++ z.unread.bytes) c.out used.consumed front le;
+          },
+          f.0.0,
+          λ e. f.1 (f.0.4 ∙ e),
+        )
+    copy_fails other c = absurd c.answered.1
+
+    -- ---- a run that went on behind the old text
+
+    -- the old text was copied, and is the position's
+    module _ (c : CopiesText 65536 p.index p.chain x z first s1.tally (Ok tt)) (limit : p.index < 281474976710656) where
+      old_text : IsOldText p c.out
+      old_text = (let f = c.answered in old_text_of p c.out f.0.0 (sym f.0.4 ∙ f.1))
+
+      old_used : Pulled x.coming z.coming z.unread.pulls (c.out ++ z.unread.bytes)
+      old_used = used_old x z c.out none pulls c.answered.0.1
+
+      -- the old text, and no more, was written
+      writes_old : (s2 : Stage) → s2.tally ≡ s1.tally → WritesOld p (before a i first x) (after s2 z) s2.tally.progress.written c.out
+      writes_old s2 still =
+          let le : length c.out ≤ p.index * 65536 = omega (arith, c.answered.0.0) in
+          let front : IsPrefixOf c.out (c.out ++ z.unread.bytes) = (z.unread.bytes, refl) in
+          let written : s2.tally.progress.written ≡ s1.tally.progress.written = ap (λ (t : Tally). t.progress.written) still in
+          record {
+            pulled = c.out ++ z.unread.bytes;
+            read = old_used.consumed;
+            front = front;
+            wrote = subst (λ (t : Option (List ℕ)). Appends first.taken t c.out) (sym (ap (λ (t : Tally). t.taken) still)) c.wrote;
+            count = omega (arith, c.count, zero, written);
+            of = old_of p x.coming z.coming (c.out ++ z.unread.bytes) c.out old_used.consumed front le;
+          }
+
+      -- the run stopped in the blocks that are passed over
+      stops_in_passed : (s2 : Stage) (next : Position) (passed : List ℕ) → s2.tally ≡ s1.tally → IsSame p next → length passed < p.index * 65552
+          → Consumes a s2.coming (head ++ passed) → StopsInPassed Allows p (before a i first x) (after s2 z) s2.tally.progress.written (Some next) passed
+      stops_in_passed s2 next passed still at short read = record {
+        file = file;
+        accepts = accepts_of a s1.coming s1.unread unlocked s v s2.coming passed read;
+        short = short;
+        copied = c.out;
+        old_text = old_text;
+        writes = writes_old s2 still;
+        here = at;
+      }
+
+      dried : (s2 : Stage) (passed : List ℕ) (fault : FileFault) → Dries (side_of s1) (side_of s2) passed fault → Pulled a s2.coming s2.unread.pulls (head ++ passed)
+      dried s2 passed fault f =
+          subst (λ (t : List ℕ). Pulled a s2.coming s2.unread.pulls (head ++ t)) (ap (λ (t : List ℕ). passed ++ t) f.used ∙ append-nil passed) (f.uses a head s.pulled)
+
+      passed_fails : (s2 : Stage) (next : Position) (fault : FileFault) → s2.tally ≡ s1.tally → IsSame p next → PassFails 65552 p.index (side_of s1) (side_of s2) fault
+          → ResumeFails Allows p Refused (before a i first x) (after s2 z) s2.tally.progress.written (Some next) fault
+      passed_fails s2 next (Stream fault) still at f =
+          let e = f.2 in
+          let all : Pulled a s2.coming s2.unread.pulls (head ++ e.bytes) =
+          subst (λ (t : List ℕ). Pulled a s2.coming s2.unread.pulls (head ++ t)) (ap (λ (t : List ℕ). e.bytes ++ t) e.used ∙ append-nil e.bytes) (e.passes.uses a head s.pulled) in
+          let more : suc fault.chunk * 65552 ≤ p.index * 65552 = mul-le-mul_right 65552 f.1 in
+          let failed : s2.tally.failed ≡ first.failed = ap (λ (t : Tally). t.failed) still ∙ c.answered.0.2 in (
+            inl (record {
+              passed = e.bytes;
+              stops = stops_in_passed s2 next e.bytes still at (omega (arith, e.most, more)) all.consumed;
+              kind = f.0;
+              least = e.least;
+              most = e.most;
+              at_end = e.at_end;
+            }),
+            ((e.passes.unfailed ∙ same, failed), c.answered.0.1.unfailed),
+          )
+      passed_fails s2 next Read still at f =
+          inr (inr (inl (f.0, stops_in_passed s2 next f.0 still at f.1 (dried s2 f.0 Read f.2).consumed, subst (λ (m : ℕ). HasRisen m s2.read_failed) same f.2.why)))
+      passed_fails s2 next ReadNeverEnds still at f =
+          let all = dried s2 f.0 ReadNeverEnds f.2 in
+          inr (inr (inl (f.0, stops_in_passed s2 next f.0 still at f.1 all.consumed, (head ++ f.0, all.consumed, omega (arith, all.each_gave, f.2.why)))))
+      passed_fails s2 next other still at f = absurd f
+
+      -- what was read and poured behind the blocks that were passed over
+      record IsPoured (s2 : Stage) (result : Result (Unit {0}) FileFault) : Type 0 where
+        run : Resumption
+        file_is : run.file ≡ file
+        is : IsResumption Allows p (before a i first x) (after s2 z) s2.tally.progress.written run
+        pulled : Pulled a s2.coming s2.unread.pulls (head ++ (run.passed ++ run.bytes))
+        marks : IsMarked (unbox run.file.key run.file.nonce) 65536 (run.copied ++ run.out) (segment_at p run) s2.tally.progress
+        mid : Stage
+        read_failed : mid.read_failed ≡ i
+        write_failed : mid.tally.failed ≡ first.failed
+        answered : MatchResult result (λ _. PourDone (unbox run.file.key run.file.nonce) 65536 mid s2 (segment_at p run) run.out) (PourFails (unbox run.file.key run.file.nonce) 65536 mid s2 (segment_at p run) run.out)
+
+      poured : (key : List ℕ) (s2 : Stage) (result : Result (Unit {0}) FileFault) → key ≡ payload_key unlocked.key unlocked.nonce
+          → PoursBehind (λ nonce block. opening key nonce [] block) p.index s1 s2 result → IsPoured s2 result
+      poured key s2 result key_is b =
+          let q = subst (λ (t : List ℕ). Pours (λ nonce block. opening t nonce [] block) 65536 p.index b.mid s2 result) key_is b.pours in
+          let behind : Pulled a b.mid.coming b.mid.unread.pulls (head ++ (b.passed ++ b.mid.unread.bytes)) = b.passes.uses a head s.pulled in
+          let all : Pulled a s2.coming s2.unread.pulls ((head ++ (b.passed ++ b.mid.unread.bytes)) ++ q.fresh) = q.pulled a (head ++ (b.passed ++ b.mid.unread.bytes)) behind in
+          let parts : (head ++ (b.passed ++ b.mid.unread.bytes)) ++ q.fresh ≡ head ++ (b.passed ++ q.bytes) =
+          append_assoc head (b.passed ++ b.mid.unread.bytes) q.fresh
+          ∙ ap (λ (t : List ℕ). head ++ t) (append_assoc b.passed b.mid.unread.bytes q.fresh ∙ ap (λ (t : List ℕ). b.passed ++ t) q.parts) in
+          let pulls : Pulled a s2.coming s2.unread.pulls (head ++ (b.passed ++ q.bytes)) = subst (λ (t : List ℕ). Pulled a s2.coming s2.unread.pulls t) parts all in
+          let wrote : Appends s1.tally.taken s2.tally.taken q.out = subst (λ (t : Option (List ℕ)). Appends t s2.tally.taken q.out) (ap (λ (t : Tally). t.taken) b.same) q.wrote in
+          let written : b.mid.tally.progress.written ≡ s1.tally.progress.written = ap (λ (t : Tally). t.progress.written) b.same in
+          let index : b.mid.tally.progress.index ≡ p.index = ap (λ (t : Tally). t.progress.index) b.same ∙ c.answered.0.3 in
+          let links : b.mid.tally.progress.chain ≡ chain (first_chunks 65536 p.index c.out) = ap (λ (t : Tally). t.progress.chain) b.same ∙ c.answered.0.4 in
+          record {
+            run = record { file = file; copied = c.out; passed = b.passed; bytes = q.bytes; ended = q.ended; out = q.out };
+            file_is = refl;
+            is = record {
+              own = v.0 ∙ s.id;
+              tagged = v.1;
+              reads = reads_of a s1.coming s1.unread unlocked s s2.coming (b.passed ++ q.bytes) pulls.consumed;
+              old_text = old_text;
+              passed_size = b.size;
+              more = z.unread.bytes;
+              old_read = old_used.consumed;
+              at_end = q.at_end;
+              wrote = Appends-then first.taken s1.tally.taken s2.tally.taken c.out q.out c.wrote wrote;
+              count = omega (arith, q.count, written, c.count, zero, length-append c.out q.out);
+              prefix = q.prefix;
+            };
+            pulled = pulls;
+            marks = q.marks c.out c.answered.0.0 index links;
+            mid = b.mid;
+            read_failed = b.passes.unfailed ∙ same;
+            write_failed = ap (λ (t : Tally). t.failed) b.same ∙ c.answered.0.2;
+            answered = q.answered;
+          }
+
+      poured_done : (s2 : Stage) (b : IsPoured s2 (Ok tt)) → ResumeDone Allows p (before a i first x) (after s2 z) s2.tally.progress.written b.run
+      poured_done s2 b =
+          let f = b.answered in
+          record {
+            resumed = record { is = b.is; whole = f.2; of = resumes_of p b.run limit b.is.prefix };
+            ended = f.0;
+            done = f.1;
+            all = resumes_all p b.run limit f.2 f.1;
+            none_failed = ((f.3.1 ∙ b.read_failed, f.3.0 ∙ b.write_failed), c.answered.0.1.unfailed);
+          }
+
+      -- the position behind what was written
+      record IsHere (now : Progress) (next : Position) : Type 0 where
+        index : next.index ≡ now.index
+        file_id_is : next.file_id ≡ unlocked.id
+        chain_is : next.chain ≡ now.chain
+        tag_is : next.tag ≡ position_tag (position_key unlocked.key unlocked.nonce) now.index unlocked.id now.chain
+
+      -- its tag is over its own fields
+      own_tag : (now : Progress) (next : Position) → IsHere now next → next.tag ≡ position_tag (position_key unlocked.key unlocked.nonce) next.index next.file_id next.chain
+      own_tag now next h =
+          h.tag_is
+          ∙ (ap (λ (k : ℕ). position_tag (position_key unlocked.key unlocked.nonce) k unlocked.id now.chain) (sym h.index)
+          ∙ (ap (λ (k : List ℕ). position_tag (position_key unlocked.key unlocked.nonce) next.index k now.chain) (sym h.file_id_is)
+          ∙ ap (λ (k : List ℕ). position_tag (position_key unlocked.key unlocked.nonce) next.index next.file_id k) (sym h.chain_is)))
+
+      next_position : (s2 : Stage) (result : Result (Unit {0}) FileFault) (next : Position) (b : IsPoured s2 result) → IsHere s2.tally.progress next → IsNextPosition p b.run next
+      next_position s2 result next b h =
+          let text = b.run.copied ++ b.run.out in
+          let over : next.chain ≡ chain (first_chunks 65536 next.index text) = h.chain_is ∙ (b.marks.chain_is ∙ ap (λ (k : ℕ). chain (first_chunks 65536 k text)) (sym h.index)) in
+          let least : next.index ≡ min (length text / 65536) (outcome (unbox b.run.file.key b.run.file.nonce) 65536 (segment_at p b.run)).index = h.index ∙ b.marks.index in
+          record {
+            index = least;
+            own = h.file_id_is ∙ (s.id ∙ ap (λ (f : OpenedFile). file_id f.front f.nonce) (sym b.file_is));
+            chain_is = over;
+            tagged = own_tag s2.tally.progress next h ∙ ap (λ (f : OpenedFile). position_tag (position_key f.key f.nonce) next.index next.file_id next.chain) (sym b.file_is);
+            carries = λ whole auth.
+                let rest = resumes_of p b.run limit b.is.prefix whole auth in
+                let positive : 0 < 65536 = omega arith in
+                let le : next.index ≤ length text / 65536 = omega (arith, least) in
+                let within : next.index * 65536 ≤ length text = (le-div_iff_mul-le positive).0 le in (
+                  omega (arith, within, ap length rest.1, length-append text rest.0),
+                  over ∙ (sym (ap chain (first_chunks-append 65536 next.index text rest.0 within)) ∙ ap (λ (t : List ℕ). chain (first_chunks 65536 next.index t)) rest.1),
+                );
+          }
+
+      poured_fails : (s2 : Stage) (next : Position) (fault : FileFault) (b : IsPoured s2 (Err fault)) → IsHere s2.tally.progress next
+          → PourFails (unbox b.run.file.key b.run.file.nonce) 65536 b.mid s2 (segment_at p b.run) b.run.out fault
+          → ResumeFails Allows p Refused (before a i first x) (after s2 z) s2.tally.progress.written (Some next) fault
+      poured_fails s2 next (Stream fault) b h f = (
+        inr (b.run, record { is = b.is; whole = f.1; of = resumes_of p b.run limit b.is.prefix }, next_position s2 (Err (Stream fault)) next b h, f.0),
+        ((f.2.1 ∙ b.read_failed, f.2.0 ∙ b.write_failed), c.answered.0.1.unfailed),
+      )
+      poured_fails s2 next Write b h f =
+          (inr (b.run, b.is, resumes_of p b.run limit b.is.prefix, next_position s2 (Err Write) next b h), subst (λ (m : ℕ). HasRisen m s2.tally.failed) b.write_failed f)
+      poured_fails s2 next Read b h f = inr (inr (inr (
+        b.run,
+        record { is = b.is; whole = f.0; of = resumes_of p b.run limit b.is.prefix },
+        next_position s2 (Err Read) next b h,
+        subst (λ (m : ℕ). HasRisen m s2.read_failed) b.read_failed f.1,
+      )))
+      poured_fails s2 next ReadNeverEnds b h f = inr (inr (inr (
+        b.run,
+        record { is = b.is; whole = f.0; of = resumes_of p b.run limit b.is.prefix },
+        next_position s2 (Err ReadNeverEnds) next b h,
+        (head ++ (b.run.passed ++ b.run.bytes), b.pulled.consumed, omega (arith, b.pulled.each_gave, f.1)),
+      )))
+      poured_fails s2 next other b h f = absurd f
+
+      -- ---- the whole run
+
+      pub resume_done : (key : List ℕ) (s2 : Stage) → key ≡ payload_key unlocked.key unlocked.nonce → GoesOn (λ nonce block. opening key nonce [] block) p.index s1 s2 (Ok tt)
+          → (r : Resumption) × ResumeDone Allows p (before a i first x) (after s2 z) s2.tally.progress.written r
+      resume_done key s2 key_is (inl stopped) = (let clash : Ok tt ≡ Err stopped.fault = stopped.is in absurd cc)
+      resume_done key s2 key_is (inr behind) = (let b = poured key s2 (Ok tt) key_is behind in (b.run, poured_done s2 b))
+
+      -- the position is that from which the run began, where nothing was poured
+      same_position : (s2 : Stage) (next : Position) → s2.tally ≡ s1.tally → IsHere s2.tally.progress next → IsSame p next
+      same_position s2 next still h =
+          let index : next.index ≡ p.index = h.index ∙ (ap (λ (t : Tally). t.progress.index) still ∙ c.answered.0.3) in
+          let links : next.chain ≡ p.chain = h.chain_is ∙ (ap (λ (t : Tally). t.progress.chain) still ∙ c.answered.1) in
+          let id : next.file_id ≡ p.file_id = h.file_id_is ∙ sym v.0 in
+          record {
+            index = index;
+            file_id_is = id;
+            chain_is = links;
+            tag_is = own_tag s2.tally.progress next h
+                ∙ (ap (λ (k : ℕ). position_tag (position_key unlocked.key unlocked.nonce) k next.file_id next.chain) index
+                ∙ (ap (λ (k : List ℕ). position_tag (position_key unlocked.key unlocked.nonce) p.index k next.chain) id
+                ∙ (ap (λ (k : List ℕ). position_tag (position_key unlocked.key unlocked.nonce) p.index p.file_id k) links ∙ sym v.1)));
+          }
+
+      pub resume_fails : (key : List ℕ) (s2 : Stage) (next : Position) (fault : FileFault) → key ≡ payload_key unlocked.key unlocked.nonce
+          → next.index ≡ s2.tally.progress.index → next.file_id ≡ unlocked.id → next.chain ≡ s2.tally.progress.chain
+          → next.tag ≡ position_tag (position_key unlocked.key unlocked.nonce) s2.tally.progress.index unlocked.id s2.tally.progress.chain
+          → GoesOn (λ nonce block. opening key nonce [] block) p.index s1 s2 (Err fault) → ResumeFails Allows p Refused (before a i first x) (after s2 z) s2.tally.progress.written (Some next) fault
+      resume_fails key s2 next fault key_is index id links tag (inl stopped) =
+          let is : Err fault ≡ Err stopped.fault = stopped.is in
+          let e : stopped.fault ≡ fault = cc in
+          passed_fails s2 next fault stopped.same (same_position s2 next stopped.same (record { index = index; file_id_is = id; chain_is = links; tag_is = tag }))
+          (subst (λ (f : FileFault). PassFails 65552 p.index (side_of s1) (side_of s2) f) e stopped.fails)
+      resume_fails key s2 next fault key_is index id links tag (inr behind) =
+          let b = poured key s2 (Err fault) key_is behind in
+          poured_fails s2 next fault b (record { index = index; file_id_is = id; chain_is = links; tag_is = tag }) b.answered

@@ -1,0 +1,49 @@
+use Rattle.std.proofs.KnownBytes.{Appends-nil}
+use Rattle.age_file.specs.Releases.{tally}
+use Rattle.age_file.specs.Passages.{side}
+use Rattle.age_file.specs.Pours.{stage}
+use Rattle.age_file.specs.Ports.{ports}
+use Rattle.age_file.specs.Resumes.{resume_ports}
+use Rattle.age_file.proofs.ResumeSteps.{verdict_fails, copy_fails, resume_done, resume_fails}
+use Rattle.age_file.proofs.resumption.resume.Goals as goal
+
+pub returns-in-Err-verify-clause-stopped : goal.returns-in-Err-verify-clause-stopped
+returns-in-Err-verify-clause-stopped g c =
+    let old = resume_ports (ports (g.S.Source.remaining c.args.reader.now) (g.S.Source.failed c.args.reader.now) (g.O.Sink.taken c.args.writer.now) (g.O.Sink.failed c.args.writer.now)) (g.L.Source.remaining c.args.old_reader.now) (g.L.Source.failed c.args.old_reader.now) in
+    let new = resume_ports (ports (g.S.Source.remaining c.start.new.source) (g.S.Source.failed c.start.new.source) (g.O.Sink.taken c.args.writer.now) (g.O.Sink.failed c.args.writer.now)) (g.L.Source.remaining c.args.old_reader.now) (g.L.Source.failed c.args.old_reader.now) in
+    rw c.early-in-Err-verify.ensures
+    (verdict_fails (g.U.Unlock.allows c.args.unlock.now) (g.U.Unlock.refuses c.args.unlock.now) c.args.position.now old new c.start.new.intake c.in-Ok.unlocked c.in-Err-verify.fault
+    (Appends-nil _) c.in-Ok.ensures.found c.in-Err-verify.ensures)
+
+pub returns-in-Err-copy_old-clause-stopped : goal.returns-in-Err-copy_old-clause-stopped
+returns-in-Err-copy_old-clause-stopped g c =
+    let first = tally (g.O.Sink.taken c.args.writer.now) (g.O.Sink.failed c.args.writer.now) (g.O.Sink.label c.args.writer.now) c.new-progress.result in
+    let x = side (g.L.Source.remaining c.args.old_reader.now) (g.L.Source.failed c.args.old_reader.now) c.in-Ok-Ok.old_intake in
+    let z = side (g.L.Source.remaining c.copy_old.new.old_reader) (g.L.Source.failed c.copy_old.new.old_reader) c.copy_old.new.intake in
+    let s1 = stage (tally (g.O.Sink.taken c.copy_old.new.writer) (g.O.Sink.failed c.copy_old.new.writer) (g.O.Sink.label c.copy_old.new.writer) c.copy_old.new.progress) (g.S.Source.remaining c.start.new.source) (g.S.Source.failed c.start.new.source) c.start.new.intake in
+    copy_fails (g.U.Unlock.allows c.args.unlock.now) (g.U.Unlock.refuses c.args.unlock.now) c.args.position.now (g.S.Source.remaining c.args.reader.now) (g.S.Source.failed c.args.reader.now) c.in-Ok.unlocked
+    s1 c.in-Ok.ensures.found c.in-Ok-verify.ensures c.in-Ok.ensures.unfailed first c.new-progress.ensures.written x z c.in-Ok-Ok.ensures'.0 c.in-Ok-Ok.ensures'.1 c.in-Err-copy_old.fault c.in-Err-copy_old.ensures
+
+pub returns-in-Ok-open_rest-clause-done : goal.returns-in-Ok-open_rest-clause-done
+returns-in-Ok-open_rest-clause-done g c =
+    let first = tally (g.O.Sink.taken c.args.writer.now) (g.O.Sink.failed c.args.writer.now) (g.O.Sink.label c.args.writer.now) c.new-progress.result in
+    let x = side (g.L.Source.remaining c.args.old_reader.now) (g.L.Source.failed c.args.old_reader.now) c.in-Ok-Ok.old_intake in
+    let z = side (g.L.Source.remaining c.copy_old.new.old_reader) (g.L.Source.failed c.copy_old.new.old_reader) c.copy_old.new.intake in
+    let s1 = stage (tally (g.O.Sink.taken c.copy_old.new.writer) (g.O.Sink.failed c.copy_old.new.writer) (g.O.Sink.label c.copy_old.new.writer) c.copy_old.new.progress) (g.S.Source.remaining c.start.new.source) (g.S.Source.failed c.start.new.source) c.start.new.intake in
+    let s2 = stage (tally (g.O.Sink.taken c.open_rest.new.writer) (g.O.Sink.failed c.open_rest.new.writer) (g.O.Sink.label c.open_rest.new.writer) c.open_rest.new.progress) (g.S.Source.remaining c.open_rest.new.reader) (g.S.Source.failed c.open_rest.new.reader) c.open_rest.new.intake in
+    resume_done (g.U.Unlock.allows c.args.unlock.now) (g.U.Unlock.refuses c.args.unlock.now) c.args.position.now (g.S.Source.remaining c.args.reader.now) (g.S.Source.failed c.args.reader.now) c.in-Ok.unlocked
+    s1 c.in-Ok.ensures.found c.in-Ok-verify.ensures c.in-Ok.ensures.unfailed first c.new-progress.ensures.written x z c.in-Ok-Ok.ensures'.0 c.in-Ok-Ok.ensures'.1
+    c.in-Ok-copy_old.ensures c.args.position.now.within c.payload_key-key.result s2 c.payload_key-key.ensures c.in-Ok-open_rest.ensures
+
+pub returns-clause-stopped : goal.returns-clause-stopped
+returns-clause-stopped g c =
+    let first = tally (g.O.Sink.taken c.args.writer.now) (g.O.Sink.failed c.args.writer.now) (g.O.Sink.label c.args.writer.now) c.new-progress.result in
+    let x = side (g.L.Source.remaining c.args.old_reader.now) (g.L.Source.failed c.args.old_reader.now) c.in-Ok-Ok.old_intake in
+    let z = side (g.L.Source.remaining c.copy_old.new.old_reader) (g.L.Source.failed c.copy_old.new.old_reader) c.copy_old.new.intake in
+    let s1 = stage (tally (g.O.Sink.taken c.copy_old.new.writer) (g.O.Sink.failed c.copy_old.new.writer) (g.O.Sink.label c.copy_old.new.writer) c.copy_old.new.progress) (g.S.Source.remaining c.start.new.source) (g.S.Source.failed c.start.new.source) c.start.new.intake in
+    let s2 = stage (tally (g.O.Sink.taken c.open_rest.new.writer) (g.O.Sink.failed c.open_rest.new.writer) (g.O.Sink.label c.open_rest.new.writer) c.open_rest.new.progress) (g.S.Source.remaining c.open_rest.new.reader) (g.S.Source.failed c.open_rest.new.reader) c.open_rest.new.intake in
+    let at = c.position_of.ensures in
+    resume_fails (g.U.Unlock.allows c.args.unlock.now) (g.U.Unlock.refuses c.args.unlock.now) c.args.position.now (g.S.Source.remaining c.args.reader.now) (g.S.Source.failed c.args.reader.now) c.in-Ok.unlocked
+    s1 c.in-Ok.ensures.found c.in-Ok-verify.ensures c.in-Ok.ensures.unfailed first c.new-progress.ensures.written x z c.in-Ok-Ok.ensures'.0 c.in-Ok-Ok.ensures'.1
+    c.in-Ok-copy_old.ensures c.args.position.now.within c.payload_key-key.result s2 c.position_of.result c.in-Err-open_rest.fault c.payload_key-key.ensures
+    at.index at.file_id at.chain at.tag c.in-Err-open_rest.ensures
