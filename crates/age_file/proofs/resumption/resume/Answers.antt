@@ -1,10 +1,12 @@
+use Rattle.std.proofs.Common.{Some, None}
 use Rattle.std.proofs.KnownBytes.{Appends-nil}
 use Rattle.age_file.specs.Releases.{tally}
 use Rattle.age_file.specs.Passages.{side}
 use Rattle.age_file.specs.Pours.{stage}
 use Rattle.age_file.specs.Ports.{ports}
 use Rattle.age_file.specs.Resumes.{resume_ports}
-use Rattle.age_file.proofs.ResumeSteps.{verdict_fails, copy_fails, resume_done, resume_fails}
+use Rattle.age_file.proofs.ResumeSteps.{start_fails, verdict_fails, copy_fails, resume_done, resume_fails}
+use Rattle.age_file.proofs.UndamagedRest.{undamaged_rest}
 use Rattle.age_file.proofs.resumption.resume.Goals as goal
 
 pub returns-in-Err-verify-clause-stopped : goal.returns-in-Err-verify-clause-stopped
@@ -47,3 +49,30 @@ returns-clause-stopped g c =
     s1 c.in-Ok.ensures.found c.in-Ok-verify.ensures c.in-Ok.ensures.unfailed first c.new-progress.ensures.written x z c.in-Ok-Ok.ensures'.0 c.in-Ok-Ok.ensures'.1
     c.in-Ok-copy_old.ensures c.args.position.now.within c.payload_key-key.result s2 c.position_of.result c.in-Err-open_rest.fault c.payload_key-key.ensures
     at.index at.file_id at.chain at.tag c.in-Err-open_rest.ensures
+
+pub returns-in-Err-clause-undamaged : goal.returns-in-Err-clause-undamaged
+returns-in-Err-clause-undamaged g c = λ text whole.
+    let old = resume_ports (ports (g.S.Source.remaining c.args.reader.now) (g.S.Source.failed c.args.reader.now) (g.O.Sink.taken c.args.writer.now) (g.O.Sink.failed c.args.writer.now)) (g.L.Source.remaining c.args.old_reader.now) (g.L.Source.failed c.args.old_reader.now) in
+    let new = resume_ports (ports (g.S.Source.remaining c.start.new.source) (g.S.Source.failed c.start.new.source) (g.O.Sink.taken c.args.writer.now) (g.O.Sink.failed c.args.writer.now)) (g.L.Source.remaining c.args.old_reader.now) (g.L.Source.failed c.args.old_reader.now) in
+    let fails = start_fails (g.U.Unlock.allows c.args.unlock.now) (g.U.Unlock.refuses c.args.unlock.now) c.args.position.now old new c.in-Err.fault (Appends-nil _) c.in-Err.ensures.fails in
+    rw c.early-in-Err.ensures (undamaged_rest c.one_header.ensures (g.U.Unlock.allows c.args.unlock.now) (g.U.Unlock.refuses c.args.unlock.now) c.args.position.now old new text whole 0 None c.in-Err.fault fails)
+
+pub returns-in-Err-verify-clause-undamaged : goal.returns-in-Err-verify-clause-undamaged
+returns-in-Err-verify-clause-undamaged g c = λ text whole.
+    let old = resume_ports (ports (g.S.Source.remaining c.args.reader.now) (g.S.Source.failed c.args.reader.now) (g.O.Sink.taken c.args.writer.now) (g.O.Sink.failed c.args.writer.now)) (g.L.Source.remaining c.args.old_reader.now) (g.L.Source.failed c.args.old_reader.now) in
+    let new = resume_ports (ports (g.S.Source.remaining c.start.new.source) (g.S.Source.failed c.start.new.source) (g.O.Sink.taken c.args.writer.now) (g.O.Sink.failed c.args.writer.now)) (g.L.Source.remaining c.args.old_reader.now) (g.L.Source.failed c.args.old_reader.now) in
+    let fails = verdict_fails (g.U.Unlock.allows c.args.unlock.now) (g.U.Unlock.refuses c.args.unlock.now) c.args.position.now old new c.start.new.intake c.in-Ok.unlocked c.in-Err-verify.fault
+    (Appends-nil _) c.in-Ok.ensures.found c.in-Err-verify.ensures in
+    rw c.early-in-Err-verify.ensures (undamaged_rest c.one_header.ensures (g.U.Unlock.allows c.args.unlock.now) (g.U.Unlock.refuses c.args.unlock.now) c.args.position.now old new text whole 0 None c.in-Err-verify.fault fails)
+
+pub returns-in-Err-copy_old-clause-undamaged : goal.returns-in-Err-copy_old-clause-undamaged
+returns-in-Err-copy_old-clause-undamaged g c = λ text whole.
+    let old = resume_ports (ports (g.S.Source.remaining c.args.reader.now) (g.S.Source.failed c.args.reader.now) (g.O.Sink.taken c.args.writer.now) (g.O.Sink.failed c.args.writer.now)) (g.L.Source.remaining c.args.old_reader.now) (g.L.Source.failed c.args.old_reader.now) in
+    let new = resume_ports (ports (g.S.Source.remaining c.start.new.source) (g.S.Source.failed c.start.new.source) (g.O.Sink.taken c.copy_old.new.writer) (g.O.Sink.failed c.copy_old.new.writer)) (g.L.Source.remaining c.copy_old.new.old_reader) (g.L.Source.failed c.copy_old.new.old_reader) in
+    undamaged_rest c.one_header.ensures (g.U.Unlock.allows c.args.unlock.now) (g.U.Unlock.refuses c.args.unlock.now) c.args.position.now old new text whole c.copy_old.new.progress.written None c.in-Err-copy_old.fault (returns-in-Err-copy_old-clause-stopped g c)
+
+pub returns-clause-undamaged : goal.returns-clause-undamaged
+returns-clause-undamaged g c = λ text whole.
+    let old = resume_ports (ports (g.S.Source.remaining c.args.reader.now) (g.S.Source.failed c.args.reader.now) (g.O.Sink.taken c.args.writer.now) (g.O.Sink.failed c.args.writer.now)) (g.L.Source.remaining c.args.old_reader.now) (g.L.Source.failed c.args.old_reader.now) in
+    let new = resume_ports (ports (g.S.Source.remaining c.open_rest.new.reader) (g.S.Source.failed c.open_rest.new.reader) (g.O.Sink.taken c.open_rest.new.writer) (g.O.Sink.failed c.open_rest.new.writer)) (g.L.Source.remaining c.copy_old.new.old_reader) (g.L.Source.failed c.copy_old.new.old_reader) in
+    undamaged_rest c.one_header.ensures (g.U.Unlock.allows c.args.unlock.now) (g.U.Unlock.refuses c.args.unlock.now) c.args.position.now old new text whole c.open_rest.new.progress.written (Some c.position_of.result) c.in-Err-open_rest.fault (returns-clause-stopped g c)
