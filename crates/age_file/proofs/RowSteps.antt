@@ -1,5 +1,5 @@
 -- Runs in a row, by the number of runs.
-use Rattle.std.proofs.Common.{inl, inr, ◌≡◌, ℕ, ◌*◌, ◌≤◌, List, [], ◌∷◌, ◌++◌, length, take, sym, ap, ◌∙◌, arith}
+use Rattle.std.proofs.Common.{inl, inr, ◌≡◌, ℕ, ◌*◌, ◌≤◌, List, [], ◌∷◌, length, take, sym, ap, ◌∙◌, arith}
 use Rattle.std.proofs.lemmas.List.{length-append, take_at}
 use Rattle.std.specs.Simd.{first_chunks}
 use Rattle.age_stream.specs.Headline.{IsPrefixOf}
@@ -8,7 +8,7 @@ use Rattle.age_stream.proofs.Chunks.{first_chunks-append}
 use Rattle.age_file.specs.Bindings.{chain}
 use Rattle.age_file.specs.Decrypts.{Run}
 use Rattle.age_file.specs.Resumes.{IsAuthenticResumption, IsOldText, IsSame}
-use Rattle.age_file.specs.Rows.{Rerun, output, HandsOut, HasEnded, FollowsOn, AreInARow, WritesRight}
+use Rattle.age_file.specs.Rows.{Rerun, output, FollowsOn, AreInARow, WritesRight}
 use Rattle.age_file.specs.declared.position.Position.{Position}
 use Rattle.age_file.proofs.DecryptSteps.{prefix_trans, writes_of, writes_all}
 use Rattle.age_file.proofs.ResumeSteps.{resumes_of, resumes_all}

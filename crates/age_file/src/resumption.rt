@@ -138,13 +138,7 @@ pub fn resume<U: Unlock, S: Source, L: Source, O: Sink>(
     let mut progress = Progress::new();
     match copy_old(position, old_reader, &mut old_intake, writer, &mut progress) {
         Ok(()) => {}
-        Err(fault) => {
-            return Err(Stopped {
-                fault,
-                written: progress.written,
-                position: None,
-            });
-        }
+        Err(fault) => return Err(Stopped::behind(fault, &progress, None)),
     }
     let key = payload_key(&unlocked.key, &unlocked.nonce);
     match open_rest(
@@ -158,10 +152,9 @@ pub fn resume<U: Unlock, S: Source, L: Source, O: Sink>(
         Ok(()) => Ok(Done {
             written: progress.written,
         }),
-        Err(fault) => Err(Stopped {
-            fault,
-            written: progress.written,
-            position: Some(position_of(&unlocked, &progress)),
-        }),
+        Err(fault) => {
+            let next = position_of(&unlocked, &progress);
+            Err(Stopped::behind(fault, &progress, Some(next)))
+        }
     }
 }
