@@ -192,11 +192,11 @@ module _ (Allows : Header → List ℕ → Type 0) (Refused : Header → KeyFaul
         (inl (stops_in_old c.out (f.1.0 ++ z.unread.bytes) c.wrote c.count f.0 (used_old x z f.1.0 none pulls f.1.1) f.1.2), f.1.3)
     copy_fails Read c =
         let f = c.answered in
-        inr (inl (stops_in_old c.out c.out c.wrote c.count f.0 (dried_old x z c.out Read none pulls f.1.0) ([], append-nil c.out), f.1.0.why))
+        inr (inl (stops_in_old c.out c.out c.wrote c.count f.0 (dried_old x z c.out Read none pulls f.1.0) ([], append-nil c.out), refl, f.1.0.why))
     copy_fails ReadNeverEnds c =
         let f = c.answered in
         let all = dried_old x z c.out ReadNeverEnds none pulls f.1.0 in
-        inr (inl (stops_in_old c.out c.out c.wrote c.count f.0 all ([], append-nil c.out), (c.out, all.consumed, omega (arith, all.each_gave, f.1.0.why))))
+        inr (inl (stops_in_old c.out c.out c.wrote c.count f.0 all ([], append-nil c.out), refl, (c.out, all.consumed, omega (arith, all.each_gave, f.1.0.why))))
     copy_fails OldTextDiffers c =
         let f = c.answered in
         let used = used_old x z c.out none pulls f.0.1 in
