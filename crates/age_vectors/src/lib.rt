@@ -11,6 +11,7 @@ mod header;
 mod hostile;
 mod kdf;
 mod keys;
+mod resumptions;
 mod scrypt;
 mod shared;
 mod stops;

@@ -1,14 +1,15 @@
 // Every failure in turn: a text of 200,000 bytes is encrypted, and its file decrypted, while one pull, one put or the flush
 // fails. The front of the file and the positions are Python's.
+use crate::resumptions::resume_rows;
 use age_file::{
     Done, FileFault, MemSink, MemSource, Position, Secret, Stopped, Written, decrypt, encrypt,
 };
 use age_keys::Passphrase;
 use std::alloc::Global;
 
-const PASS: &[u8] = b"correct horse";
+pub(crate) const PASS: &[u8] = b"correct horse";
 
-const LOG: u32 = 4;
+pub(crate) const LOG: u32 = 4;
 
 const SALT: [u8; 16] = [0, 1, 2, 3, 4, 5, 6, 7, 8, 9, 10, 11, 12, 13, 14, 15];
 
@@ -23,7 +24,7 @@ const FRONT: &[u8; 165] =
     b"age-encryption.org/v1\n-> scrypt AAECAwQFBgcICQoLDA0ODw 4\nAKfpqvQNAoXDLgtB2kGRu7bQM2W5ormNXOubhA65HxQ\n--- c34TNMAElKy8BwnAZQWhcQSSe6oKpsIv3iN8xQDb1Zg\ndefghijklmnopqrs";
 
 /// The texts of the positions behind none to three chunks.
-const POSITIONS: [&[u8; 150]; 4] = [
+pub(crate) const POSITIONS: [&[u8; 150]; 4] = [
     b"age-position/v2 0 HLJ5VW0R+ctHBkO1vllJE7zhq612YmrsO1dfz7Mjb10 AAAAAAAAAAAAAAAAAAAAAAAAAAAAAAAAAAAAAAAAAAA 5f3t+V831zJzjwYI17EewiHJNC7iGXKl6rgAwQZuiCw\n",
     b"age-position/v2 1 HLJ5VW0R+ctHBkO1vllJE7zhq612YmrsO1dfz7Mjb10 vdD3I2X5czWARik1jOZY/7Dg6ftGhhTQZ2sISsFKuhY cs8M2XenfSVnyKVOkkwj7yGiQoZzcVYrBkS617VeECg\n",
     b"age-position/v2 2 HLJ5VW0R+ctHBkO1vllJE7zhq612YmrsO1dfz7Mjb10 Z/+/pb0gy0Qz9r4nrfQPNKnIsXURwLLWg+TFayQJBo4 2YAq6H+nzWWXa0nPixYAO903FnBx8LsFLbISbkGLlUU\n",
@@ -35,18 +36,18 @@ const PLAIN_LEN: usize = 200_000;
 const FILE_LEN: usize = 200_229;
 
 /// How many bytes a pull gives and a put takes at most.
-const STEP: usize = 10_000;
+pub(crate) const STEP: usize = 10_000;
 
 /// A text and its file.
 #[derive(Drop)]
-struct Example {
-    text: Vec<u8>,
-    file: Vec<u8>,
+pub(crate) struct Example {
+    pub(crate) text: Vec<u8>,
+    pub(crate) file: Vec<u8>,
 }
 
 /// Which call of a run fails.
 #[derive(Clone, Copy)]
-enum Failure {
+pub(crate) enum Failure {
     None,
     /// This pull.
     Pull(u64),
@@ -55,14 +56,14 @@ enum Failure {
 }
 
 impl Failure {
-    fn pull(&self) -> Option<u64> {
+    pub(crate) fn pull(&self) -> Option<u64> {
         match self {
             Failure::Pull(call) => Some(*call),
             _ => None,
         }
     }
 
-    fn put(&self) -> Option<u64> {
+    pub(crate) fn put(&self) -> Option<u64> {
         match self {
             Failure::Put(call) => Some(*call),
             _ => None,
@@ -70,7 +71,7 @@ impl Failure {
     }
 
     // The number of the fault that it makes.
-    fn number(&self) -> u8 {
+    pub(crate) fn number(&self) -> u8 {
         match self {
             Failure::None => 0,
             Failure::Pull(_) => 26,
@@ -81,12 +82,13 @@ impl Failure {
 
 /// Whether an encryption and a decryption of 200,000 bytes stop as they have to where one pull, one put or the flush fails,
 /// each in turn, until a run ends with no stop: with the fault of the source or of the sink, behind as many bytes of the
-/// whole output as could be written by then, and a decryption with the position there. False too where memory is refused.
+/// whole output as could be written by then, and a decryption with the position there, from which another run makes the whole
+/// text. The same of a run that goes on from a position. False too where memory is refused.
 pub fn stop_rows(alloc: Global) -> bool {
     let Some(example) = make_example(alloc) else {
         return false;
     };
-    encrypt_rows(alloc, &example) && decrypt_rows(alloc, &example)
+    encrypt_rows(alloc, &example) && decrypt_rows(alloc, &example) && resume_rows(alloc, &example)
 }
 
 fn make_example(alloc: Global) -> Option<Example> {
@@ -115,7 +117,7 @@ fn encrypted(
 }
 
 // What a decryption answers, and what it writes.
-fn decrypted(
+pub(crate) fn decrypted(
     alloc: Global,
     file: &[u8],
     failure: Failure,
@@ -171,7 +173,7 @@ fn text_after(puts: u64) -> usize {
 }
 
 // Whether these are so many bytes from the front of others.
-fn is_front(bytes: &[u8], len: usize, whole: &[u8]) -> bool {
+pub(crate) fn is_front(bytes: &[u8], len: usize, whole: &[u8]) -> bool {
     bytes.len() == len && whole.starts_with(bytes)
 }
 
@@ -222,7 +224,7 @@ fn is_position_right(
     }
 }
 
-fn has_text(alloc: Global, position: &Position, expected: Option<&&[u8; 150]>) -> bool {
+pub(crate) fn has_text(alloc: Global, position: &Position, expected: Option<&&[u8; 150]>) -> bool {
     match (position.text(alloc), expected) {
         (Ok(text), Some(expected)) => text.as_slice() == expected.as_slice(),
         _ => false,
