@@ -99,11 +99,11 @@ resumed_text p r text auth limit =
 append_prefix : (x y z : List ℕ) → IsPrefixOf y z → IsPrefixOf (x ++ y) (x ++ z)
 append_prefix x y z p = (p.0, append_assoc x y p.0 ∙ ap (λ (t : List ℕ). x ++ t) p.1)
 
-resumes_of : (p : Position) (r : Resumption) → p.index < 281474976710656 → IsPrefixOf r.out (fresh_text p r) → ResumesOf p r
+pub resumes_of : (p : Position) (r : Resumption) → p.index < 281474976710656 → IsPrefixOf r.out (fresh_text p r) → ResumesOf p r
 resumes_of p r limit begins text auth =
     prefix_trans (r.copied ++ r.out) (r.copied ++ fresh_text p r) text (append_prefix r.copied r.out (fresh_text p r) begins) (resumed_text p r text auth limit).0
 
-resumes_all : (p : Position) (r : Resumption) → p.index < 281474976710656 → r.out ≡ fresh_text p r → (outcome (unbox r.file.key r.file.nonce) 65536 (segment_at p r)).status ≡ Done → ResumesAll p r
+pub resumes_all : (p : Position) (r : Resumption) → p.index < 281474976710656 → r.out ≡ fresh_text p r → (outcome (unbox r.file.key r.file.nonce) 65536 (segment_at p r)).status ≡ Done → ResumesAll p r
 resumes_all p r limit whole done text auth = ap (λ (t : List ℕ). r.copied ++ t) whole ∙ (resumed_text p r text auth limit).1 done
 
 -- ---- a run that stopped in the old text, or before it
@@ -192,11 +192,11 @@ module _ (Allows : Header → List ℕ → Type 0) (Refused : Header → KeyFaul
         (inl (stops_in_old c.out (f.1.0 ++ z.unread.bytes) c.wrote c.count f.0 (used_old x z f.1.0 none pulls f.1.1) f.1.2), f.1.3)
     copy_fails Read c =
         let f = c.answered in
-        inr (inl (stops_in_old c.out c.out c.wrote c.count f.0 (dried_old x z c.out Read none pulls f.1.0) ([], append-nil c.out), f.1.0.why))
+        inr (inl (stops_in_old c.out c.out c.wrote c.count f.0 (dried_old x z c.out Read none pulls f.1.0) ([], append-nil c.out), refl, f.1.0.why))
     copy_fails ReadNeverEnds c =
         let f = c.answered in
         let all = dried_old x z c.out ReadNeverEnds none pulls f.1.0 in
-        inr (inl (stops_in_old c.out c.out c.wrote c.count f.0 all ([], append-nil c.out), (c.out, all.consumed, omega (arith, all.each_gave, f.1.0.why))))
+        inr (inl (stops_in_old c.out c.out c.wrote c.count f.0 all ([], append-nil c.out), refl, (c.out, all.consumed, omega (arith, all.each_gave, f.1.0.why))))
     copy_fails OldTextDiffers c =
         let f = c.answered in
         let used = used_old x z c.out none pulls f.0.1 in

@@ -30,13 +30,13 @@ use Rattle.age_file.specs.declared.fault.FileFault.{FileFault}
 use Rattle.age_file.specs.declared.fault.FileFault.TheVariants.{Head, Key, NonceCut, Stream, Read, Write, Memory, ReadNeverEnds}
 
 -- a source that told its bytes tells those that are left
-told : (before after : Option (List ℕ)) (bytes used : List ℕ) → before ≡ Some bytes → Consumes before after used → (rest : List ℕ) × (bytes ≡ used ++ rest) × (after ≡ Some rest)
+pub told : (before after : Option (List ℕ)) (bytes used : List ℕ) → before ≡ Some bytes → Consumes before after used → (rest : List ℕ) × (bytes ≡ used ++ rest) × (after ≡ Some rest)
 told before after bytes used is consumed = left after (subst (λ (b : Option (List ℕ)). Consumes b after used) is consumed) where
   left : (after : Option (List ℕ)) → Consumes (Some bytes) after used → (rest : List ℕ) × (bytes ≡ used ++ rest) × (after ≡ Some rest)
   left None h = absurd h
   left (Some rest) h = (rest, h, refl)
 
-none_left : (after : Option (List ℕ)) (rest : List ℕ) → after ≡ Some rest → IsAtEnd after → rest ≡ []
+pub none_left : (after : Option (List ℕ)) (rest : List ℕ) → after ≡ Some rest → IsAtEnd after → rest ≡ []
 none_left after rest is ended = subst IsAtEnd is ended
 
 whole_dropped : (all : List ℕ) → all ≡ drop (0 * 65552) all

@@ -21,3 +21,4 @@ pub mod Secrets
 pub mod Encrypts
 pub mod Passages
 pub mod Copies
+pub mod Rows

@@ -205,7 +205,7 @@ module _ (Allows : Header → List ℕ → Type 0) (p : Position) where
   abbrev pub FailsAt : (Main Old : Type 0) → ResumePorts → ResumePorts → ℕ → Option Position → Type 0
   FailsAt Main Old old new written position =
       (WritesNone old.main new.main written position × IsShort old.main.coming new.main.coming × Main)
-      ⊎ (StopsInOld old new written position × Old)
+      ⊎ ((s : StopsInOld old new written position) × (s.copied ≡ s.writes.pulled) × Old)
       ⊎ ((passed : List ℕ) × StopsInPassed old new written position passed × Main)
       ⊎ ((r : Resumption) × Resumed old new written r × IsSomeAnd position (IsNextPosition p r) × Main)
 

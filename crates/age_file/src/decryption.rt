@@ -48,6 +48,21 @@ impl Stopped {
             position: None,
         }
     }
+
+    /// A stop behind what was written.
+    pub(crate) fn behind(
+        fault: FileFault,
+        progress: &Progress,
+        position: Option<Position>,
+    ) -> Stopped
+        ensures { result ≡ record { fault = fault; written = progress.now.written; position = position } }
+    {
+        Stopped {
+            fault,
+            written: progress.written,
+            position,
+        }
+    }
 }
 
 /// Where a reader of this file may go on.

@@ -118,6 +118,9 @@ pub fn resume<U: Unlock, S: Source, L: Source, O: Sink>(
     ensures stopped { IfErr result (λ stopped. ResumeFails (U.allows unlock.now) position.now (U.refuses unlock.now)
         (resume_ports (ports (S.remaining reader.old) (S.failed reader.old) (O.taken writer.old) (O.failed writer.old)) (L.remaining old_reader.old) (L.failed old_reader.old))
         (resume_ports (ports (S.remaining reader.new) (S.failed reader.new) (O.taken writer.new) (O.failed writer.new)) (L.remaining old_reader.new) (L.failed old_reader.new)) stopped.written stopped.position stopped.fault) }
+    // An age file that is undamaged, from a position of its text, is decrypted, unless reading, writing or memory fails.
+    ensures undamaged { (text : List ℕ) → IsUndamagedRest (U.allows unlock.now) (U.refuses unlock.now) position.now (S.remaining reader.old) (L.remaining old_reader.old) text
+        → IfErr result (λ stopped. StopsOutside stopped.fault) }
     ensures named { O.label writer.new ≡ O.label writer.old }
 {
     one_header();
@@ -135,13 +138,7 @@ pub fn resume<U: Unlock, S: Source, L: Source, O: Sink>(
     let mut progress = Progress::new();
     match copy_old(position, old_reader, &mut old_intake, writer, &mut progress) {
         Ok(()) => {}
-        Err(fault) => {
-            return Err(Stopped {
-                fault,
-                written: progress.written,
-                position: None,
-            });
-        }
+        Err(fault) => return Err(Stopped::behind(fault, &progress, None)),
     }
     let key = payload_key(&unlocked.key, &unlocked.nonce);
     match open_rest(
@@ -155,10 +152,9 @@ pub fn resume<U: Unlock, S: Source, L: Source, O: Sink>(
         Ok(()) => Ok(Done {
             written: progress.written,
         }),
-        Err(fault) => Err(Stopped {
-            fault,
-            written: progress.written,
-            position: Some(position_of(&unlocked, &progress)),
-        }),
+        Err(fault) => {
+            let next = position_of(&unlocked, &progress);
+            Err(Stopped::behind(fault, &progress, Some(next)))
+        }
     }
 }

@@ -88,6 +88,28 @@ fn seal_last<B: ChunkBox, const SEALED: usize, O: Sink>(
     }
 }
 
+/// The same, and then flushes.
+fn finish<B: ChunkBox, const SEALED: usize, O: Sink>(
+    sealer: &mut Sealer<'_, B, SEALED>,
+    sink: &mut O,
+    written: &mut u128,
+) -> Result<(), FileFault>
+    requires feeding { IsFeeding sealer.old }
+    requires room { written.old ≤ 2 ^ 127 }
+    ensures sealed { SealsLast B.sealing (SEALED - 16) sealer.old (tally (O.taken sink.old) (O.failed sink.old) written.old)
+        (tally (O.taken sink.new) (O.failed sink.new) written.new) result }
+    ensures named { O.label sink.new ≡ O.label sink.old }
+{
+    match seal_last(sealer, sink, written) {
+        Ok(()) => {}
+        Err(fault) => return Err(fault),
+    }
+    let Ok(()) = sink.flush() else {
+        return Err(FileFault::Write);
+    };
+    Ok(())
+}
+
 /// Seals what a source gives, up to its end but for the last chunk, and answers how many bytes it gave.
 fn seal_source<B: ChunkBox, const SEALED: usize, S: Source, O: Sink>(
     sealer: &mut Sealer<'_, B, SEALED>,
@@ -150,12 +172,8 @@ pub(crate) fn seal_all<B: ChunkBox, const SEALED: usize, S: Source, O: Sink>(
         Ok(plain) => plain,
         Err(fault) => return Err(fault),
     };
-    match seal_last(&mut sealer, sink, written) {
-        Ok(()) => {}
-        Err(fault) => return Err(fault),
+    match finish(&mut sealer, sink, written) {
+        Ok(()) => Ok(plain),
+        Err(fault) => Err(fault),
     }
-    let Ok(()) = sink.flush() else {
-        return Err(FileFault::Write);
-    };
-    Ok(plain)
 }

@@ -2,6 +2,8 @@
 
 ghost use Rattle.std.specs.Prelude.{◌<◌};
 
+mod resumption;
+
 use super::*;
 use age_keys::{FileKey, KnownKey, PayloadKey, payload_key};
 use age_stream::seal_all;

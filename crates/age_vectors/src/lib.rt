@@ -11,8 +11,10 @@ mod header;
 mod hostile;
 mod kdf;
 mod keys;
+mod resumptions;
 mod scrypt;
 mod shared;
+mod stops;
 
 pub use cipher::{rfc_aead, rfc_chacha, rfc_poly1305};
 pub use delivery::delivery_rows;
@@ -22,6 +24,7 @@ pub use kdf::{rfc_hkdf, rfc_hmac, rfc_pbkdf2};
 pub use keys::key_rows;
 pub use scrypt::rfc_scrypt;
 pub use shared::shared_rows;
+pub use stops::stop_rows;
 
 #[cfg(test)]
 mod tests;

@@ -21,3 +21,8 @@ fn deliveries(rt: HostRuntime) {
 fn hostile_bytes(rt: HostRuntime) {
     assert!(rt; hostile_rows(rt.alloc()));
 }
+
+#[test]
+fn every_failure_in_turn(rt: HostRuntime) {
+    assert!(rt; stop_rows(rt.alloc()));
+}

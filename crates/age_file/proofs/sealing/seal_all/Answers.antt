@@ -1,17 +1,15 @@
-use Rattle.std.proofs.Common.{◌+◌, ◌-◌, ◌*◌, ◌^◌, ◌≤◌, length, ap, sym, subst, ◌∙◌, min, arith, ℕ, ◌++◌, rules}
+use Rattle.std.proofs.Common.{◌-◌, ◌*◌, ◌^◌, ◌≤◌, length, ap, sym, subst, ◌∙◌, arith, ℕ, ◌++◌, rules}
 use Rattle.std.proofs.lemmas.Nat.{mul-le}
 use Rattle.age_file.specs.Ports.{ports}
 use Rattle.age_file.specs.Faults.{HasRisen}
 use Rattle.age_file.specs.Seals.{front_of, tally, Wrote, SealingFails, SealsAll, SealsFront}
-use Rattle.age_file.proofs.Bytes.{Appends-Keeps, risen}
 use Rattle.age_file.proofs.SealSteps.{front_small}
 use Rattle.age_file.proofs.SourceSteps.{last_written, last_begins, last_whole}
 use Rattle.age_file.specs.declared.fault.FileFault.{FileFault}
-use Rattle.age_file.specs.declared.fault.FileFault.TheVariants.{Write}
 use Rattle.age_file.proofs.sealing.seal_all.Goals as goal
 
-pub seal_last-requires : goal.seal_last-requires
-seal_last-requires g c =
+pub finish-requires : goal.finish-requires
+finish-requires g c =
     let s = c.in-Ok.ensures.sealed in
     let n = g.row.SEALED - 16 in
     let key = c.new-sealer.result.key in
@@ -21,22 +19,22 @@ seal_last-requires g c =
       (s.feeding, omega (arith, c.requires.room, s.moved.count, fits, product)),
     )
 
-pub returns-in-Err-seal_last-clause-fails : goal.returns-in-Err-seal_last-clause-fails
-returns-in-Err-seal_last-clause-fails g c =
+pub returns-in-Err-finish-clause-fails : goal.returns-in-Err-finish-clause-fails
+returns-in-Err-finish-clause-fails g c =
     let s = c.in-Ok.ensures.sealed in
-    let l = c.in-Err-seal_last.ensures.sealed in
+    let l = c.in-Err-finish.ensures.sealed in
     let n = g.row.SEALED - 16 in
     let sealing = g.B.ChunkBox.sealing in
     let a = c.new-sealer.result in
     let b = c.seal_source.new.sealer in
     let was = tally (g.O.Sink.taken c.args.sink.now) (g.O.Sink.failed c.args.sink.now) c.args.written.now in
     let mid = tally (g.O.Sink.taken c.seal_source.new.sink) (g.O.Sink.failed c.seal_source.new.sink) c.seal_source.new.written in
-    let now = tally (g.O.Sink.taken c.seal_last.new.sink) (g.O.Sink.failed c.seal_last.new.sink) c.seal_last.new.written in
+    let now = tally (g.O.Sink.taken c.finish.new.sink) (g.O.Sink.failed c.finish.new.sink) c.finish.new.written in
     let old = ports (g.S.Source.remaining c.args.source.now) (g.S.Source.failed c.args.source.now) (g.O.Sink.taken c.args.sink.now) (g.O.Sink.failed c.args.sink.now) in
-    let new = ports (g.S.Source.remaining c.seal_source.new.source) (g.S.Source.failed c.seal_source.new.source) (g.O.Sink.taken c.seal_last.new.sink) (g.O.Sink.failed c.seal_last.new.sink) in
+    let new = ports (g.S.Source.remaining c.seal_source.new.source) (g.S.Source.failed c.seal_source.new.source) (g.O.Sink.taken c.finish.new.sink) (g.O.Sink.failed c.finish.new.sink) in
     let wrote : Wrote was mid (front_of (sealing a.key) n s.text) = record { bytes = s.moved.wrote; count = s.moved.count } in
     let out = last_written sealing n a b was mid now s.text s.key s.holds wrote l.out l.cut l.wrote l.blocks in
-    subst (λ k. SealsFront (sealing k) n old new c.args.written.now c.seal_last.new.written c.in-Err-seal_last.fault) (ap (λ v. v.key) c.new-sealer.ensures) (record {
+    subst (λ k. SealsFront (sealing k) n old new c.args.written.now c.finish.new.written c.in-Err-finish.fault) (ap (λ v. v.key) c.new-sealer.ensures) (record {
       text = s.text;
       out = front_of (sealing a.key) n s.text ++ l.out;
       moved = record { read = s.moved.read; wrote = out.bytes; count = out.count; small = s.moved.small };
@@ -44,49 +42,25 @@ returns-in-Err-seal_last-clause-fails g c =
       fails = subst (λ (f : FileFault). SealingFails n old new s.text f) (sym l.answered.0) (subst (λ (k : ℕ). HasRisen k new.write_failed) s.none_failed.1 l.answered.1);
     })
 
-pub returns-in_default-clause-fails : goal.returns-in_default-clause-fails
-returns-in_default-clause-fails g c =
+pub returns-in-Ok-finish-clause-sealed : goal.returns-in-Ok-finish-clause-sealed
+returns-in-Ok-finish-clause-sealed g c =
     let s = c.in-Ok.ensures.sealed in
-    let l = c.in-Ok-seal_last.ensures.sealed in
+    let l = c.in-Ok-finish.ensures.sealed in
     let n = g.row.SEALED - 16 in
     let sealing = g.B.ChunkBox.sealing in
     let a = c.new-sealer.result in
     let b = c.seal_source.new.sealer in
     let was = tally (g.O.Sink.taken c.args.sink.now) (g.O.Sink.failed c.args.sink.now) c.args.written.now in
     let mid = tally (g.O.Sink.taken c.seal_source.new.sink) (g.O.Sink.failed c.seal_source.new.sink) c.seal_source.new.written in
-    let now = tally (g.O.Sink.taken c.seal_last.new.sink) (g.O.Sink.failed c.seal_last.new.sink) c.seal_last.new.written in
+    let now = tally (g.O.Sink.taken c.finish.new.sink) (g.O.Sink.failed c.finish.new.sink) c.finish.new.written in
     let old = ports (g.S.Source.remaining c.args.source.now) (g.S.Source.failed c.args.source.now) (g.O.Sink.taken c.args.sink.now) (g.O.Sink.failed c.args.sink.now) in
-    let new = ports (g.S.Source.remaining c.seal_source.new.source) (g.S.Source.failed c.seal_source.new.source) (g.O.Sink.taken c.flush.new.self) (g.O.Sink.failed c.flush.new.self) in
-    let wrote : Wrote was mid (front_of (sealing a.key) n s.text) = record { bytes = s.moved.wrote; count = s.moved.count } in
-    let out = last_written sealing n a b was mid now s.text s.key s.holds wrote l.out l.cut l.wrote l.blocks in
-    let failed = c.in_default.ensures.counted ∙ ap (λ (k : ℕ). min (k + 1) (2 ^ 64 - 1)) (l.answered.1 ∙ s.none_failed.1) in
-    subst (λ k. SealsFront (sealing k) n old new c.args.written.now c.seal_last.new.written Write) (ap (λ v. v.key) c.new-sealer.ensures) (record {
-      text = s.text;
-      out = front_of (sealing a.key) n s.text ++ l.out;
-      moved = record { read = s.moved.read; wrote = Appends-Keeps _ _ _ _ out.bytes c.in_default.ensures.bytes; count = out.count; small = s.moved.small };
-      prefix = last_begins sealing n a b was mid now s.text s.key s.holds wrote l.out l.cut l.wrote l.blocks;
-      fails = risen _ _ failed;
-    })
-
-pub returns-clause-sealed : goal.returns-clause-sealed
-returns-clause-sealed g c =
-    let s = c.in-Ok.ensures.sealed in
-    let l = c.in-Ok-seal_last.ensures.sealed in
-    let n = g.row.SEALED - 16 in
-    let sealing = g.B.ChunkBox.sealing in
-    let a = c.new-sealer.result in
-    let b = c.seal_source.new.sealer in
-    let was = tally (g.O.Sink.taken c.args.sink.now) (g.O.Sink.failed c.args.sink.now) c.args.written.now in
-    let mid = tally (g.O.Sink.taken c.seal_source.new.sink) (g.O.Sink.failed c.seal_source.new.sink) c.seal_source.new.written in
-    let now = tally (g.O.Sink.taken c.seal_last.new.sink) (g.O.Sink.failed c.seal_last.new.sink) c.seal_last.new.written in
-    let old = ports (g.S.Source.remaining c.args.source.now) (g.S.Source.failed c.args.source.now) (g.O.Sink.taken c.args.sink.now) (g.O.Sink.failed c.args.sink.now) in
-    let new = ports (g.S.Source.remaining c.seal_source.new.source) (g.S.Source.failed c.seal_source.new.source) (g.O.Sink.taken c.flush.new.self) (g.O.Sink.failed c.flush.new.self) in
+    let new = ports (g.S.Source.remaining c.seal_source.new.source) (g.S.Source.failed c.seal_source.new.source) (g.O.Sink.taken c.finish.new.sink) (g.O.Sink.failed c.finish.new.sink) in
     let wrote : Wrote was mid (front_of (sealing a.key) n s.text) = record { bytes = s.moved.wrote; count = s.moved.count } in
     let out = last_whole sealing n a b was mid now s.text s.key s.holds wrote l.out l.cut l.wrote l.blocks l.answered.0 in
-    subst (λ k. SealsAll (sealing k) n old new c.args.written.now c.seal_last.new.written c.in-Ok.plain) (ap (λ v. v.key) c.new-sealer.ensures) (record {
+    subst (λ k. SealsAll (sealing k) n old new c.args.written.now c.finish.new.written c.in-Ok.plain) (ap (λ v. v.key) c.new-sealer.ensures) (record {
       text = s.text;
-      moved = record { read = s.moved.read; wrote = Appends-Keeps _ _ _ _ out.bytes c.in-Ok-flush.ensures.bytes; count = out.count; small = s.moved.small };
+      moved = record { read = s.moved.read; wrote = out.bytes; count = out.count; small = s.moved.small };
       at_end = s.at_end;
       plain_is = s.plain_is;
-      none_failed = (s.none_failed.0, c.in-Ok-flush.ensures.counted ∙ (l.answered.1 ∙ s.none_failed.1));
+      none_failed = (s.none_failed.0, l.answered.1 ∙ s.none_failed.1);
     })
