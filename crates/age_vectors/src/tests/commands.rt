@@ -1,7 +1,7 @@
 //! The commands that encrypt and decrypt, over files in memory. What a contract can't say stands here: which status comes, and
 //! what is told.
 
-use age_cli::{MemFiles, run};
+use age_cli::{FileSet, MemFiles, run};
 use age_file::{MemSink, MemSource};
 use std::alloc::Global;
 use std::process::Abort;
@@ -22,10 +22,10 @@ pub(super) fn files_with(alloc: Global, room: usize, len: usize) -> Result<MemFi
 }
 
 /// Runs the program, and compares the status and what it told; `*` stands for any text.
-pub(super) fn see(
+pub(super) fn see<F: FileSet>(
     rt: &impl Abort,
     alloc: Global,
-    files: &mut MemFiles,
+    files: &mut F,
     words: &[&str],
     want: (u8, &str, &str),
 ) -> Result<(), Fail> {

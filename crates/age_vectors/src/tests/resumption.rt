@@ -1,7 +1,10 @@
 //! The command that goes on with a decryption that stopped, over files in memory.
 
+ghost use Rattle.std.specs.Prelude.{false, None};
+
 use super::commands::{ENCRYPT, FILE_KEY, files_with, see};
-use age_cli::MemFiles;
+use age_cli::{FileSet, MemFiles, MemOut};
+use age_file::{FileFault, MemSource};
 use std::alloc::Global;
 use std::process::Abort;
 use std::test::Fail;
@@ -281,6 +284,61 @@ fn tells_the_chunk_of_a_damaged_rest(rt: HostRuntime) -> Result<(), Fail> {
     let last = ("age_tool: 18 ChunkCut chunk 3\n", Some(196_608), Some(150));
     let cut = copied(alloc, &given, "FILE", 166 + 196_657)?;
     stops(&rt, alloc, &given, ("FILE", cut), last)
+}
+
+/// Files in memory of which one can be opened and not read. Nothing is told of them.
+#[derive(Drop)]
+struct Unreadable<'a> {
+    files: MemFiles,
+    name: &'a str,
+}
+
+impl<'a> FileSet for Unreadable<'a> {
+    type In = MemSource;
+
+    type Out = MemOut;
+
+    ghost tells = { λ _. false };
+
+    ghost entry = { λ _ _. None };
+
+    fn open(&mut self, alloc: Global, name: &str) -> Result<MemSource, FileFault> {
+        if name == self.name {
+            return Ok(MemSource::new(Vec::new(alloc), 1, Some(0)));
+        }
+        self.files.open(alloc, name)
+    }
+
+    fn create(&mut self, alloc: Global, name: &str) -> Result<MemOut, FileFault> {
+        self.files.create(alloc, name)
+    }
+
+    fn close(&mut self, out: MemOut) -> Result<(), FileFault> {
+        self.files.close(out)
+    }
+}
+
+// The pass file and the position are read before OUT is made.
+#[test]
+fn tells_that_a_file_cannot_be_read(rt: HostRuntime) -> Result<(), Fail> {
+    let alloc = rt.alloc();
+    let given = after_a_stop(&rt, alloc, 150_000)?;
+    for (name, written) in [
+        ("PASS", None),
+        ("POSITION", None),
+        ("BACK", Some(0)),
+        ("FILE", Some(0)),
+    ] {
+        let mut files = Unreadable {
+            files: moved(alloc, &given, 201_000)?,
+            name,
+        };
+        let unread = (1, "", "age_tool: 26 Read\n");
+        see(&rt, alloc, &mut files, SAVING, unread)?;
+        assert_eq!(rt; size_of(&files.files, "WHOLE"), written);
+        assert!(rt; files.files.get("NEXT").is_none());
+    }
+    Ok(())
 }
 
 #[test]
