@@ -6,3 +6,4 @@ pub mod Told
 pub mod Cuts
 pub mod EncryptionSteps
 pub mod OpenerLemmas
+pub mod ResumptionSteps

@@ -3,18 +3,18 @@ use Rattle.std.proofs.Common.{◌≡◌, true, refl, List, [], None, ap, ◌∙�
 use Rattle.clap.specs.Words.{is_simple, is_simple_and_free, Row, Text}
 use Rattle.age_cli.specs.Asked.{named, Asks}
 use Rattle.clap.proofs.OnLiterals.{clap_on_literals}
-use Rattle.age_cli.specs.Commands.{age_tool, encrypting, decrypting, inspecting, drilling}
+use Rattle.age_cli.specs.Commands.{age_tool, encrypting, decrypting, resuming, inspecting, drilling}
 
 pub is_simple-age_tool : is_simple age_tool ≡ true
-unfolding clap_on_literals age_tool encrypting decrypting inspecting drilling
+unfolding clap_on_literals age_tool encrypting decrypting resuming inspecting drilling
 is_simple-age_tool = refl
 
 pub is_free-age_tool : is_simple_and_free age_tool ≡ true
-unfolding clap_on_literals age_tool encrypting decrypting inspecting drilling
+unfolding clap_on_literals age_tool encrypting decrypting resuming inspecting drilling
 is_free-age_tool = refl
 
 named-nothing : named [] ≡ None
-unfolding named clap_on_literals age_tool encrypting decrypting inspecting drilling
+unfolding named clap_on_literals age_tool encrypting decrypting resuming inspecting drilling
 named-nothing = refl
 
 -- no words name no command

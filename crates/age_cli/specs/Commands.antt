@@ -49,6 +49,11 @@ encrypting = with_both_files (with_rule (with_rule (with_rule (new_app (codes "e
 unfoldable pub decrypting : App
 decrypting = with_both_files (with_unlocking (new_app (codes "decrypt")))
 
+-- `resume --position FILE --old FILE`, what opens the file, `IN OUT`
+unfoldable pub resuming : App
+resuming = with_both_files (with_unlocking (with_rule (with_rule (new_app (codes "resume"))
+    (required_rule (option_rule (codes "position")))) (required_rule (option_rule (codes "old")))))
+
 -- `inspect [FILE]`
 unfoldable pub inspecting : App
 inspecting = with_rule (new_app (codes "inspect")) (new_rule (codes "FILE"))
@@ -60,6 +65,6 @@ drilling = with_rule (with_rule (with_rule (with_rule (new_app (codes "drill")) 
 
 -- the whole program, which reads the words after its name
 unfoldable pub age_tool : App
-age_tool = with_subcommand (with_subcommand (with_subcommand (with_subcommand
+age_tool = with_subcommand (with_subcommand (with_subcommand (with_subcommand (with_subcommand
     (on_top (λ s. record s { no_binary_name = true; subcommand_required = true }) (new_app (codes "age_tool")))
-    encrypting.top) decrypting.top) inspecting.top) drilling.top
+    encrypting.top) decrypting.top) resuming.top) inspecting.top) drilling.top

@@ -11,4 +11,5 @@ pub mod Openers
 pub mod OpenerSteps
 pub mod Encryptions
 pub mod Decryptions
+pub mod Resumptions
 pub mod Randoms

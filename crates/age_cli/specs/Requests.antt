@@ -8,9 +8,10 @@ use Rattle.age_cli.specs.Asked.{Asks}
 use Rattle.age_cli.specs.declared.request.Encrypting.{Encrypting}
 use Rattle.age_cli.specs.declared.request.Unlocking.{Unlocking}
 use Rattle.age_cli.specs.declared.request.Decrypting.{Decrypting}
+use Rattle.age_cli.specs.declared.request.Resuming.{Resuming}
 use Rattle.age_cli.specs.declared.request.Drilling.{Drilling}
 use Rattle.age_cli.specs.declared.request.Request.{Request}
-use Rattle.age_cli.specs.declared.request.Request.TheVariants.{Inspect, Decrypt, Encrypt, Drill}
+use Rattle.age_cli.specs.declared.request.Request.TheVariants.{Inspect, Decrypt, Resume, Encrypt, Drill}
 
 -- the number that a text spells, or this one where there is no text
 abbrev pub number_or : ℕ → Option Text → ℕ
@@ -38,6 +39,11 @@ pub record IsDecrypting (rows : List Row) (d : Decrypting) : Type 0 where
   pub from : Some d.from.now ≡ first_of (codes "IN") rows
   pub to : Some d.to.now ≡ first_of (codes "OUT") rows
 
+pub record IsResuming (rows : List Row) (r : Resuming) : Type 0 where
+  pub decrypting : IsDecrypting rows r.decrypting
+  pub position : Some r.position.now ≡ first_of (codes "position") rows
+  pub old : Some r.old.now ≡ first_of (codes "old") rows
+
 pub record IsDrilling (rows : List Row) (d : Drilling) : Type 0 where
   pub clear : one_of (codes "clear") rows ≡ Some (codes "true") → d.clear ≡ true
   pub sealed : one_of (codes "clear") rows ≡ None → d.clear ≡ false
@@ -48,6 +54,7 @@ pub record IsDrilling (rows : List Row) (d : Drilling) : Type 0 where
 abbrev pub IsRequest : Text → List Row → Request → Type 0
 IsRequest name rows (Encrypt e) = (name ≡ codes "encrypt") × IsEncrypting rows e
 IsRequest name rows (Decrypt d) = (name ≡ codes "decrypt") × IsDecrypting rows d
+IsRequest name rows (Resume r) = (name ≡ codes "resume") × IsResuming rows r
 IsRequest name rows (Drill d) = (name ≡ codes "drill") × IsDrilling rows d
 IsRequest name rows (Inspect file) = (name ≡ codes "inspect") × (text_of file ≡ first_of (codes "FILE") rows)
 

@@ -4,7 +4,7 @@ ghost use Rattle.std.specs.Prelude.{◌≡◌, false, IfOk};
 ghost use Rattle.clap.specs.Words.{app_of, rule_of, new_rule, with_rule, with_subcommand, new_app, FailsBy, subcommand_rows_of};
 ghost use Rattle.clap.specs.Walk.{texts};
 ghost use Rattle.age_cli.specs.Commands.{HasApp, has_globals, option_rule, number_rule, flag_rule, required_rule, with_unlocking, with_both_files};
-ghost use Rattle.age_cli.specs.Commands.{encrypting, decrypting, inspecting, drilling, age_tool};
+ghost use Rattle.age_cli.specs.Commands.{encrypting, decrypting, resuming, inspecting, drilling, age_tool};
 ghost use Rattle.age_cli.specs.Asked.{refusals, named};
 
 use crate::help;
@@ -107,6 +107,19 @@ fn decrypt<'a>(alloc: Global) -> Result<Command<'a>, AllocError>
     add_both_files(alloc, unlocking, help::FILE_IN, help::PLAIN_OUT)
 }
 
+#[tactic(auto, unfolding(crate::specs::Commands::resuming))]
+fn resume<'a>(alloc: Global) -> Result<Command<'a>, AllocError>
+    ensures { IfOk result (HasApp resuming) }
+{
+    let plain = command(alloc, "resume", help::RESUME, help::AFTER_RESUME);
+    let position = option(alloc, "position", "FILE", help::POSITION).required(true);
+    let with_position = add(plain, position)?;
+    let old = option(alloc, "old", "FILE", help::OLD).required(true);
+    let with_old = add(with_position, old)?;
+    let unlocking = add_unlocking(alloc, with_old)?;
+    add_both_files(alloc, unlocking, help::FILE_IN, help::WHOLE_OUT)
+}
+
 #[tactic(auto, unfolding(crate::specs::Commands::inspecting))]
 fn inspect<'a>(alloc: Global) -> Result<Command<'a>, AllocError>
     ensures { IfOk result (HasApp inspecting) }
@@ -147,8 +160,9 @@ fn program<'a>(alloc: Global) -> Result<Command<'a>, AllocError>
         .subcommand_required(true);
     let first = enter(bare, encrypt(alloc)?)?;
     let second = enter(first, decrypt(alloc)?)?;
-    let third = enter(second, inspect(alloc)?)?;
-    enter(third, drill(alloc)?)
+    let third = enter(second, resume(alloc)?)?;
+    let fourth = enter(third, inspect(alloc)?)?;
+    enter(fourth, drill(alloc)?)
 }
 
 /// What the words give for each argument.

@@ -25,6 +25,16 @@ pub(crate) const AFTER_DECRYPT: &str =
 Give one of --pass, --file-key and --shared. Every chunk is checked before it is written. Only status 0 means that OUT is the whole \
 plaintext: after a fault OUT holds a front of it.";
 
+pub(crate) const RESUME: &str = "Go on with a decryption that stopped";
+
+pub(crate) const AFTER_RESUME: &str =
+    "Example: age_tool resume --position notes.position --old notes.txt --pass passphrase.txt notes.txt.age notes-whole.txt
+
+Give one of --pass, --file-key and --shared. OUT becomes the whole plaintext: its front is copied from the file of --old, and the chunks \
+behind it are decrypted and checked as `decrypt` does. A position is bound to its file and to the text before it: that of another file, one \
+that was changed, and another old text are refused. Only status 0 means that OUT is the whole plaintext. A position that is saved goes with \
+the OUT of this run; the file of --position may be named again for it. Where none is saved, the old one still goes with the old text.";
+
 pub(crate) const INSPECT: &str = "Report what the header of an age file holds";
 
 pub(crate) const AFTER_INSPECT: &str = "Example: age_tool inspect notes.txt.age
@@ -62,6 +72,11 @@ pub(crate) const MAX_LOG: &str = "Greatest work factor that is accepted, 1 to 22
 pub(crate) const SAVE: &str =
     "Where the position goes if the decryption stops, so that it can be resumed";
 
+pub(crate) const POSITION: &str = "File with the position that the stopped run saved";
+
+pub(crate) const OLD: &str =
+    "What the stopped run had written; another name than IN, OUT and the file of --save";
+
 pub(crate) const PLAIN_IN: &str = "The file to encrypt";
 
 pub(crate) const FILE_OUT: &str = "The age file to write; another name than IN";
@@ -69,6 +84,9 @@ pub(crate) const FILE_OUT: &str = "The age file to write; another name than IN";
 pub(crate) const FILE_IN: &str = "The age file to decrypt";
 
 pub(crate) const PLAIN_OUT: &str = "The file to write; another name than IN and the file of --save";
+
+pub(crate) const WHOLE_OUT: &str =
+    "The file to write; another name than IN and the files of --old and --save";
 
 pub(crate) const CLEAR: &str =
     "IN is a payload whose chunks, 4 bytes and 16 of a mark, are in the clear: an example";

@@ -22,7 +22,9 @@ mod print;
 mod program;
 mod reading;
 mod request;
+mod resumption;
 mod script;
+mod stop;
 
 pub use files::FileSet;
 pub use host_files::HostFiles;

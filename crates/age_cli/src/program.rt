@@ -7,6 +7,7 @@ ghost use Rattle.clap.specs.declared.error.ErrorKind.TheVariants.{OutOfMemory};
 ghost use Rattle.age_cli.specs.Asked.{Asks, refusals};
 ghost use Rattle.age_cli.specs.Encryptions.{EncryptsRows};
 ghost use Rattle.age_cli.specs.Decryptions.{DecryptsRows};
+ghost use Rattle.age_cli.specs.Resumptions.{ResumesRows};
 ghost use Rattle.age_cli.specs.Endings.{is_usage};
 ghost use Rattle.age_cli.specs.Held.{Spares};
 ghost use Rattle.age_cli.specs.Runs.{Reports, Inspects};
@@ -20,6 +21,7 @@ use crate::inspection::{report, report_file};
 use crate::print::put_bytes;
 use crate::reading::read_request;
 use crate::request::Request;
+use crate::resumption::resume_file;
 use age_file::{FileFault, Sink, Source};
 use clap::Error;
 use clap::error::ErrorKind;
@@ -60,6 +62,8 @@ fn obey<F: FileSet, I: Source, O: Sink>(
         → EncryptsRows rows (F.entry files.old) (F.entry files.new)) }
     ensures decrypts { (rows : List Row) → Asks (texts words.now) (codes "decrypt") rows → OnOk result (F.tells files.old ≡ true
         → DecryptsRows rows (F.entry files.old) (F.entry files.new)) }
+    ensures resumes { (rows : List Row) → Asks (texts words.now) (codes "resume") rows → OnOk result (F.tells files.old ≡ true
+        → ResumesRows rows (F.entry files.old) (F.entry files.new)) }
     ensures spares { (rows : List Row) (name : Text) → Asks (texts words.now) name rows → F.tells files.old ≡ true
         → Spares rows (F.entry files.old) (F.entry files.new) }
     ensures usage { IfErr result (λ e. is_usage e ≡ true → F.entry files.new ≡ F.entry files.old) }
@@ -78,6 +82,7 @@ fn obey<F: FileSet, I: Source, O: Sink>(
         }
         Ok(Some(Request::Encrypt(asked))) => encrypt_file(alloc, files, &asked),
         Ok(Some(Request::Decrypt(asked))) => decrypt_file(alloc, files, &asked),
+        Ok(Some(Request::Resume(asked))) => resume_file(alloc, files, &asked),
         Ok(Some(Request::Drill(asked))) => drill_file(alloc, files, &asked, output),
         Ok(None) => Err(Ending::Usage(Usage::Unread)),
     }
@@ -125,7 +130,7 @@ fn put_fault<E: Sink>(alloc: Global, faults: &mut E, fault: FileFault) -> Result
 /// one line to `faults`, and 2 for a bad command line, whose text goes there too.
 ///
 /// Without words, or with `inspect`, it reads the input to its end and writes the report; with `inspect FILE` it reads
-/// that file. `encrypt` and `decrypt` read IN and write OUT. Help that is asked for goes to the output, with status 0.
+/// that file. `encrypt`, `decrypt` and `resume` read IN and write OUT. Help that is asked for goes to the output, with status 0.
 pub fn run<F: FileSet, I: Source, O: Sink, E: Sink>(
     alloc: Global,
     words: &[&str],
@@ -145,6 +150,8 @@ pub fn run<F: FileSet, I: Source, O: Sink, E: Sink>(
         → EncryptsRows rows (F.entry files.old) (F.entry files.new) }
     ensures decrypts { (rows : List Row) → Asks (texts words.now) (codes "decrypt") rows → result ≡ 0 → F.tells files.old ≡ true
         → DecryptsRows rows (F.entry files.old) (F.entry files.new) }
+    ensures resumes { (rows : List Row) → Asks (texts words.now) (codes "resume") rows → result ≡ 0 → F.tells files.old ≡ true
+        → ResumesRows rows (F.entry files.old) (F.entry files.new) }
     // Whatever the status, no file but OUT and that of --save differs.
     ensures spares { (rows : List Row) (name : Text) → Asks (texts words.now) name rows → F.tells files.old ≡ true
         → Spares rows (F.entry files.old) (F.entry files.new) }

@@ -4,10 +4,10 @@ ghost use Rattle.std.specs.Prelude.{◌≡◌, ◌≤◌, [], true, false, Some,
 ghost use Rattle.clap.specs.Words.{subcommand_rows_of, rows_of, found_of, one_of, first_of, kind_of};
 ghost use Rattle.clap.specs.Walk.{texts};
 ghost use Rattle.age_cli.specs.Asked.{refusals};
-ghost use Rattle.age_cli.specs.Requests.{number_or, text_of, IsEncrypting, IsUnlocking, IsDecrypting, IsDrilling, Requests};
+ghost use Rattle.age_cli.specs.Requests.{number_or, text_of, IsEncrypting, IsUnlocking, IsDecrypting, IsResuming, IsDrilling, Requests};
 
 use crate::commands::matches_of;
-use crate::request::{Decrypting, Drilling, Encrypting, Request, Unlocking};
+use crate::request::{Decrypting, Drilling, Encrypting, Request, Resuming, Unlocking};
 use clap::error::ErrorKind;
 use clap::{ArgMatches, Error};
 use std::alloc::Global;
@@ -84,6 +84,16 @@ fn decrypting<'a>(matches: &ArgMatches<'a>) -> Option<Decrypting<'a>>
     })
 }
 
+fn resuming<'a>(matches: &ArgMatches<'a>) -> Option<Resuming<'a>>
+    ensures { IfSome result (IsResuming (rows_of (found_of matches.now))) }
+{
+    Some(Resuming {
+        decrypting: decrypting(matches)?,
+        position: text(matches, "position")?,
+        old: text(matches, "old")?,
+    })
+}
+
 fn drilling<'a>(matches: &ArgMatches<'a>) -> Option<Drilling<'a>>
     ensures { IfSome result (IsDrilling (rows_of (found_of matches.now))) }
 {
@@ -117,6 +127,12 @@ pub(crate) fn read_request<'a>(
     if name == "decrypt" {
         return match decrypting(inner) {
             Some(asked) => Ok(Some(Request::Decrypt(asked))),
+            None => Ok(None),
+        };
+    }
+    if name == "resume" {
+        return match resuming(inner) {
+            Some(asked) => Ok(Some(Request::Resume(asked))),
             None => Ok(None),
         };
     }

@@ -28,6 +28,14 @@ pub(crate) struct Decrypting<'a> {
     pub(crate) to: &'a str,
 }
 
+/// What `resume` is asked: a decryption that goes on from a position, behind an old text.
+#[derive(Clone, Copy, Debug)]
+pub(crate) struct Resuming<'a> {
+    pub(crate) decrypting: Decrypting<'a>,
+    pub(crate) position: &'a str,
+    pub(crate) old: &'a str,
+}
+
 /// What `drill` is asked.
 #[derive(Clone, Copy, Debug)]
 pub(crate) struct Drilling<'a> {
@@ -44,6 +52,8 @@ pub(crate) enum Request<'a> {
     Encrypt(Encrypting<'a>),
     /// To decrypt a file.
     Decrypt(Decrypting<'a>),
+    /// To go on with a decryption.
+    Resume(Resuming<'a>),
     /// To inspect the file of this name, or the input.
     Inspect(Option<&'a str>),
     /// To deliver a payload by a script.

@@ -3,6 +3,7 @@ mod drill;
 mod inspection;
 mod memory;
 mod program;
+mod resumption;
 
 use super::*;
 

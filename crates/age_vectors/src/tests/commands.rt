@@ -1,7 +1,7 @@
 //! The commands that encrypt and decrypt, over files in memory. What a contract can't say stands here: which status comes, and
 //! what is told.
 
-use age_cli::{MemFiles, run};
+use age_cli::{FileSet, MemFiles, run};
 use age_file::{MemSink, MemSource};
 use std::alloc::Global;
 use std::process::Abort;
@@ -10,10 +10,10 @@ use std::test::Fail;
 /// The file key, the stanza's salt and the payload nonce.
 const RANDOM: &[u8; 48] = b"the file key...!the scrypt salt!the payload nonc";
 
-const FILE_KEY: &str = "7468652066696c65206b65792e2e2e21";
+pub(super) const FILE_KEY: &str = "7468652066696c65206b65792e2e2e21";
 
 /// Files with a passphrase, random bytes and an input of so many bytes.
-fn files_with(alloc: Global, room: usize, len: usize) -> Result<MemFiles, Fail> {
+pub(super) fn files_with(alloc: Global, room: usize, len: usize) -> Result<MemFiles, Fail> {
     let mut files = MemFiles::new(alloc, room);
     files.put(alloc, "PASS", b"correct horse\n".to_vec(alloc)?)?;
     files.put(alloc, "RANDOM", RANDOM.to_vec(alloc)?)?;
@@ -22,10 +22,10 @@ fn files_with(alloc: Global, room: usize, len: usize) -> Result<MemFiles, Fail> 
 }
 
 /// Runs the program, and compares the status and what it told; `*` stands for any text.
-fn see(
+pub(super) fn see<F: FileSet>(
     rt: &impl Abort,
     alloc: Global,
-    files: &mut MemFiles,
+    files: &mut F,
     words: &[&str],
     want: (u8, &str, &str),
 ) -> Result<(), Fail> {
@@ -41,7 +41,7 @@ fn see(
     Ok(())
 }
 
-const ENCRYPT: &[&str] = &[
+pub(super) const ENCRYPT: &[&str] = &[
     "encrypt", "--pass", "PASS", "--log", "10", "--random", "RANDOM", "IN", "OUT",
 ];
 

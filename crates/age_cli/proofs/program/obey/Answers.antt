@@ -1,7 +1,12 @@
-use Rattle.std.proofs.Common.{◌≡◌, ap, length, rules}
+use Rattle.std.proofs.Common.{◌≡◌, ◌∙◌, ap, subst, length, Option, Some, rules}
+use Rattle.std.specs.Option.{IfSome}
+use Rattle.std.proofs.lemmas.Result.{on_ok_weaker}
 use Rattle.std.proofs.lemmas.List.{nil_from_length}
 use Rattle.clap.specs.Walk.{texts}
+use Rattle.age_cli.specs.Requests.{Requests}
+use Rattle.age_cli.specs.declared.request.Request.{Request}
 use Rattle.age_cli.proofs.Simple.{no_command}
+use Rattle.age_cli.proofs.ResumptionSteps.{resumes_rows}
 use Rattle.age_cli.proofs.program.obey.Goals as goal
 
 pub returns-then-is_empty-clause-inspects : goal.returns-then-is_empty-clause-inspects
@@ -18,3 +23,15 @@ pub returns-then-is_empty-clause-decrypts : goal.returns-then-is_empty-clause-de
 returns-then-is_empty-clause-decrypts g c =
     let short : length c.args.words.now ≡ 0 = search rules in
     λ rows asks. absurd (no_command (texts c.args.words.now) _ rows (ap texts (nil_from_length c.args.words.now short)) asks)
+
+pub returns-then-is_empty-clause-resumes : goal.returns-then-is_empty-clause-resumes
+returns-then-is_empty-clause-resumes g c =
+    let short : length c.args.words.now ≡ 0 = search rules in
+    λ rows asks. absurd (no_command (texts c.args.words.now) _ rows (ap texts (nil_from_length c.args.words.now short)) asks)
+
+pub returns-in-Ok-Some-Resume-clause-resumes : goal.returns-in-Ok-Some-Resume-clause-resumes
+returns-in-Ok-Some-Resume-clause-resumes g c = λ rows asks.
+    let w = texts c.args.words.now in
+    let here = c.in-Ok-Some-Resume in
+    let request = subst (λ (o : Option Request). IfSome o (Requests w)) (here.field-0-is ∙ ap Some here.field-0-0-is) here.ensures.asked in
+    on_ok_weaker c.resume_file.result (λ did told. resumes_rows w rows here.asked _ _ request asks (did told)) c.resume_file.ensures.done

@@ -1,0 +1,76 @@
+//! How a command that writes a text stops, and where its position goes.
+
+ghost use Rattle.std.specs.Prelude.{◌≡◌, true, false, Some, None, OnOk};
+ghost use Rattle.age_file.specs.PositionTexts.{position_text};
+ghost use Rattle.age_cli.specs.Requests.{text_of};
+ghost use Rattle.age_cli.specs.Endings.{is_usage};
+ghost use Rattle.age_cli.specs.Held.{SparesBoth, Saves};
+
+use crate::ending::Ending;
+use crate::files::FileSet;
+use crate::print::put_bytes;
+use age_file::{FileFault, Position, Stopped};
+use std::alloc::Global;
+
+/// Why a command stopped, and the position to save.
+#[derive(Clone, Copy, Debug)]
+pub(crate) struct Stop {
+    pub(crate) fault: FileFault,
+    pub(crate) position: Option<Position>,
+}
+
+impl From<FileFault> for Stop {
+    fn from(fault: FileFault) -> Stop {
+        Stop {
+            fault,
+            position: None,
+        }
+    }
+}
+
+impl From<Stopped> for Stop {
+    fn from(stopped: Stopped) -> Stop {
+        Stop {
+            fault: stopped.fault,
+            position: stopped.position,
+        }
+    }
+}
+
+/// Writes a position to a file, where both are there.
+fn save<F: FileSet>(
+    alloc: Global,
+    files: &mut F,
+    name: Option<&str>,
+    position: Option<Position>,
+) -> Result<(), FileFault>
+    ensures saved { OnOk result (F.tells files.old ≡ true → Saves (text_of name.entry) position (F.entry files.old) (F.entry files.new)) }
+    ensures alone { position ≡ None → F.entry files.new ≡ F.entry files.old }
+    ensures others { F.tells files.old ≡ true → SparesBoth None (text_of name.entry) (F.entry files.old) (F.entry files.new) }
+{
+    let (Some(name), Some(position)) = (name, position) else {
+        return Ok(());
+    };
+    let text = position.text(alloc)?;
+    let mut out = files.create(alloc, name)?;
+    let put = put_bytes(&mut out, text.as_slice());
+    files.close(out)?;
+    put
+}
+
+/// How a command ends that stopped, once its position is saved.
+pub(crate) fn end_of<F: FileSet>(
+    alloc: Global,
+    files: &mut F,
+    name: Option<&str>,
+    stop: Stop,
+) -> Ending
+    ensures fault { is_usage result ≡ false }
+    ensures alone { stop.position ≡ None → F.entry files.new ≡ F.entry files.old }
+    ensures others { F.tells files.old ≡ true → SparesBoth None (text_of name.entry) (F.entry files.old) (F.entry files.new) }
+{
+    match save(alloc, files, name, stop.position) {
+        Ok(()) => Ending::Fault(stop.fault),
+        Err(second) => Ending::Unsaved(stop.fault, second),
+    }
+}
