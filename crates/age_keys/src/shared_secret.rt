@@ -143,7 +143,10 @@ impl Unlock for SharedSecret {
 
     ghost refuses = { SharedRefuses };
 
-    fn unlock(&self, _alloc: Global, header: &Header) -> Result<FileKey, KeyFault> {
+    fn unlock(&self, _alloc: Global, header: &Header) -> Result<FileKey, KeyFault>
+        ensures { MatchResult result (IsSharedKey self.now header.now)
+            (SharedRefuses self.now header.now) }
+    {
         self.find(header)
     }
 }

@@ -71,7 +71,9 @@ impl Unlock for KnownKey {
 
     ghost refuses = { λ _ _ _. ⊥ };
 
-    fn unlock(&self, _alloc: Global, _header: &Header) -> Result<FileKey, KeyFault> {
+    fn unlock(&self, _alloc: Global, _header: &Header) -> Result<FileKey, KeyFault>
+        ensures { MatchResult result (λ key. key ≡ self.now) (λ _. ⊥) }
+    {
         Ok(FileKey::new(self.bytes))
     }
 }

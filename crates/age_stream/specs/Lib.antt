@@ -5,6 +5,7 @@ pub mod Payload
 pub mod Segment
 pub mod Deliveries
 pub mod Sealing
+pub mod WholeText
 pub mod SealerSteps
 pub mod SealerRow
 pub mod Lent

@@ -1,7 +1,9 @@
 //! A caller of the sealer: it feeds a text, and copies out the blocks that are lent.
-ghost use Rattle.std.specs.Prelude.{◌≡◌, ◌-◌, ◌≤◌, ◌++◌, IfOk, OnOk};
+ghost use Rattle.std.specs.Prelude.{◌≡◌, ◌-◌, ◌≤◌, ◌++◌, IfOk, IfErr, OnOk};
 ghost use Rattle.age_stream.specs.Payload.{payload};
 ghost use Rattle.age_stream.specs.Sealing.{lent, lent_bytes};
+ghost use Rattle.age_stream.specs.WholeText.{SealRefuses};
+ghost use Rattle.age_stream.specs.declared.whole_text.SealFault.TheVariants.{Stream as StreamRefusal, Memory as MemoryRefusal};
 
 use crate::chunk_box::ChunkBox;
 use crate::fault::StreamFault;
@@ -18,19 +20,24 @@ pub enum SealFault {
 }
 
 impl From<AllocError> for SealFault {
+    ghost from_gives = { λ _ e. e ≡ MemoryRefusal };
+
     fn from(_e: AllocError) -> SealFault {
         SealFault::Memory
     }
 }
 
 impl From<StreamFault> for SealFault {
+    ghost from_gives = { λ fault e. e ≡ StreamRefusal fault };
+
     fn from(e: StreamFault) -> SealFault {
         SealFault::Stream(e)
     }
 }
 
 /// The payload of a text: its chunks, each sealed at its nonce, one behind the
-/// other (C2SP age.md, "Payload"), in chunks of `SEALED - 16` bytes.
+/// other (C2SP age.md, "Payload"), in chunks of `SEALED - 16` bytes. Want of
+/// memory aside, only a text of more than 2^48 chunks is refused.
 pub fn seal_all<B: ChunkBox, const SEALED: usize>(
     alloc: Global,
     key: &B,
@@ -38,7 +45,8 @@ pub fn seal_all<B: ChunkBox, const SEALED: usize>(
 ) -> Result<Vec<u8>, SealFault>
     requires least { 17 ≤ SEALED }
     requires most { SEALED ≤ 65552 }
-    ensures { IfOk result (λ v. v.items ≡ payload (B.sealing key.now) (SEALED - 16) text.now) }
+    ensures sealed { IfOk result (λ v. v.items ≡ payload (B.sealing key.now) (SEALED - 16) text.now) }
+    ensures refused { IfErr result (SealRefuses (SEALED - 16) text.now) }
 {
     let mut out = Vec::new(alloc);
     let mut sealer = Sealer::<B, SEALED>::new(key);

@@ -33,13 +33,14 @@ loop-at-preserved g c =
     record {
       within = omega (arith, short, len, len2, c.loop-at-test.true);
       open_ = after.1;
+      sound = after.2.0;
       key = after.0 ∙ ekey;
       holds = subst (λ (t : List ℕ). Holds m c.feed.follows.lender-at-none t) on (after.2.1 (take c.loop-at.at text) inv.holds);
       blocks = c.in_ok-copy_lent.ensures ∙ (ap (λ (t : List ℕ). t ++ lent_bytes (lent c.in_ok-step.step.chunk)) inv.blocks ∙ sym now);
     }
 
-pub returns : goal.returns
-returns g c =
+pub returns-clause-sealed : goal.returns-clause-sealed
+returns-clause-sealed g c =
     let text = c.args.text.now in
     let inv = c.loop-at.invariant in
     let m = g.row.SEALED - 16 in

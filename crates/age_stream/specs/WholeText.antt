@@ -1,0 +1,10 @@
+-- Why a whole text isn't sealed. A chunk has n bytes.
+use Rattle.std.specs.Prelude.{◌≡◌, ℕ, ◌*◌, ◌<◌, List, length}
+use Rattle.age_stream.specs.Sealing.{too_many}
+use Rattle.age_stream.specs.declared.whole_text.SealFault.{SealFault}
+use Rattle.age_stream.specs.declared.whole_text.SealFault.TheVariants.{Stream, Memory}
+
+-- it has more than 2^48 chunks, which is told of the last that a payload may have; or memory was refused
+abbrev pub SealRefuses : ℕ → List ℕ → SealFault → Type 0
+SealRefuses n text (Stream fault) = (281474976710656 * n < length text) × (fault ≡ too_many 281474976710655)
+SealRefuses n text Memory = Unit {0}
