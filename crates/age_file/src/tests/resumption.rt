@@ -1,5 +1,7 @@
 //! Decryptions that go on from a position.
 
+ghost use Rattle.std.specs.Prelude.{◌<◌};
+
 use super::*;
 
 /// What a resumed run reads: a file, an old text, and the position.
@@ -157,7 +159,8 @@ fn a_position_that_was_changed(rt: HostRuntime) -> Result<(), Fail> {
     let mut earlier = position;
     earlier.index = 1;
     let mut other_chain = position;
-    other_chain.chain = POSITIONS[1].0;
+    let (chain, _) = POSITIONS[1];
+    other_chain.chain = chain;
     let mut other_tag = position;
     other_tag.tag[31] ^= 128;
     for forged in [earlier, other_chain, other_tag, zero_at(5), zero_at(0)] {
