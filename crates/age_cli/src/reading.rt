@@ -4,7 +4,7 @@ ghost use Rattle.std.specs.Prelude.{◌≡◌, ◌≤◌, [], true, false, Some,
 ghost use Rattle.clap.specs.Words.{subcommand_rows_of, rows_of, found_of, one_of, first_of, kind_of};
 ghost use Rattle.clap.specs.Walk.{texts};
 ghost use Rattle.age_cli.specs.Asked.{refusals};
-ghost use Rattle.age_cli.specs.Requests.{number_or, text_of, IsEncrypting, IsUnlocking, IsDecrypting, IsResuming, IsDrilling, Requests};
+ghost use Rattle.age_cli.specs.Requests.{number_or, text_of, IsEncrypting, IsUnlocking, IsDecrypting, IsResuming, IsDrilling, IsRequest, Requests};
 
 use crate::commands::matches_of;
 use crate::request::{Decrypting, Drilling, Encrypting, Request, Resuming, Unlocking};
@@ -105,6 +105,28 @@ fn drilling<'a>(matches: &ArgMatches<'a>) -> Option<Drilling<'a>>
     })
 }
 
+/// What a command asks for, by its name and its matches.
+fn request_of<'a>(name: &str, matches: &ArgMatches<'a>) -> Option<Request<'a>>
+    ensures { IfSome result (IsRequest name.now (rows_of (found_of matches.now))) }
+{
+    if name == "encrypt" {
+        return Some(Request::Encrypt(encrypting(matches)?));
+    }
+    if name == "decrypt" {
+        return Some(Request::Decrypt(decrypting(matches)?));
+    }
+    if name == "resume" {
+        return Some(Request::Resume(resuming(matches)?));
+    }
+    if name == "inspect" {
+        return Some(Request::Inspect(text(matches, "FILE")));
+    }
+    if name == "drill" {
+        return Some(Request::Drill(drilling(matches)?));
+    }
+    None
+}
+
 /// What the words ask for. A request is there wherever the words are taken, since each word that is taken is of an
 /// argument that the command has; the parser of command lines doesn't promise this, so there is an answer for none.
 pub(crate) fn read_request<'a>(
@@ -115,35 +137,8 @@ pub(crate) fn read_request<'a>(
     ensures refused { IfErr result (λ e. refusals (texts words.now) ≡ [] → kind_of e ≡ ErrorKind.OutOfMemory) }
 {
     let matches = matches_of(alloc, words)?;
-    let Some((name, inner)) = command_of(&matches) else {
-        return Ok(None);
-    };
-    if name == "encrypt" {
-        return match encrypting(inner) {
-            Some(asked) => Ok(Some(Request::Encrypt(asked))),
-            None => Ok(None),
-        };
+    match command_of(&matches) {
+        Some((name, inner)) => Ok(request_of(name, inner)),
+        None => Ok(None),
     }
-    if name == "decrypt" {
-        return match decrypting(inner) {
-            Some(asked) => Ok(Some(Request::Decrypt(asked))),
-            None => Ok(None),
-        };
-    }
-    if name == "resume" {
-        return match resuming(inner) {
-            Some(asked) => Ok(Some(Request::Resume(asked))),
-            None => Ok(None),
-        };
-    }
-    if name == "inspect" {
-        return Ok(Some(Request::Inspect(text(inner, "FILE"))));
-    }
-    if name == "drill" {
-        return match drilling(inner) {
-            Some(asked) => Ok(Some(Request::Drill(asked))),
-            None => Ok(None),
-        };
-    }
-    Ok(None)
 }

@@ -346,7 +346,7 @@ fn judges_files_in_their_order(rt: HostRuntime) -> Result<(), Fail> {
     let alloc = rt.alloc();
     let mut files = files_with(alloc, 100, 0)?;
     files.put(alloc, "EMPTY", b"\n".to_vec(alloc)?)?;
-    files.put(alloc, "SHORT", b"63 bytes are missing".to_vec(alloc)?)?;
+    files.put(alloc, "SHORT", b"too few bytes".to_vec(alloc)?)?;
     files.put(alloc, "OUT", b"as it was".to_vec(alloc)?)?;
     let unread = (1, "", "age_tool: 26 Read\n");
     let bad_pass = (2, "", "age_tool: bad passphrase file\n");
@@ -363,6 +363,13 @@ fn judges_files_in_their_order(rt: HostRuntime) -> Result<(), Fail> {
         see(&rt, alloc, &mut files, &words, want)?;
         assert!(rt; files.get("OUT") == Some(b"as it was".as_slice()));
     }
+    Ok(())
+}
+
+#[test]
+fn tells_that_a_file_is_missing(rt: HostRuntime) -> Result<(), Fail> {
+    let alloc = rt.alloc();
+    let unread = (1, "", "age_tool: 26 Read\n");
     let mut given = after_a_stop(&rt, alloc, 150_000)?;
     let missing_old = [
         "resume",
@@ -416,6 +423,14 @@ fn refuses_bad_words(rt: HostRuntime) -> Result<(), Fail> {
         }
         see(&rt, alloc, &mut files, all.as_slice(), (2, "", line))?;
     }
+    assert!(rt; files.get("OUT").is_none());
+    Ok(())
+}
+
+#[test]
+fn asks_for_all_words(rt: HostRuntime) -> Result<(), Fail> {
+    let alloc = rt.alloc();
+    let mut files = files_with(alloc, 100, 0)?;
     for words in [
         ["resume", "--old=OLD", "--pass=PASS", "IN", "OUT"].as_slice(),
         ["resume", "--position=NO", "--pass=PASS", "IN", "OUT"].as_slice(),
