@@ -35,9 +35,19 @@ fn write_out<F: FileSet>(
     Ok(())
 }
 
-/// The files that have to differ: what is read, what is written, and where a position goes.
-pub(crate) fn names_a_file_twice(asked: &Decrypting<'_>) -> bool {
-    asked.from == asked.to || asked.save == Some(asked.from) || asked.save == Some(asked.to)
+/// Whether a position is saved to the file of this name.
+pub(crate) fn saves_to<F: FileSet>(files: &F, asked: &Decrypting<'_>, name: &str) -> bool {
+    match asked.save {
+        Some(save) => files.is_same(save, name),
+        None => false,
+    }
+}
+
+/// Whether two of the files that have to differ are one: what is read, what is written, and where a position goes.
+pub(crate) fn names_a_file_twice<F: FileSet>(files: &F, asked: &Decrypting<'_>) -> bool {
+    files.is_same(asked.from, asked.to)
+        || saves_to(files, asked, asked.from)
+        || saves_to(files, asked, asked.to)
 }
 
 /// Decrypts a file as the words ask. Where it stops, its position is saved.
@@ -51,7 +61,7 @@ pub(crate) fn decrypt_file<F: FileSet>(
     ensures spares { F.tells files.old ≡ true → SparesBoth (Some asked.now.to.now) (text_of asked.now.save) (F.entry files.old) (F.entry files.new) }
 {
     let chosen = choose(&asked.unlocking)?;
-    if names_a_file_twice(asked) {
+    if names_a_file_twice(files, asked) {
         return Err(Ending::Usage(Usage::SameFile));
     }
     let material = read_material(alloc, files, chosen)?;

@@ -95,7 +95,7 @@ pub(crate) fn encrypt_file<F: FileSet>(
     ensures usage { IfErr result (λ e. is_usage e ≡ true → F.entry files.new ≡ F.entry files.old) }
     ensures spares { F.tells files.old ≡ true → SparesBut asked.now.to.now (F.entry files.old) (F.entry files.new) }
 {
-    if asked.from == asked.to {
+    if files.is_same(asked.from, asked.to) {
         return Err(Ending::Usage(Usage::SameFile));
     }
     let pass = read_pass(alloc, files, asked.pass)?;

@@ -5,7 +5,7 @@ ghost use Rattle.std.specs.Prelude.{◌≡◌, ◌≢◌, ℕ, Bool, true, List,
 use age_file::{FileFault, Sink, Source};
 use std::alloc::Global;
 
-/// Files by their names. Names are compared as text.
+/// Files by their names.
 pub trait FileSet {
     /// A file that is read.
     type In: Source + Drop;
@@ -18,6 +18,11 @@ pub trait FileSet {
 
     // The bytes of the entry of a name, where there is one.
     ghost entry: { Self → List ℕ → Option (List ℕ) };
+
+    /// Whether two names stand for one file. Equal names do, and of files that are told no others.
+    fn is_same(&self, one: &str, other: &str) -> bool
+        ensures equal { one.now ≡ other.now → result ≡ true }
+        ensures told { tells self.now ≡ true → result ≡ true → one.now ≡ other.now };
 
     /// Opens a file to be read. Refuses with `Read` (26) where it can't be, and with `Memory` (28).
     fn open(&mut self, alloc: Global, name: &str) -> Result<Self::In, FileFault>

@@ -8,6 +8,8 @@ pub(crate) const AFTER_PROGRAM: &str =
 Exit status: 0 on success; 1 on a fault, told in one line such as `age_tool: 13 WrongKey`; 2 for a bad command line, and then no file \
 was changed. docs/FAULTS.md says of each fault what it means, what stands afterwards and what to do.
 
+A name is a path: `-` is a file of that name, /dev/stdin and /dev/stdout are the streams.
+
 `age_tool COMMAND --help` explains a command.";
 
 pub(crate) const ENCRYPT: &str = "Encrypt a file under a passphrase";
@@ -15,7 +17,8 @@ pub(crate) const ENCRYPT: &str = "Encrypt a file under a passphrase";
 pub(crate) const AFTER_ENCRYPT: &str =
     "Example: age_tool encrypt --pass passphrase.txt notes.txt notes.txt.age
 
-Any age program opens the result with the passphrase. OUT is made anew; what an encryption that stops has written stays there.";
+Any age program opens the result with the passphrase. OUT is made anew once all other files could be opened, whatever it held; what an \
+encryption that stops has written stays there.";
 
 pub(crate) const DECRYPT: &str = "Decrypt an age file";
 
@@ -23,7 +26,8 @@ pub(crate) const AFTER_DECRYPT: &str =
     "Example: age_tool decrypt --pass passphrase.txt notes.txt.age notes.txt
 
 Give one of --pass, --file-key and --shared. Every chunk is checked before it is written. Only status 0 means that OUT is the whole \
-plaintext: after a fault OUT holds a front of it.";
+plaintext: after a fault OUT holds a front of it. OUT is made anew once all other files could be opened, whatever it held, also where the \
+passphrase then turns out to be wrong.";
 
 pub(crate) const RESUME: &str = "Go on with a decryption that stopped";
 
@@ -53,7 +57,7 @@ at a chunk. Each line is answered by its number, the status (open, last, done, f
 held. A script has at most 1,000 lines and 1,048,576 bytes, a payload at most 16,777,216 bytes.";
 
 pub(crate) const PASS: &str =
-    "File with the passphrase, 1 to 65,536 bytes; one line feed at its end isn't part of it";
+    "File with the passphrase, 1 to 65,536 bytes; one line feed at its end isn't part of it, a carriage return is";
 
 pub(crate) const LOG: &str =
     "Work factor, 1 to 22: how hard a guess at the passphrase is, and how much memory opening takes (1 KiB times two to \
@@ -62,7 +66,8 @@ the N) [default: 18]";
 pub(crate) const RANDOM: &str =
     "Where 48 random bytes come from [default: /dev/urandom]. The same bytes must never be used for two files";
 
-pub(crate) const FILE_KEY: &str = "The file key, 32 hexadecimal digits";
+pub(crate) const FILE_KEY: &str =
+    "The file key, 32 hexadecimal digits; whoever sees the list of processes sees it";
 
 pub(crate) const SHARED: &str =
     "File with the shared secret of an X25519 stanza and then its recipient, 32 bytes each";
@@ -70,23 +75,23 @@ pub(crate) const SHARED: &str =
 pub(crate) const MAX_LOG: &str = "Greatest work factor that is accepted, 1 to 22 [default: 22]";
 
 pub(crate) const SAVE: &str =
-    "Where the position goes if the decryption stops, so that it can be resumed";
+    "Where the position goes if the decryption stops, so that it can be resumed; best on a disk that OUT can't fill";
 
 pub(crate) const POSITION: &str = "File with the position that the stopped run saved";
 
 pub(crate) const OLD: &str =
-    "What the stopped run had written; another name than IN, OUT and the file of --save";
+    "What the stopped run had written; another file than IN, OUT and that of --save";
 
 pub(crate) const PLAIN_IN: &str = "The file to encrypt";
 
-pub(crate) const FILE_OUT: &str = "The age file to write; another name than IN";
+pub(crate) const FILE_OUT: &str = "The age file to write; another file than IN";
 
 pub(crate) const FILE_IN: &str = "The age file to decrypt";
 
-pub(crate) const PLAIN_OUT: &str = "The file to write; another name than IN and the file of --save";
+pub(crate) const PLAIN_OUT: &str = "The file to write; another than IN and that of --save";
 
 pub(crate) const WHOLE_OUT: &str =
-    "The file to write; another name than IN and the files of --old and --save";
+    "The file to write; another than IN and those of --old and --save";
 
 pub(crate) const CLEAR: &str =
     "IN is a payload whose chunks, 4 bytes and 16 of a mark, are in the clear: an example";

@@ -5,8 +5,9 @@ ghost use Rattle.std.specs.Prelude.{false, None};
 use crate::files::FileSet;
 use age_file::{FileFault, Reading, Sink, Writing};
 use std::alloc::Global;
-use std::fs::File;
+use std::fs::{self, File};
 use std::io;
+use std::os::unix::fs::MetadataExt;
 use std::rt::Files;
 
 /// The machine's files, of which nothing is told.
@@ -20,6 +21,14 @@ impl<'r, R: Files> HostFiles<'r, R> {
     pub fn new(rt: &'r R) -> HostFiles<'r, R> {
         HostFiles { rt }
     }
+}
+
+/// Whether two paths lead to one regular file, as links do. Where one of them leads nowhere, they don't.
+fn lead_to_one<R: Files>(rt: &R, one: &str, other: &str) -> bool {
+    let (Ok(one), Ok(other)) = (fs::metadata(rt, one), fs::metadata(rt, other)) else {
+        return false;
+    };
+    one.is_file() && other.is_file() && one.dev() == other.dev() && one.ino() == other.ino()
 }
 
 /// A want of memory is told as such, and anything else as `other`.
@@ -39,6 +48,11 @@ impl<'r, R: Files> FileSet for HostFiles<'r, R> {
     ghost tells = { λ _. false };
 
     ghost entry = { λ _ _. None };
+
+    /// Two paths of one regular file are the same too, so that no link destroys what is read.
+    fn is_same(&self, one: &str, other: &str) -> bool {
+        one == other || lead_to_one(self.rt, one, other)
+    }
 
     fn open(&mut self, _alloc: Global, name: &str) -> Result<Reading<R::File>, FileFault> {
         match File::open(self.rt, name) {

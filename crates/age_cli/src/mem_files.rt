@@ -152,6 +152,10 @@ impl FileSet for MemFiles {
 
     ghost entry = { λ f. entry_of f.entries };
 
+    fn is_same(&self, one: &str, other: &str) -> bool {
+        one == other
+    }
+
     /// Opens a copy of a file's bytes. Refuses with `Read` (26) exactly where no file has the name.
     fn open(&mut self, alloc: Global, name: &str) -> Result<MemSource, FileFault>
         ensures kept { self.new ≡ self.old }

@@ -7,7 +7,7 @@ ghost use Rattle.age_cli.specs.Resumptions.{IsPositionIn, ResumesOut, ResumesFil
 ghost use Rattle.age_cli.specs.Endings.{is_usage};
 ghost use Rattle.age_cli.specs.Held.{SparesBut, SparesBoth};
 
-use crate::decryption::names_a_file_twice;
+use crate::decryption::{names_a_file_twice, saves_to};
 use crate::ending::{Ending, Usage};
 use crate::files::FileSet;
 use crate::front::read_up_to;
@@ -57,13 +57,13 @@ fn write_out<F: FileSet>(
     Ok(())
 }
 
-/// Whether the old text has the name of a file that has to differ from it, or two of those have one name.
-fn names_one_twice(asked: &Resuming<'_>) -> bool {
+/// Whether the old text is a file that has to differ from it, or two of those are one.
+fn names_one_twice<F: FileSet>(files: &F, asked: &Resuming<'_>) -> bool {
     let others = &asked.decrypting;
-    names_a_file_twice(others)
-        || asked.old == others.from
-        || asked.old == others.to
-        || others.save == Some(asked.old)
+    names_a_file_twice(files, others)
+        || files.is_same(asked.old, others.from)
+        || files.is_same(asked.old, others.to)
+        || saves_to(files, others, asked.old)
 }
 
 /// Goes on with a decryption as the words ask. Where it stops, its position is saved.
@@ -79,7 +79,7 @@ pub(crate) fn resume_file<F: FileSet>(
 {
     let wanted = &asked.decrypting;
     let chosen = choose(&wanted.unlocking)?;
-    if names_one_twice(asked) {
+    if names_one_twice(files, asked) {
         return Err(Ending::Usage(Usage::SameFile));
     }
     let material = read_material(alloc, files, chosen)?;
