@@ -42,6 +42,17 @@ fn sealing_rows(alloc: Global) -> bool {
     is_sealed(alloc, b"abcdefgh", EIGHT)
         && is_sealed(alloc, b"abcdefghij", TEN)
         && is_sealed(alloc, b"", NO_TEXT)
+        && two_letters_in_one_piece(alloc)
+}
+
+// At one byte a chunk.
+fn two_letters_in_one_piece(alloc: Global) -> bool {
+    match seal_all::<ClearBox, 17>(alloc, &ClearBox, b"ab") {
+        Ok(sealed) => {
+            sealed.len() == 34 && sealed.starts_with(LETTER_A) && sealed.ends_with(LETTER_B)
+        }
+        Err(_) => false,
+    }
 }
 
 fn is_sealed(alloc: Global, text: &[u8], payload: &[u8]) -> bool {

@@ -4,6 +4,8 @@ mod inspection;
 mod memory;
 mod program;
 mod resumption;
+mod shared_secret;
+mod sizes;
 
 use super::*;
 

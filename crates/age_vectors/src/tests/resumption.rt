@@ -302,6 +302,10 @@ impl<'a> FileSet for Unreadable<'a> {
 
     ghost entry = { λ _ _. None };
 
+    fn is_same(&self, one: &str, other: &str) -> bool {
+        self.files.is_same(one, other)
+    }
+
     fn open(&mut self, alloc: Global, name: &str) -> Result<MemSource, FileFault> {
         if name == self.name {
             return Ok(MemSource::new(Vec::new(alloc), 1, Some(0)));
