@@ -1,14 +1,12 @@
 -- Bytes that are told, one call after another.
-use Rattle.std.proofs.Common.{length, ◌≡◌, ℕ, ◌+◌, ◌-◌, ◌^◌, min, List, [], ◌++◌, take, drop, Option, Some, None, sym, ap, subst, ◌∙◌, append_assoc, append-nil, inl, inr, arith}
+use Rattle.std.proofs.Common.{◌≡◌, ℕ, ◌+◌, ◌-◌, ◌^◌, min, List, [], ◌++◌, take, drop, Option, Some, None, sym, ap, subst, ◌∙◌, append_assoc, append-nil, inl, inr, arith}
 use Rattle.std.proofs.lemmas.Bool.{cases_lt}
 use Rattle.std.specs.Prelude.{◌⊎◌, ◌≢◌}
-use Rattle.std.specs.List.{flat_map}
 use Rattle.std.specs.Io.KnownBytes.{Consumes, Appends, Keeps, IsAtEnd}
-use Rattle.std.proofs.lemmas.List.{take-append-drop, length-append}
+use Rattle.std.proofs.lemmas.List.{take-append-drop}
 use Rattle.age_stanza.specs.declared.fault.HeadFault.{HeadFault}
 use Rattle.age_stanza.specs.declared.fault.HeadKind.{HeadKind}
 use Rattle.age_stanza.specs.declared.fault.HeadKind.TheVariants.{NotAge, Armored, BadStanzaLine, BadBody, BadEndLine, NoStanza, HeadTooLong, HeadCut, Memory}
-use Rattle.age_stanza.specs.Grammar.{line, version, stanza_text, end_line, head_text}
 use Rattle.age_stanza.specs.Faults.{HasHeader, IsFault, memory_fault}
 use Rattle.age_stanza.proofs.AnyPieces.{more_fault}
 use Rattle.age_file.specs.Faults.{HasRisen, IsCut, IsHeadFault, IsSourcesFault, TellsFault, HeadFails, IsInHeader, fault_of, fault_by_kind}
@@ -86,15 +84,6 @@ pub piece_early : (old new : Option (List ℕ)) (held piece : List ℕ) (fault :
     → (fault ≡ memory_fault) ⊎ ((HasHeader (held ++ piece) → ⊥) × IsFault (held ++ piece) fault) → told ≢ FileMemory → IsInHeader old new
 piece_early old new held piece fault told is consumed (inl memory) not = absurd (not (is ∙ ap fault_of memory))
 piece_early old new held piece fault told is consumed (inr refused) not = (held ++ piece, consumed, refused.0)
-
--- no bytes hold no header
-pub none_in_nothing : HasHeader [] → ⊥
-none_in_nothing h =
-    let front = h.1 in
-    let text : length front ≡ length (head_text h.0) = ap length h.3.spells.bytes_are in
-    let all : 0 ≡ length (front ++ h.2) = ap length h.4 in
-    let some : length (head_text h.0) ≡ 22 + length (flat_map stanza_text h.0.stanzas ++ line (end_line h.0.mac)) = length-append (line version) (flat_map stanza_text h.0.stanzas ++ line (end_line h.0.mac)) in
-    absurd (omega (arith, text, all, some, length-append front h.2))
 
 -- a refill that gave nothing
 pub cut_pulled : (start now : Option (List ℕ)) (pulls : ℕ) (held bytes : List ℕ) → bytes ≡ [] → Pulled start now pulls (held ++ bytes) → Pulled start now pulls held

@@ -1,6 +1,6 @@
 //! Opens what a source gives, and writes each chunk once its tag was checked.
 
-ghost use Rattle.std.specs.Prelude.{◌≡◌, ◌+◌, ◌-◌, ◌*◌, ◌^◌, ◌<◌, ◌≤◌, [], length, IfOk};
+ghost use Rattle.std.specs.Prelude.{◌≡◌, ◌+◌, ◌-◌, ◌^◌, ◌<◌, ◌≤◌, length, IfOk};
 ghost use Rattle.age_stream.specs.Lent.{lent_text};
 ghost use Rattle.age_file.specs.Releases.{tally, FeedsOnce, FeedsPiece, Closes};
 ghost use Rattle.age_file.specs.Flows.{flow, HasRoom, Turns, OpensAll};

@@ -1,8 +1,6 @@
 //! Goes on with a decryption that stopped.
 
 ghost use Rattle.std.specs.Prelude.{◌≡◌, ℕ, List, ◌^◌, ◌<◌, ◌≤◌, [], replicate, IfOk, IfErr};
-ghost use Rattle.age_keys.specs.Keys.{position_key};
-ghost use Rattle.age_file.specs.Bindings.{position_tag};
 ghost use Rattle.age_file.specs.Releases.{tally};
 ghost use Rattle.age_file.specs.Passages.{side};
 ghost use Rattle.age_file.specs.Copies.{CopiesText};
@@ -12,7 +10,6 @@ ghost use Rattle.age_file.specs.Ports.{ports};
 ghost use Rattle.age_file.specs.Decrypts.{StopsOutside};
 ghost use Rattle.age_file.specs.Resumes.{VerdictOn, Resumption, ResumeDone, ResumeFails, IsUndamagedRest, resume_ports};
 ghost use Rattle.age_cipher.specs.Opening.{opening};
-ghost use Rattle.age_keys.specs.Keys.{payload_key};
 
 use crate::copy::copy_chunks;
 use crate::decryption::{Done, Stopped, position_of};

@@ -1,7 +1,7 @@
 //! Seals what a source gives, and writes each block.
 
-ghost use Rattle.std.specs.Prelude.{◌≡◌, ◌+◌, ◌-◌, ◌^◌, ◌<◌, ◌≤◌, [], length, IfOk, IfErr};
-ghost use Rattle.age_stream.specs.Sealing.{Holds, lent, lent_bytes};
+ghost use Rattle.std.specs.Prelude.{◌≡◌, ◌-◌, ◌^◌, ◌≤◌, [], length, IfOk, IfErr};
+ghost use Rattle.age_stream.specs.Sealing.{Holds};
 ghost use Rattle.age_file.specs.Ports.{ports};
 ghost use Rattle.age_file.specs.Seals.{tally, IsFeeding, HasRoom, SealsOnce, SealsPiece, SealsLast, SealsSource, SealsAll, SealsFront};
 
