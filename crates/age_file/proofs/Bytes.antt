@@ -1,7 +1,7 @@
 -- Bytes that are told, one call after another.
-use Rattle.std.proofs.Common.{◌≡◌, ℕ, ◌+◌, ◌-◌, ◌^◌, min, List, [], ◌++◌, take, drop, Option, Some, None, sym, ap, subst, ◌∙◌, append_assoc, append-nil, inl, inr, arith}
+use Rattle.std.proofs.Common.{◌≡◌, ℕ, ◌+◌, ◌-◌, ◌^◌, min, List, [], ◌++◌, take, drop, Option, Some, None, Result, Ok, Err, sym, ap, subst, ◌∙◌, append_assoc, append-nil, inl, inr, arith}
 use Rattle.std.proofs.lemmas.Bool.{cases_lt}
-use Rattle.std.specs.Prelude.{◌⊎◌, ◌≢◌}
+use Rattle.std.specs.Prelude.{◌⊎◌, ◌≢◌, MatchResult, IfErr}
 use Rattle.std.specs.Io.KnownBytes.{Consumes, Appends, Keeps, IsAtEnd}
 use Rattle.std.proofs.lemmas.List.{take-append-drop}
 use Rattle.age_stanza.specs.declared.fault.HeadFault.{HeadFault}
@@ -103,3 +103,8 @@ head_pulled start now old new held piece taken pulls is rest h =
 pub rest_pulled : (start now : Option (List ℕ)) (pulls new_pulls : ℕ) (used passed fresh : List ℕ) → new_pulls ≡ pulls → Pulled start now pulls ((used ++ passed) ++ fresh) → Pulled start now new_pulls (used ++ (passed ++ fresh))
 rest_pulled start now pulls new_pulls used passed fresh same h =
     subst (λ (k : ℕ). Pulled start now k (used ++ (passed ++ fresh))) (sym same) (subst (λ (t : List ℕ). Pulled start now pulls t) (append_assoc used passed fresh) h)
+
+-- an answer in other words, where it is known which fault comes
+pub answer_as : {T E : Type 0} {A B : T → Type 0} {C D Q : E → Type 0} (r : Result T E) → MatchResult r A C → IfErr r Q → ((x : T) → A x → B x) → ((y : E) → Q y → C y → D y) → MatchResult r B D
+answer_as (Ok x) a q f g = f x a
+answer_as (Err y) a q f g = g y q a

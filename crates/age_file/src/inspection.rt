@@ -25,15 +25,11 @@ fn count_rest<S: Source>(source: &mut S, intake: &mut Intake) -> Result<u128, Fi
 {
     let mut count = intake.bytes().len() as u128;
     intake.use_all();
-    'pulls: loop {
-        match intake.refill(source) {
-            Ok(true) => {}
-            Ok(false) => return Ok(count),
-            Err(fault) => return Err(fault),
-        }
+    'pulls: while intake.refill(source)? {
         count += intake.bytes().len() as u128;
         intake.use_all();
     }
+    Ok(count)
 }
 
 fn stanza_report_of(alloc: Global, stanza: &Stanza) -> Result<StanzaReport, AllocError>

@@ -55,10 +55,7 @@ fn copy_old<L: Source, O: Sink>(
         (tally (O.taken writer.old) (O.failed writer.old) (O.label writer.old) progress.old)
         (tally (O.taken writer.new) (O.failed writer.new) (O.label writer.new) progress.new) result }
 {
-    match copy_chunks(old_reader, intake, position.index, writer, progress) {
-        Ok(()) => {}
-        Err(fault) => return Err(fault),
-    }
+    copy_chunks(old_reader, intake, position.index, writer, progress)?;
     if progress.chain != position.chain {
         return Err(FileFault::OldTextDiffers);
     }
@@ -84,10 +81,7 @@ fn open_rest<S: Source, O: Sink>(
         (stage (tally (O.taken writer.new) (O.failed writer.new) (O.label writer.new) progress.new)
         (S.remaining reader.new) (S.failed reader.new) intake.new) result }
 {
-    match pass_over(reader, intake, index) {
-        Ok(()) => {}
-        Err(fault) => return Err(fault),
-    }
+    pass_over(reader, intake, index)?;
     pour::<PayloadKey, 65552, S, O>(key, index, reader, intake, writer, progress)
 }
 
