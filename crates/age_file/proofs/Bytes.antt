@@ -1,14 +1,12 @@
 -- Bytes that are told, one call after another.
-use Rattle.std.proofs.Common.{length, ◌≡◌, ℕ, ◌+◌, ◌-◌, ◌^◌, min, List, [], ◌++◌, take, drop, Option, Some, None, sym, ap, subst, ◌∙◌, append_assoc, append-nil, inl, inr, arith}
+use Rattle.std.proofs.Common.{◌≡◌, ℕ, ◌+◌, ◌-◌, ◌^◌, min, List, [], ◌++◌, take, drop, Option, Some, None, Result, Ok, Err, sym, ap, subst, ◌∙◌, append_assoc, append-nil, inl, inr, arith}
 use Rattle.std.proofs.lemmas.Bool.{cases_lt}
-use Rattle.std.specs.Prelude.{◌⊎◌, ◌≢◌}
-use Rattle.std.specs.List.{flat_map}
+use Rattle.std.specs.Prelude.{◌⊎◌, ◌≢◌, MatchResult, IfErr}
 use Rattle.std.specs.Io.KnownBytes.{Consumes, Appends, Keeps, IsAtEnd}
-use Rattle.std.proofs.lemmas.List.{take-append-drop, length-append}
+use Rattle.std.proofs.lemmas.List.{take-append-drop}
 use Rattle.age_stanza.specs.declared.fault.HeadFault.{HeadFault}
 use Rattle.age_stanza.specs.declared.fault.HeadKind.{HeadKind}
 use Rattle.age_stanza.specs.declared.fault.HeadKind.TheVariants.{NotAge, Armored, BadStanzaLine, BadBody, BadEndLine, NoStanza, HeadTooLong, HeadCut, Memory}
-use Rattle.age_stanza.specs.Grammar.{line, version, stanza_text, end_line, head_text}
 use Rattle.age_stanza.specs.Faults.{HasHeader, IsFault, memory_fault}
 use Rattle.age_stanza.proofs.AnyPieces.{more_fault}
 use Rattle.age_file.specs.Faults.{HasRisen, IsCut, IsHeadFault, IsSourcesFault, TellsFault, HeadFails, IsInHeader, fault_of, fault_by_kind}
@@ -87,15 +85,6 @@ pub piece_early : (old new : Option (List ℕ)) (held piece : List ℕ) (fault :
 piece_early old new held piece fault told is consumed (inl memory) not = absurd (not (is ∙ ap fault_of memory))
 piece_early old new held piece fault told is consumed (inr refused) not = (held ++ piece, consumed, refused.0)
 
--- no bytes hold no header
-pub none_in_nothing : HasHeader [] → ⊥
-none_in_nothing h =
-    let front = h.1 in
-    let text : length front ≡ length (head_text h.0) = ap length h.3.spells.bytes_are in
-    let all : 0 ≡ length (front ++ h.2) = ap length h.4 in
-    let some : length (head_text h.0) ≡ 22 + length (flat_map stanza_text h.0.stanzas ++ line (end_line h.0.mac)) = length-append (line version) (flat_map stanza_text h.0.stanzas ++ line (end_line h.0.mac)) in
-    absurd (omega (arith, text, all, some, length-append front h.2))
-
 -- a refill that gave nothing
 pub cut_pulled : (start now : Option (List ℕ)) (pulls : ℕ) (held bytes : List ℕ) → bytes ≡ [] → Pulled start now pulls (held ++ bytes) → Pulled start now pulls held
 cut_pulled start now pulls held bytes none h = subst (λ (t : List ℕ). Pulled start now pulls t) (ap (λ (t : List ℕ). held ++ t) none ∙ append-nil held) h
@@ -114,3 +103,8 @@ head_pulled start now old new held piece taken pulls is rest h =
 pub rest_pulled : (start now : Option (List ℕ)) (pulls new_pulls : ℕ) (used passed fresh : List ℕ) → new_pulls ≡ pulls → Pulled start now pulls ((used ++ passed) ++ fresh) → Pulled start now new_pulls (used ++ (passed ++ fresh))
 rest_pulled start now pulls new_pulls used passed fresh same h =
     subst (λ (k : ℕ). Pulled start now k (used ++ (passed ++ fresh))) (sym same) (subst (λ (t : List ℕ). Pulled start now pulls t) (append_assoc used passed fresh) h)
+
+-- an answer in other words, where it is known which fault comes
+pub answer_as : {T E : Type 0} {A B : T → Type 0} {C D Q : E → Type 0} (r : Result T E) → MatchResult r A C → IfErr r Q → ((x : T) → A x → B x) → ((y : E) → Q y → C y → D y) → MatchResult r B D
+answer_as (Ok x) a q f g = f x a
+answer_as (Err y) a q f g = g y q a

@@ -11,9 +11,9 @@ use Rattle.age_file.specs.Faults.{HasRisen}
 use Rattle.age_file.specs.Bindings.{link, chain}
 use Rattle.age_file.specs.Releases.{Tally}
 use Rattle.age_file.specs.Passages.{Side, Passes, Dries}
-use Rattle.age_file.specs.Copies.{CopyFails, CopiesChunk, CopiesAll, CopiesText, TextFails}
+use Rattle.age_file.specs.Copies.{CopyFails, CopiesChunk, CopiesAll}
 use Rattle.age_file.specs.declared.fault.FileFault.{FileFault}
-use Rattle.age_file.specs.declared.fault.FileFault.TheVariants.{ShortText, Read, Write, ReadNeverEnds, OldTextDiffers}
+use Rattle.age_file.specs.declared.fault.FileFault.TheVariants.{ShortText, Read, Write, ReadNeverEnds}
 use Rattle.age_file.proofs.Bytes.{Appends-then}
 use Rattle.age_file.proofs.MarkSteps.{chain_on}
 use Rattle.age_file.proofs.PassageSteps.{passes_then, dries_then}
@@ -77,11 +77,3 @@ all_out piece out cut parts none = sym (parts ∙ ap (λ (xs : List ℕ). out ++
 pub no_chain : replicate 32 0 ≡ chain []
 unfolding chain
 no_chain = refl
-
--- a copy that failed, of an old text
-pub text_fails : (n chunks : ℕ) (links : List ℕ) (x z : Side) (a c : Tally) (fault : FileFault) → CopiesAll n chunks x z a c (Err fault) → CopiesText n chunks links x z a c (Err fault)
-text_fails n chunks links x z a c fault g = record { out = g.out; wrote = g.wrote; named = g.named; count = g.count; answered = as_text fault g.answered }
-  where
-    as_text : (f : FileFault) → (length g.out < chunks * n) × CopyFails x z a c g.out f → TextFails n chunks links x z a c g.out f
-    as_text OldTextDiffers h = absurd h.1
-    as_text other h = h

@@ -3,6 +3,7 @@ use Rattle.std.proofs.Common.{◌≡◌, ℕ, ◌+◌, ◌-◌, ◌≤◌, ◌<�
 use Rattle.std.proofs.lemmas.List.{length-append, take-append-drop, take_rest, length-drop, drop-drop, get_or-drop}
 use Rattle.std.proofs.Math.Seq.{drop-append_seam, take-append_seam}
 use Rattle.std.specs.Prelude.{IfSome}
+use Rattle.std.specs.Result.{result_ok}
 use Rattle.std.specs.Cmp.Lexicographic.{pointwise, same_text}
 use Rattle.std.proofs.lemmas.Bool.{and_from, eq-eqb}
 use Rattle.std.specs.Fmt.{decimal}
@@ -32,6 +33,21 @@ back_is a b x n size e = rw (e, ← size) (drop-append_seam a b)
 -- the digits of an index are text
 pub decimal_reads : (index : ℕ) (digits : List ℕ) → index < 281474976710656 → digits ≡ decimal index → IsUtf8 digits
 decimal_reads index digits lt e = rw e (IsUtf8-from_ascii (decimal index) (IsAscii-decimal index (omega arith)))
+
+some_or_none : {T A : Type 0} (x : T) → Some x ≡ None → A
+some_or_none x e = absurd cc
+
+same_ok : {T E : Type 0} (r : Result T E) (y x : T) → r ≡ Ok y → Some y ≡ Some x → r ≡ Ok x
+same_ok r y x is e = cc
+
+-- what a result was, by what `ok` made of it
+pub was_err : {T E : Type 0} (r : Result T E) (o : Option T) → o ≡ result_ok r → o ≡ None → (error : E) × (r ≡ Err error)
+was_err (Ok x) o is none = some_or_none x (sym is ∙ none)
+was_err (Err error) o is none = (error, refl)
+
+pub was_ok : {T E : Type 0} (r : Result T E) (o : Option T) (x : T) → o ≡ result_ok r → o ≡ Some x → r ≡ Ok x
+was_ok (Ok y) o x is some = same_ok (Ok y) y x refl (sym is ∙ some)
+was_ok (Err error) o x is some = some_or_none x (sym some ∙ is)
 
 one_value : {E : Type 0} (r : Result ℕ E) (m n : ℕ) → r ≡ Ok m → r ≡ Ok n → m ≡ n
 one_value r m n a b = cc

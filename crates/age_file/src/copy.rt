@@ -8,7 +8,7 @@ ghost use Rattle.age_file.specs.Copies.{CopiesChunk, CopiesAll};
 use crate::fault::FileFault;
 use crate::intake::Intake;
 use crate::progress::Progress;
-use crate::put::put_all;
+use crate::put::write_all;
 use crate::sink::Sink;
 use crate::source::Source;
 use crate::start::some_bytes;
@@ -35,16 +35,12 @@ fn copy_chunk<S: Source, O: Sink>(
     digest.update(&progress.chain);
     let mut left = CHUNK;
     'parts: while left > 0 {
-        match some_bytes(source, intake) {
-            Ok(true) => {}
-            Ok(false) => return Err(FileFault::ShortText),
-            Err(fault) => return Err(fault),
+        if !some_bytes(source, intake)? {
+            return Err(FileFault::ShortText);
         }
         let n = left.min(intake.bytes().len());
         let piece = &intake.bytes()[..n];
-        let Ok(()) = put_all(sink, piece, &mut progress.written) else {
-            return Err(FileFault::Write);
-        };
+        write_all(sink, piece, &mut progress.written)?;
         digest.update(piece);
         intake.use_front(n);
         left -= n;
@@ -69,10 +65,7 @@ pub(crate) fn copy_chunks<S: Source, O: Sink>(
         (tally (O.taken sink.new) (O.failed sink.new) (O.label sink.new) progress.new) result }
 {
     for _copied in 0..chunks {
-        match copy_chunk(source, intake, sink, progress) {
-            Ok(()) => {}
-            Err(fault) => return Err(fault),
-        }
+        copy_chunk(source, intake, sink, progress)?;
     }
     Ok(())
 }

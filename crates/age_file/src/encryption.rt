@@ -7,7 +7,7 @@ ghost use Rattle.age_file.specs.declared.fault.FileFault.TheVariants.{Memory};
 
 use crate::fault::FileFault;
 use crate::intake::Intake;
-use crate::put::put_all;
+use crate::put::write_all;
 use crate::sealing::seal_all;
 use crate::secret::Secret;
 use crate::sink::Sink;
@@ -61,11 +61,7 @@ pub fn encrypt<S: Source, O: Sink>(
     let mut intake = Intake::new(alloc)?;
     let key = payload_key(&FileKey::new(secret.file_key), &secret.payload_nonce);
     let mut file = 0;
-    let Ok(()) = put_all(writer, front.as_slice(), &mut file) else {
-        return Err(FileFault::Write);
-    };
-    match seal_all::<PayloadKey, 65552, S, O>(&key, reader, &mut intake, writer, &mut file) {
-        Ok(plain) => Ok(Written { plain, file }),
-        Err(fault) => Err(fault),
-    }
+    write_all(writer, front.as_slice(), &mut file)?;
+    let plain = seal_all::<PayloadKey, 65552, S, O>(&key, reader, &mut intake, writer, &mut file)?;
+    Ok(Written { plain, file })
 }

@@ -1,7 +1,7 @@
 //! Why a file could not be read or written.
 
 ghost use Rattle.std.specs.Prelude.{◌≡◌};
-ghost use Rattle.age_file.specs.declared.fault.FileFault.TheVariants.{Memory as MemoryFault};
+ghost use Rattle.age_file.specs.declared.fault.FileFault.TheVariants.{Stream, Memory as MemoryFault};
 ghost use Rattle.age_file.specs.Faults.{number_of, place_of, name_of, head_name_of, key_name_of, stream_name_of, fault_of, fault_of_key};
 
 use crate::failed::Memory;
@@ -98,6 +98,14 @@ impl From<KeyFault> for FileFault {
             KeyFault::Memory => FileFault::Memory,
             other => FileFault::Key(other),
         }
+    }
+}
+
+impl From<StreamFault> for FileFault {
+    ghost from_gives = { λ fault e. e ≡ Stream fault };
+
+    fn from(fault: StreamFault) -> FileFault {
+        FileFault::Stream(fault)
     }
 }
 

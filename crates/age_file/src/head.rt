@@ -32,23 +32,18 @@ pub(crate) fn read_head<S: Source>(
 {
     let mut parser = HeadParser::new(alloc);
     let mut len = 0;
-    'pieces: loop {
-        match intake.refill(source) {
-            Ok(true) => {}
-            Ok(false) => return Err(FileFault::from(parser.end())),
-            Err(fault) => return Err(fault),
-        }
-        match parser.feed(intake.bytes()) {
-            Ok(HeadStep::More) => {
+    'pieces: while intake.refill(source)? {
+        match parser.feed(intake.bytes())? {
+            HeadStep::More => {
                 len += intake.bytes().len() as u64;
                 intake.use_all();
             }
-            Ok(HeadStep::Ready { taken, header }) => {
+            HeadStep::Ready { taken, header } => {
                 len += taken as u64;
                 intake.use_front(taken);
                 return Ok(Head { header, len });
             }
-            Err(fault) => return Err(FileFault::from(fault)),
         }
     }
+    Err(FileFault::from(parser.end()))
 }

@@ -1,6 +1,6 @@
 //! Reads a file to its end, and tells what it holds.
 
-ghost use Rattle.std.specs.Prelude.{◌≡◌, ◌+◌, ◌^◌, ◌<◌, ◌≤◌, ◌*◌, length, IfOk, IfErr, OnOk, map};
+ghost use Rattle.std.specs.Prelude.{◌≡◌, ◌+◌, ◌^◌, ◌<◌, ◌≤◌, ◌*◌, IfOk, IfErr, OnOk, map};
 ghost use Rattle.std.specs.Io.KnownBytes.{IsAtEnd};
 ghost use Rattle.age_file.specs.Faults.{HeadFails};
 ghost use Rattle.age_file.specs.Intakes.{CountsRest, RestFails};
@@ -25,15 +25,11 @@ fn count_rest<S: Source>(source: &mut S, intake: &mut Intake) -> Result<u128, Fi
 {
     let mut count = intake.bytes().len() as u128;
     intake.use_all();
-    'pulls: loop {
-        match intake.refill(source) {
-            Ok(true) => {}
-            Ok(false) => return Ok(count),
-            Err(fault) => return Err(fault),
-        }
+    'pulls: while intake.refill(source)? {
         count += intake.bytes().len() as u128;
         intake.use_all();
     }
+    Ok(count)
 }
 
 fn stanza_report_of(alloc: Global, stanza: &Stanza) -> Result<StanzaReport, AllocError>

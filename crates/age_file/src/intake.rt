@@ -1,7 +1,8 @@
 //! The bytes that were pulled from a source and not used yet.
 
-ghost use Rattle.std.specs.Prelude.{◌≡◌, ◌≤◌, [], length, drop, IfOk};
+ghost use Rattle.std.specs.Prelude.{◌≡◌, ◌≤◌, ◌^◌, [], length, drop, IfOk, take};
 ghost use Rattle.age_file.specs.Intakes.{Refills};
+ghost use Rattle.age_file.specs.Unread.{Unread};
 
 use crate::fault::FileFault;
 use crate::source::Source;
@@ -24,9 +25,6 @@ pub(crate) struct Intake {
 }
 
 impl Model for Intake {
-    ghost use Rattle.std.specs.Prelude.{◌^◌, ◌≤◌, ◌≡◌, length, take, drop};
-    ghost use Rattle.age_file.specs.Unread.{Unread};
-
     ghost Value = { Unread };
 
     ghost view = { λ i. record { bytes = drop i.from (take i.to i.buffer.items); pulls = i.pulls } };

@@ -40,7 +40,7 @@ pub use laws::runs_in_a_row;
 pub use mem_sink::MemSink;
 pub use mem_source::MemSource;
 pub use position::Position;
-pub use put::put_all;
+pub use put::{flush_all, put_all, write_all};
 pub use report::{Report, StanzaReport, StanzaReports};
 pub use resumption::resume;
 pub use secret::Secret;

@@ -1,8 +1,8 @@
 //! A sink over memory, with a limit and a plan of failures.
 
-ghost use Rattle.std.specs.Prelude.{◌≡◌, ◌<◌, ◌≤◌, [], Some, length, IfOk, MatchResult};
+ghost use Rattle.std.specs.Prelude.{◌≡◌, ◌<◌, ◌≤◌, [], Some, length, IfOk, MatchResult, vec_capacity};
 ghost use Rattle.std.specs.Io.KnownBytes.{WriteAppends, Keeps};
-ghost use Rattle.age_file.specs.Memory.{one_more, Puts, Flushes};
+ghost use Rattle.age_file.specs.Memory.{one_more, Puts, Flushes, Holding};
 
 use crate::failed::{Failed, Memory};
 use crate::sink::Sink;
@@ -22,9 +22,6 @@ pub struct MemSink {
 }
 
 impl Model for MemSink {
-    ghost use Rattle.std.specs.Prelude.{◌<◌, ◌≤◌, length, vec_capacity};
-    ghost use Rattle.age_file.specs.Memory.{Holding};
-
     ghost Value = { Holding };
 
     ghost view = { λ s. record { held = s.held.items; room = s.room; step = s.step; fail_call = s.fail_call; calls = s.calls; failures = s.failed } };

@@ -1,8 +1,8 @@
 //! A source over memory, with a plan of failures.
 
-ghost use Rattle.std.specs.Prelude.{◌≡◌, ◌<◌, ◌≤◌, Some, length, take, IfOk, MatchResult};
+ghost use Rattle.std.specs.Prelude.{◌≡◌, ◌<◌, ◌≤◌, Some, length, take, IfOk, MatchResult, drop};
 ghost use Rattle.std.specs.Io.KnownBytes.{ReadConsumes};
-ghost use Rattle.age_file.specs.Memory.{one_more, Pulls};
+ghost use Rattle.age_file.specs.Memory.{one_more, Pulls, Feeding};
 
 use crate::failed::Failed;
 use crate::source::Source;
@@ -21,9 +21,6 @@ pub struct MemSource {
 }
 
 impl Model for MemSource {
-    ghost use Rattle.std.specs.Prelude.{◌<◌, ◌≤◌, drop, length};
-    ghost use Rattle.age_file.specs.Memory.{Feeding};
-
     ghost Value = { Feeding };
 
     ghost view = { λ s. record { left = drop s.at s.bytes.items; step = s.step; fail_call = s.fail_call; calls = s.calls; failures = s.failed } };

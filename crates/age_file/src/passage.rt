@@ -18,10 +18,8 @@ fn pass_block<S: Source>(source: &mut S, intake: &mut Intake) -> Result<bool, Fi
 {
     let mut left = BLOCK;
     'parts: while left > 0 {
-        match some_bytes(source, intake) {
-            Ok(true) => {}
-            Ok(false) => return Ok(false),
-            Err(fault) => return Err(fault),
+        if !some_bytes(source, intake)? {
+            return Ok(false);
         }
         let n = left.min(intake.bytes().len());
         intake.use_front(n);
@@ -40,15 +38,11 @@ pub(crate) fn pass_over<S: Source>(
         (side (S.remaining source.new) (S.failed source.new) intake.new) result }
 {
     for block in 0..blocks {
-        match pass_block(source, intake) {
-            Ok(true) => {}
-            Ok(false) => {
-                return Err(FileFault::Stream(StreamFault {
-                    kind: StreamKind::Truncated,
-                    chunk: block,
-                }));
-            }
-            Err(fault) => return Err(fault),
+        if !pass_block(source, intake)? {
+            return Err(FileFault::Stream(StreamFault {
+                kind: StreamKind::Truncated,
+                chunk: block,
+            }));
         }
     }
     Ok(())

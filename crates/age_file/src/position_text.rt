@@ -43,12 +43,8 @@ fn number_of(digits: &[u8]) -> Option<u64>
     ensures some { IfSome result (λ index. digits.now ≡ decimal index) }
     ensures none { IfNone result ((index : ℕ) → index < 281474976710656 → digits.now ≢ decimal index) }
 {
-    let Ok(text) = from_utf8(digits) else {
-        return None;
-    };
-    let Ok(index) = text.parse::<u64>() else {
-        return None;
-    };
+    let text = from_utf8(digits).ok()?;
+    let index = text.parse::<u64>().ok()?;
     let mut buffer = Buffer::new();
     if index < INDEXES && buffer.format(index).as_bytes() == digits {
         Some(index)
@@ -101,20 +97,11 @@ fn position_of(index: u64, fields: &[u8]) -> Option<Position>
     if fields[132] != b'\n' {
         return None;
     }
-    let Some(file_id) = digest_of(&fields[..44]) else {
-        return None;
-    };
-    let Some(chain) = digest_of(&fields[44..88]) else {
-        return None;
-    };
-    let Some(tag) = digest_of(&fields[88..132]) else {
-        return None;
-    };
     Some(Position {
         index,
-        file_id,
-        chain,
-        tag,
+        file_id: digest_of(&fields[..44])?,
+        chain: digest_of(&fields[44..88])?,
+        tag: digest_of(&fields[88..132])?,
     })
 }
 

@@ -1,6 +1,6 @@
 //! Opens what a source gives, and writes each chunk once its tag was checked.
 
-ghost use Rattle.std.specs.Prelude.{◌≡◌, ◌+◌, ◌-◌, ◌*◌, ◌^◌, ◌<◌, ◌≤◌, [], length, IfOk};
+ghost use Rattle.std.specs.Prelude.{◌≡◌, ◌+◌, ◌-◌, ◌^◌, ◌<◌, ◌≤◌, length, IfOk};
 ghost use Rattle.age_stream.specs.Lent.{lent_text};
 ghost use Rattle.age_file.specs.Releases.{tally, FeedsOnce, FeedsPiece, Closes};
 ghost use Rattle.age_file.specs.Flows.{flow, HasRoom, Turns, OpensAll};
@@ -10,7 +10,7 @@ use crate::fault::FileFault;
 use crate::intake::Intake;
 use crate::position::next_link;
 use crate::progress::Progress;
-use crate::put::put_all;
+use crate::put::{flush_all, write_all};
 use crate::sink::Sink;
 use crate::source::Source;
 use age_stream::{ChunkBox, Opener};
@@ -38,16 +38,11 @@ fn feed_once<B: ChunkBox, const SEALED: usize, O: Sink>(
         (tally (O.taken sink.new) (O.failed sink.new) (O.label sink.new) progress.new) piece.now result }
     ensures some { IfOk result (λ n. 0 < length piece.now → 0 < n) }
 {
-    let (taken, link) = match opener.feed(piece) {
-        Err(fault) => return Err(FileFault::Stream(fault)),
-        Ok(step) => {
-            let chunk = lent_bytes(step.chunk);
-            let Ok(()) = put_all(sink, chunk, &mut progress.written) else {
-                return Err(FileFault::Write);
-            };
-            (step.taken, next_link(&progress.chain, chunk))
-        }
-    };
+    let step = opener.feed(piece)?;
+    let taken = step.taken;
+    let chunk = lent_bytes(step.chunk);
+    write_all(sink, chunk, &mut progress.written)?;
+    let link = next_link(&progress.chain, chunk);
     progress.advance(opener.index(), link);
     Ok(taken)
 }
@@ -66,10 +61,7 @@ fn feed_piece<B: ChunkBox, const SEALED: usize, O: Sink>(
 {
     let mut at = 0;
     while at < piece.len() {
-        match feed_once(opener, &piece[at..], sink, progress) {
-            Ok(n) => at += n,
-            Err(fault) => return Err(fault),
-        }
+        at += feed_once(opener, &piece[at..], sink, progress)?;
     }
     Ok(())
 }
@@ -90,10 +82,7 @@ fn turn<B: ChunkBox, const SEALED: usize, S: Source, O: Sink>(
         (flow opener.new (tally (O.taken sink.new) (O.failed sink.new) (O.label sink.new) progress.new)
         (S.remaining source.new) (S.failed source.new) intake.new) result }
 {
-    match feed_piece(opener, intake.bytes(), sink, progress) {
-        Ok(()) => {}
-        Err(fault) => return Err(fault),
-    }
+    feed_piece(opener, intake.bytes(), sink, progress)?;
     intake.use_all();
     intake.refill(source)
 }
@@ -114,13 +103,8 @@ fn open_all<B: ChunkBox, const SEALED: usize, S: Source, O: Sink>(
         (flow opener.new (tally (O.taken sink.new) (O.failed sink.new) (O.label sink.new) progress.new)
         (S.remaining source.new) (S.failed source.new) intake.new) result }
 {
-    'turns: loop {
-        match turn(opener, source, intake, sink, progress) {
-            Ok(true) => {}
-            Ok(false) => return Ok(()),
-            Err(fault) => return Err(fault),
-        }
-    }
+    'turns: while turn(opener, source, intake, sink, progress)? {}
+    Ok(())
 }
 
 /// Ends the opener, and writes the chunk that comes out.
@@ -134,15 +118,8 @@ fn close<B: ChunkBox, const SEALED: usize, O: Sink>(
         (tally (O.taken sink.old) (O.failed sink.old) (O.label sink.old) progress.old)
         (tally (O.taken sink.new) (O.failed sink.new) (O.label sink.new) progress.new) result }
 {
-    match opener.end() {
-        Err(fault) => Err(FileFault::Stream(fault)),
-        Ok(text) => {
-            let Ok(()) = put_all(sink, text, &mut progress.written) else {
-                return Err(FileFault::Write);
-            };
-            Ok(())
-        }
-    }
+    let text = opener.end()?;
+    write_all(sink, text, &mut progress.written)
 }
 
 /// The same, and then flushes.
@@ -156,14 +133,8 @@ fn finish<B: ChunkBox, const SEALED: usize, O: Sink>(
         (tally (O.taken sink.old) (O.failed sink.old) (O.label sink.old) progress.old)
         (tally (O.taken sink.new) (O.failed sink.new) (O.label sink.new) progress.new) result }
 {
-    match close(opener, sink, progress) {
-        Ok(()) => {}
-        Err(fault) => return Err(fault),
-    }
-    let Ok(()) = sink.flush() else {
-        return Err(FileFault::Write);
-    };
-    Ok(())
+    close(opener, sink, progress)?;
+    flush_all(sink)
 }
 
 /// Opens what a source gives from a chunk on, up to its end, and writes each chunk once its tag was checked.
@@ -187,9 +158,6 @@ pub(crate) fn pour<B: ChunkBox, const SEALED: usize, S: Source, O: Sink>(
         (S.remaining source.new) (S.failed source.new) intake.new) result }
 {
     let mut opener = Opener::<B, SEALED>::at(key, index);
-    match open_all(&mut opener, source, intake, sink, progress) {
-        Ok(()) => {}
-        Err(fault) => return Err(fault),
-    }
+    open_all(&mut opener, source, intake, sink, progress)?;
     finish(&mut opener, sink, progress)
 }

@@ -1,9 +1,13 @@
-//! Writes all of some bytes, and counts them.
+//! Writes all of some bytes, and counts them; flushes.
 
-ghost use Rattle.std.specs.Prelude.{◌≡◌, ◌+◌, ◌^◌, ◌<◌, length};
+ghost use Rattle.std.specs.Prelude.{◌≡◌, ◌+◌, ◌^◌, ◌<◌, length, IfErr, MatchResult};
+ghost use Rattle.std.specs.Io.KnownBytes.{Keeps};
+ghost use Rattle.age_file.specs.Memory.{one_more};
 ghost use Rattle.age_file.specs.Writes.{Writes};
+ghost use Rattle.age_file.specs.declared.fault.FileFault.TheVariants.{Write};
 
 use crate::failed::Failed;
+use crate::fault::FileFault;
 use crate::sink::Sink;
 
 /// Writes all of some bytes, and adds to `written` as many as the sink took. Where it fails, those that it took before
@@ -22,4 +26,26 @@ pub fn put_all<O: Sink>(sink: &mut O, bytes: &[u8], written: &mut u128) -> Resul
         *written += n as u128;
     }
     Ok(())
+}
+
+/// Writes all of some bytes, and counts them in the same way. It refuses with `Write` (27) alone.
+pub fn write_all<O: Sink>(sink: &mut O, bytes: &[u8], written: &mut u128) -> Result<(), FileFault>
+    requires { written.old + length bytes.now < 2 ^ 128 }
+    ensures writes { Writes (O.taken sink.old) (O.taken sink.new) (O.failed sink.old)
+        (O.failed sink.new) written.old written.new bytes.now result }
+    ensures fault { IfErr result (λ fault. fault ≡ Write) }
+    ensures named { O.label sink.new ≡ O.label sink.old }
+{
+    put_all(sink, bytes, written).map_err(|_| FileFault::Write)
+}
+
+/// Sends on what a sink took. It refuses with `Write` (27) alone.
+pub fn flush_all<O: Sink>(sink: &mut O) -> Result<(), FileFault>
+    ensures bytes { Keeps (O.taken sink.old) (O.taken sink.new) }
+    ensures named { O.label sink.new ≡ O.label sink.old }
+    ensures fault { IfErr result (λ fault. fault ≡ Write) }
+    ensures counted { MatchResult result (λ _. O.failed sink.new ≡ O.failed sink.old)
+        (λ _. O.failed sink.new ≡ one_more (O.failed sink.old)) }
+{
+    sink.flush().map_err(|_| FileFault::Write)
 }

@@ -1,6 +1,7 @@
 //! What is told of a file.
 
-ghost use Rattle.std.specs.Prelude.{◌≡◌, ◌++◌, ◌∷◌, [], OnOk, OnErr};
+ghost use Rattle.std.specs.Prelude.{◌≡◌, ◌++◌, ◌∷◌, [], OnOk, OnErr, List};
+ghost use Rattle.age_file.specs.declared.report.StanzaReport.{StanzaReport};
 
 use age_stanza::Bytes;
 use std::alloc::{AllocError, Global};
@@ -24,9 +25,6 @@ pub struct StanzaReports {
 }
 
 impl Model for StanzaReports {
-    ghost use Rattle.std.specs.Prelude.{List};
-    ghost use Rattle.age_file.specs.declared.report.StanzaReport.{StanzaReport};
-
     ghost Value = { List StanzaReport };
 
     ghost view = { λ b. b.items.items };

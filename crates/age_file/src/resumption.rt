@@ -1,8 +1,6 @@
 //! Goes on with a decryption that stopped.
 
 ghost use Rattle.std.specs.Prelude.{◌≡◌, ℕ, List, ◌^◌, ◌<◌, ◌≤◌, [], replicate, IfOk, IfErr};
-ghost use Rattle.age_keys.specs.Keys.{position_key};
-ghost use Rattle.age_file.specs.Bindings.{position_tag};
 ghost use Rattle.age_file.specs.Releases.{tally};
 ghost use Rattle.age_file.specs.Passages.{side};
 ghost use Rattle.age_file.specs.Copies.{CopiesText};
@@ -12,7 +10,6 @@ ghost use Rattle.age_file.specs.Ports.{ports};
 ghost use Rattle.age_file.specs.Decrypts.{StopsOutside};
 ghost use Rattle.age_file.specs.Resumes.{VerdictOn, Resumption, ResumeDone, ResumeFails, IsUndamagedRest, resume_ports};
 ghost use Rattle.age_cipher.specs.Opening.{opening};
-ghost use Rattle.age_keys.specs.Keys.{payload_key};
 
 use crate::copy::copy_chunks;
 use crate::decryption::{Done, Stopped, position_of};
@@ -58,10 +55,7 @@ fn copy_old<L: Source, O: Sink>(
         (tally (O.taken writer.old) (O.failed writer.old) (O.label writer.old) progress.old)
         (tally (O.taken writer.new) (O.failed writer.new) (O.label writer.new) progress.new) result }
 {
-    match copy_chunks(old_reader, intake, position.index, writer, progress) {
-        Ok(()) => {}
-        Err(fault) => return Err(fault),
-    }
+    copy_chunks(old_reader, intake, position.index, writer, progress)?;
     if progress.chain != position.chain {
         return Err(FileFault::OldTextDiffers);
     }
@@ -87,10 +81,7 @@ fn open_rest<S: Source, O: Sink>(
         (stage (tally (O.taken writer.new) (O.failed writer.new) (O.label writer.new) progress.new)
         (S.remaining reader.new) (S.failed reader.new) intake.new) result }
 {
-    match pass_over(reader, intake, index) {
-        Ok(()) => {}
-        Err(fault) => return Err(fault),
-    }
+    pass_over(reader, intake, index)?;
     pour::<PayloadKey, 65552, S, O>(key, index, reader, intake, writer, progress)
 }
 

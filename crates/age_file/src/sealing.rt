@@ -1,13 +1,13 @@
 //! Seals what a source gives, and writes each block.
 
-ghost use Rattle.std.specs.Prelude.{◌≡◌, ◌+◌, ◌-◌, ◌^◌, ◌<◌, ◌≤◌, [], length, IfOk, IfErr};
-ghost use Rattle.age_stream.specs.Sealing.{Holds, lent, lent_bytes};
+ghost use Rattle.std.specs.Prelude.{◌≡◌, ◌-◌, ◌^◌, ◌≤◌, [], length, IfOk, IfErr};
+ghost use Rattle.age_stream.specs.Sealing.{Holds};
 ghost use Rattle.age_file.specs.Ports.{ports};
 ghost use Rattle.age_file.specs.Seals.{tally, IsFeeding, HasRoom, SealsOnce, SealsPiece, SealsLast, SealsSource, SealsAll, SealsFront};
 
 use crate::fault::FileFault;
 use crate::intake::Intake;
-use crate::put::put_all;
+use crate::put::{flush_all, write_all};
 use crate::sink::Sink;
 use crate::source::Source;
 use age_stream::{ChunkBox, Sealer};
@@ -26,18 +26,12 @@ fn seal_once<B: ChunkBox, const SEALED: usize, O: Sink>(
         (tally (O.taken sink.new) (O.failed sink.new) written.new) piece.now result }
     ensures named { O.label sink.new ≡ O.label sink.old }
 {
-    match sealer.feed(piece) {
-        Err(fault) => Err(FileFault::Stream(fault)),
-        Ok(step) => {
-            let taken = step.taken;
-            if let Some(block) = step.chunk {
-                let Ok(()) = put_all(sink, block, written) else {
-                    return Err(FileFault::Write);
-                };
-            }
-            Ok(taken)
-        }
+    let step = sealer.feed(piece)?;
+    let taken = step.taken;
+    if let Some(block) = step.chunk {
+        write_all(sink, block, written)?;
     }
+    Ok(taken)
 }
 
 /// Feeds a whole piece, and writes the blocks that come out.
@@ -57,10 +51,7 @@ fn seal_piece<B: ChunkBox, const SEALED: usize, O: Sink>(
 {
     let mut at = 0;
     while at < piece.len() {
-        match seal_once(sealer, &piece[at..], sink, written) {
-            Ok(n) => at += n,
-            Err(fault) => return Err(fault),
-        }
+        at += seal_once(sealer, &piece[at..], sink, written)?;
     }
     Ok(())
 }
@@ -77,15 +68,8 @@ fn seal_last<B: ChunkBox, const SEALED: usize, O: Sink>(
         (tally (O.taken sink.new) (O.failed sink.new) written.new) result }
     ensures named { O.label sink.new ≡ O.label sink.old }
 {
-    match sealer.finish() {
-        Err(fault) => Err(FileFault::Stream(fault)),
-        Ok(block) => {
-            let Ok(()) = put_all(sink, block, written) else {
-                return Err(FileFault::Write);
-            };
-            Ok(())
-        }
-    }
+    let block = sealer.finish()?;
+    write_all(sink, block, written)
 }
 
 /// The same, and then flushes.
@@ -100,14 +84,8 @@ fn finish<B: ChunkBox, const SEALED: usize, O: Sink>(
         (tally (O.taken sink.new) (O.failed sink.new) written.new) result }
     ensures named { O.label sink.new ≡ O.label sink.old }
 {
-    match seal_last(sealer, sink, written) {
-        Ok(()) => {}
-        Err(fault) => return Err(fault),
-    }
-    let Ok(()) = sink.flush() else {
-        return Err(FileFault::Write);
-    };
-    Ok(())
+    seal_last(sealer, sink, written)?;
+    flush_all(sink)
 }
 
 /// Seals what a source gives, up to its end but for the last chunk, and answers how many bytes it gave.
@@ -132,19 +110,12 @@ fn seal_source<B: ChunkBox, const SEALED: usize, S: Source, O: Sink>(
     ensures named { O.label sink.new ≡ O.label sink.old }
 {
     let mut plain = 0;
-    'pulls: loop {
-        match intake.refill(source) {
-            Ok(true) => {}
-            Ok(false) => return Ok(plain),
-            Err(fault) => return Err(fault),
-        }
-        match seal_piece(sealer, intake.bytes(), sink, written) {
-            Ok(()) => {}
-            Err(fault) => return Err(fault),
-        }
+    'pulls: while intake.refill(source)? {
+        seal_piece(sealer, intake.bytes(), sink, written)?;
         plain += intake.bytes().len() as u128;
         intake.use_all();
     }
+    Ok(plain)
 }
 
 /// Writes the payload of what a source gives, up to its end, flushes, and answers how many bytes the source gave.
@@ -168,12 +139,7 @@ pub(crate) fn seal_all<B: ChunkBox, const SEALED: usize, S: Source, O: Sink>(
     ensures named { O.label sink.new ≡ O.label sink.old }
 {
     let mut sealer = Sealer::<B, SEALED>::new(key);
-    let plain = match seal_source(&mut sealer, source, intake, sink, written) {
-        Ok(plain) => plain,
-        Err(fault) => return Err(fault),
-    };
-    match finish(&mut sealer, sink, written) {
-        Ok(()) => Ok(plain),
-        Err(fault) => Err(fault),
-    }
+    let plain = seal_source(&mut sealer, source, intake, sink, written)?;
+    finish(&mut sealer, sink, written)?;
+    Ok(plain)
 }

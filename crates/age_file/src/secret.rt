@@ -1,7 +1,7 @@
 //! What an age file for a passphrase is made of.
 
 ghost use Rattle.std.specs.Option.{SomeIff};
-ghost use Rattle.age_file.specs.Secrets.{IsWithinLimits};
+ghost use Rattle.age_file.specs.Secrets.{SecretView, IsWithinLimits};
 
 use std::marker::Model;
 
@@ -17,8 +17,6 @@ pub struct Secret<'a> {
 }
 
 impl<'a> Model for Secret<'a> {
-    ghost use Rattle.age_file.specs.Secrets.{SecretView, IsWithinLimits};
-
     ghost Value = { SecretView };
 
     ghost view = { λ s. record { pass = s.pass.now; log = s.log; salt = s.salt; key = s.file_key; nonce = s.payload_nonce } };

@@ -1,8 +1,9 @@
 //! Where bytes go.
 
-ghost use Rattle.std.specs.Prelude.{◌≡◌, ℕ, Option, ◌<◌, ◌≤◌, List, [], length, None, IfOk, MatchResult};
+ghost use Rattle.std.specs.Prelude.{◌≡◌, ◌<◌, ◌≤◌, ℕ, Option, List, [], length, None, IfOk, MatchResult};
 ghost use Rattle.std.specs.Io.KnownBytes.{WriteAppends, Keeps};
 ghost use Rattle.age_file.specs.Memory.{one_more};
+ghost use Rattle.std.specs.Coded.{coded_ℕ, coded×};
 
 use crate::failed::Failed;
 use std::io::Write;
@@ -50,9 +51,6 @@ pub struct Writing<W: Write> {
 }
 
 impl<W: Write> Model for Writing<W> {
-    ghost use Rattle.std.specs.Prelude.{ℕ};
-    ghost use Rattle.std.specs.Coded.{coded_ℕ, coded×};
-
     ghost Value = { W × ℕ };
 
     ghost coded = { coded× W.code coded_ℕ };

@@ -1,8 +1,9 @@
 //! Where bytes come from.
 
-ghost use Rattle.std.specs.Prelude.{◌≡◌, ℕ, Option, ◌≤◌, List, length, None, IfOk, MatchResult};
+ghost use Rattle.std.specs.Prelude.{◌≡◌, ◌≤◌, ℕ, Option, List, length, None, IfOk, MatchResult};
 ghost use Rattle.std.specs.Io.KnownBytes.{ReadConsumes};
 ghost use Rattle.age_file.specs.Memory.{one_more};
+ghost use Rattle.std.specs.Coded.{coded_ℕ, coded×};
 
 use crate::failed::Failed;
 use std::io::Read;
@@ -38,9 +39,6 @@ pub struct Reading<R: Read> {
 }
 
 impl<R: Read> Model for Reading<R> {
-    ghost use Rattle.std.specs.Prelude.{ℕ};
-    ghost use Rattle.std.specs.Coded.{coded_ℕ, coded×};
-
     ghost Value = { R × ℕ };
 
     ghost coded = { coded× R.code coded_ℕ };

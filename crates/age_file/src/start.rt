@@ -52,10 +52,8 @@ fn take_nonce<S: Source>(source: &mut S, intake: &mut Intake) -> Result<[u8; 16]
     let mut nonce = [0; 16];
     let mut have = 0;
     'parts: while have < 16 {
-        match some_bytes(source, intake) {
-            Ok(true) => {}
-            Ok(false) => return Err(FileFault::NonceCut),
-            Err(fault) => return Err(fault),
+        if !some_bytes(source, intake)? {
+            return Err(FileFault::NonceCut);
         }
         let n = copy_some(intake.bytes(), &mut nonce, have);
         intake.use_front(n);
@@ -77,23 +75,10 @@ pub(crate) fn start<U: Unlock, S: Source>(
     ensures fails { IfErr result (StartFails (U.allows unlock.now) (U.refuses unlock.now) (S.remaining source.old) (S.remaining source.new) (S.failed source.old) (S.failed source.new)) }
 {
     one_header();
-    let header = match read_head(alloc, source, intake) {
-        Ok(head) => head.header,
-        Err(fault) => return Err(fault),
-    };
-    let key = match open_header(alloc, &header, unlock) {
-        Ok(key) => key,
-        Err(fault) => return Err(FileFault::from(fault)),
-    };
-    let front = match encode_head(alloc, &header) {
-        Ok(front) => front,
-        Err(fault) => return Err(FileFault::from(fault)),
-    };
-    match take_nonce(source, intake) {
-        Ok(nonce) => {
-            let id = file_id(front.as_slice(), &nonce);
-            Ok(Unlocked { key, nonce, id })
-        }
-        Err(fault) => Err(fault),
-    }
+    let header = read_head(alloc, source, intake)?.header;
+    let key = open_header(alloc, &header, unlock)?;
+    let front = encode_head(alloc, &header)?;
+    let nonce = take_nonce(source, intake)?;
+    let id = file_id(front.as_slice(), &nonce);
+    Ok(Unlocked { key, nonce, id })
 }

@@ -1,4 +1,5 @@
 use Rattle.std.proofs.Common.{◌≡◌, ◌++◌, ◌∙◌, ◌+◌, ℕ, List, [], refl, sym, ap, suc, arith}
+use Rattle.std.proofs.lemmas.Result.{err_from_is_err_and}
 use Rattle.std.proofs.lemmas.List.{length-append}
 use Rattle.std.specs.Simd.{first_chunks}
 use Rattle.age_file.specs.Bindings.{chain, link}
@@ -16,8 +17,9 @@ copy_chunk-requires-clause-room g c = let kept = c.loop-copied.invariant in omeg
 pub copy_chunk-requires-clause-limit : goal.copy_chunk-requires-clause-limit
 copy_chunk-requires-clause-limit g c = omega (arith, c.loop-copied.invariant.index, c.requires.limit, c.loop-copied-test.true)
 
-pub returns-in-Err : goal.returns-in-Err
-returns-in-Err g c =
+pub returns-in_err-copy_chunk : goal.returns-in_err-copy_chunk
+returns-in_err-copy_chunk g c =
+    let p = err_from_is_err_and c.from_residual.result c.from_residual.ensures.1 in
     let kept = c.loop-copied.invariant in
     let old = side (g.S.Source.remaining c.args.source.now) (g.S.Source.failed c.args.source.now) c.args.intake.now in
     let mid = side (g.S.Source.remaining c.loop-copied.source) (g.S.Source.failed c.loop-copied.source) c.loop-copied.intake in
@@ -25,7 +27,7 @@ returns-in-Err g c =
     let was = tally (g.O.Sink.taken c.args.sink.now) (g.O.Sink.failed c.args.sink.now) (g.O.Sink.label c.args.sink.now) c.args.progress.now in
     let between = tally (g.O.Sink.taken c.loop-copied.sink) (g.O.Sink.failed c.loop-copied.sink) (g.O.Sink.label c.loop-copied.sink) c.loop-copied.progress in
     let now = tally (g.O.Sink.taken c.copy_chunk.new.sink) (g.O.Sink.failed c.copy_chunk.new.sink) (g.O.Sink.label c.copy_chunk.new.sink) c.copy_chunk.new.progress in
-    chunk_failed 65536 c.args.chunks c.loop-copied._copied old mid new was between now kept.out c.in-Err.fault kept.size (omega arith) kept.passes kept.wrote kept.named kept.failures (omega (arith, kept.count, c.requires.fresh.0)) c.in-Err.ensures
+    rw (p.1, p.2) (chunk_failed 65536 c.args.chunks c.loop-copied._copied old mid new was between now kept.out c.in_err-copy_chunk.field-0.0 kept.size (omega arith) kept.passes kept.wrote kept.named kept.failures (omega (arith, kept.count, c.requires.fresh.0)) c.in_err-copy_chunk.ensures)
 
 pub loop-copied-init : goal.loop-copied-init
 loop-copied-init g c = record {
@@ -43,7 +45,7 @@ loop-copied-init g c = record {
 pub loop-copied-preserved : goal.loop-copied-preserved
 loop-copied-preserved g c =
     let kept = c.loop-copied.invariant in
-    let step = c.in-Ok.ensures in
+    let step = c.in_ok-copy_chunk.ensures in
     let goes = step.answered in
     let i = c.loop-copied._copied in
     let old = side (g.S.Source.remaining c.args.source.now) (g.S.Source.failed c.args.source.now) c.args.intake.now in

@@ -3,13 +3,13 @@ use Rattle.std.proofs.lemmas.List.{length-append}
 use Rattle.age_file.proofs.Bytes.{rest_pulled}
 use Rattle.age_file.proofs.inspection.count_rest.Goals as goal
 
-pub returns-in-Ok-false-clause-small : goal.returns-in-Ok-false-clause-small
-returns-in-Ok-false-clause-small g c = omega (arith, c.pulls.invariant.small, c.pulls.invariant.most)
+pub returns-clause-small : goal.returns-clause-small
+returns-clause-small g c = omega (arith, c.pulls.invariant.small, c.pulls.invariant.most)
 
 pub pulls-preserved : goal.pulls-preserved
 pulls-preserved g c =
     let kept = c.pulls.invariant in
-    let r = rw c.in-Ok-true.field-0-test at c.in-Ok-true.ensures in
+    let r = rw c.if-branch.true at c.in_ok-refill.ensures in
     let fresh = c.bytes-in-pulls.result.now in
     let same = c.use_all-in-pulls.ensures.pulls in
     record {

@@ -1,14 +1,15 @@
 use Rattle.std.proofs.Common.{◌++◌, refl, take, arith}
+use Rattle.std.proofs.lemmas.Result.{err_from_is_err_and}
 use Rattle.std.proofs.lemmas.List.{length-append, length-take}
 use Rattle.age_file.specs.Passages.{side}
 use Rattle.age_file.proofs.StartSteps.{uses_front}
 use Rattle.age_file.proofs.PassageSteps.{passes_then, passes_same, dries_same}
 use Rattle.age_file.proofs.passage.pass_block.Goals as goal
 
-pub returns-in-Ok-false : goal.returns-in-Ok-false
-returns-in-Ok-false g c =
+pub returns-then-not-branch : goal.returns-then-not-branch
+returns-then-not-branch g c =
     let kept = c.parts.invariant in
-    let r = rw c.in-Ok-false.field-0-test at c.in-Ok-false.ensures.answers in
+    let r = rw c.if-not-branch.true at c.in_ok-some_bytes.ensures.answers in
     let old = side (g.S.Source.remaining c.args.source.now) (g.S.Source.failed c.args.source.now) c.args.intake.now in
     let mid = side (g.S.Source.remaining c.parts.source) (g.S.Source.failed c.parts.source) c.parts.intake in
     let new = side (g.S.Source.remaining c.some_bytes.new.source) (g.S.Source.failed c.some_bytes.new.source) c.some_bytes.new.intake in (
@@ -19,22 +20,24 @@ returns-in-Ok-false g c =
       r.1,
     )
 
-pub returns-in-Err : goal.returns-in-Err
-returns-in-Err g c =
+pub returns-in_err-some_bytes : goal.returns-in_err-some_bytes
+returns-in_err-some_bytes g c =
+    let p = err_from_is_err_and c.from_residual.result c.from_residual.ensures.1 in
     let kept = c.parts.invariant in
-    let a = c.in-Err.ensures.answers in
+    let a = c.in_err-some_bytes.ensures.answers in
     let old = side (g.S.Source.remaining c.args.source.now) (g.S.Source.failed c.args.source.now) c.args.intake.now in
     let mid = side (g.S.Source.remaining c.parts.source) (g.S.Source.failed c.parts.source) c.parts.intake in
-    let new = side (g.S.Source.remaining c.some_bytes.new.source) (g.S.Source.failed c.some_bytes.new.source) c.some_bytes.new.intake in (
+    let new = side (g.S.Source.remaining c.some_bytes.new.source) (g.S.Source.failed c.some_bytes.new.source) c.some_bytes.new.intake in
+    rw (p.1, p.2) (
       kept.passed,
       omega (arith, kept.size, c.parts-test.true),
-      dries_same old mid new kept.passed c.in-Err.fault kept.passes (record { uses = c.some_bytes.ensures.uses; used = a.0; why = a.1 }),
+      dries_same old mid new kept.passed c.in_err-some_bytes.field-0.0 kept.passes (record { uses = c.some_bytes.ensures.uses; used = a.0; why = a.1 }),
     )
 
 pub parts-preserved : goal.parts-preserved
 parts-preserved g c =
     let kept = c.parts.invariant in
-    let r = rw c.in-Ok-true.field-0-test at c.in-Ok-true.ensures.answers in
+    let r = rw c.if-not-branch.false at c.in_ok-some_bytes.ensures.answers in
     let old = side (g.S.Source.remaining c.args.source.now) (g.S.Source.failed c.args.source.now) c.args.intake.now in
     let mid = side (g.S.Source.remaining c.parts.source) (g.S.Source.failed c.parts.source) c.parts.intake in
     let there = side (g.S.Source.remaining c.some_bytes.new.source) (g.S.Source.failed c.some_bytes.new.source) c.some_bytes.new.intake in

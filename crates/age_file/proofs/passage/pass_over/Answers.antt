@@ -1,30 +1,32 @@
 use Rattle.std.proofs.Common.{◌++◌, refl, arith}
+use Rattle.std.proofs.lemmas.Result.{err_from_is_err_and}
 use Rattle.std.proofs.lemmas.List.{length-append}
 use Rattle.age_file.specs.Passages.{side}
 use Rattle.age_file.proofs.PassageSteps.{passes_then, pass_fails, ends_after}
 use Rattle.age_file.proofs.passage.pass_over.Goals as goal
 
-pub returns-in-Ok-false : goal.returns-in-Ok-false
-returns-in-Ok-false g c =
+pub returns-then-not-branch : goal.returns-then-not-branch
+returns-then-not-branch g c =
     let kept = c.loop-block.invariant in
-    let r = rw c.in-Ok-false.field-0-test at c.in-Ok-false.ensures in
+    let r = rw c.if-not-branch.true at c.in_ok-pass_block.ensures in
     let old = side (g.S.Source.remaining c.args.source.now) (g.S.Source.failed c.args.source.now) c.args.intake.now in
     let mid = side (g.S.Source.remaining c.loop-block.source) (g.S.Source.failed c.loop-block.source) c.loop-block.intake in
     let new = side (g.S.Source.remaining c.pass_block.new.source) (g.S.Source.failed c.pass_block.new.source) c.pass_block.new.intake in
     (refl, omega arith, ends_after 65552 c.loop-block.block old mid new kept.passed kept.size kept.passes r)
 
-pub returns-in-Err : goal.returns-in-Err
-returns-in-Err g c =
+pub returns-in_err-pass_block : goal.returns-in_err-pass_block
+returns-in_err-pass_block g c =
+    let p = err_from_is_err_and c.from_residual.result c.from_residual.ensures.1 in
     let kept = c.loop-block.invariant in
     let old = side (g.S.Source.remaining c.args.source.now) (g.S.Source.failed c.args.source.now) c.args.intake.now in
     let mid = side (g.S.Source.remaining c.loop-block.source) (g.S.Source.failed c.loop-block.source) c.loop-block.intake in
     let new = side (g.S.Source.remaining c.pass_block.new.source) (g.S.Source.failed c.pass_block.new.source) c.pass_block.new.intake in
-    pass_fails 65552 c.args.blocks c.loop-block.block old mid new kept.passed c.in-Err.fault kept.size (omega arith) kept.passes c.in-Err.ensures
+    rw (p.1, p.2) (pass_fails 65552 c.args.blocks c.loop-block.block old mid new kept.passed c.in_err-pass_block.field-0.0 kept.size (omega arith) kept.passes c.in_err-pass_block.ensures)
 
 pub loop-block-preserved : goal.loop-block-preserved
 loop-block-preserved g c =
     let kept = c.loop-block.invariant in
-    let r = rw c.in-Ok-true.field-0-test at c.in-Ok-true.ensures in
+    let r = rw c.if-not-branch.false at c.in_ok-pass_block.ensures in
     let old = side (g.S.Source.remaining c.args.source.now) (g.S.Source.failed c.args.source.now) c.args.intake.now in
     let mid = side (g.S.Source.remaining c.loop-block.source) (g.S.Source.failed c.loop-block.source) c.loop-block.intake in
     let new = side (g.S.Source.remaining c.pass_block.new.source) (g.S.Source.failed c.pass_block.new.source) c.pass_block.new.intake in

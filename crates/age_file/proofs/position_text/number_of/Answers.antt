@@ -1,19 +1,28 @@
 use Rattle.std.proofs.Common.{◌≡◌, sym, ap, ◌∙◌, arith}
-use Rattle.age_file.proofs.PositionTextSteps.{decimal_reads, read_as, never_refused, never_differs}
+use Rattle.std.proofs.lemmas.Result.{MatchResult-at_ok, MatchResult-at_err}
+use Rattle.age_file.proofs.PositionTextSteps.{decimal_reads, read_as, never_refused, never_differs, was_ok, was_err}
 use Rattle.std.specs.Fmt.{decimal}
 use Rattle.age_file.proofs.position_text.number_of.Goals as goal
 use Rattle.age_file.proofs.position_text.number_of.Goals.{else-index-lt-INDEXES-via-then-index-lt-INDEXES+else-eq, else-index-lt-INDEXES-via-else-index-lt-INDEXES}
 
-pub returns-in_default-clause-none : goal.returns-in_default-clause-none
-returns-in_default-clause-none c = λ index lt e. c.in_default.ensures.cases.0 (decimal_reads index c.args.digits.now lt e)
+pub returns-in_err-text-clause-none : goal.returns-in_err-text-clause-none
+returns-in_err-text-clause-none c =
+    let err = was_err c.from_utf8.result c.ok.result c.ok.ensures.value c.in_err-text.was in
+    rw c.from_residual.ensures (λ index lt e. (MatchResult-at_err _ _ err.0 err.1 c.from_utf8.ensures.cases).0 (decimal_reads index c.args.digits.now lt e))
 
-pub returns-in_default-parse-clause-none : goal.returns-in_default-parse-clause-none
-returns-in_default-parse-clause-none c = λ index lt e.
-    never_refused index c.in-Ok.text.now c.parse.result c.in_default-parse.field-0 c.in_default-parse.is lt (c.in-Ok.ensures.cases.0 ∙ e) c.parse.ensures.value.0
+pub returns-in_err-index-clause-none : goal.returns-in_err-index-clause-none
+returns-in_err-index-clause-none c =
+    let text = c.in_ok-text.text in
+    let same = (MatchResult-at_ok _ _ text (was_ok c.from_utf8.result c.ok.result text c.ok.ensures.value c.in_ok-text.was) c.from_utf8.ensures.cases).0 in
+    let err = was_err c.parse.result c.ok-2.result c.ok-2.ensures.value c.in_err-index.was in
+    rw c.from_residual-in_err-index.ensures (λ index lt e. never_refused index text.now c.parse.result err.0 err.1 lt (same ∙ e) c.parse.ensures.value.0)
 
 pub returns-else-index-lt-INDEXES-clause-none : goal.returns-else-index-lt-INDEXES-clause-none
 returns-else-index-lt-INDEXES-clause-none c = λ index lt e.
-    let same : c.in-Ok-parse.index ≡ index = read_as index c.in-Ok-parse.index c.in-Ok.text.now c.parse.result c.in-Ok-parse.is lt (c.in-Ok.ensures.cases.0 ∙ e) c.parse.ensures.value.0 in
+    let text = c.in_ok-text.text in
+    let read = (MatchResult-at_ok _ _ text (was_ok c.from_utf8.result c.ok.result text c.ok.ensures.value c.in_ok-text.was) c.from_utf8.ensures.cases).0 in
+    let is = was_ok c.parse.result c.ok-2.result c.in_ok-index.index c.ok-2.ensures.value c.in_ok-index.was in
+    let same : c.in_ok-index.index ≡ index = read_as index c.in_ok-index.index text.now c.parse.result is lt (read ∙ e) c.parse.ensures.value.0 in
     elim c.else-index-lt-INDEXES.branch [
       | else-index-lt-INDEXES-via-then-index-lt-INDEXES+else-eq w ↦
           never_differs w.as_bytes.result.now c.args.digits.now w.if-eq.ensures (w.as_bytes.ensures.value ∙ w.format.ensures.text ∙ ap decimal same ∙ sym e)

@@ -1,4 +1,5 @@
 use Rattle.std.proofs.Common.{◌∙◌, ◌++◌, List, ℕ, ap, ◌≡◌, ◌-◌, take, drop, sym, arith, [], append-nil, refl}
+use Rattle.std.proofs.lemmas.Result.{err_from_is_err_and}
 use Rattle.std.proofs.lemmas.List.{take-append-drop}
 use Rattle.std.proofs.KnownBytes.{Appends-nil}
 use Rattle.age_stream.specs.Deliveries.{with_piece}
@@ -8,9 +9,10 @@ use Rattle.age_file.proofs.ReleaseSteps.{more_text, fed_front, goes_front, marks
 use Rattle.age_file.proofs.pour.feed_once.Goals as goal
 
 -- the opener refused the piece
-pub returns-in-Err-clause-fed : goal.returns-in-Err-clause-fed
-returns-in-Err-clause-fed g c =
-    let after = rw c.in-Err.is at c.feed.follows.holds-at-none in
+pub returns-in_err-step-clause-fed : goal.returns-in_err-step-clause-fed
+returns-in_err-step-clause-fed g c =
+    let p = err_from_is_err_and c.from_residual.result c.from_residual.ensures.1 in
+    let after = rw c.in_err-step.was at c.feed.follows.holds-at-none in
     let piece = c.args.piece.now in
     let key = c.args.opener.now.key in
     record {
@@ -25,19 +27,20 @@ returns-in-Err-clause-fed g c =
         named = refl;
         count = omega arith;
         stands = after.1;
-        text = λ s h. more_text (g.B.ChunkBox.opening key) (g.row.SEALED - 16) s (with_piece s piece) [] [] (c.in-Err.ensures.texts s h) refl;
-        marks = marks_refused g.B.ChunkBox.opening (g.row.SEALED - 16) (g.B.ChunkBox.sealing key) c.args.opener.now c.feed.follows.lender-at-none c.args.progress.now piece (g.met.B.ChunkBox.lawful key) after.1 c.in-Err.ensures.texts;
+        text = λ s h. more_text (g.B.ChunkBox.opening key) (g.row.SEALED - 16) s (with_piece s piece) [] [] (c.in_err-step.ensures.texts s h) refl;
+        marks = marks_refused g.B.ChunkBox.opening (g.row.SEALED - 16) (g.B.ChunkBox.sealing key) c.args.opener.now c.feed.follows.lender-at-none c.args.progress.now piece (g.met.B.ChunkBox.lawful key) after.1 c.in_err-step.ensures.texts;
       };
-      answered = (after.2, refl, refl, refl);
+      answered = rw (p.1, p.2) (after.2, refl, refl, refl);
     }
 
 -- the sink failed
-pub returns-in_default-clause-fed : goal.returns-in_default-clause-fed
-returns-in_default-clause-fed g c =
-    let after = rw c.in-Ok.is at c.feed.follows.holds-at-none in
-    let ok = c.in-Ok.ensures in
-    let put = c.in_default.ensures.writes in
-    let step = c.in-Ok.step in
+pub returns-in_err-write_all-clause-fed : goal.returns-in_err-write_all-clause-fed
+returns-in_err-write_all-clause-fed g c =
+    let p = err_from_is_err_and c.from_residual-in_err-write_all.result c.from_residual-in_err-write_all.ensures.1 in
+    let after = rw c.in_ok-step.was at c.feed.follows.holds-at-none in
+    let ok = c.in_ok-step.ensures in
+    let put = c.in_err-write_all.ensures.writes in
+    let step = c.in_ok-step.step in
     let piece = c.args.piece.now in
     let key = c.args.opener.now.key in
     let lent = sym c.lent_bytes-chunk.ensures ∙ put.parts in
@@ -47,32 +50,32 @@ returns-in_default-clause-fed g c =
       left = drop step.taken piece;
       cut = put.cut;
       parts = sym (take-append-drop step.taken piece);
-      releases = fed_front g.B.ChunkBox.opening (g.row.SEALED - 16) c.args.opener.now c.feed.follows.lender-at-none was _ piece step.taken step.chunk put.out put.cut after.0 after.1 ok.texts lent put.wrote c.in_default.ensures.named put.count
+      releases = fed_front g.B.ChunkBox.opening (g.row.SEALED - 16) c.args.opener.now c.feed.follows.lender-at-none was _ piece step.taken step.chunk put.out put.cut after.0 after.1 ok.texts lent put.wrote c.in_err-write_all.ensures.named put.count
           (marks_cut g.B.ChunkBox.opening (g.row.SEALED - 16) (g.B.ChunkBox.sealing key) c.args.opener.now c.feed.follows.lender-at-none c.args.progress.now _ (take step.taken piece) step.chunk put.out put.cut (g.met.B.ChunkBox.lawful key) after.1 ok.texts lent put.stopped refl refl);
-      answered = put.answered;
+      answered = rw (p.1, p.2, c.in_err-write_all.ensures.fault) put.answered;
     }
 
 pub returns-clause-fed : goal.returns-clause-fed
 returns-clause-fed g c =
-    let after = rw c.in-Ok.is at c.feed.follows.holds-at-none in
-    let ok = c.in-Ok.ensures in
-    let put = c.in-Ok-put_all.ensures.writes in
-    let step = c.in-Ok.step in
+    let after = rw c.in_ok-step.was at c.feed.follows.holds-at-none in
+    let ok = c.in_ok-step.ensures in
+    let put = c.in_ok-write_all.ensures.writes in
+    let step = c.in_ok-step.step in
     let piece = c.args.piece.now in
     let key = c.args.opener.now.key in
     let lent = sym c.lent_bytes-chunk.ensures ∙ put.parts in
     let whole = sym c.lent_bytes-chunk.ensures ∙ (put.parts ∙ ap (λ (t : List ℕ). put.out ++ t) put.answered.0) in
     let none : [] ≡ [] = refl in
     let count = c.advance.ensures.same ∙ put.count in
-    let linked = c.next_link.ensures ∙ ap (link c.args.progress.now.chain) c.lent_bytes-chunk.ensures in
+    let linked = c.next_link-link.ensures ∙ ap (link c.args.progress.now.chain) c.lent_bytes-chunk.ensures in
     let was = tally (g.O.Sink.taken c.args.sink.now) (g.O.Sink.failed c.args.sink.now) (g.O.Sink.label c.args.sink.now) c.args.progress.now in
-    let now = tally (g.O.Sink.taken c.put_all.new.sink) (g.O.Sink.failed c.put_all.new.sink) (g.O.Sink.label c.put_all.new.sink) c.advance.new.self in
+    let now = tally (g.O.Sink.taken c.write_all.new.sink) (g.O.Sink.failed c.write_all.new.sink) (g.O.Sink.label c.write_all.new.sink) c.advance.new.self in
     record {
       fed = take step.taken piece;
       left = drop step.taken piece;
       cut = [];
       parts = sym (take-append-drop step.taken piece);
-      releases = fed_front g.B.ChunkBox.opening (g.row.SEALED - 16) c.args.opener.now c.feed.follows.lender-at-none was now piece step.taken step.chunk put.out [] after.0 after.1 ok.texts whole put.wrote c.in-Ok-put_all.ensures.named count
-          (marks_whole g.B.ChunkBox.opening (g.row.SEALED - 16) (g.B.ChunkBox.sealing key) c.args.opener.now c.feed.follows.lender-at-none c.args.progress.now c.advance.new.self (take step.taken piece) step.chunk c.index.result c.next_link.result (g.met.B.ChunkBox.lawful key) after.0 c.index.ensures.index after.1 ok.texts linked c.advance.ensures.counted);
+      releases = fed_front g.B.ChunkBox.opening (g.row.SEALED - 16) c.args.opener.now c.feed.follows.lender-at-none was now piece step.taken step.chunk put.out [] after.0 after.1 ok.texts whole put.wrote c.in_ok-write_all.ensures.named count
+          (marks_whole g.B.ChunkBox.opening (g.row.SEALED - 16) (g.B.ChunkBox.sealing key) c.args.opener.now c.feed.follows.lender-at-none c.args.progress.now c.advance.new.self (take step.taken piece) step.chunk c.index.result c.next_link-link.result (g.met.B.ChunkBox.lawful key) after.0 c.index.ensures.index after.1 ok.texts linked c.advance.ensures.counted);
       answered = goes_front g.B.ChunkBox.opening (g.row.SEALED - 16) c.args.opener.now c.feed.follows.lender-at-none was now piece step.taken step.chunk put.out [] (omega (arith, ok.taken)) after.3.1 whole count none put.answered.1;
     }

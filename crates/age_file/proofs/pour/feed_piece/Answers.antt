@@ -1,4 +1,5 @@
 use Rattle.std.proofs.Common.{◌≡◌, ◌+◌, ◌-◌, length, take, drop, sym, ap, ◌∙◌, arith, List, ℕ, [], ◌++◌, append-nil, refl, take-add}
+use Rattle.std.proofs.lemmas.Result.{err_from_is_err_and}
 use Rattle.std.proofs.lemmas.List.{take_rest, take-append-drop, length-append, length-drop, append_assoc, take_at, take_all}
 use Rattle.age_file.proofs.ReleaseSteps.{both_then, releases_none, releases_then, fails_then}
 use Rattle.age_file.specs.Releases.{tally}
@@ -27,24 +28,25 @@ loop-at-init g c =
 pub loop-at-preserved : goal.loop-at-preserved
 loop-at-preserved g c =
     let kept = c.loop-at.invariant in
-    let fed = c.in-Ok.ensures.fed in
+    let fed = c.in_ok-at.ensures.fed in
     let piece = c.args.piece.now in
     let at = c.loop-at.at in
-    let both = both_then g.B.ChunkBox.opening (g.row.SEALED - 16) (take at piece) fed.fed (take (at + c.in-Ok.n) piece) c.args.opener.now c.loop-at.opener c.feed_once.new.opener
+    let both = both_then g.B.ChunkBox.opening (g.row.SEALED - 16) (take at piece) fed.fed (take (at + c.in_ok-at.field-0) piece) c.args.opener.now c.loop-at.opener c.feed_once.new.opener
     (tally (g.O.Sink.taken c.args.sink.now) (g.O.Sink.failed c.args.sink.now) (g.O.Sink.label c.args.sink.now) c.args.progress.now)
     (tally (g.O.Sink.taken c.loop-at.sink) (g.O.Sink.failed c.loop-at.sink) (g.O.Sink.label c.loop-at.sink) c.loop-at.progress)
     (tally (g.O.Sink.taken c.feed_once.new.sink) (g.O.Sink.failed c.feed_once.new.sink) (g.O.Sink.label c.feed_once.new.sink) c.feed_once.new.progress) fed.cut
-    (on piece fed.fed fed.left at c.in-Ok.n fed.parts fed.answered.0) kept.releases kept.goes fed.releases fed.answered.1 in
+    (on piece fed.fed fed.left at c.in_ok-at.field-0 fed.parts fed.answered.0) kept.releases kept.goes fed.releases fed.answered.1 in
     record {
       within = omega (arith, ap length fed.parts, length-append fed.fed fed.left, fed.answered.0, length-drop at piece, ap length (take_rest piece at), kept.within);
       releases = both.releases;
       goes = both.goes;
     }
 
-pub returns-in-Err : goal.returns-in-Err
-returns-in-Err g c =
+pub returns-in_err-at : goal.returns-in_err-at
+returns-in_err-at g c =
+    let p = err_from_is_err_and c.from_residual.result c.from_residual.ensures.1 in
     let kept = c.loop-at.invariant in
-    let fed = c.in-Err.ensures.fed in
+    let fed = c.in_err-at.ensures.fed in
     let piece = c.args.piece.now in
     let at = c.loop-at.at in
     let was = tally (g.O.Sink.taken c.args.sink.now) (g.O.Sink.failed c.args.sink.now) (g.O.Sink.label c.args.sink.now) c.args.progress.now in
@@ -57,7 +59,7 @@ returns-in-Err g c =
         cut = fed.cut;
         parts = all_of piece fed.fed fed.left at fed.parts;
         releases = releases_then g.B.ChunkBox.opening (g.row.SEALED - 16) (take at piece) fed.fed c.args.opener.now c.loop-at.opener c.feed_once.new.opener was mid now fed.cut kept.releases fed.releases;
-        answered = fails_then g.B.ChunkBox.opening (g.row.SEALED - 16) (take at piece) c.args.opener.now c.loop-at.opener c.feed_once.new.opener was mid now fed.left fed.cut c.in-Err.fault kept.goes fed.answered;
+        answered = rw (p.1, p.2) (fails_then g.B.ChunkBox.opening (g.row.SEALED - 16) (take at piece) c.args.opener.now c.loop-at.opener c.feed_once.new.opener was mid now fed.left fed.cut c.in_err-at.field-0.0 kept.goes fed.answered);
       };
     }
 

@@ -1,6 +1,5 @@
-use Rattle.std.proofs.Common.{min, ◌^◌, ◌≡◌, ◌+◌, ◌-◌, length, take, drop, sym, ap, subst, ◌∙◌, arith, List, ℕ}
+use Rattle.std.proofs.Common.{min, ◌^◌, ◌≡◌, ◌+◌, ◌-◌, length, take, drop, sym, ap, subst, ◌∙◌, arith, take-add, ◌++◌, List, ℕ}
 use Rattle.std.proofs.lemmas.List.{take_rest, length-take, length-drop, take-append-drop}
-use Rattle.std.proofs.Common.{take-add, ◌++◌}
 use Rattle.std.specs.Io.KnownBytes.{Appends}
 use Rattle.age_file.proofs.Bytes.{Appends-then, Appends-Keeps, risen}
 use Rattle.age_file.proofs.put.put_all.Goals as goal

@@ -1,4 +1,4 @@
-use Rattle.std.proofs.Common.{refl, inl, inr}
+use Rattle.std.proofs.Common.{refl, inr}
 use Rattle.age_file.specs.Releases.{tally}
 use Rattle.age_file.specs.Pours.{stage}
 use Rattle.age_file.proofs.GoingOnSteps.{place_behind}
@@ -8,12 +8,9 @@ pub pour-requires-clause-room : goal.pour-requires-clause-room
 pour-requires-clause-room g c =
     let old = stage (tally (g.O.Sink.taken c.args.writer.now) (g.O.Sink.failed c.args.writer.now) (g.O.Sink.label c.args.writer.now) c.args.progress.now) (g.S.Source.remaining c.args.reader.now) (g.S.Source.failed c.args.reader.now) c.args.intake.now in
     let mid = stage (tally (g.O.Sink.taken c.args.writer.now) (g.O.Sink.failed c.args.writer.now) (g.O.Sink.label c.args.writer.now) c.args.progress.now) (g.S.Source.remaining c.pass_over.new.source) (g.S.Source.failed c.pass_over.new.source) c.pass_over.new.intake in
-    place_behind old mid c.in-Ok.ensures.0 c.requires.room refl c.requires.pulled c.in-Ok.ensures.2
-
-pub returns-in-Err : goal.returns-in-Err
-returns-in-Err g c = inl (record { fault = c.in-Err.fault; is = refl; fails = c.in-Err.ensures; same = refl })
+    place_behind old mid c.in_ok-pass_over.ensures.0 c.requires.room refl c.requires.pulled c.in_ok-pass_over.ensures.2
 
 pub returns : goal.returns
 returns g c =
     let mid = stage (tally (g.O.Sink.taken c.args.writer.now) (g.O.Sink.failed c.args.writer.now) (g.O.Sink.label c.args.writer.now) c.args.progress.now) (g.S.Source.remaining c.pass_over.new.source) (g.S.Source.failed c.pass_over.new.source) c.pass_over.new.intake in
-    inr (record { mid = mid; passed = c.in-Ok.ensures.0; size = c.in-Ok.ensures.1; passes = c.in-Ok.ensures.2; same = refl; pours = c.pour.ensures })
+    inr (record { mid = mid; passed = c.in_ok-pass_over.ensures.0; size = c.in_ok-pass_over.ensures.1; passes = c.in_ok-pass_over.ensures.2; same = refl; pours = c.pour.ensures })

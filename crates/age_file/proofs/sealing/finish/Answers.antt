@@ -1,14 +1,16 @@
-use Rattle.std.proofs.Common.{ap, ◌∙◌, ◌+◌, ◌-◌, ◌^◌, min, ℕ, refl}
-use Rattle.age_file.proofs.Bytes.{Appends-Keeps, risen}
+use Rattle.std.proofs.Common.{ap, ◌∙◌, ◌+◌, ◌-◌, ◌^◌, min, ℕ}
+use Rattle.age_file.proofs.Bytes.{Appends-Keeps, risen, answer_as}
 use Rattle.age_file.proofs.sealing.finish.Goals as goal
 
-pub returns-in_default-clause-sealed : goal.returns-in_default-clause-sealed
-returns-in_default-clause-sealed g c =
-    let last = c.in-Ok.ensures.sealed in
+pub returns-clause-sealed : goal.returns-clause-sealed
+returns-clause-sealed g c =
+    let last = c.in_ok-seal_last.ensures.sealed in
+    let flushed = c.flush_all.ensures in
     record {
       out = last.out;
       cut = last.cut;
-      wrote = record { bytes = Appends-Keeps _ _ _ _ last.wrote.bytes c.in_default.ensures.bytes; count = last.wrote.count };
+      wrote = record { bytes = Appends-Keeps _ _ _ _ last.wrote.bytes flushed.bytes; count = last.wrote.count };
       blocks = last.blocks;
-      answered = (refl, risen _ _ (c.in_default.ensures.counted ∙ ap (λ (k : ℕ). min (k + 1) (2 ^ 64 - 1)) last.answered.1));
+      answered = answer_as c.flush_all.result flushed.counted flushed.fault (λ _ same. (last.answered.0, same ∙ last.answered.1))
+          (λ _ is more. (is, risen _ _ (more ∙ ap (λ (k : ℕ). min (k + 1) (2 ^ 64 - 1)) last.answered.1)));
     }

@@ -1,4 +1,5 @@
 use Rattle.std.proofs.Common.{◌-◌, ◌*◌, ◌^◌, ◌≤◌, length, ap, sym, subst, ◌∙◌, arith, ℕ, ◌++◌, rules}
+use Rattle.std.proofs.lemmas.Result.{err_from_is_err_and}
 use Rattle.std.proofs.lemmas.Nat.{mul-le}
 use Rattle.age_file.specs.Ports.{ports}
 use Rattle.age_file.specs.Faults.{HasRisen}
@@ -10,7 +11,7 @@ use Rattle.age_file.proofs.sealing.seal_all.Goals as goal
 
 pub finish-requires : goal.finish-requires
 finish-requires g c =
-    let s = c.in-Ok.ensures.sealed in
+    let s = c.in_ok-plain.ensures.sealed in
     let n = g.row.SEALED - 16 in
     let key = c.new-sealer.result.key in
     let fits = front_small (g.B.ChunkBox.sealing key) (g.B.ChunkBox.opening key) (g.met.B.ChunkBox.lawful key) n s.text (omega (arith, c.requires.least, c.requires.most)) in
@@ -19,10 +20,11 @@ finish-requires g c =
       (s.feeding, omega (arith, c.requires.room, s.moved.count, fits, product)),
     )
 
-pub returns-in-Err-finish-clause-fails : goal.returns-in-Err-finish-clause-fails
-returns-in-Err-finish-clause-fails g c =
-    let s = c.in-Ok.ensures.sealed in
-    let l = c.in-Err-finish.ensures.sealed in
+pub returns-in_err-finish-clause-fails : goal.returns-in_err-finish-clause-fails
+returns-in_err-finish-clause-fails g c =
+    let p = err_from_is_err_and c.from_residual-in_err-finish.result c.from_residual-in_err-finish.ensures.1 in
+    let s = c.in_ok-plain.ensures.sealed in
+    let l = c.in_err-finish.ensures.sealed in
     let n = g.row.SEALED - 16 in
     let sealing = g.B.ChunkBox.sealing in
     let a = c.new-sealer.result in
@@ -34,18 +36,18 @@ returns-in-Err-finish-clause-fails g c =
     let new = ports (g.S.Source.remaining c.seal_source.new.source) (g.S.Source.failed c.seal_source.new.source) (g.O.Sink.taken c.finish.new.sink) (g.O.Sink.failed c.finish.new.sink) in
     let wrote : Wrote was mid (front_of (sealing a.key) n s.text) = record { bytes = s.moved.wrote; count = s.moved.count } in
     let out = last_written sealing n a b was mid now s.text s.key s.holds wrote l.out l.cut l.wrote l.blocks in
-    subst (λ k. SealsFront (sealing k) n old new c.args.written.now c.finish.new.written c.in-Err-finish.fault) (ap (λ v. v.key) c.new-sealer.ensures) (record {
+    rw (p.1, p.2) (subst (λ k. SealsFront (sealing k) n old new c.args.written.now c.finish.new.written c.in_err-finish.field-0.0) (ap (λ v. v.key) c.new-sealer.ensures) (record {
       text = s.text;
       out = front_of (sealing a.key) n s.text ++ l.out;
       moved = record { read = s.moved.read; wrote = out.bytes; count = out.count; small = s.moved.small };
       prefix = last_begins sealing n a b was mid now s.text s.key s.holds wrote l.out l.cut l.wrote l.blocks;
       fails = subst (λ (f : FileFault). SealingFails n old new s.text f) (sym l.answered.0) (subst (λ (k : ℕ). HasRisen k new.write_failed) s.none_failed.1 l.answered.1);
-    })
+    }))
 
-pub returns-in-Ok-finish-clause-sealed : goal.returns-in-Ok-finish-clause-sealed
-returns-in-Ok-finish-clause-sealed g c =
-    let s = c.in-Ok.ensures.sealed in
-    let l = c.in-Ok-finish.ensures.sealed in
+pub returns-clause-sealed : goal.returns-clause-sealed
+returns-clause-sealed g c =
+    let s = c.in_ok-plain.ensures.sealed in
+    let l = c.in_ok-finish.ensures.sealed in
     let n = g.row.SEALED - 16 in
     let sealing = g.B.ChunkBox.sealing in
     let a = c.new-sealer.result in
@@ -57,7 +59,7 @@ returns-in-Ok-finish-clause-sealed g c =
     let new = ports (g.S.Source.remaining c.seal_source.new.source) (g.S.Source.failed c.seal_source.new.source) (g.O.Sink.taken c.finish.new.sink) (g.O.Sink.failed c.finish.new.sink) in
     let wrote : Wrote was mid (front_of (sealing a.key) n s.text) = record { bytes = s.moved.wrote; count = s.moved.count } in
     let out = last_whole sealing n a b was mid now s.text s.key s.holds wrote l.out l.cut l.wrote l.blocks l.answered.0 in
-    subst (λ k. SealsAll (sealing k) n old new c.args.written.now c.finish.new.written c.in-Ok.plain) (ap (λ v. v.key) c.new-sealer.ensures) (record {
+    subst (λ k. SealsAll (sealing k) n old new c.args.written.now c.finish.new.written c.in_ok-plain.plain) (ap (λ v. v.key) c.new-sealer.ensures) (record {
       text = s.text;
       moved = record { read = s.moved.read; wrote = out.bytes; count = out.count; small = s.moved.small };
       at_end = s.at_end;

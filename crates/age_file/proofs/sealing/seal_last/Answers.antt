@@ -1,14 +1,15 @@
-use Rattle.std.proofs.Common.{◌-◌, ◌++◌, ◌∙◌, ap, List, ℕ, refl}
+use Rattle.std.proofs.Common.{◌-◌, ◌++◌, ◌∙◌, ap, List, ℕ}
 use Rattle.age_file.specs.Seals.{front_of}
+use Rattle.age_file.proofs.Bytes.{answer_as}
 use Rattle.age_file.proofs.sealing.seal_last.Goals as goal
 
-pub returns-in_default-clause-sealed : goal.returns-in_default-clause-sealed
-returns-in_default-clause-sealed g c =
-    let put = c.in_default.ensures.writes in
+pub returns-clause-sealed : goal.returns-clause-sealed
+returns-clause-sealed g c =
+    let put = c.write_all.ensures.writes in
     record {
       out = put.out;
       cut = put.cut;
       wrote = record { bytes = put.wrote; count = put.count };
-      blocks = λ text h. c.in-Ok.ensures.chunk text h ∙ ap (λ (t : List ℕ). front_of (g.B.ChunkBox.sealing c.args.sealer.now.key) (g.row.SEALED - 16) text ++ t) put.parts;
-      answered = (refl, put.answered);
+      blocks = λ text h. c.in_ok-block.ensures.chunk text h ∙ ap (λ (t : List ℕ). front_of (g.B.ChunkBox.sealing c.args.sealer.now.key) (g.row.SEALED - 16) text ++ t) put.parts;
+      answered = answer_as c.write_all.result put.answered c.write_all.ensures.fault (λ _ all. all) (λ _ is risen. (is, risen));
     }

@@ -1,4 +1,5 @@
 use Rattle.std.proofs.Common.{◌≡◌, ◌-◌, take, drop, sym, ap, ◌∙◌, arith, [], ◌++◌, append-nil, refl}
+use Rattle.std.proofs.lemmas.Result.{err_from_is_err_and}
 use Rattle.std.proofs.lemmas.List.{length-take}
 use Rattle.std.proofs.KnownBytes.{Appends-nil}
 use Rattle.age_stream.specs.Sealing.{lent, lent_bytes}
@@ -6,11 +7,12 @@ use Rattle.age_file.specs.Seals.{front_of}
 use Rattle.age_file.proofs.SealSteps.{step_len_le, step_len_some, too_long, some_sealed}
 use Rattle.age_file.proofs.sealing.seal_once.Goals as goal
 
-pub returns-in-Err-clause-sealed : goal.returns-in-Err-clause-sealed
-returns-in-Err-clause-sealed g c =
+pub returns-in_err-step-clause-sealed : goal.returns-in_err-step-clause-sealed
+returns-in_err-step-clause-sealed g c =
+    let p = err_from_is_err_and c.from_residual.result c.from_residual.ensures.1 in
     let n = g.row.SEALED - 16 in
     let key = c.args.sealer.now.key in
-    let refused = c.in-Err.ensures.refused in
+    let refused = c.in_err-step.ensures.refused in
     record {
       fed = [];
       left = c.args.piece.now;
@@ -21,15 +23,15 @@ returns-in-Err-clause-sealed g c =
         wrote = record { bytes = Appends-nil _; count = omega arith };
         blocks = λ text h. ap (front_of (g.B.ChunkBox.sealing key) n) (append-nil text) ∙ sym (append-nil (front_of (g.B.ChunkBox.sealing key) n text));
       };
-      answered = (too_long n c.args.sealer.now c.args.piece.now (omega (arith, c.requires.least)) c.requires.feeding.sound refused.0, ap (λ f. f.kind) refused.1);
+      answered = rw (p.1, p.2) (too_long n c.args.sealer.now c.args.piece.now (omega (arith, c.requires.least)) c.requires.feeding.sound refused.0, ap (λ f. f.kind) refused.1);
     }
 
-pub returns-in-Ok-put_all-clause-sealed : goal.returns-in-Ok-put_all-clause-sealed
-returns-in-Ok-put_all-clause-sealed g c =
-    let after = rw c.in-Ok.is at c.feed.follows.holds-at-none in
-    let ok = c.in-Ok.ensures in
-    let put = c.in-Ok-put_all.ensures.writes in
-    let step = c.in-Ok.step in
+pub returns-in_ok-write_all-clause-sealed : goal.returns-in_ok-write_all-clause-sealed
+returns-in_ok-write_all-clause-sealed g c =
+    let after = rw c.in_ok-step.was at c.feed.follows.holds-at-none in
+    let ok = c.in_ok-step.ensures in
+    let put = c.in_ok-write_all.ensures.writes in
+    let step = c.in_ok-step.step in
     let piece = c.args.piece.now in
     let held = c.args.sealer.now.held in
     let n = g.row.SEALED - 16 in
@@ -40,7 +42,7 @@ returns-in-Ok-put_all-clause-sealed g c =
       cut = put.cut;
       some = some_sealed g.B.ChunkBox.sealing n c.args.sealer.now _ _ _ piece step.taken step.chunk put.out put.cut is (record { bytes = put.wrote; count = put.count }) ok.chunk;
       answered = (
-        omega (arith, ok.taken, step_len_le n held piece, length-take c.in-Ok.step.taken c.args.piece.now),
+        omega (arith, ok.taken, step_len_le n held piece, length-take c.in_ok-step.step.taken c.args.piece.now),
         λ more. omega (arith, ok.taken, step_len_some n held piece more),
         put.answered.0,
         put.answered.1,
@@ -50,9 +52,9 @@ returns-in-Ok-put_all-clause-sealed g c =
 
 pub returns-in_default-clause-sealed : goal.returns-in_default-clause-sealed
 returns-in_default-clause-sealed g c =
-    let after = rw c.in-Ok.is at c.feed.follows.holds-at-none in
-    let ok = c.in-Ok.ensures in
-    let step = c.in-Ok.step in
+    let after = rw c.in_ok-step.was at c.feed.follows.holds-at-none in
+    let ok = c.in_ok-step.ensures in
+    let step = c.in_ok-step.step in
     let piece = c.args.piece.now in
     let held = c.args.sealer.now.held in
     let n = g.row.SEALED - 16 in
@@ -63,7 +65,7 @@ returns-in_default-clause-sealed g c =
       cut = [];
       some = some_sealed g.B.ChunkBox.sealing n c.args.sealer.now _ _ _ piece step.taken step.chunk [] [] is (record { bytes = Appends-nil _; count = omega arith }) ok.chunk;
       answered = (
-        omega (arith, ok.taken, step_len_le n held piece, length-take c.in-Ok.step.taken c.args.piece.now),
+        omega (arith, ok.taken, step_len_le n held piece, length-take c.in_ok-step.step.taken c.args.piece.now),
         λ more. omega (arith, ok.taken, step_len_some n held piece more),
         refl,
         refl,
@@ -71,11 +73,12 @@ returns-in_default-clause-sealed g c =
       );
     }
 
-pub returns-in_default-put_all-clause-sealed : goal.returns-in_default-put_all-clause-sealed
-returns-in_default-put_all-clause-sealed g c =
-    let ok = c.in-Ok.ensures in
-    let put = c.in_default-put_all.ensures.writes in
-    let step = c.in-Ok.step in
+pub returns-in_err-write_all-clause-sealed : goal.returns-in_err-write_all-clause-sealed
+returns-in_err-write_all-clause-sealed g c =
+    let p = err_from_is_err_and c.from_residual-in_err-write_all.result c.from_residual-in_err-write_all.ensures.1 in
+    let ok = c.in_ok-step.ensures in
+    let put = c.in_err-write_all.ensures.writes in
+    let step = c.in_ok-step.step in
     let piece = c.args.piece.now in
     let n = g.row.SEALED - 16 in
     let is : lent_bytes (lent step.chunk) ≡ put.out ++ put.cut = ap (λ o. lent_bytes (lent o)) c.in-Some.is ∙ put.parts in
@@ -84,5 +87,5 @@ returns-in_default-put_all-clause-sealed g c =
       left = drop step.taken piece;
       cut = put.cut;
       some = some_sealed g.B.ChunkBox.sealing n c.args.sealer.now _ _ _ piece step.taken step.chunk put.out put.cut is (record { bytes = put.wrote; count = put.count }) ok.chunk;
-      answered = put.answered;
+      answered = rw (p.1, p.2, c.in_err-write_all.ensures.fault) put.answered;
     }

@@ -1,4 +1,5 @@
 use Rattle.std.proofs.Common.{◌≡◌, ◌+◌, ◌-◌, length, take, drop, ap, sym, subst, ◌∙◌, arith, List, ℕ, [], ◌++◌, refl, append-nil, rules}
+use Rattle.std.proofs.lemmas.Result.{err_from_is_err_and}
 use Rattle.std.proofs.KnownBytes.{Appends-nil}
 use Rattle.std.proofs.lemmas.List.{take-append-drop, take_rest, length-append, length-drop}
 use Rattle.age_file.specs.Seals.{SealsSome, GoesOn, SealFails, front_of, tally}
@@ -37,14 +38,14 @@ loop-at-preserved g c =
     let sealing = g.B.ChunkBox.sealing in
     let piece = c.args.piece.now in
     let at = c.loop-at.at in
-    let s = c.in-Ok.ensures.sealed in
+    let s = c.in_ok-at.ensures.sealed in
     let was = tally (g.O.Sink.taken c.args.sink.now) (g.O.Sink.failed c.args.sink.now) c.args.written.now in
     let mid = tally (g.O.Sink.taken c.loop-at.sink) (g.O.Sink.failed c.loop-at.sink) c.loop-at.written in
     let now = tally (g.O.Sink.taken c.seal_once.new.sink) (g.O.Sink.failed c.seal_once.new.sink) c.seal_once.new.written in
     let a = c.args.sealer.now in
     let b = c.loop-at.sealer in
     let d = c.seal_once.new.sealer in
-    let same : take at piece ++ s.fed ≡ take (at + c.in-Ok.n) piece = fed_is sealing n piece at c.in-Ok.n s.fed s.left s.some.parts s.answered.0 in
+    let same : take at piece ++ s.fed ≡ take (at + c.in_ok-at.field-0) piece = fed_is sealing n piece at c.in_ok-at.field-0 s.fed s.left s.some.parts s.answered.0 in
     let whole : SealsSome sealing n a d was now piece (take at piece ++ s.fed) s.left [] =
     subst (λ (t : List ℕ). SealsSome sealing n a d was now piece (take at piece ++ s.fed) s.left t) s.answered.2 (next_some sealing n a b d was mid now piece at s.fed s.left s.cut kept.some kept.goes s.some) in
     record {
@@ -52,17 +53,18 @@ loop-at-preserved g c =
       some = subst (λ (t : List ℕ). SealsSome sealing n a d was now t t [] []) same (fed_alone sealing n a d was now piece (take at piece ++ s.fed) s.left [] whole);
       goes = subst (λ (t : List ℕ). GoesOn sealing n a d t) same (goes_then sealing n a b d (take at piece) s.fed kept.goes s.answered.4);
       failures = s.answered.3 ∙ kept.failures;
-      named = c.in-Ok.ensures.named ∙ kept.named;
+      named = c.in_ok-at.ensures.named ∙ kept.named;
     }
 
-pub returns-in-Err-clause-sealed : goal.returns-in-Err-clause-sealed
-returns-in-Err-clause-sealed g c =
+pub returns-in_err-at-clause-sealed : goal.returns-in_err-at-clause-sealed
+returns-in_err-at-clause-sealed g c =
+    let p = err_from_is_err_and c.from_residual.result c.from_residual.ensures.1 in
     let kept = c.loop-at.invariant in
     let n = g.row.SEALED - 16 in
     let sealing = g.B.ChunkBox.sealing in
     let piece = c.args.piece.now in
     let at = c.loop-at.at in
-    let s = c.in-Err.ensures.sealed in
+    let s = c.in_err-at.ensures.sealed in
     let was = tally (g.O.Sink.taken c.args.sink.now) (g.O.Sink.failed c.args.sink.now) c.args.written.now in
     let mid = tally (g.O.Sink.taken c.loop-at.sink) (g.O.Sink.failed c.loop-at.sink) c.loop-at.written in
     let now = tally (g.O.Sink.taken c.seal_once.new.sink) (g.O.Sink.failed c.seal_once.new.sink) c.seal_once.new.written in
@@ -75,5 +77,5 @@ returns-in-Err-clause-sealed g c =
       left = s.left;
       cut = s.cut;
       some = next_some sealing n a b d was mid now piece at s.fed s.left s.cut kept.some kept.goes s.some;
-      answered = subst (λ (t : List ℕ). SealFails sealing n a was now t c.in-Err.fault) whole (fails_then sealing n a b was mid now (take at piece) (take (length piece - at) (drop at piece)) c.in-Err.fault kept.failures kept.goes s.answered);
+      answered = rw (p.1, p.2) (subst (λ (t : List ℕ). SealFails sealing n a was now t c.in_err-at.field-0.0) whole (fails_then sealing n a b was mid now (take at piece) (take (length piece - at) (drop at piece)) c.in_err-at.field-0.0 kept.failures kept.goes s.answered));
     }

@@ -1,4 +1,5 @@
 use Rattle.std.proofs.Common.{◌≡◌, ◌-◌, ◌<◌, length, ap, sym, subst, ◌∙◌, arith, List, ℕ, [], ◌++◌, refl, append-nil, rules}
+use Rattle.std.proofs.lemmas.Result.{err_from_is_err_and}
 use Rattle.std.proofs.KnownBytes.{Appends-nil, Consumes-nil}
 use Rattle.std.proofs.lemmas.List.{length-append}
 use Rattle.age_file.specs.Intakes.{Pulled}
@@ -26,10 +27,10 @@ pulls-init g c =
       named = refl;
     }
 
-pub returns-in-Ok-false-clause-sealed : goal.returns-in-Ok-false-clause-sealed
-returns-in-Ok-false-clause-sealed g c =
+pub returns-clause-sealed : goal.returns-clause-sealed
+returns-clause-sealed g c =
     let kept = c.pulls.invariant in
-    let r = rw c.in-Ok-false.field-0-test at c.in-Ok-false.ensures in
+    let r = rw c.if-branch.false at c.in_ok-refill.ensures in
     let all = cut_pulled _ _ _ kept.text _ r.answered.0 (r.pulled _ kept.text kept.pulled) in
     record {
       text = kept.text;
@@ -42,21 +43,22 @@ returns-in-Ok-false-clause-sealed g c =
       holds = kept.goes.holds [] c.requires.fresh.1;
     }
 
-pub returns-in-Err-clause-fails : goal.returns-in-Err-clause-fails
-returns-in-Err-clause-fails g c =
+pub returns-in_err-refill-clause-fails : goal.returns-in_err-refill-clause-fails
+returns-in_err-refill-clause-fails g c =
+    let p = err_from_is_err_and c.from_residual.result c.from_residual.ensures.1 in
     let kept = c.pulls.invariant in
-    let r = c.in-Err.ensures in
+    let r = c.in_err-refill.ensures in
     let all = cut_pulled _ _ _ kept.text _ r.answered.0 (r.pulled _ kept.text kept.pulled) in
     let sealing = g.B.ChunkBox.sealing c.args.sealer.now.key in
     let n = g.row.SEALED - 16 in
-    record {
+    rw (p.1, p.2) (record {
       text = kept.text;
       out = front_of sealing n kept.text;
       moved = record { read = all.consumed; wrote = kept.wrote.bytes; count = kept.wrote.count; small = omega (arith, all.small, all.most) };
       prefix = front_begins sealing n kept.text;
       fails = pull_fails n (ports (g.S.Source.remaining c.args.source.now) (g.S.Source.failed c.args.source.now) (g.O.Sink.taken c.args.sink.now) (g.O.Sink.failed c.args.sink.now))
-          (ports (g.S.Source.remaining c.refill.new.source) (g.S.Source.failed c.refill.new.source) (g.O.Sink.taken c.pulls.sink) (g.O.Sink.failed c.pulls.sink)) kept.text _ _ _ c.in-Err.fault kept.read_failed refl kept.pulled.each_gave r.answered.2;
-    }
+          (ports (g.S.Source.remaining c.refill.new.source) (g.S.Source.failed c.refill.new.source) (g.O.Sink.taken c.pulls.sink) (g.O.Sink.failed c.pulls.sink)) kept.text _ _ _ c.in_err-refill.field-0.0 kept.read_failed refl kept.pulled.each_gave r.answered.2;
+    })
 
 pub seal_piece-requires : goal.seal_piece-requires
 seal_piece-requires g c =
@@ -84,11 +86,12 @@ seal_piece-requires g c =
       ),
     )
 
-pub returns-in-Err-seal_piece-clause-fails : goal.returns-in-Err-seal_piece-clause-fails
-returns-in-Err-seal_piece-clause-fails g c =
+pub returns-in_err-seal_piece-clause-fails : goal.returns-in_err-seal_piece-clause-fails
+returns-in_err-seal_piece-clause-fails g c =
+    let p = err_from_is_err_and c.from_residual-in_err-seal_piece.result c.from_residual-in_err-seal_piece.ensures.1 in
     let kept = c.pulls.invariant in
-    let r = rw c.in-Ok-true.field-0-test at c.in-Ok-true.ensures in
-    let s = c.in-Err-seal_piece.ensures.sealed in
+    let r = rw c.if-branch.true at c.in_ok-refill.ensures in
+    let s = c.in_err-seal_piece.ensures.sealed in
     let n = g.row.SEALED - 16 in
     let positive : 0 < n = omega (arith, c.requires.least) in
     let piece = c.bytes.result.now in
@@ -99,19 +102,19 @@ returns-in-Err-seal_piece-clause-fails g c =
     let new = ports (g.S.Source.remaining c.refill.new.source) (g.S.Source.failed c.refill.new.source) (g.O.Sink.taken c.seal_piece.new.sink) (g.O.Sink.failed c.seal_piece.new.sink) in
     let all = rw (← c.bytes.ensures.bytes) at (r.pulled old.coming kept.text kept.pulled) in
     let cut = piece_cut g.B.ChunkBox.sealing n c.args.sealer.now c.pulls.sealer c.seal_piece.new.sealer was mid now kept.text piece s.fed s.left s.cut kept.goes c.requires.fresh.1 kept.wrote s.some positive in
-    record {
+    rw (p.1, p.2) (record {
       text = kept.text ++ piece;
       out = cut.0;
       moved = record { read = all.consumed; wrote = cut.1.bytes; count = cut.1.count; small = omega (arith, all.small, all.most) };
       prefix = cut.2;
-      fails = seal_fails g.B.ChunkBox.sealing n c.args.sealer.now c.pulls.sealer old new mid now kept.text piece c.in-Err-seal_piece.fault kept.write_failed refl kept.goes c.requires.fresh.1 s.answered;
-    }
+      fails = seal_fails g.B.ChunkBox.sealing n c.args.sealer.now c.pulls.sealer old new mid now kept.text piece c.in_err-seal_piece.field-0.0 kept.write_failed refl kept.goes c.requires.fresh.1 s.answered;
+    })
 
 pub pulls-preserved : goal.pulls-preserved
 pulls-preserved g c =
     let kept = c.pulls.invariant in
-    let r = rw c.in-Ok-true.field-0-test at c.in-Ok-true.ensures in
-    let s = c.in-Ok.ensures.sealed in
+    let r = rw c.if-branch.true at c.in_ok-refill.ensures in
+    let s = c.in_ok-seal_piece.ensures.sealed in
     let n = g.row.SEALED - 16 in
     let positive : 0 < n = omega (arith, c.requires.least) in
     let piece = c.bytes.result.now in
@@ -129,5 +132,5 @@ pulls-preserved g c =
       wrote = done.1;
       read_failed = r.answered.4 ∙ kept.read_failed;
       write_failed = s.answered.2 ∙ kept.write_failed;
-      named = c.in-Ok.ensures.named ∙ kept.named;
+      named = c.in_ok-seal_piece.ensures.named ∙ kept.named;
     }

@@ -1,17 +1,21 @@
 use Rattle.age_file.proofs.StartSteps.{head_to_start, key_to_start, nonce_to_start}
+use Rattle.std.proofs.lemmas.Result.{err_from_is_err_and}
 use Rattle.age_file.proofs.start.start.Goals as goal
 
-pub returns-in-Err-clause-fails : goal.returns-in-Err-clause-fails
-returns-in-Err-clause-fails g c =
-    head_to_start (g.U.Unlock.allows c.args.unlock.now) (g.U.Unlock.refuses c.args.unlock.now) _ _ _ _ c.in-Err.fault c.in-Err.ensures.fails c.in-Err.ensures.early
+pub returns-in_err-header-clause-fails : goal.returns-in_err-header-clause-fails
+returns-in_err-header-clause-fails g c =
+    let p = err_from_is_err_and c.from_residual.result c.from_residual.ensures.1 in
+    rw (p.1, p.2) (head_to_start (g.U.Unlock.allows c.args.unlock.now) (g.U.Unlock.refuses c.args.unlock.now) _ _ _ _ c.in_err-header.field-0.0 c.in_err-header.ensures.fails c.in_err-header.ensures.early)
 
-pub returns-in-Err-open_header-clause-fails : goal.returns-in-Err-open_header-clause-fails
-returns-in-Err-open_header-clause-fails g c =
-    let head = c.in-Ok.ensures.found in
-    rw c.from.ensures (key_to_start (g.U.Unlock.allows c.args.unlock.now) (g.U.Unlock.refuses c.args.unlock.now) _ _ _ _ c.in-Ok.head.header head.front c.read_head.new.intake.bytes c.in-Err-open_header.fault head.text head.pulled.consumed c.in-Err-open_header.ensures.refused)
+pub returns-in_err-key-clause-fails : goal.returns-in_err-key-clause-fails
+returns-in_err-key-clause-fails g c =
+    let p = err_from_is_err_and c.from_residual-in_err-key.result c.from_residual-in_err-key.ensures.1 in
+    let head = c.in_ok-header.ensures.found in
+    rw (p.1, p.2) (key_to_start (g.U.Unlock.allows c.args.unlock.now) (g.U.Unlock.refuses c.args.unlock.now) _ _ _ _ c.in_ok-header.field-0.header head.front c.read_head.new.intake.bytes c.in_err-key.field-0.0 head.text head.pulled.consumed c.in_err-key.ensures.refused)
 
-pub returns-clause-fails : goal.returns-clause-fails
-returns-clause-fails g c =
-    let head = c.in-Ok.ensures.found in
-    nonce_to_start (g.U.Unlock.allows c.args.unlock.now) (g.U.Unlock.refuses c.args.unlock.now) c.one_header.ensures (g.S.Source.remaining c.args.source.now) (g.S.Source.remaining c.read_head.new.source) (g.S.Source.remaining c.take_nonce.new.source) _ _ _ c.read_head.new.intake c.take_nonce.new.intake
-    c.in-Ok.head.header head.front c.in-Ok-open_header.key c.in-Err-take_nonce.fault c.in-Ok.ensures.unfailed head.text c.in-Ok-open_header.ensures.key head.pulled c.in-Err-take_nonce.ensures.fails
+pub returns-in_err-nonce-clause-fails : goal.returns-in_err-nonce-clause-fails
+returns-in_err-nonce-clause-fails g c =
+    let p = err_from_is_err_and c.from_residual-in_err-nonce.result c.from_residual-in_err-nonce.ensures.1 in
+    let head = c.in_ok-header.ensures.found in
+    rw (p.1, p.2) (nonce_to_start (g.U.Unlock.allows c.args.unlock.now) (g.U.Unlock.refuses c.args.unlock.now) c.one_header.ensures (g.S.Source.remaining c.args.source.now) (g.S.Source.remaining c.read_head.new.source) (g.S.Source.remaining c.take_nonce.new.source) _ _ _ c.read_head.new.intake c.take_nonce.new.intake
+    c.in_ok-header.field-0.header head.front c.in_ok-key.key c.in_err-nonce.field-0.0 c.in_ok-header.ensures.unfailed head.text c.in_ok-key.ensures.key head.pulled c.in_err-nonce.ensures.fails)

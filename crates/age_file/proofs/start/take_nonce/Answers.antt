@@ -1,13 +1,14 @@
 use Rattle.std.proofs.Common.{◌≡◌, ◌+◌, take, [], List, ℕ, sym, subst, arith, append-nil, ◌∙◌}
+use Rattle.std.proofs.lemmas.Result.{err_from_is_err_and}
 use Rattle.std.proofs.lemmas.List.{length-take, take_all}
 use Rattle.age_file.specs.Starts.{Uses}
 use Rattle.age_file.proofs.StartSteps.{uses_then, uses_front, nonce_fails}
 use Rattle.age_file.proofs.start.take_nonce.Goals as goal
 
-pub returns-in-Ok-false-clause-fails : goal.returns-in-Ok-false-clause-fails
-returns-in-Ok-false-clause-fails g c =
+pub returns-then-not-branch-clause-fails : goal.returns-then-not-branch-clause-fails
+returns-then-not-branch-clause-fails g c =
     let kept = c.parts.invariant in
-    let r = rw c.in-Ok-false.field-0-test at c.in-Ok-false.ensures.answers in
+    let r = rw c.if-not-branch.true at c.in_ok-some_bytes.ensures.answers in
     let short = take c.parts.have c.parts.nonce in (
       (
         short,
@@ -18,15 +19,16 @@ returns-in-Ok-false-clause-fails g c =
       r.1,
     )
 
-pub returns-in-Err-clause-fails : goal.returns-in-Err-clause-fails
-returns-in-Err-clause-fails g c =
+pub returns-in_err-some_bytes-clause-fails : goal.returns-in_err-some_bytes-clause-fails
+returns-in_err-some_bytes-clause-fails g c =
+    let p = err_from_is_err_and c.from_residual.result c.from_residual.ensures.1 in
     let kept = c.parts.invariant in
-    nonce_fails (g.S.Source.remaining c.args.source.now) (g.S.Source.remaining c.parts.source) (g.S.Source.remaining c.some_bytes.new.source) _ _ _ c.args.intake.now c.parts.intake c.some_bytes.new.intake (take c.parts.have c.parts.nonce) c.in-Err.fault (omega (arith, length-take c.parts.have c.parts.nonce)) kept.unfailed kept.uses c.some_bytes.ensures.uses c.in-Err.ensures.answers.0 c.in-Err.ensures.answers.1
+    rw (p.1, p.2) (nonce_fails (g.S.Source.remaining c.args.source.now) (g.S.Source.remaining c.parts.source) (g.S.Source.remaining c.some_bytes.new.source) _ _ _ c.args.intake.now c.parts.intake c.some_bytes.new.intake (take c.parts.have c.parts.nonce) c.in_err-some_bytes.field-0.0 (omega (arith, length-take c.parts.have c.parts.nonce)) kept.unfailed kept.uses c.some_bytes.ensures.uses c.in_err-some_bytes.ensures.answers.0 c.in_err-some_bytes.ensures.answers.1)
 
 pub parts-preserved : goal.parts-preserved
 parts-preserved g c =
     let kept = c.parts.invariant in
-    let r = rw c.in-Ok-true.field-0-test at c.in-Ok-true.ensures.answers in
+    let r = rw c.if-not-branch.false at c.in_ok-some_bytes.ensures.answers in
     let n = c.copy_some-n.result in
     let piece = c.bytes.result.now in
     let short = take c.parts.have c.parts.nonce in
