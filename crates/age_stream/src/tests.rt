@@ -1,4 +1,4 @@
-//! Worked rows that run, and each public function once. The longer rows stand in the crate of the vectors.
+//! Worked examples that run, and each public function once. The longer ones stand in the crate of the vectors.
 use crate::clear_box::ClearBox;
 use crate::delivery::Delivery;
 use crate::drilling::drill;
