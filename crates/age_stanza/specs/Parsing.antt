@@ -5,8 +5,7 @@ use Rattle.age_stanza.specs.declared.header.HeadStep.TheVariants.{More, Ready}
 use Rattle.age_stanza.specs.declared.fault.HeadKind.TheVariants.{HeadCut}
 use Rattle.age_stanza.specs.declared.fault.HeadFault.{HeadFault}
 use Rattle.age_stanza.specs.Grammar.{HeadText}
-use Rattle.age_stanza.specs.Faults.{line_after, HasHeader, NoFault, IsFault}
-use Rattle.age_stanza.specs.Faults.{memory_fault}
+use Rattle.age_stanza.specs.Faults.{line_after, HasHeader, NoFault, IsFault, memory_fault}
 
 -- the joined bytes so far, or a header was found, or it was refused
 pub data Parsing : Type 0 where

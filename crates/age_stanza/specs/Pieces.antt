@@ -3,8 +3,7 @@ use Rattle.std.specs.Prelude.{◌≡◌, ◌⊎◌, ℕ, List, [], ◌∷◌, �
 use Rattle.std.specs.List.{concat}
 use Rattle.age_stanza.specs.declared.header.HeadStep.{HeadStep}
 use Rattle.age_stanza.specs.declared.fault.HeadFault.{HeadFault}
-use Rattle.age_stanza.specs.Faults.{memory_fault}
-use Rattle.age_stanza.specs.Faults.{HasHeader, IsFault}
+use Rattle.age_stanza.specs.Faults.{memory_fault, HasHeader, IsFault}
 use Rattle.age_stanza.specs.Parsing.{Parsing, reading, complete, refused, IsOpen, Feeds}
 
 -- a new parser that was fed these pieces may be this

@@ -1,6 +1,6 @@
 //! Writes the text of a header.
 
-ghost use Rattle.std.specs.Prelude.{◌≡◌, ◌++◌, ◌∷◌, ◌≤◌, length, IfOk, IfErr, OnOk, codes};
+ghost use Rattle.std.specs.Prelude.{◌≡◌, ◌++◌, ◌∷◌, ◌≤◌, length, IfOk, IfErr, OnOk};
 ghost use Rattle.std.specs.List.{flat_map};
 ghost use Rattle.age_stanza.specs.Text.{text};
 ghost use Rattle.age_stanza.specs.Grammar.{in_lines, stanza_text, head_text, HeadText, HasText};

@@ -1,6 +1,6 @@
 //! Why a header was refused, and where.
 
-ghost use Rattle.std.specs.Prelude.{◌≡◌, Option};
+ghost use Rattle.std.specs.Prelude.{◌≡◌};
 ghost use Rattle.age_stanza.specs.FaultNumbers.{number_of, place_of};
 
 use thiserror::Error;

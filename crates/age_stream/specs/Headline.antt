@@ -1,11 +1,9 @@
 -- What the deliveries may hold, and what then holds of the text.
-use Rattle.std.specs.Prelude.{◌≡◌, ℕ, ◌+◌, ◌*◌, ◌/◌, ◌<◌, ◌≤◌, Bool, true, false, List, [], ◌∷◌, ◌++◌, length, take, drop, Contains, IsSome, Option, slice_index_or}
-use Rattle.std.specs.List.{AllByRecursion}
+use Rattle.std.specs.Prelude.{◌≡◌, ℕ, ◌+◌, ◌*◌, ◌/◌, ◌<◌, ◌≤◌, Bool, true, false, List, [], ◌∷◌, ◌++◌, length, take, drop, Contains, IsSome, Option, slice_index_or, ◌⊎◌, map}
+use Rattle.std.specs.List.{AllByRecursion, flat_map}
 use Rattle.age_stream.specs.declared.step.Status.{Status}
 use Rattle.age_stream.specs.declared.step.Status.TheVariants.{Done}
 use Rattle.age_stream.specs.Nonce.{nonce_bytes}
-use Rattle.std.specs.Prelude.{◌⊎◌, map}
-use Rattle.std.specs.List.{flat_map}
 use Rattle.std.specs.Borrow.{Bor}
 use Rattle.age_stream.specs.Payload.{sealed, payload, chunk_count}
 use Rattle.age_stream.specs.Segment.{Segment, front_texts, whole_blocks, rest_bytes}

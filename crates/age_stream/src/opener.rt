@@ -1,5 +1,5 @@
 //! The reader's side: sealed chunks in, text out.
-ghost use Rattle.std.specs.Prelude.{◌≡◌, ◌≢◌, ℕ, ◌+◌, ◌-◌, ◌*◌, ◌^◌, ◌<◌, ◌≤◌, List, [], ◌∷◌, ◌++◌, length, take, drop, min, IfOk, OnOk, OnErr, IfErr, IsOk, None, Some, true, false, if◌then◌else◌};
+ghost use Rattle.std.specs.Prelude.{◌≡◌, ◌≢◌, ◌+◌, ◌-◌, ◌<◌, ◌≤◌, [], ◌∷◌, ◌++◌, length, take, min, IfOk, OnOk, IfErr, None, Some, true, false, if◌then◌else◌};
 ghost use Rattle.std.specs.Bool.{OnTrue, OnFalse};
 ghost use Rattle.std.specs.List.{flat_map};
 ghost use Rattle.std.specs.Borrow.{sem};
@@ -32,7 +32,7 @@ struct OpenerState<'k, B: ChunkBox, const SEALED: usize> {
 }
 
 impl<'k, B: ChunkBox, const SEALED: usize> OpenerState<'k, B, SEALED> {
-    ghost use Rattle.age_stream.specs.Segment.{Segment, Outcome, outcome, released, one_block, at_rest, status_ended, failed};
+    ghost use Rattle.age_stream.specs.Segment.{Segment, outcome, released, one_block, at_rest, status_ended, failed};
     ghost use Rattle.age_stream.specs.Deliveries.{with_piece, with_end};
     ghost use Rattle.age_stream.specs.Opening.{Stands, given, handed, has_failed};
     ghost use Rattle.age_stream.specs.OpenerSteps.{held_bytes, opener_view, IsTried, TakesPart, TakesWhole, TakesNone, Ends, front_bytes};

@@ -1,8 +1,4 @@
-ghost use Rattle.std.specs.Prelude.{◌≡◌, List, IfOk};
-ghost use Rattle.age_stanza.specs.LineMachine.{Gives};
-ghost use Rattle.age_stanza.specs.LineMachine.{step as step_of, ended as ended_of, begun as begun_of, continued as continued_of};
-ghost use Rattle.age_stanza.specs.LineMachine.{mac_of as spec_mac_of, arguments_of as spec_arguments_of};
-ghost use Rattle.age_stanza.specs.LineMachine.{decoded};
+ghost use Rattle.age_stanza.specs.LineMachine.{Gives, step as step_of, ended as ended_of, begun as begun_of, mac_of as spec_mac_of, arguments_of as spec_arguments_of};
 
 use super::{ARMOR, ARMOR_CR, Next, Place, VERSION};
 use crate::arguments::arguments_of;
