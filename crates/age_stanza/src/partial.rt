@@ -129,7 +129,10 @@ impl PartialHeader {
     /// last byte.
     pub(crate) fn too_long_fault(&self) -> HeadFault
         requires { length self.now ≡ 1048576 }
-        ensures { result ≡ record { kind = HeadKind.HeadTooLong; line = line_after (take 1048575 self.now) } }
+        ensures { result ≡ record {
+          kind = HeadKind.HeadTooLong;
+          line = line_after (take 1048575 self.now);
+        } }
     {
         let line = if self.line.is_empty() {
             self.finished_lines

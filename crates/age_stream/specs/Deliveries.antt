@@ -21,7 +21,12 @@ begin = record { given_up = []; base = []; segment = fresh 0; refused = 0 }
 abbrev pub with_piece : Segment → List ℕ → Segment
 with_piece s piece =
     if s.ended
-    then record { start = s.start; bytes = s.bytes; ended = true; late = s.late || nat_lt 0 (length piece) }
+    then record {
+      start = s.start;
+      bytes = s.bytes;
+      ended = true;
+      late = s.late || nat_lt 0 (length piece);
+    }
     else record { start = s.start; bytes = s.bytes ++ piece; ended = false; late = s.late }
 
 abbrev pub with_end : Segment → Segment
@@ -36,12 +41,32 @@ module _ (opening : List ℕ → List ℕ → Option (List ℕ)) (n : ℕ) where
   accepts s k = nat_lt k 281474976710656 && nat_le (k * n) (length (text_held s))
 
   abbrev pub after_delivery : Standing → Delivery → Standing
-  after_delivery s (Piece piece) = record { given_up = s.given_up; base = s.base; segment = with_piece s.segment piece.now; refused = s.refused }
-  after_delivery s End = record { given_up = s.given_up; base = s.base; segment = with_end s.segment; refused = s.refused }
+  after_delivery s (Piece piece) = record {
+    given_up = s.given_up;
+    base = s.base;
+    segment = with_piece s.segment piece.now;
+    refused = s.refused;
+  }
+  after_delivery s End = record {
+    given_up = s.given_up;
+    base = s.base;
+    segment = with_end s.segment;
+    refused = s.refused;
+  }
   after_delivery s (Restart k) =
       if accepts s k
-      then record { given_up = s.given_up ++ s.segment ∷ []; base = take (k * n) (text_held s); segment = fresh k; refused = s.refused }
-      else record { given_up = s.given_up; base = s.base; segment = s.segment; refused = min (s.refused + 1) 18446744073709551615 }
+      then record {
+        given_up = s.given_up ++ s.segment ∷ [];
+        base = take (k * n) (text_held s);
+        segment = fresh k;
+        refused = s.refused;
+      }
+      else record {
+        given_up = s.given_up;
+        base = s.base;
+        segment = s.segment;
+        refused = min (s.refused + 1) 18446744073709551615;
+      }
 
   abbrev pub standing_from : Standing → List Delivery → Standing
   standing_from s [] = s

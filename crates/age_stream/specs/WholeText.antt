@@ -7,7 +7,8 @@ use Rattle.age_stream.specs.declared.whole_text.SealFault.TheVariants.{Stream, M
 
 -- it has more than 2^48 chunks, which is told of the last that a payload may have; or memory was refused
 abbrev pub SealRefuses : ℕ → List ℕ → SealFault → Type 0
-SealRefuses n text (Stream fault) = (281474976710656 * n < length text) × (fault ≡ too_many 281474976710655)
+SealRefuses n text (Stream fault) = (281474976710656 * n < length text)
+    × (fault ≡ too_many 281474976710655)
 SealRefuses n text Memory = Unit {0}
 
 -- its number in the list of all faults

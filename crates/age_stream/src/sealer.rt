@@ -37,7 +37,8 @@ impl<'k, B: ChunkBox, const SEALED: usize> SealerState<'k, B, SEALED> {
         ensures held { held_text self.new ≡ held_text self.old }
         ensures buffer { self.new.buffer.items ≡ held_text self.old }
         ensures beside { self.new.beside ≡ None }
-        ensures same { (self.new.index ≡ self.old.index) × (self.new.key ≡ self.old.key) × (self.new.failed ≡ self.old.failed) × (self.new.finished ≡ self.old.finished) }
+        ensures same { (self.new.index ≡ self.old.index) × (self.new.key ≡ self.old.key)
+            × (self.new.failed ≡ self.old.failed) × (self.new.finished ≡ self.old.finished) }
     {
         if let Some(byte) = self.beside {
             self.buffer.clear();
@@ -59,9 +60,13 @@ impl<'k, B: ChunkBox, const SEALED: usize> SealerState<'k, B, SEALED> {
     // Takes what it takes of a piece, and says whether the buffer then is a block to lend.
     fn step(&mut self, piece: &[u8]) -> Result<(usize, bool), StreamFault>
         requires { self.old.finished ≡ false }
-        ensures ok { IfOk result (λ s. IsStep B.sealing (SEALED - 16) (sealer_view self.old) piece.now s.0 (if s.1 then Some self.new.buffer.items else None) (sealer_view self.new)) }
-        ensures fits { IfOk result (λ _. needs_too_many (SEALED - 16) (sealer_view self.old) piece.now ≡ false) }
-        ensures refused { OnErr result (needs_too_many (SEALED - 16) (sealer_view self.old) piece.now ≡ true) }
+        ensures ok { IfOk result (λ s.
+            IsStep B.sealing (SEALED - 16) (sealer_view self.old) piece.now s.0
+            (if s.1 then Some self.new.buffer.items else None) (sealer_view self.new)) }
+        ensures fits { IfOk result
+            (λ _. needs_too_many (SEALED - 16) (sealer_view self.old) piece.now ≡ false) }
+        ensures refused { OnErr result
+            (needs_too_many (SEALED - 16) (sealer_view self.old) piece.now ≡ true) }
         ensures fault { IfErr result (λ fault. fault ≡ too_many self.old.index) }
         ensures err { OnErr result (IsRefused (sealer_view self.old) (sealer_view self.new)) }
     {
@@ -91,17 +96,26 @@ impl<'k, B: ChunkBox, const SEALED: usize> SealerState<'k, B, SEALED> {
     // The same, for each text that the sealer may have been given.
     fn advance(&mut self, piece: &[u8]) -> Result<(usize, bool), StreamFault>
         requires { self.old.finished ≡ false }
-        ensures taken { IfOk result (λ s. s.0 ≡ step_len (SEALED - 16) (held_text self.old) piece.now) }
-        ensures holds { IfOk result (λ s. (text : List ℕ) → Holds (SEALED - 16) (sealer_view self.old) text → Holds (SEALED - 16) (sealer_view self.new) (text ++ take s.0 piece.now)) }
-        ensures blocks { IfOk result (λ s. (text : List ℕ) → Holds (SEALED - 16) (sealer_view self.old) text
-            → block_bytes (sealed_before_last (B.sealing self.old.key.now) (SEALED - 16) (text ++ take s.0 piece.now))
-            ≡ block_bytes (sealed_before_last (B.sealing self.old.key.now) (SEALED - 16) text) ++ lent_bytes (if s.1 then Some self.new.buffer.items else None)) }
-        ensures fits { IfOk result (λ _. needs_too_many (SEALED - 16) (sealer_view self.old) piece.now ≡ false) }
+        ensures taken { IfOk result
+            (λ s. s.0 ≡ step_len (SEALED - 16) (held_text self.old) piece.now) }
+        ensures holds { IfOk result (λ s. (text : List ℕ)
+            → Holds (SEALED - 16) (sealer_view self.old) text
+            → Holds (SEALED - 16) (sealer_view self.new) (text ++ take s.0 piece.now)) }
+        ensures blocks { IfOk result (λ s. (text : List ℕ)
+            → Holds (SEALED - 16) (sealer_view self.old) text
+            → block_bytes (sealed_before_last (B.sealing self.old.key.now) (SEALED - 16)
+            (text ++ take s.0 piece.now))
+            ≡ block_bytes (sealed_before_last (B.sealing self.old.key.now) (SEALED - 16) text)
+            ++ lent_bytes (if s.1 then Some self.new.buffer.items else None)) }
+        ensures fits { IfOk result
+            (λ _. needs_too_many (SEALED - 16) (sealer_view self.old) piece.now ≡ false) }
         ensures open { OnOk result (self.new.failed ≡ false) }
-        ensures refused { OnErr result (needs_too_many (SEALED - 16) (sealer_view self.old) piece.now ≡ true) }
+        ensures refused { OnErr result
+            (needs_too_many (SEALED - 16) (sealer_view self.old) piece.now ≡ true) }
         ensures fault { IfErr result (λ fault. fault ≡ too_many self.old.index) }
         ensures err { OnErr result (IsRefused (sealer_view self.old) (sealer_view self.new)) }
-        ensures same { (self.new.key.now ≡ self.old.key.now) × (self.new.finished ≡ self.old.finished) }
+        ensures same { (self.new.key.now ≡ self.old.key.now)
+            × (self.new.finished ≡ self.old.finished) }
     {
         self.step(piece)
     }
@@ -110,9 +124,11 @@ impl<'k, B: ChunkBox, const SEALED: usize> SealerState<'k, B, SEALED> {
     fn close(&mut self) -> Result<(), StreamFault>
         requires { self.old.finished ≡ false }
         ensures ok { OnOk result ((self.new.finished ≡ true) × (self.old.failed ≡ false)) }
-        ensures fault { IfErr result (λ fault. (self.old.failed ≡ true) × (fault ≡ too_many self.old.index)) }
+        ensures fault { IfErr result (λ fault. (self.old.failed ≡ true)
+            × (fault ≡ too_many self.old.index)) }
         ensures err { OnErr result (IsRefused (sealer_view self.old) (sealer_view self.new)) }
-        ensures block { OnOk result (self.new.buffer.items ≡ B.sealing self.old.key.now (nonce_bytes self.old.index true) (held_text self.old)) }
+        ensures block { OnOk result (self.new.buffer.items
+            ≡ B.sealing self.old.key.now (nonce_bytes self.old.index true) (held_text self.old)) }
         ensures key { self.new.key ≡ self.old.key }
     {
         if self.failed {
@@ -128,11 +144,14 @@ impl<'k, B: ChunkBox, const SEALED: usize> SealerState<'k, B, SEALED> {
     fn close_text(&mut self) -> Result<(), StreamFault>
         requires { self.old.finished ≡ false }
         ensures ok { OnOk result ((self.new.finished ≡ true) × (self.old.failed ≡ false)) }
-        ensures fault { IfErr result (λ fault. (self.old.failed ≡ true) × (fault ≡ too_many self.old.index)) }
+        ensures fault { IfErr result (λ fault. (self.old.failed ≡ true)
+            × (fault ≡ too_many self.old.index)) }
         ensures err { OnErr result (IsRefused (sealer_view self.old) (sealer_view self.new)) }
-        ensures blocks { OnOk result ((text : List ℕ) → Holds (SEALED - 16) (sealer_view self.old) text
+        ensures blocks { OnOk result ((text : List ℕ)
+            → Holds (SEALED - 16) (sealer_view self.old) text
             → payload (B.sealing self.old.key.now) (SEALED - 16) text
-            ≡ block_bytes (sealed_before_last (B.sealing self.old.key.now) (SEALED - 16) text) ++ self.new.buffer.items) }
+            ≡ block_bytes (sealed_before_last (B.sealing self.old.key.now) (SEALED - 16) text)
+            ++ self.new.buffer.items) }
         ensures key { self.new.key ≡ self.old.key }
     {
         self.close()
@@ -167,7 +186,8 @@ impl<'k, B: ChunkBox, const SEALED: usize> Sealer<'k, B, SEALED> {
     pub fn new(key: &'k B) -> Self
         requires least { 17 ≤ SEALED }
         requires most { SEALED ≤ 65552 }
-        ensures { result ≡ record { key = key.now; held = []; index = 0; failed = false; finished = false } }
+        ensures { result
+            ≡ record { key = key.now; held = []; index = 0; failed = false; finished = false } }
     {
         Sealer {
             state: SealerState {
@@ -197,14 +217,22 @@ impl<'k, B: ChunkBox, const SEALED: usize> Sealer<'k, B, SEALED> {
         requires { self.old.finished ≡ false }
         ensures* after { sem 𝓛 (Rests (sealer_row B.row SEALED.row B.ChunkBox) self.entry (λ new.
             (new.key ≡ self.old.key) × (new.finished ≡ false)
-            × IfOk result (λ s. (new.failed ≡ false) × ((text : List ℕ) → Holds (SEALED - 16) self.old text → Holds (SEALED - 16) new (text ++ take s.taken piece.now)))
-            × OnErr result ((new.held ≡ self.old.held) × (new.index ≡ self.old.index) × (new.failed ≡ true)))) }
-        ensures taken { IfOk result (λ s. s.taken ≡ step_len (SEALED - 16) self.old.held piece.now) }
+            × IfOk result (λ s. (new.failed ≡ false)
+            × ((text : List ℕ) → Holds (SEALED - 16) self.old text
+            → Holds (SEALED - 16) new (text ++ take s.taken piece.now)))
+            × OnErr result ((new.held ≡ self.old.held) × (new.index ≡ self.old.index)
+            × (new.failed ≡ true)))) }
+        ensures taken { IfOk result
+            (λ s. s.taken ≡ step_len (SEALED - 16) self.old.held piece.now) }
         ensures chunk { IfOk result (λ s. (text : List ℕ) → Holds (SEALED - 16) self.old text
-            → block_bytes (sealed_before_last (B.sealing self.old.key) (SEALED - 16) (text ++ take s.taken piece.now))
-            ≡ block_bytes (sealed_before_last (B.sealing self.old.key) (SEALED - 16) text) ++ lent_bytes (lent s.chunk)) }
+            → block_bytes (sealed_before_last (B.sealing self.old.key) (SEALED - 16)
+            (text ++ take s.taken piece.now))
+            ≡ block_bytes (sealed_before_last (B.sealing self.old.key) (SEALED - 16) text)
+            ++ lent_bytes (lent s.chunk)) }
         ensures fits { IfOk result (λ _. needs_too_many (SEALED - 16) self.old piece.now ≡ false) }
-        ensures refused { IfErr result (λ fault. (needs_too_many (SEALED - 16) self.old piece.now ≡ true) × (fault ≡ too_many self.old.index)) }
+        ensures refused { IfErr result
+            (λ fault. (needs_too_many (SEALED - 16) self.old piece.now ≡ true)
+            × (fault ≡ too_many self.old.index)) }
     {
         let (taken, full) = match self.state.advance(piece) {
             Ok(step) => step,
@@ -226,12 +254,15 @@ impl<'k, B: ChunkBox, const SEALED: usize> Sealer<'k, B, SEALED> {
         ensures* after { sem 𝓛 (Rests (sealer_row B.row SEALED.row B.ChunkBox) self.entry (λ new.
             (new.key ≡ self.old.key)
             × OnOk result (new.finished ≡ true)
-            × OnErr result ((new.held ≡ self.old.held) × (new.index ≡ self.old.index) × (new.failed ≡ true) × (new.finished ≡ false)))) }
+            × OnErr result ((new.held ≡ self.old.held) × (new.index ≡ self.old.index)
+            × (new.failed ≡ true) × (new.finished ≡ false)))) }
         ensures chunk { IfOk result (λ block. (text : List ℕ) → Holds (SEALED - 16) self.old text
             → payload (B.sealing self.old.key) (SEALED - 16) text
-            ≡ block_bytes (sealed_before_last (B.sealing self.old.key) (SEALED - 16) text) ++ block.now) }
+            ≡ block_bytes (sealed_before_last (B.sealing self.old.key) (SEALED - 16) text)
+            ++ block.now) }
         ensures fits { OnOk result (self.old.failed ≡ false) }
-        ensures refused { IfErr result (λ fault. (self.old.failed ≡ true) × (fault ≡ too_many self.old.index)) }
+        ensures refused { IfErr result (λ fault. (self.old.failed ≡ true)
+            × (fault ≡ too_many self.old.index)) }
     {
         match self.state.close_text() {
             Ok(()) => {}

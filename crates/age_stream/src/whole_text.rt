@@ -72,7 +72,8 @@ pub fn seal_all<B: ChunkBox, const SEALED: usize>(
 ) -> Result<Vec<u8>, SealFault>
     requires least { 17 ≤ SEALED }
     requires most { SEALED ≤ 65552 }
-    ensures sealed { IfOk result (λ v. v.items ≡ payload (B.sealing key.now) (SEALED - 16) text.now) }
+    ensures sealed { IfOk result
+        (λ v. v.items ≡ payload (B.sealing key.now) (SEALED - 16) text.now) }
     ensures refused { IfErr result (SealRefuses (SEALED - 16) text.now) }
 {
     let mut out = Vec::new(alloc);
