@@ -6,7 +6,7 @@ use Rattle.std.specs.List.{flat_map, AllByRecursion}
 use Rattle.std.proofs.lemmas.List.{length-append, append_assoc, take_at, drop_at}
 use Rattle.std.proofs.lemmas.Grind.{flat_map-append}
 use Rattle.std.proofs.Math.Nat.{le-div_iff_mul-le}
-use Rattle.age_stream.specs.Nonce.{nonce_bytes}
+use Rattle.age_stream.specs.Nonce.{nonce_bytes, chunk_limit}
 use Rattle.age_stream.specs.Lawful.{IsLawful}
 use Rattle.age_stream.specs.Segment.{Segment, Outcome, outcome, front_texts, text_then, text_before_last, unless_greatest, whole_blocks, rest_bytes, released}
 use Rattle.age_stream.specs.Laws.{IsCounted, counted}
@@ -47,7 +47,7 @@ module _ (sealing : List ℕ → List ℕ → List ℕ) (opening : List ℕ → 
 
   before : (i : ℕ) (o : Option (List ℕ)) (t : List ℕ) → unless_greatest i o ≡ Some t → o ≡ Some t
   before i None t e = e
-  before i (Some x) t e = unless i (Some x) t (nat_lt (i + 1) 281474976710656) e
+  before i (Some x) t e = unless i (Some x) t (nat_lt (i + 1) chunk_limit) e
 
   full_then : (o : Option (List ℕ)) (rest : List (List ℕ)) → ((t : List ℕ) → o ≡ Some t → length t ≡ n)
       → AllByRecursion (λ (t : List ℕ). length t ≡ n) rest → AllByRecursion (λ (t : List ℕ). length t ≡ n) (text_then opening o rest)

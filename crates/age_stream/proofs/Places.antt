@@ -8,7 +8,7 @@ use Rattle.std.proofs.lemmas.List.Folds.{list_any_at, Any-from_list_any}
 use Rattle.std.proofs.lemmas.Bool.{cases_lt, lt-ltb}
 use Rattle.std.proofs.lemmas.Bool.Decides.{nat_tests}
 use Rattle.age_stream.specs.Lawful.{IsLawful}
-use Rattle.age_stream.specs.Nonce.{nonce_bytes}
+use Rattle.age_stream.specs.Nonce.{nonce_bytes, chunk_limit}
 use Rattle.age_stream.specs.Payload.{chunk_count, sealed}
 use Rattle.age_stream.specs.Segment.{Segment, Outcome, outcome, text_before_last, unless_greatest, text_then, front_texts, after_last, at_block, at_rest, whole_blocks, rest_bytes, failed}
 use Rattle.age_stream.specs.declared.step.Status.{Status}
@@ -54,7 +54,7 @@ four false false true true w x y u v f = refl
 four false false true false w x y u v f = f refl refl (λ e. refl)
 
 module _ (sealing : List ℕ → List ℕ → List ℕ) (opening : List ℕ → List ℕ → Option (List ℕ)) (lawful : IsLawful sealing opening)
-    (n : ℕ) (text : List ℕ) (few : chunk_count n text ≤ 281474976710656) (positive : 0 < n) where
+    (n : ℕ) (text : List ℕ) (few : chunk_count n text ≤ chunk_limit) (positive : 0 < n) where
   abbrev other : List ℕ → List ℕ → Option (List ℕ)
   other = compared sealing opening n text
 
@@ -291,7 +291,7 @@ module _ (sealing : List ℕ → List ℕ → List ℕ) (opening : List ℕ → 
         (λ _. last)))
 
     module _ (reached : IsReached sealing opening n text s) where
-      low : at < 281474976710656
+      low : at < chunk_limit
       low = (front_carries sealing opening lawful n text few positive blocks s.start reached.within auth.front).small reached.limit
 
       -- the block at which it stands doesn't open as one before the last
@@ -305,7 +305,7 @@ module _ (sealing : List ℕ → List ℕ → List ℕ) (opening : List ℕ → 
           let below = c.below in
           let flag = c.flag in
           let more : at + 1 < chunk_count n text = grind (arith, nat_tests) in
-          let t : nat_lt (at + 1) 281474976710656 ≡ true = lt-ltb (at + 1) 281474976710656 (omega (arith, more, few)) in
+          let t : nat_lt (at + 1) chunk_limit ≡ true = lt-ltb (at + 1) chunk_limit (omega (arith, more, few)) in
           let is : text_before_last opening at b ≡ Some x = ap (unless_greatest at) e ∙ ap (λ (y : Bool). cond y (Some x) None) t in
           let no : None ≡ Some x = sym (front_stops blocks s.start lt) ∙ is in
           cc

@@ -1,6 +1,7 @@
 -- What is held after a list of deliveries.
 use Rattle.std.specs.Prelude.{ℕ, ◌+◌, ◌*◌, Bool, true, false, ◌||◌, ◌&&◌, nat_lt, nat_le, min, List, [], ◌∷◌, ◌++◌, length, take, Option, if◌then◌else◌}
 use Rattle.std.specs.List.{flat_map}
+use Rattle.age_stream.specs.Nonce.{chunk_limit}
 use Rattle.age_stream.specs.Segment.{Segment, outcome}
 use Rattle.age_stream.specs.declared.delivery.Delivery.{Delivery}
 use Rattle.age_stream.specs.declared.delivery.Delivery.TheVariants.{Piece, End, Restart}
@@ -38,7 +39,7 @@ module _ (opening : List ℕ → List ℕ → Option (List ℕ)) (n : ℕ) where
   text_held s = s.base ++ flat_map (λ text. text) (outcome opening n s.segment).texts
 
   abbrev pub accepts : Standing → ℕ → Bool
-  accepts s k = nat_lt k 281474976710656 && nat_le (k * n) (length (text_held s))
+  accepts s k = nat_lt k chunk_limit && nat_le (k * n) (length (text_held s))
 
   abbrev pub after_delivery : Standing → Delivery → Standing
   after_delivery s (Piece piece) = record {

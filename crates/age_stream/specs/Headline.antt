@@ -3,7 +3,7 @@ use Rattle.std.specs.Prelude.{◌≡◌, ℕ, ◌+◌, ◌*◌, ◌/◌, ◌<◌
 use Rattle.std.specs.List.{AllByRecursion, flat_map}
 use Rattle.age_stream.specs.declared.step.Status.{Status}
 use Rattle.age_stream.specs.declared.step.Status.TheVariants.{Done}
-use Rattle.age_stream.specs.Nonce.{nonce_bytes}
+use Rattle.age_stream.specs.Nonce.{nonce_bytes, chunk_limit}
 use Rattle.std.specs.Borrow.{Bor}
 use Rattle.age_stream.specs.Payload.{sealed, payload, chunk_count}
 use Rattle.age_stream.specs.Segment.{Segment, front_texts, whole_blocks, rest_bytes}
@@ -74,7 +74,7 @@ module _ (sealing : List ℕ → List ℕ → List ℕ) (opening : List ℕ → 
 
   -- the segment starts at a chunk that the text reaches
   pub record IsReached (s : Segment) : Type 0 where
-    pub limit : s.start < 281474976710656
+    pub limit : s.start < chunk_limit
     pub within : s.start * n ≤ length text
 
   -- the segment is the payload from its start on, and an end
@@ -95,13 +95,13 @@ module _ (sealing : List ℕ → List ℕ → List ℕ)
     (opening : List ℕ → List ℕ → Option (List ℕ)) (n : ℕ) where
   -- the headline: for every text of at most 2^48 chunks, while no delivered block opens except as its writer sealed it
   abbrev pub HoldsWritten : List Delivery → List ℕ → Status → Type 0
-  HoldsWritten deliveries held status = (text : List ℕ) → chunk_count n text ≤ 281474976710656
+  HoldsWritten deliveries held status = (text : List ℕ) → chunk_count n text ≤ chunk_limit
       → AreAuthentic sealing opening n text deliveries
       → IsHeldRight sealing opening n text deliveries held status
 
   -- the headline of one segment
   abbrev pub ReleasesWritten : Segment → List ℕ → Status → Type 0
-  ReleasesWritten s released status = (text : List ℕ) → chunk_count n text ≤ 281474976710656
+  ReleasesWritten s released status = (text : List ℕ) → chunk_count n text ≤ chunk_limit
       → IsReached sealing opening n text s
       → IsAuthentic sealing opening n text s
       → IsReleasedRight sealing opening n text s released status

@@ -3,7 +3,7 @@ use Rattle.std.specs.Prelude.{◌≡◌, ℕ, ◌+◌, ◌-◌, ◌*◌, ◌<◌
 use Rattle.std.specs.List.{flat_map}
 use Rattle.std.specs.Simd.{first_chunks}
 use Rattle.age_stream.specs.Lawful.{IsLawful}
-use Rattle.age_stream.specs.Nonce.{nonce_bytes}
+use Rattle.age_stream.specs.Nonce.{nonce_bytes, chunk_limit}
 use Rattle.age_stream.specs.Payload.{sealed_before_last, block_bytes}
 use Rattle.age_stream.specs.Segment.{Segment, outcome, released}
 use Rattle.age_stream.specs.Deliveries.{with_piece}
@@ -12,7 +12,7 @@ use Rattle.age_stream.specs.declared.step.Status.TheVariants.{Open}
 
 -- no two chunks of a payload have the same nonce
 abbrev pub NoncesDiffer : Type 0
-NoncesDiffer = (i j : ℕ) (a b : Bool) → i < 281474976710656 → j < 281474976710656
+NoncesDiffer = (i j : ℕ) (a b : Bool) → i < chunk_limit → j < chunk_limit
     → nonce_bytes i a ≡ nonce_bytes j b → (i ≡ j) × (a ≡ b)
 
 -- two pieces are one

@@ -2,7 +2,7 @@
 use Rattle.std.specs.Prelude.{ℕ, ◌+◌, ◌*◌, ◌/◌, Bool, true, false, ◌||◌, ◌==◌, nat_lt, List, [], ◌∷◌, ◌++◌, length, drop, Option, Some, None, if◌then◌else◌, slice_get}
 use Rattle.std.specs.List.{flat_map}
 use Rattle.std.specs.Simd.{first_chunks}
-use Rattle.age_stream.specs.Nonce.{nonce_bytes}
+use Rattle.age_stream.specs.Nonce.{nonce_bytes, chunk_limit}
 use Rattle.age_stream.specs.declared.step.Status.{Status}
 use Rattle.age_stream.specs.declared.step.Status.TheVariants.{Open, LastSeen, Done, Failed}
 use Rattle.age_stream.specs.declared.fault.StreamKind.{StreamKind}
@@ -50,7 +50,7 @@ status_ended Open = Open
 -- the greatest number has no block before the last
 abbrev pub unless_greatest : ℕ → Option (List ℕ) → Option (List ℕ)
 unless_greatest i None = None
-unless_greatest i (Some text) = if nat_lt (i + 1) 281474976710656 then Some text else None
+unless_greatest i (Some text) = if nat_lt (i + 1) chunk_limit then Some text else None
 
 module _ (opening : List ℕ → List ℕ → Option (List ℕ)) where
   -- the text of block number i as one before the last

@@ -6,7 +6,7 @@ ghost use Rattle.std.specs.Borrow.{sem};
 ghost use Rattle.std.specs.Io.BufRead.{Rests};
 ghost use Rattle.age_stream.specs.Lent.{lent_text};
 ghost use Rattle.age_stream.specs.Headline.{ReleasesWritten};
-ghost use Rattle.age_stream.specs.Nonce.{nonce_bytes};
+ghost use Rattle.age_stream.specs.Nonce.{nonce_bytes, chunk_limit};
 ghost use Rattle.age_stream.specs.declared.step.Status.TheVariants.{Open};
 ghost use Rattle.age_stream.specs.declared.fault.StreamFault.{StreamFault as StreamFaultValue};
 
@@ -27,7 +27,7 @@ struct OpenerState<'k, B: ChunkBox, const SEALED: usize> {
     index: u64,
     status: Status,
     ghost sizes: { (17 ≤ SEALED) × (SEALED ≤ 65552) },
-    ghost limit: { index < 281474976710656 },
+    ghost limit: { index < chunk_limit },
     ghost room: { status ≡ Open → lent ≡ false → length buffer.items < SEALED },
 }
 
@@ -292,7 +292,7 @@ impl<'k, B: ChunkBox, const SEALED: usize> Opener<'k, B, SEALED> {
     pub fn at(key: &'k B, index: u64) -> Self
         requires least { 17 ≤ SEALED }
         requires most { SEALED ≤ 65552 }
-        requires limit { index < 281474976710656 }
+        requires limit { index < chunk_limit }
         ensures view { result
             ≡ record { key = key.now; held = []; index = index; status = Status.Open } }
         ensures stands { Stands B.opening (SEALED - 16) result (fresh index) }
@@ -312,7 +312,7 @@ impl<'k, B: ChunkBox, const SEALED: usize> Opener<'k, B, SEALED> {
     /// at, and one more for each chunk that was opened as not the last.
     pub fn index(&self) -> u64
         ensures index { result ≡ self.now.index }
-        ensures limit { result < 281474976710656 }
+        ensures limit { result < chunk_limit }
     {
         self.state.index
     }

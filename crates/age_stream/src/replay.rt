@@ -3,6 +3,7 @@ ghost use Rattle.std.specs.Prelude.{◌≡◌, ◌+◌, ◌-◌, ◌*◌, ◌^�
 ghost use Rattle.std.specs.Bool.{OnTrue};
 ghost use Rattle.age_stream.specs.declared.delivery.Delivery.{Delivery as DeliveryValue};
 ghost use Rattle.age_stream.specs.Lent.{lent_text};
+ghost use Rattle.age_stream.specs.Nonce.{chunk_limit};
 ghost use Rattle.age_stream.specs.Headline.{HoldsWritten};
 
 use crate::chunk_box::ChunkBox;
@@ -124,7 +125,7 @@ impl<'k, B: ChunkBox, const SEALED: usize> ReplayState<'k, B, SEALED> {
 
     // Whether so many chunks are held.
     fn reaches(&self, k: u64) -> bool
-        ensures answer { result ≡ (nat_lt k 281474976710656
+        ensures answer { result ≡ (nat_lt k chunk_limit
             && nat_le (k * (SEALED - 16)) (length self.now.text.items)) }
         ensures fits { OnTrue result (k * (SEALED - 16) < 2 ^ 64) }
     {

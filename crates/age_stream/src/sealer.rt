@@ -2,7 +2,7 @@
 ghost use Rattle.std.specs.Prelude.{◌≡◌, ℕ, ◌+◌, ◌-◌, ◌<◌, ◌≤◌, List, [], ◌++◌, length, take, IfOk, OnOk, OnErr, IfErr, Some, None, IsNone, true, false, if◌then◌else◌};
 ghost use Rattle.std.specs.Borrow.{sem};
 ghost use Rattle.std.specs.Io.BufRead.{Rests};
-ghost use Rattle.age_stream.specs.Nonce.{nonce_bytes};
+ghost use Rattle.age_stream.specs.Nonce.{nonce_bytes, chunk_limit};
 
 use crate::chunk_box::ChunkBox;
 use crate::fault::{StreamFault, StreamKind};
@@ -24,7 +24,7 @@ struct SealerState<'k, B: ChunkBox, const SEALED: usize> {
     finished: bool,
     ghost sizes: { (17 ≤ SEALED) × (SEALED ≤ 65552) },
     ghost room: { finished ≡ false → IsNone beside → length buffer.items ≤ SEALED - 16 },
-    ghost limit: { index < 281474976710656 },
+    ghost limit: { index < chunk_limit },
 }
 
 impl<'k, B: ChunkBox, const SEALED: usize> SealerState<'k, B, SEALED> {
