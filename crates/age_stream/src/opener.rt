@@ -89,9 +89,11 @@ impl<'k, B: ChunkBox, const SEALED: usize> OpenerState<'k, B, SEALED> {
         self.settle();
         let room = SEALED - self.buffer.len();
         if piece.len() < room {
+            // shorter than the room
             let _ = self.buffer.try_extend_from_slice(piece);
             return Ok((piece.len(), false));
         }
+        // as long as the room
         let _ = self.buffer.try_extend_from_slice(&piece[..room]);
         self.lent = true;
         self.try_block()?;
@@ -248,10 +250,10 @@ impl<'k, B: ChunkBox, const SEALED: usize> OpenerState<'k, B, SEALED> {
     }
 }
 
-/// Opens a payload that comes in pieces, however they are cut. A whole block
-/// is tried at the nonce of a chunk that isn't the last, and then at that of
-/// the last one; what is left at the end of the input is tried as the last
-/// alone. A text is lent only once its tag was checked.
+/// Opens a payload that comes in pieces, however they are cut (C2SP age.md,
+/// "Payload"). A whole block is tried at the nonce of a chunk that isn't the
+/// last, and then at that of the last one; what is left at the end of the input
+/// is tried as the last alone. A text is lent only once its tag was checked.
 ///
 /// A contract sees the key, the bytes of the block that is open, the chunk's
 /// number and the status. They are what the outcome of a segment says: of all
@@ -342,6 +344,7 @@ impl<'k, B: ChunkBox, const SEALED: usize> Opener<'k, B, SEALED> {
         ensures most { result ≤ 65536 }
         ensures sizes { (17 ≤ SEALED) × (SEALED ≤ 65552) }
     {
+        // names the state, so that the proof knows its bounds on SEALED
         let _ = &self.state.lent;
         (SEALED - 16) as u64
     }
@@ -384,10 +387,7 @@ impl<'k, B: ChunkBox, const SEALED: usize> Opener<'k, B, SEALED> {
             → self.old.status ≡ Status.Failed earlier → fault ≡ earlier) }
         ensures unfailed { OnOk result (has_failed self.old.status ≡ false) }
     {
-        let (taken, full) = match self.state.advance(piece) {
-            Ok(step) => step,
-            Err(fault) => return Err(fault),
-        };
+        let (taken, full) = self.state.advance(piece)?;
         if !full {
             return Ok(Step { taken, chunk: None });
         }
@@ -427,10 +427,7 @@ impl<'k, B: ChunkBox, const SEALED: usize> Opener<'k, B, SEALED> {
             → self.old.status ≡ Status.Failed earlier → fault ≡ earlier) }
         ensures unfailed { OnOk result (has_failed self.old.status ≡ false) }
     {
-        let len = match self.state.close() {
-            Ok(len) => len,
-            Err(fault) => return Err(fault),
-        };
+        let len = self.state.close()?;
         Ok(&self.state.buffer.as_slice()[..len])
     }
 }

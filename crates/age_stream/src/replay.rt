@@ -116,9 +116,8 @@ impl<'k, B: ChunkBox, const SEALED: usize> ReplayState<'k, B, SEALED> {
         if self.text.reserve(held).is_err() {
             return Err(Memory);
         }
-        match self.opener.end() {
-            Ok(text) => push_text(&mut self.text, text),
-            Err(_) => {}
+        if let Ok(text) = self.opener.end() {
+            push_text(&mut self.text, text);
         }
         Ok(())
     }
@@ -296,6 +295,7 @@ fn push_text(text: &mut Vec<u8>, bytes: &[u8])
     requires { vec_len text.old + length bytes.now ≤ vec_capacity text.old }
     ensures { text.new.items ≡ text.old.items ++ bytes.now }
 {
+    // within the capacity no memory is asked for
     let _ = text.extend_from_slice(bytes);
 }
 
@@ -306,6 +306,7 @@ fn push_lent(text: &mut Vec<u8>, chunk: Option<&[u8]>)
     ensures capacity { vec_capacity text.old ≤ vec_capacity text.new }
 {
     if let Some(bytes) = chunk {
+        // within the capacity no memory is asked for
         let _ = text.extend_from_slice(bytes);
     }
 }

@@ -80,6 +80,7 @@ impl<'k, B: ChunkBox, const SEALED: usize> SealerState<'k, B, SEALED> {
         let room = SEALED - 16 - self.buffer.len();
         if room > 0 {
             let taken = room.min(piece.len());
+            // no more than there is room for
             let _ = self.buffer.try_extend_from_slice(&piece[..taken]);
             return Ok((taken, false));
         }
@@ -158,8 +159,9 @@ impl<'k, B: ChunkBox, const SEALED: usize> SealerState<'k, B, SEALED> {
     }
 }
 
-/// Seals a text that comes in pieces, however they are cut. A whole chunk is
-/// sealed once a byte behind it came, since only then it isn't the last.
+/// Seals a text that comes in pieces, however they are cut (C2SP age.md,
+/// "Payload"). A whole chunk is sealed once a byte behind it came, since only
+/// then it isn't the last.
 ///
 /// A contract sees the key, the text of the chunk that is open, its number,
 /// and whether the sealer was refused or finished.
@@ -234,10 +236,7 @@ impl<'k, B: ChunkBox, const SEALED: usize> Sealer<'k, B, SEALED> {
             (λ fault. (needs_too_many (SEALED - 16) self.old piece.now ≡ true)
             × (fault ≡ too_many self.old.index)) }
     {
-        let (taken, full) = match self.state.advance(piece) {
-            Ok(step) => step,
-            Err(fault) => return Err(fault),
-        };
+        let (taken, full) = self.state.advance(piece)?;
         if !full {
             return Ok(Step { taken, chunk: None });
         }
@@ -264,10 +263,7 @@ impl<'k, B: ChunkBox, const SEALED: usize> Sealer<'k, B, SEALED> {
         ensures refused { IfErr result (λ fault. (self.old.failed ≡ true)
             × (fault ≡ too_many self.old.index)) }
     {
-        match self.state.close_text() {
-            Ok(()) => {}
-            Err(fault) => return Err(fault),
-        }
+        self.state.close_text()?;
         Ok(self.state.buffer.as_slice())
     }
 }
@@ -283,6 +279,7 @@ fn seal_in<B: ChunkBox, const SEALED: usize>(
     requires limit { SEALED ≤ 65552 }
     ensures { buffer.new.items ≡ B.sealing key.now (nonce_bytes index last) buffer.old.items }
 {
+    // room for the tag is required
     let _ = buffer.try_extend_from_slice(&[0; 16]);
     key.seal_at(&nonce_of(index, last), buffer.as_mut_slice());
 }
