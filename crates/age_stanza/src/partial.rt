@@ -82,9 +82,7 @@ impl PartialHeader {
         ensures ok { IfOk result (λ longer. longer ≡ self ++ characters.now) }
         ensures err { IfErr result (λ fault. fault ≡ memory_fault) }
     {
-        let Ok(()) = self.line.extend_from_slice(characters) else {
-            return Err(MEMORY);
-        };
+        self.line.extend_from_slice(characters)?;
         self.bytes += characters.len();
         Ok(self)
     }
