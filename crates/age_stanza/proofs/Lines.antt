@@ -60,6 +60,10 @@ pub All-append : {X : Type 0} (P : X → Type 0) (xs ys : List X) → AllByRecur
 All-append P [] ys f g = g
 All-append P (x ∷ xs) ys f g = (f.0, All-append P xs ys f.1 g)
 
+pub All-front : {X : Type 0} (P : X → Type 0) (xs ys : List X) → AllByRecursion P (xs ++ ys) → AllByRecursion P xs
+All-front P [] ys f = tt
+All-front P (x ∷ xs) ys f = (f.0, All-front P xs ys f.1)
+
 pub All-back : {X : Type 0} (P : X → Type 0) (xs ys : List X) → AllByRecursion P (xs ++ ys) → AllByRecursion P ys
 All-back P [] ys f = f
 All-back P (x ∷ xs) ys f = All-back P xs ys f.1

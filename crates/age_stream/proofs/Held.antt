@@ -3,7 +3,7 @@ use Rattle.std.proofs.Common.{inl, inr, ◌≡◌, ℕ, ◌<◌, ◌≤◌, ◌+
 use Rattle.std.specs.Prelude.{Option, cond, min, nat_lt, nat_le, map}
 use Rattle.std.specs.List.{flat_map, AllByRecursion}
 use Rattle.std.proofs.lemmas.List.{take-append-le, length-append, append-nil, append_assoc}
-use Rattle.std.proofs.lemmas.Bool.{ltb-true, leb-true}
+use Rattle.std.proofs.lemmas.Bool.{ltb-true, leb-true, and_parts}
 use Rattle.age_stream.specs.Nonce.{chunk_limit}
 use Rattle.age_stream.specs.Lawful.{IsLawful}
 use Rattle.age_stream.specs.Payload.{chunk_count}
@@ -11,9 +11,9 @@ use Rattle.age_stream.specs.Segment.{Segment, outcome}
 use Rattle.age_stream.specs.Deliveries.{Standing, standing, standing_from, after_delivery, begin, fresh, with_piece, with_end, text_held, accepts}
 use Rattle.age_stream.specs.Headline.{IsAuthentic, AreAuthentic, IsHeldRight, IsReached, IsPrefixOf, IsStart, IsUndamaged}
 use Rattle.age_stream.specs.declared.step.Status.TheVariants.{Done}
-use Rattle.age_stream.proofs.Places.{both, in_place}
+use Rattle.age_stream.proofs.Places.{in_place}
 use Rattle.age_stream.proofs.Undamaged.{rest_segment, rest_payload, rest_is_done}
-use Rattle.age_stream.proofs.Segments.{released_segment, by_test}
+use Rattle.age_stream.proofs.Segments.{released_segment, by_test, piece_start}
 use Rattle.age_stream.specs.declared.delivery.Delivery.{Delivery}
 use Rattle.age_stream.specs.declared.delivery.Delivery.TheVariants.{Piece, End, Restart}
 use denote.Ref.{Bor}
@@ -40,15 +40,12 @@ module _ (sealing : List ℕ → List ℕ → List ℕ) (opening : List ℕ → 
   held_prefix : (s : Standing) → IsSound s → Good s.segment → IsPrefixOf (text_held opening n s) text
   held_prefix s sound good = (released_segment sealing opening lawful n text few positive s.segment s.base sound.small sound.fits sound.base good).prefix
 
-  piece_start : (s : Segment) (p : List ℕ) → (with_piece s p).start ≡ s.start
-  piece_start s p = by_test (λ (t : Segment). t.start ≡ s.start) s.ended _ _ (λ _. refl) (λ _. refl)
-
   restarted : (s : Standing) (k : ℕ) → IsSound s → Good s.segment → accepts opening n s k ≡ true
       → IsSound (record { given_up = s.given_up ++ s.segment ∷ []; base = take (k * n) (text_held opening n s); segment = fresh k; refused = s.refused })
   restarted s k sound good sure =
       let p = held_prefix s sound good in
       let held = text_held opening n s in
-      let a : (nat_lt k chunk_limit ≡ true) × (nat_le (k * n) (length held) ≡ true) = both (nat_lt k chunk_limit) (nat_le (k * n) (length held)) sure in
+      let a : (nat_lt k chunk_limit ≡ true) × (nat_le (k * n) (length held) ≡ true) = and_parts (nat_lt k chunk_limit) (nat_le (k * n) (length held)) sure in
       let le : k * n ≤ length held = leb-true (k * n) (length held) a.1 in
       let len : length (held ++ p.0) ≡ length held + length p.0 = length-append held p.0 in
       let len2 : length (held ++ p.0) ≡ length text = ap length p.1 in

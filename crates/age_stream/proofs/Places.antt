@@ -5,7 +5,7 @@ use Rattle.std.specs.Str.{bytes_eq}
 use Rattle.std.proofs.lemmas.Slice.Eq.{bytes_eq-Decides}
 use Rattle.std.proofs.lemmas.List.{length-take, length-drop, take_all}
 use Rattle.std.proofs.lemmas.List.Folds.{list_any_at, Any-from_list_any}
-use Rattle.std.proofs.lemmas.Bool.{cases_lt, lt-ltb}
+use Rattle.std.proofs.lemmas.Bool.{cases_lt, lt-ltb, and_parts}
 use Rattle.std.proofs.lemmas.Bool.Decides.{nat_tests}
 use Rattle.age_stream.specs.Lawful.{IsLawful}
 use Rattle.age_stream.specs.Nonce.{nonce_bytes, chunk_limit}
@@ -21,10 +21,6 @@ use Rattle.age_stream.proofs.Nonces.{nonce_bytes-length, nonce_bytes-flag}
 use Rattle.age_stream.proofs.Chunks.{length-first_chunks, get_or-first_chunks}
 use Rattle.age_stream.proofs.Segments.{by_test, writer_text, next_within, opens_before, front_carries, IsPair-from_Contains}
 use Rattle.age_stream.proofs.Going.{place, at_place, past_place, rest_short}
-
-pub both : (a b : Bool) → (a && b) ≡ true → (a ≡ true) × (b ≡ true)
-both true b e = (refl, e)
-both false b e = cc
 
 cond_none : (b : Bool) → cond {A = Option (List ℕ)} b None None ≡ None
 cond_none true = refl
@@ -76,7 +72,7 @@ module _ (sealing : List ℕ → List ℕ → List ℕ) (opening : List ℕ → 
   Contains_from_sure nonce block e =
       let p : List ℕ × List ℕ → Bool = λ pair. bytes_eq pair.0 nonce && bytes_eq pair.1 block in
       let a = Any-from_list_any p (sealed sealing n text) e in
-      let t = both (bytes_eq a.1.0 nonce) (bytes_eq a.1.1 block) a.4 in
+      let t = and_parts (bytes_eq a.1.0 nonce) (bytes_eq a.1.1 block) a.4 in
       let first : a.1.0 ≡ nonce = (bytes_eq-Decides a.1.0 nonce).0 t.0 in
       let second : a.1.1 ≡ block = (bytes_eq-Decides a.1.1 block).0 t.1 in
       let is : a.1 ≡ (nonce, block) = ap (λ (x : List ℕ). (x, a.1.1)) first ∙ ap (λ (x : List ℕ). (nonce, x)) second in

@@ -8,6 +8,7 @@ use Rattle.std.proofs.lemmas.Bool.{ltb-true, cases_lt, eq-eqb, ne_eqb}
 use Rattle.std.proofs.lemmas.Bool.Decides.{nat_tests}
 use Rattle.std.proofs.Math.Nat.{le-div_iff_mul-le}
 use Rattle.std.proofs.lemmas.List.FromFn.{length-enumerate_from, get_or-enumerate_from}
+use Rattle.std.proofs.lemmas.Option.{cond_some}
 use Rattle.age_stream.specs.Lawful.{IsLawful}
 use Rattle.age_stream.specs.Nonce.{nonce_bytes, chunk_limit}
 use Rattle.age_stream.specs.Payload.{chunk_count, last_index, last_chunk, pair, sealed_before_last, sealed}
@@ -16,6 +17,7 @@ use Rattle.age_stream.specs.declared.step.Status.{Status}
 use Rattle.age_stream.specs.declared.step.Status.TheVariants.{Open, Done}
 use Rattle.age_stream.specs.declared.fault.StreamKind.TheVariants.{ChunkDamaged, ChunkCut, EmptyLast, Truncated, TooManyChunks}
 use Rattle.age_stream.specs.Headline.{IsWriters, IsAuthentic, IsPrefixOf}
+use Rattle.age_stream.specs.Deliveries.{with_piece}
 use Rattle.age_stream.proofs.Nonces.{nonce_bytes-length, nonce_bytes-number, nonce_bytes-flag}
 use Rattle.age_stream.proofs.Chunks.{length-first_chunks, get_or-first_chunks, last_chunk_le, slice_get-within, slice_get-past}
 
@@ -65,10 +67,6 @@ IsPair-from_Contains sealing n text nonce block positive h =
           pair_at sealing n text nonce block true q (last_chunk n text) (sym h.2 ∙ e0) (omega arith) (sym (eq-eqb (q + 1) (q + 1) refl)) (sym (take_all n (last_chunk n text) short)))
     ]
 
-tested : (b : Bool) (x y : List ℕ) → cond b (Some x) None ≡ Some y → (b ≡ true) × (Some x ≡ Some y)
-tested true x y e = (refl, e)
-tested false x y e = cc
-
 pub by_test : {A : Type 0} (P : A → Type 0) (b : Bool) (x y : A) → (b ≡ true → P x) → (b ≡ false → P y) → P (cond b x y)
 by_test P true x y f g = f refl
 by_test P false x y f g = g refl
@@ -78,6 +76,19 @@ pub record IsChunk (n : ℕ) (text : List ℕ) (i : ℕ) (last : Bool) (x : List
   pub below : i < chunk_count n text
   pub flag : last ≡ (i + 1 == chunk_count n text)
   pub is : x ≡ take n (drop (i * n) text)
+
+-- no more texts than blocks
+pub length-front_texts : (opening : List ℕ → List ℕ → Option (List ℕ)) (blocks : List (List ℕ)) (i : ℕ) → length (front_texts opening i blocks) ≤ length blocks
+length-front_texts opening [] i = omega arith
+length-front_texts opening (block ∷ blocks) i =
+    let h = length-front_texts opening blocks (i + 1) in
+    let P : List (List ℕ) → Type 0 = λ ts. length ts ≤ suc (length blocks) in
+    elim (text_before_last opening i block) as (λ o. P (text_then opening o (front_texts opening (i + 1) blocks)))
+    [ None ↦ omega arith | Some x ↦ omega (arith, h) ]
+
+-- a piece leaves the start
+pub piece_start : (s : Segment) (p : List ℕ) → (with_piece s p).start ≡ s.start
+piece_start s p = by_test (λ (t : Segment). t.start ≡ s.start) s.ended _ _ (λ _. refl) (λ _. refl)
 
 module _ (sealing : List ℕ → List ℕ → List ℕ) (opening : List ℕ → List ℕ → Option (List ℕ)) (lawful : IsLawful sealing opening)
     (n : ℕ) (text : List ℕ) (few : chunk_count n text ≤ chunk_limit) (positive : 0 < n) where
@@ -109,7 +120,7 @@ module _ (sealing : List ℕ → List ℕ → List ℕ) (opening : List ℕ → 
 
   pub opens_before : (i : ℕ) (o : Option (List ℕ)) (x : List ℕ) → unless_greatest i o ≡ Some x → (nat_lt (i + 1) chunk_limit ≡ true) × (o ≡ Some x)
   opens_before i None x e = cc
-  opens_before i (Some y) x e = tested (nat_lt (i + 1) chunk_limit) y x e
+  opens_before i (Some y) x e = let t = cond_some (nat_lt (i + 1) chunk_limit) y x e in (t.0, ap Some t.1)
 
   pub next_within : (i : ℕ) → i < chunk_count n text → false ≡ (i + 1 == chunk_count n text) → (i + 1) * n ≤ length text
   next_within i below flag =
@@ -219,14 +230,6 @@ module _ (sealing : List ℕ → List ℕ → List ℕ) (opening : List ℕ → 
       (λ f3. last (grind (arith, nat_tests)) (λ _. grind (arith, nat_tests))))
       (λ f2. last (grind (arith, nat_tests)) (λ h. absurd (grind (arith, nat_tests))))))
 
-  length_front : (blocks : List (List ℕ)) (i : ℕ) → length (front_texts opening i blocks) ≤ length blocks
-  length_front [] i = omega arith
-  length_front (block ∷ blocks) i =
-      let h = length_front blocks (i + 1) in
-      let P : List (List ℕ) → Type 0 = λ ts. length ts ≤ suc (length blocks) in
-      elim (text_before_last opening i block) as (λ o. P (text_then opening o (front_texts opening (i + 1) blocks)))
-      [ None ↦ omega arith | Some x ↦ omega (arith, h) ]
-
   pub released_segment : (s : Segment) (base : List ℕ) → s.start < chunk_limit → s.start * n ≤ length text → base ≡ take (s.start * n) text
       → IsAuthentic sealing opening n text s → IsReleased (s.start + length (front_texts opening s.start (whole_blocks n s.bytes))) base (outcome opening n s)
   released_segment s base small fits e auth =
@@ -250,7 +253,7 @@ module _ (sealing : List ℕ → List ℕ → List ℕ) (opening : List ℕ → 
             (opening (nonce_bytes i false) (get_or blocks m [])) low (auth.next lt' true) here))
         | inr le ↦
             (let is : slice_get blocks m ≡ None = slice_get-past blocks m le in
-            let eq : m ≡ length s.bytes / size = omega (arith, le, count, length_front blocks s.start) in
+            let eq : m ≡ length s.bytes / size = omega (arith, le, count, length-front_texts opening blocks s.start) in
             subst (λ (b : Option (List ℕ)). IsReleased i base (stop opening texts i b behind rest s.late s.ended)) (sym is)
             (released_rest i base texts rest s.late s.ended low
             (λ t h z. subst (λ (k : ℕ). IsWriters sealing opening n text (nonce_bytes (s.start + k) true) rest) (sym eq)
