@@ -1,5 +1,5 @@
 -- A text changed place by place, part by part.
-use Rattle.std.proofs.Common.{◌≡◌, ◌≢◌, ℕ, ◌+◌, ◌-◌, ◌*◌, ◌/◌, ◌%◌, ◌<◌, ◌≤◌, List, ◌++◌, length, min, take, drop, get_or, slice_index, bit_xor, set, refl, ap, ap₂, ◌∙◌, arith, inl, inr, length-take, length-drop, below_more, get_or-set_other, get_or-set_same}
+use Rattle.std.proofs.Common.{◌≡◌, ℕ, ◌+◌, ◌-◌, ◌*◌, ◌/◌, ◌%◌, ◌<◌, ◌≤◌, List, ◌++◌, length, min, take, drop, get_or, slice_index, bit_xor, refl, ap, ap₂, ◌∙◌, arith, inl, inr, length-take, length-drop}
 use Rattle.std.proofs.lemmas.Bool.{cases_lt}
 use Rattle.std.proofs.lemmas.List.{get_or_append_left, get_or-append_right, get_or-take, get_or-drop}
 use Rattle.std.specs.Int.{byte_at}
@@ -57,15 +57,6 @@ part_xored stream other a b k old text ys long room up last same x s =
       ];
       left = λ j h. get_or-put_above a k text ys j len (omega arith) (omega arith) ∙ s.left j (omega arith);
     }
-
-pub byte_xored : (stream : ℕ → ℕ) (i x : ℕ) (old text : List ℕ) → i < length text → x ≡ stream i
-    → IsXoredBelow stream i old text → IsXoredBelow stream (i + 1) old (set text i (bit_xor (slice_index text i) x))
-byte_xored stream i x old text h e s = record {
-  done = below_more _ _
-      (λ j below. λ short. let ne : j ≢ i = omega arith in rw get_or-set_other (s.done j below short))
-      (λ short. rw get_or-set_same (ap₂ bit_xor (s.left i (omega arith)) e));
-  left = λ j above. let ne : j ≢ i = omega arith in rw get_or-set_other (s.left j (omega arith));
-}
 
 pub all_xored : (stream : ℕ → ℕ) (i : ℕ) (old text : List ℕ) → length text ≡ length old → length old ≤ i
     → IsXoredBelow stream i old text → IsXored stream old text

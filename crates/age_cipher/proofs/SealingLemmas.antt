@@ -7,6 +7,7 @@ use Rattle.std.specs.Int.Bits.{xor_assoc, xor_self, xor_zero_r}
 use Rattle.std.proofs.lemmas.Slice.Eq.{bytes_eq-Decides}
 use Rattle.std.proofs.lemmas.List.{take_at, drop_at, ext_get_or}
 use Rattle.std.proofs.lemmas.List.FromFn.{length-map-range_with_len, get_or-map-range_with_len}
+use Rattle.std.proofs.lemmas.Option.{cond_some}
 use Rattle.age_cipher.specs.Keystream.{keystream_byte, ciphertext}
 use Rattle.age_cipher.specs.Poly1305.{poly1305}
 use Rattle.age_cipher.specs.Aead.{tag, sealing, IsSealing}
@@ -83,16 +84,12 @@ opening_of_sealing key nonce aad text =
     ap (λ (t : List ℕ). cond (bytes_eq (sealing key nonce aad t) b) (Some t) None) (deciphered_front key nonce aad text)
     ∙ ap (λ (s : Bool). cond s (Some text) None) ((bytes_eq-Decides b b).1 refl)
 
-chosen : (b : Bool) (x y : List ℕ) → cond b (Some x) None ≡ Some y → (b ≡ true) × (x ≡ y)
-chosen true x y e = (refl, cc)
-chosen false x y e = cc
-
 -- what a block opens to seals to the block
 pub sealing_of_opening : (key nonce aad block text : List ℕ) → opening key nonce aad block ≡ Some text → block ≡ sealing key nonce aad text
 unfolding opening
 sealing_of_opening key nonce aad block text e =
     let d : List ℕ = ciphertext key nonce 1 (take (length block - 16) block) in
-    let t = chosen (bytes_eq (sealing key nonce aad d) block) d text e in
+    let t = cond_some (bytes_eq (sealing key nonce aad d) block) d text e in
     sym ((bytes_eq-Decides (sealing key nonce aad d) block).0 t.0) ∙ ap (sealing key nonce aad) t.1
 
 opens_to : (key nonce aad block text : List ℕ) → block ≡ sealing key nonce aad text → opening key nonce aad block ≡ Some text

@@ -10,4 +10,5 @@ pbkdf2_block pass salt i = hmac pass (salt ++ to_be_bytes w32 i)
 
 -- DK: the first n bytes of T_1 || T_2 || .. || T_l, where l is n / 32, rounded up
 unfoldable pub pbkdf2_once : List ℕ → List ℕ → ℕ → List ℕ
-pbkdf2_once pass salt n = take n (flat_map (pbkdf2_block pass salt) (range_with_len 1 (div_ceil n 32)))
+pbkdf2_once pass salt n =
+    take n (flat_map (pbkdf2_block pass salt) (range_with_len 1 (div_ceil n 32)))

@@ -8,5 +8,6 @@ use Rattle.age_keys.specs.Scrypt.{scrypt_head}
 -- the passphrase that a header was made for finds the file key in it and nothing else, where the limit allows the work factor
 abbrev pub PassphraseOpens : Type 0
 PassphraseOpens =
-    (w : Words) (log : ℕ) (salt key : List ℕ) → 1 ≤ log → log ≤ 22 → log ≤ w.max_log → length salt ≡ 16 → IsBytes salt → length key ≡ 16
+    (w : Words) (log : ℕ) (salt key : List ℕ) → 1 ≤ log → log ≤ 22 → log ≤ w.max_log
+    → length salt ≡ 16 → IsBytes salt → length key ≡ 16
     → AllowsAlone (IsPassphraseKey w) (PassphraseRefuses w) (scrypt_head w.pass log salt key) key

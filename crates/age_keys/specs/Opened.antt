@@ -13,14 +13,17 @@ pub record Opens (Allows : Header → List ℕ → Type 0) (h : Header) (key : L
   pub size : length key ≡ 16
 
 -- the fault may be answered for it, want of memory aside
-abbrev pub Refuses : (Header → List ℕ → Type 0) → (Header → KeyFault → Type 0) → Header → KeyFault → Type 0
+abbrev pub Refuses : (Header → List ℕ → Type 0) → (Header → KeyFault → Type 0) → Header
+    → KeyFault → Type 0
 Refuses Allows Refused h fault =
     (IsScryptBeside h → fault ≡ ScryptNotAlone)
     × ((¬ IsScryptBeside h)
-    → Refused h fault ⊎ ((fault ≡ MacMismatch) × ((key : List ℕ) × Allows h key × (¬ IsMacOf h key))))
+    → Refused h fault
+    ⊎ ((fault ≡ MacMismatch) × ((key : List ℕ) × Allows h key × (¬ IsMacOf h key))))
 
 -- nothing but the key may be answered for the header, want of memory aside
-pub record AllowsAlone (Allows : Header → List ℕ → Type 0) (Refused : Header → KeyFault → Type 0) (h : Header) (key : List ℕ) : Type 0 where
+pub record AllowsAlone (Allows : Header → List ℕ → Type 0) (Refused : Header → KeyFault → Type 0)
+    (h : Header) (key : List ℕ) : Type 0 where
   pub alone : ¬ IsScryptBeside h
   pub allowed : Allows h key
   pub no_other : (other : List ℕ) → Allows h other → other ≡ key

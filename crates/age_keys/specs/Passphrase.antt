@@ -35,8 +35,10 @@ PassphraseRefuses w h BadScrypt =
     (¬ IsScryptBeside h) × (has_scrypt h ≡ true)
     × ((salt : List ℕ) (log : ℕ) (body : List ℕ) → HasScryptStanza h salt log body → ⊥)
 PassphraseRefuses w h WorkTooHigh =
-    (salt : List ℕ) × (log : ℕ) × (body : List ℕ) × HasScryptStanza h salt log body × (w.max_log < log)
+    (salt : List ℕ) × (log : ℕ) × (body : List ℕ) × HasScryptStanza h salt log body
+    × (w.max_log < log)
 PassphraseRefuses w h WrongKey =
-    (salt : List ℕ) × (log : ℕ) × (body : List ℕ) × HasScryptStanza h salt log body × (log ≤ w.max_log)
+    (salt : List ℕ) × (log : ℕ) × (body : List ℕ) × HasScryptStanza h salt log body
+    × (log ≤ w.max_log)
     × ((key : List ℕ) → body ≢ wrapped (wrap_key w.pass salt log) key)
 PassphraseRefuses w h other = ⊥

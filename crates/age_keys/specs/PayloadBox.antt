@@ -6,7 +6,8 @@ use Rattle.age_cipher.specs.Opening.{opening}
 use Rattle.age_cipher.proofs.SealingLemmas.{length-sealing, opening_of_sealing, sealing_of_opening}
 use Rattle.age_stream.specs.Lawful.{IsLawful}
 
-pub box_lawful : (key : List ℕ) → IsLawful (λ nonce text. sealing key nonce [] text) (λ nonce block. opening key nonce [] block)
+pub box_lawful : (key : List ℕ)
+    → IsLawful (λ nonce text. sealing key nonce [] text) (λ nonce block. opening key nonce [] block)
 box_lawful key =
     record {
       longer = λ nonce text h. length-sealing key nonce [] text;

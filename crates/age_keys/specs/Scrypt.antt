@@ -37,7 +37,8 @@ pub record HasScryptStanza (h : Header) (salt : List ℕ) (log : ℕ) (body : Li
 
 -- such a stanza, as it is written
 unfoldable pub scrypt_stanza : List ℕ → ℕ → List ℕ → Stanza
-scrypt_stanza salt log body = record { args = codes "scrypt" ∷ text salt ∷ decimal log ∷ []; body = body }
+scrypt_stanza salt log body =
+    record { args = codes "scrypt" ∷ text salt ∷ decimal log ∷ []; body = body }
 
 -- the header of that one stanza, whose body is the file key wrapped under the passphrase, with the file key's MAC, which covers the stanza alone
 unfoldable pub scrypt_head : List ℕ → ℕ → List ℕ → List ℕ → Header

@@ -16,7 +16,8 @@ pub record Shared : Type 0 where
 
 -- the key that a file key is wrapped under: HKDF of the shared secret, salted with the stanza's share and the recipient
 unfoldable pub shared_wrap_key : Shared → List ℕ → List ℕ
-shared_wrap_key x share = hkdf32 x.secret (share ++ x.recipient) (codes "age-encryption.org/v1/X25519")
+shared_wrap_key x share =
+    hkdf32 x.secret (share ++ x.recipient) (codes "age-encryption.org/v1/X25519")
 
 -- the stanza's body opens to the key
 pub record OpensTo (x : Shared) (s : Stanza) (key : List ℕ) : Type 0 where
@@ -60,5 +61,6 @@ IsSharedKey x h key = IsUsable x h × IsFirstKey x h.stanzas key
 abbrev pub SharedRefuses : Shared → Header → KeyFault → Type 0
 SharedRefuses x h NoMatch = has_x25519 h ≡ false
 SharedRefuses x h BadX25519 = (has_x25519 h ≡ true) × (IsZero x ⊎ Any IsBadStanza h.stanzas)
-SharedRefuses x h WrongKey = (has_x25519 h ≡ true) × IsUsable x h × AllByRecursion (StaysShut x) h.stanzas
+SharedRefuses x h WrongKey = (has_x25519 h ≡ true) × IsUsable x h
+    × AllByRecursion (StaysShut x) h.stanzas
 SharedRefuses x h other = ⊥

@@ -21,5 +21,6 @@ pub record IsX25519Stanza (s : Stanza) (share body : List ℕ) : Type 0 where
 -- the fault of a stanza that is none
 abbrev pub ReadRefuses : Stanza → KeyFault → Type 0
 ReadRefuses s NoMatch = is_x25519 s ≡ false
-ReadRefuses s BadX25519 = (is_x25519 s ≡ true) × ((share body : List ℕ) → IsX25519Stanza s share body → ⊥)
+ReadRefuses s BadX25519 = (is_x25519 s ≡ true)
+    × ((share body : List ℕ) → IsX25519Stanza s share body → ⊥)
 ReadRefuses s other = ⊥

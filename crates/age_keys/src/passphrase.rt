@@ -1,6 +1,6 @@
 //! A passphrase, which finds the file key in a scrypt stanza.
 
-ghost use Rattle.std.specs.Prelude.{◌≡◌, ◌↔◌, ◌≤◌, ℕ, List, min, length, IsTrue, IfSome, IfNone};
+ghost use Rattle.std.specs.Prelude.{◌≡◌, ◌↔◌, ℕ, List, min, IsTrue, IfSome, IfNone};
 ghost use Rattle.std.specs.Char.{is_ascii_digit};
 ghost use Rattle.std.specs.List.{list_all};
 ghost use Rattle.std.specs.Option.{SomeIff};
@@ -14,7 +14,7 @@ use crate::open::{has_scrypt, is_scrypt};
 use crate::scrypt::wrap_key;
 use crate::text::read_text;
 use crate::unlock::Unlock;
-use crate::wrap::{body_of, unwrapped};
+use crate::wrap::unwrapped;
 use age_stanza::{Header, Stanza};
 use std::alloc::Global;
 use std::marker::Model;
@@ -80,7 +80,7 @@ impl ScryptStanza {
         Some(ScryptStanza {
             salt: bytes,
             log: number_of(log.as_slice()),
-            body: body_of(stanza.body.as_slice())?,
+            body: *stanza.body.as_slice().as_array::<32>()?,
         })
     }
 }

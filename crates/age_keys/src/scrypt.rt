@@ -66,7 +66,8 @@ fn header_of(
     body: &[u8; 32],
 ) -> Result<Header, AllocError>
     requires { log ≤ 22 }
-    ensures value { IfOk result (λ header. header.stanzas ≡ scrypt_stanza salt.now log body.now ∷ []) }
+    ensures value { IfOk result
+        (λ header. header.stanzas ≡ scrypt_stanza salt.now log body.now ∷ []) }
     ensures text { IfOk result HasText }
 {
     let mut stanzas = Stanzas::new(alloc);

@@ -1,27 +1,13 @@
 //! A file key in the body of a stanza: sealed under a wrap key, with a nonce of zeros and no
 //! associated data.
 
-ghost use Rattle.std.specs.Prelude.{◌≡◌, ◌≢◌, ℕ, List, length, IfSome, IfNone};
+ghost use Rattle.std.specs.Prelude.{◌≡◌, ◌≢◌, ℕ, List, IfSome, IfNone};
 ghost use Rattle.age_keys.specs.Keys.{wrapped};
 
 use crate::key::FileKey;
 use age_cipher::{open_in_place, seal_in_place};
 
 const NONCE: &[u8; 12] = &[0; 12];
-
-/// The 32 bytes of a body.
-pub(crate) fn body_of(body: &[u8]) -> Option<[u8; 32]>
-    ensures body { IfSome result (λ bytes. bytes ≡ body.now) }
-    ensures len { IfSome result (λ bytes. length bytes ≡ 32) }
-    ensures none { IfNone result (length body.now ≢ 32) }
-{
-    if body.len() != 32 {
-        return None;
-    }
-    let mut bytes = [0; 32];
-    bytes.copy_from_slice(body);
-    Some(bytes)
-}
 
 /// A file key, wrapped.
 pub(crate) fn wrapped(wrap_key: &[u8; 32], key: &FileKey) -> [u8; 32]

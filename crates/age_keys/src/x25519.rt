@@ -5,7 +5,6 @@ ghost use Rattle.age_keys.specs.X25519.{is_x25519, IsX25519Stanza, ReadRefuses};
 
 use crate::fault::KeyFault;
 use crate::text::read_text;
-use crate::wrap::body_of;
 use age_stanza::Stanza;
 
 /// An X25519 stanza (C2SP age.md, "The X25519 recipient type"): `-> X25519 SHARE` and a body.
@@ -45,9 +44,12 @@ impl X25519Stanza {
         if !read_text(share.as_slice(), &mut bytes) {
             return Err(KeyFault::BadX25519);
         }
-        let Some(body) = body_of(stanza.body.as_slice()) else {
+        let Some(body) = stanza.body.as_slice().as_array::<32>() else {
             return Err(KeyFault::BadX25519);
         };
-        Ok(X25519Stanza { share: bytes, body })
+        Ok(X25519Stanza {
+            share: bytes,
+            body: *body,
+        })
     }
 }

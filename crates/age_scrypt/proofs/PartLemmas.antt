@@ -15,10 +15,6 @@ use Rattle.age_scrypt.specs.BlockMix.{part, xor_words, chained, block_mix}
 next_part : (k i j : ℕ) → i < j → k * i + k ≤ k * j
 next_part k i j h = omega (arith, mul-le-mul_left {m = i + 1} {n = j} k (omega arith))
 
-pub length-part : (k : ℕ) (xs : List ℕ) (i : ℕ) → k * i + k ≤ length xs → length (part k xs i) ≡ k
-unfolding part
-length-part k xs i h = omega (arith, length-take k (drop (k * i) xs), length-drop (k * i) xs)
-
 -- w is the width as the goal writes it
 pub part-put_here : (k w : ℕ) (xs ys : List ℕ) (i : ℕ) → w ≡ k → k * i + k ≤ length xs → length ys ≡ k → part k (put_mid (k * i) w xs ys) i ≡ ys
 unfolding part

@@ -27,7 +27,8 @@ pub record IsDiagonals (x : List ℕ) (p : Part) : Type 0 where
 
 -- the rows of x as columns
 unfoldable pub transpose : List ℕ → List ℕ
-transpose x = at_places x 0 4 8 12 ++ at_places x 1 5 9 13 ++ at_places x 2 6 10 14 ++ at_places x 3 7 11 15
+transpose x =
+    at_places x 0 4 8 12 ++ at_places x 1 5 9 13 ++ at_places x 2 6 10 14 ++ at_places x 3 7 11 15
 
 -- a quarter round on each lane of four vectors
 abbrev pub quarters : List ℕ → List ℕ → List ℕ → List ℕ → List (ℕ × ℕ × ℕ × ℕ)
@@ -35,4 +36,5 @@ quarters [] _ _ _ = []
 quarters (a ∷ rest_a) [] _ _ = []
 quarters (a ∷ rest_a) (b ∷ rest_b) [] _ = []
 quarters (a ∷ rest_a) (b ∷ rest_b) (c ∷ rest_c) [] = []
-quarters (a ∷ rest_a) (b ∷ rest_b) (c ∷ rest_c) (d ∷ rest_d) = quarter a b c d ∷ quarters rest_a rest_b rest_c rest_d
+quarters (a ∷ rest_a) (b ∷ rest_b) (c ∷ rest_c) (d ∷ rest_d) =
+    quarter a b c d ∷ quarters rest_a rest_b rest_c rest_d

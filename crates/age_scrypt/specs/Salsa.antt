@@ -28,7 +28,8 @@ quarter_at i j k l x =
 
 -- the four columns of the words, read as four rows of four
 unfoldable pub columns : List ℕ → List ℕ
-columns x = quarter_at 15 3 7 11 (quarter_at 10 14 2 6 (quarter_at 5 9 13 1 (quarter_at 0 4 8 12 x)))
+columns x =
+    quarter_at 15 3 7 11 (quarter_at 10 14 2 6 (quarter_at 5 9 13 1 (quarter_at 0 4 8 12 x)))
 
 -- the four rows
 unfoldable pub rows : List ℕ → List ℕ

@@ -2,14 +2,13 @@
 ghost use Rattle.std.specs.Prelude.{◌≡◌, length};
 ghost use Rattle.age_scrypt.specs.Scrypt.{words_of, bytes_of};
 
+use byteorder::{ByteOrder, LittleEndian};
+
 pub(crate) fn read_words(bytes: &[u8; 1024], words: &mut [u32])
     requires { length words.old ≡ 256 }
     ensures { words.new ≡ words_of bytes.now }
 {
-    for i in 0..256 {
-        let at = 4 * i;
-        words[i] = u32::from_le_bytes([bytes[at], bytes[at + 1], bytes[at + 2], bytes[at + 3]]);
-    }
+    LittleEndian::read_u32_into(bytes, words);
 }
 
 pub(crate) fn write_bytes(words: &[u32], bytes: &mut [u8])
@@ -17,7 +16,5 @@ pub(crate) fn write_bytes(words: &[u32], bytes: &mut [u8])
     requires bytes { length bytes.old ≡ 1024 }
     ensures { bytes.new ≡ bytes_of words.now }
 {
-    for i in 0..256 {
-        bytes[4 * i..4 * i + 4].copy_from_slice(&words[i].to_le_bytes());
-    }
+    LittleEndian::write_u32_into(words, bytes);
 }

@@ -9,16 +9,12 @@ use Rattle.age_stanza.specs.declared.header.Header.{Header}
 use Rattle.age_stanza.specs.declared.header.HeadStep.{HeadStep}
 use Rattle.age_stanza.specs.declared.header.HeadStep.TheVariants.{More, Ready}
 use Rattle.age_stanza.specs.declared.fault.HeadFault.{HeadFault}
-use Rattle.age_stanza.specs.Faults.{memory_fault}
+use Rattle.age_stanza.specs.Faults.{memory_fault, FirstFault, HasHeader, IsLineFault, IsFault}
 use Rattle.age_stanza.specs.Grammar.{line, Spells, HeadText}
-use Rattle.age_stanza.specs.Faults.{FirstFault, HasHeader, IsLineFault, IsFault}
 use Rattle.age_stanza.specs.Parsing.{Parsing, reading, complete, refused, IsOpen, Feeds}
 use Rattle.age_stanza.specs.Pieces.{Fed, none, more, StandsFor}
 
 -- ---- what more bytes leave as it was
-
-more_header : (bytes piece : List ℕ) → HasHeader bytes → HasHeader (bytes ++ piece)
-more_header bytes piece has = (has.0, has.1, has.2 ++ piece, has.3, ap (λ (t : List ℕ). t ++ piece) has.4 ∙ append_assoc has.1 has.2 piece)
 
 -- the first bytes, with more behind them
 take_more_bytes : (n : ℕ) (bytes piece : List ℕ) → (rest : List ℕ) × (take n (bytes ++ piece) ≡ take n bytes ++ rest)

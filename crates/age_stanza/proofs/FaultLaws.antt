@@ -8,6 +8,7 @@ use Rattle.std.proofs.lemmas.List.{append-nil, append_assoc, append_cancel_right
 use Rattle.std.proofs.lemmas.List.Sums.{sum_by-append, sum_by-cons}
 use Rattle.base64.specs.GeneralPurpose.{IsBytes}
 use Rattle.base64.proofs.EngineFacts.{front_bytes}
+use Rattle.std.proofs.lemmas.Option.{none-some}
 use Rattle.age_stanza.specs.declared.header.Stanza.{Stanza}
 use Rattle.age_stanza.specs.declared.header.Header.{Header}
 use Rattle.age_stanza.specs.declared.fault.HeadKind.{HeadKind}
@@ -18,11 +19,9 @@ use Rattle.age_stanza.specs.declared.place.Place.TheVariants.{Start, Between, In
 use Rattle.age_stanza.specs.declared.place.Next.{Next}
 use Rattle.age_stanza.specs.declared.place.Next.TheVariants.{Go, Done}
 use Rattle.age_stanza.specs.Text.{text}
-use Rattle.age_stanza.specs.LineMachine.{decoded}
+use Rattle.age_stanza.specs.LineMachine.{decoded, unfinished, ready, faulty, walk, after, step, ended, begun, continued, arguments_of, mac_of, fault_at}
 use Rattle.age_stanza.specs.Grammar.{line, version, in_lines, stanza_text, end_line, head_text, IsStanza, IsHeader}
-use Rattle.age_stanza.specs.LineMachine.{unfinished, ready, faulty, walk, after, step, ended, begun, continued, arguments_of, mac_of, fault_at}
-use Rattle.age_stanza.specs.Faults.{armor}
-use Rattle.age_stanza.specs.Faults.{Begins, IsLine, AreLines, stanzas_text, IsEndLine, RefusesBetween, Refuses, line_after, NoFault, IsLineFault}
+use Rattle.age_stanza.specs.Faults.{armor, Begins, IsLine, AreLines, stanzas_text, IsEndLine, RefusesBetween, Refuses, line_after, NoFault, IsLineFault}
 use Rattle.age_stanza.proofs.Texts.{bytes_from_pass, IsBytes-append, IsBytes-tail, IsLine-append, decoded-text, text-nil, line_from_test}
 use Rattle.age_stanza.proofs.Lines.{chosen, All-append, All-back, starts_from, read_end_line, end_line_read}
 use Rattle.age_stanza.proofs.Places.{tail_text, IsPlace, Follows, leads}
@@ -220,13 +219,10 @@ told_first l kind e = elim (chosen (bytes_eq l version) (Ok (Go (Between []))) _
   ]
 ]
 
-none_some : (mac : List ℕ) → ◌≡◌ {A = Option (List ℕ)} None (Some mac) → ⊥
-none_some mac e = cc
-
 told_ended : (ss : List Stanza) (l : List ℕ) (kind : HeadKind) (o : Option (List ℕ)) → IsBytes l → mac_of l ≡ o → ended ss o ≡ Err kind
     → (IsEndLine l → kind ≡ NoStanza) × ((IsEndLine l → ⊥) → kind ≡ BadEndLine)
 told_ended ss l kind None fits is e =
-    let not_end : IsEndLine l → ⊥ = λ has. none_some has.0 (sym is ∙ ap mac_of has.3 ∙ read_end_line has.0 has.1 has.2) in
+    let not_end : IsEndLine l → ⊥ = λ has. none-some has.0 (sym is ∙ ap mac_of has.3 ∙ read_end_line has.0 has.1 has.2) in
     (λ has. absurd (not_end has), λ _. cc)
 told_ended [] l kind (Some mac) fits is e =
     let read = end_line_read l mac fits is in
@@ -337,7 +333,7 @@ refuses before l (InBody ss args body) n kind at fits e =
 
 -- ---- the two laws
 
-not_ready : (f : HeadFault) (h : Header) (rest : List ℕ) → faulty f ≡ ready h rest → ⊥
+pub not_ready : (f : HeadFault) (h : Header) (rest : List ℕ) → faulty f ≡ ready h rest → ⊥
 not_ready f h rest e = cc
 
 -- no text goes on behind a line that is refused

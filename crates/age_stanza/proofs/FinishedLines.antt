@@ -1,7 +1,6 @@
 -- Finished lines, and the line that is begun behind them.
 use Rattle.std.proofs.Common.{◌≡◌, ℕ, ◌+◌, ◌<◌, ◌≤◌, List, [], ◌∷◌, ◌++◌, length, take, Ok, Err, refl, sym, ap, subst, ◌∙◌, arith, inl, inr, eqb}
 use Rattle.std.specs.Prelude.{◌⊎◌, count_by}
-use Rattle.std.specs.List.{AllByRecursion}
 use Rattle.std.proofs.lemmas.Bool.{ne_eqb}
 use Rattle.std.proofs.lemmas.List.{append-nil, append_assoc, length-append, take_at}
 use Rattle.std.proofs.lemmas.List.Sums.{sum_by-append, sum_by-cons}
@@ -17,6 +16,7 @@ use Rattle.age_stanza.specs.Faults.{IsLine, AreLines, line_after, memory_fault}
 use Rattle.age_stanza.specs.LineMachine.{unfinished, ready, faulty, walk, after, step, fault_at}
 use Rattle.age_stanza.specs.Retelling.{retold, LeadTo, IsPartial, IsUnderWay}
 use Rattle.age_stanza.proofs.Texts.{IsBytes-append, IsLine-append, bytes_from_pass}
+use Rattle.age_stanza.proofs.Lines.{All-front}
 use Rattle.age_stanza.proofs.Complete.{walk_text, walk_go}
 use Rattle.age_stanza.proofs.FaultLaws.{ends_line, count_line, last_of}
 use Rattle.age_stanza.proofs.Retold.{retells}
@@ -72,10 +72,6 @@ last_finished held lines n (inr (front, is)) size counted =
 pub finished_number : (place : Place) (lines n : ℕ) → LeadTo place lines → length (retold place ++ []) ≡ n + 1 → lines ≡ line_after (take n (retold place ++ []))
 finished_number place lines n led size =
     rw append-nil (last_finished (retold place) lines n led.finished (rw append-nil at size) led.counted)
-
-All-front : {X : Type 0} (P : X → Type 0) (xs ys : List X) → AllByRecursion P (xs ++ ys) → AllByRecursion P xs
-All-front P [] ys f = tt
-All-front P (x ∷ xs) ys f = (f.0, All-front P xs ys f.1)
 
 -- the line of the last byte, where that is a character of the begun line
 pub begun_number_of_last : (place : Place) (lines n : ℕ) (l : List ℕ) → LeadTo place lines → IsLine l → (l ≡ [] → ⊥) → length (retold place ++ l) ≡ n + 1

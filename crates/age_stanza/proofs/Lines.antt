@@ -9,9 +9,8 @@ use Rattle.std.proofs.lemmas.List.Concat.{flat_map-append}
 use Rattle.std.proofs.lemmas.Slice.Eq.{starts_is}
 use Rattle.std.proofs.lemmas.Option.{cond_some}
 use Rattle.base64.specs.GeneralPurpose.{IsBytes}
-use Rattle.age_stanza.specs.LineMachine.{decoded}
+use Rattle.age_stanza.specs.LineMachine.{decoded, arguments_from, arguments_of, mac_of, whole_mac}
 use Rattle.age_stanza.specs.Grammar.{line, IsArgument, argument_line, in_lines, end_line}
-use Rattle.age_stanza.specs.LineMachine.{arguments_from, arguments_of, mac_of, whole_mac}
 use Rattle.age_stanza.proofs.Texts.{text_of_decoded, decoded-text, IsBytes-drop}
 
 -- ---- a test that was passed or not
@@ -60,6 +59,10 @@ spaced args = flat_map (λ a. 32 ∷ a) args
 pub All-append : {X : Type 0} (P : X → Type 0) (xs ys : List X) → AllByRecursion P xs → AllByRecursion P ys → AllByRecursion P (xs ++ ys)
 All-append P [] ys f g = g
 All-append P (x ∷ xs) ys f g = (f.0, All-append P xs ys f.1 g)
+
+pub All-front : {X : Type 0} (P : X → Type 0) (xs ys : List X) → AllByRecursion P (xs ++ ys) → AllByRecursion P xs
+All-front P [] ys f = tt
+All-front P (x ∷ xs) ys f = (f.0, All-front P xs ys f.1)
 
 pub All-back : {X : Type 0} (P : X → Type 0) (xs ys : List X) → AllByRecursion P (xs ++ ys) → AllByRecursion P ys
 All-back P [] ys f = f

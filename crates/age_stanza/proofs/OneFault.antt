@@ -6,6 +6,7 @@ use Rattle.std.proofs.lemmas.Bool.{cases_lt}
 use Rattle.std.proofs.lemmas.List.{append-nil, append_assoc, append_cancel_left, length-append, take_at}
 use Rattle.base64.specs.GeneralPurpose.{IsBytes}
 use Rattle.base64.proofs.EngineFacts.{front_bytes}
+use Rattle.std.proofs.lemmas.Option.{none-some}
 use Rattle.age_stanza.specs.declared.header.Stanza.{Stanza}
 use Rattle.age_stanza.specs.declared.header.Header.{Header}
 use Rattle.age_stanza.specs.declared.fault.HeadKind.{HeadKind}
@@ -16,7 +17,7 @@ use Rattle.age_stanza.specs.Grammar.{line, version, stanza_text, IsStanza, Spell
 use Rattle.age_stanza.specs.Faults.{Begins, IsLine, AreLines, FirstFault, stanzas_text, IsEndLine, RefusesBetween, Refuses, line_after, IsLineFault, IsFault}
 use Rattle.age_stanza.specs.LineMachine.{Outcome, unfinished, ready, faulty, walk, mac_of}
 use Rattle.age_stanza.proofs.Texts.{IsBytes-take, IsBytes-tail, line_from_test}
-use Rattle.age_stanza.proofs.Lines.{end_line_read, read_end_line}
+use Rattle.age_stanza.proofs.Lines.{All-front, end_line_read, read_end_line}
 use Rattle.age_stanza.proofs.Complete.{walk_go, stanzas_reach, step_version}
 use Rattle.age_stanza.proofs.FaultLaws.{At, at_start, Passed, passed, nothing_begun, nothing_before, stanzas_before, not_first, not_between}
 use Rattle.age_stanza.proofs.AnyPieces.{prefix_of}
@@ -26,10 +27,6 @@ use Rattle.age_stanza.proofs.AnyPieces.{prefix_of}
 -- more lines behind a faulty one begin no text
 never_behind : (before l y : List ℕ) → (Begins (before ++ line l) → ⊥) → Begins ((before ++ line l) ++ y) → ⊥
 never_behind before l y refused has = refused (has.0, y ++ has.1, subst (Spells has.0) (append_assoc (before ++ line l) y has.1) has.2)
-
-All-front : {X : Type 0} (P : X → Type 0) (xs ys : List X) → AllByRecursion P (xs ++ ys) → AllByRecursion P xs
-All-front P [] ys f = tt
-All-front P (x ∷ xs) ys f = (f.0, All-front P xs ys f.1)
 
 begun_is_none : (before x : List ℕ) → AreLines (before ++ x) → IsLine x → length x ≡ 0
 begun_is_none before x (inl none) lined =
@@ -85,9 +82,6 @@ same_line (x ∷ l) (y ∷ l') r r' p q e =
 
 -- ---- what is told of it
 
-none_some : (mac : List ℕ) → ◌≡◌ {A = Option (List ℕ)} None (Some mac) → ⊥
-none_some mac e = cc
-
 no_length : (l : List ℕ) → length l ≡ 0 → l ≡ []
 no_length [] e = refl
 no_length (x ∷ l) e = absurd (omega arith)
@@ -101,7 +95,7 @@ over_faulty f e = cc
 same_between : (l : List ℕ) (k k' : HeadKind) (o : Option (List ℕ)) (b : Bool) → IsBytes l → mac_of l ≡ o → starts_with nat_eq l (codes "---") ≡ b → RefusesBetween l k → RefusesBetween l k' → k ≡ k'
 same_between l k k' o false fits is starts r r' = r.bad_stanza starts ∙ sym (r'.bad_stanza starts)
 same_between l k k' None true fits is starts r r' =
-    let not_end : IsEndLine l → ⊥ = λ has. none_some has.0 (sym is ∙ ap mac_of has.3 ∙ read_end_line has.0 has.1 has.2) in
+    let not_end : IsEndLine l → ⊥ = λ has. none-some has.0 (sym is ∙ ap mac_of has.3 ∙ read_end_line has.0 has.1 has.2) in
     r.bad_end starts not_end ∙ sym (r'.bad_end starts not_end)
 same_between l k k' (Some mac) true fits is starts r r' =
     let read = end_line_read l mac fits is in

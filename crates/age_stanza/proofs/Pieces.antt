@@ -9,11 +9,10 @@ use Rattle.age_stanza.specs.declared.fault.HeadFault.{HeadFault}
 use Rattle.age_stanza.specs.declared.place.Place.TheVariants.{Start}
 use Rattle.age_stanza.specs.Grammar.{head_text, HeadText}
 use Rattle.age_stanza.specs.LineMachine.{unfinished, ready, faulty, walk}
-use Rattle.age_stanza.specs.Faults.{memory_fault}
+use Rattle.age_stanza.specs.Faults.{memory_fault, HasHeader, IsFault, line_after}
 use Rattle.age_stanza.specs.Retelling.{IsUnderWay}
-use Rattle.age_stanza.specs.Faults.{HasHeader, IsFault, line_after}
 use Rattle.age_stanza.specs.declared.fault.HeadKind.TheVariants.{HeadTooLong}
-use Rattle.age_stanza.proofs.FaultLaws.{line_fault, no_fault}
+use Rattle.age_stanza.proofs.FaultLaws.{line_fault, no_fault, not_ready}
 use Rattle.age_stanza.proofs.Places.{found}
 use Rattle.age_stanza.proofs.Complete.{text_walk}
 
@@ -41,16 +40,8 @@ no_header held piece room fits none has =
 not_unfinished : (h : Header) (rest : List ℕ) → unfinished ≡ ready h rest → ⊥
 not_unfinished h rest e = cc
 
-not_faulty : (f : HeadFault) (h : Header) (rest : List ℕ) → faulty f ≡ ready h rest → ⊥
-not_faulty f h rest e = cc
-
 pub none_unfinished : (held piece : List ℕ) (room : ℕ) → length held + room ≡ 1048576 → walk Start 1 [] (held ++ take room piece) ≡ unfinished → HasHeader (held ++ piece) → ⊥
 none_unfinished held piece room fits e = no_header held piece room fits (λ h rest f. not_unfinished h rest (sym e ∙ f))
-
-pub none_faulty : (held piece : List ℕ) (room : ℕ) (fault : HeadFault) → length held + room ≡ 1048576
-    → (fault ≡ memory_fault) ⊎ (walk Start 1 [] (held ++ take room piece) ≡ faulty fault) → (fault ≡ memory_fault) ⊎ (HasHeader (held ++ piece) → ⊥)
-none_faulty held piece room fault fits (inl memory) = inl memory
-none_faulty held piece room fault fits (inr e) = inr (no_header held piece room fits (λ h rest f. not_faulty fault h rest (sym e ∙ f)))
 
 take_none : (n : ℕ) → ◌≡◌ {A = List ℕ} (take n []) []
 take_none zero = refl
@@ -91,7 +82,7 @@ none_in held piece room fault room-is lt fits (inr reads) =
     let whole : length held + room ≡ 1048576 = omega arith in
     let is : held ++ take room piece ≡ take 1048576 (held ++ piece) = kept held piece room whole in
     inr (
-      no_header held piece room whole (λ h rest f. not_faulty fault h rest (sym reads ∙ f)),
+      no_header held piece room whole (λ h rest f. not_ready fault h rest (sym reads ∙ f)),
       inl (rw (← is) (line_fault (held ++ take room piece) fault fits reads)),
     )
 

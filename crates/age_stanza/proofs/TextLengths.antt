@@ -103,7 +103,3 @@ text_within h None long has =
     let within = has.1.within in
     absurd (omega arith)
 text_within h (Some size) len has = refl
-
-pub arguments_of_lawful : (ss : List Stanza) → AllByRecursion IsStanza ss → AllByRecursion HasArguments ss
-arguments_of_lawful [] lawful = tt
-arguments_of_lawful (s ∷ ss) lawful = ((lawful.0.some_argument, lawful.0.arguments), arguments_of_lawful ss lawful.1)

@@ -52,9 +52,13 @@ armor = codes "-----BEGIN AGE ENCRYPTED FILE-----"
 
 -- what is told of such a line, by its place
 pub record Refuses (before l : List ℕ) (kind : HeadKind) : Type 0 where
-  pub first : before ≡ [] → kind ≡ (if bytes_eq l armor || bytes_eq l (armor ++ 13 ∷ []) then Armored else NotAge)
-  pub between : (ss : List Stanza) → AllByRecursion IsStanza ss → before ≡ stanzas_text ss → RefusesBetween l kind
-  pub in_body : before ≢ [] → ((ss : List Stanza) → AllByRecursion IsStanza ss → before ≢ stanzas_text ss) → kind ≡ BadBody
+  pub first : before ≡ []
+      → kind ≡ (if bytes_eq l armor || bytes_eq l (armor ++ 13 ∷ []) then Armored else NotAge)
+  pub between : (ss : List Stanza) → AllByRecursion IsStanza ss → before ≡ stanzas_text ss
+      → RefusesBetween l kind
+  pub in_body : before ≢ []
+      → ((ss : List Stanza) → AllByRecursion IsStanza ss → before ≢ stanzas_text ss)
+      → kind ≡ BadBody
 
 -- the line that follows some bytes
 abbrev pub line_after : List ℕ → ℕ
@@ -62,7 +66,8 @@ line_after bytes = 1 + count_by (λ c. c == 10) bytes
 
 -- a header stands in front of the bytes
 abbrev pub HasHeader : List ℕ → Type 0
-HasHeader bytes = (h : Header) × (front : List ℕ) × (rest : List ℕ) × HeadText h front × (bytes ≡ front ++ rest)
+HasHeader bytes = (h : Header) × (front : List ℕ) × (rest : List ℕ) × HeadText h front
+    × (bytes ≡ front ++ rest)
 
 -- no line of the bytes is faulty
 abbrev pub NoFault : List ℕ → Type 0
@@ -70,7 +75,8 @@ NoFault bytes = (before l : List ℕ) → FirstFault bytes before l → ⊥
 
 -- the fault of the first faulty line
 abbrev pub IsLineFault : List ℕ → HeadFault → Type 0
-IsLineFault bytes fault = (before : List ℕ) × (l : List ℕ) × FirstFault bytes before l × (fault.line ≡ line_after before) × Refuses before l fault.kind
+IsLineFault bytes fault = (before : List ℕ) × (l : List ℕ) × FirstFault bytes before l
+    × (fault.line ≡ line_after before) × Refuses before l fault.kind
 
 -- what is told of bytes that have no header in front, by their first 1,048,576: the first faulty line; else, where there are so many, that the header is too long,
 -- on the line of the last of them

@@ -10,20 +10,26 @@ use Rattle.age_stanza.specs.Faults.{HasHeader, IsFault}
 
 -- a text has at most one header, and no header's text begins another's
 abbrev pub OneHeader : Type 0
-OneHeader = (h k : Header) (a b x y : List ℕ) → Spells h a → Spells k b → a ++ x ≡ b ++ y → (h ≡ k) × (a ≡ b)
+OneHeader = (h k : Header) (a b x y : List ℕ) → Spells h a → Spells k b → a ++ x ≡ b ++ y
+    → (h ≡ k) × (a ≡ b)
 
 -- bytes have no more than one first fault
 abbrev pub OneFault : Type 0
-OneFault = (bytes : List ℕ) (fault other : HeadFault) → IsBytes bytes → IsFault bytes fault → IsFault bytes other → fault ≡ other
+OneFault = (bytes : List ℕ) (fault other : HeadFault) → IsBytes bytes → IsFault bytes fault
+    → IsFault bytes other → fault ≡ other
 
 -- the 64 characters of the base64 that a header is written in are those of RFC 4648, section 4, in their order
 abbrev pub Alphabet : Type 0
-Alphabet = engine_symbols standard_no_pad ≡ codes "ABCDEFGHIJKLMNOPQRSTUVWXYZabcdefghijklmnopqrstuvwxyz0123456789+/"
+Alphabet =
+    engine_symbols standard_no_pad
+    ≡ codes "ABCDEFGHIJKLMNOPQRSTUVWXYZabcdefghijklmnopqrstuvwxyz0123456789+/"
 
 -- what is told of a front of some bytes is told of them all
 abbrev pub FaultsStay : Type 0
-FaultsStay = (front rest : List ℕ) (fault : HeadFault) → (HasHeader front → ⊥) → IsFault front fault → (HasHeader (front ++ rest) → ⊥) × IsFault (front ++ rest) fault
+FaultsStay = (front rest : List ℕ) (fault : HeadFault) → (HasHeader front → ⊥) → IsFault front fault
+    → (HasHeader (front ++ rest) → ⊥) × IsFault (front ++ rest) fault
 
 -- what the MAC covers is the header's text without its last 45 bytes
 abbrev pub MacTextIsFront : Type 0
-MacTextIsFront = (h : Header) (bytes : List ℕ) → HeadText h bytes → (last : List ℕ) × (length last ≡ 45) × (bytes ≡ mac_text h ++ last)
+MacTextIsFront = (h : Header) (bytes : List ℕ) → HeadText h bytes
+    → (last : List ℕ) × (length last ≡ 45) × (bytes ≡ mac_text h ++ last)

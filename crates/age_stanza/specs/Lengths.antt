@@ -22,5 +22,6 @@ LeavesBehindStanza room s None = room < length (stanza_text s)
 
 -- the length of a header's text, where it is within the limit; and what the types tell of the bytes
 abbrev pub IsTextLength : Header → Option ℕ → Type 0
-IsTextLength h (Some size) = (size ≡ length (head_text h)) × (size ≤ 1048576) × IsBytes h.mac × AllByRecursion (λ s. IsBytes s.body) h.stanzas
+IsTextLength h (Some size) = (size ≡ length (head_text h)) × (size ≤ 1048576) × IsBytes h.mac
+    × AllByRecursion (λ s. IsBytes s.body) h.stanzas
 IsTextLength h None = 1048576 < length (head_text h)

@@ -36,7 +36,8 @@ arguments_from done word (c ∷ cs) =
     else None
 
 unfoldable pub arguments_of : List ℕ → Option (List (List ℕ))
-arguments_of l = if starts_with nat_eq l (codes "-> ") then arguments_from [] [] (drop 3 l) else None
+arguments_of l = if starts_with nat_eq l (codes "-> ")
+    then arguments_from [] [] (drop 3 l) else None
 
 abbrev pub whole_mac : Option (List ℕ) → Option (List ℕ)
 whole_mac None = None
@@ -54,10 +55,12 @@ abbrev pub begun : List Stanza → Option (List (List ℕ)) → Result Next Head
 begun ss None = Err BadStanzaLine
 begun ss (Some args) = Ok (Go (InBody ss args []))
 
-abbrev pub continued : List Stanza → List (List ℕ) → List ℕ → Bool → Option (List ℕ) → Result Next HeadKind
+abbrev pub continued : List Stanza → List (List ℕ) → List ℕ → Bool → Option (List ℕ)
+    → Result Next HeadKind
 continued ss args body full None = Err BadBody
 continued ss args body true (Some more) = Ok (Go (InBody ss args (body ++ more)))
-continued ss args body false (Some more) = Ok (Go (Between (ss ++ record { args = args; body = body ++ more } ∷ [])))
+continued ss args body false (Some more) =
+    Ok (Go (Between (ss ++ record { args = args; body = body ++ more } ∷ [])))
 
 -- where a line leads
 unfoldable pub step : Place → List ℕ → Result Next HeadKind

@@ -5,8 +5,7 @@ use Rattle.age_stanza.specs.declared.header.HeadStep.TheVariants.{More, Ready}
 use Rattle.age_stanza.specs.declared.fault.HeadKind.TheVariants.{HeadCut}
 use Rattle.age_stanza.specs.declared.fault.HeadFault.{HeadFault}
 use Rattle.age_stanza.specs.Grammar.{HeadText}
-use Rattle.age_stanza.specs.Faults.{line_after, HasHeader, NoFault, IsFault}
-use Rattle.age_stanza.specs.Faults.{memory_fault}
+use Rattle.age_stanza.specs.Faults.{line_after, HasHeader, NoFault, IsFault, memory_fault}
 
 -- the joined bytes so far, or a header was found, or it was refused
 pub data Parsing : Type 0 where
@@ -20,14 +19,18 @@ IsOpen parsing = parsing ≢ complete
 -- what is answered to a piece, and what the parser then is: a header exactly where a front of the joined bytes is its text; else the first fault of the joined bytes;
 -- else more is asked for. A fault stays
 abbrev pub Feeds : Parsing → List ℕ → Result HeadStep HeadFault → Parsing → Type 0
-Feeds (reading held) piece (Ok More) new = (new ≡ reading (held ++ piece)) × (length (held ++ piece) < 1048576) × (¬ HasHeader (held ++ piece)) × NoFault (held ++ piece)
-Feeds (reading held) piece (Ok (Ready taken h)) new = (new ≡ complete) × (taken ≤ length piece) × HeadText h (held ++ take taken piece)
-Feeds (reading held) piece (Err fault) new = (new ≡ refused fault) × ((fault ≡ memory_fault) ⊎ ((¬ HasHeader (held ++ piece)) × IsFault (held ++ piece) fault))
+Feeds (reading held) piece (Ok More) new = (new ≡ reading (held ++ piece))
+    × (length (held ++ piece) < 1048576) × (¬ HasHeader (held ++ piece)) × NoFault (held ++ piece)
+Feeds (reading held) piece (Ok (Ready taken h)) new = (new ≡ complete) × (taken ≤ length piece)
+    × HeadText h (held ++ take taken piece)
+Feeds (reading held) piece (Err fault) new = (new ≡ refused fault)
+    × ((fault ≡ memory_fault) ⊎ ((¬ HasHeader (held ++ piece)) × IsFault (held ++ piece) fault))
 Feeds complete piece result new = Unit {0}
 Feeds (refused fault) piece result new = (result ≡ Err fault) × (new ≡ refused fault)
 
 -- what is answered to the end of the input: that the header is cut, in the line that the end comes in, or the earlier fault
 abbrev pub Cuts : Parsing → HeadFault → Parsing → Type 0
-Cuts (reading held) fault new = (fault ≡ record { kind = HeadCut; line = line_after held }) × (new ≡ refused fault) × (¬ HasHeader held) × NoFault held
+Cuts (reading held) fault new = (fault ≡ record { kind = HeadCut; line = line_after held })
+    × (new ≡ refused fault) × (¬ HasHeader held) × NoFault held
 Cuts complete fault new = Unit {0}
 Cuts (refused earlier) fault new = (fault ≡ earlier) × (new ≡ refused earlier)

@@ -1,6 +1,6 @@
 //! Writes the text of a header.
 
-ghost use Rattle.std.specs.Prelude.{◌≡◌, ◌++◌, ◌∷◌, ◌≤◌, length, IfOk, IfErr, OnOk, codes};
+ghost use Rattle.std.specs.Prelude.{◌≡◌, ◌++◌, ◌∷◌, ◌≤◌, length, IfOk, IfErr, OnOk};
 ghost use Rattle.std.specs.List.{flat_map};
 ghost use Rattle.age_stanza.specs.Text.{text};
 ghost use Rattle.age_stanza.specs.Grammar.{in_lines, stanza_text, head_text, HeadText, HasText};
@@ -8,7 +8,7 @@ ghost use Rattle.age_stanza.specs.Encoding.{mac_text};
 ghost use Rattle.age_stanza.specs.Faults.{memory_fault};
 
 use crate::bytes::Bytes;
-use crate::fault::{HeadFault, MEMORY};
+use crate::fault::HeadFault;
 use crate::header::{Header, Stanza};
 use crate::lawful::text_len;
 use base64::engine::general_purpose::STANDARD_NO_PAD;
@@ -113,10 +113,7 @@ pub fn encode_head(alloc: Global, header: &Header) -> Result<Vec<u8>, HeadFault>
     let Some(len) = text_len(header) else {
         unreachable!();
     };
-    match whole_text(alloc, header, len) {
-        Ok(text) => Ok(text),
-        Err(_) => Err(MEMORY),
-    }
+    Ok(whole_text(alloc, header, len)?)
 }
 
 /// The part of a header's text that its MAC covers: from the version line up to
@@ -132,8 +129,5 @@ pub fn mac_text(alloc: Global, header: &Header) -> Result<Vec<u8>, HeadFault>
     let Some(len) = text_len(header) else {
         unreachable!();
     };
-    match front_text(alloc, header, len - BEHIND_MAC_TEXT) {
-        Ok(text) => Ok(text),
-        Err(_) => Err(MEMORY),
-    }
+    Ok(front_text(alloc, header, len - BEHIND_MAC_TEXT)?)
 }

@@ -1,8 +1,9 @@
 //! Why a header was refused, and where.
 
-ghost use Rattle.std.specs.Prelude.{◌≡◌, Option};
+ghost use Rattle.std.specs.Prelude.{◌≡◌};
 ghost use Rattle.age_stanza.specs.FaultNumbers.{number_of, place_of};
 
+use std::alloc::AllocError;
 use thiserror::Error;
 
 /// Why a header was refused.
@@ -59,6 +60,16 @@ impl HeadKind {
     }
 }
 
+impl From<AllocError> for HeadKind {
+    ghost use Rattle.age_stanza.specs.declared.fault.HeadKind.TheVariants.{Memory as MemoryKind};
+
+    ghost from_gives = { λ _ e. e ≡ MemoryKind };
+
+    fn from(_e: AllocError) -> HeadKind {
+        HeadKind::Memory
+    }
+}
+
 /// A refusal, and the number of the line that it came at, from 1 (0 where
 /// memory was refused).
 #[derive(Clone, Copy, Debug, PartialEq, Eq, Error)]
@@ -87,6 +98,16 @@ impl HeadFault {
             HeadKind::Memory => None,
             _ => Some(self.line),
         }
+    }
+}
+
+impl From<AllocError> for HeadFault {
+    ghost use Rattle.age_stanza.specs.Faults.{memory_fault};
+
+    ghost from_gives = { λ _ e. e ≡ memory_fault };
+
+    fn from(_e: AllocError) -> HeadFault {
+        MEMORY
     }
 }
 

@@ -82,9 +82,7 @@ impl PartialHeader {
         ensures ok { IfOk result (λ longer. longer ≡ self ++ characters.now) }
         ensures err { IfErr result (λ fault. fault ≡ memory_fault) }
     {
-        let Ok(()) = self.line.extend_from_slice(characters) else {
-            return Err(MEMORY);
-        };
+        self.line.extend_from_slice(characters)?;
         self.bytes += characters.len();
         Ok(self)
     }
@@ -129,7 +127,10 @@ impl PartialHeader {
     /// last byte.
     pub(crate) fn too_long_fault(&self) -> HeadFault
         requires { length self.now ≡ 1048576 }
-        ensures { result ≡ record { kind = HeadKind.HeadTooLong; line = line_after (take 1048575 self.now) } }
+        ensures { result ≡ record {
+          kind = HeadKind.HeadTooLong;
+          line = line_after (take 1048575 self.now);
+        } }
     {
         let line = if self.line.is_empty() {
             self.finished_lines

@@ -3,8 +3,7 @@
 
 ghost use Rattle.std.specs.Prelude.{◌≡◌, IfOk};
 ghost use Rattle.std.specs.Option.{option_map};
-ghost use Rattle.age_stanza.specs.LineMachine.{decoded};
-ghost use Rattle.age_stanza.specs.LineMachine.{mac_of as spec_mac_of};
+ghost use Rattle.age_stanza.specs.LineMachine.{decoded, mac_of as spec_mac_of};
 
 use base64::DecodeAllocError;
 use base64::engine::general_purpose::STANDARD_NO_PAD;

@@ -1,21 +1,18 @@
 -- How many chunks were released, by the length of the text.
-use Rattle.std.proofs.Common.{inl, inr, ◌≡◌, ℕ, suc, ◌<◌, ◌≤◌, ◌+◌, ◌*◌, ◌-◌, ◌/◌, refl, ap, sym, ◌∙◌, List, [], ◌∷◌, ◌++◌, length, take, drop, Bool, true, false, arith}
-use Rattle.std.specs.Prelude.{Option, Some, None, cond, nat_lt, ◌⊎◌, slice_get}
+use Rattle.std.proofs.Common.{◌≡◌, ℕ, suc, ◌<◌, ◌≤◌, ◌+◌, ◌*◌, ◌-◌, ◌/◌, refl, ap, sym, ◌∙◌, List, [], ◌∷◌, ◌++◌, length, take, drop, Bool, true, false, arith}
+use Rattle.std.specs.Prelude.{Option, Some, None, cond, nat_lt, slice_get}
 use Rattle.std.specs.Simd.{first_chunks}
 use Rattle.std.specs.List.{flat_map, AllByRecursion}
 use Rattle.std.proofs.lemmas.List.{length-append, append_assoc, take_at, drop_at}
 use Rattle.std.proofs.lemmas.Grind.{flat_map-append}
 use Rattle.std.proofs.Math.Nat.{le-div_iff_mul-le}
-use Rattle.age_stream.specs.Nonce.{nonce_bytes}
+use Rattle.age_stream.specs.Nonce.{nonce_bytes, chunk_limit}
 use Rattle.age_stream.specs.Lawful.{IsLawful}
 use Rattle.age_stream.specs.Segment.{Segment, Outcome, outcome, front_texts, text_then, text_before_last, unless_greatest, whole_blocks, rest_bytes, released}
 use Rattle.age_stream.specs.Laws.{IsCounted, counted}
-use Rattle.age_stream.specs.Deliveries.{with_piece}
-use Rattle.age_stream.specs.declared.step.Status.{Status}
-use Rattle.age_stream.specs.declared.step.Status.TheVariants.{Open}
 use Rattle.age_stream.proofs.Nonces.{nonce_bytes-length}
 use Rattle.age_stream.proofs.Undamaged.{all_full}
-use Rattle.age_stream.proofs.Going.{going, going_outcome, after_piece, first_chunks-add}
+use Rattle.age_stream.proofs.Going.{going, going_outcome, first_chunks-add}
 use Rattle.age_stream.proofs.Growing.{begins_stop, index_stop}
 use Rattle.age_stream.proofs.Chunks.{first_chunks-append, length-first_chunks}
 
@@ -50,7 +47,7 @@ module _ (sealing : List ℕ → List ℕ → List ℕ) (opening : List ℕ → 
 
   before : (i : ℕ) (o : Option (List ℕ)) (t : List ℕ) → unless_greatest i o ≡ Some t → o ≡ Some t
   before i None t e = e
-  before i (Some x) t e = unless i (Some x) t (nat_lt (i + 1) 281474976710656) e
+  before i (Some x) t e = unless i (Some x) t (nat_lt (i + 1) chunk_limit) e
 
   full_then : (o : Option (List ℕ)) (rest : List (List ℕ)) → ((t : List ℕ) → o ≡ Some t → length t ≡ n)
       → AllByRecursion (λ (t : List ℕ). length t ≡ n) rest → AllByRecursion (λ (t : List ℕ). length t ≡ n) (text_then opening o rest)
@@ -63,29 +60,6 @@ module _ (sealing : List ℕ → List ℕ → List ℕ) (opening : List ℕ → 
   front_full (b ∷ bs) i h =
       full_then (text_before_last opening i b) (front_texts opening (i + 1) bs)
       (λ t e. opened_len (nonce_bytes i false) b t (nonce_bytes-length i false) h.0 (before i (opening (nonce_bytes i false) b) t e)) (front_full bs (i + 1) h.1)
-
-  -- an open segment has released whole chunks alone
-  pub going_size : (s : Segment) → (outcome opening n s).status ≡ Open → length (released opening n s) + n * s.start ≡ n * (outcome opening n s).index
-  going_size s e =
-      let g = going_outcome opening n s (going opening n s e) in
-      let pos : 0 < n + 16 = omega arith in
-      let fits : length s.bytes / (n + 16) * (n + 16) ≤ length s.bytes = (le-div_iff_mul-le pos).0 (omega arith) in
-      let texts = front_texts opening s.start (whole_blocks n s.bytes) in
-      let size = flat_full n texts (front_full (whole_blocks n s.bytes) s.start (all_full (n + 16) (length s.bytes / (n + 16)) s.bytes fits)) in
-      let swap : length texts * n ≡ n * length texts = omega arith in
-      let a : released opening n s ≡ flat_map (λ (t : List ℕ). t) texts = ap (λ (o : Outcome). flat_map (λ (t : List ℕ). t) o.texts) g in
-      let i : (outcome opening n s).index ≡ s.start + length texts = ap (λ (o : Outcome). o.index) g in
-      let m : n * (s.start + length texts) ≡ n * s.start + n * length texts = omega arith in
-      omega (arith, ap length a, size, swap, ap (λ (k : ℕ). n * k) i, m)
-
-  -- more bytes leave the count as it is, or the text was of whole chunks alone
-  pub index_grows : (s : Segment) (p : List ℕ) → (s.ended ≡ false → s.late ≡ false)
-      → ((outcome opening n (with_piece s p)).index ≡ (outcome opening n s).index) ⊎ (length (released opening n s) + n * s.start ≡ n * (outcome opening n s).index)
-  index_grows s p timely = by_status (outcome opening n s).status refl where
-    by_status : (status : Status) → (outcome opening n s).status ≡ status
-        → ((outcome opening n (with_piece s p)).index ≡ (outcome opening n s).index) ⊎ (length (released opening n s) + n * s.start ≡ n * (outcome opening n s).index)
-    by_status Open e = inr (going_size s e)
-    by_status other e = inl (after_piece opening n s p timely (λ o. cc)).index
 
   pub is_counted : (base : List ℕ) (s : Segment) → length base ≡ s.start * n → IsCounted opening n base s
   is_counted base s len =

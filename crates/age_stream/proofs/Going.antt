@@ -14,7 +14,7 @@ use Rattle.age_stream.specs.declared.step.Status.{Status}
 use Rattle.age_stream.specs.declared.step.Status.TheVariants.{Open}
 use Rattle.age_stream.specs.declared.fault.StreamKind.TheVariants.{ChunkDamaged, ChunkCut, EmptyLast, Truncated, TooManyChunks}
 use Rattle.age_stream.proofs.Chunks.{length-first_chunks, first_chunks_more, first_chunks-append, slice_get-within, slice_get-past}
-use Rattle.age_stream.proofs.Segments.{by_test}
+use Rattle.age_stream.proofs.Segments.{by_test, length-front_texts}
 
 pub first_chunks-add : (z q d : ℕ) (xs : List ℕ) → first_chunks z (q + d) xs ≡ first_chunks z q xs ++ first_chunks z d (drop (q * z) xs)
 first_chunks-add z zero d xs =
@@ -232,18 +232,11 @@ module _ (opening : List ℕ → List ℕ → Option (List ℕ)) (n : ℕ) where
     pub unended : s.ended ≡ false
     pub all : length (front_texts opening s.start (whole_blocks n s.bytes)) ≡ length (whole_blocks n s.bytes)
 
-  front_le : (blocks : List (List ℕ)) (i : ℕ) → length (front_texts opening i blocks) ≤ length blocks
-  front_le [] i = omega arith
-  front_le (block ∷ blocks) i =
-      let h = front_le blocks (i + 1) in
-      elim (text_before_last opening i block) as (λ o. length (text_then opening o (front_texts opening (i + 1) blocks)) ≤ suc (length blocks))
-      [ None ↦ omega arith | Some x ↦ omega (arith, h) ]
-
   -- where a segment stands: at a whole block, or behind all of them
   pub place : (s : Segment) → ((length (front_texts opening s.start (whole_blocks n s.bytes)) < length (whole_blocks n s.bytes)) ⊎ (length (front_texts opening s.start (whole_blocks n s.bytes)) ≡ length (whole_blocks n s.bytes)))
   place s =
       elim (cases_lt (length (front_texts opening s.start (whole_blocks n s.bytes))) (length (whole_blocks n s.bytes)))
-      [ inl lt ↦ inl lt | inr le ↦ inr (omega (arith, le, front_le (whole_blocks n s.bytes) s.start)) ]
+      [ inl lt ↦ inl lt | inr le ↦ inr (omega (arith, le, length-front_texts opening (whole_blocks n s.bytes) s.start)) ]
 
   -- the outcome at a whole block
   pub at_place : (s : Segment) → length (front_texts opening s.start (whole_blocks n s.bytes)) < length (whole_blocks n s.bytes)

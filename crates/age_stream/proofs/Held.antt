@@ -3,16 +3,17 @@ use Rattle.std.proofs.Common.{inl, inr, ◌≡◌, ℕ, ◌<◌, ◌≤◌, ◌+
 use Rattle.std.specs.Prelude.{Option, cond, min, nat_lt, nat_le, map}
 use Rattle.std.specs.List.{flat_map, AllByRecursion}
 use Rattle.std.proofs.lemmas.List.{take-append-le, length-append, append-nil, append_assoc}
-use Rattle.std.proofs.lemmas.Bool.{ltb-true, leb-true}
+use Rattle.std.proofs.lemmas.Bool.{ltb-true, leb-true, and_parts}
+use Rattle.age_stream.specs.Nonce.{chunk_limit}
 use Rattle.age_stream.specs.Lawful.{IsLawful}
 use Rattle.age_stream.specs.Payload.{chunk_count}
 use Rattle.age_stream.specs.Segment.{Segment, outcome}
 use Rattle.age_stream.specs.Deliveries.{Standing, standing, standing_from, after_delivery, begin, fresh, with_piece, with_end, text_held, accepts}
 use Rattle.age_stream.specs.Headline.{IsAuthentic, AreAuthentic, IsHeldRight, IsReached, IsPrefixOf, IsStart, IsUndamaged}
 use Rattle.age_stream.specs.declared.step.Status.TheVariants.{Done}
-use Rattle.age_stream.proofs.Places.{both, in_place}
+use Rattle.age_stream.proofs.Places.{in_place}
 use Rattle.age_stream.proofs.Undamaged.{rest_segment, rest_payload, rest_is_done}
-use Rattle.age_stream.proofs.Segments.{released_segment, by_test}
+use Rattle.age_stream.proofs.Segments.{released_segment, by_test, piece_start}
 use Rattle.age_stream.specs.declared.delivery.Delivery.{Delivery}
 use Rattle.age_stream.specs.declared.delivery.Delivery.TheVariants.{Piece, End, Restart}
 use denote.Ref.{Bor}
@@ -26,33 +27,30 @@ all_last P [] x h = h.0
 all_last P (y ∷ ys) x h = all_last P ys x h.1
 
 module _ (sealing : List ℕ → List ℕ → List ℕ) (opening : List ℕ → List ℕ → Option (List ℕ)) (lawful : IsLawful sealing opening)
-    (n : ℕ) (text : List ℕ) (few : chunk_count n text ≤ 281474976710656) (positive : 0 < n) where
+    (n : ℕ) (text : List ℕ) (few : chunk_count n text ≤ chunk_limit) (positive : 0 < n) where
   abbrev Good : Segment → Type 0
   Good = IsAuthentic sealing opening n text
 
   -- where the current segment begins, the text before it is that of the writer
   record IsSound (s : Standing) : Type 0 where
-    small : s.segment.start < 281474976710656
+    small : s.segment.start < chunk_limit
     fits : s.segment.start * n ≤ length text
     base : s.base ≡ take (s.segment.start * n) text
 
   held_prefix : (s : Standing) → IsSound s → Good s.segment → IsPrefixOf (text_held opening n s) text
   held_prefix s sound good = (released_segment sealing opening lawful n text few positive s.segment s.base sound.small sound.fits sound.base good).prefix
 
-  piece_start : (s : Segment) (p : List ℕ) → (with_piece s p).start ≡ s.start
-  piece_start s p = by_test (λ (t : Segment). t.start ≡ s.start) s.ended _ _ (λ _. refl) (λ _. refl)
-
   restarted : (s : Standing) (k : ℕ) → IsSound s → Good s.segment → accepts opening n s k ≡ true
       → IsSound (record { given_up = s.given_up ++ s.segment ∷ []; base = take (k * n) (text_held opening n s); segment = fresh k; refused = s.refused })
   restarted s k sound good sure =
       let p = held_prefix s sound good in
       let held = text_held opening n s in
-      let a : (nat_lt k 281474976710656 ≡ true) × (nat_le (k * n) (length held) ≡ true) = both (nat_lt k 281474976710656) (nat_le (k * n) (length held)) sure in
+      let a : (nat_lt k chunk_limit ≡ true) × (nat_le (k * n) (length held) ≡ true) = and_parts (nat_lt k chunk_limit) (nat_le (k * n) (length held)) sure in
       let le : k * n ≤ length held = leb-true (k * n) (length held) a.1 in
       let len : length (held ++ p.0) ≡ length held + length p.0 = length-append held p.0 in
       let len2 : length (held ++ p.0) ≡ length text = ap length p.1 in
       record {
-        small = ltb-true k 281474976710656 a.0;
+        small = ltb-true k chunk_limit a.0;
         fits = omega (arith, le, len, len2);
         base = sym (take-append-le (k * n) held p.0 le) ∙ ap (take (k * n)) p.1;
       }
@@ -70,7 +68,7 @@ module _ (sealing : List ℕ → List ℕ → List ℕ) (opening : List ℕ → 
   sound_after (Piece p) s sound h =
       let e = piece_start s.segment p.now in
       record {
-        small = subst (λ (k : ℕ). k < 281474976710656) (sym e) sound.small;
+        small = subst (λ (k : ℕ). k < chunk_limit) (sym e) sound.small;
         fits = subst (λ (k : ℕ). k * n ≤ length text) (sym e) sound.fits;
         base = subst (λ (k : ℕ). s.base ≡ take (k * n) text) (sym e) sound.base;
       }

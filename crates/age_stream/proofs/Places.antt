@@ -5,10 +5,10 @@ use Rattle.std.specs.Str.{bytes_eq}
 use Rattle.std.proofs.lemmas.Slice.Eq.{bytes_eq-Decides}
 use Rattle.std.proofs.lemmas.List.{length-take, length-drop, take_all}
 use Rattle.std.proofs.lemmas.List.Folds.{list_any_at, Any-from_list_any}
-use Rattle.std.proofs.lemmas.Bool.{cases_lt, lt-ltb}
+use Rattle.std.proofs.lemmas.Bool.{cases_lt, lt-ltb, and_parts}
 use Rattle.std.proofs.lemmas.Bool.Decides.{nat_tests}
 use Rattle.age_stream.specs.Lawful.{IsLawful}
-use Rattle.age_stream.specs.Nonce.{nonce_bytes}
+use Rattle.age_stream.specs.Nonce.{nonce_bytes, chunk_limit}
 use Rattle.age_stream.specs.Payload.{chunk_count, sealed}
 use Rattle.age_stream.specs.Segment.{Segment, Outcome, outcome, text_before_last, unless_greatest, text_then, front_texts, after_last, at_block, at_rest, whole_blocks, rest_bytes, failed}
 use Rattle.age_stream.specs.declared.step.Status.{Status}
@@ -21,10 +21,6 @@ use Rattle.age_stream.proofs.Nonces.{nonce_bytes-length, nonce_bytes-flag}
 use Rattle.age_stream.proofs.Chunks.{length-first_chunks, get_or-first_chunks}
 use Rattle.age_stream.proofs.Segments.{by_test, writer_text, next_within, opens_before, front_carries, IsPair-from_Contains}
 use Rattle.age_stream.proofs.Going.{place, at_place, past_place, rest_short}
-
-pub both : (a b : Bool) → (a && b) ≡ true → (a ≡ true) × (b ≡ true)
-both true b e = (refl, e)
-both false b e = cc
 
 cond_none : (b : Bool) → cond {A = Option (List ℕ)} b None None ≡ None
 cond_none true = refl
@@ -54,7 +50,7 @@ four false false true true w x y u v f = refl
 four false false true false w x y u v f = f refl refl (λ e. refl)
 
 module _ (sealing : List ℕ → List ℕ → List ℕ) (opening : List ℕ → List ℕ → Option (List ℕ)) (lawful : IsLawful sealing opening)
-    (n : ℕ) (text : List ℕ) (few : chunk_count n text ≤ 281474976710656) (positive : 0 < n) where
+    (n : ℕ) (text : List ℕ) (few : chunk_count n text ≤ chunk_limit) (positive : 0 < n) where
   abbrev other : List ℕ → List ℕ → Option (List ℕ)
   other = compared sealing opening n text
 
@@ -76,7 +72,7 @@ module _ (sealing : List ℕ → List ℕ → List ℕ) (opening : List ℕ → 
   Contains_from_sure nonce block e =
       let p : List ℕ × List ℕ → Bool = λ pair. bytes_eq pair.0 nonce && bytes_eq pair.1 block in
       let a = Any-from_list_any p (sealed sealing n text) e in
-      let t = both (bytes_eq a.1.0 nonce) (bytes_eq a.1.1 block) a.4 in
+      let t = and_parts (bytes_eq a.1.0 nonce) (bytes_eq a.1.1 block) a.4 in
       let first : a.1.0 ≡ nonce = (bytes_eq-Decides a.1.0 nonce).0 t.0 in
       let second : a.1.1 ≡ block = (bytes_eq-Decides a.1.1 block).0 t.1 in
       let is : a.1 ≡ (nonce, block) = ap (λ (x : List ℕ). (x, a.1.1)) first ∙ ap (λ (x : List ℕ). (nonce, x)) second in
@@ -291,7 +287,7 @@ module _ (sealing : List ℕ → List ℕ → List ℕ) (opening : List ℕ → 
         (λ _. last)))
 
     module _ (reached : IsReached sealing opening n text s) where
-      low : at < 281474976710656
+      low : at < chunk_limit
       low = (front_carries sealing opening lawful n text few positive blocks s.start reached.within auth.front).small reached.limit
 
       -- the block at which it stands doesn't open as one before the last
@@ -305,7 +301,7 @@ module _ (sealing : List ℕ → List ℕ → List ℕ) (opening : List ℕ → 
           let below = c.below in
           let flag = c.flag in
           let more : at + 1 < chunk_count n text = grind (arith, nat_tests) in
-          let t : nat_lt (at + 1) 281474976710656 ≡ true = lt-ltb (at + 1) 281474976710656 (omega (arith, more, few)) in
+          let t : nat_lt (at + 1) chunk_limit ≡ true = lt-ltb (at + 1) chunk_limit (omega (arith, more, few)) in
           let is : text_before_last opening at b ≡ Some x = ap (unless_greatest at) e ∙ ap (λ (y : Bool). cond y (Some x) None) t in
           let no : None ≡ Some x = sym (front_stops blocks s.start lt) ∙ is in
           cc

@@ -7,6 +7,7 @@ use Rattle.std.proofs.lemmas.Grind.{flat_map-append}
 use Rattle.std.proofs.lemmas.List.{append-nil, append_assoc}
 use Rattle.std.proofs.lemmas.Bool.{lt-ltb}
 use Rattle.std.proofs.Math.Bool.{or-false}
+use Rattle.age_stream.specs.Nonce.{chunk_limit}
 use Rattle.age_stream.specs.Segment.{Segment, Outcome, outcome, released}
 use Rattle.age_stream.specs.Deliveries.{Standing, with_piece, with_end, text_held, accepts, after_delivery, fresh, standing}
 use Rattle.age_stream.specs.declared.delivery.Delivery.TheVariants.{End, Restart}
@@ -102,14 +103,14 @@ module _ {B : Type 0} (opening : B → List ℕ → List ℕ → Option (List �
       }
 
   pub restart_step : (s : Standing) (k : ℕ) → IsAt opening n old s → new.key ≡ old.key
-      → (nat_lt k 281474976710656 && nat_le (k * n) (length old.text)) ≡ true
+      → (nat_lt k chunk_limit && nat_le (k * n) (length old.text)) ≡ true
       → new.opener.key ≡ old.key → Stands opening n new.opener (fresh k) → new.text ≡ take (k * n) old.text → new.refused ≡ old.refused
       → IsAt opening n new (after_delivery (opening old.key) n s (Restart k))
   restart_step s k h key sure okey stands text refused =
       let m = n in
       let op = opening old.key in
       let next : Standing = record { given_up = s.given_up ++ s.segment ∷ []; base = take (k * m) (text_held op m s); segment = fresh k; refused = s.refused } in
-      let is : accepts op m s k ≡ true = ap (λ (t : List ℕ). nat_lt k 281474976710656 && nat_le (k * m) (length t)) (sym h.text) ∙ sure in
+      let is : accepts op m s k ≡ true = ap (λ (t : List ℕ). nat_lt k chunk_limit && nat_le (k * m) (length t)) (sym h.text) ∙ sure in
       let e : after_delivery op m s (Restart k) ≡ next =
       ap (λ (b : Bool). cond {A = Standing} b next (record { given_up = s.given_up; base = s.base; segment = s.segment; refused = min (s.refused + 1) 18446744073709551615 })) is in
       let held : text_held op m next ≡ take (k * m) (text_held op m s) =
@@ -122,7 +123,7 @@ module _ {B : Type 0} (opening : B → List ℕ → List ℕ → Option (List �
       })
 
   pub refused_step : (s : Standing) (k : ℕ) → IsAt opening n old s → new.key ≡ old.key
-      → (nat_lt k 281474976710656 && nat_le (k * n) (length old.text)) ≡ false
+      → (nat_lt k chunk_limit && nat_le (k * n) (length old.text)) ≡ false
       → new.opener ≡ old.opener → new.text ≡ old.text
       → new.refused ≡ min (old.refused + 1) 18446744073709551615
       → IsAt opening n new (after_delivery (opening old.key) n s (Restart k))
@@ -131,7 +132,7 @@ module _ {B : Type 0} (opening : B → List ℕ → List ℕ → Option (List �
       let op = opening old.key in
       let up : ℕ → ℕ = λ r. min (r + 1) 18446744073709551615 in
       let next : Standing = record { given_up = s.given_up; base = s.base; segment = s.segment; refused = up s.refused } in
-      let is : accepts op m s k ≡ false = ap (λ (t : List ℕ). nat_lt k 281474976710656 && nat_le (k * m) (length t)) (sym h.text) ∙ sure in
+      let is : accepts op m s k ≡ false = ap (λ (t : List ℕ). nat_lt k chunk_limit && nat_le (k * m) (length t)) (sym h.text) ∙ sure in
       let e : after_delivery op m s (Restart k) ≡ next =
       ap (λ (b : Bool). cond {A = Standing} b (record { given_up = s.given_up ++ s.segment ∷ []; base = take (k * m) (text_held op m s); segment = fresh k; refused = s.refused }) next) is in
       subst (IsAt opening n new) (sym e) (record {

@@ -1,13 +1,18 @@
 -- A step of a sealer, for each text that it was given.
 use Rattle.std.proofs.Common.{◌≡◌, ℕ, ◌<◌, ◌≤◌, ◌+◌, ap, sym, subst, ◌∙◌, List, [], ◌∷◌, ◌++◌, length, take, true, false, arith}
 use Rattle.std.specs.Prelude.{Option, Some, None}
+use Rattle.std.proofs.lemmas.Bool.Decides.{nat_tests}
 use Rattle.std.proofs.lemmas.List.{append-nil, length-take}
 use Rattle.std.proofs.lemmas.Grind.{flat_map-append}
 use Rattle.age_stream.specs.Nonce.{nonce_bytes}
 use Rattle.age_stream.specs.Payload.{last_index, last_chunk, sealed_before_last, block_bytes, pair, payload}
-use Rattle.age_stream.specs.Sealing.{SealerView, Holds, lent_bytes}
+use Rattle.age_stream.specs.Sealing.{SealerView, Holds, lent_bytes, step_len}
 use Rattle.age_stream.specs.SealerSteps.{IsStep, Grows, Closes}
 use Rattle.age_stream.proofs.Sealings.{grown_index, grown_chunk, grown_blocks, closed_index, closed_chunk, closed_blocks}
+
+-- no more is taken than came
+pub step_len_le : (m : ℕ) (held piece : List ℕ) → step_len m held piece ≤ length piece
+step_len_le m held piece = grind (arith, nat_tests)
 
 module _ {B : Type 0} (sealing : B → List ℕ → List ℕ → List ℕ) (n : ℕ) (old new : SealerView B) (positive : 0 < n) (piece : List ℕ) (taken : ℕ) where
   -- what a step leaves, for a text that the sealer was given

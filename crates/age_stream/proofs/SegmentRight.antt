@@ -3,6 +3,7 @@ use Rattle.std.proofs.Common.{◌≡◌, ℕ, ◌<◌, ◌≤◌, ◌*◌, refl,
 use Rattle.std.specs.Prelude.{Option}
 use Rattle.std.specs.List.{flat_map}
 use Rattle.std.proofs.lemmas.Grind.{flat_map-append}
+use Rattle.age_stream.specs.Nonce.{chunk_limit}
 use Rattle.age_stream.specs.Lawful.{IsLawful}
 use Rattle.age_stream.specs.Payload.{chunk_count}
 use Rattle.age_stream.specs.Segment.{Segment, outcome, released}
@@ -15,7 +16,7 @@ use Rattle.age_stream.proofs.Undamaged.{rest_segment, rest_payload, rest_is_done
 
 module _ (sealing : List ℕ → List ℕ → List ℕ) (opening : List ℕ → List ℕ → Option (List ℕ)) (lawful : IsLawful sealing opening)
     (n : ℕ) (positive : 0 < n) where
-  rest_done : (text : List ℕ) → chunk_count n text ≤ 281474976710656 → (s : Segment) → IsAuthentic sealing opening n text s
+  rest_done : (text : List ℕ) → chunk_count n text ≤ chunk_limit → (s : Segment) → IsAuthentic sealing opening n text s
       → IsRest sealing opening n text s → (outcome opening n s).status ≡ Done
   rest_done text few s auth rest =
       let r = rest_segment sealing opening lawful n positive text few s.start rest.below in

@@ -8,14 +8,16 @@ use Rattle.std.proofs.lemmas.Bool.{ltb-true, cases_lt, eq-eqb, ne_eqb}
 use Rattle.std.proofs.lemmas.Bool.Decides.{nat_tests}
 use Rattle.std.proofs.Math.Nat.{le-div_iff_mul-le}
 use Rattle.std.proofs.lemmas.List.FromFn.{length-enumerate_from, get_or-enumerate_from}
+use Rattle.std.proofs.lemmas.Option.{cond_some}
 use Rattle.age_stream.specs.Lawful.{IsLawful}
-use Rattle.age_stream.specs.Nonce.{nonce_bytes}
+use Rattle.age_stream.specs.Nonce.{nonce_bytes, chunk_limit}
 use Rattle.age_stream.specs.Payload.{chunk_count, last_index, last_chunk, pair, sealed_before_last, sealed}
 use Rattle.age_stream.specs.Segment.{Segment, Outcome, outcome, text_before_last, unless_greatest, text_then, front_texts, after_last, at_block, at_rest, stop, whole_blocks, rest_bytes, failed}
 use Rattle.age_stream.specs.declared.step.Status.{Status}
 use Rattle.age_stream.specs.declared.step.Status.TheVariants.{Open, Done}
 use Rattle.age_stream.specs.declared.fault.StreamKind.TheVariants.{ChunkDamaged, ChunkCut, EmptyLast, Truncated, TooManyChunks}
 use Rattle.age_stream.specs.Headline.{IsWriters, IsAuthentic, IsPrefixOf}
+use Rattle.age_stream.specs.Deliveries.{with_piece}
 use Rattle.age_stream.proofs.Nonces.{nonce_bytes-length, nonce_bytes-number, nonce_bytes-flag}
 use Rattle.age_stream.proofs.Chunks.{length-first_chunks, get_or-first_chunks, last_chunk_le, slice_get-within, slice_get-past}
 
@@ -65,10 +67,6 @@ IsPair-from_Contains sealing n text nonce block positive h =
           pair_at sealing n text nonce block true q (last_chunk n text) (sym h.2 ∙ e0) (omega arith) (sym (eq-eqb (q + 1) (q + 1) refl)) (sym (take_all n (last_chunk n text) short)))
     ]
 
-tested : (b : Bool) (x y : List ℕ) → cond b (Some x) None ≡ Some y → (b ≡ true) × (Some x ≡ Some y)
-tested true x y e = (refl, e)
-tested false x y e = cc
-
 pub by_test : {A : Type 0} (P : A → Type 0) (b : Bool) (x y : A) → (b ≡ true → P x) → (b ≡ false → P y) → P (cond b x y)
 by_test P true x y f g = f refl
 by_test P false x y f g = g refl
@@ -79,9 +77,22 @@ pub record IsChunk (n : ℕ) (text : List ℕ) (i : ℕ) (last : Bool) (x : List
   pub flag : last ≡ (i + 1 == chunk_count n text)
   pub is : x ≡ take n (drop (i * n) text)
 
+-- no more texts than blocks
+pub length-front_texts : (opening : List ℕ → List ℕ → Option (List ℕ)) (blocks : List (List ℕ)) (i : ℕ) → length (front_texts opening i blocks) ≤ length blocks
+length-front_texts opening [] i = omega arith
+length-front_texts opening (block ∷ blocks) i =
+    let h = length-front_texts opening blocks (i + 1) in
+    let P : List (List ℕ) → Type 0 = λ ts. length ts ≤ suc (length blocks) in
+    elim (text_before_last opening i block) as (λ o. P (text_then opening o (front_texts opening (i + 1) blocks)))
+    [ None ↦ omega arith | Some x ↦ omega (arith, h) ]
+
+-- a piece leaves the start
+pub piece_start : (s : Segment) (p : List ℕ) → (with_piece s p).start ≡ s.start
+piece_start s p = by_test (λ (t : Segment). t.start ≡ s.start) s.ended _ _ (λ _. refl) (λ _. refl)
+
 module _ (sealing : List ℕ → List ℕ → List ℕ) (opening : List ℕ → List ℕ → Option (List ℕ)) (lawful : IsLawful sealing opening)
-    (n : ℕ) (text : List ℕ) (few : chunk_count n text ≤ 281474976710656) (positive : 0 < n) where
-  pub writer_text : (i : ℕ) (last : Bool) (block x : List ℕ) → i < 281474976710656 → opening (nonce_bytes i last) block ≡ Some x
+    (n : ℕ) (text : List ℕ) (few : chunk_count n text ≤ chunk_limit) (positive : 0 < n) where
+  pub writer_text : (i : ℕ) (last : Bool) (block x : List ℕ) → i < chunk_limit → opening (nonce_bytes i last) block ≡ Some x
       → IsWriters sealing opening n text (nonce_bytes i last) block → IsChunk n text i last x
   writer_text i last block x small e w =
       let some : IsSome (opening (nonce_bytes i last) block) = rw e (search rules) in
@@ -105,11 +116,11 @@ module _ (sealing : List ℕ → List ℕ → List ℕ) (opening : List ℕ → 
   pub record Carries (i : ℕ) (texts : List (List ℕ)) : Type 0 where
     pub within : (i + length texts) * n ≤ length text
     pub joins : take (i * n) text ++ flat_map (λ (t : List ℕ). t) texts ≡ take ((i + length texts) * n) text
-    pub small : i < 281474976710656 → i + length texts < 281474976710656
+    pub small : i < chunk_limit → i + length texts < chunk_limit
 
-  pub opens_before : (i : ℕ) (o : Option (List ℕ)) (x : List ℕ) → unless_greatest i o ≡ Some x → (nat_lt (i + 1) 281474976710656 ≡ true) × (o ≡ Some x)
+  pub opens_before : (i : ℕ) (o : Option (List ℕ)) (x : List ℕ) → unless_greatest i o ≡ Some x → (nat_lt (i + 1) chunk_limit ≡ true) × (o ≡ Some x)
   opens_before i None x e = cc
-  opens_before i (Some y) x e = tested (nat_lt (i + 1) 281474976710656) y x e
+  opens_before i (Some y) x e = let t = cond_some (nat_lt (i + 1) chunk_limit) y x e in (t.0, ap Some t.1)
 
   pub next_within : (i : ℕ) → i < chunk_count n text → false ≡ (i + 1 == chunk_count n text) → (i + 1) * n ≤ length text
   next_within i below flag =
@@ -124,7 +135,7 @@ module _ (sealing : List ℕ → List ℕ → List ℕ) (opening : List ℕ → 
       let a = take (i * n) text in
       rw e (sym (take-add (i * n) n text))
 
-  step : (i : ℕ) (block x : List ℕ) (rest : List (List ℕ)) → IsChunk n text i false x → i + 1 < 281474976710656 → Carries (i + 1) rest → Carries i (x ∷ rest)
+  step : (i : ℕ) (block x : List ℕ) (rest : List (List ℕ)) → IsChunk n text i false x → i + 1 < chunk_limit → Carries (i + 1) rest → Carries i (x ∷ rest)
   step i block x rest c lt more =
       let e : i + suc (length rest) ≡ i + 1 + length rest = omega arith in
       record {
@@ -152,7 +163,7 @@ module _ (sealing : List ℕ → List ℕ → List ℕ) (opening : List ℕ → 
   front_step block blocks i None e h w more = none i h
   front_step block blocks i (Some x) e h w more =
       let p = opens_before i (opening (nonce_bytes i false) block) x e in
-      let lt : i + 1 < 281474976710656 = ltb-true (i + 1) 281474976710656 p.0 in
+      let lt : i + 1 < chunk_limit = ltb-true (i + 1) chunk_limit p.0 in
       let w0 : IsWriters sealing opening n text (nonce_bytes (i + 0) false) block = w 0 (omega arith) in
       let z : i + 0 ≡ i = omega arith in
       let w1 : IsWriters sealing opening n text (nonce_bytes i false) block = subst (λ (k : ℕ). IsWriters sealing opening n text (nonce_bytes k false) block) z w0 in
@@ -191,7 +202,7 @@ module _ (sealing : List ℕ → List ℕ → List ℕ) (opening : List ℕ → 
   whole i start texts x e c =
       sym (flat_map_more (λ (t : List ℕ). t) start texts x) ∙ (ap (λ (t : List ℕ). t ++ x) e ∙ (ap (λ (t : List ℕ). take (i * n) text ++ t) c.is ∙ (take_chunk i ∙ take_all ((i + 1) * n) text (last_within i c.flag))))
 
-  released_last : (i : ℕ) (start : List ℕ) (texts : List (List ℕ)) (block : List ℕ) (behind ended : Bool) (o : Option (List ℕ)) → i < 281474976710656
+  released_last : (i : ℕ) (start : List ℕ) (texts : List (List ℕ)) (block : List ℕ) (behind ended : Bool) (o : Option (List ℕ)) → i < chunk_limit
       → opening (nonce_bytes i true) block ≡ o → IsWriters sealing opening n text (nonce_bytes i true) block
       → start ++ flat_map (λ (t : List ℕ). t) texts ≡ take (i * n) text → IsReleased i start (after_last opening texts i o behind ended)
   released_last i start texts block behind ended None small is w e = at_carried i start texts (failed ChunkDamaged i) e (λ d. cc)
@@ -199,13 +210,13 @@ module _ (sealing : List ℕ → List ℕ → List ℕ) (opening : List ℕ → 
       let all = whole i start texts x e (writer_text i true block x small is w) in
       record { prefix = ([], append-nil (start ++ flat_map (λ (t : List ℕ). t) (texts ++ x ∷ [])) ∙ all); done = λ d. all }
 
-  released_block : (i : ℕ) (start : List ℕ) (texts : List (List ℕ)) (block : List ℕ) (behind ended : Bool) (o : Option (List ℕ)) → i < 281474976710656
+  released_block : (i : ℕ) (start : List ℕ) (texts : List (List ℕ)) (block : List ℕ) (behind ended : Bool) (o : Option (List ℕ)) → i < chunk_limit
       → IsWriters sealing opening n text (nonce_bytes i true) block
       → start ++ flat_map (λ (t : List ℕ). t) texts ≡ take (i * n) text → IsReleased i start (at_block opening texts i block behind ended o)
   released_block i start texts block behind ended (Some x) small w e = at_carried i start texts (failed TooManyChunks i) e (λ d. cc)
   released_block i start texts block behind ended None small w e = released_last i start texts block behind ended (opening (nonce_bytes i true) block) small refl w e
 
-  released_rest : (i : ℕ) (start : List ℕ) (texts : List (List ℕ)) (rest : List ℕ) (late ended : Bool) → i < 281474976710656
+  released_rest : (i : ℕ) (start : List ℕ) (texts : List (List ℕ)) (rest : List ℕ) (late ended : Bool) → i < chunk_limit
       → (ended ≡ true → 16 ≤ length rest → (length rest ≡ 16 → i ≡ 0) → IsWriters sealing opening n text (nonce_bytes i true) rest)
       → start ++ flat_map (λ (t : List ℕ). t) texts ≡ take (i * n) text → IsReleased i start (at_rest opening texts i rest late ended)
   released_rest i start texts rest late false small w e = at_carried i start texts Open e (λ d. cc)
@@ -219,15 +230,7 @@ module _ (sealing : List ℕ → List ℕ → List ℕ) (opening : List ℕ → 
       (λ f3. last (grind (arith, nat_tests)) (λ _. grind (arith, nat_tests))))
       (λ f2. last (grind (arith, nat_tests)) (λ h. absurd (grind (arith, nat_tests))))))
 
-  length_front : (blocks : List (List ℕ)) (i : ℕ) → length (front_texts opening i blocks) ≤ length blocks
-  length_front [] i = omega arith
-  length_front (block ∷ blocks) i =
-      let h = length_front blocks (i + 1) in
-      let P : List (List ℕ) → Type 0 = λ ts. length ts ≤ suc (length blocks) in
-      elim (text_before_last opening i block) as (λ o. P (text_then opening o (front_texts opening (i + 1) blocks)))
-      [ None ↦ omega arith | Some x ↦ omega (arith, h) ]
-
-  pub released_segment : (s : Segment) (base : List ℕ) → s.start < 281474976710656 → s.start * n ≤ length text → base ≡ take (s.start * n) text
+  pub released_segment : (s : Segment) (base : List ℕ) → s.start < chunk_limit → s.start * n ≤ length text → base ≡ take (s.start * n) text
       → IsAuthentic sealing opening n text s → IsReleased (s.start + length (front_texts opening s.start (whole_blocks n s.bytes))) base (outcome opening n s)
   released_segment s base small fits e auth =
       let size = n + 16 in
@@ -238,7 +241,7 @@ module _ (sealing : List ℕ → List ℕ → List ℕ) (opening : List ℕ → 
       let count : length blocks ≡ length s.bytes / size = length-first_chunks size (length s.bytes / size) s.bytes in
       let c : Carries s.start texts = front_carries blocks s.start fits auth.front in
       let here : base ++ flat_map (λ (t : List ℕ). t) texts ≡ take (i * n) text = ap (λ (t : List ℕ). t ++ flat_map (λ (t : List ℕ). t) texts) e ∙ c.joins in
-      let low : i < 281474976710656 = c.small small in
+      let low : i < chunk_limit = c.small small in
       let behind = nat_lt ((m + 1) * size) (length s.bytes) in
       let rest = rest_bytes n s.bytes in
       elim (cases_lt m (length blocks)) [
@@ -250,7 +253,7 @@ module _ (sealing : List ℕ → List ℕ → List ℕ) (opening : List ℕ → 
             (opening (nonce_bytes i false) (get_or blocks m [])) low (auth.next lt' true) here))
         | inr le ↦
             (let is : slice_get blocks m ≡ None = slice_get-past blocks m le in
-            let eq : m ≡ length s.bytes / size = omega (arith, le, count, length_front blocks s.start) in
+            let eq : m ≡ length s.bytes / size = omega (arith, le, count, length-front_texts opening blocks s.start) in
             subst (λ (b : Option (List ℕ)). IsReleased i base (stop opening texts i b behind rest s.late s.ended)) (sym is)
             (released_rest i base texts rest s.late s.ended low
             (λ t h z. subst (λ (k : ℕ). IsWriters sealing opening n text (nonce_bytes (s.start + k) true) rest) (sym eq)

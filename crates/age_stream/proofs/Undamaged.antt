@@ -9,7 +9,7 @@ use Rattle.std.proofs.lemmas.Bool.{cases_lt, lt-ltb, le-ltb, eq-eqb, eqb-true, l
 use Rattle.std.proofs.lemmas.Nat.{div-mul-add, mul-le}
 use Rattle.std.proofs.Math.Nat.{add-mul-div_left}
 use Rattle.age_stream.specs.Lawful.{IsLawful}
-use Rattle.age_stream.specs.Nonce.{nonce_bytes}
+use Rattle.age_stream.specs.Nonce.{nonce_bytes, chunk_limit}
 use Rattle.age_stream.specs.Payload.{last_index, last_chunk, chunk_count, pair, sealed_before_last, block_bytes, payload}
 use Rattle.age_stream.specs.Segment.{Segment, Outcome, outcome, outcome_of, stop, at_block, at_rest, after_last, front_texts, text_then, unless_greatest, whole_blocks, rest_bytes}
 use Rattle.age_stream.specs.Headline.{IsAuthentic, IsWriters}
@@ -101,11 +101,11 @@ module _ (sealing : List ℕ → List ℕ → List ℕ) (opening : List ℕ → 
   left_of : (i : ℕ) (ds : List (List ℕ)) (l : List ℕ) → Full ds → rest_bytes n (bytes_of i ds ++ l) ≡ rest_bytes n l
   left_of i ds l h = ap (λ (k : ℕ). drop (k * (n + 16)) (bytes_of i ds ++ l)) (count_of i ds l h) ∙ rest_of i (length l / (n + 16)) ds l h
 
-  front_opens : (i : ℕ) (ds : List (List ℕ)) → i + length ds < 281474976710656 → front_texts opening i (blocks_of i ds) ≡ ds
+  front_opens : (i : ℕ) (ds : List (List ℕ)) → i + length ds < chunk_limit → front_texts opening i (blocks_of i ds) ≡ ds
   front_opens i [] h = refl
   front_opens i (d ∷ ds) h =
       let o : opening (nonce_bytes i false) (sealing (nonce_bytes i false) d) ≡ Some d = lawful.opens (nonce_bytes i false) d (nonce_bytes-length i false) in
-      let lt : nat_lt (i + 1) 281474976710656 ≡ true = lt-ltb (i + 1) 281474976710656 (omega (arith, h)) in
+      let lt : nat_lt (i + 1) chunk_limit ≡ true = lt-ltb (i + 1) chunk_limit (omega (arith, h)) in
       ap (λ (x : Option (List ℕ)). text_then opening (unless_greatest i x) (front_texts opening (i + 1) (blocks_of (i + 1) ds))) o
       ∙ (ap (λ (b : Bool). text_then opening (cond b (Some d) None) (front_texts opening (i + 1) (blocks_of (i + 1) ds))) lt
       ∙ ap (λ (ts : List (List ℕ)). d ∷ ts) (front_opens (i + 1) ds (omega (arith, h))))
@@ -129,7 +129,7 @@ module _ (sealing : List ℕ → List ℕ → List ℕ) (opening : List ℕ → 
       ∙ (ap (drop (k * z)) (drop_at b rest z (full_len i d h.0))
       ∙ (drop_of (i + 1) k ds l h.1 (omega arith) ∙ ap (λ (j : ℕ). bytes_of j (drop k ds) ++ l) e))))
 
-  module _ (positive : 0 < n) (text : List ℕ) (few : chunk_count n text ≤ 281474976710656) (k : ℕ) (below : k < chunk_count n text) where
+  module _ (positive : 0 < n) (text : List ℕ) (few : chunk_count n text ≤ chunk_limit) (k : ℕ) (below : k < chunk_count n text) where
     abbrev pub q : ℕ
     q = last_index n text
 

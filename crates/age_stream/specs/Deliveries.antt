@@ -1,6 +1,7 @@
 -- What is held after a list of deliveries.
 use Rattle.std.specs.Prelude.{ℕ, ◌+◌, ◌*◌, Bool, true, false, ◌||◌, ◌&&◌, nat_lt, nat_le, min, List, [], ◌∷◌, ◌++◌, length, take, Option, if◌then◌else◌}
 use Rattle.std.specs.List.{flat_map}
+use Rattle.age_stream.specs.Nonce.{chunk_limit}
 use Rattle.age_stream.specs.Segment.{Segment, outcome}
 use Rattle.age_stream.specs.declared.delivery.Delivery.{Delivery}
 use Rattle.age_stream.specs.declared.delivery.Delivery.TheVariants.{Piece, End, Restart}
@@ -21,7 +22,12 @@ begin = record { given_up = []; base = []; segment = fresh 0; refused = 0 }
 abbrev pub with_piece : Segment → List ℕ → Segment
 with_piece s piece =
     if s.ended
-    then record { start = s.start; bytes = s.bytes; ended = true; late = s.late || nat_lt 0 (length piece) }
+    then record {
+      start = s.start;
+      bytes = s.bytes;
+      ended = true;
+      late = s.late || nat_lt 0 (length piece);
+    }
     else record { start = s.start; bytes = s.bytes ++ piece; ended = false; late = s.late }
 
 abbrev pub with_end : Segment → Segment
@@ -33,15 +39,35 @@ module _ (opening : List ℕ → List ℕ → Option (List ℕ)) (n : ℕ) where
   text_held s = s.base ++ flat_map (λ text. text) (outcome opening n s.segment).texts
 
   abbrev pub accepts : Standing → ℕ → Bool
-  accepts s k = nat_lt k 281474976710656 && nat_le (k * n) (length (text_held s))
+  accepts s k = nat_lt k chunk_limit && nat_le (k * n) (length (text_held s))
 
   abbrev pub after_delivery : Standing → Delivery → Standing
-  after_delivery s (Piece piece) = record { given_up = s.given_up; base = s.base; segment = with_piece s.segment piece.now; refused = s.refused }
-  after_delivery s End = record { given_up = s.given_up; base = s.base; segment = with_end s.segment; refused = s.refused }
+  after_delivery s (Piece piece) = record {
+    given_up = s.given_up;
+    base = s.base;
+    segment = with_piece s.segment piece.now;
+    refused = s.refused;
+  }
+  after_delivery s End = record {
+    given_up = s.given_up;
+    base = s.base;
+    segment = with_end s.segment;
+    refused = s.refused;
+  }
   after_delivery s (Restart k) =
       if accepts s k
-      then record { given_up = s.given_up ++ s.segment ∷ []; base = take (k * n) (text_held s); segment = fresh k; refused = s.refused }
-      else record { given_up = s.given_up; base = s.base; segment = s.segment; refused = min (s.refused + 1) 18446744073709551615 }
+      then record {
+        given_up = s.given_up ++ s.segment ∷ [];
+        base = take (k * n) (text_held s);
+        segment = fresh k;
+        refused = s.refused;
+      }
+      else record {
+        given_up = s.given_up;
+        base = s.base;
+        segment = s.segment;
+        refused = min (s.refused + 1) 18446744073709551615;
+      }
 
   abbrev pub standing_from : Standing → List Delivery → Standing
   standing_from s [] = s

@@ -6,7 +6,8 @@ use Rattle.age_stream.specs.declared.delivery.Delivery.{Delivery}
 use Rattle.age_stream.specs.declared.replay.Drill.{Drill}
 
 -- it is what the definition holds after these deliveries
-pub record IsHeldAfter (opening : List ℕ → List ℕ → Option (List ℕ)) (n : ℕ) (deliveries : List Delivery) (drill : Drill) : Type 0 where
+pub record IsHeldAfter (opening : List ℕ → List ℕ → Option (List ℕ)) (n : ℕ)
+    (deliveries : List Delivery) (drill : Drill) : Type 0 where
   pub text : drill.text.items ≡ text_held opening n (standing opening n deliveries)
   pub status : drill.status ≡ (outcome opening n (standing opening n deliveries).segment).status
   pub index : drill.index ≡ (outcome opening n (standing opening n deliveries).segment).index

@@ -1,11 +1,9 @@
 -- What the deliveries may hold, and what then holds of the text.
-use Rattle.std.specs.Prelude.{◌≡◌, ℕ, ◌+◌, ◌*◌, ◌/◌, ◌<◌, ◌≤◌, Bool, true, false, List, [], ◌∷◌, ◌++◌, length, take, drop, Contains, IsSome, Option, slice_index_or}
-use Rattle.std.specs.List.{AllByRecursion}
+use Rattle.std.specs.Prelude.{◌≡◌, ℕ, ◌+◌, ◌*◌, ◌/◌, ◌<◌, ◌≤◌, Bool, true, false, List, [], ◌∷◌, ◌++◌, length, take, drop, Contains, IsSome, Option, slice_index_or, ◌⊎◌, map}
+use Rattle.std.specs.List.{AllByRecursion, flat_map}
 use Rattle.age_stream.specs.declared.step.Status.{Status}
 use Rattle.age_stream.specs.declared.step.Status.TheVariants.{Done}
-use Rattle.age_stream.specs.Nonce.{nonce_bytes}
-use Rattle.std.specs.Prelude.{◌⊎◌, map}
-use Rattle.std.specs.List.{flat_map}
+use Rattle.age_stream.specs.Nonce.{nonce_bytes, chunk_limit}
 use Rattle.std.specs.Borrow.{Bor}
 use Rattle.age_stream.specs.Payload.{sealed, payload, chunk_count}
 use Rattle.age_stream.specs.Segment.{Segment, front_texts, whole_blocks, rest_bytes}
@@ -17,19 +15,27 @@ use Rattle.age_stream.specs.declared.delivery.Delivery.TheVariants.{Piece, End, 
 abbrev pub IsPrefixOf : List ℕ → List ℕ → Type 0
 IsPrefixOf xs ys = (rest : List ℕ) × (xs ++ rest ≡ ys)
 
-module _ (sealing : List ℕ → List ℕ → List ℕ) (opening : List ℕ → List ℕ → Option (List ℕ)) (n : ℕ) (text : List ℕ) where
+module _ (sealing : List ℕ → List ℕ → List ℕ) (opening : List ℕ → List ℕ → Option (List ℕ)) (n : ℕ)
+    (text : List ℕ) where
   -- if the block opens at the nonce, the writer of the text sealed it there
   abbrev pub IsWriters : List ℕ → List ℕ → Type 0
-  IsWriters nonce block = IsSome (opening nonce block) → Contains (sealed sealing n text) (nonce, block)
+  IsWriters nonce block = IsSome (opening nonce block)
+      → Contains (sealed sealing n text) (nonce, block)
 
   -- each block that the segment tries is the writer's, if it opens
   pub record IsAuthentic (s : Segment) : Type 0 where
     pub front : (j : ℕ) → j < length (front_texts opening s.start (whole_blocks n s.bytes))
         → IsWriters (nonce_bytes (s.start + j) false) (slice_index_or (whole_blocks n s.bytes) j [])
-    pub next : length (front_texts opening s.start (whole_blocks n s.bytes)) < length s.bytes / (n + 16) → (last : Bool)
-        → IsWriters (nonce_bytes (s.start + length (front_texts opening s.start (whole_blocks n s.bytes))) last)
-        (slice_index_or (whole_blocks n s.bytes) (length (front_texts opening s.start (whole_blocks n s.bytes))) [])
-    pub rest : length (front_texts opening s.start (whole_blocks n s.bytes)) ≡ length s.bytes / (n + 16) → s.ended ≡ true
+    pub next : length (front_texts opening s.start (whole_blocks n s.bytes))
+        < length s.bytes / (n + 16)
+        → (last : Bool)
+        → IsWriters
+        (nonce_bytes (s.start + length (front_texts opening s.start (whole_blocks n s.bytes))) last)
+        (slice_index_or (whole_blocks n s.bytes)
+        (length (front_texts opening s.start (whole_blocks n s.bytes))) [])
+    pub rest : length (front_texts opening s.start (whole_blocks n s.bytes))
+        ≡ length s.bytes / (n + 16)
+        → s.ended ≡ true
         → 16 ≤ length (rest_bytes n s.bytes)
         → (length (rest_bytes n s.bytes) ≡ 16 → s.start + length s.bytes / (n + 16) ≡ 0)
         → IsWriters (nonce_bytes (s.start + length s.bytes / (n + 16)) true) (rest_bytes n s.bytes)
@@ -37,13 +43,15 @@ module _ (sealing : List ℕ → List ℕ → List ℕ) (opening : List ℕ → 
   -- each segment of the deliveries is so, those that were given up too
   abbrev pub AreAuthentic : List Delivery → Type 0
   AreAuthentic deliveries =
-      AllByRecursion IsAuthentic (standing opening n deliveries).given_up × IsAuthentic (standing opening n deliveries).segment
+      AllByRecursion IsAuthentic (standing opening n deliveries).given_up
+      × IsAuthentic (standing opening n deliveries).segment
 
   -- the deliveries may be anything up to a restart at k that is accepted, or up to the beginning
   abbrev pub IsStart : ℕ → List Delivery → Type 0
   IsStart k front =
       ((front ≡ []) × (k ≡ 0))
-      ⊎ ((earlier : List Delivery) × (front ≡ earlier ++ Restart k ∷ []) × (accepts opening n (standing opening n earlier) k ≡ true))
+      ⊎ ((earlier : List Delivery) × (front ≡ earlier ++ Restart k ∷ [])
+      × (accepts opening n (standing opening n earlier) k ≡ true))
 
   -- then come the writer's blocks from k on, in any pieces, and an end
   pub record IsUndamaged (k : ℕ) (deliveries : List Delivery) : Type 0 where
@@ -51,12 +59,14 @@ module _ (sealing : List ℕ → List ℕ → List ℕ) (opening : List ℕ → 
     pub pieces : List (Bor (List ℕ))
     pub is : deliveries ≡ front ++ (map Piece pieces ++ End ∷ [])
     pub starts : IsStart k front
-    pub rest : flat_map (λ (piece : Bor (List ℕ)). piece.now) pieces ≡ drop (k * (n + 16)) (payload sealing n text)
+    pub rest : flat_map (λ (piece : Bor (List ℕ)). piece.now) pieces
+        ≡ drop (k * (n + 16)) (payload sealing n text)
     pub below : k < chunk_count n text
 
   -- what is held is the beginning of the text, its end is reported only with all of it, an undamaged payload, or the rest
   -- of one, gives all of it and its end, and each block of the current segment stands in its place
-  pub record IsHeldRight (deliveries : List Delivery) (held : List ℕ) (status : Status) : Type 0 where
+  pub record IsHeldRight (deliveries : List Delivery) (held : List ℕ)
+      (status : Status) : Type 0 where
     pub prefix : IsPrefixOf held text
     pub done : status ≡ Done → held ≡ text
     pub whole : (k : ℕ) → IsUndamaged k deliveries → (held ≡ text) × (status ≡ Done)
@@ -64,7 +74,7 @@ module _ (sealing : List ℕ → List ℕ → List ℕ) (opening : List ℕ → 
 
   -- the segment starts at a chunk that the text reaches
   pub record IsReached (s : Segment) : Type 0 where
-    pub limit : s.start < 281474976710656
+    pub limit : s.start < chunk_limit
     pub within : s.start * n ≤ length text
 
   -- the segment is the payload from its start on, and an end
@@ -81,13 +91,17 @@ module _ (sealing : List ℕ → List ℕ → List ℕ) (opening : List ℕ → 
     pub whole : IsRest s → (take (s.start * n) text ++ released ≡ text) × (status ≡ Done)
     pub place : IsInPlace sealing opening n text s status
 
-module _ (sealing : List ℕ → List ℕ → List ℕ) (opening : List ℕ → List ℕ → Option (List ℕ)) (n : ℕ) where
+module _ (sealing : List ℕ → List ℕ → List ℕ)
+    (opening : List ℕ → List ℕ → Option (List ℕ)) (n : ℕ) where
   -- the headline: for every text of at most 2^48 chunks, while no delivered block opens except as its writer sealed it
   abbrev pub HoldsWritten : List Delivery → List ℕ → Status → Type 0
-  HoldsWritten deliveries held status = (text : List ℕ) → chunk_count n text ≤ 281474976710656
-      → AreAuthentic sealing opening n text deliveries → IsHeldRight sealing opening n text deliveries held status
+  HoldsWritten deliveries held status = (text : List ℕ) → chunk_count n text ≤ chunk_limit
+      → AreAuthentic sealing opening n text deliveries
+      → IsHeldRight sealing opening n text deliveries held status
 
   -- the headline of one segment
   abbrev pub ReleasesWritten : Segment → List ℕ → Status → Type 0
-  ReleasesWritten s released status = (text : List ℕ) → chunk_count n text ≤ 281474976710656 → IsReached sealing opening n text s
-      → IsAuthentic sealing opening n text s → IsReleasedRight sealing opening n text s released status
+  ReleasesWritten s released status = (text : List ℕ) → chunk_count n text ≤ chunk_limit
+      → IsReached sealing opening n text s
+      → IsAuthentic sealing opening n text s
+      → IsReleasedRight sealing opening n text s released status

@@ -12,10 +12,13 @@ use Rattle.age_stream.specs.declared.fault.StreamKind.TheVariants.{ChunkDamaged,
 abbrev pub block_at : ℕ → List ℕ → ℕ → List ℕ
 block_at n bytes j = take (n + 16) (drop (j * (n + 16)) bytes)
 
-module _ (sealing : List ℕ → List ℕ → List ℕ) (opening : List ℕ → List ℕ → Option (List ℕ)) (n : ℕ) (text : List ℕ) where
+module _ (sealing : List ℕ → List ℕ → List ℕ) (opening : List ℕ → List ℕ → Option (List ℕ)) (n : ℕ)
+    (text : List ℕ) where
   -- whether the writer of the text sealed a chunk as this block at this nonce
   abbrev pub is_writers : List ℕ → List ℕ → Bool
-  is_writers nonce block = list_any (λ (pair : List ℕ × List ℕ). bytes_eq pair.0 nonce && bytes_eq pair.1 block) (sealed sealing n text)
+  is_writers nonce block =
+      list_any (λ (pair : List ℕ × List ℕ). bytes_eq pair.0 nonce && bytes_eq pair.1 block)
+      (sealed sealing n text)
 
   -- opening that compares the block with the writer's
   abbrev pub compared : List ℕ → List ℕ → Option (List ℕ)
@@ -23,8 +26,10 @@ module _ (sealing : List ℕ → List ℕ → List ℕ) (opening : List ℕ → 
 
   -- block number i is none of the writer's, and those before it are the writer's, each at its number
   pub record IsFirstWrong (s : Segment) (i : ℕ) : Type 0 where
-    pub before : (j : ℕ) → s.start + j < i → is_writers (nonce_bytes (s.start + j) false) (block_at n s.bytes j) ≡ true
-    pub there : (last : Bool) → is_writers (nonce_bytes i last) (block_at n s.bytes (i - s.start)) ≡ false
+    pub before : (j : ℕ) → s.start + j < i
+        → is_writers (nonce_bytes (s.start + j) false) (block_at n s.bytes j) ≡ true
+    pub there : (last : Bool)
+        → is_writers (nonce_bytes i last) (block_at n s.bytes (i - s.start)) ≡ false
 
   -- the outcome is that of comparing blocks with the writer's; one is refused as damaged where it is the first that is
   -- none, and there are never too many

@@ -4,4 +4,5 @@ use Rattle.age_stream.specs.declared.replay.ReplayState.{ReplayState}
 
 module _ {B : Type 0} {n : _} {g : _} where
   abbrev pub replay_view : ReplayState B n g → ReplayView B
-  replay_view r = record { key = r.key.now; opener = r.opener; text = r.text.items; refused = r.refused }
+  replay_view r =
+      record { key = r.key.now; opener = r.opener; text = r.text.items; refused = r.refused }

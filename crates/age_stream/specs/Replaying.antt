@@ -13,7 +13,12 @@ pub record ReplayView (B : Type 0) : Type 0 where
 
 -- more bytes came to the current segment
 abbrev pub with_bytes : Standing → List ℕ → Standing
-with_bytes s piece = record { given_up = s.given_up; base = s.base; segment = with_piece s.segment piece; refused = s.refused }
+with_bytes s piece = record {
+  given_up = s.given_up;
+  base = s.base;
+  segment = with_piece s.segment piece;
+  refused = s.refused;
+}
 
 module _ {B : Type 0} (opening : B → List ℕ → List ℕ → Option (List ℕ)) (n : ℕ) where
   -- it stands where the standing says

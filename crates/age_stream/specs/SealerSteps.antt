@@ -13,17 +13,25 @@ module _ {B : Type 0} {n : ℕ} {g : _} where
   held_text s = text_beside s.beside s.buffer.items
 
   abbrev pub sealer_view : SealerState B n g → SealerView B
-  sealer_view s = record { key = s.key.now; held = held_text s; index = s.index; failed = s.failed; finished = s.finished }
+  sealer_view s = record {
+    key = s.key.now;
+    held = held_text s;
+    index = s.index;
+    failed = s.failed;
+    finished = s.finished;
+  }
 
 module _ {B : Type 0} (sealing : B → List ℕ → List ℕ → List ℕ) (n : ℕ) where
   -- the held text grew by what was taken
-  pub record Grows (old : SealerView B) (piece : List ℕ) (taken : ℕ) (new : SealerView B) : Type 0 where
+  pub record Grows (old : SealerView B) (piece : List ℕ) (taken : ℕ)
+      (new : SealerView B) : Type 0 where
     pub room : length old.held + taken ≤ n
     pub held : new.held ≡ old.held ++ take taken piece
     pub index : new.index ≡ old.index
 
   -- the held text became a block that isn't the last, and the byte that was taken is the next text
-  pub record Closes (old : SealerView B) (piece : List ℕ) (taken : ℕ) (block : List ℕ) (new : SealerView B) : Type 0 where
+  pub record Closes (old : SealerView B) (piece : List ℕ) (taken : ℕ) (block : List ℕ)
+      (new : SealerView B) : Type 0 where
     pub full : length old.held ≡ n
     pub more : 0 < length piece
     pub one : taken ≡ 1
@@ -32,12 +40,14 @@ module _ {B : Type 0} (sealing : B → List ℕ → List ℕ → List ℕ) (n : 
     pub index : new.index ≡ old.index + 1
 
   -- the sealer took that much of the piece, and made that block, if any
-  pub record IsStep (old : SealerView B) (piece : List ℕ) (taken : ℕ) (block : Option (List ℕ)) (new : SealerView B) : Type 0 where
+  pub record IsStep (old : SealerView B) (piece : List ℕ) (taken : ℕ) (block : Option (List ℕ))
+      (new : SealerView B) : Type 0 where
     pub key : new.key ≡ old.key
     pub finished : new.finished ≡ old.finished
     pub failed : new.failed ≡ false
     pub count : taken ≡ step_len n old.held piece
-    pub cases : MatchOption block (Grows old piece taken new) (λ block. Closes old piece taken block new)
+    pub cases : MatchOption block (Grows old piece taken new)
+        (λ block. Closes old piece taken block new)
 
 -- it holds what it held, and was refused
 pub record IsRefused {B : Type 0} (old new : SealerView B) : Type 0 where

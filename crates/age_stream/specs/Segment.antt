@@ -2,7 +2,7 @@
 use Rattle.std.specs.Prelude.{ℕ, ◌+◌, ◌*◌, ◌/◌, Bool, true, false, ◌||◌, ◌==◌, nat_lt, List, [], ◌∷◌, ◌++◌, length, drop, Option, Some, None, if◌then◌else◌, slice_get}
 use Rattle.std.specs.List.{flat_map}
 use Rattle.std.specs.Simd.{first_chunks}
-use Rattle.age_stream.specs.Nonce.{nonce_bytes}
+use Rattle.age_stream.specs.Nonce.{nonce_bytes, chunk_limit}
 use Rattle.age_stream.specs.declared.step.Status.{Status}
 use Rattle.age_stream.specs.declared.step.Status.TheVariants.{Open, LastSeen, Done, Failed}
 use Rattle.age_stream.specs.declared.fault.StreamKind.{StreamKind}
@@ -50,7 +50,7 @@ status_ended Open = Open
 -- the greatest number has no block before the last
 abbrev pub unless_greatest : ℕ → Option (List ℕ) → Option (List ℕ)
 unless_greatest i None = None
-unless_greatest i (Some text) = if nat_lt (i + 1) 281474976710656 then Some text else None
+unless_greatest i (Some text) = if nat_lt (i + 1) chunk_limit then Some text else None
 
 module _ (opening : List ℕ → List ℕ → Option (List ℕ)) where
   -- the text of block number i as one before the last
@@ -68,7 +68,8 @@ module _ (opening : List ℕ → List ℕ → Option (List ℕ)) where
 
   -- opened as the last block, of which this is the text, with bytes behind it or not, and ended or not
   abbrev pub after_last : List (List ℕ) → ℕ → Option (List ℕ) → Bool → Bool → Outcome
-  after_last texts i None behind ended = record { texts = texts; index = i; status = failed ChunkDamaged i }
+  after_last texts i None behind ended =
+      record { texts = texts; index = i; status = failed ChunkDamaged i }
   after_last texts i (Some text) behind ended =
       record {
         texts = texts ++ text ∷ [];
@@ -78,23 +79,31 @@ module _ (opening : List ℕ → List ℕ → Option (List ℕ)) where
 
   -- a whole block that doesn't open as one before the last
   abbrev pub at_block : List (List ℕ) → ℕ → List ℕ → Bool → Bool → Option (List ℕ) → Outcome
-  at_block texts i block behind ended (Some text) = record { texts = texts; index = i; status = failed TooManyChunks i }
-  at_block texts i block behind ended None = after_last texts i (opening (nonce_bytes i true) block) behind ended
+  at_block texts i block behind ended (Some text) =
+      record { texts = texts; index = i; status = failed TooManyChunks i }
+  at_block texts i block behind ended None =
+      after_last texts i (opening (nonce_bytes i true) block) behind ended
 
   -- all whole blocks opened; what is left is shorter
   abbrev pub at_rest : List (List ℕ) → ℕ → List ℕ → Bool → Bool → Outcome
   at_rest texts i rest late false = record { texts = texts; index = i; status = Open }
   at_rest texts i rest late true =
       if length rest == 0 then record { texts = texts; index = i; status = failed Truncated i } else
-      (if nat_lt (length rest) 16 then record { texts = texts; index = i; status = failed ChunkCut i } else
+      (if nat_lt (length rest) 16 then record {
+        texts = texts;
+        index = i;
+        status = failed ChunkCut i;
+      } else
       (if (length rest == 16) then
-      (if nat_lt 0 i then record { texts = texts; index = i; status = failed EmptyLast i } else after_last texts i (opening (nonce_bytes i true) rest) late true)
+      (if nat_lt 0 i then record { texts = texts; index = i; status = failed EmptyLast i }
+      else after_last texts i (opening (nonce_bytes i true) rest) late true)
       else after_last texts i (opening (nonce_bytes i true) rest) late true))
 
   -- from the block that didn't open as one before the last, if one is there, or from what is left behind all whole blocks
   abbrev pub stop : List (List ℕ) → ℕ → Option (List ℕ) → Bool → List ℕ → Bool → Bool → Outcome
   stop texts i None behind rest late ended = at_rest texts i rest late ended
-  stop texts i (Some block) behind rest late ended = at_block texts i block (behind || late) ended (opening (nonce_bytes i false) block)
+  stop texts i (Some block) behind rest late ended =
+      at_block texts i block (behind || late) ended (opening (nonce_bytes i false) block)
 
   -- the same for these whole blocks of so many bytes with what is left behind them
   abbrev pub outcome_of : ℕ → ℕ → List (List ℕ) → ℕ → List ℕ → Bool → Bool → Outcome
@@ -104,7 +113,9 @@ module _ (opening : List ℕ → List ℕ → Option (List ℕ)) where
       stop texts (start + m) (slice_get blocks m) (nat_lt ((m + 1) * (n + 16)) len) rest late ended
 
   abbrev pub outcome : ℕ → Segment → Outcome
-  outcome n s = outcome_of n s.start (whole_blocks n s.bytes) (length s.bytes) (rest_bytes n s.bytes) s.late s.ended
+  outcome n s =
+      outcome_of n s.start (whole_blocks n s.bytes) (length s.bytes)
+      (rest_bytes n s.bytes) s.late s.ended
 
   -- the bytes that were released
   abbrev pub released : ℕ → Segment → List ℕ

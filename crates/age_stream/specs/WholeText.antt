@@ -1,10 +1,23 @@
 -- Why a whole text isn't sealed. A chunk has n bytes.
-use Rattle.std.specs.Prelude.{◌≡◌, ℕ, ◌*◌, ◌<◌, List, length}
+use Rattle.std.specs.Prelude.{◌≡◌, ℕ, ◌*◌, ◌-◌, ◌<◌, List, length, Option, Some, None}
+use Rattle.age_stream.specs.Nonce.{chunk_limit}
+use Rattle.age_stream.specs.FaultNumbers.{number_of as number_of_kind}
 use Rattle.age_stream.specs.Sealing.{too_many}
 use Rattle.age_stream.specs.declared.whole_text.SealFault.{SealFault}
 use Rattle.age_stream.specs.declared.whole_text.SealFault.TheVariants.{Stream, Memory}
 
 -- it has more than 2^48 chunks, which is told of the last that a payload may have; or memory was refused
 abbrev pub SealRefuses : ℕ → List ℕ → SealFault → Type 0
-SealRefuses n text (Stream fault) = (281474976710656 * n < length text) × (fault ≡ too_many 281474976710655)
+SealRefuses n text (Stream fault) = (chunk_limit * n < length text)
+    × (fault ≡ too_many (chunk_limit - 1))
 SealRefuses n text Memory = Unit {0}
+
+-- its number in the list of all faults
+abbrev pub number_of : SealFault → ℕ
+number_of (Stream fault) = number_of_kind fault.kind
+number_of Memory = 28
+
+-- its chunk, if it has one
+abbrev pub place_of : SealFault → Option ℕ
+place_of (Stream fault) = Some fault.chunk
+place_of Memory = None

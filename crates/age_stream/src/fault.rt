@@ -1,6 +1,6 @@
 //! The refusals of a stream.
 
-ghost use Rattle.std.specs.Prelude.{◌≡◌, Some};
+ghost use Rattle.std.specs.Prelude.{◌≡◌, Some, None};
 ghost use Rattle.age_stream.specs.FaultNumbers.{number_of};
 
 use thiserror::Error;
@@ -84,5 +84,12 @@ impl Memory {
         ensures { result ≡ 28 }
     {
         28
+    }
+
+    /// The chunk of the fault: want of memory has none.
+    pub fn place(&self) -> Option<u64>
+        ensures { result ≡ None }
+    {
+        None
     }
 }

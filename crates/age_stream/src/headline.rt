@@ -17,9 +17,14 @@ use crate::chunk_box::ChunkBox;
 /// comes. The same of one segment, behind the text before its start.
 pub fn held_is_written<B: ChunkBox, const SEALED: usize>()
     requires least { 17 ≤ SEALED }
-    ensures held { (key : B) (deliveries : List Delivery) → HoldsWritten (B.sealing key) (B.opening key) (SEALED - 16) deliveries
-        (text_held (B.opening key) (SEALED - 16) (standing (B.opening key) (SEALED - 16) deliveries))
-        (outcome (B.opening key) (SEALED - 16) (standing (B.opening key) (SEALED - 16) deliveries).segment).status }
-    ensures segment { (key : B) (s : Segment) → ReleasesWritten (B.sealing key) (B.opening key) (SEALED - 16) s
-        (released (B.opening key) (SEALED - 16) s) (outcome (B.opening key) (SEALED - 16) s).status }
+    ensures held { (key : B) (deliveries : List Delivery)
+        → HoldsWritten (B.sealing key) (B.opening key) (SEALED - 16) deliveries
+        (text_held (B.opening key) (SEALED - 16)
+        (standing (B.opening key) (SEALED - 16) deliveries))
+        (outcome (B.opening key) (SEALED - 16)
+        (standing (B.opening key) (SEALED - 16) deliveries).segment).status }
+    ensures segment { (key : B) (s : Segment)
+        → ReleasesWritten (B.sealing key) (B.opening key) (SEALED - 16) s
+        (released (B.opening key) (SEALED - 16) s)
+        (outcome (B.opening key) (SEALED - 16) s).status }
 {}

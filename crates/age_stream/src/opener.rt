@@ -1,12 +1,12 @@
 //! The reader's side: sealed chunks in, text out.
-ghost use Rattle.std.specs.Prelude.{◌≡◌, ◌≢◌, ℕ, ◌+◌, ◌-◌, ◌*◌, ◌^◌, ◌<◌, ◌≤◌, List, [], ◌∷◌, ◌++◌, length, take, drop, min, IfOk, OnOk, OnErr, IfErr, IsOk, None, Some, true, false, if◌then◌else◌};
+ghost use Rattle.std.specs.Prelude.{◌≡◌, ◌≢◌, ◌+◌, ◌-◌, ◌<◌, ◌≤◌, [], ◌∷◌, ◌++◌, length, take, min, IfOk, OnOk, IfErr, None, Some, true, false, if◌then◌else◌};
 ghost use Rattle.std.specs.Bool.{OnTrue, OnFalse};
 ghost use Rattle.std.specs.List.{flat_map};
 ghost use Rattle.std.specs.Borrow.{sem};
 ghost use Rattle.std.specs.Io.BufRead.{Rests};
 ghost use Rattle.age_stream.specs.Lent.{lent_text};
 ghost use Rattle.age_stream.specs.Headline.{ReleasesWritten};
-ghost use Rattle.age_stream.specs.Nonce.{nonce_bytes};
+ghost use Rattle.age_stream.specs.Nonce.{nonce_bytes, chunk_limit};
 ghost use Rattle.age_stream.specs.declared.step.Status.TheVariants.{Open};
 ghost use Rattle.age_stream.specs.declared.fault.StreamFault.{StreamFault as StreamFaultValue};
 
@@ -27,12 +27,12 @@ struct OpenerState<'k, B: ChunkBox, const SEALED: usize> {
     index: u64,
     status: Status,
     ghost sizes: { (17 ≤ SEALED) × (SEALED ≤ 65552) },
-    ghost limit: { index < 281474976710656 },
+    ghost limit: { index < chunk_limit },
     ghost room: { status ≡ Open → lent ≡ false → length buffer.items < SEALED },
 }
 
 impl<'k, B: ChunkBox, const SEALED: usize> OpenerState<'k, B, SEALED> {
-    ghost use Rattle.age_stream.specs.Segment.{Segment, Outcome, outcome, released, one_block, at_rest, status_ended, failed};
+    ghost use Rattle.age_stream.specs.Segment.{Segment, outcome, released, one_block, at_rest, status_ended, failed};
     ghost use Rattle.age_stream.specs.Deliveries.{with_piece, with_end};
     ghost use Rattle.age_stream.specs.Opening.{Stands, given, handed, has_failed};
     ghost use Rattle.age_stream.specs.OpenerSteps.{held_bytes, opener_view, IsTried, TakesPart, TakesWhole, TakesNone, Ends, front_bytes};
@@ -41,7 +41,8 @@ impl<'k, B: ChunkBox, const SEALED: usize> OpenerState<'k, B, SEALED> {
     fn settle(&mut self)
         ensures buffer { self.new.buffer.items ≡ held_bytes self.old }
         ensures lent { self.new.lent ≡ false }
-        ensures same { (self.new.index ≡ self.old.index) × (self.new.key ≡ self.old.key) × (self.new.status ≡ self.old.status) }
+        ensures same { (self.new.index ≡ self.old.index) × (self.new.key ≡ self.old.key)
+            × (self.new.status ≡ self.old.status) }
     {
         if self.lent {
             self.buffer.clear();
@@ -54,7 +55,9 @@ impl<'k, B: ChunkBox, const SEALED: usize> OpenerState<'k, B, SEALED> {
         requires full { length self.old.buffer.items ≡ SEALED }
         requires open { self.old.status ≡ Status.Open }
         requires lent { self.old.lent ≡ true }
-        ensures { IsTried (one_block (B.opening self.old.key.now) self.old.index self.old.buffer.items) self.old result self.new }
+        ensures { IsTried
+            (one_block (B.opening self.old.key.now) self.old.index self.old.buffer.items)
+            self.old result self.new }
     {
         let index = self.index;
         if open_in(self.key, index, false, &mut self.buffer) {
@@ -74,18 +77,23 @@ impl<'k, B: ChunkBox, const SEALED: usize> OpenerState<'k, B, SEALED> {
     // Takes what the block has room for, and tries the block that is full.
     fn take_open(&mut self, piece: &[u8]) -> Result<(usize, bool), StreamFault>
         requires { self.old.status ≡ Status.Open }
-        ensures part { length (held_bytes self.old) + length piece.now < SEALED → TakesPart self.old piece.now result self.new }
+        ensures part { length (held_bytes self.old) + length piece.now < SEALED
+            → TakesPart self.old piece.now result self.new }
         ensures whole { SEALED ≤ length (held_bytes self.old) + length piece.now
-            → TakesWhole (one_block (B.opening self.old.key.now) self.old.index (held_bytes self.old ++ take (SEALED - length (held_bytes self.old)) piece.now)) self.old result self.new }
+            → TakesWhole (one_block (B.opening self.old.key.now) self.old.index
+            (held_bytes self.old ++ take (SEALED - length (held_bytes self.old)) piece.now))
+            self.old result self.new }
         ensures short { length (held_bytes self.old) < SEALED }
         ensures key { self.new.key ≡ self.old.key }
     {
         self.settle();
         let room = SEALED - self.buffer.len();
         if piece.len() < room {
+            // shorter than the room
             let _ = self.buffer.try_extend_from_slice(piece);
             return Ok((piece.len(), false));
         }
+        // as long as the room
         let _ = self.buffer.try_extend_from_slice(&piece[..room]);
         self.lent = true;
         self.try_block()?;
@@ -97,7 +105,8 @@ impl<'k, B: ChunkBox, const SEALED: usize> OpenerState<'k, B, SEALED> {
         requires { self.old.status ≢ Status.Open }
         ensures none { TakesNone self.old piece.now result self.new }
         ensures sound { IfOk result (λ _. has_failed self.new.status ≡ false) }
-        ensures again { IfErr result (λ fault. (earlier : StreamFaultValue) → self.old.status ≡ Status.Failed earlier → fault ≡ earlier) }
+        ensures again { IfErr result (λ fault. (earlier : StreamFaultValue)
+            → self.old.status ≡ Status.Failed earlier → fault ≡ earlier) }
         ensures unfailed { OnOk result (has_failed self.old.status ≡ false) }
         ensures still { length piece.now ≡ 0 → opener_view self.new ≡ opener_view self.old }
     {
@@ -114,24 +123,37 @@ impl<'k, B: ChunkBox, const SEALED: usize> OpenerState<'k, B, SEALED> {
 
     // Takes what it takes of a piece, and says whether a text then stands in the buffer.
     fn advance(&mut self, piece: &[u8]) -> Result<(usize, bool), StreamFault>
-        ensures stands { (s : Segment) → Stands B.opening (SEALED - 16) (opener_view self.old) s → Stands B.opening (SEALED - 16) (opener_view self.new) (with_piece s (given (λ a. a.0) result piece.now)) }
+        ensures stands { (s : Segment) → Stands B.opening (SEALED - 16) (opener_view self.old) s
+            → Stands B.opening (SEALED - 16) (opener_view self.new)
+            (with_piece s (given (λ a. a.0) result piece.now)) }
         ensures texts { (s : Segment) → Stands B.opening (SEALED - 16) (opener_view self.old) s
-            → (outcome (B.opening self.old.key.now) (SEALED - 16) (with_piece s (given (λ a. a.0) result piece.now))).texts
-            ≡ (outcome (B.opening self.old.key.now) (SEALED - 16) s).texts ++ handed (λ a. if a.1 then take (SEALED - 16) self.new.buffer.items ∷ [] else []) result }
+            → (outcome (B.opening self.old.key.now) (SEALED - 16)
+            (with_piece s (given (λ a. a.0) result piece.now))).texts
+            ≡ (outcome (B.opening self.old.key.now) (SEALED - 16) s).texts
+            ++ handed
+            (λ a. if a.1 then take (SEALED - 16) self.new.buffer.items ∷ [] else []) result }
         ensures written { (s : Segment) → Stands B.opening (SEALED - 16) (opener_view self.old) s
-            → ReleasesWritten (B.sealing self.old.key.now) (B.opening self.old.key.now) (SEALED - 16) (with_piece s (given (λ a. a.0) result piece.now))
-            (released (B.opening self.old.key.now) (SEALED - 16) s ++ flat_map (λ text. text) (handed (λ a. if a.1 then take (SEALED - 16) self.new.buffer.items ∷ [] else []) result)) self.new.status }
+            → ReleasesWritten (B.sealing self.old.key.now) (B.opening self.old.key.now)
+            (SEALED - 16) (with_piece s (given (λ a. a.0) result piece.now))
+            (released (B.opening self.old.key.now) (SEALED - 16) s
+            ++ flat_map (λ text. text) (handed
+            (λ a. if a.1 then take (SEALED - 16) self.new.buffer.items ∷ [] else []) result))
+            self.new.status }
         ensures fault { IfErr result (λ fault. self.new.status ≡ Status.Failed fault) }
         ensures key { self.new.key ≡ self.old.key }
         ensures full { IfOk result (λ a. a.1 ≡ true → length self.new.buffer.items ≡ SEALED) }
-        ensures taken { IfOk result (λ a. a.0 ≡ min (SEALED - length (held_bytes self.old)) (length piece.now)) }
+        ensures taken { IfOk result
+            (λ a. a.0 ≡ min (SEALED - length (held_bytes self.old)) (length piece.now)) }
         ensures some { IfOk result (λ a. 0 < length piece.now → 0 < a.0) }
         ensures sound { IfOk result (λ _. has_failed self.new.status ≡ false) }
-        ensures again { IfErr result (λ fault. (earlier : StreamFaultValue) → self.old.status ≡ Status.Failed earlier → fault ≡ earlier) }
+        ensures again { IfErr result (λ fault. (earlier : StreamFaultValue)
+            → self.old.status ≡ Status.Failed earlier → fault ≡ earlier) }
         ensures unfailed { OnOk result (has_failed self.old.status ≡ false) }
         ensures still { length piece.now ≡ 0 → opener_view self.new ≡ opener_view self.old }
         ensures nothing { length piece.now ≡ 0 → IfOk result (λ a. a.1 ≡ false) }
-        ensures room { IfOk result (λ a. length (held_bytes self.new) + length (if a.1 then take (SEALED - 16) self.new.buffer.items else []) ≤ length (held_bytes self.old) + a.0) }
+        ensures room { IfOk result (λ a. length (held_bytes self.new)
+            + length (if a.1 then take (SEALED - 16) self.new.buffer.items else [])
+            ≤ length (held_bytes self.old) + a.0) }
     {
         match self.status {
             Status::Open => self.take_open(piece),
@@ -142,7 +164,8 @@ impl<'k, B: ChunkBox, const SEALED: usize> OpenerState<'k, B, SEALED> {
     // Tries what is held as the last block.
     fn end_open(&mut self) -> Result<usize, StreamFault>
         requires { self.old.status ≡ Status.Open }
-        ensures ends { Ends (at_rest (B.opening self.old.key.now) [] self.old.index (held_bytes self.old) false true) self.old result self.new }
+        ensures ends { Ends (at_rest (B.opening self.old.key.now) [] self.old.index
+            (held_bytes self.old) false true) self.old result self.new }
         ensures done { OnOk result (self.new.status ≡ Status.Done) }
     {
         self.settle();
@@ -168,8 +191,11 @@ impl<'k, B: ChunkBox, const SEALED: usize> OpenerState<'k, B, SEALED> {
     // An end where no block is open.
     fn end_none(&mut self) -> Result<usize, StreamFault>
         requires { self.old.status ≢ Status.Open }
-        ensures ends { Ends (record { texts = []; index = self.old.index; status = status_ended self.old.status }) self.old result self.new }
-        ensures again { IfErr result (λ fault. (earlier : StreamFaultValue) → self.old.status ≡ Status.Failed earlier → fault ≡ earlier) }
+        ensures ends { Ends
+            (record { texts = []; index = self.old.index; status = status_ended self.old.status })
+            self.old result self.new }
+        ensures again { IfErr result (λ fault. (earlier : StreamFaultValue)
+            → self.old.status ≡ Status.Failed earlier → fault ≡ earlier) }
         ensures unfailed { OnOk result (has_failed self.old.status ≡ false) }
         ensures done { OnOk result (self.new.status ≡ Status.Done) }
     {
@@ -182,19 +208,25 @@ impl<'k, B: ChunkBox, const SEALED: usize> OpenerState<'k, B, SEALED> {
 
     // Ends, and says how many bytes in front of the buffer are the last text.
     fn close(&mut self) -> Result<usize, StreamFault>
-        ensures stands { (s : Segment) → Stands B.opening (SEALED - 16) (opener_view self.old) s → Stands B.opening (SEALED - 16) (opener_view self.new) (with_end s) }
+        ensures stands { (s : Segment) → Stands B.opening (SEALED - 16) (opener_view self.old) s
+            → Stands B.opening (SEALED - 16) (opener_view self.new) (with_end s) }
         ensures text { (s : Segment) → Stands B.opening (SEALED - 16) (opener_view self.old) s
             → released (B.opening self.old.key.now) (SEALED - 16) (with_end s)
-            ≡ released (B.opening self.old.key.now) (SEALED - 16) s ++ front_bytes result self.new.buffer.items }
+            ≡ released (B.opening self.old.key.now) (SEALED - 16) s
+            ++ front_bytes result self.new.buffer.items }
         ensures written { (s : Segment) → Stands B.opening (SEALED - 16) (opener_view self.old) s
-            → ReleasesWritten (B.sealing self.old.key.now) (B.opening self.old.key.now) (SEALED - 16) (with_end s)
-            (released (B.opening self.old.key.now) (SEALED - 16) s ++ front_bytes result self.new.buffer.items) self.new.status }
+            → ReleasesWritten (B.sealing self.old.key.now) (B.opening self.old.key.now)
+            (SEALED - 16) (with_end s)
+            (released (B.opening self.old.key.now) (SEALED - 16) s
+            ++ front_bytes result self.new.buffer.items) self.new.status }
         ensures fault { IfErr result (λ fault. self.new.status ≡ Status.Failed fault) }
         ensures done { OnOk result (self.new.status ≡ Status.Done) }
-        ensures again { IfErr result (λ fault. (earlier : StreamFaultValue) → self.old.status ≡ Status.Failed earlier → fault ≡ earlier) }
+        ensures again { IfErr result (λ fault. (earlier : StreamFaultValue)
+            → self.old.status ≡ Status.Failed earlier → fault ≡ earlier) }
         ensures unfailed { OnOk result (has_failed self.old.status ≡ false) }
         ensures key { self.new.key ≡ self.old.key }
-        ensures fits { IfOk result (λ len. (len ≤ length self.new.buffer.items) × (len ≤ length (held_bytes self.old))) }
+        ensures fits { IfOk result (λ len. (len ≤ length self.new.buffer.items)
+            × (len ≤ length (held_bytes self.old))) }
     {
         match self.status {
             Status::Open => self.end_open(),
@@ -206,7 +238,8 @@ impl<'k, B: ChunkBox, const SEALED: usize> OpenerState<'k, B, SEALED> {
     fn fail(&mut self, kind: StreamKind) -> StreamFault
         ensures status { self.new.status ≡ failed kind self.old.index }
         ensures fault { Status.Failed result ≡ failed kind self.old.index }
-        ensures same { (self.new.index ≡ self.old.index) × (self.new.key ≡ self.old.key) × (self.new.buffer ≡ self.old.buffer) × (self.new.lent ≡ self.old.lent) }
+        ensures same { (self.new.index ≡ self.old.index) × (self.new.key ≡ self.old.key)
+            × (self.new.buffer ≡ self.old.buffer) × (self.new.lent ≡ self.old.lent) }
     {
         let fault = StreamFault {
             kind,
@@ -217,10 +250,10 @@ impl<'k, B: ChunkBox, const SEALED: usize> OpenerState<'k, B, SEALED> {
     }
 }
 
-/// Opens a payload that comes in pieces, however they are cut. A whole block
-/// is tried at the nonce of a chunk that isn't the last, and then at that of
-/// the last one; what is left at the end of the input is tried as the last
-/// alone. A text is lent only once its tag was checked.
+/// Opens a payload that comes in pieces, however they are cut (C2SP age.md,
+/// "Payload"). A whole block is tried at the nonce of a chunk that isn't the
+/// last, and then at that of the last one; what is left at the end of the input
+/// is tried as the last alone. A text is lent only once its tag was checked.
 ///
 /// A contract sees the key, the bytes of the block that is open, the chunk's
 /// number and the status. They are what the outcome of a segment says: of all
@@ -249,7 +282,8 @@ impl<'k, B: ChunkBox, const SEALED: usize> Opener<'k, B, SEALED> {
     pub fn new(key: &'k B) -> Self
         requires least { 17 ≤ SEALED }
         requires most { SEALED ≤ 65552 }
-        ensures view { result ≡ record { key = key.now; held = []; index = 0; status = Status.Open } }
+        ensures view { result
+            ≡ record { key = key.now; held = []; index = 0; status = Status.Open } }
         ensures stands { Stands B.opening (SEALED - 16) result (fresh 0) }
     {
         Opener::at(key, 0)
@@ -260,8 +294,9 @@ impl<'k, B: ChunkBox, const SEALED: usize> Opener<'k, B, SEALED> {
     pub fn at(key: &'k B, index: u64) -> Self
         requires least { 17 ≤ SEALED }
         requires most { SEALED ≤ 65552 }
-        requires limit { index < 281474976710656 }
-        ensures view { result ≡ record { key = key.now; held = []; index = index; status = Status.Open } }
+        requires limit { index < chunk_limit }
+        ensures view { result
+            ≡ record { key = key.now; held = []; index = index; status = Status.Open } }
         ensures stands { Stands B.opening (SEALED - 16) result (fresh index) }
     {
         Opener {
@@ -279,7 +314,7 @@ impl<'k, B: ChunkBox, const SEALED: usize> Opener<'k, B, SEALED> {
     /// at, and one more for each chunk that was opened as not the last.
     pub fn index(&self) -> u64
         ensures index { result ≡ self.now.index }
-        ensures limit { result < 281474976710656 }
+        ensures limit { result < chunk_limit }
     {
         self.state.index
     }
@@ -309,6 +344,7 @@ impl<'k, B: ChunkBox, const SEALED: usize> Opener<'k, B, SEALED> {
         ensures most { result ≤ 65536 }
         ensures sizes { (17 ≤ SEALED) × (SEALED ≤ 65552) }
     {
+        // names the state, so that the proof knows its bounds on SEALED
         let _ = &self.state.lent;
         (SEALED - 16) as u64
     }
@@ -325,26 +361,33 @@ impl<'k, B: ChunkBox, const SEALED: usize> Opener<'k, B, SEALED> {
         // At last the headline: while what opens is the writer's, what was released is the beginning of the text.
         ensures* after { sem 𝓛 (Rests (opener_row B.row SEALED.row B.ChunkBox) self.entry (λ new.
             (new.key ≡ self.old.key)
-            × ((s : Segment) → Stands B.opening (SEALED - 16) self.old s → Stands B.opening (SEALED - 16) new (with_piece s (given (λ step. step.taken) result piece.now)))
+            × ((s : Segment) → Stands B.opening (SEALED - 16) self.old s
+            → Stands B.opening (SEALED - 16) new
+            (with_piece s (given (λ step. step.taken) result piece.now)))
             × IfErr result (λ fault. new.status ≡ Status.Failed fault)
-            × IfOk result (λ step. (has_failed new.status ≡ false) × (length new.held + length (lent_text step.chunk) ≤ length self.old.held + step.taken))
+            × IfOk result (λ step. (has_failed new.status ≡ false)
+            × (length new.held + length (lent_text step.chunk) ≤ length self.old.held + step.taken))
             × (length piece.now ≡ 0 → new ≡ self.old)
             × ((s : Segment) → Stands B.opening (SEALED - 16) self.old s
-            → ReleasesWritten (B.sealing self.old.key) (B.opening self.old.key) (SEALED - 16) (with_piece s (given (λ step. step.taken) result piece.now))
-            (released (B.opening self.old.key) (SEALED - 16) s ++ flat_map (λ text. text) (handed (λ step. chunk_texts step.chunk) result)) new.status))) }
+            → ReleasesWritten (B.sealing self.old.key) (B.opening self.old.key) (SEALED - 16)
+            (with_piece s (given (λ step. step.taken) result piece.now))
+            (released (B.opening self.old.key) (SEALED - 16) s
+            ++ flat_map (λ text. text) (handed (λ step. chunk_texts step.chunk) result))
+            new.status))) }
         ensures texts { (s : Segment) → Stands B.opening (SEALED - 16) self.old s
-            → (outcome (B.opening self.old.key) (SEALED - 16) (with_piece s (given (λ step. step.taken) result piece.now))).texts
-            ≡ (outcome (B.opening self.old.key) (SEALED - 16) s).texts ++ handed (λ step. chunk_texts step.chunk) result }
-        ensures taken { IfOk result (λ step. step.taken ≡ min (SEALED - length self.old.held) (length piece.now)) }
+            → (outcome (B.opening self.old.key) (SEALED - 16)
+            (with_piece s (given (λ step. step.taken) result piece.now))).texts
+            ≡ (outcome (B.opening self.old.key) (SEALED - 16) s).texts
+            ++ handed (λ step. chunk_texts step.chunk) result }
+        ensures taken { IfOk result
+            (λ step. step.taken ≡ min (SEALED - length self.old.held) (length piece.now)) }
         ensures some { IfOk result (λ step. 0 < length piece.now → 0 < step.taken) }
         ensures nothing { length piece.now ≡ 0 → IfOk result (λ step. chunk_texts step.chunk ≡ []) }
-        ensures again { IfErr result (λ fault. (earlier : StreamFaultValue) → self.old.status ≡ Status.Failed earlier → fault ≡ earlier) }
+        ensures again { IfErr result (λ fault. (earlier : StreamFaultValue)
+            → self.old.status ≡ Status.Failed earlier → fault ≡ earlier) }
         ensures unfailed { OnOk result (has_failed self.old.status ≡ false) }
     {
-        let (taken, full) = match self.state.advance(piece) {
-            Ok(step) => step,
-            Err(fault) => return Err(fault),
-        };
+        let (taken, full) = self.state.advance(piece)?;
         if !full {
             return Ok(Step { taken, chunk: None });
         }
@@ -367,23 +410,24 @@ impl<'k, B: ChunkBox, const SEALED: usize> Opener<'k, B, SEALED> {
         // At last the headline: while what opens is the writer's, Ok comes only with all of the text.
         ensures* after { sem 𝓛 (Rests (opener_row B.row SEALED.row B.ChunkBox) self.entry (λ new.
             (new.key ≡ self.old.key)
-            × ((s : Segment) → Stands B.opening (SEALED - 16) self.old s → Stands B.opening (SEALED - 16) new (with_end s))
+            × ((s : Segment) → Stands B.opening (SEALED - 16) self.old s
+            → Stands B.opening (SEALED - 16) new (with_end s))
             × IfErr result (λ fault. new.status ≡ Status.Failed fault)
             × OnOk result (new.status ≡ Status.Done)
             × ((s : Segment) → Stands B.opening (SEALED - 16) self.old s
-            → ReleasesWritten (B.sealing self.old.key) (B.opening self.old.key) (SEALED - 16) (with_end s)
-            (released (B.opening self.old.key) (SEALED - 16) s ++ handed_bytes result) new.status))) }
+            → ReleasesWritten (B.sealing self.old.key) (B.opening self.old.key)
+            (SEALED - 16) (with_end s)
+            (released (B.opening self.old.key) (SEALED - 16) s
+            ++ handed_bytes result) new.status))) }
         ensures text { (s : Segment) → Stands B.opening (SEALED - 16) self.old s
             → released (B.opening self.old.key) (SEALED - 16) (with_end s)
             ≡ released (B.opening self.old.key) (SEALED - 16) s ++ handed_bytes result }
         ensures fits { IfOk result (λ text. length text.now ≤ length self.old.held) }
-        ensures again { IfErr result (λ fault. (earlier : StreamFaultValue) → self.old.status ≡ Status.Failed earlier → fault ≡ earlier) }
+        ensures again { IfErr result (λ fault. (earlier : StreamFaultValue)
+            → self.old.status ≡ Status.Failed earlier → fault ≡ earlier) }
         ensures unfailed { OnOk result (has_failed self.old.status ≡ false) }
     {
-        let len = match self.state.close() {
-            Ok(len) => len,
-            Err(fault) => return Err(fault),
-        };
+        let len = self.state.close()?;
         Ok(&self.state.buffer.as_slice()[..len])
     }
 }
@@ -397,8 +441,11 @@ fn open_in<B: ChunkBox, const SEALED: usize>(
 ) -> bool
     requires tag { 16 ≤ length buffer.old.items }
     requires limit { SEALED ≤ 65552 }
-    ensures opened { OnTrue result (B.opening key.now (nonce_bytes index last) buffer.old.items ≡ Some (take (length buffer.old.items - 16) buffer.new.items)) }
-    ensures closed { OnFalse result ((B.opening key.now (nonce_bytes index last) buffer.old.items ≡ None) × (buffer.new.items ≡ buffer.old.items)) }
+    ensures opened { OnTrue result (B.opening key.now (nonce_bytes index last) buffer.old.items
+        ≡ Some (take (length buffer.old.items - 16) buffer.new.items)) }
+    ensures closed { OnFalse result
+        ((B.opening key.now (nonce_bytes index last) buffer.old.items ≡ None)
+        × (buffer.new.items ≡ buffer.old.items)) }
     ensures len { length buffer.new.items ≡ length buffer.old.items }
 {
     key.open_at(&nonce_of(index, last), buffer.as_mut_slice())

@@ -1,8 +1,9 @@
 //! What a reader holds, under any deliveries.
-ghost use Rattle.std.specs.Prelude.{◌≡◌, ℕ, ◌+◌, ◌-◌, ◌*◌, ◌^◌, ◌<◌, ◌≤◌, List, [], ◌∷◌, ◌++◌, length, take, OnOk, OnErr, IsOk, IfSome, IfNone, vec_len, vec_capacity, nat_lt, nat_le, ◌&&◌};
+ghost use Rattle.std.specs.Prelude.{◌≡◌, ◌+◌, ◌-◌, ◌*◌, ◌^◌, ◌<◌, ◌≤◌, List, [], ◌∷◌, ◌++◌, length, take, OnOk, OnErr, IfSome, IfNone, vec_len, vec_capacity, nat_lt, nat_le, ◌&&◌};
 ghost use Rattle.std.specs.Bool.{OnTrue};
 ghost use Rattle.age_stream.specs.declared.delivery.Delivery.{Delivery as DeliveryValue};
 ghost use Rattle.age_stream.specs.Lent.{lent_text};
+ghost use Rattle.age_stream.specs.Nonce.{chunk_limit};
 ghost use Rattle.age_stream.specs.Headline.{HoldsWritten};
 
 use crate::chunk_box::ChunkBox;
@@ -46,11 +47,17 @@ impl<'k, B: ChunkBox, const SEALED: usize> ReplayState<'k, B, SEALED> {
     // Feeds the front of a piece, and says how much was taken, unless the opener refused it.
     fn feed_once(&mut self, piece: &[u8]) -> Option<usize>
         requires some { 0 < length piece.now }
-        requires room { vec_len self.old.text + length self.old.opener.held + length piece.now ≤ vec_capacity self.old.text }
+        requires room { vec_len self.old.text + length self.old.opener.held + length piece.now
+            ≤ vec_capacity self.old.text }
         ensures taken { IfSome result (λ t. (0 < t) × (t ≤ length piece.now)
-            × (vec_len self.new.text + length self.new.opener.held + length piece.now ≤ vec_capacity self.new.text + t)
-            × ((s : Standing) → IsAt B.opening (SEALED - 16) (replay_view self.old) s → IsAt B.opening (SEALED - 16) (replay_view self.new) (with_bytes s (take t piece.now)))) }
-        ensures refused { IfNone result ((s : Standing) → IsAt B.opening (SEALED - 16) (replay_view self.old) s → IsAt B.opening (SEALED - 16) (replay_view self.new) (with_bytes s piece.now)) }
+            × (vec_len self.new.text + length self.new.opener.held + length piece.now
+            ≤ vec_capacity self.new.text + t)
+            × ((s : Standing) → IsAt B.opening (SEALED - 16) (replay_view self.old) s
+            → IsAt B.opening (SEALED - 16) (replay_view self.new)
+            (with_bytes s (take t piece.now)))) }
+        ensures refused { IfNone result ((s : Standing)
+            → IsAt B.opening (SEALED - 16) (replay_view self.old) s
+            → IsAt B.opening (SEALED - 16) (replay_view self.new) (with_bytes s piece.now)) }
         ensures key { self.new.key ≡ self.old.key }
     {
         match self.opener.feed(piece) {
@@ -65,8 +72,10 @@ impl<'k, B: ChunkBox, const SEALED: usize> ReplayState<'k, B, SEALED> {
 
     // Feeds a whole piece, for whose text there is room.
     fn feed_all(&mut self, piece: &[u8])
-        requires { vec_len self.old.text + length self.old.opener.held + length piece.now ≤ vec_capacity self.old.text }
-        ensures fed { (s : Standing) → IsAt B.opening (SEALED - 16) (replay_view self.old) s → IsAt B.opening (SEALED - 16) (replay_view self.new) (with_bytes s piece.now) }
+        requires { vec_len self.old.text + length self.old.opener.held + length piece.now
+            ≤ vec_capacity self.old.text }
+        ensures fed { (s : Standing) → IsAt B.opening (SEALED - 16) (replay_view self.old) s
+            → IsAt B.opening (SEALED - 16) (replay_view self.new) (with_bytes s piece.now) }
         ensures key { self.new.key ≡ self.old.key }
     {
         let mut at = 0;
@@ -80,7 +89,9 @@ impl<'k, B: ChunkBox, const SEALED: usize> ReplayState<'k, B, SEALED> {
 
     // Takes a piece. Its text is made room for first.
     fn take_piece(&mut self, piece: &[u8]) -> Result<(), Memory>
-        ensures fed { OnOk result ((s : Standing) → IsAt B.opening (SEALED - 16) (replay_view self.old) s → IsAt B.opening (SEALED - 16) (replay_view self.new) (with_bytes s piece.now)) }
+        ensures fed { OnOk result ((s : Standing)
+            → IsAt B.opening (SEALED - 16) (replay_view self.old) s
+            → IsAt B.opening (SEALED - 16) (replay_view self.new) (with_bytes s piece.now)) }
         ensures err { OnErr result (replay_view self.new ≡ replay_view self.old) }
         ensures key { self.new.key ≡ self.old.key }
     {
@@ -94,7 +105,10 @@ impl<'k, B: ChunkBox, const SEALED: usize> ReplayState<'k, B, SEALED> {
 
     // Takes an end. Its text is made room for first.
     fn take_end(&mut self) -> Result<(), Memory>
-        ensures ended { OnOk result ((s : Standing) → IsAt B.opening (SEALED - 16) (replay_view self.old) s → IsAt B.opening (SEALED - 16) (replay_view self.new) (after_delivery (B.opening self.old.key.now) (SEALED - 16) s End)) }
+        ensures ended { OnOk result ((s : Standing)
+            → IsAt B.opening (SEALED - 16) (replay_view self.old) s
+            → IsAt B.opening (SEALED - 16) (replay_view self.new)
+            (after_delivery (B.opening self.old.key.now) (SEALED - 16) s End)) }
         ensures err { OnErr result (replay_view self.new ≡ replay_view self.old) }
         ensures key { self.new.key ≡ self.old.key }
     {
@@ -102,16 +116,16 @@ impl<'k, B: ChunkBox, const SEALED: usize> ReplayState<'k, B, SEALED> {
         if self.text.reserve(held).is_err() {
             return Err(Memory);
         }
-        match self.opener.end() {
-            Ok(text) => push_text(&mut self.text, text),
-            Err(_) => {}
+        if let Ok(text) = self.opener.end() {
+            push_text(&mut self.text, text);
         }
         Ok(())
     }
 
     // Whether so many chunks are held.
     fn reaches(&self, k: u64) -> bool
-        ensures answer { result ≡ (nat_lt k 281474976710656 && nat_le (k * (SEALED - 16)) (length self.now.text.items)) }
+        ensures answer { result ≡ (nat_lt k chunk_limit
+            && nat_le (k * (SEALED - 16)) (length self.now.text.items)) }
         ensures fits { OnTrue result (k * (SEALED - 16) < 2 ^ 64) }
     {
         k < CHUNK_LIMIT && k * self.opener.chunk_len() <= self.text.len() as u64
@@ -119,7 +133,9 @@ impl<'k, B: ChunkBox, const SEALED: usize> ReplayState<'k, B, SEALED> {
 
     // Starts again at a chunk, where the text reaches it.
     fn restart(&mut self, k: u64)
-        ensures restarted { (s : Standing) → IsAt B.opening (SEALED - 16) (replay_view self.old) s → IsAt B.opening (SEALED - 16) (replay_view self.new) (after_delivery (B.opening self.old.key.now) (SEALED - 16) s (Restart k)) }
+        ensures restarted { (s : Standing) → IsAt B.opening (SEALED - 16) (replay_view self.old) s
+            → IsAt B.opening (SEALED - 16) (replay_view self.new)
+            (after_delivery (B.opening self.old.key.now) (SEALED - 16) s (Restart k)) }
         ensures key { self.new.key ≡ self.old.key }
     {
         if self.reaches(k) {
@@ -132,7 +148,10 @@ impl<'k, B: ChunkBox, const SEALED: usize> ReplayState<'k, B, SEALED> {
 
     // One delivery, for what it was given before.
     fn deliver(&mut self, delivery: &Delivery<'_>) -> Result<(), Memory>
-        ensures stands { OnOk result ((s : Standing) → IsAt B.opening (SEALED - 16) (replay_view self.old) s → IsAt B.opening (SEALED - 16) (replay_view self.new) (after_delivery (B.opening self.old.key.now) (SEALED - 16) s delivery.now)) }
+        ensures stands { OnOk result ((s : Standing)
+            → IsAt B.opening (SEALED - 16) (replay_view self.old) s
+            → IsAt B.opening (SEALED - 16) (replay_view self.new)
+            (after_delivery (B.opening self.old.key.now) (SEALED - 16) s delivery.now)) }
         ensures err { OnErr result (replay_view self.new ≡ replay_view self.old) }
         ensures key { self.new.key ≡ self.old.key }
     {
@@ -148,10 +167,15 @@ impl<'k, B: ChunkBox, const SEALED: usize> ReplayState<'k, B, SEALED> {
 
     // The same, for each list of deliveries that it was given.
     fn take(&mut self, delivery: &Delivery<'_>) -> Result<(), Memory>
-        ensures held { OnOk result ((deliveries : List DeliveryValue) → Replays B.opening (SEALED - 16) (replay_view self.old) deliveries → Replays B.opening (SEALED - 16) (replay_view self.new) (deliveries ++ delivery.now ∷ [])) }
+        ensures held { OnOk result ((deliveries : List DeliveryValue)
+            → Replays B.opening (SEALED - 16) (replay_view self.old) deliveries
+            → Replays B.opening (SEALED - 16) (replay_view self.new)
+            (deliveries ++ delivery.now ∷ [])) }
         ensures err { OnErr result (replay_view self.new ≡ replay_view self.old) }
-        ensures written { OnOk result ((deliveries : List DeliveryValue) → Replays B.opening (SEALED - 16) (replay_view self.old) deliveries
-            → HoldsWritten (B.sealing self.old.key.now) (B.opening self.old.key.now) (SEALED - 16) (deliveries ++ delivery.now ∷ []) self.new.text.items self.new.opener.status) }
+        ensures written { OnOk result ((deliveries : List DeliveryValue)
+            → Replays B.opening (SEALED - 16) (replay_view self.old) deliveries
+            → HoldsWritten (B.sealing self.old.key.now) (B.opening self.old.key.now) (SEALED - 16)
+            (deliveries ++ delivery.now ∷ []) self.new.text.items self.new.opener.status) }
         ensures key { self.new.key ≡ self.old.key }
     {
         self.deliver(delivery)
@@ -248,14 +272,18 @@ impl<'k, B: ChunkBox, const SEALED: usize> Replay<'k, B, SEALED> {
     /// k is [`CHUNK_LIMIT`] or more or fewer than k chunks are held. Where
     /// memory is refused nothing changes.
     pub fn take(&mut self, delivery: &Delivery<'_>) -> Result<(), Memory>
-        ensures held { OnOk result ((deliveries : List DeliveryValue) → Replays B.opening (SEALED - 16) self.old deliveries → Replays B.opening (SEALED - 16) self.new (deliveries ++ delivery.now ∷ [])) }
+        ensures held { OnOk result ((deliveries : List DeliveryValue)
+            → Replays B.opening (SEALED - 16) self.old deliveries
+            → Replays B.opening (SEALED - 16) self.new (deliveries ++ delivery.now ∷ [])) }
         ensures err { OnErr result (self.new ≡ self.old) }
 
         // While no block opens except as the writer of a text sealed it, what is held is the beginning of that text, the
         // end is reported only with all of it, an undamaged payload, or its rest, gives all of it, and each block stands in
         // its place.
-        ensures written { OnOk result ((deliveries : List DeliveryValue) → Replays B.opening (SEALED - 16) self.old deliveries
-            → HoldsWritten (B.sealing self.old.key) (B.opening self.old.key) (SEALED - 16) (deliveries ++ delivery.now ∷ []) self.new.text self.new.opener.status) }
+        ensures written { OnOk result ((deliveries : List DeliveryValue)
+            → Replays B.opening (SEALED - 16) self.old deliveries
+            → HoldsWritten (B.sealing self.old.key) (B.opening self.old.key) (SEALED - 16)
+            (deliveries ++ delivery.now ∷ []) self.new.text self.new.opener.status) }
         ensures key { self.new.key ≡ self.old.key }
     {
         self.state.take(delivery)
@@ -267,6 +295,7 @@ fn push_text(text: &mut Vec<u8>, bytes: &[u8])
     requires { vec_len text.old + length bytes.now ≤ vec_capacity text.old }
     ensures { text.new.items ≡ text.old.items ++ bytes.now }
 {
+    // within the capacity no memory is asked for
     let _ = text.extend_from_slice(bytes);
 }
 
@@ -277,6 +306,7 @@ fn push_lent(text: &mut Vec<u8>, chunk: Option<&[u8]>)
     ensures capacity { vec_capacity text.old ≤ vec_capacity text.new }
 {
     if let Some(bytes) = chunk {
+        // within the capacity no memory is asked for
         let _ = text.extend_from_slice(bytes);
     }
 }

@@ -2,7 +2,7 @@
 ghost use Rattle.std.specs.Prelude.{◌≡◌, ℕ, ◌+◌, ◌-◌, ◌<◌, ◌≤◌, List, [], ◌++◌, length, take, IfOk, OnOk, OnErr, IfErr, Some, None, IsNone, true, false, if◌then◌else◌};
 ghost use Rattle.std.specs.Borrow.{sem};
 ghost use Rattle.std.specs.Io.BufRead.{Rests};
-ghost use Rattle.age_stream.specs.Nonce.{nonce_bytes};
+ghost use Rattle.age_stream.specs.Nonce.{nonce_bytes, chunk_limit};
 
 use crate::chunk_box::ChunkBox;
 use crate::fault::{StreamFault, StreamKind};
@@ -24,7 +24,7 @@ struct SealerState<'k, B: ChunkBox, const SEALED: usize> {
     finished: bool,
     ghost sizes: { (17 ≤ SEALED) × (SEALED ≤ 65552) },
     ghost room: { finished ≡ false → IsNone beside → length buffer.items ≤ SEALED - 16 },
-    ghost limit: { index < 281474976710656 },
+    ghost limit: { index < chunk_limit },
 }
 
 impl<'k, B: ChunkBox, const SEALED: usize> SealerState<'k, B, SEALED> {
@@ -37,7 +37,8 @@ impl<'k, B: ChunkBox, const SEALED: usize> SealerState<'k, B, SEALED> {
         ensures held { held_text self.new ≡ held_text self.old }
         ensures buffer { self.new.buffer.items ≡ held_text self.old }
         ensures beside { self.new.beside ≡ None }
-        ensures same { (self.new.index ≡ self.old.index) × (self.new.key ≡ self.old.key) × (self.new.failed ≡ self.old.failed) × (self.new.finished ≡ self.old.finished) }
+        ensures same { (self.new.index ≡ self.old.index) × (self.new.key ≡ self.old.key)
+            × (self.new.failed ≡ self.old.failed) × (self.new.finished ≡ self.old.finished) }
     {
         if let Some(byte) = self.beside {
             self.buffer.clear();
@@ -59,9 +60,13 @@ impl<'k, B: ChunkBox, const SEALED: usize> SealerState<'k, B, SEALED> {
     // Takes what it takes of a piece, and says whether the buffer then is a block to lend.
     fn step(&mut self, piece: &[u8]) -> Result<(usize, bool), StreamFault>
         requires { self.old.finished ≡ false }
-        ensures ok { IfOk result (λ s. IsStep B.sealing (SEALED - 16) (sealer_view self.old) piece.now s.0 (if s.1 then Some self.new.buffer.items else None) (sealer_view self.new)) }
-        ensures fits { IfOk result (λ _. needs_too_many (SEALED - 16) (sealer_view self.old) piece.now ≡ false) }
-        ensures refused { OnErr result (needs_too_many (SEALED - 16) (sealer_view self.old) piece.now ≡ true) }
+        ensures ok { IfOk result (λ s.
+            IsStep B.sealing (SEALED - 16) (sealer_view self.old) piece.now s.0
+            (if s.1 then Some self.new.buffer.items else None) (sealer_view self.new)) }
+        ensures fits { IfOk result
+            (λ _. needs_too_many (SEALED - 16) (sealer_view self.old) piece.now ≡ false) }
+        ensures refused { OnErr result
+            (needs_too_many (SEALED - 16) (sealer_view self.old) piece.now ≡ true) }
         ensures fault { IfErr result (λ fault. fault ≡ too_many self.old.index) }
         ensures err { OnErr result (IsRefused (sealer_view self.old) (sealer_view self.new)) }
     {
@@ -75,6 +80,7 @@ impl<'k, B: ChunkBox, const SEALED: usize> SealerState<'k, B, SEALED> {
         let room = SEALED - 16 - self.buffer.len();
         if room > 0 {
             let taken = room.min(piece.len());
+            // no more than there is room for
             let _ = self.buffer.try_extend_from_slice(&piece[..taken]);
             return Ok((taken, false));
         }
@@ -91,17 +97,26 @@ impl<'k, B: ChunkBox, const SEALED: usize> SealerState<'k, B, SEALED> {
     // The same, for each text that the sealer may have been given.
     fn advance(&mut self, piece: &[u8]) -> Result<(usize, bool), StreamFault>
         requires { self.old.finished ≡ false }
-        ensures taken { IfOk result (λ s. s.0 ≡ step_len (SEALED - 16) (held_text self.old) piece.now) }
-        ensures holds { IfOk result (λ s. (text : List ℕ) → Holds (SEALED - 16) (sealer_view self.old) text → Holds (SEALED - 16) (sealer_view self.new) (text ++ take s.0 piece.now)) }
-        ensures blocks { IfOk result (λ s. (text : List ℕ) → Holds (SEALED - 16) (sealer_view self.old) text
-            → block_bytes (sealed_before_last (B.sealing self.old.key.now) (SEALED - 16) (text ++ take s.0 piece.now))
-            ≡ block_bytes (sealed_before_last (B.sealing self.old.key.now) (SEALED - 16) text) ++ lent_bytes (if s.1 then Some self.new.buffer.items else None)) }
-        ensures fits { IfOk result (λ _. needs_too_many (SEALED - 16) (sealer_view self.old) piece.now ≡ false) }
+        ensures taken { IfOk result
+            (λ s. s.0 ≡ step_len (SEALED - 16) (held_text self.old) piece.now) }
+        ensures holds { IfOk result (λ s. (text : List ℕ)
+            → Holds (SEALED - 16) (sealer_view self.old) text
+            → Holds (SEALED - 16) (sealer_view self.new) (text ++ take s.0 piece.now)) }
+        ensures blocks { IfOk result (λ s. (text : List ℕ)
+            → Holds (SEALED - 16) (sealer_view self.old) text
+            → block_bytes (sealed_before_last (B.sealing self.old.key.now) (SEALED - 16)
+            (text ++ take s.0 piece.now))
+            ≡ block_bytes (sealed_before_last (B.sealing self.old.key.now) (SEALED - 16) text)
+            ++ lent_bytes (if s.1 then Some self.new.buffer.items else None)) }
+        ensures fits { IfOk result
+            (λ _. needs_too_many (SEALED - 16) (sealer_view self.old) piece.now ≡ false) }
         ensures open { OnOk result (self.new.failed ≡ false) }
-        ensures refused { OnErr result (needs_too_many (SEALED - 16) (sealer_view self.old) piece.now ≡ true) }
+        ensures refused { OnErr result
+            (needs_too_many (SEALED - 16) (sealer_view self.old) piece.now ≡ true) }
         ensures fault { IfErr result (λ fault. fault ≡ too_many self.old.index) }
         ensures err { OnErr result (IsRefused (sealer_view self.old) (sealer_view self.new)) }
-        ensures same { (self.new.key.now ≡ self.old.key.now) × (self.new.finished ≡ self.old.finished) }
+        ensures same { (self.new.key.now ≡ self.old.key.now)
+            × (self.new.finished ≡ self.old.finished) }
     {
         self.step(piece)
     }
@@ -110,9 +125,11 @@ impl<'k, B: ChunkBox, const SEALED: usize> SealerState<'k, B, SEALED> {
     fn close(&mut self) -> Result<(), StreamFault>
         requires { self.old.finished ≡ false }
         ensures ok { OnOk result ((self.new.finished ≡ true) × (self.old.failed ≡ false)) }
-        ensures fault { IfErr result (λ fault. (self.old.failed ≡ true) × (fault ≡ too_many self.old.index)) }
+        ensures fault { IfErr result (λ fault. (self.old.failed ≡ true)
+            × (fault ≡ too_many self.old.index)) }
         ensures err { OnErr result (IsRefused (sealer_view self.old) (sealer_view self.new)) }
-        ensures block { OnOk result (self.new.buffer.items ≡ B.sealing self.old.key.now (nonce_bytes self.old.index true) (held_text self.old)) }
+        ensures block { OnOk result (self.new.buffer.items
+            ≡ B.sealing self.old.key.now (nonce_bytes self.old.index true) (held_text self.old)) }
         ensures key { self.new.key ≡ self.old.key }
     {
         if self.failed {
@@ -128,19 +145,23 @@ impl<'k, B: ChunkBox, const SEALED: usize> SealerState<'k, B, SEALED> {
     fn close_text(&mut self) -> Result<(), StreamFault>
         requires { self.old.finished ≡ false }
         ensures ok { OnOk result ((self.new.finished ≡ true) × (self.old.failed ≡ false)) }
-        ensures fault { IfErr result (λ fault. (self.old.failed ≡ true) × (fault ≡ too_many self.old.index)) }
+        ensures fault { IfErr result (λ fault. (self.old.failed ≡ true)
+            × (fault ≡ too_many self.old.index)) }
         ensures err { OnErr result (IsRefused (sealer_view self.old) (sealer_view self.new)) }
-        ensures blocks { OnOk result ((text : List ℕ) → Holds (SEALED - 16) (sealer_view self.old) text
+        ensures blocks { OnOk result ((text : List ℕ)
+            → Holds (SEALED - 16) (sealer_view self.old) text
             → payload (B.sealing self.old.key.now) (SEALED - 16) text
-            ≡ block_bytes (sealed_before_last (B.sealing self.old.key.now) (SEALED - 16) text) ++ self.new.buffer.items) }
+            ≡ block_bytes (sealed_before_last (B.sealing self.old.key.now) (SEALED - 16) text)
+            ++ self.new.buffer.items) }
         ensures key { self.new.key ≡ self.old.key }
     {
         self.close()
     }
 }
 
-/// Seals a text that comes in pieces, however they are cut. A whole chunk is
-/// sealed once a byte behind it came, since only then it isn't the last.
+/// Seals a text that comes in pieces, however they are cut (C2SP age.md,
+/// "Payload"). A whole chunk is sealed once a byte behind it came, since only
+/// then it isn't the last.
 ///
 /// A contract sees the key, the text of the chunk that is open, its number,
 /// and whether the sealer was refused or finished.
@@ -167,7 +188,8 @@ impl<'k, B: ChunkBox, const SEALED: usize> Sealer<'k, B, SEALED> {
     pub fn new(key: &'k B) -> Self
         requires least { 17 ≤ SEALED }
         requires most { SEALED ≤ 65552 }
-        ensures { result ≡ record { key = key.now; held = []; index = 0; failed = false; finished = false } }
+        ensures { result
+            ≡ record { key = key.now; held = []; index = 0; failed = false; finished = false } }
     {
         Sealer {
             state: SealerState {
@@ -197,19 +219,24 @@ impl<'k, B: ChunkBox, const SEALED: usize> Sealer<'k, B, SEALED> {
         requires { self.old.finished ≡ false }
         ensures* after { sem 𝓛 (Rests (sealer_row B.row SEALED.row B.ChunkBox) self.entry (λ new.
             (new.key ≡ self.old.key) × (new.finished ≡ false)
-            × IfOk result (λ s. (new.failed ≡ false) × ((text : List ℕ) → Holds (SEALED - 16) self.old text → Holds (SEALED - 16) new (text ++ take s.taken piece.now)))
-            × OnErr result ((new.held ≡ self.old.held) × (new.index ≡ self.old.index) × (new.failed ≡ true)))) }
-        ensures taken { IfOk result (λ s. s.taken ≡ step_len (SEALED - 16) self.old.held piece.now) }
+            × IfOk result (λ s. (new.failed ≡ false)
+            × ((text : List ℕ) → Holds (SEALED - 16) self.old text
+            → Holds (SEALED - 16) new (text ++ take s.taken piece.now)))
+            × OnErr result ((new.held ≡ self.old.held) × (new.index ≡ self.old.index)
+            × (new.failed ≡ true)))) }
+        ensures taken { IfOk result
+            (λ s. s.taken ≡ step_len (SEALED - 16) self.old.held piece.now) }
         ensures chunk { IfOk result (λ s. (text : List ℕ) → Holds (SEALED - 16) self.old text
-            → block_bytes (sealed_before_last (B.sealing self.old.key) (SEALED - 16) (text ++ take s.taken piece.now))
-            ≡ block_bytes (sealed_before_last (B.sealing self.old.key) (SEALED - 16) text) ++ lent_bytes (lent s.chunk)) }
+            → block_bytes (sealed_before_last (B.sealing self.old.key) (SEALED - 16)
+            (text ++ take s.taken piece.now))
+            ≡ block_bytes (sealed_before_last (B.sealing self.old.key) (SEALED - 16) text)
+            ++ lent_bytes (lent s.chunk)) }
         ensures fits { IfOk result (λ _. needs_too_many (SEALED - 16) self.old piece.now ≡ false) }
-        ensures refused { IfErr result (λ fault. (needs_too_many (SEALED - 16) self.old piece.now ≡ true) × (fault ≡ too_many self.old.index)) }
+        ensures refused { IfErr result
+            (λ fault. (needs_too_many (SEALED - 16) self.old piece.now ≡ true)
+            × (fault ≡ too_many self.old.index)) }
     {
-        let (taken, full) = match self.state.advance(piece) {
-            Ok(step) => step,
-            Err(fault) => return Err(fault),
-        };
+        let (taken, full) = self.state.advance(piece)?;
         if !full {
             return Ok(Step { taken, chunk: None });
         }
@@ -226,17 +253,17 @@ impl<'k, B: ChunkBox, const SEALED: usize> Sealer<'k, B, SEALED> {
         ensures* after { sem 𝓛 (Rests (sealer_row B.row SEALED.row B.ChunkBox) self.entry (λ new.
             (new.key ≡ self.old.key)
             × OnOk result (new.finished ≡ true)
-            × OnErr result ((new.held ≡ self.old.held) × (new.index ≡ self.old.index) × (new.failed ≡ true) × (new.finished ≡ false)))) }
+            × OnErr result ((new.held ≡ self.old.held) × (new.index ≡ self.old.index)
+            × (new.failed ≡ true) × (new.finished ≡ false)))) }
         ensures chunk { IfOk result (λ block. (text : List ℕ) → Holds (SEALED - 16) self.old text
             → payload (B.sealing self.old.key) (SEALED - 16) text
-            ≡ block_bytes (sealed_before_last (B.sealing self.old.key) (SEALED - 16) text) ++ block.now) }
+            ≡ block_bytes (sealed_before_last (B.sealing self.old.key) (SEALED - 16) text)
+            ++ block.now) }
         ensures fits { OnOk result (self.old.failed ≡ false) }
-        ensures refused { IfErr result (λ fault. (self.old.failed ≡ true) × (fault ≡ too_many self.old.index)) }
+        ensures refused { IfErr result (λ fault. (self.old.failed ≡ true)
+            × (fault ≡ too_many self.old.index)) }
     {
-        match self.state.close_text() {
-            Ok(()) => {}
-            Err(fault) => return Err(fault),
-        }
+        self.state.close_text()?;
         Ok(self.state.buffer.as_slice())
     }
 }
@@ -252,6 +279,7 @@ fn seal_in<B: ChunkBox, const SEALED: usize>(
     requires limit { SEALED ≤ 65552 }
     ensures { buffer.new.items ≡ B.sealing key.now (nonce_bytes index last) buffer.old.items }
 {
+    // room for the tag is required
     let _ = buffer.try_extend_from_slice(&[0; 16]);
     key.seal_at(&nonce_of(index, last), buffer.as_mut_slice());
 }

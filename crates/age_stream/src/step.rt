@@ -19,6 +19,9 @@ pub enum Status {
 /// call: a sealer's block or an opener's text, if one came.
 #[derive(Drop)]
 pub struct Step<'a> {
+    /// How many bytes of the piece were taken, from its front on.
     pub taken: usize,
+    /// The block of a sealer, tag included, or the text of an opener; `None`
+    /// where no chunk was finished.
     pub chunk: Option<&'a [u8]>,
 }

@@ -1,4 +1,4 @@
-//! Worked rows that run, and each public function once. The longer rows stand in the crate of the vectors.
+//! Worked examples that run, and each public function once. The longer ones stand in the crate of the vectors.
 use crate::clear_box::ClearBox;
 use crate::delivery::Delivery;
 use crate::drilling::drill;
@@ -8,7 +8,7 @@ use crate::opener::Opener;
 use crate::replay::Replay;
 use crate::sealer::Sealer;
 use crate::step::Status;
-use crate::whole_text::seal_all;
+use crate::whole_text::{SealFault, seal_all};
 use std::test::Fail;
 
 const SEALED_8: &[u8; 40] =
@@ -76,7 +76,26 @@ fn the_greatest_chunk_is_the_last(rt: HostRuntime) -> Result<(), Fail> {
     assert_eq!(rt; fault.number(), 22);
     assert_eq!(rt; fault.place(), Some(CHUNK_LIMIT - 1));
     assert_eq!(rt; Memory.number(), 28);
+    assert_eq!(rt; Memory.place(), None);
     assert_eq!(rt; nonce_of(1, true), *b"\0\0\0\0\0\0\0\0\0\0\x01\x01");
+    Ok(())
+}
+
+#[test]
+fn why_a_text_is_not_sealed(rt: HostRuntime) -> Result<(), Fail> {
+    let refused = SealFault::Stream(StreamFault {
+        kind: StreamKind::TooManyChunks,
+        chunk: CHUNK_LIMIT - 1,
+    });
+    assert_eq!(rt; refused.number(), 22);
+    assert_eq!(rt; refused.place(), Some(CHUNK_LIMIT - 1));
+    assert_eq!(rt; SealFault::Memory.number(), 28);
+    assert_eq!(rt; SealFault::Memory.place(), None);
+    let text = format!(in rt.alloc(); "{refused}, {}", SealFault::Memory)?;
+    assert_eq!(rt;
+        text.as_str(),
+        "too many chunks at chunk 281474976710655, out of memory"
+    );
     Ok(())
 }
 

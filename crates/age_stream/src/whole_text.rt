@@ -2,21 +2,48 @@
 ghost use Rattle.std.specs.Prelude.{◌≡◌, ◌-◌, ◌≤◌, ◌++◌, IfOk, IfErr, OnOk};
 ghost use Rattle.age_stream.specs.Payload.{payload};
 ghost use Rattle.age_stream.specs.Sealing.{lent, lent_bytes};
-ghost use Rattle.age_stream.specs.WholeText.{SealRefuses};
+ghost use Rattle.age_stream.specs.WholeText.{SealRefuses, number_of, place_of};
 ghost use Rattle.age_stream.specs.declared.whole_text.SealFault.TheVariants.{Stream as StreamRefusal, Memory as MemoryRefusal};
 
 use crate::chunk_box::ChunkBox;
 use crate::fault::StreamFault;
 use crate::sealer::Sealer;
 use std::alloc::{AllocError, Global};
+use thiserror::Error;
 
 /// Why a text wasn't sealed.
-#[derive(Clone, Copy, Debug, PartialEq, Eq)]
+#[derive(Clone, Copy, Debug, PartialEq, Eq, Error)]
 pub enum SealFault {
     /// The sealer refused: the text has more chunks than a payload.
+    #[error("{0}")]
     Stream(StreamFault),
     /// Memory was refused.
+    #[error("out of memory")]
     Memory,
+}
+
+impl SealFault {
+    /// The fault's number in the list of all faults: that of the sealer's
+    /// refusal, which is 22, or 28 for memory.
+    pub fn number(&self) -> u8
+        ensures { result ≡ number_of self.now }
+    {
+        match self {
+            SealFault::Stream(fault) => fault.number(),
+            SealFault::Memory => 28,
+        }
+    }
+
+    /// The chunk of the sealer's refusal, from 0. `None` where memory was
+    /// refused.
+    pub fn place(&self) -> Option<u64>
+        ensures { result ≡ place_of self.now }
+    {
+        match self {
+            SealFault::Stream(fault) => fault.place(),
+            SealFault::Memory => None,
+        }
+    }
 }
 
 impl From<AllocError> for SealFault {
@@ -45,7 +72,8 @@ pub fn seal_all<B: ChunkBox, const SEALED: usize>(
 ) -> Result<Vec<u8>, SealFault>
     requires least { 17 ≤ SEALED }
     requires most { SEALED ≤ 65552 }
-    ensures sealed { IfOk result (λ v. v.items ≡ payload (B.sealing key.now) (SEALED - 16) text.now) }
+    ensures sealed { IfOk result
+        (λ v. v.items ≡ payload (B.sealing key.now) (SEALED - 16) text.now) }
     ensures refused { IfErr result (SealRefuses (SEALED - 16) text.now) }
 {
     let mut out = Vec::new(alloc);

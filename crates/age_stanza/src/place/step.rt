@@ -1,8 +1,4 @@
-ghost use Rattle.std.specs.Prelude.{◌≡◌, List, IfOk};
-ghost use Rattle.age_stanza.specs.LineMachine.{Gives};
-ghost use Rattle.age_stanza.specs.LineMachine.{step as step_of, ended as ended_of, begun as begun_of, continued as continued_of};
-ghost use Rattle.age_stanza.specs.LineMachine.{mac_of as spec_mac_of, arguments_of as spec_arguments_of};
-ghost use Rattle.age_stanza.specs.LineMachine.{decoded};
+ghost use Rattle.age_stanza.specs.LineMachine.{Gives, step as step_of, ended as ended_of, begun as begun_of, mac_of as spec_mac_of, arguments_of as spec_arguments_of};
 
 use super::{ARMOR, ARMOR_CR, Next, Place, VERSION};
 use crate::arguments::arguments_of;
@@ -28,10 +24,7 @@ fn first(alloc: Global, line: &[u8]) -> Result<Next, HeadKind>
 fn end(alloc: Global, stanzas: Stanzas, line: &[u8]) -> Result<Next, HeadKind>
     ensures { Gives result (ended_of stanzas (spec_mac_of line.now)) }
 {
-    let Ok(found) = mac_of(alloc, line) else {
-        return Err(HeadKind::Memory);
-    };
-    let Some(mac) = found else {
+    let Some(mac) = mac_of(alloc, line)? else {
         return Err(HeadKind::BadEndLine);
     };
     if stanzas.is_empty() {
@@ -43,10 +36,7 @@ fn end(alloc: Global, stanzas: Stanzas, line: &[u8]) -> Result<Next, HeadKind>
 fn begin(alloc: Global, stanzas: Stanzas, line: &[u8]) -> Result<Next, HeadKind>
     ensures { Gives result (begun_of stanzas (spec_arguments_of line.now)) }
 {
-    let Ok(found) = arguments_of(alloc, line) else {
-        return Err(HeadKind::Memory);
-    };
-    let Some(args) = found else {
+    let Some(args) = arguments_of(alloc, line)? else {
         return Err(HeadKind::BadStanzaLine);
     };
     Ok(Next::Go(Place::InBody(stanzas, args, Bytes::from_vec(Vec::new(alloc)))))
@@ -65,21 +55,14 @@ fn body_line(
     if line.len() > 64 {
         return Err(HeadKind::BadBody);
     }
-    let Ok(found) = decode(alloc, line) else {
-        return Err(HeadKind::Memory);
-    };
-    let Some(more) = found else {
+    let Some(more) = decode(alloc, line)? else {
         return Err(HeadKind::BadBody);
     };
-    let Ok(()) = body.extend(more.as_slice()) else {
-        return Err(HeadKind::Memory);
-    };
+    body.extend(more.as_slice())?;
     if line.len() == 64 {
         return Ok(Next::Go(Place::InBody(stanzas, args, body)));
     }
-    let Ok(()) = stanzas.push(Stanza { args, body }) else {
-        return Err(HeadKind::Memory);
-    };
+    stanzas.push(Stanza { args, body })?;
     Ok(Next::Go(Place::Between(stanzas)))
 }
 

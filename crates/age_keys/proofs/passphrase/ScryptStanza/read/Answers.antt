@@ -1,4 +1,4 @@
-use Rattle.std.proofs.Common.{◌∷◌, ◌∙◌, [], List, ℕ, min, refl, sym, ap, arith}
+use Rattle.std.proofs.Common.{◌∷◌, ◌∙◌, [], List, ℕ, min, refl, sym, ap, arith, length}
 use Rattle.std.specs.Prelude.{codes}
 use Rattle.std.specs.Str.Parse.{digits_value}
 use Rattle.age_keys.proofs.StanzaLemmas.{three_arguments}
@@ -16,11 +16,11 @@ returns-clause-read c =
       record {
         characters = log;
         args = three ∙ ap (λ (t : List ℕ). codes "scrypt" ∷ t ∷ log ∷ []) (sym c.as_slice-else-not-is_scrypt.ensures ∙ c.if-not-read_text.ensures.read);
-        body_is = sym (c.in_ok-body_of.ensures.body ∙ c.as_slice-3.ensures);
+        body_is = sym (c.in_ok-as_array.ensures.cases.same ∙ c.as_slice-3.ensures);
         work_factor = rw (c.as_slice-else-not-read_text.ensures) at (c.if-not-is_work_factor.ensures.0 refl);
         log_is = refl;
         salt_bytes = c.read_text.ensures.bytes;
         salt_length = omega arith;
-        body_length = c.in_ok-body_of.ensures.len;
+        body_length = ap length c.in_ok-as_array.ensures.cases.same ∙ c.in_ok-as_array.ensures.cases.long;
       },
     )

@@ -1,4 +1,4 @@
-use Rattle.std.proofs.Common.{◌∙◌, ◌∷◌, [], sym, ap, arith}
+use Rattle.std.proofs.Common.{◌∙◌, ◌∷◌, [], sym, ap, arith, length}
 use Rattle.std.specs.Prelude.{codes}
 use Rattle.age_keys.proofs.StanzaLemmas.{two_arguments}
 use Rattle.age_keys.proofs.x25519.X25519Stanza.read.Goals as goal
@@ -11,8 +11,8 @@ returns-clause-read c =
     (rw slice at c.in-len2.len_at_least) (rw slice at c.in-len2.len_below) (rw slice at c.share-item.is) in
     record {
       args = two ∙ ap (λ t. codes "X25519" ∷ t ∷ []) (sym c.as_slice-2.ensures ∙ c.if-not-read_text.ensures.read);
-      body_is = sym (c.in-Some.ensures.body ∙ c.as_slice-3.ensures);
+      body_is = sym (c.in-Some.ensures.cases.same ∙ c.as_slice-3.ensures);
       share_bytes = c.read_text.ensures.bytes;
       share_length = omega arith;
-      body_length = c.in-Some.ensures.len;
+      body_length = ap length c.in-Some.ensures.cases.same ∙ c.in-Some.ensures.cases.long;
     }

@@ -10,4 +10,4 @@ invariant_of-self c =
     let room = c.requires.within in
     let held = ap length c.self.view_is in
     let within : c.self.inside.bytes + length c.args.characters.now ≤ 1048576 = omega arith in
-    rw (c.in-Ok.ensures.items) (longer_partial _ _ _ _ c.args.characters.now known c.requires.one_line (λ i. omega (arith, fits i)) within)
+    rw (c.in_ok-extend_from_slice.ensures.items) (longer_partial _ _ _ _ c.args.characters.now known c.requires.one_line (λ i. omega (arith, fits i)) within)
