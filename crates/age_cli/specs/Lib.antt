@@ -1,4 +1,5 @@
 pub mod Entries
+pub mod FileSet
 pub mod Commands
 pub mod Asked
 pub mod Requests

@@ -1,6 +1,7 @@
 //! The machine's files.
 
 ghost use Rattle.std.specs.Prelude.{false, None};
+ghost use Rattle.age_cli.specs.FileSet.{IsMemoryOr};
 
 use crate::files::FileSet;
 use age_file::{FileFault, Reading, Sink, Writing};
@@ -23,7 +24,9 @@ impl<'r, R: Files> HostFiles<'r, R> {
 }
 
 /// A want of memory is told as such, and anything else as `other`.
-fn fault_of(error: io::Error, other: FileFault) -> FileFault {
+fn fault_of(error: io::Error, other: FileFault) -> FileFault
+    ensures { IsMemoryOr other result }
+{
     if error.kind() == io::ErrorKind::OutOfMemory {
         FileFault::Memory
     } else {

@@ -1,9 +1,10 @@
 //! Files over memory.
 
-ghost use Rattle.std.specs.Prelude.{◌≡◌, ◌≢◌, ◌↔◌, ◌++◌, ◌∷◌, ◌<◌, ◌≤◌, IsTrue, ℕ, List, [], true, Some, None, OnOk, OnErr, IfOk, IsErrOf, IsOk, Contains, is_some, option_map, length, MatchResult};
+ghost use Rattle.std.specs.Prelude.{◌≡◌, ◌≢◌, ◌↔◌, ◌++◌, ◌∷◌, ◌<◌, ◌≤◌, IsTrue, ℕ, List, [], true, Some, None, OnOk, OnErr, IfOk, IsErrOf, IsOk, IfErr, IsOkUnless, Contains, is_some, option_map, length, MatchResult};
 ghost use Rattle.std.specs.Io.KnownBytes.{WriteAppends, Keeps};
 ghost use Rattle.age_file.specs.Memory.{one_more, Puts, Flushes};
 ghost use Rattle.age_cli.specs.Entries.{entry_of, empty_with};
+ghost use Rattle.age_cli.specs.FileSet.{IsMemoryOr};
 
 use crate::files::FileSet;
 use crate::mem_entry::{MemEntry, Name, bytes_of, put_entry};
@@ -157,6 +158,7 @@ impl FileSet for MemFiles {
         ensures kept { self.new ≡ self.old }
         ensures found { IfOk result (λ s. entry_of self.old.entries name.now ≡ Some s.left) }
         ensures missing { IsErrOf result FileFault.Read ↔ (entry_of self.old.entries name.now ≡ None) }
+        ensures faults { IfErr result (IsMemoryOr FileFault.Read) }
     {
         match bytes_of(self.entries.as_slice(), name) {
             Some(bytes) => source_of(alloc, bytes),
@@ -172,6 +174,7 @@ impl FileSet for MemFiles {
         ensures refused { IsErrOf result FileFault.Write ↔ Contains self.old.refused name.now }
         ensures kept { (self.new.refused ≡ self.old.refused) × (self.new.room ≡ self.old.room) }
         ensures err { OnErr result (self.new ≡ self.old) }
+        ensures faults { IfErr result (IsMemoryOr FileFault.Write) }
     {
         if is_refused(self.refused.as_slice(), name) {
             return Err(FileFault::Write);
@@ -188,6 +191,7 @@ impl FileSet for MemFiles {
         ensures put { OnOk result (entry_of self.new.entries out.0 ≡ Some out.1.held) }
         ensures others { (q : List ℕ) → q ≢ out.0 → entry_of self.new.entries q ≡ entry_of self.old.entries q }
         ensures there { is_some (entry_of self.old.entries out.0) ≡ true → IsOk result }
+        ensures faults { IsOkUnless result FileFault.Write }
         ensures kept { (self.new.refused ≡ self.old.refused) × (self.new.room ≡ self.old.room) }
     {
         let MemOut { name, sink } = out;

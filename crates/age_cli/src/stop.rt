@@ -20,6 +20,8 @@ pub(crate) struct Stop {
 }
 
 impl From<FileFault> for Stop {
+    ghost from_gives = { λ f s. s ≡ record { fault = f; position = None } };
+
     fn from(fault: FileFault) -> Stop {
         Stop {
             fault,
@@ -29,6 +31,8 @@ impl From<FileFault> for Stop {
 }
 
 impl From<Stopped> for Stop {
+    ghost from_gives = { λ f s. s ≡ record { fault = f.fault; position = f.position } };
+
     fn from(stopped: Stopped) -> Stop {
         Stop {
             fault: stopped.fault,
