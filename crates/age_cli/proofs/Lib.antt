@@ -7,3 +7,4 @@ pub mod Cuts
 pub mod EncryptionSteps
 pub mod OpenerLemmas
 pub mod ResumptionSteps
+pub mod Telling

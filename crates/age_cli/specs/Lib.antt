@@ -4,6 +4,7 @@ pub mod Commands
 pub mod Asked
 pub mod Requests
 pub mod Endings
+pub mod FaultLines
 pub mod ReportTexts
 pub mod Runs
 pub mod Held
