@@ -1,10 +1,9 @@
 -- From the options to what opens a file, step by step. What only private code cites.
-use Rattle.std.proofs.Common.{inl, inr}
 use Rattle.std.specs.Prelude.{◌≡◌, ℕ, List, Option, Some, None}
 use Rattle.clap.specs.Words.{Text}
 use Rattle.age_keys.specs.Keys.{SpellsKey}
 use Rattle.age_cli.specs.Requests.{text_of}
-use Rattle.age_cli.specs.Openers.{Opener, without_line_feed, IsSharedIn}
+use Rattle.age_cli.specs.Openers.{Opener, ByWords, ByKey, ByShared, without_line_feed, IsSharedIn}
 use Rattle.age_cli.specs.declared.request.Unlocking.{Unlocking}
 use Rattle.age_cli.specs.declared.opener.Chosen.{Chosen}
 use Rattle.age_cli.specs.declared.opener.Chosen.TheVariants as chosen
@@ -27,13 +26,13 @@ IsMaterial old (chosen.Shared name) (material.Shared shared) = IsSharedIn (old n
 IsMaterial old other m = ⊥
 
 abbrev pub opener_of : Unlocker → Opener
-opener_of (unlocker.Pass words) = inl words
-opener_of (unlocker.Key known) = inr (inl known.now)
-opener_of (unlocker.Shared shared) = inr (inr shared.now)
+opener_of (unlocker.Pass words) = ByWords words
+opener_of (unlocker.Key known) = ByKey known.now
+opener_of (unlocker.Shared shared) = ByShared shared.now
 
 -- the opener is made of this
 abbrev pub IsMade : Material → ℕ → Opener → Type 0
-IsMade (material.Pass bytes) max_log (inl words) = (words.pass ≡ without_line_feed bytes.items) × (words.max_log ≡ max_log)
-IsMade (material.Key key) max_log (inr (inl known)) = known ≡ key
-IsMade (material.Shared secret) max_log (inr (inr shared)) = shared ≡ secret
+IsMade (material.Pass bytes) max_log (ByWords words) = (words.pass ≡ without_line_feed bytes.items) × (words.max_log ≡ max_log)
+IsMade (material.Key key) max_log (ByKey known) = known ≡ key
+IsMade (material.Shared secret) max_log (ByShared shared) = shared ≡ secret
 IsMade m max_log other = ⊥
