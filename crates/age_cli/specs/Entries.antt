@@ -1,7 +1,6 @@
 -- What files over memory hold.
-use Rattle.std.specs.Prelude.{ℕ, Bool, List, [], Option, None, find, option_map}
+use Rattle.std.specs.Prelude.{ℕ, ◌-◌, ◌^◌, Bool, List, [], Option, None, find, option_map}
 use Rattle.std.specs.Str.{bytes_eq}
-use Rattle.std.specs.Prelude.{◌-◌, ◌^◌}
 use Rattle.age_file.specs.Memory.{Holding}
 use Rattle.age_cli.specs.declared.mem_entry.MemEntry.{MemEntry}
 

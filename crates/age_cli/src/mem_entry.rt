@@ -1,6 +1,6 @@
 //! Files over memory, as a list.
 
-ghost use Rattle.std.specs.Prelude.{◌≡◌, ◌≢◌, ◌↔◌, IsTrue, IsOk, ℕ, List, Some, OnOk, OnErr, IfOk, is_some, true, position, option_map};
+ghost use Rattle.std.specs.Prelude.{◌≡◌, ◌≢◌, IsOk, ℕ, List, Some, OnOk, OnErr, IfOk, is_some, true, position, option_map};
 ghost use Rattle.age_cli.specs.Entries.{has_name, entry_of};
 
 use age_stanza::Bytes;

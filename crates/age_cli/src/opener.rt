@@ -1,8 +1,7 @@
 //! What opens a file, as the options and the files make it.
 
 ghost use Rattle.std.specs.Prelude.{◌≡◌, true, IfOk, IfSome, Some};
-ghost use Rattle.age_cli.specs.Requests.{text_of};
-ghost use Rattle.age_cli.specs.Openers.{Opener, IsOpener, without_line_feed, IsPassphraseIn, IsSharedIn};
+ghost use Rattle.age_cli.specs.Openers.{without_line_feed, IsSharedIn};
 ghost use Rattle.age_cli.specs.OpenerSteps.{IsChosen, IsMaterial, IsMade, opener_of};
 
 use crate::ending::{Ending, Usage};

@@ -1,6 +1,6 @@
 //! Reads what the words ask for.
 
-ghost use Rattle.std.specs.Prelude.{◌≡◌, ◌≤◌, [], true, false, Some, None, IfOk, IfErr, IfSome, option_map, codes};
+ghost use Rattle.std.specs.Prelude.{◌≡◌, ◌≤◌, [], true, false, Some, None, IfOk, IfErr, IfSome, codes};
 ghost use Rattle.clap.specs.Words.{subcommand_rows_of, rows_of, found_of, one_of, first_of, kind_of};
 ghost use Rattle.clap.specs.Walk.{texts};
 ghost use Rattle.age_cli.specs.Asked.{refusals};

@@ -1,7 +1,6 @@
 //! How a command that writes a text stops, and where its position goes.
 
-ghost use Rattle.std.specs.Prelude.{◌≡◌, true, false, Some, None, OnOk};
-ghost use Rattle.age_file.specs.PositionTexts.{position_text};
+ghost use Rattle.std.specs.Prelude.{◌≡◌, true, false, None, OnOk};
 ghost use Rattle.age_cli.specs.Requests.{text_of};
 ghost use Rattle.age_cli.specs.Endings.{is_usage};
 ghost use Rattle.age_cli.specs.Held.{SparesBoth, Saves};

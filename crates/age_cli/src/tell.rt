@@ -1,6 +1,6 @@
 //! Tells why a run ended.
 
-ghost use Rattle.std.specs.Prelude.{◌≡◌, ◌++◌, codes, decimal, OnOk, OnErr, MatchResult};
+ghost use Rattle.std.specs.Prelude.{◌≡◌, ◌++◌, decimal, OnOk, OnErr};
 ghost use Rattle.std.specs.Io.KnownBytes.{Appends};
 ghost use Rattle.age_file.specs.Faults.{HasRisen, number_of, place_of};
 ghost use Rattle.age_cli.specs.FaultLines.{place_text, fault_line, TellsEnding};
