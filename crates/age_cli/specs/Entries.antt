@@ -19,4 +19,5 @@ pub record Shelf : Type 0 where
 
 -- the sink of a new file that holds at most so many bytes
 abbrev pub empty_with : ℕ → Holding
-empty_with room = record { held = []; room = room; step = 2 ^ 64 - 1; fail_call = None; calls = 0; failures = 0 }
+empty_with room = record
+    { held = []; room = room; step = 2 ^ 64 - 1; fail_call = None; calls = 0; failures = 0 }

@@ -19,7 +19,8 @@ fault_line fault = codes "age_tool: " ++ (decimal (number_of fault) ++ (codes " 
 
 -- a sink took these bytes, or failed
 abbrev pub TakesOrFails : Option (List ℕ) → Option (List ℕ) → ℕ → ℕ → List ℕ → Type 0
-TakesOrFails old new failed_old failed_new bytes = Appends old new bytes ⊎ HasRisen failed_old failed_new
+TakesOrFails old new failed_old failed_new bytes = Appends old new bytes
+    ⊎ HasRisen failed_old failed_new
 
 -- the line of the fault that ended a run, or the two lines, unless the sink failed
 abbrev pub TellsEnding : Ending → Option (List ℕ) → Option (List ℕ) → ℕ → ℕ → Type 0

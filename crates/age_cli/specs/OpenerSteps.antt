@@ -14,9 +14,13 @@ use Rattle.age_cli.specs.declared.opener.Unlocker.TheVariants as unlocker
 
 -- the option is the only one of the three that is given
 abbrev pub IsChosen : Unlocking → Chosen → Type 0
-IsChosen u (chosen.Pass name) = (text_of u.pass ≡ Some name.now) × (text_of u.file_key ≡ None) × (text_of u.shared ≡ None)
-IsChosen u (chosen.Key key) = (text_of u.pass ≡ None) × ((digits : Text) × (text_of u.file_key ≡ Some digits) × SpellsKey digits key) × (text_of u.shared ≡ None)
-IsChosen u (chosen.Shared name) = (text_of u.pass ≡ None) × (text_of u.file_key ≡ None) × (text_of u.shared ≡ Some name.now)
+IsChosen u (chosen.Pass name) = (text_of u.pass ≡ Some name.now) × (text_of u.file_key ≡ None)
+    × (text_of u.shared ≡ None)
+IsChosen u (chosen.Key key) = (text_of u.pass ≡ None)
+    × ((digits : Text) × (text_of u.file_key ≡ Some digits) × SpellsKey digits key)
+    × (text_of u.shared ≡ None)
+IsChosen u (chosen.Shared name) = (text_of u.pass ≡ None) × (text_of u.file_key ≡ None)
+    × (text_of u.shared ≡ Some name.now)
 
 -- this is what the file holds that the option names
 abbrev pub IsMaterial : (Text → Option (List ℕ)) → Chosen → Material → Type 0
@@ -32,7 +36,8 @@ opener_of (unlocker.Shared shared) = ByShared shared.now
 
 -- the opener is made of this
 abbrev pub IsMade : Material → ℕ → Opener → Type 0
-IsMade (material.Pass bytes) max_log (ByWords words) = (words.pass ≡ without_line_feed bytes.items) × (words.max_log ≡ max_log)
+IsMade (material.Pass bytes) max_log (ByWords words) = (words.pass ≡ without_line_feed bytes.items)
+    × (words.max_log ≡ max_log)
 IsMade (material.Key key) max_log (ByKey known) = known ≡ key
 IsMade (material.Shared secret) max_log (ByShared shared) = shared ≡ secret
 IsMade m max_log other = ⊥

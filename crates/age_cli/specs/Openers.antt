@@ -27,7 +27,9 @@ refuses_by (ByShared shared) h fault = SharedRefuses shared h fault
 
 -- the bytes without one line feed at their end
 abbrev pub without_line_feed : List ℕ → List ℕ
-without_line_feed xs = if nat_lt 0 (length xs) && (slice_index xs (length xs - 1) == 10) then take (length xs - 1) xs else xs
+without_line_feed xs =
+    if nat_lt 0 (length xs) && (slice_index xs (length xs - 1) == 10) then take (length xs - 1) xs
+    else xs
 
 -- the passphrase in a file
 abbrev pub IsPassphraseIn : Option (List ℕ) → List ℕ → Type 0
@@ -40,8 +42,10 @@ pub record IsSharedIn (held : Option (List ℕ)) (shared : Shared) : Type 0 wher
   pub recipient_length : length shared.recipient ≡ 32
 
 -- the one option that says what opens the file, and the file that it names, make this
-abbrev pub IsOpener : (Text → Option (List ℕ)) → Option Text → Option Text → Option Text → ℕ → Opener → Type 0
-IsOpener old (Some pass) None None max_log (ByWords words) = IsPassphraseIn (old pass) words.pass × (words.max_log ≡ max_log)
+abbrev pub IsOpener : (Text → Option (List ℕ)) → Option Text → Option Text → Option Text → ℕ
+    → Opener → Type 0
+IsOpener old (Some pass) None None max_log (ByWords words) = IsPassphraseIn (old pass) words.pass
+    × (words.max_log ≡ max_log)
 IsOpener old None (Some digits) None max_log (ByKey known) = SpellsKey digits known
 IsOpener old None None (Some name) max_log (ByShared shared) = IsSharedIn (old name) shared
 IsOpener old pass file_key shared max_log opener = ⊥
@@ -49,4 +53,5 @@ IsOpener old pass file_key shared max_log opener = ⊥
 -- the same, of what the words give for each argument
 abbrev pub OpensBy : (Text → Option (List ℕ)) → List Row → Opener → Type 0
 OpensBy old rows opener =
-    IsOpener old (first_of (codes "pass") rows) (first_of (codes "file-key") rows) (first_of (codes "shared") rows) (number_or 22 (one_of (codes "max-log") rows)) opener
+    IsOpener old (first_of (codes "pass") rows) (first_of (codes "file-key") rows)
+    (first_of (codes "shared") rows) (number_or 22 (one_of (codes "max-log") rows)) opener

@@ -57,19 +57,28 @@ fn obey<F: FileSet, I: Source, O: Sink>(
     input: &mut I,
     output: &mut O,
 ) -> Result<(), Ending>
-    ensures report { words.now ≡ [] → OnOk result (Reports (I.remaining input.old) (I.remaining input.new) (O.taken output.old) (O.taken output.new)) }
-    ensures inspects { (rows : List Row) → Asks (texts words.now) (codes "inspect") rows → OnOk result (
-        Inspects (first_of (codes "FILE") rows) (F.tells files.old) (F.entry files.old) (I.remaining input.old) (I.remaining input.new) (O.taken output.old) (O.taken output.new)) }
-    ensures encrypts { (rows : List Row) → Asks (texts words.now) (codes "encrypt") rows → OnOk result (F.tells files.old ≡ true
+    ensures report { words.now ≡ []
+        → OnOk result (Reports (I.remaining input.old) (I.remaining input.new) (O.taken output.old)
+        (O.taken output.new)) }
+    ensures inspects { (rows : List Row) → Asks (texts words.now) (codes "inspect") rows
+        → OnOk result (
+        Inspects (first_of (codes "FILE") rows) (F.tells files.old) (F.entry files.old)
+        (I.remaining input.old) (I.remaining input.new) (O.taken output.old) (O.taken output.new)) }
+    ensures encrypts { (rows : List Row) → Asks (texts words.now) (codes "encrypt") rows
+        → OnOk result (F.tells files.old ≡ true
         → EncryptsRows rows (F.entry files.old) (F.entry files.new)) }
-    ensures decrypts { (rows : List Row) → Asks (texts words.now) (codes "decrypt") rows → OnOk result (F.tells files.old ≡ true
+    ensures decrypts { (rows : List Row) → Asks (texts words.now) (codes "decrypt") rows
+        → OnOk result (F.tells files.old ≡ true
         → DecryptsRows rows (F.entry files.old) (F.entry files.new)) }
-    ensures resumes { (rows : List Row) → Asks (texts words.now) (codes "resume") rows → OnOk result (F.tells files.old ≡ true
+    ensures resumes { (rows : List Row) → Asks (texts words.now) (codes "resume") rows
+        → OnOk result (F.tells files.old ≡ true
         → ResumesRows rows (F.entry files.old) (F.entry files.new)) }
-    ensures spares { (rows : List Row) (name : Text) → Asks (texts words.now) name rows → F.tells files.old ≡ true
+    ensures spares { (rows : List Row) (name : Text) → Asks (texts words.now) name rows
+        → F.tells files.old ≡ true
         → Spares rows (F.entry files.old) (F.entry files.new) }
     ensures usage { IfErr result (λ e. is_usage e ≡ true → F.entry files.new ≡ F.entry files.old) }
-    ensures refused { (refusals (texts words.now) ≡ [] → ⊥) → F.entry files.new ≡ F.entry files.old }
+    ensures refused { (refusals (texts words.now) ≡ [] → ⊥)
+        → F.entry files.new ≡ F.entry files.old }
 {
     if words.is_empty() {
         report(alloc, input, output)?;
@@ -107,25 +116,34 @@ pub fn run<F: FileSet, I: Source, O: Sink, E: Sink>(
     // What goes to `faults`: nothing with 0; with 1 the line of a fault, or those of two, unless the sink fails.
     ensures quiet { result ≡ 0 → faults.new ≡ faults.old }
     ensures told { result ≡ 1
-        → TellsFault (E.taken faults.old) (E.taken faults.new) (E.failed faults.old) (E.failed faults.new) }
+        → TellsFault (E.taken faults.old) (E.taken faults.new) (E.failed faults.old)
+        (E.failed faults.new) }
     // 0 means that the input was read to its end, and that its report and nothing else was written.
     ensures report { words.now ≡ [] → result ≡ 0
-        → Reports (I.remaining input.old) (I.remaining input.new) (O.taken output.old) (O.taken output.new) }
-    ensures inspects { (rows : List Row) → Asks (texts words.now) (codes "inspect") rows → result ≡ 0
-        → Inspects (first_of (codes "FILE") rows) (F.tells files.old) (F.entry files.old) (I.remaining input.old) (I.remaining input.new) (O.taken output.old) (O.taken output.new) }
+        → Reports (I.remaining input.old) (I.remaining input.new) (O.taken output.old)
+        (O.taken output.new) }
+    ensures inspects { (rows : List Row) → Asks (texts words.now) (codes "inspect") rows
+        → result ≡ 0
+        → Inspects (first_of (codes "FILE") rows) (F.tells files.old) (F.entry files.old)
+        (I.remaining input.old) (I.remaining input.new) (O.taken output.old) (O.taken output.new) }
     // 0 means that OUT holds what the engine promises for what the names stood for at the call.
-    ensures encrypts { (rows : List Row) → Asks (texts words.now) (codes "encrypt") rows → result ≡ 0 → F.tells files.old ≡ true
+    ensures encrypts { (rows : List Row) → Asks (texts words.now) (codes "encrypt") rows
+        → result ≡ 0 → F.tells files.old ≡ true
         → EncryptsRows rows (F.entry files.old) (F.entry files.new) }
-    ensures decrypts { (rows : List Row) → Asks (texts words.now) (codes "decrypt") rows → result ≡ 0 → F.tells files.old ≡ true
+    ensures decrypts { (rows : List Row) → Asks (texts words.now) (codes "decrypt") rows
+        → result ≡ 0 → F.tells files.old ≡ true
         → DecryptsRows rows (F.entry files.old) (F.entry files.new) }
-    ensures resumes { (rows : List Row) → Asks (texts words.now) (codes "resume") rows → result ≡ 0 → F.tells files.old ≡ true
+    ensures resumes { (rows : List Row) → Asks (texts words.now) (codes "resume") rows → result ≡ 0
+        → F.tells files.old ≡ true
         → ResumesRows rows (F.entry files.old) (F.entry files.new) }
     // Whatever the status, no file but OUT and that of --save differs.
-    ensures spares { (rows : List Row) (name : Text) → Asks (texts words.now) name rows → F.tells files.old ≡ true
+    ensures spares { (rows : List Row) (name : Text) → Asks (texts words.now) name rows
+        → F.tells files.old ≡ true
         → Spares rows (F.entry files.old) (F.entry files.new) }
     // A bad command line, and words that ask for help, change no file.
     ensures usage { result ≡ 2 → F.entry files.new ≡ F.entry files.old }
-    ensures refused { (refusals (texts words.now) ≡ [] → ⊥) → F.entry files.new ≡ F.entry files.old }
+    ensures refused { (refusals (texts words.now) ≡ [] → ⊥)
+        → F.entry files.new ≡ F.entry files.old }
 {
     match obey(alloc, words, files, input, output) {
         Ok(()) => 0,

@@ -47,9 +47,11 @@ fn save<F: FileSet>(
     name: Option<&str>,
     position: Option<Position>,
 ) -> Result<(), FileFault>
-    ensures saved { OnOk result (F.tells files.old ≡ true → Saves (text_of name.entry) position (F.entry files.old) (F.entry files.new)) }
+    ensures saved { OnOk result (F.tells files.old ≡ true
+        → Saves (text_of name.entry) position (F.entry files.old) (F.entry files.new)) }
     ensures alone { position ≡ None → F.entry files.new ≡ F.entry files.old }
-    ensures others { F.tells files.old ≡ true → SparesBoth None (text_of name.entry) (F.entry files.old) (F.entry files.new) }
+    ensures others { F.tells files.old ≡ true
+        → SparesBoth None (text_of name.entry) (F.entry files.old) (F.entry files.new) }
 {
     let (Some(name), Some(position)) = (name, position) else {
         return Ok(());
@@ -70,7 +72,8 @@ pub(crate) fn end_of<F: FileSet>(
 ) -> Ending
     ensures fault { is_usage result ≡ false }
     ensures alone { stop.position ≡ None → F.entry files.new ≡ F.entry files.old }
-    ensures others { F.tells files.old ≡ true → SparesBoth None (text_of name.entry) (F.entry files.old) (F.entry files.new) }
+    ensures others { F.tells files.old ≡ true
+        → SparesBoth None (text_of name.entry) (F.entry files.old) (F.entry files.new) }
 {
     match save(alloc, files, name, stop.position) {
         Ok(()) => Ending::Fault(stop.fault),

@@ -13,7 +13,8 @@ use std::alloc::Global;
 
 /// A word, and a number in decimal.
 fn put_number<E: Sink>(faults: &mut E, word: &str, number: u64) -> Result<(), FileFault>
-    ensures ok { OnOk result (Appends (E.taken faults.old) (E.taken faults.new) (word.now ++ decimal number)) }
+    ensures ok { OnOk result
+        (Appends (E.taken faults.old) (E.taken faults.new) (word.now ++ decimal number)) }
     ensures same { OnOk result (E.failed faults.new ≡ E.failed faults.old) }
     ensures err { OnErr result (HasRisen (E.failed faults.old) (E.failed faults.new)) }
 {
@@ -24,7 +25,9 @@ fn put_number<E: Sink>(faults: &mut E, word: &str, number: u64) -> Result<(), Fi
 
 /// The line of a header's fault, or the chunk of a payload's.
 fn put_place<E: Sink>(faults: &mut E, fault: FileFault) -> Result<(), FileFault>
-    ensures ok { OnOk result (Appends (E.taken faults.old) (E.taken faults.new) (place_text (number_of fault) (place_of fault))) }
+    ensures ok { OnOk result
+        (Appends (E.taken faults.old) (E.taken faults.new)
+        (place_text (number_of fault) (place_of fault))) }
     ensures same { OnOk result (E.failed faults.new ≡ E.failed faults.old) }
     ensures err { OnErr result (HasRisen (E.failed faults.old) (E.failed faults.new)) }
 {
@@ -37,7 +40,8 @@ fn put_place<E: Sink>(faults: &mut E, fault: FileFault) -> Result<(), FileFault>
 
 /// One line: the fault's number and name, and its place. It takes no memory, so that want of memory is told too.
 fn put_fault<E: Sink>(faults: &mut E, fault: FileFault) -> Result<(), FileFault>
-    ensures ok { OnOk result (Appends (E.taken faults.old) (E.taken faults.new) (fault_line fault)) }
+    ensures ok { OnOk result
+        (Appends (E.taken faults.old) (E.taken faults.new) (fault_line fault)) }
     ensures same { OnOk result (E.failed faults.new ≡ E.failed faults.old) }
     ensures err { OnErr result (HasRisen (E.failed faults.old) (E.failed faults.new)) }
 {
@@ -54,7 +58,8 @@ fn put_usage<E: Sink>(alloc: Global, faults: &mut E, usage: Usage) -> Result<(),
 }
 
 fn put_ending<E: Sink>(alloc: Global, faults: &mut E, ending: &Ending) -> Result<(), FileFault>
-    ensures { TellsEnding ending.now (E.taken faults.old) (E.taken faults.new) (E.failed faults.old) (E.failed faults.new) }
+    ensures { TellsEnding ending.now (E.taken faults.old) (E.taken faults.new) (E.failed faults.old)
+        (E.failed faults.new) }
 {
     match ending {
         Ending::Words(text) => put_bytes(faults, text.as_bytes())?,
@@ -70,7 +75,8 @@ fn put_ending<E: Sink>(alloc: Global, faults: &mut E, ending: &Ending) -> Result
 
 /// Tells why a run ended, where the sink takes it.
 pub(crate) fn tell<E: Sink>(alloc: Global, faults: &mut E, ending: &Ending)
-    ensures { TellsEnding ending.now (E.taken faults.old) (E.taken faults.new) (E.failed faults.old) (E.failed faults.new) }
+    ensures { TellsEnding ending.now (E.taken faults.old) (E.taken faults.new) (E.failed faults.old)
+        (E.failed faults.new) }
 {
     let _ = put_ending(alloc, faults, ending);
 }
