@@ -2,8 +2,8 @@ pub mod EntryLemmas
 pub mod Simple
 pub mod Numbers
 pub mod Literals
-pub mod Told
 pub mod Cuts
 pub mod EncryptionSteps
 pub mod OpenerLemmas
 pub mod ResumptionSteps
+pub mod Telling

@@ -1,9 +1,9 @@
 -- From the options to what opens a file.
-use Rattle.std.proofs.Common.{◌∙◌, sym, subst, inl, inr, List, ℕ, Option}
+use Rattle.std.proofs.Common.{◌∙◌, sym, subst, List, ℕ, Option}
 use Rattle.clap.specs.Words.{Text}
 use Rattle.age_keys.specs.Keys.{SpellsKey}
 use Rattle.age_cli.specs.Requests.{text_of}
-use Rattle.age_cli.specs.Openers.{Opener, IsOpener, IsSharedIn}
+use Rattle.age_cli.specs.Openers.{Opener, ByWords, ByKey, ByShared, IsOpener, IsSharedIn}
 use Rattle.age_cli.specs.OpenerSteps.{IsChosen, IsMaterial, IsMade}
 use Rattle.age_cli.specs.declared.request.Unlocking.{Unlocking}
 use Rattle.age_cli.specs.declared.opener.Chosen.{Chosen}
@@ -13,17 +13,13 @@ use Rattle.age_cli.specs.declared.opener.Material.TheVariants as material
 
 pub opener_made : (old : Text → Option (List ℕ)) (u : Unlocking) (c : Chosen) (m : Material) (max_log : ℕ) (o : Opener) → IsChosen u c → IsMaterial old c m → IsMade m max_log o
     → IsOpener old (text_of u.pass) (text_of u.file_key) (text_of u.shared) max_log o
-opener_made old u (chosen.Pass name) (material.Pass bytes) max_log (inl words) ch held made = rw (ch.0, ch.1, ch.2) ((bytes.items, held, made.0), made.1)
-opener_made old u (chosen.Pass name) (material.Pass bytes) max_log (inr o) ch held made = absurd made
-opener_made old u (chosen.Pass name) (material.Key key) max_log o ch held made = absurd held
-opener_made old u (chosen.Pass name) (material.Shared shared) max_log o ch held made = absurd held
-opener_made old u (chosen.Key key) (material.Key known) max_log (inr (inl k)) ch held made = rw (ch.0, ch.1.1, ch.2) (subst (λ t. SpellsKey ch.1.0 t) (sym (made ∙ held)) ch.1.2)
-opener_made old u (chosen.Key key) (material.Key known) max_log (inl o) ch held made = absurd made
-opener_made old u (chosen.Key key) (material.Key known) max_log (inr (inr o)) ch held made = absurd made
-opener_made old u (chosen.Key key) (material.Pass bytes) max_log o ch held made = absurd held
-opener_made old u (chosen.Key key) (material.Shared shared) max_log o ch held made = absurd held
-opener_made old u (chosen.Shared name) (material.Shared secret) max_log (inr (inr s)) ch held made = rw (ch.0, ch.1, ch.2) (subst (λ t. IsSharedIn (old name.now) t) (sym made) held)
-opener_made old u (chosen.Shared name) (material.Shared secret) max_log (inl o) ch held made = absurd made
-opener_made old u (chosen.Shared name) (material.Shared secret) max_log (inr (inl o)) ch held made = absurd made
-opener_made old u (chosen.Shared name) (material.Pass bytes) max_log o ch held made = absurd held
-opener_made old u (chosen.Shared name) (material.Key key) max_log o ch held made = absurd held
+opener_made old u (chosen.Pass name) (material.Pass bytes) max_log (ByWords words) ch held made = rw (ch.0, ch.1, ch.2) ((bytes.items, held, made.0), made.1)
+opener_made old u (chosen.Pass name) (material.Pass bytes) max_log (ByKey known) ch held made = absurd made
+opener_made old u (chosen.Pass name) (material.Pass bytes) max_log (ByShared shared) ch held made = absurd made
+opener_made old u (chosen.Key key) (material.Key known) max_log (ByKey k) ch held made = rw (ch.0, ch.1.1, ch.2) (subst (λ t. SpellsKey ch.1.0 t) (sym (made ∙ held)) ch.1.2)
+opener_made old u (chosen.Key key) (material.Key known) max_log (ByWords words) ch held made = absurd made
+opener_made old u (chosen.Key key) (material.Key known) max_log (ByShared shared) ch held made = absurd made
+opener_made old u (chosen.Shared name) (material.Shared secret) max_log (ByShared s) ch held made = rw (ch.0, ch.1, ch.2) (subst (λ t. IsSharedIn (old name.now) t) (sym made) held)
+opener_made old u (chosen.Shared name) (material.Shared secret) max_log (ByWords words) ch held made = absurd made
+opener_made old u (chosen.Shared name) (material.Shared secret) max_log (ByKey known) ch held made = absurd made
+opener_made old u chosen material max_log o ch held made = absurd held

@@ -38,12 +38,15 @@ with_unlocking a = with_rule (with_rule (with_rule (with_rule (with_rule a
 
 -- `IN OUT`
 abbrev pub with_both_files : App → App
-with_both_files a = with_rule (with_rule a (required_rule (new_rule (codes "IN")))) (required_rule (new_rule (codes "OUT")))
+with_both_files a =
+    with_rule (with_rule a (required_rule (new_rule (codes "IN"))))
+    (required_rule (new_rule (codes "OUT")))
 
 -- `encrypt --pass FILE [--log N] [--random FILE] IN OUT`
 unfoldable pub encrypting : App
 encrypting = with_both_files (with_rule (with_rule (with_rule (new_app (codes "encrypt"))
-    (required_rule (option_rule (codes "pass")))) (number_rule (codes "log"))) (option_rule (codes "random")))
+    (required_rule (option_rule (codes "pass")))) (number_rule (codes "log")))
+    (option_rule (codes "random")))
 
 -- `decrypt`, what opens the file, `IN OUT`
 unfoldable pub decrypting : App
@@ -60,11 +63,14 @@ inspecting = with_rule (new_app (codes "inspect")) (new_rule (codes "FILE"))
 
 -- `drill [--clear] [--pass FILE] SCRIPT IN`
 unfoldable pub drilling : App
-drilling = with_rule (with_rule (with_rule (with_rule (new_app (codes "drill")) (flag_rule (codes "clear")))
-    (option_rule (codes "pass"))) (required_rule (new_rule (codes "SCRIPT")))) (required_rule (new_rule (codes "IN")))
+drilling = with_rule
+    (with_rule (with_rule (with_rule (new_app (codes "drill")) (flag_rule (codes "clear")))
+    (option_rule (codes "pass"))) (required_rule (new_rule (codes "SCRIPT"))))
+    (required_rule (new_rule (codes "IN")))
 
 -- the whole program, which reads the words after its name
 unfoldable pub age_tool : App
 age_tool = with_subcommand (with_subcommand (with_subcommand (with_subcommand (with_subcommand
-    (on_top (λ s. record s { no_binary_name = true; subcommand_required = true }) (new_app (codes "age_tool")))
+    (on_top (λ s. record s { no_binary_name = true; subcommand_required = true })
+    (new_app (codes "age_tool")))
     encrypting.top) decrypting.top) resuming.top) inspecting.top) drilling.top

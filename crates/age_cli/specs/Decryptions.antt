@@ -22,7 +22,8 @@ pub record DecryptsOut (opener : Opener) (input output : Option (List ℕ)) : Ty
 -- of what stands under the names that are asked for
 pub record DecryptsFile (d : Decrypting) (old new : Held) : Type 0 where
   pub opener : Opener
-  pub opens : IsOpener old (text_of d.unlocking.pass) (text_of d.unlocking.file_key) (text_of d.unlocking.shared) d.unlocking.max_log opener
+  pub opens : IsOpener old (text_of d.unlocking.pass) (text_of d.unlocking.file_key)
+      (text_of d.unlocking.shared) d.unlocking.max_log opener
   pub output : DecryptsOut opener (old d.from.now) (new d.to.now)
   pub others : SparesBut d.to.now old new
 

@@ -33,7 +33,8 @@ pub record EncryptsOut (s : SecretView) (input output : Option (List ℕ)) : Typ
   pub taken : output ≡ after.taken
 
 -- of what stands under the names that are asked for: the passphrase, the work factor and the random bytes make the secret
-pub record EncryptsFile (pass : Text) (log : ℕ) (random : Option Text) (from to : Text) (old new : Held) : Type 0 where
+pub record EncryptsFile (pass : Text) (log : ℕ) (random : Option Text) (from to : Text)
+    (old new : Held) : Type 0 where
   pub secret : SecretView
   pub passphrase : IsPassphraseIn (old pass) secret.pass
   pub log_is : secret.log ≡ log
@@ -49,4 +50,5 @@ pub record EncryptsRows (rows : List Row) (old new : Held) : Type 0 where
   pub pass_is : first_of (codes "pass") rows ≡ Some pass
   pub from_is : first_of (codes "IN") rows ≡ Some from
   pub to_is : first_of (codes "OUT") rows ≡ Some to
-  pub encrypts : EncryptsFile pass (number_or 18 (one_of (codes "log") rows)) (first_of (codes "random") rows) from to old new
+  pub encrypts : EncryptsFile pass (number_or 18 (one_of (codes "log") rows))
+      (first_of (codes "random") rows) from to old new

@@ -1,7 +1,6 @@
 -- The bytes under each name, and what a command changes.
-use Rattle.std.specs.Prelude.{◌≡◌, ℕ, List, Option, Some, None}
+use Rattle.std.specs.Prelude.{◌≡◌, ℕ, List, Option, Some, None, codes}
 use Rattle.clap.specs.Words.{Row, Text, first_of}
-use Rattle.std.specs.Prelude.{codes}
 use Rattle.age_file.specs.declared.position.Position.{Position}
 use Rattle.age_file.specs.PositionTexts.{position_text}
 
@@ -18,7 +17,8 @@ SparesBoth to save old new = (q : Text) → (to ≡ Some q → ⊥) → (save �
 
 -- only the output and the file of `--save`
 abbrev pub Spares : List Row → Held → Held → Type 0
-Spares rows old new = SparesBoth (first_of (codes "OUT") rows) (first_of (codes "save") rows) old new
+Spares rows old new =
+    SparesBoth (first_of (codes "OUT") rows) (first_of (codes "save") rows) old new
 
 -- the position stands in the file of this name, where both are there, and nothing differs where one isn't
 abbrev pub Saves : Option Text → Option Position → Held → Held → Type 0

@@ -1,8 +1,10 @@
 pub mod Entries
+pub mod FileSet
 pub mod Commands
 pub mod Asked
 pub mod Requests
 pub mod Endings
+pub mod FaultLines
 pub mod ReportTexts
 pub mod Runs
 pub mod Held

@@ -1,10 +1,9 @@
 -- From the options to what opens a file, step by step. What only private code cites.
-use Rattle.std.proofs.Common.{inl, inr}
 use Rattle.std.specs.Prelude.{◌≡◌, ℕ, List, Option, Some, None}
 use Rattle.clap.specs.Words.{Text}
 use Rattle.age_keys.specs.Keys.{SpellsKey}
 use Rattle.age_cli.specs.Requests.{text_of}
-use Rattle.age_cli.specs.Openers.{Opener, without_line_feed, IsSharedIn}
+use Rattle.age_cli.specs.Openers.{Opener, ByWords, ByKey, ByShared, without_line_feed, IsSharedIn}
 use Rattle.age_cli.specs.declared.request.Unlocking.{Unlocking}
 use Rattle.age_cli.specs.declared.opener.Chosen.{Chosen}
 use Rattle.age_cli.specs.declared.opener.Chosen.TheVariants as chosen
@@ -15,9 +14,13 @@ use Rattle.age_cli.specs.declared.opener.Unlocker.TheVariants as unlocker
 
 -- the option is the only one of the three that is given
 abbrev pub IsChosen : Unlocking → Chosen → Type 0
-IsChosen u (chosen.Pass name) = (text_of u.pass ≡ Some name.now) × (text_of u.file_key ≡ None) × (text_of u.shared ≡ None)
-IsChosen u (chosen.Key key) = (text_of u.pass ≡ None) × ((digits : Text) × (text_of u.file_key ≡ Some digits) × SpellsKey digits key) × (text_of u.shared ≡ None)
-IsChosen u (chosen.Shared name) = (text_of u.pass ≡ None) × (text_of u.file_key ≡ None) × (text_of u.shared ≡ Some name.now)
+IsChosen u (chosen.Pass name) = (text_of u.pass ≡ Some name.now) × (text_of u.file_key ≡ None)
+    × (text_of u.shared ≡ None)
+IsChosen u (chosen.Key key) = (text_of u.pass ≡ None)
+    × ((digits : Text) × (text_of u.file_key ≡ Some digits) × SpellsKey digits key)
+    × (text_of u.shared ≡ None)
+IsChosen u (chosen.Shared name) = (text_of u.pass ≡ None) × (text_of u.file_key ≡ None)
+    × (text_of u.shared ≡ Some name.now)
 
 -- this is what the file holds that the option names
 abbrev pub IsMaterial : (Text → Option (List ℕ)) → Chosen → Material → Type 0
@@ -27,13 +30,14 @@ IsMaterial old (chosen.Shared name) (material.Shared shared) = IsSharedIn (old n
 IsMaterial old other m = ⊥
 
 abbrev pub opener_of : Unlocker → Opener
-opener_of (unlocker.Pass words) = inl words
-opener_of (unlocker.Key known) = inr (inl known.now)
-opener_of (unlocker.Shared shared) = inr (inr shared.now)
+opener_of (unlocker.Pass words) = ByWords words
+opener_of (unlocker.Key known) = ByKey known.now
+opener_of (unlocker.Shared shared) = ByShared shared.now
 
 -- the opener is made of this
 abbrev pub IsMade : Material → ℕ → Opener → Type 0
-IsMade (material.Pass bytes) max_log (inl words) = (words.pass ≡ without_line_feed bytes.items) × (words.max_log ≡ max_log)
-IsMade (material.Key key) max_log (inr (inl known)) = known ≡ key
-IsMade (material.Shared secret) max_log (inr (inr shared)) = shared ≡ secret
+IsMade (material.Pass bytes) max_log (ByWords words) = (words.pass ≡ without_line_feed bytes.items)
+    × (words.max_log ≡ max_log)
+IsMade (material.Key key) max_log (ByKey known) = known ≡ key
+IsMade (material.Shared secret) max_log (ByShared shared) = shared ≡ secret
 IsMade m max_log other = ⊥

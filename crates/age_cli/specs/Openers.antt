@@ -1,6 +1,5 @@
 -- What opens a file, as the options and the files make it.
-use Rattle.std.proofs.Common.{inl, inr}
-use Rattle.std.specs.Prelude.{◌≡◌, ◌⊎◌, ℕ, ◌-◌, ◌==◌, ◌&&◌, nat_lt, List, ◌++◌, length, take, slice_index, Option, Some, None, codes, if◌then◌else◌}
+use Rattle.std.specs.Prelude.{◌≡◌, ℕ, ◌-◌, ◌==◌, ◌&&◌, nat_lt, List, ◌++◌, length, take, slice_index, Option, Some, None, codes, if◌then◌else◌}
 use Rattle.clap.specs.Words.{Row, Text, first_of, one_of}
 use Rattle.age_stanza.specs.declared.header.Header.{Header}
 use Rattle.age_keys.specs.declared.fault.KeyFault.{KeyFault}
@@ -10,23 +9,27 @@ use Rattle.age_keys.specs.SharedSecret.{Shared, IsSharedKey, SharedRefuses}
 use Rattle.age_cli.specs.Requests.{number_or}
 
 -- a passphrase with its limit, a file key, or a shared secret
-abbrev pub Opener : Type 0
-Opener = Words ⊎ (List ℕ ⊎ Shared)
+pub data Opener : Type 0 where
+  ByWords : Words → Opener
+  ByKey : List ℕ → Opener
+  ByShared : Shared → Opener
 
 -- the keys that it may find in a header, and the faults
 abbrev pub allows_by : Opener → Header → List ℕ → Type 0
-allows_by (inl words) h key = IsPassphraseKey words h key
-allows_by (inr (inl known)) h key = key ≡ known
-allows_by (inr (inr shared)) h key = IsSharedKey shared h key
+allows_by (ByWords words) h key = IsPassphraseKey words h key
+allows_by (ByKey known) h key = key ≡ known
+allows_by (ByShared shared) h key = IsSharedKey shared h key
 
 abbrev pub refuses_by : Opener → Header → KeyFault → Type 0
-refuses_by (inl words) h fault = PassphraseRefuses words h fault
-refuses_by (inr (inl known)) h fault = ⊥
-refuses_by (inr (inr shared)) h fault = SharedRefuses shared h fault
+refuses_by (ByWords words) h fault = PassphraseRefuses words h fault
+refuses_by (ByKey known) h fault = ⊥
+refuses_by (ByShared shared) h fault = SharedRefuses shared h fault
 
 -- the bytes without one line feed at their end
 abbrev pub without_line_feed : List ℕ → List ℕ
-without_line_feed xs = if nat_lt 0 (length xs) && (slice_index xs (length xs - 1) == 10) then take (length xs - 1) xs else xs
+without_line_feed xs =
+    if nat_lt 0 (length xs) && (slice_index xs (length xs - 1) == 10) then take (length xs - 1) xs
+    else xs
 
 -- the passphrase in a file
 abbrev pub IsPassphraseIn : Option (List ℕ) → List ℕ → Type 0
@@ -39,13 +42,16 @@ pub record IsSharedIn (held : Option (List ℕ)) (shared : Shared) : Type 0 wher
   pub recipient_length : length shared.recipient ≡ 32
 
 -- the one option that says what opens the file, and the file that it names, make this
-abbrev pub IsOpener : (Text → Option (List ℕ)) → Option Text → Option Text → Option Text → ℕ → Opener → Type 0
-IsOpener old (Some pass) None None max_log (inl words) = IsPassphraseIn (old pass) words.pass × (words.max_log ≡ max_log)
-IsOpener old None (Some digits) None max_log (inr (inl known)) = SpellsKey digits known
-IsOpener old None None (Some name) max_log (inr (inr shared)) = IsSharedIn (old name) shared
+abbrev pub IsOpener : (Text → Option (List ℕ)) → Option Text → Option Text → Option Text → ℕ
+    → Opener → Type 0
+IsOpener old (Some pass) None None max_log (ByWords words) = IsPassphraseIn (old pass) words.pass
+    × (words.max_log ≡ max_log)
+IsOpener old None (Some digits) None max_log (ByKey known) = SpellsKey digits known
+IsOpener old None None (Some name) max_log (ByShared shared) = IsSharedIn (old name) shared
 IsOpener old pass file_key shared max_log opener = ⊥
 
 -- the same, of what the words give for each argument
 abbrev pub OpensBy : (Text → Option (List ℕ)) → List Row → Opener → Type 0
 OpensBy old rows opener =
-    IsOpener old (first_of (codes "pass") rows) (first_of (codes "file-key") rows) (first_of (codes "shared") rows) (number_or 22 (one_of (codes "max-log") rows)) opener
+    IsOpener old (first_of (codes "pass") rows) (first_of (codes "file-key") rows)
+    (first_of (codes "shared") rows) (number_or 22 (one_of (codes "max-log") rows)) opener

@@ -56,7 +56,8 @@ IsRequest name rows (Encrypt e) = (name ≡ codes "encrypt") × IsEncrypting row
 IsRequest name rows (Decrypt d) = (name ≡ codes "decrypt") × IsDecrypting rows d
 IsRequest name rows (Resume r) = (name ≡ codes "resume") × IsResuming rows r
 IsRequest name rows (Drill d) = (name ≡ codes "drill") × IsDrilling rows d
-IsRequest name rows (Inspect file) = (name ≡ codes "inspect") × (text_of file ≡ first_of (codes "FILE") rows)
+IsRequest name rows (Inspect file) = (name ≡ codes "inspect")
+    × (text_of file ≡ first_of (codes "FILE") rows)
 
 -- the words ask for this
 abbrev pub Requests : List Text → Request → Type 0

@@ -14,7 +14,8 @@ abbrev pub IsPositionIn : Option (List ℕ) → Position → Type 0
 IsPositionIn held position = held ≡ Some (position_text position)
 
 -- the engine's promise for the input's bytes, what opens them, the position and the old text, of what the output then holds
-pub record ResumesOut (opener : Opener) (position : Position) (input old_text output : Option (List ℕ)) : Type 0 where
+pub record ResumesOut (opener : Opener) (position : Position)
+    (input old_text output : Option (List ℕ)) : Type 0 where
   pub before : ResumePorts
   pub after : ResumePorts
   pub run : Resumption
@@ -29,10 +30,12 @@ pub record ResumesOut (opener : Opener) (position : Position) (input old_text ou
 pub record ResumesFile (r : Resuming) (old new : Held) : Type 0 where
   pub opener : Opener
   pub position : Position
-  pub opens : IsOpener old (text_of r.decrypting.unlocking.pass) (text_of r.decrypting.unlocking.file_key) (text_of r.decrypting.unlocking.shared)
+  pub opens : IsOpener old (text_of r.decrypting.unlocking.pass)
+      (text_of r.decrypting.unlocking.file_key) (text_of r.decrypting.unlocking.shared)
       r.decrypting.unlocking.max_log opener
   pub position_is : IsPositionIn (old r.position.now) position
-  pub output : ResumesOut opener position (old r.decrypting.from.now) (old r.old.now) (new r.decrypting.to.now)
+  pub output : ResumesOut opener position (old r.decrypting.from.now) (old r.old.now)
+      (new r.decrypting.to.now)
   pub others : SparesBut r.decrypting.to.now old new
 
 -- of what the words give for each argument: one option, and the file that it names, make what opens the input

@@ -24,8 +24,11 @@ fn write_out<F: FileSet>(
     to: &str,
 ) -> Result<(), Stop>
     ensures told { F.tells files.new ≡ F.tells files.old }
-    ensures done { OnOk result (F.tells files.old ≡ true → DecryptsOut (opener_of unlocker.now) (F.In.remaining source.old) (F.entry files.new to.now)) }
-    ensures others { F.tells files.old ≡ true → SparesBut to.now (F.entry files.old) (F.entry files.new) }
+    ensures done { OnOk result (F.tells files.old ≡ true
+        → DecryptsOut (opener_of unlocker.now) (F.In.remaining source.old)
+        (F.entry files.new to.now)) }
+    ensures others { F.tells files.old ≡ true
+        → SparesBut to.now (F.entry files.old) (F.entry files.new) }
 {
     let mut out = files.create(alloc, to)?;
     let decrypted = decrypt(alloc, unlocker, source, &mut out);
@@ -56,9 +59,12 @@ pub(crate) fn decrypt_file<F: FileSet>(
     files: &mut F,
     asked: &Decrypting<'_>,
 ) -> Result<(), Ending>
-    ensures done { OnOk result (F.tells files.old ≡ true → DecryptsFile asked.now (F.entry files.old) (F.entry files.new)) }
+    ensures done { OnOk result (F.tells files.old ≡ true
+        → DecryptsFile asked.now (F.entry files.old) (F.entry files.new)) }
     ensures usage { IfErr result (λ e. is_usage e ≡ true → F.entry files.new ≡ F.entry files.old) }
-    ensures spares { F.tells files.old ≡ true → SparesBoth (Some asked.now.to.now) (text_of asked.now.save) (F.entry files.old) (F.entry files.new) }
+    ensures spares { F.tells files.old ≡ true
+        → SparesBoth (Some asked.now.to.now) (text_of asked.now.save) (F.entry files.old)
+        (F.entry files.new) }
 {
     let chosen = choose(&asked.unlocking)?;
     if names_a_file_twice(files, asked) {

@@ -45,7 +45,8 @@ fn read_random<F: FileSet>(alloc: Global, files: &mut F, name: &str) -> Result<R
     ensures told { F.tells files.new ≡ F.tells files.old }
     ensures kept { F.entry files.new ≡ F.entry files.old }
     ensures read { IfOk result (λ r. F.tells files.old ≡ true
-        → (bytes : List ℕ) × (rest : List ℕ) × (F.entry files.old name.now ≡ Some (bytes ++ rest)) × IsRandom bytes r) }
+        → (bytes : List ℕ) × (rest : List ℕ) × (F.entry files.old name.now ≡ Some (bytes ++ rest))
+        × IsRandom bytes r) }
 {
     let mut source = files.open(alloc, name)?;
     let bytes = read_front(alloc, &mut source, 48)?;
@@ -63,8 +64,10 @@ fn write_out<F: FileSet>(
     secret: &Secret<'_>,
     to: &str,
 ) -> Result<(), FileFault>
-    ensures done { OnOk result (F.tells files.old ≡ true → EncryptsOut secret.now (F.In.remaining source.old) (F.entry files.new to.now)) }
-    ensures others { F.tells files.old ≡ true → SparesBut to.now (F.entry files.old) (F.entry files.new) }
+    ensures done { OnOk result (F.tells files.old ≡ true
+        → EncryptsOut secret.now (F.In.remaining source.old) (F.entry files.new to.now)) }
+    ensures others { F.tells files.old ≡ true
+        → SparesBut to.now (F.entry files.old) (F.entry files.new) }
 {
     let mut out = files.create(alloc, to)?;
     let encrypted = encrypt(alloc, secret, source, &mut out);
@@ -91,9 +94,12 @@ pub(crate) fn encrypt_file<F: FileSet>(
     files: &mut F,
     asked: &Encrypting<'_>,
 ) -> Result<(), Ending>
-    ensures done { OnOk result (F.tells files.old ≡ true → EncryptsFile asked.now.pass.now asked.now.log (text_of asked.now.random) asked.now.from.now asked.now.to.now (F.entry files.old) (F.entry files.new)) }
+    ensures done { OnOk result (F.tells files.old ≡ true
+        → EncryptsFile asked.now.pass.now asked.now.log (text_of asked.now.random)
+        asked.now.from.now asked.now.to.now (F.entry files.old) (F.entry files.new)) }
     ensures usage { IfErr result (λ e. is_usage e ≡ true → F.entry files.new ≡ F.entry files.old) }
-    ensures spares { F.tells files.old ≡ true → SparesBut asked.now.to.now (F.entry files.old) (F.entry files.new) }
+    ensures spares { F.tells files.old ≡ true
+        → SparesBut asked.now.to.now (F.entry files.old) (F.entry files.new) }
 {
     if files.is_same(asked.from, asked.to) {
         return Err(Ending::Usage(Usage::SameFile));

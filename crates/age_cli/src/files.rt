@@ -1,6 +1,7 @@
 //! Files by their names.
 
-ghost use Rattle.std.specs.Prelude.{◌≡◌, ◌≢◌, ℕ, Bool, true, List, [], Option, Some, IfOk, OnOk, OnErr, is_some};
+ghost use Rattle.std.specs.Prelude.{◌≡◌, ◌≢◌, ℕ, Bool, true, List, [], Option, Some, IfOk, IfErr, IsOkUnless, OnOk, OnErr, is_some};
+ghost use Rattle.age_cli.specs.FileSet.{IsMemoryOr};
 
 use age_file::{FileFault, Sink, Source};
 use std::alloc::Global;
@@ -29,19 +30,26 @@ pub trait FileSet {
         ensures told { tells self.new ≡ tells self.old }
         ensures kept { entry self.new ≡ entry self.old }
         ensures found { IfOk result (λ s. tells self.old ≡ true
-            → (is_some (entry self.old name.now) ≡ true) × (Self.In.remaining s ≡ entry self.old name.now)) };
+            → (is_some (entry self.old name.now) ≡ true)
+            × (Self.In.remaining s ≡ entry self.old name.now)) }
+        ensures faults { IfErr result (IsMemoryOr FileFault.Read) };
 
     /// Makes an empty file, also where there is one. Refuses with `Write` (27) where it can't be, and with `Memory` (28).
     fn create(&mut self, alloc: Global, name: &str) -> Result<Self::Out, FileFault>
         ensures told { tells self.new ≡ tells self.old }
         ensures made { IfOk result (λ o. tells self.old ≡ true
-            → (entry self.new name.now ≡ Some []) × (Self.Out.taken o ≡ Some []) × (Self.Out.label o ≡ name.now)) }
+            → (entry self.new name.now ≡ Some []) × (Self.Out.taken o ≡ Some [])
+            × (Self.Out.label o ≡ name.now)) }
         ensures others { (q : List ℕ) → q ≢ name.now → entry self.new q ≡ entry self.old q }
-        ensures err { OnErr result (entry self.new ≡ entry self.old) };
+        ensures err { OnErr result (entry self.new ≡ entry self.old) }
+        ensures faults { IfErr result (IsMemoryOr FileFault.Write) };
 
     /// Ends a file that was created, with the bytes that its sink took. Refuses with `Write` (27).
     fn close(&mut self, out: Self::Out) -> Result<(), FileFault>
         ensures told { tells self.new ≡ tells self.old }
-        ensures put { OnOk result (tells self.old ≡ true → entry self.new (Self.Out.label out) ≡ Self.Out.taken out) }
-        ensures others { (q : List ℕ) → q ≢ Self.Out.label out → entry self.new q ≡ entry self.old q };
+        ensures put { OnOk result (tells self.old ≡ true
+            → entry self.new (Self.Out.label out) ≡ Self.Out.taken out) }
+        ensures others { (q : List ℕ) → q ≢ Self.Out.label out
+            → entry self.new q ≡ entry self.old q }
+        ensures faults { IsOkUnless result FileFault.Write };
 }

@@ -1,6 +1,6 @@
 //! What stands at the front of a source.
 
-ghost use Rattle.std.specs.Prelude.{◌≡◌, ◌+◌, ◌^◌, ◌<◌, ◌≤◌, length, take, IfOk, IfSome};
+ghost use Rattle.std.specs.Prelude.{◌≡◌, ◌^◌, ◌<◌, ◌≤◌, take, IfOk, IfSome};
 ghost use Rattle.std.specs.Io.KnownBytes.{Consumes, IsAtEnd};
 ghost use Rattle.age_cli.specs.Fronts.{IsFront};
 
@@ -19,7 +19,8 @@ fn pull_some<S: Source>(
     requires some { 0 < most }
     requires room { most ≤ 4096 }
     ensures count { IfOk result (λ n. n ≤ most) }
-    ensures bytes { IfOk result (λ n. Consumes (S.remaining source.old) (S.remaining source.new) (take n buffer.new)) }
+    ensures bytes { IfOk result
+        (λ n. Consumes (S.remaining source.old) (S.remaining source.new) (take n buffer.new)) }
     ensures ended { IfOk result (λ n. n ≡ 0 → IsAtEnd (S.remaining source.new)) }
 {
     match source.pull(&mut buffer[..most]) {
@@ -34,7 +35,8 @@ pub(crate) fn read_front<S: Source>(
     source: &mut S,
     most: usize,
 ) -> Result<Vec<u8>, FileFault>
-    ensures { IfOk result (λ v. IsFront (S.remaining source.old) (S.remaining source.new) most v.items) }
+    ensures { IfOk result
+        (λ v. IsFront (S.remaining source.old) (S.remaining source.new) most v.items) }
 {
     let mut held = Vec::new(alloc);
     let mut buffer = [0; ROOM];
@@ -55,7 +57,9 @@ pub(crate) fn read_up_to<S: Source>(
     most: usize,
 ) -> Result<Option<Vec<u8>>, FileFault>
     requires { most < 2 ^ 32 }
-    ensures { IfOk result (λ o. IfSome o (λ v. Consumes (S.remaining source.old) (S.remaining source.new) v.items × IsAtEnd (S.remaining source.new))) }
+    ensures { IfOk result
+        (λ o. IfSome o (λ v. Consumes (S.remaining source.old) (S.remaining source.new) v.items
+        × IsAtEnd (S.remaining source.new))) }
 {
     let front = read_front(alloc, source, most + 1)?;
     if front.len() > most {

@@ -1,6 +1,7 @@
 //! The machine's files.
 
 ghost use Rattle.std.specs.Prelude.{false, None};
+ghost use Rattle.age_cli.specs.FileSet.{IsMemoryOr};
 
 use crate::files::FileSet;
 use age_file::{FileFault, Reading, Sink, Writing};
@@ -32,7 +33,9 @@ fn lead_to_one<R: Files>(rt: &R, one: &str, other: &str) -> bool {
 }
 
 /// A want of memory is told as such, and anything else as `other`.
-fn fault_of(error: io::Error, other: FileFault) -> FileFault {
+fn fault_of(error: io::Error, other: FileFault) -> FileFault
+    ensures { IsMemoryOr other result }
+{
     if error.kind() == io::ErrorKind::OutOfMemory {
         FileFault::Memory
     } else {

@@ -15,7 +15,9 @@ pub(crate) fn report<I: Source, O: Sink>(
     input: &mut I,
     output: &mut O,
 ) -> Result<(), FileFault>
-    ensures { OnOk result (Reports (I.remaining input.old) (I.remaining input.new) (O.taken output.old) (O.taken output.new)) }
+    ensures { OnOk result
+        (Reports (I.remaining input.old) (I.remaining input.new) (O.taken output.old)
+        (O.taken output.new)) }
 {
     let found = inspect(alloc, input)?;
     let text = text_of(alloc, &found)?;
@@ -34,7 +36,8 @@ pub(crate) fn report_file<F: FileSet, O: Sink>(
     output: &mut O,
 ) -> Result<(), Ending>
     ensures kept { F.entry files.new ≡ F.entry files.old }
-    ensures done { OnOk result (F.tells files.old ≡ true → ReportsFile (F.entry files.old name.now) (O.taken output.old) (O.taken output.new)) }
+    ensures done { OnOk result (F.tells files.old ≡ true
+        → ReportsFile (F.entry files.old name.now) (O.taken output.old) (O.taken output.new)) }
 {
     let mut source = files.open(alloc, name)?;
     report(alloc, &mut source, output)?;

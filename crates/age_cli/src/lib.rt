@@ -25,6 +25,7 @@ mod request;
 mod resumption;
 mod script;
 mod stop;
+mod tell;
 
 pub use files::FileSet;
 pub use host_files::HostFiles;

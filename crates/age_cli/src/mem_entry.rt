@@ -1,6 +1,6 @@
 //! Files over memory, as a list.
 
-ghost use Rattle.std.specs.Prelude.{◌≡◌, ◌≢◌, ◌↔◌, IsTrue, IsOk, ℕ, List, Some, OnOk, OnErr, IfOk, is_some, true, position, option_map};
+ghost use Rattle.std.specs.Prelude.{◌≡◌, ◌≢◌, IsOk, ℕ, List, Some, OnOk, OnErr, IfOk, is_some, true, position, option_map};
 ghost use Rattle.age_cli.specs.Entries.{has_name, entry_of};
 
 use age_stanza::Bytes;
@@ -66,7 +66,8 @@ pub(crate) fn put_entry(
     bytes: Bytes,
 ) -> Result<(), AllocError>
     ensures ok { OnOk result (entry_of entries.new.items name ≡ Some bytes) }
-    ensures others { (q : List ℕ) → q ≢ name → entry_of entries.new.items q ≡ entry_of entries.old.items q }
+    ensures others { (q : List ℕ) → q ≢ name
+        → entry_of entries.new.items q ≡ entry_of entries.old.items q }
     ensures there { is_some (entry_of entries.old.items name) ≡ true → IsOk result }
     ensures err { OnErr result (entries.new.items ≡ entries.old.items) }
 {

@@ -1,9 +1,10 @@
 //! Files over memory.
 
-ghost use Rattle.std.specs.Prelude.{◌≡◌, ◌≢◌, ◌↔◌, ◌++◌, ◌∷◌, ◌<◌, ◌≤◌, IsTrue, ℕ, List, [], true, Some, None, OnOk, OnErr, IfOk, IsErrOf, IsOk, Contains, is_some, option_map, length, MatchResult};
+ghost use Rattle.std.specs.Prelude.{◌≡◌, ◌≢◌, ◌↔◌, ◌++◌, ◌∷◌, ◌<◌, ◌≤◌, IsTrue, ℕ, List, [], true, Some, None, OnOk, OnErr, IfOk, IsErrOf, IsOk, IfErr, IsOkUnless, Contains, is_some, option_map, length, MatchResult};
 ghost use Rattle.std.specs.Io.KnownBytes.{WriteAppends, Keeps};
 ghost use Rattle.age_file.specs.Memory.{one_more, Puts, Flushes};
 ghost use Rattle.age_cli.specs.Entries.{entry_of, empty_with};
+ghost use Rattle.age_cli.specs.FileSet.{IsMemoryOr};
 
 use crate::files::FileSet;
 use crate::mem_entry::{MemEntry, Name, bytes_of, put_entry};
@@ -26,7 +27,8 @@ impl Model for MemFiles {
 
     ghost Value = { Shelf };
 
-    ghost view = { λ f. record { entries = f.entries.items; refused = f.refused.items; room = f.room } };
+    ghost view = { λ f. record
+        { entries = f.entries.items; refused = f.refused.items; room = f.room } };
 }
 
 /// A file over memory that is written. A contract sees its name and its sink.
@@ -93,7 +95,8 @@ impl MemFiles {
     /// Puts a file there, in place of one of its name. Where memory is refused nothing changes.
     pub fn put(&mut self, alloc: Global, name: &str, bytes: Vec<u8>) -> Result<(), Memory>
         ensures ok { OnOk result (entry_of self.new.entries name.now ≡ Some bytes.items) }
-        ensures others { (q : List ℕ) → q ≢ name.now → entry_of self.new.entries q ≡ entry_of self.old.entries q }
+        ensures others { (q : List ℕ) → q ≢ name.now
+            → entry_of self.new.entries q ≡ entry_of self.old.entries q }
         ensures err { OnErr result (self.new ≡ self.old) }
         ensures refused { self.new.refused ≡ self.old.refused }
         ensures room { self.new.room ≡ self.old.room }
@@ -116,7 +119,8 @@ impl MemFiles {
 
     /// Lets no file of this name be made from now on. Where memory is refused nothing changes.
     pub fn refuse(&mut self, alloc: Global, name: &str) -> Result<(), Memory>
-        ensures ok { OnOk result (self.new ≡ record self.old { refused = self.old.refused ++ name.now ∷ [] }) }
+        ensures ok { OnOk result
+            (self.new ≡ record self.old { refused = self.old.refused ++ name.now ∷ [] }) }
         ensures err { OnErr result (self.new ≡ self.old) }
     {
         let Ok(name) = Name::new(alloc, name) else {
@@ -160,7 +164,9 @@ impl FileSet for MemFiles {
     fn open(&mut self, alloc: Global, name: &str) -> Result<MemSource, FileFault>
         ensures kept { self.new ≡ self.old }
         ensures found { IfOk result (λ s. entry_of self.old.entries name.now ≡ Some s.left) }
-        ensures missing { IsErrOf result FileFault.Read ↔ (entry_of self.old.entries name.now ≡ None) }
+        ensures missing { IsErrOf result FileFault.Read
+            ↔ (entry_of self.old.entries name.now ≡ None) }
+        ensures faults { IfErr result (IsMemoryOr FileFault.Read) }
     {
         match bytes_of(self.entries.as_slice(), name) {
             Some(bytes) => source_of(alloc, bytes),
@@ -171,11 +177,15 @@ impl FileSet for MemFiles {
     /// Makes an empty file with the room that was given for it. Refuses with `Write` (27) exactly where the name is one
     /// that can't be written.
     fn create(&mut self, alloc: Global, name: &str) -> Result<MemOut, FileFault>
-        ensures made { IfOk result (λ o. (entry_of self.new.entries name.now ≡ Some []) × (o ≡ (name.now, empty_with self.old.room))) }
-        ensures others { (q : List ℕ) → q ≢ name.now → entry_of self.new.entries q ≡ entry_of self.old.entries q }
+        ensures made { IfOk result
+            (λ o. (entry_of self.new.entries name.now ≡ Some [])
+            × (o ≡ (name.now, empty_with self.old.room))) }
+        ensures others { (q : List ℕ) → q ≢ name.now
+            → entry_of self.new.entries q ≡ entry_of self.old.entries q }
         ensures refused { IsErrOf result FileFault.Write ↔ Contains self.old.refused name.now }
         ensures kept { (self.new.refused ≡ self.old.refused) × (self.new.room ≡ self.old.room) }
         ensures err { OnErr result (self.new ≡ self.old) }
+        ensures faults { IfErr result (IsMemoryOr FileFault.Write) }
     {
         if is_refused(self.refused.as_slice(), name) {
             return Err(FileFault::Write);
@@ -190,8 +200,10 @@ impl FileSet for MemFiles {
     /// Puts what the sink took under its name. That takes no memory where a file of the name is there.
     fn close(&mut self, out: MemOut) -> Result<(), FileFault>
         ensures put { OnOk result (entry_of self.new.entries out.0 ≡ Some out.1.held) }
-        ensures others { (q : List ℕ) → q ≢ out.0 → entry_of self.new.entries q ≡ entry_of self.old.entries q }
+        ensures others { (q : List ℕ) → q ≢ out.0
+            → entry_of self.new.entries q ≡ entry_of self.old.entries q }
         ensures there { is_some (entry_of self.old.entries out.0) ≡ true → IsOk result }
+        ensures faults { IsOkUnless result FileFault.Write }
         ensures kept { (self.new.refused ≡ self.old.refused) × (self.new.room ≡ self.old.room) }
     {
         let MemOut { name, sink } = out;

@@ -1,8 +1,7 @@
 //! What opens a file, as the options and the files make it.
 
 ghost use Rattle.std.specs.Prelude.{◌≡◌, true, IfOk, IfSome, Some};
-ghost use Rattle.age_cli.specs.Requests.{text_of};
-ghost use Rattle.age_cli.specs.Openers.{Opener, IsOpener, without_line_feed, IsPassphraseIn, IsSharedIn};
+ghost use Rattle.age_cli.specs.Openers.{without_line_feed, IsSharedIn};
 ghost use Rattle.age_cli.specs.OpenerSteps.{IsChosen, IsMaterial, IsMade, opener_of};
 
 use crate::ending::{Ending, Usage};
@@ -71,7 +70,8 @@ pub(crate) fn read_pass<F: FileSet>(
 ) -> Result<Vec<u8>, Ending>
     ensures told { F.tells files.new ≡ F.tells files.old }
     ensures kept { F.entry files.new ≡ F.entry files.old }
-    ensures read { IfOk result (λ v. F.tells files.old ≡ true → F.entry files.old name.now ≡ Some v.items) }
+    ensures read { IfOk result
+        (λ v. F.tells files.old ≡ true → F.entry files.old name.now ≡ Some v.items) }
 {
     let mut source = files.open(alloc, name)?;
     let Some(bytes) = read_up_to(alloc, &mut source, 65_537)? else {
@@ -96,7 +96,8 @@ fn shared_of(bytes: &[u8]) -> Option<SharedSecret>
 fn read_shared<F: FileSet>(alloc: Global, files: &mut F, name: &str) -> Result<SharedSecret, Ending>
     ensures told { F.tells files.new ≡ F.tells files.old }
     ensures kept { F.entry files.new ≡ F.entry files.old }
-    ensures read { IfOk result (λ s. F.tells files.old ≡ true → IsSharedIn (F.entry files.old name.now) s) }
+    ensures read { IfOk result
+        (λ s. F.tells files.old ≡ true → IsSharedIn (F.entry files.old name.now) s) }
 {
     let mut source = files.open(alloc, name)?;
     let Some(bytes) = read_up_to(alloc, &mut source, 64)? else {
@@ -116,7 +117,8 @@ pub(crate) fn read_material<F: FileSet>(
 ) -> Result<Material, Ending>
     ensures told { F.tells files.new ≡ F.tells files.old }
     ensures kept { F.entry files.new ≡ F.entry files.old }
-    ensures read { IfOk result (λ m. F.tells files.old ≡ true → IsMaterial (F.entry files.old) chosen.entry m) }
+    ensures read { IfOk result
+        (λ m. F.tells files.old ≡ true → IsMaterial (F.entry files.old) chosen.entry m) }
 {
     match chosen {
         Chosen::Pass(name) => Ok(Material::Pass(read_pass(alloc, files, name)?)),

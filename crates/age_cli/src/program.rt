@@ -9,6 +9,7 @@ ghost use Rattle.age_cli.specs.Encryptions.{EncryptsRows};
 ghost use Rattle.age_cli.specs.Decryptions.{DecryptsRows};
 ghost use Rattle.age_cli.specs.Resumptions.{ResumesRows};
 ghost use Rattle.age_cli.specs.Endings.{is_usage};
+ghost use Rattle.age_cli.specs.FaultLines.{TellsFault};
 ghost use Rattle.age_cli.specs.Held.{Spares};
 ghost use Rattle.age_cli.specs.Runs.{Reports, Inspects};
 
@@ -22,6 +23,7 @@ use crate::print::put_bytes;
 use crate::reading::read_request;
 use crate::request::Request;
 use crate::resumption::resume_file;
+use crate::tell::tell;
 use age_file::{FileFault, Sink, Source};
 use clap::Error;
 use clap::error::ErrorKind;
@@ -55,19 +57,28 @@ fn obey<F: FileSet, I: Source, O: Sink>(
     input: &mut I,
     output: &mut O,
 ) -> Result<(), Ending>
-    ensures report { words.now ≡ [] → OnOk result (Reports (I.remaining input.old) (I.remaining input.new) (O.taken output.old) (O.taken output.new)) }
-    ensures inspects { (rows : List Row) → Asks (texts words.now) (codes "inspect") rows → OnOk result (
-        Inspects (first_of (codes "FILE") rows) (F.tells files.old) (F.entry files.old) (I.remaining input.old) (I.remaining input.new) (O.taken output.old) (O.taken output.new)) }
-    ensures encrypts { (rows : List Row) → Asks (texts words.now) (codes "encrypt") rows → OnOk result (F.tells files.old ≡ true
+    ensures report { words.now ≡ []
+        → OnOk result (Reports (I.remaining input.old) (I.remaining input.new) (O.taken output.old)
+        (O.taken output.new)) }
+    ensures inspects { (rows : List Row) → Asks (texts words.now) (codes "inspect") rows
+        → OnOk result (
+        Inspects (first_of (codes "FILE") rows) (F.tells files.old) (F.entry files.old)
+        (I.remaining input.old) (I.remaining input.new) (O.taken output.old) (O.taken output.new)) }
+    ensures encrypts { (rows : List Row) → Asks (texts words.now) (codes "encrypt") rows
+        → OnOk result (F.tells files.old ≡ true
         → EncryptsRows rows (F.entry files.old) (F.entry files.new)) }
-    ensures decrypts { (rows : List Row) → Asks (texts words.now) (codes "decrypt") rows → OnOk result (F.tells files.old ≡ true
+    ensures decrypts { (rows : List Row) → Asks (texts words.now) (codes "decrypt") rows
+        → OnOk result (F.tells files.old ≡ true
         → DecryptsRows rows (F.entry files.old) (F.entry files.new)) }
-    ensures resumes { (rows : List Row) → Asks (texts words.now) (codes "resume") rows → OnOk result (F.tells files.old ≡ true
+    ensures resumes { (rows : List Row) → Asks (texts words.now) (codes "resume") rows
+        → OnOk result (F.tells files.old ≡ true
         → ResumesRows rows (F.entry files.old) (F.entry files.new)) }
-    ensures spares { (rows : List Row) (name : Text) → Asks (texts words.now) name rows → F.tells files.old ≡ true
+    ensures spares { (rows : List Row) (name : Text) → Asks (texts words.now) name rows
+        → F.tells files.old ≡ true
         → Spares rows (F.entry files.old) (F.entry files.new) }
     ensures usage { IfErr result (λ e. is_usage e ≡ true → F.entry files.new ≡ F.entry files.old) }
-    ensures refused { (refusals (texts words.now) ≡ [] → ⊥) → F.entry files.new ≡ F.entry files.old }
+    ensures refused { (refusals (texts words.now) ≡ [] → ⊥)
+        → F.entry files.new ≡ F.entry files.old }
 {
     if words.is_empty() {
         report(alloc, input, output)?;
@@ -88,44 +99,6 @@ fn obey<F: FileSet, I: Source, O: Sink>(
     }
 }
 
-/// Tells why a run ended, where the sink takes it.
-fn tell<E: Sink>(alloc: Global, faults: &mut E, ending: &Ending) {
-    let _ = put_ending(alloc, faults, ending);
-}
-
-fn put_ending<E: Sink>(alloc: Global, faults: &mut E, ending: &Ending) -> Result<(), FileFault> {
-    match ending {
-        Ending::Words(text) => put_bytes(faults, text.as_bytes())?,
-        Ending::Usage(usage) => {
-            let line = format!(in alloc; "age_tool: {usage}\n")?;
-            put_bytes(faults, line.as_bytes())?;
-        }
-        Ending::Fault(fault) => put_fault(alloc, faults, *fault)?,
-        Ending::Unsaved(fault, second) => {
-            put_fault(alloc, faults, *fault)?;
-            put_fault(alloc, faults, *second)?;
-        }
-    }
-    match faults.flush() {
-        Ok(()) => Ok(()),
-        Err(_) => Err(FileFault::Write),
-    }
-}
-
-/// One line: the fault's number and name, and the line of a header's fault or the chunk of a payload's.
-fn put_fault<E: Sink>(alloc: Global, faults: &mut E, fault: FileFault) -> Result<(), FileFault> {
-    let number = fault.number();
-    let name = fault.name();
-    let line = match fault.place() {
-        Some(line) if number <= 8 => format!(in alloc; "age_tool: {number} {name} line {line}\n")?,
-        Some(chunk) if number <= 20 => format!(in alloc;
-            "age_tool: {number} {name} chunk {chunk}\n"
-        )?,
-        _ => format!(in alloc; "age_tool: {number} {name}\n")?,
-    };
-    put_bytes(faults, line.as_bytes())
-}
-
 /// Runs the program on the words after its name, and answers its status: 0 on success, 1 on a fault, which is told in
 /// one line to `faults`, and 2 for a bad command line, whose text goes there too.
 ///
@@ -140,24 +113,37 @@ pub fn run<F: FileSet, I: Source, O: Sink, E: Sink>(
     faults: &mut E,
 ) -> u8
     ensures status { result ≤ 2 }
+    // What goes to `faults`: nothing with 0; with 1 the line of a fault, or those of two, unless the sink fails.
+    ensures quiet { result ≡ 0 → faults.new ≡ faults.old }
+    ensures told { result ≡ 1
+        → TellsFault (E.taken faults.old) (E.taken faults.new) (E.failed faults.old)
+        (E.failed faults.new) }
     // 0 means that the input was read to its end, and that its report and nothing else was written.
     ensures report { words.now ≡ [] → result ≡ 0
-        → Reports (I.remaining input.old) (I.remaining input.new) (O.taken output.old) (O.taken output.new) }
-    ensures inspects { (rows : List Row) → Asks (texts words.now) (codes "inspect") rows → result ≡ 0
-        → Inspects (first_of (codes "FILE") rows) (F.tells files.old) (F.entry files.old) (I.remaining input.old) (I.remaining input.new) (O.taken output.old) (O.taken output.new) }
+        → Reports (I.remaining input.old) (I.remaining input.new) (O.taken output.old)
+        (O.taken output.new) }
+    ensures inspects { (rows : List Row) → Asks (texts words.now) (codes "inspect") rows
+        → result ≡ 0
+        → Inspects (first_of (codes "FILE") rows) (F.tells files.old) (F.entry files.old)
+        (I.remaining input.old) (I.remaining input.new) (O.taken output.old) (O.taken output.new) }
     // 0 means that OUT holds what the engine promises for what the names stood for at the call.
-    ensures encrypts { (rows : List Row) → Asks (texts words.now) (codes "encrypt") rows → result ≡ 0 → F.tells files.old ≡ true
+    ensures encrypts { (rows : List Row) → Asks (texts words.now) (codes "encrypt") rows
+        → result ≡ 0 → F.tells files.old ≡ true
         → EncryptsRows rows (F.entry files.old) (F.entry files.new) }
-    ensures decrypts { (rows : List Row) → Asks (texts words.now) (codes "decrypt") rows → result ≡ 0 → F.tells files.old ≡ true
+    ensures decrypts { (rows : List Row) → Asks (texts words.now) (codes "decrypt") rows
+        → result ≡ 0 → F.tells files.old ≡ true
         → DecryptsRows rows (F.entry files.old) (F.entry files.new) }
-    ensures resumes { (rows : List Row) → Asks (texts words.now) (codes "resume") rows → result ≡ 0 → F.tells files.old ≡ true
+    ensures resumes { (rows : List Row) → Asks (texts words.now) (codes "resume") rows → result ≡ 0
+        → F.tells files.old ≡ true
         → ResumesRows rows (F.entry files.old) (F.entry files.new) }
     // Whatever the status, no file but OUT and that of --save differs.
-    ensures spares { (rows : List Row) (name : Text) → Asks (texts words.now) name rows → F.tells files.old ≡ true
+    ensures spares { (rows : List Row) (name : Text) → Asks (texts words.now) name rows
+        → F.tells files.old ≡ true
         → Spares rows (F.entry files.old) (F.entry files.new) }
     // A bad command line, and words that ask for help, change no file.
     ensures usage { result ≡ 2 → F.entry files.new ≡ F.entry files.old }
-    ensures refused { (refusals (texts words.now) ≡ [] → ⊥) → F.entry files.new ≡ F.entry files.old }
+    ensures refused { (refusals (texts words.now) ≡ [] → ⊥)
+        → F.entry files.new ≡ F.entry files.old }
 {
     match obey(alloc, words, files, input, output) {
         Ok(()) => 0,

@@ -1,6 +1,6 @@
 //! Reads what the words ask for.
 
-ghost use Rattle.std.specs.Prelude.{◌≡◌, ◌≤◌, [], true, false, Some, None, IfOk, IfErr, IfSome, option_map, codes};
+ghost use Rattle.std.specs.Prelude.{◌≡◌, ◌≤◌, [], true, false, Some, None, IfOk, IfErr, IfSome, codes};
 ghost use Rattle.clap.specs.Words.{subcommand_rows_of, rows_of, found_of, one_of, first_of, kind_of};
 ghost use Rattle.clap.specs.Walk.{texts};
 ghost use Rattle.age_cli.specs.Asked.{refusals};
@@ -17,7 +17,8 @@ use std::alloc::Global;
 fn number(matches: &ArgMatches<'_>, id: &str, default: u32) -> Option<u32>
     requires low { 1 ≤ default }
     requires high { default ≤ 22 }
-    ensures value { IfSome result (λ n. n ≡ number_or default (one_of id.now (rows_of (found_of matches.now)))) }
+    ensures value { IfSome result
+        (λ n. n ≡ number_or default (one_of id.now (rows_of (found_of matches.now)))) }
     ensures low { IfSome result (λ n. 1 ≤ n) }
     ensures high { IfSome result (λ n. n ≤ 22) }
 {
@@ -37,7 +38,8 @@ fn text<'a>(matches: &ArgMatches<'a>, id: &str) -> Option<&'a str>
 
 /// Whether a flag is given.
 fn flag(matches: &ArgMatches<'_>, id: &str) -> bool
-    ensures given { one_of id.now (rows_of (found_of matches.now)) ≡ Some (codes "true") → result ≡ true }
+    ensures given { one_of id.now (rows_of (found_of matches.now)) ≡ Some (codes "true")
+        → result ≡ true }
     ensures none { one_of id.now (rows_of (found_of matches.now)) ≡ None → result ≡ false }
 {
     matches.get_flag(id)
@@ -45,7 +47,8 @@ fn flag(matches: &ArgMatches<'_>, id: &str) -> bool
 
 /// The command that the words name, with its own matches.
 fn command_of<'m, 'a>(matches: &'m ArgMatches<'a>) -> Option<(&'a str, &'m ArgMatches<'a>)>
-    ensures { IfSome result (λ p. subcommand_rows_of matches.now ≡ Some (p.0.now, rows_of (found_of p.1.now))) }
+    ensures { IfSome result
+        (λ p. subcommand_rows_of matches.now ≡ Some (p.0.now, rows_of (found_of p.1.now))) }
 {
     matches.subcommand()
 }
@@ -134,7 +137,8 @@ pub(crate) fn read_request<'a>(
     words: &'a [&'a str],
 ) -> Result<Option<Request<'a>>, Error>
     ensures asked { IfOk result (λ o. IfSome o (Requests (texts words.now))) }
-    ensures refused { IfErr result (λ e. refusals (texts words.now) ≡ [] → kind_of e ≡ ErrorKind.OutOfMemory) }
+    ensures refused { IfErr result
+        (λ e. refusals (texts words.now) ≡ [] → kind_of e ≡ ErrorKind.OutOfMemory) }
 {
     let matches = matches_of(alloc, words)?;
     match command_of(&matches) {

@@ -25,7 +25,8 @@ fn read_position<F: FileSet>(
 ) -> Result<Position, FileFault>
     ensures told { F.tells files.new ≡ F.tells files.old }
     ensures kept { F.entry files.new ≡ F.entry files.old }
-    ensures read { IfOk result (λ p. F.tells files.old ≡ true → IsPositionIn (F.entry files.old name.now) p) }
+    ensures read { IfOk result
+        (λ p. F.tells files.old ≡ true → IsPositionIn (F.entry files.old name.now) p) }
 {
     let mut source = files.open(alloc, name)?;
     match read_up_to(alloc, &mut source, 256)? {
@@ -46,8 +47,10 @@ fn write_out<F: FileSet>(
 ) -> Result<(), Stop>
     ensures told { F.tells files.new ≡ F.tells files.old }
     ensures done { OnOk result (F.tells files.old ≡ true
-        → ResumesOut (opener_of unlocker.now) position.now (F.In.remaining source.old) (F.In.remaining old.old) (F.entry files.new to.now)) }
-    ensures others { F.tells files.old ≡ true → SparesBut to.now (F.entry files.old) (F.entry files.new) }
+        → ResumesOut (opener_of unlocker.now) position.now (F.In.remaining source.old)
+        (F.In.remaining old.old) (F.entry files.new to.now)) }
+    ensures others { F.tells files.old ≡ true
+        → SparesBut to.now (F.entry files.old) (F.entry files.new) }
 {
     let mut out = files.create(alloc, to)?;
     let resumed = resume(alloc, unlocker, position, source, old, &mut out);
@@ -72,10 +75,12 @@ pub(crate) fn resume_file<F: FileSet>(
     files: &mut F,
     asked: &Resuming<'_>,
 ) -> Result<(), Ending>
-    ensures done { OnOk result (F.tells files.old ≡ true → ResumesFile asked.now (F.entry files.old) (F.entry files.new)) }
+    ensures done { OnOk result (F.tells files.old ≡ true
+        → ResumesFile asked.now (F.entry files.old) (F.entry files.new)) }
     ensures usage { IfErr result (λ e. is_usage e ≡ true → F.entry files.new ≡ F.entry files.old) }
     ensures spares { F.tells files.old ≡ true
-        → SparesBoth (Some asked.now.decrypting.to.now) (text_of asked.now.decrypting.save) (F.entry files.old) (F.entry files.new) }
+        → SparesBoth (Some asked.now.decrypting.to.now) (text_of asked.now.decrypting.save)
+        (F.entry files.old) (F.entry files.new) }
 {
     let wanted = &asked.decrypting;
     let chosen = choose(&wanted.unlocking)?;

@@ -1,7 +1,6 @@
 //! How a command that writes a text stops, and where its position goes.
 
-ghost use Rattle.std.specs.Prelude.{◌≡◌, true, false, Some, None, OnOk};
-ghost use Rattle.age_file.specs.PositionTexts.{position_text};
+ghost use Rattle.std.specs.Prelude.{◌≡◌, true, false, None, OnOk};
 ghost use Rattle.age_cli.specs.Requests.{text_of};
 ghost use Rattle.age_cli.specs.Endings.{is_usage};
 ghost use Rattle.age_cli.specs.Held.{SparesBoth, Saves};
@@ -20,6 +19,8 @@ pub(crate) struct Stop {
 }
 
 impl From<FileFault> for Stop {
+    ghost from_gives = { λ f s. s ≡ record { fault = f; position = None } };
+
     fn from(fault: FileFault) -> Stop {
         Stop {
             fault,
@@ -29,6 +30,8 @@ impl From<FileFault> for Stop {
 }
 
 impl From<Stopped> for Stop {
+    ghost from_gives = { λ f s. s ≡ record { fault = f.fault; position = f.position } };
+
     fn from(stopped: Stopped) -> Stop {
         Stop {
             fault: stopped.fault,
@@ -44,9 +47,11 @@ fn save<F: FileSet>(
     name: Option<&str>,
     position: Option<Position>,
 ) -> Result<(), FileFault>
-    ensures saved { OnOk result (F.tells files.old ≡ true → Saves (text_of name.entry) position (F.entry files.old) (F.entry files.new)) }
+    ensures saved { OnOk result (F.tells files.old ≡ true
+        → Saves (text_of name.entry) position (F.entry files.old) (F.entry files.new)) }
     ensures alone { position ≡ None → F.entry files.new ≡ F.entry files.old }
-    ensures others { F.tells files.old ≡ true → SparesBoth None (text_of name.entry) (F.entry files.old) (F.entry files.new) }
+    ensures others { F.tells files.old ≡ true
+        → SparesBoth None (text_of name.entry) (F.entry files.old) (F.entry files.new) }
 {
     let (Some(name), Some(position)) = (name, position) else {
         return Ok(());
@@ -67,7 +72,8 @@ pub(crate) fn end_of<F: FileSet>(
 ) -> Ending
     ensures fault { is_usage result ≡ false }
     ensures alone { stop.position ≡ None → F.entry files.new ≡ F.entry files.old }
-    ensures others { F.tells files.old ≡ true → SparesBoth None (text_of name.entry) (F.entry files.old) (F.entry files.new) }
+    ensures others { F.tells files.old ≡ true
+        → SparesBoth None (text_of name.entry) (F.entry files.old) (F.entry files.new) }
 {
     match save(alloc, files, name, stop.position) {
         Ok(()) => Ending::Fault(stop.fault),

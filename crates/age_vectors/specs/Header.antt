@@ -18,7 +18,8 @@ IsCut bytes fault = (fault ≡ record { kind = HeadCut; line = line_after bytes 
 
 -- what is told of bytes and their end, which have no header in front
 abbrev pub IsTold : List ℕ → HeadFault → Type 0
-IsTold bytes fault = (fault ≡ memory_fault) ⊎ ((HasHeader bytes → ⊥) × (IsFault bytes fault ⊎ IsCut bytes fault))
+IsTold bytes fault = (fault ≡ memory_fault)
+    ⊎ ((HasHeader bytes → ⊥) × (IsFault bytes fault ⊎ IsCut bytes fault))
 
 -- a fault of this number is told in this line
 pub record Refuses (bytes : List ℕ) (number line : ℕ) : Type 0 where

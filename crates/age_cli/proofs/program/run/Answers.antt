@@ -1,0 +1,6 @@
+use Rattle.std.proofs.Common.{◌∙◌, sym}
+use Rattle.age_cli.proofs.Telling.{tells_fault}
+use Rattle.age_cli.proofs.program.run.Goals as goal
+
+pub returns-in-Err-clause-told : goal.returns-in-Err-clause-told
+returns-in-Err-clause-told g c = λ one. tells_fault c.in-Err.ending _ _ _ _ (sym c.status.ensures ∙ one) c.tell.ensures
