@@ -10,9 +10,10 @@ use Rattle.std.proofs.lemmas.Bool.{ltb-true, eqb-true}
 use Rattle.std.proofs.lemmas.Bool.Decides.{nat_tests}
 use Rattle.std.proofs.lemmas.List.{length-take, length-append, length-drop, take_rest, take_at}
 use Rattle.age_stream.specs.Lawful.{IsLawful}
-use Rattle.age_stream.specs.Nonce.{nonce_bytes}
+use Rattle.age_stream.specs.Nonce.{nonce_bytes, chunk_limit}
 use Rattle.age_stream.specs.Payload.{last_index, pair, block_bytes}
-use Rattle.age_stream.specs.Sealing.{SealerView, Holds, step_len, needs_too_many, lent, lent_bytes}
+use Rattle.age_stream.specs.Sealing.{SealerView, Holds, step_len, needs_too_many, too_many, lent, lent_bytes}
+use Rattle.age_stream.specs.declared.fault.StreamFault.{StreamFault}
 use Rattle.age_stream.proofs.Chunks.{length-first_chunks}
 use Rattle.age_stream.proofs.Nonces.{nonce_bytes-length}
 use Rattle.age_stream.proofs.Sealings.{last_index_le}
@@ -45,6 +46,14 @@ too_long n s piece positive sound refused text holds =
     let before : 281474976710655 * n ≤ length text - 1 = subst (λ (k : ℕ). k * n ≤ length text - 1) index (last_index_le n text) in
     let exact : length text - 281474976710655 * n ≡ n = sym (tail ∙ ap (λ (k : ℕ). length text - k * n) index) ∙ held in
     omega (arith, more, before, exact, positive, length-append text piece)
+
+-- and then its fault is at the last chunk that a payload may have
+pub at_the_limit : {B : Type 0} (n : ℕ) (s : SealerView B) (piece : List ℕ) (fault : StreamFault) → s.failed ≡ false → needs_too_many n s piece ≡ true → fault ≡ too_many s.index
+    → fault ≡ too_many (chunk_limit - 1)
+at_the_limit n s piece fault sound refused is =
+    let tests = both (nat_lt 0 (length piece)) (length s.held == n && s.index == 281474976710655) (ap (λ (b : Bool). b || (nat_lt 0 (length piece) && (length s.held == n && s.index == 281474976710655))) (sym sound) ∙ refused) in
+    let full = both (length s.held == n) (s.index == 281474976710655) tests.1 in
+    is ∙ ap too_many (eqb-true s.index 281474976710655 full.1)
 
 -- the front of a piece that a sealer took, where what it lent was written but for a part that wasn't
 pub some_sealed : {B : Type 0} (sealing : B → List ℕ → List ℕ → List ℕ) (n : ℕ) (old new : SealerView B) (was now : Tally) (piece : List ℕ) (taken : ℕ) (chunk : Option (Bor (List ℕ))) (out cut : List ℕ)

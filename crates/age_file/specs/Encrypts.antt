@@ -1,9 +1,10 @@
 -- What an encryption did.
-use Rattle.std.specs.Prelude.{◌≡◌, ℕ, ◌^◌, ◌<◌, ◌≤◌, List, ◌++◌, length}
+use Rattle.std.specs.Prelude.{◌≡◌, ℕ, ◌-◌, ◌^◌, ◌<◌, ◌≤◌, List, ◌++◌, length}
 use Rattle.std.specs.Io.KnownBytes.{Consumes, Appends, IsAtEnd}
 use Rattle.age_stanza.specs.Grammar.{HeadText}
 use Rattle.age_stream.specs.Headline.{IsPrefixOf}
-use Rattle.age_stream.specs.declared.fault.StreamKind.TheVariants.{TooManyChunks}
+use Rattle.age_stream.specs.Nonce.{chunk_limit}
+use Rattle.age_stream.specs.Sealing.{too_many}
 use Rattle.age_keys.specs.Scrypt.{scrypt_head}
 use Rattle.age_file.specs.AgeFile.{FileOf}
 use Rattle.age_file.specs.Faults.{HasRisen}
@@ -38,7 +39,7 @@ pub record Encrypts (s : SecretView) (old new : Ports) (written : Written) : Typ
 
 -- why it stopped, after this text was read
 abbrev pub WhyStopped : Ports → Ports → List ℕ → FileFault → Type 0
-WhyStopped old new text (Stream fault) = (2 ^ 64 < length text) × (fault.kind ≡ TooManyChunks)
+WhyStopped old new text (Stream fault) = (2 ^ 64 < length text) × (fault ≡ too_many (chunk_limit - 1))
 WhyStopped old new text Read = HasRisen old.read_failed new.read_failed
 WhyStopped old new text Write = HasRisen old.write_failed new.write_failed
 WhyStopped old new text ReadNeverEnds = 2 ^ 63 ≤ length text

@@ -1,10 +1,10 @@
 -- What a sealer was fed, and what of its blocks was written. What only the private parts of the engines cite.
-use Rattle.std.specs.Prelude.{◌≡◌, ℕ, ◌+◌, ◌*◌, ◌^◌, ◌<◌, ◌≤◌, List, [], ◌++◌, length, Option, Result, MatchResult, false}
+use Rattle.std.specs.Prelude.{◌≡◌, ℕ, ◌+◌, ◌-◌, ◌*◌, ◌^◌, ◌<◌, ◌≤◌, List, [], ◌++◌, length, Option, Result, MatchResult, false}
 use Rattle.std.specs.Io.KnownBytes.{Consumes, Appends, IsAtEnd}
-use Rattle.age_stream.specs.Sealing.{SealerView, Holds}
+use Rattle.age_stream.specs.Nonce.{chunk_limit}
+use Rattle.age_stream.specs.Sealing.{SealerView, Holds, too_many}
 use Rattle.age_stream.specs.Payload.{sealed_before_last, block_bytes, payload}
 use Rattle.age_stream.specs.Headline.{IsPrefixOf}
-use Rattle.age_stream.specs.declared.fault.StreamKind.TheVariants.{TooManyChunks}
 use Rattle.age_file.specs.Faults.{HasRisen}
 use Rattle.age_file.specs.Ports.{Ports, NoneFailed}
 use Rattle.age_file.specs.declared.fault.FileFault.{FileFault}
@@ -35,7 +35,7 @@ pub record IsFeeding {B : Type 0} (s : SealerView B) : Type 0 where
 
 -- what the sealer holds and the piece are more than 2^48 chunks
 abbrev pub IsTooLong : {B : Type 0} → ℕ → SealerView B → List ℕ → Type 0
-IsTooLong n old piece = (text : List ℕ) → Holds n old text → 281474976710656 * n < length (text ++ piece)
+IsTooLong n old piece = (text : List ℕ) → Holds n old text → chunk_limit * n < length (text ++ piece)
 
 module _ {B : Type 0} (sealing : B → List ℕ → List ℕ → List ℕ) (n : ℕ) where
   -- what was written and is still to be written fits its count: the blocks of a text that isn't too long, and something before them
@@ -52,7 +52,7 @@ module _ {B : Type 0} (sealing : B → List ℕ → List ℕ → List ℕ) (n : 
     pub holds : (text : List ℕ) → Holds n old text → Holds n new (text ++ fed)
 
   abbrev pub SealFails : SealerView B → Tally → Tally → List ℕ → FileFault → Type 0
-  SealFails old was now piece (Stream fault) = IsTooLong n old piece × (fault.kind ≡ TooManyChunks)
+  SealFails old was now piece (Stream fault) = IsTooLong n old piece × (fault ≡ too_many (chunk_limit - 1))
   SealFails old was now piece Write = HasRisen was.failures now.failures
   SealFails old was now piece other = ⊥
 
@@ -103,7 +103,7 @@ pub record ReadsWrites (old new : Ports) (written_old written_new : ℕ) (text o
 
 -- why a source wasn't sealed to its end
 abbrev pub SealingFails : ℕ → Ports → Ports → List ℕ → FileFault → Type 0
-SealingFails n old new text (Stream fault) = (281474976710656 * n < length text) × (fault.kind ≡ TooManyChunks)
+SealingFails n old new text (Stream fault) = (chunk_limit * n < length text) × (fault ≡ too_many (chunk_limit - 1))
 SealingFails n old new text Read = HasRisen old.read_failed new.read_failed
 SealingFails n old new text Write = HasRisen old.write_failed new.write_failed
 SealingFails n old new text ReadNeverEnds = 2 ^ 63 ≤ length text
