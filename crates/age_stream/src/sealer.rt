@@ -1,5 +1,5 @@
 //! The writer's side: text in, sealed chunks out.
-ghost use Rattle.std.specs.Prelude.{◌≡◌, ℕ, ◌+◌, ◌-◌, ◌<◌, ◌≤◌, List, [], ◌++◌, length, take, IfOk, OnOk, OnErr, IfErr, Some, None, IsNone, true, false, if◌then◌else◌};
+ghost use Rattle.std.specs.Prelude.{◌≡◌, ℕ, ◌+◌, ◌-◌, ◌<◌, ◌≤◌, List, [], ◌++◌, length, take, IfOk, OnOk, OnErr, IfErr, IfSome, Some, None, IsNone, true, false, if◌then◌else◌};
 ghost use Rattle.std.specs.Borrow.{sem};
 ghost use Rattle.std.specs.Io.BufRead.{Rests};
 ghost use Rattle.age_stream.specs.Nonce.{nonce_bytes, chunk_limit};
@@ -63,6 +63,7 @@ impl<'k, B: ChunkBox, const SEALED: usize> SealerState<'k, B, SEALED> {
         ensures ok { IfOk result (λ s.
             IsStep B.sealing (SEALED - 16) (sealer_view self.old) piece.now s.0
             (if s.1 then Some self.new.buffer.items else None) (sealer_view self.new)) }
+        ensures whole { IfOk result (λ s. s.1 ≡ true → length self.new.buffer.items ≡ SEALED) }
         ensures fits { IfOk result
             (λ _. needs_too_many (SEALED - 16) (sealer_view self.old) piece.now ≡ false) }
         ensures refused { OnErr result
@@ -108,6 +109,7 @@ impl<'k, B: ChunkBox, const SEALED: usize> SealerState<'k, B, SEALED> {
             (text ++ take s.0 piece.now))
             ≡ block_bytes (sealed_before_last (B.sealing self.old.key.now) (SEALED - 16) text)
             ++ lent_bytes (if s.1 then Some self.new.buffer.items else None)) }
+        ensures whole { IfOk result (λ s. s.1 ≡ true → length self.new.buffer.items ≡ SEALED) }
         ensures fits { IfOk result
             (λ _. needs_too_many (SEALED - 16) (sealer_view self.old) piece.now ≡ false) }
         ensures open { OnOk result (self.new.failed ≡ false) }
@@ -231,6 +233,7 @@ impl<'k, B: ChunkBox, const SEALED: usize> Sealer<'k, B, SEALED> {
             (text ++ take s.taken piece.now))
             ≡ block_bytes (sealed_before_last (B.sealing self.old.key) (SEALED - 16) text)
             ++ lent_bytes (lent s.chunk)) }
+        ensures whole { IfOk result (λ s. IfSome s.chunk (λ block. length block.now ≡ SEALED)) }
         ensures fits { IfOk result (λ _. needs_too_many (SEALED - 16) self.old piece.now ≡ false) }
         ensures refused { IfErr result
             (λ fault. (needs_too_many (SEALED - 16) self.old piece.now ≡ true)
