@@ -9,6 +9,7 @@ use Rattle.age_stanza.specs.declared.fault.HeadKind.{HeadKind}
 use Rattle.age_stanza.specs.declared.fault.HeadKind.TheVariants.{NotAge, Armored, BadStanzaLine, BadBody, BadEndLine, NoStanza, HeadTooLong, HeadCut, Memory}
 use Rattle.age_stanza.specs.Faults.{HasHeader, IsFault, memory_fault}
 use Rattle.age_stanza.proofs.AnyPieces.{more_fault}
+use Rattle.age_stream.specs.Headline.{IsPrefixOf}
 use Rattle.age_file.specs.Faults.{HasRisen, IsCut, IsHeadFault, IsSourcesFault, TellsFault, HeadFails, IsInHeader, fault_of, fault_by_kind}
 use Rattle.age_file.specs.declared.fault.FileFault.{FileFault}
 use Rattle.age_file.specs.declared.fault.FileFault.TheVariants.{Memory as FileMemory}
@@ -32,6 +33,10 @@ Appends-Keeps None b c x p q = tt
 Appends-Keeps (Some a) None c x p q = absurd p
 Appends-Keeps (Some a) (Some b) None x p q = absurd q
 Appends-Keeps (Some a) (Some b) (Some c) x p q = q ∙ p
+
+-- a beginning of a beginning
+pub prefix_trans : (x y z : List ℕ) → IsPrefixOf x y → IsPrefixOf y z → IsPrefixOf x z
+prefix_trans x y z p q = (p.0 ++ q.0, sym (append_assoc x p.0 q.0) ∙ (ap (λ (t : List ℕ). t ++ q.0) p.1 ∙ q.1))
 
 -- a count of failures that was raised
 pub risen : (old new : ℕ) → new ≡ min (old + 1) (2 ^ 64 - 1) → HasRisen old new

@@ -1,8 +1,7 @@
 -- What was copied, one step after another.
-use Rattle.std.proofs.Common.{append_assoc, replicate, ◌≡◌, ℕ, suc, ◌+◌, ◌*◌, ◌<◌, ◌≤◌, Err, List, [], ◌∷◌, ◌++◌, length, take, drop, refl, sym, ap, subst, ◌∙◌, arith, append-nil}
+use Rattle.std.proofs.Common.{append_assoc, ◌≡◌, ℕ, suc, ◌+◌, ◌*◌, ◌<◌, Err, List, [], ◌∷◌, ◌++◌, length, take, drop, sym, ap, subst, ◌∙◌, arith, append-nil}
 use Rattle.std.proofs.lemmas.List.{length-append, take_all, take-append-drop}
 use Rattle.std.proofs.Math.Seq.{drop-append_seam}
-use Rattle.std.proofs.Math.Nat.{mul-le-mul_right}
 use Rattle.std.specs.Simd.{first_chunks}
 use Rattle.std.specs.Io.KnownBytes.{Appends}
 use Rattle.age_stream.proofs.Chunks.{first_chunks-append, first_chunks_more}
@@ -16,7 +15,7 @@ use Rattle.age_file.specs.declared.fault.FileFault.{FileFault}
 use Rattle.age_file.specs.declared.fault.FileFault.TheVariants.{ShortText, Read, Write, ReadNeverEnds}
 use Rattle.age_file.proofs.Bytes.{Appends-then}
 use Rattle.age_file.proofs.MarkSteps.{chain_on}
-use Rattle.age_file.proofs.PassageSteps.{passes_then, dries_then}
+use Rattle.age_file.proofs.PassageSteps.{passes_then, dries_then, within}
 
 -- the chain over one chunk more
 pub chain_more : (n i : ℕ) (out chunk : List ℕ) → length out ≡ i * n → length chunk ≡ n
@@ -38,11 +37,6 @@ copy_fails x y z a b c p q Write f same g =
 copy_fails x y z a b c p q Read f same g = (dries_then x y z p q Read f g.0, g.1 ∙ same)
 copy_fails x y z a b c p q ReadNeverEnds f same g = (dries_then x y z p q ReadNeverEnds f g.0, g.1 ∙ same)
 copy_fails x y z a b c p q other f same g = absurd g
-
-within : (n chunks i : ℕ) (p q : List ℕ) → length p ≡ i * n → i < chunks → length q < n → length (p ++ q) < chunks * n
-within n chunks i p q size lt short =
-    let more : suc i * n ≤ chunks * n = mul-le-mul_right n lt in
-    omega (arith, more, size, short, length-append p q)
 
 -- whole chunks, and then one that was not copied
 pub chunk_failed : (n chunks i : ℕ) (x y z : Side) (a b c : Tally) (p : List ℕ) (fault : FileFault) → length p ≡ i * n → i < chunks → Passes x y p → Appends a.taken b.taken p
@@ -72,8 +66,3 @@ copy_dry x z a b p other g same = absurd g.why
 -- what was written whole
 pub all_out : (piece out cut : List ℕ) → piece ≡ out ++ cut → cut ≡ [] → out ≡ piece
 all_out piece out cut parts none = sym (parts ∙ ap (λ (xs : List ℕ). out ++ xs) none ∙ append-nil out)
-
--- the chain over no chunk
-pub no_chain : replicate 32 0 ≡ chain []
-unfolding chain
-no_chain = refl

@@ -29,9 +29,17 @@ use Rattle.std.specs.Io.KnownBytes.{Appends}
 use Rattle.age_file.specs.declared.start.Unlocked.{Unlocked}
 use Rattle.age_file.specs.declared.fault.FileFault.{FileFault}
 use Rattle.age_file.specs.declared.fault.FileFault.TheVariants.{Stream, Read, Write, ReadNeverEnds}
+use Rattle.age_file.proofs.Bytes.{prefix_trans}
+use Rattle.age_file.proofs.MarkSteps.{no_chain}
 
-pub prefix_trans : (x y z : List ℕ) → IsPrefixOf x y → IsPrefixOf y z → IsPrefixOf x z
-prefix_trans x y z p q = (p.0 ++ q.0, sym (append_assoc x p.0 q.0) ∙ (ap (λ (t : List ℕ). t ++ q.0) p.1 ∙ q.1))
+-- the tag of a position, over its own fields
+pub own_tag : (key tag : List ℕ) (index own_index : ℕ) (id own_id links own_links : List ℕ) → own_index ≡ index → own_id ≡ id → own_links ≡ links
+    → tag ≡ position_tag key index id links → tag ≡ position_tag key own_index own_id own_links
+own_tag key tag index own_index id own_id links own_links index_is id_is links_are is =
+    is
+    ∙ (ap (λ (k : ℕ). position_tag key k id links) (sym index_is)
+    ∙ (ap (λ (k : List ℕ). position_tag key own_index k links) (sym id_is)
+    ∙ ap (λ (k : List ℕ). position_tag key own_index own_id k) (sym links_are)))
 
 -- the text of a run, where what opens is the writer's
 released_run : (r : Run) (text : List ℕ) → IsAuthenticRun r text → IsPrefixOf (text_of r) text × ((outcome (unbox r.key r.nonce) 65536 (segment_of r)).status ≡ Done → text_of r ≡ text)
@@ -62,12 +70,9 @@ position_is r unlocked progress p key nonce id begins m index file chain_same ta
       index = least;
       file_id_is = file ∙ id;
       chain_is = over;
-      tag_is = tag
-          ∙ (ap (λ (k : List ℕ). position_tag (position_key k unlocked.nonce) progress.index unlocked.id progress.chain) (sym key)
-          ∙ (ap (λ (k : List ℕ). position_tag (position_key r.key k) progress.index unlocked.id progress.chain) (sym nonce)
-          ∙ (ap (λ (k : ℕ). position_tag (position_key r.key r.nonce) k unlocked.id progress.chain) (sym index)
-          ∙ (ap (λ (k : List ℕ). position_tag (position_key r.key r.nonce) p.index k progress.chain) (sym file)
-          ∙ ap (λ (k : List ℕ). position_tag (position_key r.key r.nonce) p.index p.file_id k) (sym chain_same)))));
+      tag_is = own_tag (position_key unlocked.key unlocked.nonce) p.tag progress.index p.index unlocked.id p.file_id progress.chain p.chain index file chain_same tag
+          ∙ (ap (λ (k : List ℕ). position_tag (position_key k unlocked.nonce) p.index p.file_id p.chain) (sym key)
+          ∙ ap (λ (k : List ℕ). position_tag (position_key r.key k) p.index p.file_id p.chain) (sym nonce));
       carries = λ text auth.
           let rest = writes_of r begins text auth in
           let positive : 0 < 65536 = omega arith in
@@ -77,10 +82,6 @@ position_is r unlocked progress p key nonce id begins m index file chain_same ta
             over ∙ (sym (ap chain (first_chunks-append 65536 p.index r.out rest.0 within)) ∙ ap (λ (t : List ℕ). chain (first_chunks 65536 p.index t)) rest.1),
           );
     }
-
-no_chain : replicate 32 0 ≡ chain (first_chunks 65536 0 [])
-unfolding chain
-no_chain = refl
 
 module _ (Allows : Header → List ℕ → Type 0) (Refused : Header → KeyFault → Type 0) where
   abbrev pub before : Option (List ℕ) → ℕ → Stage → Ports

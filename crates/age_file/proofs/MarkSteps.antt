@@ -48,6 +48,11 @@ pub chain_on : (chunks : List (List ℕ)) (chunk : List ℕ) → chain (chunks +
 unfolding chain
 chain_on chunks chunk = fold-append link (replicate 32 0) chunks (chunk ∷ [])
 
+-- the chain over no chunk
+pub no_chain : replicate 32 0 ≡ chain []
+unfolding chain
+no_chain = refl
+
 module _ (sealing : List ℕ → List ℕ → List ℕ) (opening : List ℕ → List ℕ → Option (List ℕ)) (lawful : IsLawful sealing opening) (n : ℕ) (positive : 0 < n) where
   abbrev at : Segment → ℕ
   at s = (outcome opening n s).index

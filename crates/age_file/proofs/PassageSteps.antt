@@ -35,7 +35,8 @@ dries_then x y z p q fault f g = record {
 pub dries_same : (x y z : Side) (p : List ℕ) (fault : FileFault) → Passes x y p → Dries y z [] fault → Dries x z p fault
 dries_same x y z p fault f g = subst (λ (t : List ℕ). Dries x z t fault) (append-nil p) (dries_then x y z p [] fault f g)
 
-within : (n blocks j : ℕ) (p q : List ℕ) → length p ≡ j * n → j < blocks → length q < n → length (p ++ q) < blocks * n
+-- whole parts before the last, and less than one more
+pub within : (n blocks j : ℕ) (p q : List ℕ) → length p ≡ j * n → j < blocks → length q < n → length (p ++ q) < blocks * n
 within n blocks j p q size lt short =
     let more : suc j * n ≤ blocks * n = mul-le-mul_right n lt in
     omega (arith, more, size, short, length-append p q)

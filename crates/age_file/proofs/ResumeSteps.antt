@@ -34,8 +34,8 @@ use Rattle.age_file.specs.declared.fault.FileFault.TheVariants.{Stream, OtherFil
 use Rattle.age_file.specs.declared.position.Position.{Position}
 use Rattle.age_file.specs.declared.progress.Progress.{Progress}
 use Rattle.age_file.specs.declared.start.Unlocked.{Unlocked}
-use Rattle.age_file.proofs.Bytes.{Appends-then}
-use Rattle.age_file.proofs.DecryptSteps.{prefix_trans}
+use Rattle.age_file.proofs.Bytes.{Appends-then, prefix_trans}
+use Rattle.age_file.proofs.DecryptSteps.{own_tag}
 
 -- ---- the old text
 
@@ -355,14 +355,6 @@ module _ (Allows : Header → List ℕ → Type 0) (Refused : Header → KeyFaul
         chain_is : next.chain ≡ now.chain
         tag_is : next.tag ≡ position_tag (position_key unlocked.key unlocked.nonce) now.index unlocked.id now.chain
 
-      -- its tag is over its own fields
-      own_tag : (now : Progress) (next : Position) → IsHere now next → next.tag ≡ position_tag (position_key unlocked.key unlocked.nonce) next.index next.file_id next.chain
-      own_tag now next h =
-          h.tag_is
-          ∙ (ap (λ (k : ℕ). position_tag (position_key unlocked.key unlocked.nonce) k unlocked.id now.chain) (sym h.index)
-          ∙ (ap (λ (k : List ℕ). position_tag (position_key unlocked.key unlocked.nonce) next.index k now.chain) (sym h.file_id_is)
-          ∙ ap (λ (k : List ℕ). position_tag (position_key unlocked.key unlocked.nonce) next.index next.file_id k) (sym h.chain_is)))
-
       next_position : (s2 : Stage) (result : Result (Unit {0}) FileFault) (next : Position) (b : IsPoured s2 result) → IsHere s2.tally.progress next → IsNextPosition p b.run next
       next_position s2 result next b h =
           let text = b.run.copied ++ b.run.out in
@@ -372,7 +364,8 @@ module _ (Allows : Header → List ℕ → Type 0) (Refused : Header → KeyFaul
             index = least;
             own = h.file_id_is ∙ (s.id ∙ ap (λ (f : OpenedFile). file_id f.front f.nonce) (sym b.file_is));
             chain_is = over;
-            tagged = own_tag s2.tally.progress next h ∙ ap (λ (f : OpenedFile). position_tag (position_key f.key f.nonce) next.index next.file_id next.chain) (sym b.file_is);
+            tagged = own_tag (position_key unlocked.key unlocked.nonce) next.tag s2.tally.progress.index next.index unlocked.id next.file_id s2.tally.progress.chain next.chain h.index h.file_id_is h.chain_is h.tag_is
+                ∙ ap (λ (f : OpenedFile). position_tag (position_key f.key f.nonce) next.index next.file_id next.chain) (sym b.file_is);
             carries = λ whole auth.
                 let rest = resumes_of p b.run limit b.is.prefix whole auth in
                 let positive : 0 < 65536 = omega arith in
@@ -423,10 +416,9 @@ module _ (Allows : Header → List ℕ → Type 0) (Refused : Header → KeyFaul
             index = index;
             file_id_is = id;
             chain_is = links;
-            tag_is = own_tag s2.tally.progress next h
-                ∙ (ap (λ (k : ℕ). position_tag (position_key unlocked.key unlocked.nonce) k next.file_id next.chain) index
-                ∙ (ap (λ (k : List ℕ). position_tag (position_key unlocked.key unlocked.nonce) p.index k next.chain) id
-                ∙ (ap (λ (k : List ℕ). position_tag (position_key unlocked.key unlocked.nonce) p.index p.file_id k) links ∙ sym v.1)));
+            tag_is = own_tag (position_key unlocked.key unlocked.nonce) next.tag s2.tally.progress.index p.index unlocked.id p.file_id s2.tally.progress.chain p.chain
+                (sym index ∙ h.index) (sym id ∙ h.file_id_is) (sym links ∙ h.chain_is) h.tag_is
+                ∙ sym v.1;
           }
 
       pub resume_fails : (key : List ℕ) (s2 : Stage) (next : Position) (fault : FileFault) → key ≡ payload_key unlocked.key unlocked.nonce

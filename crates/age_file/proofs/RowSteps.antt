@@ -10,7 +10,8 @@ use Rattle.age_file.specs.Decrypts.{Run}
 use Rattle.age_file.specs.Resumes.{IsAuthenticResumption, IsOldText, IsSame}
 use Rattle.age_file.specs.Rows.{Rerun, output, FollowsOn, AreInARow, WritesRight}
 use Rattle.age_file.specs.declared.position.Position.{Position}
-use Rattle.age_file.proofs.DecryptSteps.{prefix_trans, writes_of, writes_all}
+use Rattle.age_file.proofs.Bytes.{prefix_trans}
+use Rattle.age_file.proofs.DecryptSteps.{writes_of, writes_all}
 use Rattle.age_file.proofs.ResumeSteps.{resumes_of, resumes_all}
 
 few_chunks : (text : List ℕ) (first : Run) (runs : List Rerun) → AreInARow text first runs → chunk_count 65536 text ≤ 281474976710656

@@ -1,12 +1,12 @@
 -- One feed of a sealer, and what then was written.
-use Rattle.std.proofs.Common.{◌≡◌, ℕ, suc, ◌+◌, ◌-◌, ◌*◌, ◌^◌, ◌<◌, ◌≤◌, refl, sym, ap, subst, ◌∙◌, List, [], ◌∷◌, ◌++◌, length, take, drop, Option, append-nil, append_assoc, take-append-drop, take-add, Bool, false, true, arith}
+use Rattle.std.proofs.Common.{◌≡◌, ℕ, suc, ◌+◌, ◌-◌, ◌*◌, ◌^◌, ◌<◌, ◌≤◌, sym, ap, subst, ◌∙◌, List, [], ◌∷◌, ◌++◌, length, take, drop, Option, append-nil, append_assoc, take-append-drop, take-add, Bool, false, true, arith}
 use Rattle.std.specs.Prelude.{nat_lt, ◌==◌, ◌&&◌, ◌||◌, map}
 use Rattle.std.specs.List.{enumerate_from, AllByRecursion}
 use Rattle.std.specs.Simd.{first_chunks}
 use Rattle.std.proofs.Math.Nat.{div-le_self}
 use Rattle.std.proofs.lemmas.Nat.{mul-le}
 use Rattle.std.specs.Borrow.{Bor}
-use Rattle.std.proofs.lemmas.Bool.{ltb-true, eqb-true}
+use Rattle.std.proofs.lemmas.Bool.{ltb-true, eqb-true, and_parts}
 use Rattle.std.proofs.lemmas.Bool.Decides.{nat_tests}
 use Rattle.std.proofs.lemmas.List.{length-take, length-append, length-drop, take_rest, take_at}
 use Rattle.age_stream.specs.Lawful.{IsLawful}
@@ -30,15 +30,11 @@ step_len_le m held piece = grind (arith, nat_tests)
 pub step_len_some : (m : ℕ) (held piece : List ℕ) → 0 < length piece → 0 < step_len m held piece
 step_len_some m held piece h = grind (arith, nat_tests, h)
 
-both : (a b : Bool) → (a && b) ≡ true → (a ≡ true) × (b ≡ true)
-both true b e = (refl, e)
-both false b e = cc
-
 -- a sealer that was never refused is refused only where all 2^48 chunks are full and more comes
 pub too_long : {B : Type 0} (n : ℕ) (s : SealerView B) (piece : List ℕ) → 0 < n → s.failed ≡ false → needs_too_many n s piece ≡ true → IsTooLong n s piece
 too_long n s piece positive sound refused text holds =
-    let tests = both (nat_lt 0 (length piece)) (length s.held == n && s.index == 281474976710655) (ap (λ (b : Bool). b || (nat_lt 0 (length piece) && (length s.held == n && s.index == 281474976710655))) (sym sound) ∙ refused) in
-    let full = both (length s.held == n) (s.index == 281474976710655) tests.1 in
+    let tests = and_parts (nat_lt 0 (length piece)) (length s.held == n && s.index == 281474976710655) (ap (λ (b : Bool). b || (nat_lt 0 (length piece) && (length s.held == n && s.index == 281474976710655))) (sym sound) ∙ refused) in
+    let full = and_parts (length s.held == n) (s.index == 281474976710655) tests.1 in
     let more : 0 < length piece = ltb-true 0 (length piece) tests.0 in
     let held : length s.held ≡ n = eqb-true (length s.held) n full.0 in
     let index : last_index n text ≡ 281474976710655 = sym holds.index ∙ eqb-true s.index 281474976710655 full.1 in

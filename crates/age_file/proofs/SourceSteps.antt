@@ -15,7 +15,7 @@ use Rattle.age_file.specs.Ports.{Ports}
 use Rattle.age_file.specs.Seals.{front_of, SealsSome, GoesOn, SealFails, SealingFails, Tally, Wrote}
 use Rattle.age_file.specs.declared.fault.FileFault.{FileFault}
 use Rattle.age_file.specs.declared.fault.FileFault.TheVariants.{Head, Key, NonceCut, Stream, BadPosition, OtherFile, ShortText, Read, Write, Memory, ReadNeverEnds, PositionForged, OldTextDiffers}
-use Rattle.age_file.proofs.Bytes.{Appends-then}
+use Rattle.age_file.proofs.Bytes.{Appends-then, prefix_trans}
 use Rattle.age_file.proofs.SealSteps.{goes_then}
 
 -- the blocks before the last begin the payload
@@ -24,9 +24,6 @@ front_begins sealing n text = (
   block_bytes (pair sealing true (last_index n text, last_chunk n text) ∷ []),
   sym (flat_map-append (λ (p : List ℕ × List ℕ). p.1) (sealed_before_last sealing n text) (pair sealing true (last_index n text, last_chunk n text) ∷ [])),
 )
-
-prefix_trans : (a b c : List ℕ) → IsPrefixOf a b → IsPrefixOf b c → IsPrefixOf a c
-prefix_trans a b c p q = (p.0 ++ q.0, sym (append_assoc a p.0 q.0) ∙ (ap (λ (t : List ℕ). t ++ q.0) p.1 ∙ q.1))
 
 zero_div : (n : ℕ) → 0 < n → 0 / n ≡ 0
 zero_div n positive = omega arith

@@ -113,10 +113,9 @@ pub fn decrypt<U: Unlock, S: Source, O: Sink>(
         Ok(()) => Ok(Done {
             written: progress.written,
         }),
-        Err(fault) => Err(Stopped {
-            fault,
-            written: progress.written,
-            position: Some(position_of(&unlocked, &progress)),
-        }),
+        Err(fault) => {
+            let next = position_of(&unlocked, &progress);
+            Err(Stopped::behind(fault, &progress, Some(next)))
+        }
     }
 }

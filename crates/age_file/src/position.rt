@@ -1,12 +1,16 @@
 //! Positions in a payload, at which a reader goes on after a stop.
 
-ghost use Rattle.std.specs.Prelude.{◌≡◌, ◌<◌};
+ghost use Rattle.std.specs.Prelude.{◌≡◌, ◌<◌, ◌++◌, length, map, codes};
+ghost use Rattle.std.specs.List.{concat};
 ghost use Rattle.age_stanza.specs.Text.{text};
 ghost use Rattle.age_file.specs.Bindings.{link, file_id, position_tag};
 
 use base64::engine::general_purpose::STANDARD_NO_PAD;
 use itoa::Buffer;
 use sha2::{Digest, Sha256};
+
+/// What every position's text begins with.
+pub(crate) const VERSION: &[u8; 16] = b"age-position/v2 ";
 
 /// A place in a payload at which a reader goes on after a stop, bound to the file and to the text before it. It is no
 /// part of the age format.
@@ -36,6 +40,19 @@ pub(crate) fn spelled(bytes: &[u8; 32]) -> [u8; 43]
     text
 }
 
+/// The parts of a position's text up to its tag, from the texts of its index, its file id and its chain.
+pub(crate) fn front_parts<'a>(
+    index: &'a [u8],
+    id: &'a [u8; 43],
+    links: &'a [u8; 43],
+) -> [&'a [u8]; 7]
+    ensures size { length result ≡ 7 }
+    ensures joined { concat (map (λ part. part.now) result)
+        ≡ codes "age-position/v2 " ++ index.now ++ codes " " ++ id.now ++ codes " " ++ links.now ++ codes " " }
+{
+    [VERSION, index, b" ", id, b" ", links, b" "]
+}
+
 /// The tag of a position under a position key.
 #[tactic(auto, unfolding(crate::specs::Bindings::position_tag, crate::specs::Bindings::position_front))]
 pub(crate) fn tag_of(key: &[u8; 32], index: u64, file_id: &[u8; 32], chain: &[u8; 32]) -> [u8; 32]
@@ -44,10 +61,7 @@ pub(crate) fn tag_of(key: &[u8; 32], index: u64, file_id: &[u8; 32], chain: &[u8
     let mut digits = Buffer::new();
     let index = digits.format(index).as_bytes();
     let (id, links) = (spelled(file_id), spelled(chain));
-    age_kdf::hmac(
-        key,
-        &[b"age-position/v2 ", index, b" ", &id, b" ", &links, b" "],
-    )
+    age_kdf::hmac(key, &front_parts(index, &id, &links))
 }
 
 /// The next link of a chain, over one more chunk.

@@ -5,14 +5,11 @@ ghost use Rattle.age_file.specs.PositionTexts.{position_text, NoPosition, IsDige
 ghost use Rattle.age_file.specs.declared.fault.FileFault.TheVariants.{BadPosition, Memory};
 
 use crate::fault::FileFault;
-use crate::position::{Position, spelled};
+use crate::position::{Position, VERSION, front_parts, spelled};
 use base64::engine::general_purpose::STANDARD_NO_PAD;
 use itoa::Buffer;
 use std::alloc::{AllocError, Global};
 use std::str::from_utf8;
-
-/// What every position's text begins with.
-const VERSION: &[u8; 16] = b"age-position/v2 ";
 
 /// No index is so great.
 const INDEXES: u64 = 281_474_976_710_656;
@@ -25,13 +22,12 @@ fn text_of(alloc: Global, position: &Position) -> Result<Vec<u8>, AllocError>
     ensures { IfOk result (λ text. text.items ≡ position_text position.now) }
 {
     let mut digits = Buffer::new();
-    let mut text = VERSION.to_vec(alloc)?;
-    text.extend_from_slice(digits.format(position.index).as_bytes())?;
-    text.extend_from_slice(b" ")?;
-    text.extend_from_slice(&spelled(&position.file_id))?;
-    text.extend_from_slice(b" ")?;
-    text.extend_from_slice(&spelled(&position.chain))?;
-    text.extend_from_slice(b" ")?;
+    let index = digits.format(position.index).as_bytes();
+    let (id, links) = (spelled(&position.file_id), spelled(&position.chain));
+    let mut text = Vec::new(alloc);
+    for part in &front_parts(index, &id, &links) {
+        text.extend_from_slice(*part)?;
+    }
     text.extend_from_slice(&spelled(&position.tag))?;
     text.extend_from_slice(b"\n")?;
     Ok(text)

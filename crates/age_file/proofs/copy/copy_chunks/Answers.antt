@@ -7,7 +7,8 @@ use Rattle.age_file.specs.Passages.{side}
 use Rattle.age_file.specs.Releases.{tally}
 use Rattle.age_file.proofs.Bytes.{Appends-then}
 use Rattle.age_file.proofs.PassageSteps.{passes_then}
-use Rattle.age_file.proofs.CopySteps.{chain_more, chunk_failed, no_chain}
+use Rattle.age_file.proofs.CopySteps.{chain_more, chunk_failed}
+use Rattle.age_file.proofs.MarkSteps.{no_chain}
 use Rattle.std.proofs.KnownBytes.{Appends-nil}
 use Rattle.age_file.proofs.copy.copy_chunks.Goals as goal
 

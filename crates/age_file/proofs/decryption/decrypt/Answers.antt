@@ -36,12 +36,12 @@ returns-clause-stopped g c =
     let Refused = g.U.Unlock.refuses c.args.unlock.now in
     let ran = poured Allows Refused (g.S.Source.remaining c.args.reader.now) (g.S.Source.failed c.args.reader.now) c.in-Ok-start.unlocked c.payload_key-key.result old new _
     c.new-progress.ensures.written c.new-progress.ensures.index c.new-progress.ensures.chain c.payload_key-key.ensures c.in-Ok-start.ensures.found c.in-Err-pour.ensures in
-    let at = c.position_of.ensures in
-    decrypt_fails Allows Refused (g.S.Source.remaining c.args.reader.now) (g.S.Source.failed c.args.reader.now) c.in-Ok-start.unlocked old new c.in-Err-pour.fault c.position_of.result c.in-Ok-start.ensures.unfailed ran at.index at.file_id at.chain at.tag
+    let at = c.position_of-next.ensures in
+    rw c.behind.ensures (decrypt_fails Allows Refused (g.S.Source.remaining c.args.reader.now) (g.S.Source.failed c.args.reader.now) c.in-Ok-start.unlocked old new c.in-Err-pour.fault c.position_of-next.result c.in-Ok-start.ensures.unfailed ran at.index at.file_id at.chain at.tag)
 
 pub returns-clause-undamaged : goal.returns-clause-undamaged
 returns-clause-undamaged g c = λ text whole.
     let old = ports (g.S.Source.remaining c.args.reader.now) (g.S.Source.failed c.args.reader.now) (g.O.Sink.taken c.args.writer.now) (g.O.Sink.failed c.args.writer.now) in
     let new = ports (g.S.Source.remaining c.pour.new.source) (g.S.Source.failed c.pour.new.source) (g.O.Sink.taken c.pour.new.sink) (g.O.Sink.failed c.pour.new.sink) in
-    let stopped = returns-clause-stopped g c in
-    undamaged c.one_header.ensures (g.U.Unlock.allows c.args.unlock.now) (g.U.Unlock.refuses c.args.unlock.now) old new c.pour.new.progress.written (Some c.position_of.result) c.in-Err-pour.fault text whole stopped
+    let stopped = rw c.behind.ensures at (returns-clause-stopped g c) in
+    rw c.behind.ensures (undamaged c.one_header.ensures (g.U.Unlock.allows c.args.unlock.now) (g.U.Unlock.refuses c.args.unlock.now) old new c.pour.new.progress.written (Some c.position_of-next.result) c.in-Err-pour.fault text whole stopped)
