@@ -1,5 +1,5 @@
 -- Runs in a row, by the number of runs.
-use Rattle.std.proofs.Common.{inl, inr, ◌≡◌, ℕ, ◌*◌, ◌≤◌, List, [], ◌∷◌, length, take, sym, ap, ◌∙◌, arith}
+use Rattle.std.proofs.Common.{inl, inr, ◌≡◌, ℕ, ◌*◌, ◌≤◌, List, [], ◌∷◌, ◌++◌, length, take, sym, ap, ◌∙◌, arith}
 use Rattle.std.proofs.lemmas.List.{length-append, take_at}
 use Rattle.std.specs.Simd.{first_chunks}
 use Rattle.age_stream.specs.Headline.{IsPrefixOf}
@@ -39,17 +39,22 @@ same_carries p q copied text o c s =
     )
 
 pub in_a_row : (text : List ℕ) (first : Run) (runs : List Rerun) → AreInARow text first runs → WritesRight text first runs
-in_a_row text first [] a = record {
-  prefix = writes_of first a.1 text a.0;
-  all = λ e. writes_all first e.0 e.1 text a.0;
-  carries = λ p h. h.carries text a.0;
-}
+in_a_row text first [] a =
+    let begins = writes_of first a.1 text a.0 in
+    record {
+      prefix = begins;
+      in_copy = λ copied front. prefix_trans copied first.out text front begins;
+      all = λ e. writes_all first e.0 e.1 text a.0;
+      carries = λ p h. h.carries text a.0;
+    }
 in_a_row text first (r ∷ earlier) a =
     let before = in_a_row text first earlier a.1 in
     let begins = prefix_trans r.run.copied (output first earlier) text a.0.old before.prefix in
     let auth = authentic_of text first earlier r (few_chunks text first earlier a.1) a.0 begins in
+    let whole = resumes_of r.position r.run r.position.within a.0.prefix text auth in
     record {
-      prefix = resumes_of r.position r.run r.position.within a.0.prefix text auth;
+      prefix = whole;
+      in_copy = λ copied front. prefix_trans copied (r.run.copied ++ r.run.out) text front whole;
       all = λ e. resumes_all r.position r.run r.position.within e.0 e.1 text auth;
       carries = λ q h. elim h [
         | inl next ↦ next.carries text auth

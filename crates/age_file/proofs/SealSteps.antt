@@ -12,8 +12,7 @@ use Rattle.std.proofs.lemmas.List.{length-take, length-append, length-drop, take
 use Rattle.age_stream.specs.Lawful.{IsLawful}
 use Rattle.age_stream.specs.Nonce.{nonce_bytes, chunk_limit}
 use Rattle.age_stream.specs.Payload.{last_index, pair, block_bytes}
-use Rattle.age_stream.specs.Sealing.{SealerView, Holds, step_len, needs_too_many, too_many, lent, lent_bytes}
-use Rattle.age_stream.specs.declared.fault.StreamFault.{StreamFault}
+use Rattle.age_stream.specs.Sealing.{SealerView, Holds, step_len, needs_too_many, lent, lent_bytes}
 use Rattle.age_stream.proofs.Chunks.{length-first_chunks}
 use Rattle.age_stream.proofs.Nonces.{nonce_bytes-length}
 use Rattle.age_stream.proofs.Sealings.{last_index_le}
@@ -30,26 +29,25 @@ step_len_le m held piece = grind (arith, nat_tests)
 pub step_len_some : (m : ℕ) (held piece : List ℕ) → 0 < length piece → 0 < step_len m held piece
 step_len_some m held piece h = grind (arith, nat_tests, h)
 
--- a sealer that was never refused is refused only where all 2^48 chunks are full and more comes
-pub too_long : {B : Type 0} (n : ℕ) (s : SealerView B) (piece : List ℕ) → 0 < n → s.failed ≡ false → needs_too_many n s piece ≡ true → IsTooLong n s piece
-too_long n s piece positive sound refused text holds =
+-- a sealer that was never refused is refused only at the last chunk that a payload may have, where it is full and more comes
+pub record IsAtLimit {B : Type 0} (n : ℕ) (s : SealerView B) (piece : List ℕ) : Type 0 where
+  pub more : 0 < length piece
+  pub full : length s.held ≡ n
+  pub index : s.index ≡ chunk_limit - 1
+
+pub at_limit : {B : Type 0} (n : ℕ) (s : SealerView B) (piece : List ℕ) → s.failed ≡ false → needs_too_many n s piece ≡ true → IsAtLimit n s piece
+at_limit n s piece sound refused =
     let tests = and_parts (nat_lt 0 (length piece)) (length s.held == n && s.index == 281474976710655) (ap (λ (b : Bool). b || (nat_lt 0 (length piece) && (length s.held == n && s.index == 281474976710655))) (sym sound) ∙ refused) in
     let full = and_parts (length s.held == n) (s.index == 281474976710655) tests.1 in
-    let more : 0 < length piece = ltb-true 0 (length piece) tests.0 in
-    let held : length s.held ≡ n = eqb-true (length s.held) n full.0 in
-    let index : last_index n text ≡ 281474976710655 = sym holds.index ∙ eqb-true s.index 281474976710655 full.1 in
+    record { more = ltb-true 0 (length piece) tests.0; full = eqb-true (length s.held) n full.0; index = eqb-true s.index 281474976710655 full.1 }
+
+pub too_long : {B : Type 0} (n : ℕ) (s : SealerView B) (piece : List ℕ) → 0 < n → IsAtLimit n s piece → IsTooLong n s piece
+too_long n s piece positive limit text holds =
+    let index : last_index n text ≡ 281474976710655 = sym holds.index ∙ limit.index in
     let tail : length s.held ≡ length text - last_index n text * n = ap length holds.held ∙ length-drop (last_index n text * n) text in
     let before : 281474976710655 * n ≤ length text - 1 = subst (λ (k : ℕ). k * n ≤ length text - 1) index (last_index_le n text) in
-    let exact : length text - 281474976710655 * n ≡ n = sym (tail ∙ ap (λ (k : ℕ). length text - k * n) index) ∙ held in
-    omega (arith, more, before, exact, positive, length-append text piece)
-
--- and then its fault is at the last chunk that a payload may have
-pub at_the_limit : {B : Type 0} (n : ℕ) (s : SealerView B) (piece : List ℕ) (fault : StreamFault) → s.failed ≡ false → needs_too_many n s piece ≡ true → fault ≡ too_many s.index
-    → fault ≡ too_many (chunk_limit - 1)
-at_the_limit n s piece fault sound refused is =
-    let tests = both (nat_lt 0 (length piece)) (length s.held == n && s.index == 281474976710655) (ap (λ (b : Bool). b || (nat_lt 0 (length piece) && (length s.held == n && s.index == 281474976710655))) (sym sound) ∙ refused) in
-    let full = both (length s.held == n) (s.index == 281474976710655) tests.1 in
-    is ∙ ap too_many (eqb-true s.index 281474976710655 full.1)
+    let exact : length text - 281474976710655 * n ≡ n = sym (tail ∙ ap (λ (k : ℕ). length text - k * n) index) ∙ limit.full in
+    omega (arith, limit.more, before, exact, positive, length-append text piece)
 
 -- the front of a piece that a sealer took, where what it lent was written but for a part that wasn't
 pub some_sealed : {B : Type 0} (sealing : B → List ℕ → List ℕ → List ℕ) (n : ℕ) (old new : SealerView B) (was now : Tally) (piece : List ℕ) (taken : ℕ) (chunk : Option (Bor (List ℕ))) (out cut : List ℕ)

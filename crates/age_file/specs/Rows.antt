@@ -45,10 +45,11 @@ abbrev pub AreInARow : List ℕ → Run → List Rerun → Type 0
 AreInARow text first [] = IsAuthenticRun first text × IsPrefixOf first.out (text_of first)
 AreInARow text first (r ∷ earlier) = FollowsOn text first earlier r × AreInARow text first earlier
 
--- then what the last one wrote begins the text, and is all of it where it ended; and a position that it handed out carries
--- the chain over the text's first chunks
+-- then what the last one wrote begins the text, and is all of it where it ended; so does what one more run wrote that stopped
+-- while it copied that output; and a position that the last one handed out carries the chain over the text's first chunks
 pub record WritesRight (text : List ℕ) (first : Run) (runs : List Rerun) : Type 0 where
   pub prefix : IsPrefixOf (output first runs) text
+  pub in_copy : (copied : List ℕ) → IsPrefixOf copied (output first runs) → IsPrefixOf copied text
   pub all : HasEnded first runs → output first runs ≡ text
   pub carries : (p : Position) → HandsOut first runs p → (p.index * 65536 ≤ length text) × (p.chain ≡ chain (first_chunks 65536 p.index text))
 

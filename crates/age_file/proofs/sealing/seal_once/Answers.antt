@@ -2,9 +2,9 @@ use Rattle.std.proofs.Common.{◌≡◌, ◌-◌, take, drop, sym, ap, ◌∙◌
 use Rattle.std.proofs.lemmas.Result.{err_from_is_err_and}
 use Rattle.std.proofs.lemmas.List.{length-take}
 use Rattle.std.proofs.KnownBytes.{Appends-nil}
-use Rattle.age_stream.specs.Sealing.{lent, lent_bytes}
+use Rattle.age_stream.specs.Sealing.{lent, lent_bytes, too_many}
 use Rattle.age_file.specs.Seals.{front_of}
-use Rattle.age_file.proofs.SealSteps.{step_len_le, step_len_some, too_long, at_the_limit, some_sealed}
+use Rattle.age_file.proofs.SealSteps.{step_len_le, step_len_some, at_limit, too_long, some_sealed}
 use Rattle.age_file.proofs.sealing.seal_once.Goals as goal
 
 pub returns-in_err-step-clause-sealed : goal.returns-in_err-step-clause-sealed
@@ -13,6 +13,7 @@ returns-in_err-step-clause-sealed g c =
     let n = g.row.SEALED - 16 in
     let key = c.args.sealer.now.key in
     let refused = c.in_err-step.ensures.refused in
+    let limit = at_limit n c.args.sealer.now c.args.piece.now c.requires.feeding.sound refused.0 in
     record {
       fed = [];
       left = c.args.piece.now;
@@ -23,7 +24,7 @@ returns-in_err-step-clause-sealed g c =
         wrote = record { bytes = Appends-nil _; count = omega arith };
         blocks = λ text h. ap (front_of (g.B.ChunkBox.sealing key) n) (append-nil text) ∙ sym (append-nil (front_of (g.B.ChunkBox.sealing key) n text));
       };
-      answered = rw (p.1, p.2) (too_long n c.args.sealer.now c.args.piece.now (omega (arith, c.requires.least)) c.requires.feeding.sound refused.0, at_the_limit n c.args.sealer.now c.args.piece.now _ c.requires.feeding.sound refused.0 refused.1);
+      answered = rw (p.1, p.2) (too_long n c.args.sealer.now c.args.piece.now (omega (arith, c.requires.least)) limit, refused.1 ∙ ap too_many limit.index);
     }
 
 pub returns-in_ok-write_all-clause-sealed : goal.returns-in_ok-write_all-clause-sealed
