@@ -19,7 +19,7 @@ use crate::encryption::encrypt_file;
 use crate::ending::{Ending, Usage};
 use crate::files::FileSet;
 use crate::inspection::{report, report_file};
-use crate::print::put_bytes;
+use crate::print::{flush, put_bytes};
 use crate::reading::read_request;
 use crate::request::Request;
 use crate::resumption::resume_file;
@@ -43,10 +43,8 @@ fn answer_refusal<O: Sink>(alloc: Global, error: Error, output: &mut O) -> Resul
         return Err(Ending::Words(text));
     }
     put_bytes(output, text.as_bytes())?;
-    match output.flush() {
-        Ok(()) => Ok(()),
-        Err(_) => Err(Ending::Fault(FileFault::Write)),
-    }
+    flush(output)?;
+    Ok(())
 }
 
 /// Does what the words ask.
