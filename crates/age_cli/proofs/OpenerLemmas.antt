@@ -1,7 +1,7 @@
 -- From the options to what opens a file.
-use Rattle.std.proofs.Common.{◌∙◌, sym, subst, List, ℕ, Option}
-use Rattle.clap.specs.Words.{Text}
+use Rattle.std.proofs.Common.{◌∙◌, sym, subst, ℕ}
 use Rattle.age_keys.specs.Keys.{SpellsKey}
+use Rattle.age_cli.specs.Held.{Held}
 use Rattle.age_cli.specs.Requests.{text_of}
 use Rattle.age_cli.specs.Openers.{Opener, ByWords, ByKey, ByShared, IsOpener, IsSharedIn}
 use Rattle.age_cli.specs.OpenerSteps.{IsChosen, IsMaterial, IsMade}
@@ -11,7 +11,7 @@ use Rattle.age_cli.specs.declared.opener.Chosen.TheVariants as chosen
 use Rattle.age_cli.specs.declared.opener.Material.{Material}
 use Rattle.age_cli.specs.declared.opener.Material.TheVariants as material
 
-pub opener_made : (old : Text → Option (List ℕ)) (u : Unlocking) (c : Chosen) (m : Material) (max_log : ℕ) (o : Opener) → IsChosen u c → IsMaterial old c m → IsMade m max_log o
+pub opener_made : (old : Held) (u : Unlocking) (c : Chosen) (m : Material) (max_log : ℕ) (o : Opener) → IsChosen u c → IsMaterial old c m → IsMade m max_log o
     → IsOpener old (text_of u.pass) (text_of u.file_key) (text_of u.shared) max_log o
 opener_made old u (chosen.Pass name) (material.Pass bytes) max_log (ByWords words) ch held made = rw (ch.0, ch.1, ch.2) ((bytes.items, held, made.0), made.1)
 opener_made old u (chosen.Pass name) (material.Pass bytes) max_log (ByKey known) ch held made = absurd made

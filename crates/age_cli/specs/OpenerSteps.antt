@@ -1,7 +1,8 @@
 -- From the options to what opens a file, step by step. What only private code cites.
-use Rattle.std.specs.Prelude.{◌≡◌, ℕ, List, Option, Some, None}
+use Rattle.std.specs.Prelude.{◌≡◌, ℕ, Some, None}
 use Rattle.clap.specs.Words.{Text}
 use Rattle.age_keys.specs.Keys.{SpellsKey}
+use Rattle.age_cli.specs.Held.{Held}
 use Rattle.age_cli.specs.Requests.{text_of}
 use Rattle.age_cli.specs.Openers.{Opener, ByWords, ByKey, ByShared, without_line_feed, IsSharedIn}
 use Rattle.age_cli.specs.declared.request.Unlocking.{Unlocking}
@@ -23,7 +24,7 @@ IsChosen u (chosen.Shared name) = (text_of u.pass ≡ None) × (text_of u.file_k
     × (text_of u.shared ≡ Some name.now)
 
 -- this is what the file holds that the option names
-abbrev pub IsMaterial : (Text → Option (List ℕ)) → Chosen → Material → Type 0
+abbrev pub IsMaterial : Held → Chosen → Material → Type 0
 IsMaterial old (chosen.Pass name) (material.Pass bytes) = old name.now ≡ Some bytes.items
 IsMaterial old (chosen.Key key) (material.Key known) = known ≡ key
 IsMaterial old (chosen.Shared name) (material.Shared shared) = IsSharedIn (old name.now) shared

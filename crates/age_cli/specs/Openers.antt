@@ -6,6 +6,7 @@ use Rattle.age_keys.specs.declared.fault.KeyFault.{KeyFault}
 use Rattle.age_keys.specs.Keys.{SpellsKey}
 use Rattle.age_keys.specs.Passphrase.{Words, IsPassphraseKey, PassphraseRefuses}
 use Rattle.age_keys.specs.SharedSecret.{Shared, IsSharedKey, SharedRefuses}
+use Rattle.age_cli.specs.Held.{Held}
 use Rattle.age_cli.specs.Requests.{number_or}
 
 -- a passphrase with its limit, a file key, or a shared secret
@@ -42,8 +43,7 @@ pub record IsSharedIn (held : Option (List ℕ)) (shared : Shared) : Type 0 wher
   pub recipient_length : length shared.recipient ≡ 32
 
 -- the one option that says what opens the file, and the file that it names, make this
-abbrev pub IsOpener : (Text → Option (List ℕ)) → Option Text → Option Text → Option Text → ℕ
-    → Opener → Type 0
+abbrev pub IsOpener : Held → Option Text → Option Text → Option Text → ℕ → Opener → Type 0
 IsOpener old (Some pass) None None max_log (ByWords words) = IsPassphraseIn (old pass) words.pass
     × (words.max_log ≡ max_log)
 IsOpener old None (Some digits) None max_log (ByKey known) = SpellsKey digits known
@@ -51,7 +51,7 @@ IsOpener old None None (Some name) max_log (ByShared shared) = IsSharedIn (old n
 IsOpener old pass file_key shared max_log opener = ⊥
 
 -- the same, of what the words give for each argument
-abbrev pub OpensBy : (Text → Option (List ℕ)) → List Row → Opener → Type 0
+abbrev pub OpensBy : Held → List Row → Opener → Type 0
 OpensBy old rows opener =
     IsOpener old (first_of (codes "pass") rows) (first_of (codes "file-key") rows)
     (first_of (codes "shared") rows) (number_or 22 (one_of (codes "max-log") rows)) opener

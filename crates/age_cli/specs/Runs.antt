@@ -5,6 +5,7 @@ use Rattle.clap.specs.Words.{Text}
 use Rattle.age_file.specs.declared.report.Report.{Report}
 use Rattle.age_file.specs.Reports.{IsReport}
 use Rattle.age_file.specs.Reports as file
+use Rattle.age_cli.specs.Held.{Held}
 use Rattle.age_cli.specs.ReportTexts.{report_text}
 
 -- the input was read to its end, and its report was written
@@ -20,8 +21,8 @@ ReportsFile held output_old output_new =
     × Appends output_old output_new (report_text r)
 
 -- the report of the input, or of the file of this name, where the files are told
-abbrev pub Inspects : Option Text → Bool → (Text → Option (List ℕ)) → Option (List ℕ)
-    → Option (List ℕ) → Option (List ℕ) → Option (List ℕ) → Type 0
+abbrev pub Inspects : Option Text → Bool → Held → Option (List ℕ) → Option (List ℕ)
+    → Option (List ℕ) → Option (List ℕ) → Type 0
 Inspects None tells entry input_old input_new output_old output_new =
     Reports input_old input_new output_old output_new
 Inspects (Some name) tells entry input_old input_new output_old output_new = tells ≡ true

@@ -7,7 +7,7 @@ use crate::ending::{Ending, Usage};
 use crate::files::FileSet;
 use crate::front::{read_front, read_up_to};
 use crate::opener::{read_pass, trimmed};
-use crate::print::put_bytes;
+use crate::print::{flush, put_bytes};
 use crate::request::Drilling;
 use crate::script::{Line, SCRIPT_MAX, has_too_many_lines, read_lines};
 use age_file::{FileFault, Sink};
@@ -41,10 +41,9 @@ fn read_header(alloc: Global, bytes: &[u8]) -> Result<(Header, &[u8]), FileFault
     ensures { IfOk result (λ p. HasText p.0) }
 {
     let mut parser = HeadParser::new(alloc);
-    match parser.feed(bytes) {
-        Ok(HeadStep::Ready { taken, header }) => Ok((header, &bytes[taken..])),
-        Ok(HeadStep::More) => Err(FileFault::from(parser.end())),
-        Err(fault) => Err(FileFault::from(fault)),
+    match parser.feed(bytes)? {
+        HeadStep::Ready { taken, header } => Ok((header, &bytes[taken..])),
+        HeadStep::More => Err(FileFault::from(parser.end())),
     }
 }
 
@@ -55,10 +54,7 @@ fn open_payload<'a>(
     bytes: &'a [u8],
 ) -> Result<(PayloadKey, &'a [u8]), FileFault> {
     let (header, rest) = read_header(alloc, bytes)?;
-    let key = match open_header(alloc, &header, unlock) {
-        Ok(key) => key,
-        Err(fault) => return Err(FileFault::from(fault)),
-    };
+    let key = open_header(alloc, &header, unlock)?;
     match rest.split_first_chunk::<NONCE_LEN>() {
         Some((nonce, payload)) => Ok((payload_key(&key, nonce), payload)),
         None => Err(FileFault::NonceCut),
@@ -131,10 +127,7 @@ fn obey_lines<B: ChunkBox, const SEALED: usize, O: Sink>(
         let text = answer(alloc, i + 1, &replay, replay.refused() > refused)?;
         put_bytes(output, text.as_bytes())?;
     }
-    match output.flush() {
-        Ok(()) => Ok(()),
-        Err(_) => Err(FileFault::Write),
-    }
+    flush(output)
 }
 
 /// Checks the script whole, and then delivers a payload by it.

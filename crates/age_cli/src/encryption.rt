@@ -72,10 +72,8 @@ fn write_out<F: FileSet>(
     let mut out = files.create(alloc, to)?;
     let encrypted = encrypt(alloc, secret, source, &mut out);
     let closed = files.close(out);
-    match encrypted {
-        Ok(_) => closed,
-        Err(fault) => Err(fault),
-    }
+    encrypted?;
+    closed
 }
 
 /// The name of the file of random bytes.
@@ -116,8 +114,6 @@ pub(crate) fn encrypt_file<F: FileSet>(
         return Err(Ending::Usage(Usage::BadPassphraseFile));
     };
     let mut source = files.open(alloc, asked.from)?;
-    match write_out(alloc, files, &mut source, &secret, asked.to) {
-        Ok(()) => Ok(()),
-        Err(fault) => Err(Ending::Fault(fault)),
-    }
+    write_out(alloc, files, &mut source, &secret, asked.to)?;
+    Ok(())
 }

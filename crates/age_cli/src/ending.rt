@@ -29,7 +29,7 @@ pub(crate) enum Usage {
     BadScriptLine(usize),
     /// A payload of more bytes than a drill takes.
     PayloadTooLong,
-    /// The words are taken, and ask for nothing that can be done.
+    /// No request could be read from words that are taken.
     Unread,
 }
 

@@ -4,7 +4,8 @@ ghost use Rattle.std.specs.Prelude.{false, None};
 ghost use Rattle.age_cli.specs.FileSet.{IsMemoryOr};
 
 use crate::files::FileSet;
-use age_file::{FileFault, Reading, Sink, Writing};
+use crate::print::flush;
+use age_file::{FileFault, Reading, Writing};
 use std::alloc::Global;
 use std::fs::{self, File};
 use std::io;
@@ -73,9 +74,6 @@ impl<'r, R: Files> FileSet for HostFiles<'r, R> {
 
     // The machine's close tells no failure, so the last one that can be told is that of a flush.
     fn close(&mut self, mut out: Writing<R::File>) -> Result<(), FileFault> {
-        match out.flush() {
-            Ok(()) => Ok(()),
-            Err(_) => Err(FileFault::Write),
-        }
+        flush(&mut out)
     }
 }

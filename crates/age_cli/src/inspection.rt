@@ -5,7 +5,7 @@ ghost use Rattle.age_cli.specs.Runs.{Reports, ReportsFile};
 
 use crate::ending::Ending;
 use crate::files::FileSet;
-use crate::print::{put_bytes, text_of};
+use crate::print::{flush, put_bytes, text_of};
 use age_file::{FileFault, Sink, Source, inspect};
 use std::alloc::Global;
 
@@ -22,10 +22,7 @@ pub(crate) fn report<I: Source, O: Sink>(
     let found = inspect(alloc, input)?;
     let text = text_of(alloc, &found)?;
     put_bytes(output, text.as_slice())?;
-    match output.flush() {
-        Ok(()) => Ok(()),
-        Err(_) => Err(FileFault::Write),
-    }
+    flush(output)
 }
 
 /// The same of a file by its name.

@@ -1,6 +1,6 @@
 //! Text into a sink, and the text of a report.
 
-ghost use Rattle.std.specs.Prelude.{◌≡◌, ◌++◌, IfOk, OnOk, OnErr};
+ghost use Rattle.std.specs.Prelude.{◌≡◌, ◌++◌, IfOk, IsOkUnless, OnOk, OnErr};
 ghost use Rattle.std.specs.String.{string_bytes};
 ghost use Rattle.std.specs.List.{flat_map};
 ghost use Rattle.std.specs.Io.KnownBytes.{Appends, Keeps};
@@ -30,6 +30,7 @@ pub(crate) fn flush<O: Sink>(sink: &mut O) -> Result<(), FileFault>
     ensures same { OnOk result (O.failed sink.new ≡ O.failed sink.old) }
     ensures err { OnErr result (HasRisen (O.failed sink.old) (O.failed sink.new)) }
     ensures named { O.label sink.new ≡ O.label sink.old }
+    ensures fault { IsOkUnless result FileFault.Write }
 {
     match sink.flush() {
         Ok(()) => Ok(()),

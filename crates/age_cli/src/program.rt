@@ -19,7 +19,7 @@ use crate::encryption::encrypt_file;
 use crate::ending::{Ending, Usage};
 use crate::files::FileSet;
 use crate::inspection::{report, report_file};
-use crate::print::put_bytes;
+use crate::print::{flush, put_bytes};
 use crate::reading::read_request;
 use crate::request::Request;
 use crate::resumption::resume_file;
@@ -43,10 +43,8 @@ fn answer_refusal<O: Sink>(alloc: Global, error: Error, output: &mut O) -> Resul
         return Err(Ending::Words(text));
     }
     put_bytes(output, text.as_bytes())?;
-    match output.flush() {
-        Ok(()) => Ok(()),
-        Err(_) => Err(Ending::Fault(FileFault::Write)),
-    }
+    flush(output)?;
+    Ok(())
 }
 
 /// Does what the words ask.
@@ -99,11 +97,14 @@ fn obey<F: FileSet, I: Source, O: Sink>(
     }
 }
 
-/// Runs the program on the words after its name, and answers its status: 0 on success, 1 on a fault, which is told in
-/// one line to `faults`, and 2 for a bad command line, whose text goes there too.
+/// Runs the program on the words after its name, and answers its status: 0 on success, 1 on a
+/// fault, which is told in one line to `faults` (two, where a position could not be saved either),
+/// and 2 for a bad command line, whose text goes there too.
 ///
-/// Without words, or with `inspect`, it reads the input to its end and writes the report; with `inspect FILE` it reads
-/// that file. `encrypt`, `decrypt` and `resume` read IN and write OUT. Help that is asked for goes to the output, with status 0.
+/// Without words, or with `inspect`, it reads the input to its end and writes the report; with
+/// `inspect FILE` it reads that file. `encrypt`, `decrypt` and `resume` read IN and write OUT.
+/// `drill` delivers the payload of IN by a script, and answers each line of it by a line. Help that
+/// is asked for goes to the output, with status 0.
 pub fn run<F: FileSet, I: Source, O: Sink, E: Sink>(
     alloc: Global,
     words: &[&str],

@@ -112,22 +112,14 @@ fn drilling<'a>(matches: &ArgMatches<'a>) -> Option<Drilling<'a>>
 fn request_of<'a>(name: &str, matches: &ArgMatches<'a>) -> Option<Request<'a>>
     ensures { IfSome result (IsRequest name.now (rows_of (found_of matches.now))) }
 {
-    if name == "encrypt" {
-        return Some(Request::Encrypt(encrypting(matches)?));
+    match name {
+        "encrypt" => Some(Request::Encrypt(encrypting(matches)?)),
+        "decrypt" => Some(Request::Decrypt(decrypting(matches)?)),
+        "resume" => Some(Request::Resume(resuming(matches)?)),
+        "inspect" => Some(Request::Inspect(text(matches, "FILE"))),
+        "drill" => Some(Request::Drill(drilling(matches)?)),
+        _ => None,
     }
-    if name == "decrypt" {
-        return Some(Request::Decrypt(decrypting(matches)?));
-    }
-    if name == "resume" {
-        return Some(Request::Resume(resuming(matches)?));
-    }
-    if name == "inspect" {
-        return Some(Request::Inspect(text(matches, "FILE")));
-    }
-    if name == "drill" {
-        return Some(Request::Drill(drilling(matches)?));
-    }
-    None
 }
 
 /// What the words ask for. A request is there wherever the words are taken, since each word that is taken is of an

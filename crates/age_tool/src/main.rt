@@ -1,5 +1,5 @@
-//! Inspects age files: hands its words, the machine's files and its standard streams to `age_cli::run`, and ends with
-//! the status that it answers.
+//! Reads and writes age files: hands its words, the machine's files and its standard streams to
+//! `age_cli::run`, and ends with the status that it answers.
 #![tactic(auto)]
 
 use age_cli::{HostFiles, run};

@@ -5,8 +5,8 @@ use Rattle.age_cli.specs.Requests.{text_of}
 use Rattle.age_cli.proofs.EncryptionSteps.{random_in}
 use Rattle.age_cli.proofs.encryption.encrypt_file.Goals as goal
 
-pub returns-in-Ok-clause-done : goal.returns-in-Ok-clause-done
-returns-in-Ok-clause-done g c = λ told.
+pub returns-clause-done : goal.returns-clause-done
+returns-clause-done g c = λ told.
     let entry = g.F.FileSet.entry in
     let t1 = c.in_ok-pass.ensures.told ∙ told in
     let t2 = c.in_ok-random.ensures.told ∙ t1 in
@@ -25,6 +25,6 @@ returns-in-Ok-clause-done g c = λ told.
       passphrase = (c.in_ok-pass.pass.items, c.in_ok-pass.ensures.read told, ap (λ s. s.pass) is ∙ (c.trimmed.ensures ∙ ap without_line_feed c.as_slice.ensures.value));
       log_is = ap (λ s. s.log) is;
       random_is = random_in _ random.0 random.1 c.in_ok-random.random secret held random.3 (ap (λ s. s.key) is) (ap (λ s. s.salt) is) (ap (λ s. s.nonce) is);
-      output = subst (λ o. EncryptsOut secret o (entry c.write_out.new.files c.args.asked.now.to.now)) (sym input) (c.in-Ok.ensures.done t3);
-      others = λ q other. c.in-Ok.ensures.others t3 q other ∙ ap (λ f. f q) k3;
+      output = subst (λ o. EncryptsOut secret o (entry c.write_out.new.files c.args.asked.now.to.now)) (sym input) (c.in_ok-write_out.ensures.done t3);
+      others = λ q other. c.in_ok-write_out.ensures.others t3 q other ∙ ap (λ f. f q) k3;
     }
