@@ -13,7 +13,7 @@ use Rattle.age_cli.specs.declared.opener.Material.TheVariants as material
 
 pub opener_made : (old : Held) (u : Unlocking) (c : Chosen) (m : Material) (max_log : ℕ) (o : Opener) → IsChosen u c → IsMaterial old c m → IsMade m max_log o
     → IsOpener old (text_of u.pass) (text_of u.file_key) (text_of u.shared) max_log o
-opener_made old u (chosen.Pass name) (material.Pass bytes) max_log (ByWords words) ch held made = rw (ch.0, ch.1, ch.2) ((bytes.items, held, made.0), made.1)
+opener_made old u (chosen.Pass name) (material.Pass bytes) max_log (ByWords words) ch held made = rw (ch.0, ch.1, ch.2) ((bytes.items, held, made.0), made.1, made.2)
 opener_made old u (chosen.Pass name) (material.Pass bytes) max_log (ByKey known) ch held made = absurd made
 opener_made old u (chosen.Pass name) (material.Pass bytes) max_log (ByShared shared) ch held made = absurd made
 opener_made old u (chosen.Key key) (material.Key known) max_log (ByKey k) ch held made = rw (ch.0, ch.1.1, ch.2) (subst (λ t. SpellsKey ch.1.0 t) (sym (made ∙ held)) ch.1.2)

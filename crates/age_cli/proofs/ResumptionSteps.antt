@@ -30,6 +30,8 @@ resumes_given rows r old new is did =
       from_is = sym d.from;
       to_is = sym d.to;
       position_is = did.position_is;
+      there = did.there;
+      old_there = did.old_there;
       output = did.output;
       others = did.others;
     }

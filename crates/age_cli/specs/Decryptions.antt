@@ -1,5 +1,5 @@
 -- What `decrypt` did.
-use Rattle.std.specs.Prelude.{◌≡◌, ℕ, List, [], Option, Some, codes}
+use Rattle.std.specs.Prelude.{◌≡◌, ℕ, true, List, [], is_some, Option, Some, codes}
 use Rattle.clap.specs.Words.{Row, Text, first_of}
 use Rattle.age_file.specs.Ports.{Ports}
 use Rattle.age_file.specs.Decrypts.{Run, DecryptDone}
@@ -24,6 +24,7 @@ pub record DecryptsFile (d : Decrypting) (old new : Held) : Type 0 where
   pub opener : Opener
   pub opens : IsOpener old (text_of d.unlocking.pass) (text_of d.unlocking.file_key)
       (text_of d.unlocking.shared) d.unlocking.max_log opener
+  pub there : is_some (old d.from.now) ≡ true
   pub output : DecryptsOut opener (old d.from.now) (new d.to.now)
   pub others : SparesBut d.to.now old new
 
@@ -35,5 +36,6 @@ pub record DecryptsRows (rows : List Row) (old new : Held) : Type 0 where
   pub opens : OpensBy old rows opener
   pub from_is : first_of (codes "IN") rows ≡ Some from
   pub to_is : first_of (codes "OUT") rows ≡ Some to
+  pub there : is_some (old from) ≡ true
   pub output : DecryptsOut opener (old from) (new to)
   pub others : SparesBut to old new

@@ -1,8 +1,8 @@
 -- What `encrypt` did.
-use Rattle.std.specs.Prelude.{◌≡◌, ℕ, List, [], ◌++◌, length, Option, Some, None, codes}
+use Rattle.std.specs.Prelude.{◌≡◌, ℕ, true, List, [], ◌++◌, length, is_some, Option, Some, None, codes}
 use Rattle.clap.specs.Words.{Row, Text, first_of, one_of}
 use Rattle.age_file.specs.Ports.{Ports}
-use Rattle.age_file.specs.Secrets.{SecretView}
+use Rattle.age_file.specs.Secrets.{SecretView, IsWithinLimits}
 use Rattle.age_file.specs.Encrypts.{Encrypts}
 use Rattle.age_file.specs.declared.encryption.Written.{Written}
 use Rattle.age_cli.specs.Requests.{number_or}
@@ -38,7 +38,9 @@ pub record EncryptsFile (pass : Text) (log : ℕ) (random : Option Text) (from t
   pub secret : SecretView
   pub passphrase : IsPassphraseIn (old pass) secret.pass
   pub log_is : secret.log ≡ log
+  pub within : IsWithinLimits secret.pass secret.log
   pub random_is : IsRandomIn (old (random_name random)) secret
+  pub there : is_some (old from) ≡ true
   pub output : EncryptsOut secret (old from) (new to)
   pub others : SparesBut to old new
 

@@ -2,6 +2,7 @@
 use Rattle.std.specs.Prelude.{◌≡◌, ℕ, Some, None}
 use Rattle.clap.specs.Words.{Text}
 use Rattle.age_keys.specs.Keys.{SpellsKey}
+use Rattle.age_keys.specs.Passphrase.{IsAllowed}
 use Rattle.age_cli.specs.Held.{Held}
 use Rattle.age_cli.specs.Requests.{text_of}
 use Rattle.age_cli.specs.Openers.{Opener, ByWords, ByKey, ByShared, without_line_feed, IsSharedIn}
@@ -38,7 +39,7 @@ opener_of (unlocker.Shared shared) = ByShared shared.now
 -- the opener is made of this
 abbrev pub IsMade : Material → ℕ → Opener → Type 0
 IsMade (material.Pass bytes) max_log (ByWords words) = (words.pass ≡ without_line_feed bytes.items)
-    × (words.max_log ≡ max_log)
+    × (words.max_log ≡ max_log) × IsAllowed words.pass words.max_log
 IsMade (material.Key key) max_log (ByKey known) = known ≡ key
 IsMade (material.Shared secret) max_log (ByShared shared) = shared ≡ secret
 IsMade m max_log other = ⊥

@@ -4,7 +4,7 @@ use Rattle.clap.specs.Words.{Row, Text, first_of, one_of}
 use Rattle.age_stanza.specs.declared.header.Header.{Header}
 use Rattle.age_keys.specs.declared.fault.KeyFault.{KeyFault}
 use Rattle.age_keys.specs.Keys.{SpellsKey}
-use Rattle.age_keys.specs.Passphrase.{Words, IsPassphraseKey, PassphraseRefuses}
+use Rattle.age_keys.specs.Passphrase.{Words, IsAllowed, IsPassphraseKey, PassphraseRefuses}
 use Rattle.age_keys.specs.SharedSecret.{Shared, IsSharedKey, SharedRefuses}
 use Rattle.age_cli.specs.Held.{Held}
 use Rattle.age_cli.specs.Requests.{number_or}
@@ -45,7 +45,7 @@ pub record IsSharedIn (held : Option (List ℕ)) (shared : Shared) : Type 0 wher
 -- the one option that says what opens the file, and the file that it names, make this
 abbrev pub IsOpener : Held → Option Text → Option Text → Option Text → ℕ → Opener → Type 0
 IsOpener old (Some pass) None None max_log (ByWords words) = IsPassphraseIn (old pass) words.pass
-    × (words.max_log ≡ max_log)
+    × (words.max_log ≡ max_log) × IsAllowed words.pass words.max_log
 IsOpener old None (Some digits) None max_log (ByKey known) = SpellsKey digits known
 IsOpener old None None (Some name) max_log (ByShared shared) = IsSharedIn (old name) shared
 IsOpener old pass file_key shared max_log opener = ⊥

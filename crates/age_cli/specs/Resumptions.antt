@@ -1,5 +1,5 @@
 -- What `resume` did.
-use Rattle.std.specs.Prelude.{◌≡◌, ℕ, List, [], Option, Some, codes}
+use Rattle.std.specs.Prelude.{◌≡◌, ℕ, true, List, [], is_some, Option, Some, codes}
 use Rattle.clap.specs.Words.{Row, Text, first_of}
 use Rattle.age_file.specs.declared.position.Position.{Position}
 use Rattle.age_file.specs.PositionTexts.{position_text}
@@ -34,6 +34,8 @@ pub record ResumesFile (r : Resuming) (old new : Held) : Type 0 where
       (text_of r.decrypting.unlocking.file_key) (text_of r.decrypting.unlocking.shared)
       r.decrypting.unlocking.max_log opener
   pub position_is : IsPositionIn (old r.position.now) position
+  pub there : is_some (old r.decrypting.from.now) ≡ true
+  pub old_there : is_some (old r.old.now) ≡ true
   pub output : ResumesOut opener position (old r.decrypting.from.now) (old r.old.now)
       (new r.decrypting.to.now)
   pub others : SparesBut r.decrypting.to.now old new
@@ -52,5 +54,7 @@ pub record ResumesRows (rows : List Row) (old new : Held) : Type 0 where
   pub from_is : first_of (codes "IN") rows ≡ Some from
   pub to_is : first_of (codes "OUT") rows ≡ Some to
   pub position_is : IsPositionIn (old position_name) position
+  pub there : is_some (old from) ≡ true
+  pub old_there : is_some (old old_name) ≡ true
   pub output : ResumesOut opener position (old from) (old old_name) (new to)
   pub others : SparesBut to old new

@@ -14,16 +14,20 @@ Reports input_old input_new output_old output_new =
     (r : Report) × file.Inspects input_old input_new r
     × Appends output_old output_new (report_text r)
 
--- a file's report was written
-abbrev pub ReportsFile : Option (List ℕ) → Option (List ℕ) → Option (List ℕ) → Type 0
-ReportsFile held output_old output_new =
-    (bytes : List ℕ) × (r : Report) × (held ≡ Some bytes) × IsReport bytes r
+-- the report of what a file holds
+abbrev pub IsReportOf : Option (List ℕ) → Report → Type 0
+IsReportOf held r = (bytes : List ℕ) × (held ≡ Some bytes) × IsReport bytes r
+
+-- a report was written, that of the file, where the files are told
+abbrev pub ReportsFile : Bool → Option (List ℕ) → Option (List ℕ) → Option (List ℕ) → Type 0
+ReportsFile tells held output_old output_new =
+    (r : Report) × (tells ≡ true → IsReportOf held r)
     × Appends output_old output_new (report_text r)
 
--- the report of the input, or of the file of this name, where the files are told
+-- the report of the input, or of the file of this name
 abbrev pub Inspects : Option Text → Bool → Held → Option (List ℕ) → Option (List ℕ)
     → Option (List ℕ) → Option (List ℕ) → Type 0
 Inspects None tells entry input_old input_new output_old output_new =
     Reports input_old input_new output_old output_new
-Inspects (Some name) tells entry input_old input_new output_old output_new = tells ≡ true
-    → ReportsFile (entry name) output_old output_new
+Inspects (Some name) tells entry input_old input_new output_old output_new =
+    ReportsFile tells (entry name) output_old output_new

@@ -33,8 +33,8 @@ pub(crate) fn report_file<F: FileSet, O: Sink>(
     output: &mut O,
 ) -> Result<(), Ending>
     ensures kept { F.entry files.new ≡ F.entry files.old }
-    ensures done { OnOk result (F.tells files.old ≡ true
-        → ReportsFile (F.entry files.old name.now) (O.taken output.old) (O.taken output.new)) }
+    ensures done { OnOk result (ReportsFile (F.tells files.old) (F.entry files.old name.now)
+        (O.taken output.old) (O.taken output.new)) }
 {
     let mut source = files.open(alloc, name)?;
     report(alloc, &mut source, output)?;

@@ -1,4 +1,5 @@
 use Rattle.std.proofs.Common.{◌∙◌, ap, sym, subst, Some}
+use Rattle.std.specs.Prelude.{is_some}
 use Rattle.age_cli.specs.Decryptions.{DecryptsOut}
 use Rattle.age_cli.specs.OpenerSteps.{opener_of}
 use Rattle.age_cli.proofs.OpenerLemmas.{opener_made}
@@ -17,6 +18,7 @@ returns-in-Ok-clause-done g c = λ told.
     record {
       opener = opener;
       opens = opener_made (entry c.args.files.now) d.unlocking c.in_ok-chosen.chosen c.in_ok-material.material d.unlocking.max_log opener c.in_ok-chosen.ensures (c.in_ok-material.ensures.read told) c.in_ok-unlocker.ensures;
+      there = ap (λ f. is_some (f d.from.now)) (sym k1) ∙ (c.in_ok-source.ensures.found t1).0;
       output = subst (λ o. DecryptsOut opener o (entry c.write_out.new.files d.to.now)) (sym input) (c.in-Ok.ensures.done t2);
       others = λ q other. c.in-Ok.ensures.others t2 q other ∙ ap (λ f. f q) k2;
     }

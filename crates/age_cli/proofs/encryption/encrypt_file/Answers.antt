@@ -1,4 +1,6 @@
 use Rattle.std.proofs.Common.{◌∙◌, ap, sym, subst}
+use Rattle.std.specs.Prelude.{is_some}
+use Rattle.age_file.specs.Secrets.{SecretView, IsWithinLimits}
 use Rattle.age_cli.specs.Encryptions.{EncryptsOut, random_name}
 use Rattle.age_cli.specs.Openers.{without_line_feed}
 use Rattle.age_cli.specs.Requests.{text_of}
@@ -24,7 +26,9 @@ returns-clause-done g c = λ told.
       secret = secret;
       passphrase = (c.in_ok-pass.pass.items, c.in_ok-pass.ensures.read told, ap (λ s. s.pass) is ∙ (c.trimmed.ensures ∙ ap without_line_feed c.as_slice.ensures.value));
       log_is = ap (λ s. s.log) is;
+      within = subst (λ (s : SecretView). IsWithinLimits s.pass s.log) (sym is) c.in-Some.ensures.0;
       random_is = random_in _ random.0 random.1 c.in_ok-random.random secret held random.3 (ap (λ s. s.key) is) (ap (λ s. s.salt) is) (ap (λ s. s.nonce) is);
+      there = ap (λ f. is_some (f c.args.asked.now.from.now)) (sym k2) ∙ (c.in_ok-source.ensures.found t2).0;
       output = subst (λ o. EncryptsOut secret o (entry c.write_out.new.files c.args.asked.now.to.now)) (sym input) (c.in_ok-write_out.ensures.done t3);
       others = λ q other. c.in_ok-write_out.ensures.others t3 q other ∙ ap (λ f. f q) k3;
     }

@@ -1,4 +1,5 @@
 use Rattle.std.proofs.Common.{◌∙◌, ap, sym, subst, Some}
+use Rattle.std.specs.Prelude.{is_some}
 use Rattle.age_cli.specs.Resumptions.{ResumesOut}
 use Rattle.age_cli.specs.OpenerSteps.{opener_of}
 use Rattle.age_cli.proofs.OpenerLemmas.{opener_made}
@@ -27,6 +28,8 @@ returns-in-Ok-clause-done g c = λ told.
       position = position;
       opens = opener_made (entry c.args.files.now) u c.in_ok-chosen.chosen c.in_ok-material.material u.max_log opener c.in_ok-chosen.ensures (c.in_ok-material.ensures.read told) c.in_ok-unlocker.ensures;
       position_is = ap (λ f. f r.position.now) (sym k1) ∙ c.in_ok-position.ensures.read t1;
+      there = ap (λ f. is_some (f r.decrypting.from.now)) (sym k3) ∙ (c.in_ok-source.ensures.found t3).0;
+      old_there = ap (λ f. is_some (f r.old.now)) (sym k2) ∙ (c.in_ok-old.ensures.found t2).0;
       output = subst (λ o. ResumesOut opener position o (entry c.args.files.now r.old.now) out) (sym input)
           (subst (λ o. ResumesOut opener position (g.F.In.Source.remaining c.in_ok-source.source) o out) (sym old_text) (c.in-Ok.ensures.done t4));
       others = λ q other. c.in-Ok.ensures.others t4 q other ∙ ap (λ f. f q) k4;
