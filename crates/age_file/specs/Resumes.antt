@@ -30,7 +30,11 @@ pub record ResumePorts : Type 0 where
   pub old_failed : ℕ
 
 abbrev pub resume_ports : Ports → Option (List ℕ) → ℕ → ResumePorts
-resume_ports main old_coming old_failed = record { main = main; old_coming = old_coming; old_failed = old_failed }
+resume_ports main old_coming old_failed = record {
+  main = main;
+  old_coming = old_coming;
+  old_failed = old_failed;
+}
 
 abbrev pub NoPortFailed : ResumePorts → ResumePorts → Type 0
 NoPortFailed old new = NoneFailed old.main new.main × (new.old_failed ≡ old.old_failed)
@@ -50,7 +54,8 @@ abbrev pub HasTag : Position → OpenedFile → Type 0
 HasTag p f = p.tag ≡ position_tag (position_key f.key f.nonce) p.index p.file_id p.chain
 
 -- these bytes were read of the file, and the rest behind its nonce
-pub record Reads (Allows : Header → List ℕ → Type 0) (old new : Option (List ℕ)) (f : OpenedFile) (rest : List ℕ) : Type 0 where
+pub record Reads (Allows : Header → List ℕ → Type 0) (old new : Option (List ℕ)) (f : OpenedFile)
+    (rest : List ℕ) : Type 0 where
   pub text : HeadText f.header f.front
   pub opens : Opens Allows f.header f.key
   pub size : length f.nonce ≡ 16
@@ -65,7 +70,8 @@ pub record BeginsWith (p : Position) (old_coming : Option (List ℕ)) (text : Li
 
 -- so much of the old text was written, and nothing else: a front of what was pulled; where the old text is that of a text,
 -- what was written begins that text
-pub record WritesOld (p : Position) (old new : ResumePorts) (written : ℕ) (copied : List ℕ) : Type 0 where
+pub record WritesOld (p : Position) (old new : ResumePorts) (written : ℕ) (copied : List ℕ)
+    : Type 0 where
   pub pulled : List ℕ
   pub read : Consumes old.old_coming new.old_coming pulled
   pub front : IsPrefixOf copied pulled
@@ -77,7 +83,8 @@ pub record WritesOld (p : Position) (old new : ResumePorts) (written : ℕ) (cop
 pub record IsBoundTo (p : Position) (copied text : List ℕ) : Type 0 where
   pub within : p.index * 65536 ≤ length text
   pub carries : p.chain ≡ chain (first_chunks 65536 p.index text)
-  pub tells : chain (first_chunks 65536 p.index copied) ≡ chain (first_chunks 65536 p.index text) → copied ≡ take (p.index * 65536) text
+  pub tells : chain (first_chunks 65536 p.index copied) ≡ chain (first_chunks 65536 p.index text)
+      → copied ≡ take (p.index * 65536) text
 
 -- the text that the position was made for: its chunks have the position's chain; so it is the beginning of each text that
 -- the position is bound to
@@ -103,7 +110,8 @@ abbrev pub fresh_text : Position → Resumption → List ℕ
 fresh_text p r = released (unbox r.file.key r.file.nonce) 65536 (segment_at p r)
 
 -- this run is what was read and written behind a position that is the file's and the old text's
-pub record IsResumption (Allows : Header → List ℕ → Type 0) (p : Position) (old new : ResumePorts) (written : ℕ) (r : Resumption) : Type 0 where
+pub record IsResumption (Allows : Header → List ℕ → Type 0) (p : Position) (old new : ResumePorts)
+    (written : ℕ) (r : Resumption) : Type 0 where
   pub own : HasId p r.file
   pub tagged : HasTag p r.file
   pub reads : Reads Allows old.main.coming new.main.coming r.file (r.passed ++ r.bytes)
@@ -121,11 +129,13 @@ pub record IsAuthenticResumption (p : Position) (r : Resumption) (text : List �
   pub few : chunk_count 65536 text ≤ 281474976710656
   pub old_text : r.copied ≡ take (p.index * 65536) text
   pub within : p.index * 65536 ≤ length text
-  pub authentic : IsAuthentic (box r.file.key r.file.nonce) (unbox r.file.key r.file.nonce) 65536 text (segment_at p r)
+  pub authentic : IsAuthentic (box r.file.key r.file.nonce) (unbox r.file.key r.file.nonce) 65536
+      text (segment_at p r)
 
 -- then what was written begins that text, or is all of it
 abbrev pub ResumesOf : Position → Resumption → Type 0
-ResumesOf p r = (text : List ℕ) → IsAuthenticResumption p r text → IsPrefixOf (r.copied ++ r.out) text
+ResumesOf p r = (text : List ℕ) → IsAuthenticResumption p r text
+    → IsPrefixOf (r.copied ++ r.out) text
 
 abbrev pub ResumesAll : Position → Resumption → Type 0
 ResumesAll p r = (text : List ℕ) → IsAuthenticResumption p r text → r.copied ++ r.out ≡ text
@@ -138,7 +148,8 @@ CarriesNext p r next = (text : List ℕ) → IsAuthenticResumption p r text
 -- where a reader may go on: the whole chunks that were written, copied or released as not last, with the file's id, the
 -- chain over those chunks, and the tag
 pub record IsNextPosition (p : Position) (r : Resumption) (next : Position) : Type 0 where
-  pub index : next.index ≡ min (length (r.copied ++ r.out) / 65536) (outcome (unbox r.file.key r.file.nonce) 65536 (segment_at p r)).index
+  pub index : next.index ≡ min (length (r.copied ++ r.out) / 65536)
+      (outcome (unbox r.file.key r.file.nonce) 65536 (segment_at p r)).index
   pub own : HasId next r.file
   pub chain_is : next.chain ≡ chain (first_chunks 65536 next.index (r.copied ++ r.out))
   pub tagged : HasTag next r.file
@@ -159,7 +170,8 @@ module _ (Allows : Header → List ℕ → Type 0) (p : Position) where
     pub tagged : HasTag p f
 
   -- a run that stopped in the old text, before all that the position needs was written; it has no position
-  pub record StopsInOld (old new : ResumePorts) (written : ℕ) (position : Option Position) : Type 0 where
+  pub record StopsInOld (old new : ResumePorts) (written : ℕ) (position : Option Position)
+      : Type 0 where
     pub file : OpenedFile
     pub rest : List ℕ
     pub accepts : Accepts old.main.coming new.main.coming file rest
@@ -169,7 +181,8 @@ module _ (Allows : Header → List ℕ → Type 0) (p : Position) where
     pub none : position ≡ None
 
   -- a run that stopped in the blocks that are passed over, with the old text written and the position that it began from
-  pub record StopsInPassed (old new : ResumePorts) (written : ℕ) (position : Option Position) (passed : List ℕ) : Type 0 where
+  pub record StopsInPassed (old new : ResumePorts) (written : ℕ) (position : Option Position)
+      (passed : List ℕ) : Type 0 where
     pub file : OpenedFile
     pub accepts : Accepts old.main.coming new.main.coming file passed
     pub short : length passed < p.index * 65552
@@ -193,7 +206,8 @@ module _ (Allows : Header → List ℕ → Type 0) (p : Position) where
     pub none_failed : NoPortFailed old new
 
   -- the source ended within the blocks that are passed over, after so many whole ones
-  pub record EndsInPassed (old new : ResumePorts) (written : ℕ) (position : Option Position) (fault : StreamFault) : Type 0 where
+  pub record EndsInPassed (old new : ResumePorts) (written : ℕ) (position : Option Position)
+      (fault : StreamFault) : Type 0 where
     pub passed : List ℕ
     pub stops : StopsInPassed old new written position passed
     pub kind : fault.kind ≡ Truncated
@@ -202,43 +216,59 @@ module _ (Allows : Header → List ℕ → Type 0) (p : Position) where
     pub at_end : IsAtEnd new.main.coming
 
   -- why a source or a sink failed, by where the run stood
-  abbrev pub FailsAt : (Main Old : Type 0) → ResumePorts → ResumePorts → ℕ → Option Position → Type 0
+  abbrev pub FailsAt : (Main Old : Type 0) → ResumePorts → ResumePorts → ℕ → Option Position
+      → Type 0
   FailsAt Main Old old new written position =
-      (WritesNone old.main new.main written position × IsShort old.main.coming new.main.coming × Main)
+      (WritesNone old.main new.main written position × IsShort old.main.coming new.main.coming
+      × Main)
       ⊎ ((s : StopsInOld old new written position) × (s.copied ≡ s.writes.pulled) × Old)
       ⊎ ((passed : List ℕ) × StopsInPassed old new written position passed × Main)
-      ⊎ ((r : Resumption) × Resumed old new written r × IsSomeAnd position (IsNextPosition p r) × Main)
+      ⊎ ((r : Resumption) × Resumed old new written r × IsSomeAnd position (IsNextPosition p r)
+      × Main)
 
   -- when each fault comes, and what was written then
-  abbrev pub ResumeFails : (Header → KeyFault → Type 0) → ResumePorts → ResumePorts → ℕ → Option Position → FileFault → Type 0
+  abbrev pub ResumeFails : (Header → KeyFault → Type 0) → ResumePorts → ResumePorts → ℕ
+      → Option Position → FileFault → Type 0
   ResumeFails Refused old new written position OtherFile =
-      WritesNone old.main new.main written position × (f : OpenedFile) × (rest : List ℕ) × Reads Allows old.main.coming new.main.coming f rest × (HasId p f → ⊥)
+      WritesNone old.main new.main written position × (f : OpenedFile) × (rest : List ℕ)
+      × Reads Allows old.main.coming new.main.coming f rest × (HasId p f → ⊥)
   ResumeFails Refused old new written position PositionForged =
-      WritesNone old.main new.main written position × (f : OpenedFile) × (rest : List ℕ) × Reads Allows old.main.coming new.main.coming f rest × HasId p f × (HasTag p f → ⊥)
+      WritesNone old.main new.main written position × (f : OpenedFile) × (rest : List ℕ)
+      × Reads Allows old.main.coming new.main.coming f rest × HasId p f × (HasTag p f → ⊥)
   ResumeFails Refused old new written position ShortText =
-      (s : StopsInOld old new written position) × (s.copied ≡ s.writes.pulled) × IsAtEnd new.old_coming
+      (s : StopsInOld old new written position) × (s.copied ≡ s.writes.pulled)
+      × IsAtEnd new.old_coming
   ResumeFails Refused old new written position OldTextDiffers =
-      (position ≡ None) × (f : OpenedFile) × (rest : List ℕ) × Accepts old.main.coming new.main.coming f rest
-      × (copied : List ℕ) × WritesOld p old new written copied × (length copied ≡ p.index * 65536) × (chain (first_chunks 65536 p.index copied) ≢ p.chain)
+      (position ≡ None) × (f : OpenedFile) × (rest : List ℕ)
+      × Accepts old.main.coming new.main.coming f rest
+      × (copied : List ℕ) × WritesOld p old new written copied × (length copied ≡ p.index * 65536)
+      × (chain (first_chunks 65536 p.index copied) ≢ p.chain)
   ResumeFails Refused old new written position (Stream fault) =
       (EndsInPassed old new written position fault
       ⊎ ((r : Resumption) × Resumed old new written r × IsSomeAnd position (IsNextPosition p r)
       × ((outcome (unbox r.file.key r.file.nonce) 65536 (segment_at p r)).status ≡ Failed fault)))
       × NoPortFailed old new
   ResumeFails Refused old new written position Write =
-      (StopsInOld old new written position ⊎ ((r : Resumption) × IsResumption Allows p old new written r × ResumesOf p r × IsSomeAnd position (IsNextPosition p r)))
+      (StopsInOld old new written position
+      ⊎ ((r : Resumption) × IsResumption Allows p old new written r × ResumesOf p r
+      × IsSomeAnd position (IsNextPosition p r)))
       × HasRisen old.main.write_failed new.main.write_failed
   ResumeFails Refused old new written position Read =
-      FailsAt (HasRisen old.main.read_failed new.main.read_failed) (HasRisen old.old_failed new.old_failed) old new written position
+      FailsAt (HasRisen old.main.read_failed new.main.read_failed)
+      (HasRisen old.old_failed new.old_failed) old new written position
   ResumeFails Refused old new written position ReadNeverEnds =
-      FailsAt (NeverEnds old.main.coming new.main.coming) (NeverEnds old.old_coming new.old_coming) old new written position
+      FailsAt (NeverEnds old.main.coming new.main.coming) (NeverEnds old.old_coming new.old_coming)
+      old new written position
   ResumeFails Refused old new written position fault =
-      WritesNone old.main new.main written position × StartFails Allows Refused old.main.coming new.main.coming old.main.read_failed new.main.read_failed fault
+      WritesNone old.main new.main written position × StartFails Allows Refused old.main.coming
+      new.main.coming old.main.read_failed new.main.read_failed fault
 
 -- the source is an age file of this text, and the unlocker has its key and no other; the position is this file's, of a chunk
 -- that the text has, and carries its chain; the old text is the text's before that chunk; and no block of the rest opens
 -- except as its writer sealed it
-pub record IsUndamagedRest (Allows : Header → List ℕ → Type 0) (Refused : Header → KeyFault → Type 0) (p : Position) (coming old_coming : Option (List ℕ)) (text : List ℕ) : Type 0 where
+pub record IsUndamagedRest (Allows : Header → List ℕ → Type 0)
+    (Refused : Header → KeyFault → Type 0) (p : Position) (coming old_coming : Option (List ℕ))
+    (text : List ℕ) : Type 0 where
   pub whole : IsWhole Allows Refused coming text
   pub below : p.index < chunk_count 65536 text
   pub own : p.file_id ≡ file_id whole.file.front whole.nonce
@@ -246,14 +276,18 @@ pub record IsUndamagedRest (Allows : Header → List ℕ → Type 0) (Refused : 
   pub carries : p.chain ≡ chain (first_chunks 65536 p.index text)
   pub old_text : BeginsWith p old_coming text
   pub authentic : IsAuthentic (box whole.key whole.nonce) (unbox whole.key whole.nonce) 65536 text
-      (segment p.index (drop (p.index * 65552) (payload (box whole.key whole.nonce) 65536 text)) true)
+      (segment p.index (drop (p.index * 65552) (payload (box whole.key whole.nonce) 65536 text))
+      true)
 
 -- why a position is refused, for a file of this id, key and nonce
 abbrev pub PositionRefused : Position → List ℕ → List ℕ → List ℕ → FileFault → Type 0
 PositionRefused p id key nonce OtherFile = p.file_id ≢ id
-PositionRefused p id key nonce PositionForged = (p.file_id ≡ id) × (p.tag ≢ position_tag (position_key key nonce) p.index p.file_id p.chain)
+PositionRefused p id key nonce PositionForged = (p.file_id ≡ id)
+    × (p.tag ≢ position_tag (position_key key nonce) p.index p.file_id p.chain)
 PositionRefused p id key nonce other = ⊥
 
 abbrev pub VerdictOn : Position → List ℕ → List ℕ → List ℕ → Result (Unit {0}) FileFault → Type 0
 VerdictOn p id key nonce result = MatchResult result
-    (λ _. (p.file_id ≡ id) × (p.tag ≡ position_tag (position_key key nonce) p.index p.file_id p.chain)) (PositionRefused p id key nonce)
+    (λ _. (p.file_id ≡ id)
+    × (p.tag ≡ position_tag (position_key key nonce) p.index p.file_id p.chain))
+    (PositionRefused p id key nonce)
