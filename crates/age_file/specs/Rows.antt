@@ -7,7 +7,8 @@ use Rattle.age_stream.specs.Headline.{IsPrefixOf, IsAuthentic}
 use Rattle.age_file.specs.AgeFile.{box, unbox}
 use Rattle.age_file.specs.Bindings.{chain}
 use Rattle.age_file.specs.Decrypts.{Run, segment_of, text_of, IsAuthenticRun, IsPositionOf}
-use Rattle.age_file.specs.Resumes.{Resumption, segment_at, fresh_text, IsOldText, IsNextPosition, IsSame}
+use Rattle.age_file.specs.Resumes.{Resumption, segment_at, fresh_text, IsNextPosition, IsSame}
+use Rattle.age_file.specs.OldTexts.{IsOldText}
 use Rattle.age_file.specs.declared.position.Position.{Position}
 
 -- a resumed run and the position that it began from; where it stopped in the blocks that are passed over, no bytes are

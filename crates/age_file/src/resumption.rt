@@ -8,7 +8,10 @@ ghost use Rattle.age_file.specs.Pours.{stage};
 ghost use Rattle.age_file.specs.GoingOn.{HasPulled, GoesOn};
 ghost use Rattle.age_file.specs.Ports.{ports};
 ghost use Rattle.age_file.specs.Decrypts.{StopsOutside};
-ghost use Rattle.age_file.specs.Resumes.{VerdictOn, Resumption, ResumeDone, ResumeFails, IsUndamagedRest, resume_ports};
+ghost use Rattle.age_file.specs.Verdicts.{VerdictOn};
+ghost use Rattle.age_file.specs.Resumes.{Resumption, ResumeDone, resume_ports};
+ghost use Rattle.age_file.specs.ResumeFaults.{ResumeFails};
+ghost use Rattle.age_file.specs.UndamagedRests.{IsUndamagedRest};
 ghost use Rattle.age_cipher.specs.Opening.{opening};
 
 use crate::copy::copy_chunks;
