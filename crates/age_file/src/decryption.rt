@@ -17,6 +17,7 @@ use crate::start::{Unlocked, start};
 use age_keys::{PayloadKey, Unlock, payload_key, position_key};
 use age_stanza::one_header;
 use std::alloc::Global;
+use thiserror::Error;
 
 /// A file was decrypted to its end, into so many bytes.
 #[derive(Clone, Copy, Debug, PartialEq, Eq)]
@@ -26,7 +27,8 @@ pub struct Done {
 }
 
 /// Why a decryption stopped, and how far it came.
-#[derive(Clone, Copy, Debug, PartialEq, Eq)]
+#[derive(Clone, Copy, Debug, PartialEq, Eq, Error)]
+#[error("stopped after {written} bytes: {fault}")]
 pub struct Stopped {
     /// Why it stopped.
     pub fault: FileFault,
