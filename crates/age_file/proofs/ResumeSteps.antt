@@ -26,7 +26,10 @@ use Rattle.age_file.specs.Marks.{IsMarked}
 use Rattle.age_file.specs.Passages.{Side, Passes, Dries, PassFails}
 use Rattle.age_file.specs.Pours.{Stage, Pours, PourFails, PourDone}
 use Rattle.age_file.specs.Releases.{Tally}
-use Rattle.age_file.specs.Resumes.{ResumePorts, OpenedFile, Reads, BeginsWith, WritesOld, IsOldText, Resumption, segment_at, fresh_text, IsResumption, IsAuthenticResumption, ResumesOf, ResumesAll, IsNextPosition, IsSame, Accepts, StopsInOld, StopsInPassed, ResumeDone, ResumeFails, PositionRefused}
+use Rattle.age_file.specs.Resumes.{ResumePorts, Reads, WritesOld, Resumption, segment_at, fresh_text, IsResumption, IsAuthenticResumption, ResumesOf, ResumesAll, IsNextPosition, IsSame, Accepts, ResumeDone}
+use Rattle.age_file.specs.Verdicts.{OpenedFile, PositionRefused}
+use Rattle.age_file.specs.OldTexts.{BeginsWith, IsOldText}
+use Rattle.age_file.specs.ResumeFaults.{StopsInOld, StopsInPassed, ResumeFails}
 use Rattle.age_file.specs.Starts.{StartsAt, StartFails}
 use Rattle.age_file.specs.Unread.{Unread}
 use Rattle.age_file.specs.declared.fault.FileFault.{FileFault}

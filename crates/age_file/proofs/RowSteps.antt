@@ -7,7 +7,8 @@ use Rattle.age_stream.specs.Payload.{chunk_count}
 use Rattle.age_stream.proofs.Chunks.{first_chunks-append}
 use Rattle.age_file.specs.Bindings.{chain}
 use Rattle.age_file.specs.Decrypts.{Run}
-use Rattle.age_file.specs.Resumes.{IsAuthenticResumption, IsOldText, IsSame}
+use Rattle.age_file.specs.Resumes.{IsAuthenticResumption, IsSame}
+use Rattle.age_file.specs.OldTexts.{IsOldText}
 use Rattle.age_file.specs.Rows.{Rerun, output, FollowsOn, AreInARow, WritesRight}
 use Rattle.age_file.specs.declared.position.Position.{Position}
 use Rattle.age_file.proofs.Bytes.{prefix_trans}

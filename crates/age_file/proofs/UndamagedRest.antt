@@ -10,7 +10,10 @@ use Rattle.age_keys.specs.declared.fault.KeyFault.{KeyFault}
 use Rattle.age_keys.specs.Keys.{position_key}
 use Rattle.age_file.specs.Bindings.{file_id, chain, position_tag}
 use Rattle.age_file.specs.Decrypts.{StopsOutside}
-use Rattle.age_file.specs.Resumes.{ResumePorts, OpenedFile, HasId, HasTag, Reads, WritesOld, IsUndamagedRest, ResumeFails}
+use Rattle.age_file.specs.Resumes.{ResumePorts, Reads, WritesOld}
+use Rattle.age_file.specs.Verdicts.{OpenedFile, HasId, HasTag}
+use Rattle.age_file.specs.UndamagedRests.{IsUndamagedRest}
+use Rattle.age_file.specs.ResumeFaults.{ResumeFails}
 use Rattle.age_file.specs.declared.position.Position.{Position}
 use Rattle.age_file.specs.declared.fault.FileFault.{FileFault}
 use Rattle.age_file.specs.declared.fault.FileFault.TheVariants.{Head, Key, NonceCut, Stream, OtherFile, ShortText, Read, Write, Memory, ReadNeverEnds, PositionForged, OldTextDiffers}

@@ -18,7 +18,8 @@ file_id front nonce = sha256 (front ++ nonce)
 
 -- the text of a position up to its tag
 unfoldable pub position_front : ℕ → List ℕ → List ℕ → List ℕ
-position_front index id links = codes "age-position/v2 " ++ decimal index ++ codes " " ++ text id ++ codes " " ++ text links ++ codes " "
+position_front index id links = codes "age-position/v2 " ++ decimal index ++ codes " " ++ text id
+    ++ codes " " ++ text links ++ codes " "
 
 -- the tag of a position under a position key
 unfoldable pub position_tag : List ℕ → ℕ → List ℕ → List ℕ → List ℕ

@@ -12,28 +12,35 @@ use Rattle.age_file.specs.declared.fault.FileFault.TheVariants.{ShortText, Read,
 
 -- what was written of the old text, fewer bytes than were to be copied: all that the source gave, or its front where the sink failed
 abbrev pub CopyFails : Side → Side → Tally → Tally → List ℕ → FileFault → Type 0
-CopyFails old new was now out ShortText = Passes old new out × (new.unread.bytes ≡ []) × IsAtEnd new.coming × (now.failed ≡ was.failed)
-CopyFails old new was now out Write = (used : List ℕ) × Passes old new used × IsPrefixOf out (used ++ new.unread.bytes) × HasRisen was.failed now.failed
+CopyFails old new was now out ShortText = Passes old new out × (new.unread.bytes ≡ [])
+    × IsAtEnd new.coming × (now.failed ≡ was.failed)
+CopyFails old new was now out Write = (used : List ℕ) × Passes old new used
+    × IsPrefixOf out (used ++ new.unread.bytes) × HasRisen was.failed now.failed
 CopyFails old new was now out Read = Dries old new out Read × (now.failed ≡ was.failed)
-CopyFails old new was now out ReadNeverEnds = Dries old new out ReadNeverEnds × (now.failed ≡ was.failed)
+CopyFails old new was now out ReadNeverEnds = Dries old new out ReadNeverEnds
+    × (now.failed ≡ was.failed)
 CopyFails old new was now out other = ⊥
 
 -- a chunk was copied, and counted with its link
 abbrev pub ChunkGoes : ℕ → Side → Side → Tally → Tally → List ℕ → Type 0
 ChunkGoes n old new was now out = (length out ≡ n) × Passes old new out × (now.failed ≡ was.failed)
-    × (now.progress.index ≡ was.progress.index + 1) × (now.progress.chain ≡ link was.progress.chain out)
+    × (now.progress.index ≡ was.progress.index + 1)
+    × (now.progress.chain ≡ link was.progress.chain out)
 
 -- so many chunks were copied, and the chain is over them
 abbrev pub ChunksGo : ℕ → ℕ → Side → Side → Tally → Tally → List ℕ → Type 0
-ChunksGo n chunks old new was now out = (length out ≡ chunks * n) × Passes old new out × (now.failed ≡ was.failed)
+ChunksGo n chunks old new was now out = (length out ≡ chunks * n) × Passes old new out
+    × (now.failed ≡ was.failed)
     × (now.progress.index ≡ chunks) × (now.progress.chain ≡ chain (first_chunks n chunks out))
 
-pub record Copies (Goes : List ℕ → Type 0) (size : ℕ) (old new : Side) (was now : Tally) (result : Result (Unit {0}) FileFault) : Type 0 where
+pub record Copies (Goes : List ℕ → Type 0) (size : ℕ) (old new : Side) (was now : Tally)
+    (result : Result (Unit {0}) FileFault) : Type 0 where
   pub out : List ℕ
   pub wrote : Appends was.taken now.taken out
   pub named : now.label ≡ was.label
   pub count : now.progress.written ≡ was.progress.written + length out
-  pub answered : MatchResult result (λ _. Goes out) (λ fault. (length out < size) × CopyFails old new was now out fault)
+  pub answered : MatchResult result (λ _. Goes out)
+      (λ fault. (length out < size) × CopyFails old new was now out fault)
 
 -- a chunk was copied
 abbrev pub CopiesChunk : ℕ → Side → Side → Tally → Tally → Result (Unit {0}) FileFault → Type 0
@@ -41,17 +48,23 @@ CopiesChunk n old new was now result = Copies (ChunkGoes n old new was now) n ol
 
 -- so many were
 abbrev pub CopiesAll : ℕ → ℕ → Side → Side → Tally → Tally → Result (Unit {0}) FileFault → Type 0
-CopiesAll n chunks old new was now result = Copies (ChunksGo n chunks old new was now) (chunks * n) old new was now result
+CopiesAll n chunks old new was now result = Copies (ChunksGo n chunks old new was now) (chunks * n)
+    old new was now result
 
 -- why the old text was not copied, or is not the one whose chain this is
 abbrev pub TextFails : ℕ → ℕ → List ℕ → Side → Side → Tally → Tally → List ℕ → FileFault → Type 0
-TextFails n chunks links old new was now out OldTextDiffers = ChunksGo n chunks old new was now out × (now.progress.chain ≢ links)
-TextFails n chunks links old new was now out fault = (length out < chunks * n) × CopyFails old new was now out fault
+TextFails n chunks links old new was now out OldTextDiffers = ChunksGo n chunks old new was now out
+    × (now.progress.chain ≢ links)
+TextFails n chunks links old new was now out fault = (length out < chunks * n)
+    × CopyFails old new was now out fault
 
 -- the old text was copied, and has this chain
-pub record CopiesText (n chunks : ℕ) (links : List ℕ) (old new : Side) (was now : Tally) (result : Result (Unit {0}) FileFault) : Type 0 where
+pub record CopiesText (n chunks : ℕ) (links : List ℕ) (old new : Side) (was now : Tally)
+    (result : Result (Unit {0}) FileFault) : Type 0 where
   pub out : List ℕ
   pub wrote : Appends was.taken now.taken out
   pub named : now.label ≡ was.label
   pub count : now.progress.written ≡ was.progress.written + length out
-  pub answered : MatchResult result (λ _. ChunksGo n chunks old new was now out × (now.progress.chain ≡ links)) (TextFails n chunks links old new was now out)
+  pub answered : MatchResult result
+      (λ _. ChunksGo n chunks old new was now out × (now.progress.chain ≡ links))
+      (TextFails n chunks links old new was now out)

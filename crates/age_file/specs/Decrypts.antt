@@ -44,7 +44,8 @@ abbrev pub text_of : Run → List ℕ
 text_of r = released (unbox r.key r.nonce) 65536 (segment_of r)
 
 -- this run is what was read and written: so many bytes, which begin the text
-pub record IsRun (Allows : Header → List ℕ → Type 0) (old new : Ports) (written : ℕ) (r : Run) : Type 0 where
+pub record IsRun (Allows : Header → List ℕ → Type 0) (old new : Ports) (written : ℕ) (r : Run)
+    : Type 0 where
   pub text : HeadText r.header r.front
   pub opens : Opens Allows r.header r.key
   pub size : length r.nonce ≡ 16
@@ -56,7 +57,8 @@ pub record IsRun (Allows : Header → List ℕ → Type 0) (old new : Ports) (wr
 
 -- no block that came and is tried opens, except as the writer of this text sealed it
 abbrev pub IsAuthenticRun : Run → List ℕ → Type 0
-IsAuthenticRun r text = (chunk_count 65536 text ≤ 281474976710656) × IsAuthentic (box r.key r.nonce) (unbox r.key r.nonce) 65536 text (segment_of r)
+IsAuthenticRun r text = (chunk_count 65536 text ≤ 281474976710656)
+    × IsAuthentic (box r.key r.nonce) (unbox r.key r.nonce) 65536 text (segment_of r)
 
 -- then what was written begins that text, or is all of it
 abbrev pub WritesOf : Run → Type 0
@@ -67,12 +69,14 @@ WritesAll r = (text : List ℕ) → IsAuthenticRun r text → r.out ≡ text
 
 -- and a position carries the chain over that text's first chunks
 abbrev pub CarriesOf : Run → Position → Type 0
-CarriesOf r p = (text : List ℕ) → IsAuthenticRun r text → (p.index * 65536 ≤ length text) × (p.chain ≡ chain (first_chunks 65536 p.index text))
+CarriesOf r p = (text : List ℕ) → IsAuthenticRun r text → (p.index * 65536 ≤ length text)
+    × (p.chain ≡ chain (first_chunks 65536 p.index text))
 
 -- where a reader may go on: the whole chunks that were written, as far as they were released as not last, with the file's
 -- id, the chain over those chunks, and the tag
 pub record IsPositionOf (r : Run) (p : Position) : Type 0 where
-  pub index : p.index ≡ min (length r.out / 65536) (outcome (unbox r.key r.nonce) 65536 (segment_of r)).index
+  pub index : p.index
+      ≡ min (length r.out / 65536) (outcome (unbox r.key r.nonce) 65536 (segment_of r)).index
   pub file_id_is : p.file_id ≡ file_id r.front r.nonce
   pub chain_is : p.chain ≡ chain (first_chunks 65536 p.index r.out)
   pub tag_is : p.tag ≡ position_tag (position_key r.key r.nonce) p.index p.file_id p.chain
@@ -80,7 +84,8 @@ pub record IsPositionOf (r : Run) (p : Position) : Type 0 where
 
 -- nothing was written, and there is no position
 abbrev pub WritesNone : Ports → Ports → ℕ → Option Position → Type 0
-WritesNone old new written position = Appends old.taken new.taken [] × (written ≡ 0) × (position ≡ None)
+WritesNone old new written position = Appends old.taken new.taken [] × (written ≡ 0)
+    × (position ≡ None)
 
 module _ (Allows : Header → List ℕ → Type 0) where
   -- a run of which all text was written
@@ -92,7 +97,8 @@ module _ (Allows : Header → List ℕ → Type 0) where
   -- a run of which all text was written, with its position; or none yet: fewer bytes were pulled than a header and a nonce
   abbrev pub WroteSoFar : Ports → Ports → ℕ → Option Position → Type 0
   WroteSoFar old new written position =
-      (WritesNone old new written position × IsShort old.coming new.coming) ⊎ ((r : Run) × Wrote old new written r × IsSomeAnd position (IsPositionOf r))
+      (WritesNone old new written position × IsShort old.coming new.coming)
+      ⊎ ((r : Run) × Wrote old new written r × IsSomeAnd position (IsPositionOf r))
 
   -- the source ended, the end is reported, and all was written
   pub record DecryptDone (old new : Ports) (written : ℕ) (r : Run) : Type 0 where
@@ -103,19 +109,26 @@ module _ (Allows : Header → List ℕ → Type 0) where
     pub none_failed : NoneFailed old new
 
   -- when each fault comes, and what was written then
-  abbrev pub DecryptFails : (Header → KeyFault → Type 0) → Ports → Ports → ℕ → Option Position → FileFault → Type 0
+  abbrev pub DecryptFails : (Header → KeyFault → Type 0) → Ports → Ports → ℕ → Option Position
+      → FileFault → Type 0
   DecryptFails Refused old new written position (Stream fault) =
       (r : Run) × Wrote old new written r × IsSomeAnd position (IsPositionOf r)
-      × ((outcome (unbox r.key r.nonce) 65536 (segment_of r)).status ≡ Failed fault) × NoneFailed old new
+      × ((outcome (unbox r.key r.nonce) 65536 (segment_of r)).status ≡ Failed fault)
+      × NoneFailed old new
   DecryptFails Refused old new written position Write =
-      (r : Run) × IsRun Allows old new written r × WritesOf r × IsSomeAnd position (IsPositionOf r) × HasRisen old.write_failed new.write_failed
-  DecryptFails Refused old new written position Read = WroteSoFar old new written position × HasRisen old.read_failed new.read_failed
-  DecryptFails Refused old new written position ReadNeverEnds = WroteSoFar old new written position × NeverEnds old.coming new.coming
+      (r : Run) × IsRun Allows old new written r × WritesOf r × IsSomeAnd position (IsPositionOf r)
+      × HasRisen old.write_failed new.write_failed
+  DecryptFails Refused old new written position Read = WroteSoFar old new written position
+      × HasRisen old.read_failed new.read_failed
+  DecryptFails Refused old new written position ReadNeverEnds = WroteSoFar old new written position
+      × NeverEnds old.coming new.coming
   DecryptFails Refused old new written position fault =
-      WritesNone old new written position × StartFails Allows Refused old.coming new.coming old.read_failed new.read_failed fault
+      WritesNone old new written position
+      × StartFails Allows Refused old.coming new.coming old.read_failed new.read_failed fault
 
 -- the source is an age file of this text, and the unlocker has its key and no other, and no fault but want of memory
-pub record IsWhole (Allows : Header → List ℕ → Type 0) (Refused : Header → KeyFault → Type 0) (coming : Option (List ℕ)) (text : List ℕ) : Type 0 where
+pub record IsWhole (Allows : Header → List ℕ → Type 0) (Refused : Header → KeyFault → Type 0)
+    (coming : Option (List ℕ)) (text : List ℕ) : Type 0 where
   pub header : Header
   pub key : List ℕ
   pub nonce : List ℕ
@@ -128,9 +141,11 @@ pub record IsWhole (Allows : Header → List ℕ → Type 0) (Refused : Header �
   pub never : (fault : KeyFault) → Refused header fault → fault ≡ KeyMemory
 
 -- and no block of the payload opens except as its writer sealed it
-pub record IsUndamaged (Allows : Header → List ℕ → Type 0) (Refused : Header → KeyFault → Type 0) (coming : Option (List ℕ)) (text : List ℕ) : Type 0 where
+pub record IsUndamaged (Allows : Header → List ℕ → Type 0) (Refused : Header → KeyFault → Type 0)
+    (coming : Option (List ℕ)) (text : List ℕ) : Type 0 where
   pub whole : IsWhole Allows Refused coming text
-  pub authentic : IsAuthentic (box whole.key whole.nonce) (unbox whole.key whole.nonce) 65536 text (segment 0 (payload (box whole.key whole.nonce) 65536 text) true)
+  pub authentic : IsAuthentic (box whole.key whole.nonce) (unbox whole.key whole.nonce) 65536 text
+      (segment 0 (payload (box whole.key whole.nonce) 65536 text) true)
 
 -- what may stop its decryption all the same
 abbrev pub StopsOutside : FileFault → Type 0

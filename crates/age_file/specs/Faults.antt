@@ -101,7 +101,8 @@ HasRisen old new = (old < new) ⊎ (new ≡ 2 ^ 64 - 1)
 
 -- the bytes hold neither a header nor a fault, and are short of the limit: they were cut
 abbrev pub IsCut : List ℕ → HeadFault → Type 0
-IsCut bytes fault = NoFault bytes × (length bytes < 1048576) × (fault ≡ record { kind = HeadCut; line = line_after bytes })
+IsCut bytes fault = NoFault bytes × (length bytes < 1048576)
+    × (fault ≡ record { kind = HeadCut; line = line_after bytes })
 
 -- the fault of some bytes, after which the input ended: of a line, of their length, or of their end
 abbrev pub IsHeadFault : List ℕ → HeadFault → Type 0
@@ -131,7 +132,8 @@ IsInHeader old new = (bytes : List ℕ) × Consumes old new bytes × (HasHeader 
 -- fewer bytes came than those of a header and a payload nonce
 abbrev pub IsShort : Option (List ℕ) → Option (List ℕ) → Type 0
 IsShort old new = (bytes : List ℕ) × Consumes old new bytes
-    × ((h : Header) (front rest : List ℕ) → HeadText h front → bytes ≡ front ++ rest → length rest < 16)
+    × ((h : Header) (front rest : List ℕ) → HeadText h front → bytes ≡ front ++ rest
+    → length rest < 16)
 
 -- why a header was not read: what the source's bytes and its count of failures have to be for each fault
 abbrev pub HeadFails : Option (List ℕ) → Option (List ℕ) → ℕ → ℕ → FileFault → Type 0

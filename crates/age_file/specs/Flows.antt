@@ -20,27 +20,40 @@ pub record Flow (B : Type 0) : Type 0 where
   pub unread : Unread
 
 abbrev pub flow : {B : Type 0} → OpenerView B → Tally → Option (List ℕ) → ℕ → Unread → Flow B
-flow opener tally coming read_failed unread = record { opener = opener; tally = tally; coming = coming; read_failed = read_failed; unread = unread }
+flow opener tally coming read_failed unread = record {
+  opener = opener;
+  tally = tally;
+  coming = coming;
+  read_failed = read_failed;
+  unread = unread;
+}
 
 module _ {B : Type 0} where
   -- there are few bytes for the pulls that were made
   abbrev pub HasRoom : Flow B → Type 0
-  HasRoom f = (length f.opener.held + f.tally.progress.written + length f.unread.bytes ≤ 2 ^ 64 + 65536 * f.unread.pulls) × (f.unread.pulls ≤ 2 ^ 63)
+  HasRoom f =
+      (length f.opener.held + f.tally.progress.written + length f.unread.bytes
+      ≤ 2 ^ 64 + 65536 * f.unread.pulls) × (f.unread.pulls ≤ 2 ^ 63)
 
   abbrev pub SameFailures : Flow B → Flow B → Type 0
   SameFailures old new = (new.tally.failed ≡ old.tally.failed) × (new.read_failed ≡ old.read_failed)
 
   -- why it stopped, with what was left and cut off
   abbrev pub FlowFails : Flow B → Flow B → List ℕ → List ℕ → FileFault → Type 0
-  FlowFails old new left cut (Stream fault) = (new.opener.status ≡ Failed fault) × (left ≡ []) × (cut ≡ []) × SameFailures old new
+  FlowFails old new left cut (Stream fault) = (new.opener.status ≡ Failed fault) × (left ≡ [])
+      × (cut ≡ []) × SameFailures old new
   FlowFails old new left cut Write = HasRisen old.tally.failed new.tally.failed
-  FlowFails old new left cut Read = (left ≡ []) × (cut ≡ []) × HasRisen old.read_failed new.read_failed
-  FlowFails old new left cut ReadNeverEnds = (left ≡ []) × (cut ≡ []) × (new.unread.pulls ≡ 2 ^ 63) × SameFailures old new
+  FlowFails old new left cut Read = (left ≡ []) × (cut ≡ [])
+      × HasRisen old.read_failed new.read_failed
+  FlowFails old new left cut ReadNeverEnds = (left ≡ []) × (cut ≡ []) × (new.unread.pulls ≡ 2 ^ 63)
+      × SameFailures old new
   FlowFails old new left cut other = ⊥
 
   abbrev pub TurnGoes : Flow B → Flow B → List ℕ → List ℕ → Bool → Type 0
-  TurnGoes old new left cut true = (left ≡ new.unread.bytes) × (cut ≡ []) × SameFailures old new × HasRoom new × (new.unread.pulls ≡ old.unread.pulls + 1)
-  TurnGoes old new left cut false = (left ≡ []) × (cut ≡ []) × SameFailures old new × IsAtEnd new.coming × (length new.opener.held + new.tally.progress.written < 2 ^ 128)
+  TurnGoes old new left cut true = (left ≡ new.unread.bytes) × (cut ≡ []) × SameFailures old new
+      × HasRoom new × (new.unread.pulls ≡ old.unread.pulls + 1)
+  TurnGoes old new left cut false = (left ≡ []) × (cut ≡ []) × SameFailures old new
+      × IsAtEnd new.coming × (length new.opener.held + new.tally.progress.written < 2 ^ 128)
 
   module _ (opening : B → List ℕ → List ℕ → Option (List ℕ)) (n : ℕ) where
     -- of what was unread and what was pulled, so much was fed, and the rest was left
@@ -48,8 +61,11 @@ module _ {B : Type 0} where
       pub fed : List ℕ
       pub fresh : List ℕ
       pub parts : old.unread.bytes ++ fresh ≡ fed ++ left
-      pub releases : Releases opening n (λ s. with_piece s fed) old.opener new.opener old.tally new.tally cut
-      pub pulled : (start : Option (List ℕ)) (bytes : List ℕ) → Pulled start old.coming old.unread.pulls bytes → Pulled start new.coming new.unread.pulls (bytes ++ fresh)
+      pub releases : Releases opening n (λ s. with_piece s fed) old.opener new.opener old.tally
+          new.tally cut
+      pub pulled : (start : Option (List ℕ)) (bytes : List ℕ)
+          → Pulled start old.coming old.unread.pulls bytes
+          → Pulled start new.coming new.unread.pulls (bytes ++ fresh)
 
     -- a piece was fed and the next was pulled; false where the source is at its end
     pub record Turns (old new : Flow B) (result : Result Bool FileFault) : Type 0 where
@@ -63,4 +79,5 @@ module _ {B : Type 0} where
       pub left : List ℕ
       pub cut : List ℕ
       pub flows : Flows old new left cut
-      pub answered : MatchResult result (λ _. TurnGoes old new left cut false) (FlowFails old new left cut)
+      pub answered : MatchResult result (λ _. TurnGoes old new left cut false)
+          (FlowFails old new left cut)

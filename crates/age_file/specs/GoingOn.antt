@@ -10,17 +10,20 @@ side_of s = side s.coming s.read_failed s.unread
 
 -- what was pulled of a source, all told
 abbrev pub HasPulled : Stage → Type 0
-HasPulled s = (start : Option (List ℕ)) × (used : List ℕ) × Pulled start s.coming s.unread.pulls (used ++ s.unread.bytes)
+HasPulled s = (start : Option (List ℕ)) × (used : List ℕ)
+    × Pulled start s.coming s.unread.pulls (used ++ s.unread.bytes)
 
 -- the blocks before were not all passed over, and nothing more was written
-pub record StopsBefore (index : ℕ) (old new : Stage) (result : Result (Unit {0}) FileFault) : Type 0 where
+pub record StopsBefore (index : ℕ) (old new : Stage) (result : Result (Unit {0}) FileFault)
+    : Type 0 where
   pub fault : FileFault
   pub is : result ≡ Err fault
   pub fails : PassFails 65552 index (side_of old) (side_of new) fault
   pub same : new.tally ≡ old.tally
 
 -- they were, and the bytes behind them were poured
-pub record PoursBehind (opening : List ℕ → List ℕ → Option (List ℕ)) (index : ℕ) (old new : Stage) (result : Result (Unit {0}) FileFault) : Type 0 where
+pub record PoursBehind (opening : List ℕ → List ℕ → Option (List ℕ)) (index : ℕ) (old new : Stage)
+    (result : Result (Unit {0}) FileFault) : Type 0 where
   pub mid : Stage
   pub passed : List ℕ
   pub size : length passed ≡ index * 65552
@@ -28,5 +31,7 @@ pub record PoursBehind (opening : List ℕ → List ℕ → Option (List ℕ)) (
   pub same : mid.tally ≡ old.tally
   pub pours : Pours opening 65536 index mid new result
 
-abbrev pub GoesOn : (List ℕ → List ℕ → Option (List ℕ)) → ℕ → Stage → Stage → Result (Unit {0}) FileFault → Type 0
-GoesOn opening index old new result = StopsBefore index old new result ⊎ PoursBehind opening index old new result
+abbrev pub GoesOn : (List ℕ → List ℕ → Option (List ℕ)) → ℕ → Stage → Stage
+    → Result (Unit {0}) FileFault → Type 0
+GoesOn opening index old new result = StopsBefore index old new result
+    ⊎ PoursBehind opening index old new result

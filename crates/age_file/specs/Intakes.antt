@@ -22,14 +22,21 @@ PullFails pulls failed_old failed_new ReadNeverEnds = pulls ≡ 2 ^ 63
 PullFails pulls failed_old failed_new other = ⊥
 
 abbrev pub Refilled : Option (List ℕ) → ℕ → ℕ → Unread → Unread → Result Bool FileFault → Type 0
-Refilled now failed_old failed_new old new (Ok true) = (0 < length new.bytes) × (length new.bytes ≤ 65536) × (new.pulls ≤ 2 ^ 63) × (new.pulls ≡ old.pulls + 1) × (failed_new ≡ failed_old)
-Refilled now failed_old failed_new old new (Ok false) = (new.bytes ≡ []) × (new.pulls ≡ old.pulls) × IsAtEnd now × (failed_new ≡ failed_old)
-Refilled now failed_old failed_new old new (Err fault) = (new.bytes ≡ []) × (new.pulls ≡ old.pulls) × PullFails old.pulls failed_old failed_new fault × (fault ≡ ReadNeverEnds → failed_new ≡ failed_old)
+Refilled now failed_old failed_new old new (Ok true) = (0 < length new.bytes)
+    × (length new.bytes ≤ 65536) × (new.pulls ≤ 2 ^ 63) × (new.pulls ≡ old.pulls + 1)
+    × (failed_new ≡ failed_old)
+Refilled now failed_old failed_new old new (Ok false) = (new.bytes ≡ []) × (new.pulls ≡ old.pulls)
+    × IsAtEnd now × (failed_new ≡ failed_old)
+Refilled now failed_old failed_new old new (Err fault) = (new.bytes ≡ []) × (new.pulls ≡ old.pulls)
+    × PullFails old.pulls failed_old failed_new fault
+    × (fault ≡ ReadNeverEnds → failed_new ≡ failed_old)
 
 -- one pull, where no byte was left: what was pulled from any start is now that and the fresh bytes
-pub record Refills (before now : Option (List ℕ)) (failed_old failed_new : ℕ) (old new : Unread) (result : Result Bool FileFault) : Type 0 where
+pub record Refills (before now : Option (List ℕ)) (failed_old failed_new : ℕ) (old new : Unread)
+    (result : Result Bool FileFault) : Type 0 where
   pub answered : Refilled now failed_old failed_new old new result
-  pub pulled : (start : Option (List ℕ)) (bytes : List ℕ) → Pulled start before old.pulls bytes → Pulled start now new.pulls (bytes ++ new.bytes)
+  pub pulled : (start : Option (List ℕ)) (bytes : List ℕ) → Pulled start before old.pulls bytes
+      → Pulled start now new.pulls (bytes ++ new.bytes)
 
 -- a header was read, and what follows it is in the intake
 pub record ReadsHead (old new : Option (List ℕ)) (unread : Unread) (head : Head) : Type 0 where
@@ -40,12 +47,14 @@ pub record ReadsHead (old new : Option (List ℕ)) (unread : Unread) (head : Hea
 
 -- the rest of a source was read to its end: so many bytes, those in the intake among them
 abbrev pub CountsRest : Option (List ℕ) → Option (List ℕ) → Unread → ℕ → Type 0
-CountsRest before now old count = (start : Option (List ℕ)) (used : List ℕ) → Pulled start before old.pulls (used ++ old.bytes)
+CountsRest before now old count = (start : Option (List ℕ)) (used : List ℕ)
+    → Pulled start before old.pulls (used ++ old.bytes)
     → (rest : List ℕ) × (count ≡ length rest) × Consumes start now (used ++ rest)
 
 -- why the rest could not be read
 abbrev pub RestFails : Option (List ℕ) → Option (List ℕ) → ℕ → ℕ → Unread → FileFault → Type 0
 RestFails before now failed_old failed_new old Read = HasRisen failed_old failed_new
-RestFails before now failed_old failed_new old ReadNeverEnds = (start : Option (List ℕ)) (used : List ℕ) → Pulled start before old.pulls (used ++ old.bytes)
+RestFails before now failed_old failed_new old ReadNeverEnds = (start : Option (List ℕ))
+    (used : List ℕ) → Pulled start before old.pulls (used ++ old.bytes)
     → (bytes : List ℕ) × Consumes start now bytes × (2 ^ 63 ≤ length bytes)
 RestFails before now failed_old failed_new old other = ⊥

@@ -13,7 +13,11 @@ pub mod Marks
 pub mod Releases
 pub mod Flows
 pub mod Decrypts
+pub mod Verdicts
+pub mod OldTexts
 pub mod Resumes
+pub mod ResumeFaults
+pub mod UndamagedRests
 pub mod Pours
 pub mod GoingOn
 pub mod Seals

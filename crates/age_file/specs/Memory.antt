@@ -17,7 +17,8 @@ pub record Feeding : Type 0 where
 
 -- a pull into a slice of so many bytes
 abbrev pub Pulls : Feeding → ℕ → Result ℕ Failed → Feeding → Type 0
-Pulls old room (Ok n) new = (old.fail_call ≢ Some old.calls) × (n ≡ min (min old.step room) (length old.left))
+Pulls old room (Ok n) new = (old.fail_call ≢ Some old.calls)
+    × (n ≡ min (min old.step room) (length old.left))
     × (new ≡ record old { left = drop n old.left; calls = one_more old.calls })
 Pulls old room (Err failed) new = (old.fail_call ≡ Some old.calls)
     × (new ≡ record old { calls = one_more old.calls; failures = one_more old.failures })
@@ -34,12 +35,15 @@ pub record Holding : Type 0 where
 
 -- a put of these bytes; it fails by plan, or where there are bytes and no room
 abbrev pub Puts : Holding → List ℕ → Result ℕ Failed → Holding → Type 0
-Puts old from (Ok n) new = (old.fail_call ≢ Some old.calls) × (n ≡ min (min old.step (length from)) (old.room - length old.held))
+Puts old from (Ok n) new = (old.fail_call ≢ Some old.calls)
+    × (n ≡ min (min old.step (length from)) (old.room - length old.held))
     × (new ≡ record old { held = old.held ++ take n from; calls = one_more old.calls })
-Puts old from (Err failed) new = ((old.fail_call ≡ Some old.calls) ⊎ ((from ≢ []) × (length old.held ≡ old.room)))
+Puts old from (Err failed) new = ((old.fail_call ≡ Some old.calls)
+    ⊎ ((from ≢ []) × (length old.held ≡ old.room)))
     × (new ≡ record old { calls = one_more old.calls; failures = one_more old.failures })
 
 abbrev pub Flushes : Holding → Result (Unit {0}) Failed → Holding → Type 0
-Flushes old (Ok done) new = (old.fail_call ≢ Some old.calls) × (new ≡ record old { calls = one_more old.calls })
+Flushes old (Ok done) new = (old.fail_call ≢ Some old.calls)
+    × (new ≡ record old { calls = one_more old.calls })
 Flushes old (Err failed) new = (old.fail_call ≡ Some old.calls)
     × (new ≡ record old { calls = one_more old.calls; failures = one_more old.failures })

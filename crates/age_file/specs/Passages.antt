@@ -31,8 +31,10 @@ pub record Dries (old new : Side) (bytes : List ℕ) (fault : FileFault) : Type 
 -- so many bytes were passed over, or the source ended before, or failed
 abbrev pub PassesBlock : ℕ → Side → Side → Result Bool FileFault → Type 0
 PassesBlock n old new (Ok true) = (bytes : List ℕ) × (length bytes ≡ n) × Passes old new bytes
-PassesBlock n old new (Ok false) = (bytes : List ℕ) × (length bytes < n) × Passes old new bytes × (new.unread.bytes ≡ []) × IsAtEnd new.coming
-PassesBlock n old new (Err fault) = (bytes : List ℕ) × (length bytes < n) × Dries old new bytes fault
+PassesBlock n old new (Ok false) = (bytes : List ℕ) × (length bytes < n) × Passes old new bytes
+    × (new.unread.bytes ≡ []) × IsAtEnd new.coming
+PassesBlock n old new (Err fault) = (bytes : List ℕ) × (length bytes < n)
+    × Dries old new bytes fault
 
 -- the source ended after j whole blocks of n bytes
 pub record EndsAfter (n j : ℕ) (old new : Side) : Type 0 where
@@ -44,12 +46,16 @@ pub record EndsAfter (n j : ℕ) (old new : Side) : Type 0 where
   pub at_end : IsAtEnd new.coming
 
 abbrev pub PassFails : ℕ → ℕ → Side → Side → FileFault → Type 0
-PassFails n blocks old new (Stream fault) = (fault.kind ≡ Truncated) × (fault.chunk < blocks) × EndsAfter n fault.chunk old new
-PassFails n blocks old new Read = (bytes : List ℕ) × (length bytes < blocks * n) × Dries old new bytes Read
-PassFails n blocks old new ReadNeverEnds = (bytes : List ℕ) × (length bytes < blocks * n) × Dries old new bytes ReadNeverEnds
+PassFails n blocks old new (Stream fault) = (fault.kind ≡ Truncated) × (fault.chunk < blocks)
+    × EndsAfter n fault.chunk old new
+PassFails n blocks old new Read = (bytes : List ℕ) × (length bytes < blocks * n)
+    × Dries old new bytes Read
+PassFails n blocks old new ReadNeverEnds = (bytes : List ℕ) × (length bytes < blocks * n)
+    × Dries old new bytes ReadNeverEnds
 PassFails n blocks old new other = ⊥
 
 -- so many blocks of n bytes were passed over
 abbrev pub PassesOver : ℕ → ℕ → Side → Side → Result (Unit {0}) FileFault → Type 0
-PassesOver n blocks old new (Ok done) = (bytes : List ℕ) × (length bytes ≡ blocks * n) × Passes old new bytes
+PassesOver n blocks old new (Ok done) = (bytes : List ℕ) × (length bytes ≡ blocks * n)
+    × Passes old new bytes
 PassesOver n blocks old new (Err fault) = PassFails n blocks old new fault

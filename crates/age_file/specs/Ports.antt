@@ -9,7 +9,12 @@ pub record Ports : Type 0 where
   pub write_failed : ℕ
 
 abbrev pub ports : Option (List ℕ) → ℕ → Option (List ℕ) → ℕ → Ports
-ports coming read_failed taken write_failed = record { coming = coming; read_failed = read_failed; taken = taken; write_failed = write_failed }
+ports coming read_failed taken write_failed = record {
+  coming = coming;
+  read_failed = read_failed;
+  taken = taken;
+  write_failed = write_failed;
+}
 
 abbrev pub NoneFailed : Ports → Ports → Type 0
 NoneFailed old new = (new.read_failed ≡ old.read_failed) × (new.write_failed ≡ old.write_failed)

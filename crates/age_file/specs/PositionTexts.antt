@@ -17,7 +17,8 @@ pub record IsDigest (bytes : List ℕ) : Type 0 where
 
 -- the text is none of a position
 abbrev pub NoPosition : List ℕ → Type 0
-NoPosition words = (p : Position) → IsDigest p.file_id → IsDigest p.chain → IsDigest p.tag → words ≢ position_text p
+NoPosition words = (p : Position) → IsDigest p.file_id → IsDigest p.chain → IsDigest p.tag
+    → words ≢ position_text p
 
 -- how a text begins that has this index
 abbrev pub index_text : ℕ → List ℕ

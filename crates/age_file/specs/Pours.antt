@@ -23,10 +23,16 @@ pub record Stage : Type 0 where
   pub unread : Unread
 
 abbrev pub stage : Tally → Option (List ℕ) → ℕ → Unread → Stage
-stage tally coming read_failed unread = record { tally = tally; coming = coming; read_failed = read_failed; unread = unread }
+stage tally coming read_failed unread = record {
+  tally = tally;
+  coming = coming;
+  read_failed = read_failed;
+  unread = unread;
+}
 
 abbrev pub HasPlace : Stage → Type 0
-HasPlace s = (s.tally.progress.written + length s.unread.bytes ≤ 2 ^ 64 + 65536 * s.unread.pulls) × (s.unread.pulls ≤ 2 ^ 63)
+HasPlace s = (s.tally.progress.written + length s.unread.bytes ≤ 2 ^ 64 + 65536 * s.unread.pulls)
+    × (s.unread.pulls ≤ 2 ^ 63)
 
 abbrev pub NoneFailed : Stage → Stage → Type 0
 NoneFailed old new = (new.tally.failed ≡ old.tally.failed) × (new.read_failed ≡ old.read_failed)
@@ -34,28 +40,37 @@ NoneFailed old new = (new.tally.failed ≡ old.tally.failed) × (new.read_failed
 module _ (opening : List ℕ → List ℕ → Option (List ℕ)) (n : ℕ) where
   -- all of the text was written, and the fault is where the segment stands; unless the sink failed
   abbrev pub PourFails : Stage → Stage → Segment → List ℕ → FileFault → Type 0
-  PourFails old new s out (Stream fault) = ((outcome opening n s).status ≡ Failed fault) × (out ≡ released opening n s) × NoneFailed old new
+  PourFails old new s out (Stream fault) = ((outcome opening n s).status ≡ Failed fault)
+      × (out ≡ released opening n s) × NoneFailed old new
   PourFails old new s out Write = HasRisen old.tally.failed new.tally.failed
-  PourFails old new s out Read = (out ≡ released opening n s) × HasRisen old.read_failed new.read_failed
-  PourFails old new s out ReadNeverEnds = (out ≡ released opening n s) × (new.unread.pulls ≡ 2 ^ 63) × NoneFailed old new
+  PourFails old new s out Read = (out ≡ released opening n s)
+      × HasRisen old.read_failed new.read_failed
+  PourFails old new s out ReadNeverEnds = (out ≡ released opening n s) × (new.unread.pulls ≡ 2 ^ 63)
+      × NoneFailed old new
   PourFails old new s out other = ⊥
 
   abbrev pub PourDone : Stage → Stage → Segment → List ℕ → Type 0
-  PourDone old new s out = (s.ended ≡ true) × ((outcome opening n s).status ≡ Done) × (out ≡ released opening n s) × NoneFailed old new
+  PourDone old new s out = (s.ended ≡ true) × ((outcome opening n s).status ≡ Done)
+      × (out ≡ released opening n s) × NoneFailed old new
 
   -- the bytes that were pulled are a segment, and the beginning of its text was written
-  pub record Pours (start : ℕ) (old new : Stage) (result : Result (Unit {0}) FileFault) : Type 0 where
+  pub record Pours (start : ℕ) (old new : Stage) (result : Result (Unit {0}) FileFault)
+      : Type 0 where
     pub bytes : List ℕ
     pub ended : Bool
     pub out : List ℕ
     pub fresh : List ℕ
     pub parts : old.unread.bytes ++ fresh ≡ bytes
-    pub pulled : (from : Option (List ℕ)) (all : List ℕ) → Pulled from old.coming old.unread.pulls all → Pulled from new.coming new.unread.pulls (all ++ fresh)
+    pub pulled : (from : Option (List ℕ)) (all : List ℕ)
+        → Pulled from old.coming old.unread.pulls all
+        → Pulled from new.coming new.unread.pulls (all ++ fresh)
     pub at_end : ended ≡ true → IsAtEnd new.coming
     pub wrote : Appends old.tally.taken new.tally.taken out
     pub named : new.tally.label ≡ old.tally.label
     pub count : new.tally.progress.written ≡ old.tally.progress.written + length out
     pub prefix : IsPrefixOf out (released opening n (segment start bytes ended))
-    pub marks : (base : List ℕ) → length base ≡ start * n → old.tally.progress.index ≡ start → old.tally.progress.chain ≡ chain (first_chunks n start base)
+    pub marks : (base : List ℕ) → length base ≡ start * n → old.tally.progress.index ≡ start
+        → old.tally.progress.chain ≡ chain (first_chunks n start base)
         → IsMarked opening n (base ++ out) (segment start bytes ended) new.tally.progress
-    pub answered : MatchResult result (λ _. PourDone old new (segment start bytes ended) out) (PourFails old new (segment start bytes ended) out)
+    pub answered : MatchResult result (λ _. PourDone old new (segment start bytes ended) out)
+        (PourFails old new (segment start bytes ended) out)

@@ -19,52 +19,72 @@ pub record Tally : Type 0 where
   pub progress : Progress
 
 abbrev pub tally : Option (List ℕ) → ℕ → List ℕ → Progress → Tally
-tally taken failed label progress = record { taken = taken; failed = failed; label = label; progress = progress }
+tally taken failed label progress = record {
+  taken = taken;
+  failed = failed;
+  label = label;
+  progress = progress;
+}
 
 module _ {B : Type 0} (opening : B → List ℕ → List ℕ → Option (List ℕ)) (n : ℕ) where
   -- for each segment that the opener stood for, it stands for the next, whose text is more by what was written and what was cut off;
   -- behind any base, the progress goes on counting the chunks that were written
-  pub record Releases (next : Segment → Segment) (old new : OpenerView B) (was now : Tally) (cut : List ℕ) : Type 0 where
+  pub record Releases (next : Segment → Segment) (old new : OpenerView B) (was now : Tally)
+      (cut : List ℕ) : Type 0 where
     pub out : List ℕ
     pub key : new.key ≡ old.key
     pub wrote : Appends was.taken now.taken out
     pub named : now.label ≡ was.label
     pub count : now.progress.written ≡ was.progress.written + length out
     pub stands : (s : Segment) → Stands opening n old s → Stands opening n new (next s)
-    pub text : (s : Segment) → Stands opening n old s → released (opening old.key) n (next s) ≡ released (opening old.key) n s ++ (out ++ cut)
-    pub marks : 0 < n → (s : Segment) (base : List ℕ) → length base ≡ s.start * n → Stands opening n old s
-        → Marks (opening old.key) n base s [] was.progress → Marks (opening old.key) n base (next s) cut now.progress
+    pub text : (s : Segment) → Stands opening n old s → released (opening old.key) n (next s)
+        ≡ released (opening old.key) n s ++ (out ++ cut)
+    pub marks : 0 < n → (s : Segment) (base : List ℕ) → length base ≡ s.start * n
+        → Stands opening n old s
+        → Marks (opening old.key) n base s [] was.progress
+        → Marks (opening old.key) n base (next s) cut now.progress
 
   -- a fault of the opener, or of the sink, with what was left of the piece and cut off
   abbrev pub FeedFails : OpenerView B → Tally → Tally → List ℕ → List ℕ → FileFault → Type 0
-  FeedFails new was now left cut (Stream fault) = (new.status ≡ Failed fault) × (left ≡ []) × (cut ≡ []) × (now.failed ≡ was.failed)
+  FeedFails new was now left cut (Stream fault) = (new.status ≡ Failed fault) × (left ≡ [])
+      × (cut ≡ []) × (now.failed ≡ was.failed)
   FeedFails new was now left cut Write = HasRisen was.failed now.failed
   FeedFails new was now left cut other = ⊥
 
   -- what the opener holds and what was written is no more than what it held, and was fed
   abbrev pub FeedGoes : OpenerView B → OpenerView B → Tally → Tally → List ℕ → List ℕ → Type 0
-  FeedGoes old new was now fed cut = (length new.held + now.progress.written ≤ length old.held + was.progress.written + length fed) × (cut ≡ []) × (now.failed ≡ was.failed)
+  FeedGoes old new was now fed cut =
+      (length new.held + now.progress.written
+      ≤ length old.held + was.progress.written + length fed) × (cut ≡ []) × (now.failed ≡ was.failed)
 
   -- one call: the opener took the front of the piece
-  pub record FeedsOnce (old new : OpenerView B) (was now : Tally) (piece : List ℕ) (result : Result ℕ FileFault) : Type 0 where
+  pub record FeedsOnce (old new : OpenerView B) (was now : Tally) (piece : List ℕ)
+      (result : Result ℕ FileFault) : Type 0 where
     pub fed : List ℕ
     pub left : List ℕ
     pub cut : List ℕ
     pub parts : piece ≡ fed ++ left
     pub releases : Releases (λ s. with_piece s fed) old new was now cut
-    pub answered : MatchResult result (λ taken. (taken ≡ length fed) × FeedGoes old new was now fed cut) (FeedFails new was now left cut)
+    pub answered : MatchResult result
+        (λ taken. (taken ≡ length fed) × FeedGoes old new was now fed cut)
+        (FeedFails new was now left cut)
 
   -- calls for a whole piece
-  pub record FeedsPiece (old new : OpenerView B) (was now : Tally) (piece : List ℕ) (result : Result (Unit {0}) FileFault) : Type 0 where
+  pub record FeedsPiece (old new : OpenerView B) (was now : Tally) (piece : List ℕ)
+      (result : Result (Unit {0}) FileFault) : Type 0 where
     pub fed : List ℕ
     pub left : List ℕ
     pub cut : List ℕ
     pub parts : piece ≡ fed ++ left
     pub releases : Releases (λ s. with_piece s fed) old new was now cut
-    pub answered : MatchResult result (λ _. (left ≡ []) × FeedGoes old new was now fed cut) (FeedFails new was now left cut)
+    pub answered : MatchResult result (λ _. (left ≡ []) × FeedGoes old new was now fed cut)
+        (FeedFails new was now left cut)
 
   -- the end, for each segment that the opener stood for
-  pub record Closes (old new : OpenerView B) (was now : Tally) (result : Result (Unit {0}) FileFault) : Type 0 where
+  pub record Closes (old new : OpenerView B) (was now : Tally)
+      (result : Result (Unit {0}) FileFault) : Type 0 where
     pub cut : List ℕ
     pub releases : Releases with_end old new was now cut
-    pub answered : MatchResult result (λ _. (new.status ≡ Done) × (cut ≡ []) × (now.failed ≡ was.failed)) (FeedFails new was now [] cut)
+    pub answered : MatchResult result
+        (λ _. (new.status ≡ Done) × (cut ≡ []) × (now.failed ≡ was.failed))
+        (FeedFails new was now [] cut)

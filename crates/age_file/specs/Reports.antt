@@ -9,7 +9,11 @@ use Rattle.age_file.specs.declared.report.Report.{Report}
 
 -- a stanza's type, how many arguments follow it, and the length of its body
 abbrev pub stanza_report : Stanza → StanzaReport
-stanza_report s = record { kind = slice_index_or s.args 0 []; args = length s.args - 1; body = length s.body }
+stanza_report s = record {
+  kind = slice_index_or s.args 0 [];
+  args = length s.args - 1;
+  body = length s.body;
+}
 
 -- how many chunks a plaintext of p bytes has
 abbrev pub chunk_count : ℕ → ℕ

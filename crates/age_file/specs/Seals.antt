@@ -35,7 +35,8 @@ pub record IsFeeding {B : Type 0} (s : SealerView B) : Type 0 where
 
 -- what the sealer holds and the piece are more than 2^48 chunks
 abbrev pub IsTooLong : {B : Type 0} → ℕ → SealerView B → List ℕ → Type 0
-IsTooLong n old piece = (text : List ℕ) → Holds n old text → chunk_limit * n < length (text ++ piece)
+IsTooLong n old piece = (text : List ℕ) → Holds n old text
+    → chunk_limit * n < length (text ++ piece)
 
 module _ {B : Type 0} (sealing : B → List ℕ → List ℕ → List ℕ) (n : ℕ) where
   -- what was written and is still to be written fits its count: the blocks of a text that isn't too long, and something before them
@@ -57,24 +58,29 @@ module _ {B : Type 0} (sealing : B → List ℕ → List ℕ → List ℕ) (n : 
   SealFails old was now piece other = ⊥
 
   -- of a piece the sealer was fed the front; its blocks grew by what was written, and by what wasn't where the sink failed
-  pub record SealsSome (old new : SealerView B) (was now : Tally) (piece fed left cut : List ℕ) : Type 0 where
+  pub record SealsSome (old new : SealerView B) (was now : Tally) (piece fed left cut : List ℕ)
+      : Type 0 where
     pub out : List ℕ
     pub parts : piece ≡ fed ++ left
     pub wrote : Wrote was now out
-    pub blocks : (text : List ℕ) → Holds n old text → front_of (sealing old.key) n (text ++ fed) ≡ front_of (sealing old.key) n text ++ (out ++ cut)
+    pub blocks : (text : List ℕ) → Holds n old text → front_of (sealing old.key) n (text ++ fed)
+        ≡ front_of (sealing old.key) n text ++ (out ++ cut)
 
   -- one feed
-  pub record SealsOnce (old new : SealerView B) (was now : Tally) (piece : List ℕ) (result : Result ℕ FileFault) : Type 0 where
+  pub record SealsOnce (old new : SealerView B) (was now : Tally) (piece : List ℕ)
+      (result : Result ℕ FileFault) : Type 0 where
     pub fed : List ℕ
     pub left : List ℕ
     pub cut : List ℕ
     pub some : SealsSome old new was now piece fed left cut
     pub answered : MatchResult result
-        (λ taken. (taken ≡ length fed) × (0 < length piece → 0 < taken) × (cut ≡ []) × (now.failures ≡ was.failures) × GoesOn old new fed)
+        (λ taken. (taken ≡ length fed) × (0 < length piece → 0 < taken) × (cut ≡ [])
+        × (now.failures ≡ was.failures) × GoesOn old new fed)
         (SealFails old was now piece)
 
   -- a whole piece
-  pub record SealsPiece (old new : SealerView B) (was now : Tally) (piece : List ℕ) (result : Result (Unit {0}) FileFault) : Type 0 where
+  pub record SealsPiece (old new : SealerView B) (was now : Tally) (piece : List ℕ)
+      (result : Result (Unit {0}) FileFault) : Type 0 where
     pub fed : List ℕ
     pub left : List ℕ
     pub cut : List ℕ
@@ -85,17 +91,21 @@ module _ {B : Type 0} (sealing : B → List ℕ → List ℕ → List ℕ) (n : 
 
 -- the last block of what the sealer holds: what of it was written, and what wasn't where the sink failed
 module _ {B : Type 0} (sealing : B → List ℕ → List ℕ → List ℕ) (n : ℕ) where
-  pub record SealsLast (old : SealerView B) (was now : Tally) (result : Result (Unit {0}) FileFault) : Type 0 where
+  pub record SealsLast (old : SealerView B) (was now : Tally) (result : Result (Unit {0}) FileFault)
+      : Type 0 where
     pub out : List ℕ
     pub cut : List ℕ
     pub wrote : Wrote was now out
-    pub blocks : (text : List ℕ) → Holds n old text → payload (sealing old.key) n text ≡ front_of (sealing old.key) n text ++ (out ++ cut)
-    pub answered : MatchResult result (λ _. (cut ≡ []) × (now.failures ≡ was.failures)) (λ fault. (fault ≡ Write) × HasRisen was.failures now.failures)
+    pub blocks : (text : List ℕ) → Holds n old text → payload (sealing old.key) n text
+        ≡ front_of (sealing old.key) n text ++ (out ++ cut)
+    pub answered : MatchResult result (λ _. (cut ≡ []) × (now.failures ≡ was.failures))
+        (λ fault. (fault ≡ Write) × HasRisen was.failures now.failures)
 
 -- ---- a whole source
 
 -- so much was read from a source, and so much written
-pub record ReadsWrites (old new : Ports) (written_old written_new : ℕ) (text out : List ℕ) : Type 0 where
+pub record ReadsWrites (old new : Ports) (written_old written_new : ℕ) (text out : List ℕ)
+    : Type 0 where
   pub read : Consumes old.coming new.coming text
   pub wrote : Appends old.taken new.taken out
   pub count : written_new ≡ written_old + length out
@@ -103,7 +113,8 @@ pub record ReadsWrites (old new : Ports) (written_old written_new : ℕ) (text o
 
 -- why a source wasn't sealed to its end
 abbrev pub SealingFails : ℕ → Ports → Ports → List ℕ → FileFault → Type 0
-SealingFails n old new text (Stream fault) = (chunk_limit * n < length text) × (fault ≡ too_many (chunk_limit - 1))
+SealingFails n old new text (Stream fault) = (chunk_limit * n < length text)
+    × (fault ≡ too_many (chunk_limit - 1))
 SealingFails n old new text Read = HasRisen old.read_failed new.read_failed
 SealingFails n old new text Write = HasRisen old.write_failed new.write_failed
 SealingFails n old new text ReadNeverEnds = 2 ^ 63 ≤ length text
@@ -111,9 +122,11 @@ SealingFails n old new text other = ⊥
 
 -- a source was read to its end, and but for the last chunk its text was sealed and written
 module _ {B : Type 0} (sealing : B → List ℕ → List ℕ → List ℕ) (n : ℕ) where
-  pub record SealsSource (before after : SealerView B) (old new : Ports) (written_old written_new plain : ℕ) : Type 0 where
+  pub record SealsSource (before after : SealerView B) (old new : Ports)
+      (written_old written_new plain : ℕ) : Type 0 where
     pub text : List ℕ
-    pub moved : ReadsWrites old new written_old written_new text (front_of (sealing before.key) n text)
+    pub moved : ReadsWrites old new written_old written_new text
+        (front_of (sealing before.key) n text)
     pub at_end : IsAtEnd new.coming
     pub plain_is : plain ≡ length text
     pub none_failed : NoneFailed old new
@@ -131,7 +144,8 @@ module _ (sealing : List ℕ → List ℕ → List ℕ) (n : ℕ) where
     pub none_failed : NoneFailed old new
 
   -- it wasn't, and a front of the payload of what was read was written
-  pub record SealsFront (old new : Ports) (written_old written_new : ℕ) (fault : FileFault) : Type 0 where
+  pub record SealsFront (old new : Ports) (written_old written_new : ℕ) (fault : FileFault)
+      : Type 0 where
     pub text : List ℕ
     pub out : List ℕ
     pub moved : ReadsWrites old new written_old written_new text out

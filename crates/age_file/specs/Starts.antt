@@ -17,26 +17,37 @@ use Rattle.age_file.specs.declared.fault.FileFault.TheVariants.{Head, Key, Nonce
 -- bytes of the intake were used, behind those that were used before
 abbrev pub Uses : Option (List ℕ) → Option (List ℕ) → Unread → Unread → List ℕ → Type 0
 Uses before after old new bytes =
-    (start : Option (List ℕ)) (used : List ℕ) → Pulled start before old.pulls (used ++ old.bytes) → Pulled start after new.pulls (used ++ (bytes ++ new.bytes))
+    (start : Option (List ℕ)) (used : List ℕ) → Pulled start before old.pulls (used ++ old.bytes)
+    → Pulled start after new.pulls (used ++ (bytes ++ new.bytes))
 
 -- some byte is there, or the source is at its end
 abbrev pub SomeAnswers : Option (List ℕ) → ℕ → ℕ → Unread → Result Bool FileFault → Type 0
-SomeAnswers after failed_old failed_new new (Ok true) = (0 < length new.bytes) × (failed_new ≡ failed_old)
-SomeAnswers after failed_old failed_new new (Ok false) = (new.bytes ≡ []) × IsAtEnd after × (failed_new ≡ failed_old)
-SomeAnswers after failed_old failed_new new (Err fault) = (new.bytes ≡ []) × PullFails new.pulls failed_old failed_new fault × (fault ≡ ReadNeverEnds → failed_new ≡ failed_old)
+SomeAnswers after failed_old failed_new new (Ok true) = (0 < length new.bytes)
+    × (failed_new ≡ failed_old)
+SomeAnswers after failed_old failed_new new (Ok false) = (new.bytes ≡ []) × IsAtEnd after
+    × (failed_new ≡ failed_old)
+SomeAnswers after failed_old failed_new new (Err fault) = (new.bytes ≡ [])
+    × PullFails new.pulls failed_old failed_new fault
+    × (fault ≡ ReadNeverEnds → failed_new ≡ failed_old)
 
 -- so few bytes of a nonce were used, and no byte is left
 abbrev pub UsesShort : Option (List ℕ) → Option (List ℕ) → Unread → Unread → Type 0
-UsesShort before after old new = (short : List ℕ) × (length short < 16) × Uses before after old new short × (new.bytes ≡ [])
+UsesShort before after old new = (short : List ℕ) × (length short < 16)
+    × Uses before after old new short × (new.bytes ≡ [])
 
-abbrev pub NonceFails : Option (List ℕ) → Option (List ℕ) → ℕ → ℕ → Unread → Unread → FileFault → Type 0
-NonceFails before after failed_old failed_new old new NonceCut = UsesShort before after old new × IsAtEnd after
-NonceFails before after failed_old failed_new old new Read = UsesShort before after old new × HasRisen failed_old failed_new
-NonceFails before after failed_old failed_new old new ReadNeverEnds = UsesShort before after old new × (new.pulls ≡ 2 ^ 63)
+abbrev pub NonceFails : Option (List ℕ) → Option (List ℕ) → ℕ → ℕ → Unread → Unread → FileFault
+    → Type 0
+NonceFails before after failed_old failed_new old new NonceCut = UsesShort before after old new
+    × IsAtEnd after
+NonceFails before after failed_old failed_new old new Read = UsesShort before after old new
+    × HasRisen failed_old failed_new
+NonceFails before after failed_old failed_new old new ReadNeverEnds = UsesShort before after old new
+    × (new.pulls ≡ 2 ^ 63)
 NonceFails before after failed_old failed_new old new other = ⊥
 
 -- a header was read and opened, and the nonce behind it was read
-pub record StartsAt (Allows : Header → List ℕ → Type 0) (old new : Option (List ℕ)) (unread : Unread) (unlocked : Unlocked) : Type 0 where
+pub record StartsAt (Allows : Header → List ℕ → Type 0) (old new : Option (List ℕ))
+    (unread : Unread) (unlocked : Unlocked) : Type 0 where
   pub header : Header
   pub front : List ℕ
   pub text : HeadText header front
@@ -46,13 +57,18 @@ pub record StartsAt (Allows : Header → List ℕ → Type 0) (old new : Option 
   pub pulled : Pulled old new unread.pulls ((front ++ unlocked.nonce) ++ unread.bytes)
 
 -- why there is no payload
-abbrev pub StartFails : (Header → List ℕ → Type 0) → (Header → KeyFault → Type 0) → Option (List ℕ) → Option (List ℕ) → ℕ → ℕ → FileFault → Type 0
+abbrev pub StartFails : (Header → List ℕ → Type 0) → (Header → KeyFault → Type 0) → Option (List ℕ)
+    → Option (List ℕ) → ℕ → ℕ → FileFault → Type 0
 StartFails Allows Refused old new failed_old failed_new (Head fault) = TellsFault old new fault
 StartFails Allows Refused old new failed_old failed_new (Key fault) =
-    (h : Header) × (front : List ℕ) × (rest : List ℕ) × HeadText h front × Consumes old new (front ++ rest) × (fault ≢ KeyMemory) × Refuses Allows Refused h fault
+    (h : Header) × (front : List ℕ) × (rest : List ℕ) × HeadText h front
+    × Consumes old new (front ++ rest) × (fault ≢ KeyMemory) × Refuses Allows Refused h fault
 StartFails Allows Refused old new failed_old failed_new NonceCut =
-    (h : Header) × (front : List ℕ) × (key : List ℕ) × (short : List ℕ) × HeadText h front × Opens Allows h key × (length short < 16) × Consumes old new (front ++ short) × IsAtEnd new
-StartFails Allows Refused old new failed_old failed_new Read = IsShort old new × HasRisen failed_old failed_new
+    (h : Header) × (front : List ℕ) × (key : List ℕ) × (short : List ℕ) × HeadText h front
+    × Opens Allows h key × (length short < 16) × Consumes old new (front ++ short) × IsAtEnd new
+StartFails Allows Refused old new failed_old failed_new Read = IsShort old new
+    × HasRisen failed_old failed_new
 StartFails Allows Refused old new failed_old failed_new Memory = Unit {0}
-StartFails Allows Refused old new failed_old failed_new ReadNeverEnds = IsShort old new × NeverEnds old new
+StartFails Allows Refused old new failed_old failed_new ReadNeverEnds = IsShort old new
+    × NeverEnds old new
 StartFails Allows Refused old new failed_old failed_new other = ⊥

@@ -58,8 +58,10 @@ pub(crate) fn copy_chunks<S: Source, O: Sink>(
     progress: &mut Progress,
 ) -> Result<(), FileFault>
     requires limit { chunks < 281474976710656 }
-    requires fresh { (progress.old.written ≡ 0) × (progress.old.index ≡ 0) × (progress.old.chain ≡ replicate 32 0) }
-    ensures { CopiesAll 65536 chunks (side (S.remaining source.old) (S.failed source.old) intake.old)
+    requires fresh { (progress.old.written ≡ 0) × (progress.old.index ≡ 0)
+        × (progress.old.chain ≡ replicate 32 0) }
+    ensures { CopiesAll 65536 chunks (side (S.remaining source.old) (S.failed source.old)
+        intake.old)
         (side (S.remaining source.new) (S.failed source.new) intake.new)
         (tally (O.taken sink.old) (O.failed sink.old) (O.label sink.old) progress.old)
         (tally (O.taken sink.new) (O.failed sink.new) (O.label sink.new) progress.new) result }

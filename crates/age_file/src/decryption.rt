@@ -17,6 +17,7 @@ use crate::start::{Unlocked, start};
 use age_keys::{PayloadKey, Unlock, payload_key, position_key};
 use age_stanza::one_header;
 use std::alloc::Global;
+use thiserror::Error;
 
 /// A file was decrypted to its end, into so many bytes.
 #[derive(Clone, Copy, Debug, PartialEq, Eq)]
@@ -26,7 +27,8 @@ pub struct Done {
 }
 
 /// Why a decryption stopped, and how far it came.
-#[derive(Clone, Copy, Debug, PartialEq, Eq)]
+#[derive(Clone, Copy, Debug, PartialEq, Eq, Error)]
+#[error("stopped after {written} bytes: {fault}")]
 pub struct Stopped {
     /// Why it stopped.
     pub fault: FileFault,
@@ -55,7 +57,11 @@ impl Stopped {
         progress: &Progress,
         position: Option<Position>,
     ) -> Stopped
-        ensures { result ≡ record { fault = fault; written = progress.now.written; position = position } }
+        ensures { result ≡ record {
+          fault = fault;
+          written = progress.now.written;
+          position = position;
+        } }
     {
         Stopped {
             fault,
@@ -70,7 +76,8 @@ pub(crate) fn position_of(unlocked: &Unlocked, progress: &Progress) -> Position
     ensures index { result.index ≡ progress.now.index }
     ensures file_id { result.file_id ≡ unlocked.now.id }
     ensures chain { result.chain ≡ progress.now.chain }
-    ensures tag { result.tag ≡ position_tag (position_key unlocked.now.key unlocked.now.nonce) progress.now.index unlocked.now.id progress.now.chain }
+    ensures tag { result.tag ≡ position_tag (position_key unlocked.now.key unlocked.now.nonce)
+        progress.now.index unlocked.now.id progress.now.chain }
 {
     let key = position_key(&unlocked.key, &unlocked.nonce);
     Position::tagged(&key, progress.index, unlocked.id, progress.chain)
@@ -89,13 +96,19 @@ pub fn decrypt<U: Unlock, S: Source, O: Sink>(
     writer: &mut O,
 ) -> Result<Done, Stopped>
     ensures done { IfOk result (λ done. (r : Run) × DecryptDone (U.allows unlock.now)
-        (ports (S.remaining reader.old) (S.failed reader.old) (O.taken writer.old) (O.failed writer.old))
-        (ports (S.remaining reader.new) (S.failed reader.new) (O.taken writer.new) (O.failed writer.new)) done.written r) }
-    ensures stopped { IfErr result (λ stopped. DecryptFails (U.allows unlock.now) (U.refuses unlock.now)
-        (ports (S.remaining reader.old) (S.failed reader.old) (O.taken writer.old) (O.failed writer.old))
-        (ports (S.remaining reader.new) (S.failed reader.new) (O.taken writer.new) (O.failed writer.new)) stopped.written stopped.position stopped.fault) }
+        (ports (S.remaining reader.old) (S.failed reader.old) (O.taken writer.old)
+        (O.failed writer.old))
+        (ports (S.remaining reader.new) (S.failed reader.new) (O.taken writer.new)
+        (O.failed writer.new)) done.written r) }
+    ensures stopped { IfErr result (λ stopped. DecryptFails (U.allows unlock.now)
+        (U.refuses unlock.now)
+        (ports (S.remaining reader.old) (S.failed reader.old) (O.taken writer.old)
+        (O.failed writer.old))
+        (ports (S.remaining reader.new) (S.failed reader.new) (O.taken writer.new)
+        (O.failed writer.new)) stopped.written stopped.position stopped.fault) }
     // An age file that is undamaged is decrypted, unless reading, writing or memory fails.
-    ensures undamaged { (text : List ℕ) → IsUndamaged (U.allows unlock.now) (U.refuses unlock.now) (S.remaining reader.old) text
+    ensures undamaged { (text : List ℕ) → IsUndamaged (U.allows unlock.now) (U.refuses unlock.now)
+        (S.remaining reader.old) text
         → IfErr result (λ stopped. StopsOutside stopped.fault) }
     ensures named { O.label writer.new ≡ O.label writer.old }
 {

@@ -50,11 +50,15 @@ pub fn encrypt<S: Source, O: Sink>(
     writer: &mut O,
 ) -> Result<Written, FileFault>
     ensures done { IfOk result (Encrypts secret.now
-        (ports (S.remaining reader.old) (S.failed reader.old) (O.taken writer.old) (O.failed writer.old))
-        (ports (S.remaining reader.new) (S.failed reader.new) (O.taken writer.new) (O.failed writer.new))) }
+        (ports (S.remaining reader.old) (S.failed reader.old) (O.taken writer.old)
+        (O.failed writer.old))
+        (ports (S.remaining reader.new) (S.failed reader.new) (O.taken writer.new)
+        (O.failed writer.new))) }
     ensures fails { IfErr result (EncryptFails secret.now
-        (ports (S.remaining reader.old) (S.failed reader.old) (O.taken writer.old) (O.failed writer.old))
-        (ports (S.remaining reader.new) (S.failed reader.new) (O.taken writer.new) (O.failed writer.new))) }
+        (ports (S.remaining reader.old) (S.failed reader.old) (O.taken writer.old)
+        (O.failed writer.old))
+        (ports (S.remaining reader.new) (S.failed reader.new) (O.taken writer.new)
+        (O.failed writer.new))) }
     ensures named { O.label writer.new ≡ O.label writer.old }
 {
     let front = front_of(alloc, secret)?;

@@ -25,10 +25,13 @@ pub(crate) fn read_head<S: Source>(
     intake: &mut Intake,
 ) -> Result<Head, FileFault>
     requires { (intake.old.bytes ≡ []) × (intake.old.pulls ≡ 0) }
-    ensures found { IfOk result (ReadsHead (S.remaining source.old) (S.remaining source.new) intake.new) }
+    ensures found { IfOk result (ReadsHead (S.remaining source.old) (S.remaining source.new)
+        intake.new) }
     ensures unfailed { OnOk result (S.failed source.new ≡ S.failed source.old) }
-    ensures fails { IfErr result (HeadFails (S.remaining source.old) (S.remaining source.new) (S.failed source.old) (S.failed source.new)) }
-    ensures early { IfErr result (λ fault. fault ≢ Memory → IsInHeader (S.remaining source.old) (S.remaining source.new)) }
+    ensures fails { IfErr result (HeadFails (S.remaining source.old) (S.remaining source.new)
+        (S.failed source.old) (S.failed source.new)) }
+    ensures early { IfErr result (λ fault. fault ≢ Memory → IsInHeader (S.remaining source.old)
+        (S.remaining source.new)) }
 {
     let mut parser = HeadParser::new(alloc);
     let mut len = 0;

@@ -17,11 +17,13 @@ use std::alloc::{AllocError, Global};
 /// Counts the bytes that are left, to the end of the source.
 fn count_rest<S: Source>(source: &mut S, intake: &mut Intake) -> Result<u128, FileFault>
     requires { intake.old.pulls ≤ 2 ^ 63 }
-    ensures counts { IfOk result (CountsRest (S.remaining source.old) (S.remaining source.new) intake.old) }
+    ensures counts { IfOk result (CountsRest (S.remaining source.old) (S.remaining source.new)
+        intake.old) }
     ensures ended { OnOk result (IsAtEnd (S.remaining source.new)) }
     ensures small { IfOk result (λ n. n ≤ 65536 * (2 ^ 63 + 1)) }
     ensures unfailed { OnOk result (S.failed source.new ≡ S.failed source.old) }
-    ensures fails { IfErr result (RestFails (S.remaining source.old) (S.remaining source.new) (S.failed source.old) (S.failed source.new) intake.old) }
+    ensures fails { IfErr result (RestFails (S.remaining source.old) (S.remaining source.new)
+        (S.failed source.old) (S.failed source.new) intake.old) }
 {
     let mut count = intake.bytes().len() as u128;
     intake.use_all();
@@ -85,7 +87,8 @@ pub fn inspect<S: Source>(alloc: Global, source: &mut S) -> Result<Report, FileF
     ensures ok { IfOk result (Inspects (S.remaining source.old) (S.remaining source.new)) }
     ensures unfailed { OnOk result (S.failed source.new ≡ S.failed source.old) }
     // When each fault comes.
-    ensures fails { IfErr result (HeadFails (S.remaining source.old) (S.remaining source.new) (S.failed source.old) (S.failed source.new)) }
+    ensures fails { IfErr result (HeadFails (S.remaining source.old) (S.remaining source.new)
+        (S.failed source.old) (S.failed source.new)) }
 {
     let mut intake = Intake::new(alloc)?;
     let head = read_head(alloc, source, &mut intake)?;

@@ -27,9 +27,13 @@ pub(crate) struct Intake {
 impl Model for Intake {
     ghost Value = { Unread };
 
-    ghost view = { λ i. record { bytes = drop i.from (take i.to i.buffer.items); pulls = i.pulls } };
+    ghost view = { λ i. record {
+      bytes = drop i.from (take i.to i.buffer.items);
+      pulls = i.pulls;
+    } };
 
-    ghost invariant = { λ i. (i.from ≤ i.to) × (i.to ≤ 65536) × (length i.buffer.items ≡ 65536) × (i.pulls ≤ 2 ^ 63) };
+    ghost invariant = { λ i. (i.from ≤ i.to) × (i.to ≤ 65536) × (length i.buffer.items ≡ 65536)
+        × (i.pulls ≤ 2 ^ 63) };
 }
 
 impl Intake {
@@ -73,7 +77,8 @@ impl Intake {
     /// Pulls, where all bytes were used. False: the source is at its end.
     pub(crate) fn refill<S: Source>(&mut self, source: &mut S) -> Result<bool, FileFault>
         requires { self.old.bytes ≡ [] }
-        ensures { Refills (S.remaining source.old) (S.remaining source.new) (S.failed source.old) (S.failed source.new) self.old self.new result }
+        ensures { Refills (S.remaining source.old) (S.remaining source.new) (S.failed source.old)
+            (S.failed source.new) self.old self.new result }
     {
         if self.pulls == MOST_PULLS {
             return Err(FileFault::ReadNeverEnds);

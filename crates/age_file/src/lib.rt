@@ -1,9 +1,13 @@
 //! Age files over sources and sinks.
 //!
-//! A `Source` gives bytes and a `Sink` takes them. Both count their failures, and those over memory tell their bytes,
-//! so that the contract of an engine can name what it read and what it wrote. `inspect` reads a whole file and reports
-//! what its header holds and how much plaintext the bytes behind it would be. `encrypt` writes a file of what it reads, and
-//! `decrypt` the text of a file whose header an unlocker opens; where it stops, it hands out the position to go on from.
+//! A `Source` gives bytes and a `Sink` takes them. Both count their failures, and those over memory
+//! tell their bytes, so that the contract of an engine can name what it read and what it wrote.
+//!
+//! `inspect` reads a whole file and reports what its header holds and how much plaintext the bytes
+//! behind it would be. `encrypt` writes a file of what it reads, and `decrypt` the text of a file
+//! whose header an unlocker opens; where it stops, it hands out the position to go on from.
+//! `resume` goes on from there: it copies the old text up to the position, and opens the blocks
+//! behind it, so that what it writes is the whole text.
 #![tactic(auto)]
 
 mod copy;

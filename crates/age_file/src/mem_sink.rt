@@ -24,9 +24,17 @@ pub struct MemSink {
 impl Model for MemSink {
     ghost Value = { Holding };
 
-    ghost view = { λ s. record { held = s.held.items; room = s.room; step = s.step; fail_call = s.fail_call; calls = s.calls; failures = s.failed } };
+    ghost view = { λ s. record {
+      held = s.held.items;
+      room = s.room;
+      step = s.step;
+      fail_call = s.fail_call;
+      calls = s.calls;
+      failures = s.failed;
+    } };
 
-    ghost invariant = { λ s. (length s.held.items ≤ s.room) × (s.room ≤ vec_capacity s.held) × (0 < s.step) };
+    ghost invariant = { λ s. (length s.held.items ≤ s.room) × (s.room ≤ vec_capacity s.held)
+        × (0 < s.step) };
 }
 
 impl MemSink {
@@ -39,7 +47,14 @@ impl MemSink {
         fail_call: Option<u64>,
     ) -> Result<MemSink, Memory>
         requires { 0 < step }
-        ensures { IfOk result (λ s. s ≡ record { held = []; room = room; step = step; fail_call = fail_call; calls = 0; failures = 0 }) }
+        ensures { IfOk result (λ s. s ≡ record {
+          held = [];
+          room = room;
+          step = step;
+          fail_call = fail_call;
+          calls = 0;
+          failures = 0;
+        }) }
     {
         let Ok(held) = Vec::with_capacity(alloc, room) else {
             return Err(Memory);

@@ -23,7 +23,13 @@ pub struct MemSource {
 impl Model for MemSource {
     ghost Value = { Feeding };
 
-    ghost view = { λ s. record { left = drop s.at s.bytes.items; step = s.step; fail_call = s.fail_call; calls = s.calls; failures = s.failed } };
+    ghost view = { λ s. record {
+      left = drop s.at s.bytes.items;
+      step = s.step;
+      fail_call = s.fail_call;
+      calls = s.calls;
+      failures = s.failed;
+    } };
 
     ghost invariant = { λ s. (s.at ≤ length s.bytes.items) × (0 < s.step) };
 }
@@ -33,7 +39,13 @@ impl MemSource {
     /// go on.
     pub fn new(bytes: Vec<u8>, step: usize, fail_call: Option<u64>) -> MemSource
         requires { 0 < step }
-        ensures { result ≡ record { left = bytes.items; step = step; fail_call = fail_call; calls = 0; failures = 0 } }
+        ensures { result ≡ record {
+          left = bytes.items;
+          step = step;
+          fail_call = fail_call;
+          calls = 0;
+          failures = 0;
+        } }
     {
         MemSource {
             bytes,

@@ -34,7 +34,8 @@ pub(crate) fn pass_over<S: Source>(
     intake: &mut Intake,
     blocks: u64,
 ) -> Result<(), FileFault>
-    ensures { PassesOver 65552 blocks (side (S.remaining source.old) (S.failed source.old) intake.old)
+    ensures { PassesOver 65552 blocks (side (S.remaining source.old) (S.failed source.old)
+        intake.old)
         (side (S.remaining source.new) (S.failed source.new) intake.new) result }
 {
     for block in 0..blocks {

@@ -48,7 +48,8 @@ pub(crate) fn front_parts<'a>(
 ) -> [&'a [u8]; 7]
     ensures size { length result ≡ 7 }
     ensures joined { concat (map (λ part. part.now) result)
-        ≡ codes "age-position/v2 " ++ index.now ++ codes " " ++ id.now ++ codes " " ++ links.now ++ codes " " }
+        ≡ codes "age-position/v2 " ++ index.now ++ codes " " ++ id.now ++ codes " " ++ links.now
+        ++ codes " " }
 {
     [VERSION, index, b" ", id, b" ", links, b" "]
 }

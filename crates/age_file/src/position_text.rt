@@ -37,7 +37,8 @@ fn text_of(alloc: Global, position: &Position) -> Result<Vec<u8>, AllocError>
 fn number_of(digits: &[u8]) -> Option<u64>
     ensures limit { IfSome result (λ index. index < 281474976710656) }
     ensures some { IfSome result (λ index. digits.now ≡ decimal index) }
-    ensures none { IfNone result ((index : ℕ) → index < 281474976710656 → digits.now ≢ decimal index) }
+    ensures none { IfNone result ((index : ℕ) → index < 281474976710656 → digits.now ≢ decimal
+        index) }
 {
     let text = from_utf8(digits).ok()?;
     let index = text.parse::<u64>().ok()?;
@@ -53,7 +54,8 @@ fn number_of(digits: &[u8]) -> Option<u64>
 fn index_of(front: &[u8]) -> Option<u64>
     ensures limit { IfSome result (λ index. index < 281474976710656) }
     ensures some { IfSome result (λ index. front.now ≡ index_text index) }
-    ensures none { IfNone result ((index : ℕ) → index < 281474976710656 → front.now ≢ index_text index) }
+    ensures none { IfNone result ((index : ℕ) → index < 281474976710656 → front.now ≢ index_text
+        index) }
 {
     if front.len() < 16 || &front[..16] != VERSION.as_slice() {
         return None;
@@ -65,7 +67,8 @@ fn index_of(front: &[u8]) -> Option<u64>
 fn digest_of(field: &[u8]) -> Option<[u8; 32]>
     requires { length field.now ≡ 44 }
     ensures some { IfSome result (λ bytes. field.now ≡ field_text bytes) }
-    ensures none { IfNone result ((bytes : List ℕ) → IsDigest bytes → field.now ≢ field_text bytes) }
+    ensures none { IfNone result ((bytes : List ℕ) → IsDigest bytes → field.now ≢ field_text
+        bytes) }
 {
     if field[0] != b' ' {
         return None;
@@ -87,7 +90,8 @@ fn position_of(index: u64, fields: &[u8]) -> Option<Position>
     requires size { length fields.now ≡ 133 }
     ensures index { IfSome result (λ p. p.index ≡ index) }
     ensures fields { IfSome result (λ p. fields.now ≡ fields_text p.file_id p.chain p.tag) }
-    ensures none { IfNone result ((id links tag : List ℕ) → IsDigest id → IsDigest links → IsDigest tag
+    ensures none { IfNone result ((id links tag : List ℕ) → IsDigest id → IsDigest links → IsDigest
+        tag
         → fields.now ≢ fields_text id links tag) }
 {
     if fields[132] != b'\n' {

@@ -35,7 +35,8 @@ fn feed_once<B: ChunkBox, const SEALED: usize, O: Sink>(
     requires small { length opener.old.held + progress.old.written + length piece.now < 2 ^ 128 }
     ensures fed { FeedsOnce B.opening (SEALED - 16) opener.old opener.new
         (tally (O.taken sink.old) (O.failed sink.old) (O.label sink.old) progress.old)
-        (tally (O.taken sink.new) (O.failed sink.new) (O.label sink.new) progress.new) piece.now result }
+        (tally (O.taken sink.new) (O.failed sink.new) (O.label sink.new) progress.new) piece.now
+        result }
     ensures some { IfOk result (λ n. 0 < length piece.now → 0 < n) }
 {
     let step = opener.feed(piece)?;
@@ -57,7 +58,8 @@ fn feed_piece<B: ChunkBox, const SEALED: usize, O: Sink>(
     requires small { length opener.old.held + progress.old.written + length piece.now < 2 ^ 128 }
     ensures fed { FeedsPiece B.opening (SEALED - 16) opener.old opener.new
         (tally (O.taken sink.old) (O.failed sink.old) (O.label sink.old) progress.old)
-        (tally (O.taken sink.new) (O.failed sink.new) (O.label sink.new) progress.new) piece.now result }
+        (tally (O.taken sink.new) (O.failed sink.new) (O.label sink.new) progress.new) piece.now
+        result }
 {
     let mut at = 0;
     while at < piece.len() {
@@ -74,12 +76,15 @@ fn turn<B: ChunkBox, const SEALED: usize, S: Source, O: Sink>(
     sink: &mut O,
     progress: &mut Progress,
 ) -> Result<bool, FileFault>
-    requires { HasRoom (flow opener.old (tally (O.taken sink.old) (O.failed sink.old) (O.label sink.old) progress.old)
+    requires { HasRoom (flow opener.old (tally (O.taken sink.old) (O.failed sink.old)
+        (O.label sink.old) progress.old)
         (S.remaining source.old) (S.failed source.old) intake.old) }
     ensures { Turns B.opening (SEALED - 16)
-        (flow opener.old (tally (O.taken sink.old) (O.failed sink.old) (O.label sink.old) progress.old)
+        (flow opener.old (tally (O.taken sink.old) (O.failed sink.old) (O.label sink.old)
+        progress.old)
         (S.remaining source.old) (S.failed source.old) intake.old)
-        (flow opener.new (tally (O.taken sink.new) (O.failed sink.new) (O.label sink.new) progress.new)
+        (flow opener.new (tally (O.taken sink.new) (O.failed sink.new) (O.label sink.new)
+        progress.new)
         (S.remaining source.new) (S.failed source.new) intake.new) result }
 {
     feed_piece(opener, intake.bytes(), sink, progress)?;
@@ -95,12 +100,15 @@ fn open_all<B: ChunkBox, const SEALED: usize, S: Source, O: Sink>(
     sink: &mut O,
     progress: &mut Progress,
 ) -> Result<(), FileFault>
-    requires { HasRoom (flow opener.old (tally (O.taken sink.old) (O.failed sink.old) (O.label sink.old) progress.old)
+    requires { HasRoom (flow opener.old (tally (O.taken sink.old) (O.failed sink.old)
+        (O.label sink.old) progress.old)
         (S.remaining source.old) (S.failed source.old) intake.old) }
     ensures { OpensAll B.opening (SEALED - 16)
-        (flow opener.old (tally (O.taken sink.old) (O.failed sink.old) (O.label sink.old) progress.old)
+        (flow opener.old (tally (O.taken sink.old) (O.failed sink.old) (O.label sink.old)
+        progress.old)
         (S.remaining source.old) (S.failed source.old) intake.old)
-        (flow opener.new (tally (O.taken sink.new) (O.failed sink.new) (O.label sink.new) progress.new)
+        (flow opener.new (tally (O.taken sink.new) (O.failed sink.new) (O.label sink.new)
+        progress.new)
         (S.remaining source.new) (S.failed source.new) intake.new) result }
 {
     'turns: while turn(opener, source, intake, sink, progress)? {}
@@ -149,7 +157,8 @@ pub(crate) fn pour<B: ChunkBox, const SEALED: usize, S: Source, O: Sink>(
     requires least { 17 ≤ SEALED }
     requires most { SEALED ≤ 65552 }
     requires limit { index < 281474976710656 }
-    requires room { HasPlace (stage (tally (O.taken sink.old) (O.failed sink.old) (O.label sink.old) progress.old)
+    requires room { HasPlace (stage (tally (O.taken sink.old) (O.failed sink.old) (O.label sink.old)
+        progress.old)
         (S.remaining source.old) (S.failed source.old) intake.old) }
     ensures { Pours (B.opening key.now) (SEALED - 16) index
         (stage (tally (O.taken sink.old) (O.failed sink.old) (O.label sink.old) progress.old)

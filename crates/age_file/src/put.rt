@@ -14,7 +14,8 @@ use crate::sink::Sink;
 /// are counted.
 pub fn put_all<O: Sink>(sink: &mut O, bytes: &[u8], written: &mut u128) -> Result<(), Failed>
     requires { written.old + length bytes.now < 2 ^ 128 }
-    ensures writes { Writes (O.taken sink.old) (O.taken sink.new) (O.failed sink.old) (O.failed sink.new) written.old written.new bytes.now result }
+    ensures writes { Writes (O.taken sink.old) (O.taken sink.new) (O.failed sink.old)
+        (O.failed sink.new) written.old written.new bytes.now result }
     ensures named { O.label sink.new ≡ O.label sink.old }
 {
     let mut at = 0;

@@ -8,7 +8,10 @@ ghost use Rattle.age_file.specs.Pours.{stage};
 ghost use Rattle.age_file.specs.GoingOn.{HasPulled, GoesOn};
 ghost use Rattle.age_file.specs.Ports.{ports};
 ghost use Rattle.age_file.specs.Decrypts.{StopsOutside};
-ghost use Rattle.age_file.specs.Resumes.{VerdictOn, Resumption, ResumeDone, ResumeFails, IsUndamagedRest, resume_ports};
+ghost use Rattle.age_file.specs.Verdicts.{VerdictOn};
+ghost use Rattle.age_file.specs.Resumes.{Resumption, ResumeDone, resume_ports};
+ghost use Rattle.age_file.specs.ResumeFaults.{ResumeFails};
+ghost use Rattle.age_file.specs.UndamagedRests.{IsUndamagedRest};
 ghost use Rattle.age_cipher.specs.Opening.{opening};
 
 use crate::copy::copy_chunks;
@@ -49,11 +52,14 @@ fn copy_old<L: Source, O: Sink>(
     writer: &mut O,
     progress: &mut Progress,
 ) -> Result<(), FileFault>
-    requires fresh { (progress.old.written ≡ 0) × (progress.old.index ≡ 0) × (progress.old.chain ≡ replicate 32 0) }
-    ensures { CopiesText 65536 position.now.index position.now.chain (side (L.remaining old_reader.old) (L.failed old_reader.old) intake.old)
+    requires fresh { (progress.old.written ≡ 0) × (progress.old.index ≡ 0)
+        × (progress.old.chain ≡ replicate 32 0) }
+    ensures { CopiesText 65536 position.now.index position.now.chain
+        (side (L.remaining old_reader.old) (L.failed old_reader.old) intake.old)
         (side (L.remaining old_reader.new) (L.failed old_reader.new) intake.new)
         (tally (O.taken writer.old) (O.failed writer.old) (O.label writer.old) progress.old)
-        (tally (O.taken writer.new) (O.failed writer.new) (O.label writer.new) progress.new) result }
+        (tally (O.taken writer.new) (O.failed writer.new) (O.label writer.new) progress.new)
+        result }
 {
     copy_chunks(old_reader, intake, position.index, writer, progress)?;
     if progress.chain != position.chain {
@@ -73,7 +79,8 @@ fn open_rest<S: Source, O: Sink>(
 ) -> Result<(), FileFault>
     requires limit { index < 281474976710656 }
     requires room { progress.old.written ≤ 2 ^ 64 }
-    requires pulled { HasPulled (stage (tally (O.taken writer.old) (O.failed writer.old) (O.label writer.old) progress.old)
+    requires pulled { HasPulled (stage (tally (O.taken writer.old) (O.failed writer.old)
+        (O.label writer.old) progress.old)
         (S.remaining reader.old) (S.failed reader.old) intake.old) }
     ensures { GoesOn (λ nonce block. opening key.now nonce [] block) index
         (stage (tally (O.taken writer.old) (O.failed writer.old) (O.label writer.old) progress.old)
@@ -103,14 +110,32 @@ pub fn resume<U: Unlock, S: Source, L: Source, O: Sink>(
     old_reader: &mut L,
     writer: &mut O,
 ) -> Result<Done, Stopped>
-    ensures done { IfOk result (λ done. (r : Resumption) × ResumeDone (U.allows unlock.now) position.now
-        (resume_ports (ports (S.remaining reader.old) (S.failed reader.old) (O.taken writer.old) (O.failed writer.old)) (L.remaining old_reader.old) (L.failed old_reader.old))
-        (resume_ports (ports (S.remaining reader.new) (S.failed reader.new) (O.taken writer.new) (O.failed writer.new)) (L.remaining old_reader.new) (L.failed old_reader.new)) done.written r) }
-    ensures stopped { IfErr result (λ stopped. ResumeFails (U.allows unlock.now) position.now (U.refuses unlock.now)
-        (resume_ports (ports (S.remaining reader.old) (S.failed reader.old) (O.taken writer.old) (O.failed writer.old)) (L.remaining old_reader.old) (L.failed old_reader.old))
-        (resume_ports (ports (S.remaining reader.new) (S.failed reader.new) (O.taken writer.new) (O.failed writer.new)) (L.remaining old_reader.new) (L.failed old_reader.new)) stopped.written stopped.position stopped.fault) }
+    ensures done { IfOk result (λ done. (r : Resumption)
+        × ResumeDone (U.allows unlock.now) position.now
+        (resume_ports
+        (ports (S.remaining reader.old) (S.failed reader.old) (O.taken writer.old)
+        (O.failed writer.old))
+        (L.remaining old_reader.old) (L.failed old_reader.old))
+        (resume_ports
+        (ports (S.remaining reader.new) (S.failed reader.new) (O.taken writer.new)
+        (O.failed writer.new))
+        (L.remaining old_reader.new) (L.failed old_reader.new))
+        done.written r) }
+    ensures stopped { IfErr result (λ stopped.
+        ResumeFails (U.allows unlock.now) position.now (U.refuses unlock.now)
+        (resume_ports
+        (ports (S.remaining reader.old) (S.failed reader.old) (O.taken writer.old)
+        (O.failed writer.old))
+        (L.remaining old_reader.old) (L.failed old_reader.old))
+        (resume_ports
+        (ports (S.remaining reader.new) (S.failed reader.new) (O.taken writer.new)
+        (O.failed writer.new))
+        (L.remaining old_reader.new) (L.failed old_reader.new))
+        stopped.written stopped.position stopped.fault) }
     // An age file that is undamaged, from a position of its text, is decrypted, unless reading, writing or memory fails.
-    ensures undamaged { (text : List ℕ) → IsUndamagedRest (U.allows unlock.now) (U.refuses unlock.now) position.now (S.remaining reader.old) (L.remaining old_reader.old) text
+    ensures undamaged { (text : List ℕ) → IsUndamagedRest (U.allows unlock.now)
+        (U.refuses unlock.now) position.now (S.remaining reader.old)
+        (L.remaining old_reader.old) text
         → IfErr result (λ stopped. StopsOutside stopped.fault) }
     ensures named { O.label writer.new ≡ O.label writer.old }
 {

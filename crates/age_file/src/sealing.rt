@@ -22,7 +22,8 @@ fn seal_once<B: ChunkBox, const SEALED: usize, O: Sink>(
     requires least { 17 ≤ SEALED }
     requires feeding { IsFeeding sealer.old }
     requires room { written.old ≤ 2 ^ 127 }
-    ensures sealed { SealsOnce B.sealing (SEALED - 16) sealer.old sealer.new (tally (O.taken sink.old) (O.failed sink.old) written.old)
+    ensures sealed { SealsOnce B.sealing (SEALED - 16) sealer.old sealer.new
+        (tally (O.taken sink.old) (O.failed sink.old) written.old)
         (tally (O.taken sink.new) (O.failed sink.new) written.new) piece.now result }
     ensures named { O.label sink.new ≡ O.label sink.old }
 {
@@ -45,7 +46,8 @@ fn seal_piece<B: ChunkBox, const SEALED: usize, O: Sink>(
     requires most { SEALED ≤ 65552 }
     requires feeding { IsFeeding sealer.old }
     requires room { HasRoom B.sealing (SEALED - 16) sealer.old written.old (length piece.now) }
-    ensures sealed { SealsPiece B.sealing (SEALED - 16) sealer.old sealer.new (tally (O.taken sink.old) (O.failed sink.old) written.old)
+    ensures sealed { SealsPiece B.sealing (SEALED - 16) sealer.old sealer.new
+        (tally (O.taken sink.old) (O.failed sink.old) written.old)
         (tally (O.taken sink.new) (O.failed sink.new) written.new) piece.now result }
     ensures named { O.label sink.new ≡ O.label sink.old }
 {
@@ -64,7 +66,8 @@ fn seal_last<B: ChunkBox, const SEALED: usize, O: Sink>(
 ) -> Result<(), FileFault>
     requires feeding { IsFeeding sealer.old }
     requires room { written.old ≤ 2 ^ 127 }
-    ensures sealed { SealsLast B.sealing (SEALED - 16) sealer.old (tally (O.taken sink.old) (O.failed sink.old) written.old)
+    ensures sealed { SealsLast B.sealing (SEALED - 16) sealer.old
+        (tally (O.taken sink.old) (O.failed sink.old) written.old)
         (tally (O.taken sink.new) (O.failed sink.new) written.new) result }
     ensures named { O.label sink.new ≡ O.label sink.old }
 {
@@ -80,7 +83,8 @@ fn finish<B: ChunkBox, const SEALED: usize, O: Sink>(
 ) -> Result<(), FileFault>
     requires feeding { IsFeeding sealer.old }
     requires room { written.old ≤ 2 ^ 127 }
-    ensures sealed { SealsLast B.sealing (SEALED - 16) sealer.old (tally (O.taken sink.old) (O.failed sink.old) written.old)
+    ensures sealed { SealsLast B.sealing (SEALED - 16) sealer.old
+        (tally (O.taken sink.old) (O.failed sink.old) written.old)
         (tally (O.taken sink.new) (O.failed sink.new) written.new) result }
     ensures named { O.label sink.new ≡ O.label sink.old }
 {
@@ -102,11 +106,15 @@ fn seal_source<B: ChunkBox, const SEALED: usize, S: Source, O: Sink>(
     requires unread { (intake.old.bytes ≡ []) × (intake.old.pulls ≡ 0) }
     requires room { written.old ≤ 2 ^ 126 }
     ensures sealed { IfOk result (SealsSource B.sealing (SEALED - 16) sealer.old sealer.new
-        (ports (S.remaining source.old) (S.failed source.old) (O.taken sink.old) (O.failed sink.old))
-        (ports (S.remaining source.new) (S.failed source.new) (O.taken sink.new) (O.failed sink.new)) written.old written.new) }
+        (ports (S.remaining source.old) (S.failed source.old) (O.taken sink.old)
+        (O.failed sink.old))
+        (ports (S.remaining source.new) (S.failed source.new) (O.taken sink.new)
+        (O.failed sink.new)) written.old written.new) }
     ensures fails { IfErr result (SealsFront (B.sealing sealer.old.key) (SEALED - 16)
-        (ports (S.remaining source.old) (S.failed source.old) (O.taken sink.old) (O.failed sink.old))
-        (ports (S.remaining source.new) (S.failed source.new) (O.taken sink.new) (O.failed sink.new)) written.old written.new) }
+        (ports (S.remaining source.old) (S.failed source.old) (O.taken sink.old)
+        (O.failed sink.old))
+        (ports (S.remaining source.new) (S.failed source.new) (O.taken sink.new)
+        (O.failed sink.new)) written.old written.new) }
     ensures named { O.label sink.new ≡ O.label sink.old }
 {
     let mut plain = 0;
@@ -131,11 +139,15 @@ pub(crate) fn seal_all<B: ChunkBox, const SEALED: usize, S: Source, O: Sink>(
     requires unread { (intake.old.bytes ≡ []) × (intake.old.pulls ≡ 0) }
     requires room { written.old ≤ 2 ^ 126 }
     ensures sealed { IfOk result (SealsAll (B.sealing key.now) (SEALED - 16)
-        (ports (S.remaining source.old) (S.failed source.old) (O.taken sink.old) (O.failed sink.old))
-        (ports (S.remaining source.new) (S.failed source.new) (O.taken sink.new) (O.failed sink.new)) written.old written.new) }
+        (ports (S.remaining source.old) (S.failed source.old) (O.taken sink.old)
+        (O.failed sink.old))
+        (ports (S.remaining source.new) (S.failed source.new) (O.taken sink.new)
+        (O.failed sink.new)) written.old written.new) }
     ensures fails { IfErr result (SealsFront (B.sealing key.now) (SEALED - 16)
-        (ports (S.remaining source.old) (S.failed source.old) (O.taken sink.old) (O.failed sink.old))
-        (ports (S.remaining source.new) (S.failed source.new) (O.taken sink.new) (O.failed sink.new)) written.old written.new) }
+        (ports (S.remaining source.old) (S.failed source.old) (O.taken sink.old)
+        (O.failed sink.old))
+        (ports (S.remaining source.new) (S.failed source.new) (O.taken sink.new)
+        (O.failed sink.new)) written.old written.new) }
     ensures named { O.label sink.new ≡ O.label sink.old }
 {
     let mut sealer = Sealer::<B, SEALED>::new(key);

@@ -19,7 +19,13 @@ pub struct Secret<'a> {
 impl<'a> Model for Secret<'a> {
     ghost Value = { SecretView };
 
-    ghost view = { λ s. record { pass = s.pass.now; log = s.log; salt = s.salt; key = s.file_key; nonce = s.payload_nonce } };
+    ghost view = { λ s. record {
+      pass = s.pass.now;
+      log = s.log;
+      salt = s.salt;
+      key = s.file_key;
+      nonce = s.payload_nonce;
+    } };
 
     ghost invariant = { λ s. IsWithinLimits s.pass.now s.log };
 }
@@ -35,7 +41,13 @@ impl<'a> Secret<'a> {
         payload_nonce: &[u8; 16],
     ) -> Option<Secret<'a>>
         ensures { SomeIff result (IsWithinLimits pass.now log)
-            (record { pass = pass.now; log = log; salt = salt.now; key = file_key.now; nonce = payload_nonce.now }) }
+            (record {
+              pass = pass.now;
+              log = log;
+              salt = salt.now;
+              key = file_key.now;
+              nonce = payload_nonce.now;
+            }) }
     {
         if pass.is_empty() || pass.len() > 65_536 || log < 1 || log > 22 {
             return None;

@@ -1,0 +1,102 @@
+-- Why a resumed decryption stopped, and what it did. A chunk has 65,536 bytes, its block 65,552.
+use Rattle.std.specs.Prelude.{◌≡◌, ◌≢◌, ◌⊎◌, ℕ, ◌*◌, ◌+◌, ◌<◌, ◌≤◌, List, length, Option, None, IsSomeAnd}
+use Rattle.std.specs.Simd.{first_chunks}
+use Rattle.std.specs.Io.KnownBytes.{IsAtEnd}
+use Rattle.age_stanza.specs.declared.header.Header.{Header}
+use Rattle.age_stream.specs.declared.fault.StreamKind.TheVariants.{Truncated}
+use Rattle.age_stream.specs.declared.fault.StreamFault.{StreamFault}
+use Rattle.age_stream.specs.declared.step.Status.TheVariants.{Failed}
+use Rattle.age_stream.specs.Segment.{outcome}
+use Rattle.age_keys.specs.declared.fault.KeyFault.{KeyFault}
+use Rattle.age_file.specs.Faults.{HasRisen, NeverEnds, IsShort}
+use Rattle.age_file.specs.AgeFile.{unbox}
+use Rattle.age_file.specs.Bindings.{chain}
+use Rattle.age_file.specs.Starts.{StartFails}
+use Rattle.age_file.specs.Decrypts.{WritesNone}
+use Rattle.age_file.specs.declared.position.Position.{Position}
+use Rattle.age_file.specs.declared.fault.FileFault.{FileFault}
+use Rattle.age_file.specs.declared.fault.FileFault.TheVariants.{Stream, OtherFile, ShortText, Read, Write, ReadNeverEnds, PositionForged, OldTextDiffers}
+use Rattle.age_file.specs.Verdicts.{OpenedFile, HasId, HasTag}
+use Rattle.age_file.specs.OldTexts.{IsOldText}
+use Rattle.age_file.specs.Resumes.{ResumePorts, NoPortFailed, Reads, WritesOld, Resumption, segment_at, IsResumption, ResumesOf, IsNextPosition, IsSame, Accepts, Resumed}
+
+module _ (Allows : Header → List ℕ → Type 0) (p : Position) where
+  -- a run that stopped in the old text, before all that the position needs was written; it has no position
+  pub record StopsInOld (old new : ResumePorts) (written : ℕ) (position : Option Position)
+      : Type 0 where
+    pub file : OpenedFile
+    pub rest : List ℕ
+    pub accepts : Accepts Allows p old.main.coming new.main.coming file rest
+    pub copied : List ℕ
+    pub short : length copied < p.index * 65536
+    pub writes : WritesOld p old new written copied
+    pub none : position ≡ None
+
+  -- a run that stopped in the blocks that are passed over, with the old text written and the position that it began from
+  pub record StopsInPassed (old new : ResumePorts) (written : ℕ) (position : Option Position)
+      (passed : List ℕ) : Type 0 where
+    pub file : OpenedFile
+    pub accepts : Accepts Allows p old.main.coming new.main.coming file passed
+    pub short : length passed < p.index * 65552
+    pub copied : List ℕ
+    pub old_text : IsOldText p copied
+    pub writes : WritesOld p old new written copied
+    pub here : IsSomeAnd position (IsSame p)
+
+  -- the source ended within the blocks that are passed over, after so many whole ones
+  pub record EndsInPassed (old new : ResumePorts) (written : ℕ) (position : Option Position)
+      (fault : StreamFault) : Type 0 where
+    pub passed : List ℕ
+    pub stops : StopsInPassed old new written position passed
+    pub kind : fault.kind ≡ Truncated
+    pub least : fault.chunk * 65552 ≤ length passed
+    pub most : length passed < fault.chunk * 65552 + 65552
+    pub at_end : IsAtEnd new.main.coming
+
+  -- why a source or a sink failed, by where the run stood
+  abbrev pub FailsAt : (Main Old : Type 0) → ResumePorts → ResumePorts → ℕ → Option Position
+      → Type 0
+  FailsAt Main Old old new written position =
+      (WritesNone old.main new.main written position × IsShort old.main.coming new.main.coming
+      × Main)
+      ⊎ ((s : StopsInOld old new written position) × (s.copied ≡ s.writes.pulled) × Old)
+      ⊎ ((passed : List ℕ) × StopsInPassed old new written position passed × Main)
+      ⊎ ((r : Resumption) × Resumed Allows p old new written r × IsSomeAnd position (IsNextPosition p r)
+      × Main)
+
+  -- when each fault comes, and what was written then
+  abbrev pub ResumeFails : (Header → KeyFault → Type 0) → ResumePorts → ResumePorts → ℕ
+      → Option Position → FileFault → Type 0
+  ResumeFails Refused old new written position OtherFile =
+      WritesNone old.main new.main written position × (f : OpenedFile) × (rest : List ℕ)
+      × Reads Allows old.main.coming new.main.coming f rest × (HasId p f → ⊥)
+  ResumeFails Refused old new written position PositionForged =
+      WritesNone old.main new.main written position × (f : OpenedFile) × (rest : List ℕ)
+      × Reads Allows old.main.coming new.main.coming f rest × HasId p f × (HasTag p f → ⊥)
+  ResumeFails Refused old new written position ShortText =
+      (s : StopsInOld old new written position) × (s.copied ≡ s.writes.pulled)
+      × IsAtEnd new.old_coming
+  ResumeFails Refused old new written position OldTextDiffers =
+      (position ≡ None) × (f : OpenedFile) × (rest : List ℕ)
+      × Accepts Allows p old.main.coming new.main.coming f rest
+      × (copied : List ℕ) × WritesOld p old new written copied × (length copied ≡ p.index * 65536)
+      × (chain (first_chunks 65536 p.index copied) ≢ p.chain)
+  ResumeFails Refused old new written position (Stream fault) =
+      (EndsInPassed old new written position fault
+      ⊎ ((r : Resumption) × Resumed Allows p old new written r × IsSomeAnd position (IsNextPosition p r)
+      × ((outcome (unbox r.file.key r.file.nonce) 65536 (segment_at p r)).status ≡ Failed fault)))
+      × NoPortFailed old new
+  ResumeFails Refused old new written position Write =
+      (StopsInOld old new written position
+      ⊎ ((r : Resumption) × IsResumption Allows p old new written r × ResumesOf p r
+      × IsSomeAnd position (IsNextPosition p r)))
+      × HasRisen old.main.write_failed new.main.write_failed
+  ResumeFails Refused old new written position Read =
+      FailsAt (HasRisen old.main.read_failed new.main.read_failed)
+      (HasRisen old.old_failed new.old_failed) old new written position
+  ResumeFails Refused old new written position ReadNeverEnds =
+      FailsAt (NeverEnds old.main.coming new.main.coming) (NeverEnds old.old_coming new.old_coming)
+      old new written position
+  ResumeFails Refused old new written position fault =
+      WritesNone old.main new.main written position × StartFails Allows Refused old.main.coming
+      new.main.coming old.main.read_failed new.main.read_failed fault
