@@ -16,7 +16,6 @@ mod passphrase;
 mod payload;
 mod scrypt;
 mod shared_secret;
-mod text;
 mod unlock;
 mod wrap;
 mod x25519;

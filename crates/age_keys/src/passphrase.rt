@@ -12,10 +12,9 @@ use crate::fault::KeyFault;
 use crate::key::FileKey;
 use crate::open::{has_scrypt, is_scrypt};
 use crate::scrypt::wrap_key;
-use crate::text::read_text;
 use crate::unlock::Unlock;
 use crate::wrap::unwrapped;
-use age_stanza::{Header, Stanza};
+use age_stanza::{Header, Stanza, read_text};
 use std::alloc::Global;
 use std::marker::Model;
 

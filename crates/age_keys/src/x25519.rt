@@ -4,8 +4,7 @@ ghost use Rattle.std.specs.Prelude.{◌≡◌, IfOk, IfErr};
 ghost use Rattle.age_keys.specs.X25519.{is_x25519, IsX25519Stanza, ReadRefuses};
 
 use crate::fault::KeyFault;
-use crate::text::read_text;
-use age_stanza::Stanza;
+use age_stanza::{Stanza, read_text};
 
 /// An X25519 stanza (C2SP age.md, "The X25519 recipient type"): `-> X25519 SHARE` and a body.
 #[derive(Clone, Copy, Debug, PartialEq, Eq)]

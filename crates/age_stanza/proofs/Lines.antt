@@ -10,6 +10,7 @@ use Rattle.std.proofs.lemmas.Slice.Eq.{starts_is}
 use Rattle.std.proofs.lemmas.Option.{cond_some}
 use Rattle.base64.specs.GeneralPurpose.{IsBytes}
 use Rattle.age_stanza.specs.LineMachine.{decoded, arguments_from, arguments_of, mac_of, whole_mac}
+use Rattle.age_stanza.specs.Text.{text}
 use Rattle.age_stanza.specs.Grammar.{line, IsArgument, argument_line, in_lines, end_line}
 use Rattle.age_stanza.proofs.Texts.{text_of_decoded, decoded-text, IsBytes-drop}
 
@@ -161,3 +162,25 @@ end_line_read l mac fits e = elim (chosen (starts_with nat_eq l (codes "--- ")) 
 pub read_end_line : (mac : List ℕ) → length mac ≡ 32 → IsBytes mac → mac_of (end_line mac) ≡ Some mac
 unfolding mac_of
 read_end_line mac long fits = rw (decoded-text mac fits, eq-eqb (length mac) 32 long) refl
+
+-- ---- what stands behind the marks of an end line
+
+pub no_end_line : (l : List ℕ) → starts_with nat_eq l (codes "--- ") ≡ false → None ≡ mac_of l
+unfolding mac_of
+no_end_line l e = rw e refl
+
+pub mac_is : (l mac : List ℕ) → starts_with nat_eq l (codes "--- ") ≡ true → drop 4 l ≡ text mac → length mac ≡ 32 → IsBytes mac → Some mac ≡ mac_of l
+mac_is l mac starts is long fits =
+    let whole : l ≡ end_line mac = starts_at l (codes "--- ") starts ∙ ap (λ (xs : List ℕ). codes "--- " ++ xs) is in
+    sym (ap mac_of whole ∙ read_end_line mac long fits)
+
+none_unless : (o : Option (List ℕ)) → ((mac : List ℕ) → o ≡ Some mac → ⊥) → None ≡ o
+none_unless None never = refl
+none_unless (Some mac) never = absurd (never mac refl)
+
+pub no_mac : (l : List ℕ) → IsBytes l → ((mac : List ℕ) → IsBytes mac → length mac ≡ 32 → drop 4 l ≡ text mac → ⊥) → None ≡ mac_of l
+no_mac l fits never =
+    none_unless (mac_of l)
+    (λ mac e.
+    let read = end_line_read l mac fits e in
+    never mac read.2 read.1 (ap (drop 4) read.0))

@@ -35,6 +35,7 @@ pub use header::{HeadStep, Header, Stanza, Stanzas};
 pub use lawful::{is_argument, is_header};
 pub use laws::{alphabet, any_pieces, faults_stay, mac_text_is_front, one_fault, one_header};
 pub use parser::HeadParser;
+pub use text::read_text;
 
 /// The greatest length of a header in bytes, from the version line to the end
 /// line's LF.

@@ -1,9 +1,12 @@
 //! Base64 without padding, and canonical: the unused low bits of the last
 //! character are zero (RFC 4648, sections 3.5 and 4).
 
-ghost use Rattle.std.specs.Prelude.{◌≡◌, IfOk};
+ghost use Rattle.std.specs.Prelude.{◌≡◌, ◌≢◌, ◌≤◌, ℕ, List, length, IfOk};
+ghost use Rattle.std.specs.Bool.{OnTrue, OnFalse};
 ghost use Rattle.std.specs.Option.{option_map};
+ghost use Rattle.base64.specs.GeneralPurpose.{IsBytes};
 ghost use Rattle.age_stanza.specs.LineMachine.{decoded, mac_of as spec_mac_of};
+ghost use Rattle.age_stanza.specs.Text.{text};
 
 use base64::DecodeAllocError;
 use base64::engine::general_purpose::STANDARD_NO_PAD;
@@ -21,22 +24,40 @@ pub(crate) fn decode(alloc: Global, text: &[u8]) -> Result<Option<Vec<u8>>, Allo
     }
 }
 
+/// Reads as many bytes as there is room for, at most 32, out of a text in
+/// canonical base64 without padding (RFC 4648, sections 3.5 and 4). False means
+/// that the text isn't that of so many bytes.
+pub fn read_text(characters: &[u8], bytes: &mut [u8]) -> bool
+    requires { length bytes.old ≤ 32 }
+    ensures read { OnTrue result (characters.now ≡ text bytes.new) }
+    ensures bytes { IsBytes bytes.new }
+    ensures refused { OnFalse result ((other : List ℕ) → IsBytes other
+        → length other ≡ length bytes.old → characters.now ≢ text other) }
+{
+    if characters.len() != (4 * bytes.len()).div_ceil(3) {
+        return false;
+    }
+    let mut room = [0; 33];
+    match STANDARD_NO_PAD.decode_slice_unchecked(characters, &mut room) {
+        Ok(len) if len == bytes.len() => {
+            bytes.copy_from_slice(&room[..len]);
+            true
+        }
+        _ => false,
+    }
+}
+
 /// The 32 bytes that an end line, without its LF, spells; `None` where it is no
 /// end line.
-#[tactic(auto, unfolding(crate::specs::LineMachine::mac_of))]
-pub(crate) fn mac_of(alloc: Global, line: &[u8]) -> Result<Option<[u8; 32]>, AllocError>
-    ensures { IfOk result (λ r. r ≡ spec_mac_of line.now) }
+pub(crate) fn mac_of(line: &[u8]) -> Option<[u8; 32]>
+    ensures { result ≡ spec_mac_of line.now }
 {
     if !line.starts_with(b"--- ") {
-        return Ok(None);
+        return None;
     }
-    let Some(bytes) = decode(alloc, &line[4..])? else {
-        return Ok(None);
-    };
-    if bytes.len() != 32 {
-        return Ok(None);
+    let mut mac = [0; 32];
+    if !read_text(&line[4..], &mut mac) {
+        return None;
     }
-    let mut mac = [0u8; 32];
-    mac.copy_from_slice(&bytes);
-    Ok(Some(mac))
+    Some(mac)
 }

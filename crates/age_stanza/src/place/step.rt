@@ -21,10 +21,10 @@ fn first(alloc: Global, line: &[u8]) -> Result<Next, HeadKind>
     Err(HeadKind::NotAge)
 }
 
-fn end(alloc: Global, stanzas: Stanzas, line: &[u8]) -> Result<Next, HeadKind>
+fn end(stanzas: Stanzas, line: &[u8]) -> Result<Next, HeadKind>
     ensures { Gives result (ended_of stanzas (spec_mac_of line.now)) }
 {
-    let Some(mac) = mac_of(alloc, line)? else {
+    let Some(mac) = mac_of(line) else {
         return Err(HeadKind::BadEndLine);
     };
     if stanzas.is_empty() {
@@ -75,7 +75,7 @@ pub(crate) fn step(alloc: Global, place: Place, line: &[u8]) -> Result<Next, Hea
         Place::Start => first(alloc, line),
         Place::Between(stanzas) => {
             if line.starts_with(b"---") {
-                end(alloc, stanzas, line)
+                end(stanzas, line)
             } else {
                 begin(alloc, stanzas, line)
             }
