@@ -12,7 +12,8 @@
 //! answers the header as soon as its last byte came, or the first fault with
 //! its line. It accepts exactly the texts of the grammar and takes no byte of
 //! the payload. [`encode_head`] writes the one text of a header, and
-//! [`mac_text`] the part of it that the MAC covers.
+//! [`mac_text`] the part of it that the MAC covers. [`read_text`] reads the
+//! bytes of an argument out of its base64.
 #![tactic(auto)]
 
 mod arguments;
