@@ -85,9 +85,9 @@ impl Intake {
         }
         self.from = 0;
         self.to = 0;
-        let Ok(n) = source.pull(self.buffer.as_mut_slice()) else {
-            return Err(FileFault::Read);
-        };
+        let n = source
+            .pull(self.buffer.as_mut_slice())
+            .map_err(|_| FileFault::Read)?;
         if n == 0 {
             return Ok(false);
         }

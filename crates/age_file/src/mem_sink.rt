@@ -56,9 +56,7 @@ impl MemSink {
           failures = 0;
         }) }
     {
-        let Ok(held) = Vec::with_capacity(alloc, room) else {
-            return Err(Memory);
-        };
+        let held = Vec::with_capacity(alloc, room).map_err(|_| Memory)?;
         Ok(MemSink {
             held,
             room,

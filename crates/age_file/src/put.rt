@@ -20,9 +20,7 @@ pub fn put_all<O: Sink>(sink: &mut O, bytes: &[u8], written: &mut u128) -> Resul
 {
     let mut at = 0;
     while at < bytes.len() {
-        let Ok(n) = sink.put(&bytes[at..]) else {
-            return Err(Failed);
-        };
+        let n = sink.put(&bytes[at..])?;
         at += n;
         *written += n as u128;
     }

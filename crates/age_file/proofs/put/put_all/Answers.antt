@@ -1,21 +1,23 @@
 use Rattle.std.proofs.Common.{min, ◌^◌, ◌≡◌, ◌+◌, ◌-◌, length, take, drop, sym, ap, subst, ◌∙◌, arith, take-add, ◌++◌, List, ℕ}
+use Rattle.std.proofs.lemmas.Result.{err_from_is_err_and}
 use Rattle.std.proofs.lemmas.List.{take_rest, length-take, length-drop, take-append-drop}
 use Rattle.std.specs.Io.KnownBytes.{Appends}
 use Rattle.age_file.proofs.Bytes.{Appends-then, Appends-Keeps, risen}
 use Rattle.age_file.proofs.put.put_all.Goals as goal
 
-pub returns-in_default-clause-writes : goal.returns-in_default-clause-writes
-returns-in_default-clause-writes g c =
+pub returns-in_err-n-clause-writes : goal.returns-in_err-n-clause-writes
+returns-in_err-n-clause-writes g c =
+    let p = err_from_is_err_and c.from_residual.result c.from_residual.ensures.1 in
     let kept = c.loop-at.invariant in
     let at = c.loop-at.at in
     record {
       out = take at c.args.bytes.now;
       cut = drop at c.args.bytes.now;
       parts = sym (take-append-drop at c.args.bytes.now);
-      wrote = Appends-Keeps _ _ _ _ kept.wrote c.in_default.ensures.bytes;
+      wrote = Appends-Keeps _ _ _ _ kept.wrote c.in_err-n.ensures.bytes;
       count = omega (arith, kept.count, kept.within, length-take c.loop-at.at c.args.bytes.now);
-      stopped = omega (arith, c.loop-at-test.true, length-drop at c.args.bytes.now);
-      answered = risen _ _ (c.in_default.ensures.counted ∙ ap (λ k. min (k + 1) (2 ^ 64 - 1)) kept.failed);
+      stopped = rw p.1 (omega (arith, c.loop-at-test.true, length-drop at c.args.bytes.now));
+      answered = rw p.1 (risen _ _ (c.in_err-n.ensures.counted ∙ ap (λ k. min (k + 1) (2 ^ 64 - 1)) kept.failed));
     }
 
 pub loop-at-preserved : goal.loop-at-preserved
@@ -23,13 +25,13 @@ loop-at-preserved g c =
     let kept = c.loop-at.invariant in
     let at = c.loop-at.at in
     let bytes = c.args.bytes.now in
-    let n = c.in-Ok.n in
+    let n = c.in_ok-n.n in
     let on : take at bytes ++ take n (take (length bytes - at) (drop at bytes)) ≡ take (at + n) bytes =
     ap (λ (ys : List ℕ). take at bytes ++ take n ys) (take_rest bytes at) ∙ sym (take-add at n bytes) in
     record {
-      within = omega (arith, kept.within, c.in-Ok.ensures.bound);
-      wrote = subst (λ (t : List ℕ). Appends (g.O.Sink.taken c.args.sink.now) (g.O.Sink.taken c.put.new.self) t) on (Appends-then _ _ _ (take at bytes) (take n (take (length bytes - at) (drop at bytes))) kept.wrote c.in-Ok.ensures.bytes);
+      within = omega (arith, kept.within, c.in_ok-n.ensures.bound);
+      wrote = subst (λ (t : List ℕ). Appends (g.O.Sink.taken c.args.sink.now) (g.O.Sink.taken c.put.new.self) t) on (Appends-then _ _ _ (take at bytes) (take n (take (length bytes - at) (drop at bytes))) kept.wrote c.in_ok-n.ensures.bytes);
       count = omega (arith, kept.count);
-      failed = c.in-Ok.ensures.counted ∙ kept.failed;
-      named = c.in-Ok.ensures.named ∙ kept.named;
+      failed = c.in_ok-n.ensures.counted ∙ kept.failed;
+      named = c.in_ok-n.ensures.named ∙ kept.named;
     }
