@@ -4,6 +4,7 @@ mod inspection;
 mod memory;
 mod program;
 mod resumption;
+mod see;
 
 use super::*;
 
