@@ -7,18 +7,18 @@ use crate::keys::{KEY, around, is_opened, opened};
 use age_keys::SharedSecret;
 use std::alloc::Global;
 
-const SECRET: [u8; 32] = [
+pub(crate) const SECRET: [u8; 32] = [
     64, 65, 66, 67, 68, 69, 70, 71, 72, 73, 74, 75, 76, 77, 78, 79, 80, 81, 82, 83, 84, 85, 86, 87,
     88, 89, 90, 91, 92, 93, 94, 95,
 ];
 
-const RECIPIENT: [u8; 32] = [
+pub(crate) const RECIPIENT: [u8; 32] = [
     96, 97, 98, 99, 100, 101, 102, 103, 104, 105, 106, 107, 108, 109, 110, 111, 112, 113, 114, 115,
     116, 117, 118, 119, 120, 121, 122, 123, 124, 125, 126, 127,
 ];
 
 /// A header of one X25519 stanza.
-const ONE: [u8; 168] =
+pub(crate) const ONE: [u8; 168] =
     *b"age-encryption.org/v1\n-> X25519 AQIDBAUGBwgJCgsMDQ4PEBESExQVFhcYGRobHB0eHyA\njZAdkj7SfLxba9aaDaLOH15VqHxjezbflkA4yhWbOAQ\n--- bFHWTtINPd+NDhBKPJJS9Mjszxl4rvMbhTUfrtdiPco\n";
 
 /// Two, of which the second opens.

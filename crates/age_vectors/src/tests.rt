@@ -5,6 +5,7 @@ mod memory;
 mod program;
 mod resumption;
 mod see;
+mod shared;
 
 use super::*;
 
