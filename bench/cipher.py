@@ -1,22 +1,11 @@
-import time
-
 from cryptography.hazmat.primitives.ciphers import Cipher, algorithms
 from cryptography.hazmat.primitives.ciphers.aead import ChaCha20Poly1305
 from cryptography.hazmat.primitives.poly1305 import Poly1305
 
+from measure import least
+
 SIZE = 65_536
 KEY, NONCE = bytes([9]) * 32, bytes([5]) * 12
-
-
-def least(call, turns=400):
-    best = None
-    for _ in range(turns):
-        start = time.perf_counter_ns()
-        call()
-        took = time.perf_counter_ns() - start
-        best = took if best is None else min(best, took)
-    return best
-
 
 text = bytes([7]) * SIZE
 room = bytearray(SIZE)
@@ -30,4 +19,4 @@ work = {
     "opening 64 KiB": lambda: box.decrypt(NONCE, sealed, b""),
 }
 for label, call in work.items():
-    print(label, least(call), SIZE, sep="\t")
+    print(label, least(call, 400), SIZE, sep="\t")

@@ -1,5 +1,5 @@
 -- Bytes that are fed in pieces.
-use Rattle.std.proofs.Common.{◌≡◌, ℕ, ◌+◌, ◌-◌, List, [], ◌∷◌, ◌++◌, length, take, Ok, Err, refl, sym, ap, subst, ◌∙◌, arith, inl, inr}
+use Rattle.std.proofs.Common.{◌≡◌, ℕ, ◌+◌, ◌-◌, List, [], ◌∷◌, ◌++◌, length, take, Ok, Err, sym, ap, subst, ◌∙◌, arith, inl, inr}
 use Rattle.std.proofs.lemmas.List.{append-nil, append_assoc, length-append, take-append-le}
 use Rattle.std.proofs.Math.Seq.{take-append-add}
 use Rattle.age_stanza.specs.declared.header.Header.{Header}
@@ -16,9 +16,6 @@ pub record Reads (parser : Parsing) (rest bytes : List ℕ) : Type 0 where
   pub fed : List ℕ
   pub is : parser ≡ reading fed
   pub parts : fed ++ rest ≡ bytes
-
-pub none_fed : (bytes : List ℕ) → Reads (reading []) bytes bytes
-none_fed bytes = record { fed = []; is = refl; parts = refl }
 
 -- what a front of the bytes was told, of them all
 pub fault_fed : (old new : Parsing) (rest piece behind bytes : List ℕ) (fault : HeadFault) → Reads old rest bytes → piece ++ behind ≡ rest → Feeds old piece (Err fault) new → IsTold bytes fault

@@ -146,47 +146,28 @@ fn is_forged_block_released(alloc: Global) -> bool {
 // The transfer starts again, at a chunk that is held or beyond it.
 fn restart_rows(alloc: Global) -> bool {
     let (first, second) = EIGHT.split_at(20);
-    leaves(
-        alloc,
-        &[
-            Delivery::Piece(first),
-            Delivery::Restart(0),
-            Delivery::Piece(EIGHT),
-            Delivery::End,
-        ],
-        b"abcdefgh",
-        1,
-        Status::Done,
-    ) && leaves(
-        alloc,
-        &[Delivery::Piece(EIGHT), Delivery::Restart(3)],
-        b"abcdefgh",
-        1,
-        Status::LastSeen,
-    ) && leaves(
-        alloc,
-        &[Delivery::Piece(EIGHT), Delivery::Restart(2)],
-        b"abcdefgh",
-        2,
-        Status::Open,
-    ) && leaves(
-        alloc,
-        &[Delivery::Piece(EIGHT), Delivery::Restart(2), Delivery::End],
-        b"abcdefgh",
-        2,
-        failed(StreamKind::Truncated, 2),
-    ) && leaves(
-        alloc,
-        &[
-            Delivery::Piece(&EIGHT[..27]),
-            Delivery::Restart(1),
-            Delivery::Piece(second),
-            Delivery::End,
-        ],
-        b"abcdefgh",
-        1,
-        Status::Done,
-    )
+    let whole = Delivery::Piece(EIGHT);
+    let again = [
+        Delivery::Piece(first),
+        Delivery::Restart(0),
+        whole,
+        Delivery::End,
+    ];
+    let in_second = [
+        Delivery::Piece(&EIGHT[..27]),
+        Delivery::Restart(1),
+        Delivery::Piece(second),
+        Delivery::End,
+    ];
+    let beyond = [whole, Delivery::Restart(3)];
+    let behind = [whole, Delivery::Restart(2), Delivery::End];
+    let text = b"abcdefgh".as_slice();
+    let truncated = failed(StreamKind::Truncated, 2);
+    leaves(alloc, &again, text, 1, Status::Done)
+        && leaves(alloc, &beyond, text, 1, Status::LastSeen)
+        && leaves(alloc, &behind[..2], text, 2, Status::Open)
+        && leaves(alloc, &behind, text, 2, truncated)
+        && leaves(alloc, &in_second, text, 1, Status::Done)
 }
 
 // The pieces may be single bytes.

@@ -1,5 +1,5 @@
 // Headers of the C2SP page's grammar, whole and in single bytes.
-ghost use Rattle.std.specs.Prelude.{◌≡◌, ◌≤◌, ◌<◌, IsTrue, IfOk, IfErr, length, take};
+ghost use Rattle.std.specs.Prelude.{◌<◌, IsTrue, IfOk, IfErr, take};
 ghost use Rattle.age_stanza.specs.Grammar.{HeadText};
 ghost use Rattle.age_vectors.specs.Header.{IsTold, Accepts, Refuses};
 ghost use Rattle.age_vectors.specs.HeaderRows.{AcceptedRows, FirstLineRows, ArgumentRows, LineRows};

@@ -4,7 +4,8 @@ mod inspection;
 mod memory;
 mod program;
 mod resumption;
-mod shared_secret;
+mod see;
+mod shared;
 mod sizes;
 
 use super::*;

@@ -1,8 +1,8 @@
 //! The commands that encrypt and decrypt, over files in memory. What a contract can't say stands here: which status comes, and
 //! what is told.
 
-use age_cli::{FileSet, MemFiles, run};
-use age_file::{MemSink, MemSource};
+use super::see::{see, see_line};
+use age_cli::MemFiles;
 use std::alloc::Global;
 use std::process::Abort;
 use std::test::Fail;
@@ -19,26 +19,6 @@ pub(super) fn files_with(alloc: Global, room: usize, len: usize) -> Result<MemFi
     files.put(alloc, "RANDOM", RANDOM.to_vec(alloc)?)?;
     files.put(alloc, "IN", vec![in alloc; 7; len]?)?;
     Ok(files)
-}
-
-/// Runs the program, and compares the status and what it told; `*` stands for any text.
-pub(super) fn see<F: FileSet>(
-    rt: &impl Abort,
-    alloc: Global,
-    files: &mut F,
-    words: &[&str],
-    want: (u8, &str, &str),
-) -> Result<(), Fail> {
-    let mut input = MemSource::new(Vec::new(alloc), 7, None);
-    let mut output = MemSink::new(alloc, 10_000, 100, None)?;
-    let mut faults = MemSink::new(alloc, 10_000, 100, None)?;
-    let status = run(alloc, words, files, &mut input, &mut output, &mut faults);
-    let told = std::str::from_utf8(output.bytes()).unwrap_or("?");
-    let faulty = std::str::from_utf8(faults.bytes()).unwrap_or("?");
-    assert_eq!(rt; status, want.0, "{told}{faulty}");
-    assert!(rt; want.1 == "*" || told == want.1, "{told}");
-    assert!(rt; want.2 == "*" || faulty == want.2, "{faulty}");
-    Ok(())
 }
 
 pub(super) const ENCRYPT: &[&str] = &[
@@ -95,53 +75,28 @@ fn refuses_to_decrypt(rt: HostRuntime) -> Result<(), Fail> {
     let mut files = files_with(alloc, 70_000, 3)?;
     see(&rt, alloc, &mut files, ENCRYPT, (0, "", ""))?;
     files.put(alloc, "OTHER", b"incorrect horse\n".to_vec(alloc)?)?;
-    let low = ["decrypt", "--pass", "PASS", "--max-log", "9", "OUT", "BACK"];
-    see(
-        &rt,
-        alloc,
-        &mut files,
-        &low,
-        (1, "", "age_tool: 11 WorkTooHigh\n"),
-    )?;
-    assert!(rt; files.get("BACK") == Some(b"".as_slice()));
-    let wrong = ["decrypt", "--pass", "OTHER", "OUT", "BACK"];
-    see(
-        &rt,
-        alloc,
-        &mut files,
-        &wrong,
-        (1, "", "age_tool: 13 WrongKey\n"),
-    )?;
-    let zeros = [
-        "decrypt",
-        "--file-key",
-        "00000000000000000000000000000000",
-        "OUT",
-        "BACK",
-    ];
-    see(
-        &rt,
-        alloc,
-        &mut files,
-        &zeros,
-        (1, "", "age_tool: 14 MacMismatch\n"),
-    )?;
-    let none = ["decrypt", "--pass", "PASS", "IN", "BACK"];
-    see(
-        &rt,
-        alloc,
-        &mut files,
-        &none,
-        (1, "", "age_tool: 8 HeadCut line 1\n"),
-    )?;
-    let missing = ["decrypt", "--pass", "PASS", "NO", "BACK"];
-    see(
-        &rt,
-        alloc,
-        &mut files,
-        &missing,
-        (1, "", "age_tool: 26 Read\n"),
-    )
+    for (words, fault) in [
+        ("--pass PASS --max-log 9 OUT BACK", "11 WorkTooHigh"),
+        ("--pass OTHER OUT BACK", "13 WrongKey"),
+        (
+            "--file-key 00000000000000000000000000000000 OUT BACK",
+            "14 MacMismatch",
+        ),
+        ("--pass PASS IN BACK", "8 HeadCut line 1"),
+        ("--pass PASS NO BACK", "26 Read"),
+    ] {
+        let line = format!(in alloc; "decrypt {words}")?;
+        let told = format!(in alloc; "age_tool: {fault}\n")?;
+        see_line(
+            &rt,
+            alloc,
+            &mut files,
+            line.as_str(),
+            (1, "", told.as_str()),
+        )?;
+        assert!(rt; files.get("BACK") == Some(b"".as_slice()));
+    }
+    Ok(())
 }
 
 #[test]
@@ -150,129 +105,36 @@ fn bad_command_lines(rt: HostRuntime) -> Result<(), Fail> {
     let mut files = files_with(alloc, 70_000, 3)?;
     files.put(alloc, "EMPTY", b"\n".to_vec(alloc)?)?;
     files.put(alloc, "SHORT", RANDOM[..47].to_vec(alloc)?)?;
-    let one = "age_tool: give one of --pass, --file-key and --shared\n";
-    let same = "age_tool: same file named twice\n";
-    let key = "age_tool: bad file key\n";
-    let pass = "age_tool: bad passphrase file\n";
-    let shared = "age_tool: bad shared file\n";
-    let random = "age_tool: bad random file\n";
-    see(
-        &rt,
-        alloc,
-        &mut files,
-        &["decrypt", "IN", "OUT"],
-        (2, "", one),
-    )?;
-    see(
-        &rt,
-        alloc,
-        &mut files,
-        &[
-            "decrypt",
-            "--pass",
-            "NO",
-            "--file-key",
-            FILE_KEY,
-            "IN",
-            "OUT",
-        ],
-        (2, "", one),
-    )?;
-    see(
-        &rt,
-        alloc,
-        &mut files,
-        &["decrypt", "--pass", "NO", "--shared", "NO", "IN", "IN"],
-        (2, "", one),
-    )?;
-    see(
-        &rt,
-        alloc,
-        &mut files,
-        &["decrypt", "--file-key", "00", "IN", "IN"],
-        (2, "", key),
-    )?;
-    see(
-        &rt,
-        alloc,
-        &mut files,
-        &["decrypt", "--pass", "NO", "IN", "IN"],
-        (2, "", same),
-    )?;
-    see(
-        &rt,
-        alloc,
-        &mut files,
-        &["decrypt", "--pass", "NO", "--save", "IN", "IN", "OUT"],
-        (2, "", same),
-    )?;
-    see(
-        &rt,
-        alloc,
-        &mut files,
-        &["decrypt", "--pass", "NO", "--save", "OUT", "IN", "OUT"],
-        (2, "", same),
-    )?;
-    see(
-        &rt,
-        alloc,
-        &mut files,
-        &["encrypt", "--pass", "PASS", "IN", "IN"],
-        (2, "", same),
-    )?;
-    see(
-        &rt,
-        alloc,
-        &mut files,
-        &["decrypt", "--pass", "EMPTY", "IN", "OUT"],
-        (2, "", pass),
-    )?;
-    see(
-        &rt,
-        alloc,
-        &mut files,
-        &[
-            "encrypt", "--pass", "EMPTY", "--random", "SHORT", "IN", "OUT",
-        ],
-        (2, "", pass),
-    )?;
-    see(
-        &rt,
-        alloc,
-        &mut files,
-        &["decrypt", "--shared", "SHORT", "IN", "OUT"],
-        (2, "", shared),
-    )?;
-    see(
-        &rt,
-        alloc,
-        &mut files,
-        &[
-            "encrypt", "--pass", "PASS", "--random", "SHORT", "IN", "OUT",
-        ],
-        (2, "", random),
-    )?;
-    see(
-        &rt,
-        alloc,
-        &mut files,
-        &["encrypt", "--pass", "PASS", "--log", "0", "IN", "OUT"],
-        (2, "", "*"),
-    )?;
-    see(
-        &rt,
-        alloc,
-        &mut files,
-        &["encrypt", "--pass", "PASS", "--log", "23", "IN", "OUT"],
-        (2, "", "*"),
-    )?;
-    see(
-        &rt,
-        alloc,
-        &mut files,
-        &["encrypt", "IN", "OUT"],
-        (2, "", "*"),
-    )?;
+    let one = "give one of --pass, --file-key and --shared";
+    let same = "same file named twice";
+    let pass = "bad passphrase file";
+    for (words, usage) in [
+        ("decrypt IN OUT", one),
+        ("decrypt --pass NO --file-key 00 IN OUT", one),
+        ("decrypt --pass NO --shared NO IN IN", one),
+        ("decrypt --file-key 00 IN IN", "bad file key"),
+        ("decrypt --pass NO IN IN", same),
+        ("decrypt --pass NO --save IN IN OUT", same),
+        ("decrypt --pass NO --save OUT IN OUT", same),
+        ("encrypt --pass PASS IN IN", same),
+        ("decrypt --pass EMPTY IN OUT", pass),
+        ("encrypt --pass EMPTY --random SHORT IN OUT", pass),
+        ("decrypt --shared SHORT IN OUT", "bad shared file"),
+        (
+            "encrypt --pass PASS --random SHORT IN OUT",
+            "bad random file",
+        ),
+    ] {
+        let told = format!(in alloc; "age_tool: {usage}\n")?;
+        see_line(&rt, alloc, &mut files, words, (2, "", told.as_str()))?;
+    }
+    for words in [
+        "encrypt --pass PASS --log 0 IN OUT",
+        "encrypt --pass PASS --log 23 IN OUT",
+        "encrypt IN OUT",
+    ] {
+        see_line(&rt, alloc, &mut files, words, (2, "", "*"))?;
+    }
     assert!(rt; files.get("OUT").is_none());
     Ok(())
 }

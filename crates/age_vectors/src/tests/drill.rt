@@ -1,7 +1,7 @@
 //! Payloads that are delivered by a script.
 
-use age_cli::{MemFiles, run};
-use age_file::{MemSink, MemSource};
+use super::see::see;
+use age_cli::MemFiles;
 use std::alloc::Global;
 use std::process::Abort;
 use std::test::Fail;
@@ -28,8 +28,8 @@ struct Given<'a> {
     payload: &'a [u8],
 }
 
-/// Runs the program, and compares the status and what it told; `*` stands for any text.
-fn see(
+/// Runs a drill, and compares the status and what it told; `*` stands for any text.
+fn see_drill(
     rt: &impl Abort,
     alloc: Global,
     given: &Given<'_>,
@@ -39,23 +39,7 @@ fn see(
     files.put(alloc, "SCRIPT", given.script.to_vec(alloc)?)?;
     files.put(alloc, "PASS", given.pass.to_vec(alloc)?)?;
     files.put(alloc, "IN", given.payload.to_vec(alloc)?)?;
-    let mut input = MemSource::new(Vec::new(alloc), 7, None);
-    let mut output = MemSink::new(alloc, 20_000, 100, None)?;
-    let mut faults = MemSink::new(alloc, 1_000, 100, None)?;
-    let status = run(
-        alloc,
-        given.words,
-        &mut files,
-        &mut input,
-        &mut output,
-        &mut faults,
-    );
-    let told = std::str::from_utf8(output.bytes()).unwrap_or("?");
-    let faulty = std::str::from_utf8(faults.bytes()).unwrap_or("?");
-    assert_eq!(rt; status, want.0, "{told}{faulty}");
-    assert!(rt; want.1 == "*" || told == want.1, "{told}");
-    assert!(rt; faulty == want.2, "{faulty}");
-    Ok(())
+    see(rt, alloc, &mut files, given.words, want)
 }
 
 /// The same for a payload in the clear.
@@ -72,7 +56,7 @@ fn see_clear(
         pass: b"",
         payload,
     };
-    see(rt, alloc, &given, want)
+    see_drill(rt, alloc, &given, want)
 }
 
 /// The same for an age file.
@@ -90,7 +74,7 @@ fn see_sealed(
         pass,
         payload: file,
     };
-    see(rt, alloc, &given, want)
+    see_drill(rt, alloc, &given, want)
 }
 
 #[test]
@@ -174,43 +158,46 @@ fn chunks_out_of_order(rt: HostRuntime) -> Result<(), Fail> {
     Ok(())
 }
 
+/// What is no line of a script for a payload of 40 bytes.
+const BAD_LINES: [&str; 27] = [
+    "piece 0 41\n",
+    "piece 41 0\n",
+    "piece 18446744073709551615 1\n",
+    "piece 0\n",
+    "piece 0 1 2\n",
+    "piece  0 1\n",
+    "piece 0 1 \n",
+    "piece 00 1\n",
+    "piece 0 01\n",
+    "piece +1 1\n",
+    "piece 0 x\n",
+    "piece 0 1x\n",
+    "flip 40\n",
+    "flip\n",
+    "flip 0 0\n",
+    "flip -1\n",
+    " end\n",
+    "end \n",
+    "end 0\n",
+    "END\n",
+    "end\r\n",
+    "restart\n",
+    "restart 01\n",
+    "restart 18446744073709551616\n",
+    "restart 0 0\n",
+    "\n",
+    "end",
+];
+
 // The script is checked whole: nothing is printed.
 #[test]
 fn bad_lines(rt: HostRuntime) -> Result<(), Fail> {
     let alloc = rt.alloc();
-    for script in [
-        b"piece 0 41\n".as_slice(),
-        b"piece 41 0\n".as_slice(),
-        b"piece 18446744073709551615 1\n".as_slice(),
-        b"piece 0\n".as_slice(),
-        b"piece 0 1 2\n".as_slice(),
-        b"piece  0 1\n".as_slice(),
-        b"piece 0 1 \n".as_slice(),
-        b"piece 00 1\n".as_slice(),
-        b"piece 0 01\n".as_slice(),
-        b"piece +1 1\n".as_slice(),
-        b"piece 0 x\n".as_slice(),
-        b"piece 0 1x\n".as_slice(),
-        b"flip 40\n".as_slice(),
-        b"flip\n".as_slice(),
-        b"flip 0 0\n".as_slice(),
-        b"flip -1\n".as_slice(),
-        b" end\n".as_slice(),
-        b"end \n".as_slice(),
-        b"end 0\n".as_slice(),
-        b"END\n".as_slice(),
-        b"end\r\n".as_slice(),
-        b"restart\n".as_slice(),
-        b"restart 01\n".as_slice(),
-        b"restart 18446744073709551616\n".as_slice(),
-        b"restart 0 0\n".as_slice(),
-        b"\xff\n".as_slice(),
-        b"\n".as_slice(),
-        b"end".as_slice(),
-    ] {
-        let want = (2, "", "age_tool: bad script line 1\n");
-        see_clear(&rt, alloc, script, CLEAR, want)?;
+    let first = (2, "", "age_tool: bad script line 1\n");
+    for line in BAD_LINES {
+        see_clear(&rt, alloc, line.as_bytes(), CLEAR, first)?;
     }
+    see_clear(&rt, alloc, b"\xff\n", CLEAR, first)?;
     for script in [b"end\n\nend\n".as_slice(), b"end\nend".as_slice()] {
         let want = (2, "", "age_tool: bad script line 2\n");
         see_clear(&rt, alloc, script, CLEAR, want)?;
@@ -355,7 +342,7 @@ fn words_and_files_of_a_drill(rt: HostRuntime) -> Result<(), Fail> {
             pass: b"x",
             payload: CLEAR,
         };
-        see(&rt, alloc, &given, want)?;
+        see_drill(&rt, alloc, &given, want)?;
     }
     Ok(())
 }

@@ -1,5 +1,6 @@
 //! The program over memory: words, files and input, and what comes of them.
 
+use super::see::see_input;
 use age_cli::{MemFiles, run};
 use age_file::{MemSink, MemSource};
 use std::alloc::Global;
@@ -11,7 +12,7 @@ const HEADER: &[u8] =
 
 const REPORT: &str = "version age-encryption.org/v1\nheader 76\nstanza x 0 0\nrest 0\nplain none\n";
 
-/// Runs the program over some input, and compares the status and what it told; `*` stands for any text.
+/// Runs the program over some input, with a file, and compares the status and what it told.
 fn see(
     rt: &impl Abort,
     alloc: Global,
@@ -21,23 +22,7 @@ fn see(
 ) -> Result<(), Fail> {
     let mut files = MemFiles::new(alloc, 100);
     files.put(alloc, "IN", HEADER.to_vec(alloc)?)?;
-    let mut input = MemSource::new(input.to_vec(alloc)?, 7, None);
-    let mut output = MemSink::new(alloc, 10_000, 100, None)?;
-    let mut faults = MemSink::new(alloc, 10_000, 100, None)?;
-    let status = run(
-        alloc,
-        words,
-        &mut files,
-        &mut input,
-        &mut output,
-        &mut faults,
-    );
-    let told = std::str::from_utf8(output.bytes()).unwrap_or("?");
-    let faulty = std::str::from_utf8(faults.bytes()).unwrap_or("?");
-    assert_eq!(rt; status, want.0, "{told}{faulty}");
-    assert!(rt; want.1 == "*" || told == want.1, "{told}");
-    assert!(rt; want.2 == "*" || faulty == want.2, "{faulty}");
-    Ok(())
+    see_input(rt, alloc, &mut files, words, input, want)
 }
 
 #[test]

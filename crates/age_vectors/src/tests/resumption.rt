@@ -2,7 +2,8 @@
 
 ghost use Rattle.std.specs.Prelude.{false, None};
 
-use super::commands::{ENCRYPT, FILE_KEY, files_with, see};
+use super::commands::{ENCRYPT, FILE_KEY, files_with};
+use super::see::see;
 use age_cli::{FileSet, MemFiles, MemOut};
 use age_file::{FileFault, MemSource};
 use std::alloc::Global;
