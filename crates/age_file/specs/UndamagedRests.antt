@@ -6,11 +6,16 @@ use Rattle.age_stream.specs.Payload.{payload, chunk_count}
 use Rattle.age_stream.specs.Headline.{IsAuthentic}
 use Rattle.age_keys.specs.declared.fault.KeyFault.{KeyFault}
 use Rattle.age_file.specs.AgeFile.{box, unbox}
-use Rattle.age_file.specs.Bindings.{file_id, chain}
+use Rattle.age_file.specs.Bindings.{chain}
 use Rattle.age_file.specs.Decrypts.{segment, IsWhole}
 use Rattle.age_file.specs.declared.position.Position.{Position}
-use Rattle.age_file.specs.Verdicts.{IsTagged}
+use Rattle.age_file.specs.Verdicts.{OpenedFile, HasId, HasTag}
 use Rattle.age_file.specs.OldTexts.{BeginsWith}
+
+-- a whole file, as one that was opened
+abbrev pub opened : {Allows : Header → List ℕ → Type 0} {Refused : Header → KeyFault → Type 0}
+    {coming : Option (List ℕ)} {text : List ℕ} → IsWhole Allows Refused coming text → OpenedFile
+opened w = record { header = w.header; front = w.file.front; key = w.key; nonce = w.nonce }
 
 -- the source is an age file of this text, and the unlocker has its key and no other; the position is this file's, of a chunk
 -- that the text has, and carries its chain; the old text is the text's before that chunk; and no block of the rest opens
@@ -20,8 +25,8 @@ pub record IsUndamagedRest (Allows : Header → List ℕ → Type 0)
     (text : List ℕ) : Type 0 where
   pub whole : IsWhole Allows Refused coming text
   pub below : p.index < chunk_count 65536 text
-  pub own : p.file_id ≡ file_id whole.file.front whole.nonce
-  pub tagged : IsTagged p whole.key whole.nonce
+  pub own : HasId p (opened whole)
+  pub tagged : HasTag p (opened whole)
   pub carries : p.chain ≡ chain (first_chunks 65536 p.index text)
   pub old_text : BeginsWith p old_coming text
   pub authentic : IsAuthentic (box whole.key whole.nonce) (unbox whole.key whole.nonce) 65536 text
