@@ -60,6 +60,7 @@ fn a_stop_is_gone_on_from(rt: HostRuntime) -> Result<(), Fail> {
     let (text, file, position) = interrupted(rt.alloc())?;
     for len in [131_072, 150_000, 200_000] {
         if len > text.len() {
+            assert!(rt; false, "a short text");
             return Ok(());
         }
         let rest = Rest {
@@ -77,6 +78,7 @@ fn a_stop_is_gone_on_from(rt: HostRuntime) -> Result<(), Fail> {
 fn an_old_text_that_is_short_by_a_byte(rt: HostRuntime) -> Result<(), Fail> {
     let (text, file, position) = interrupted(rt.alloc())?;
     let Some(old) = text.as_slice().get(..131_071) else {
+        assert!(rt; false, "a short text");
         return Ok(());
     };
     let rest = Rest {
@@ -204,6 +206,7 @@ fn a_file_that_ends_early(rt: HostRuntime) -> Result<(), Fail> {
         (131_196, 2),
     ] {
         let Some(cut) = file.as_slice().get(..len) else {
+            assert!(rt; false, "a short file");
             return Ok(());
         };
         let rest = Rest {
