@@ -4,7 +4,6 @@ ghost use Rattle.std.specs.Prelude.{◌≡◌};
 ghost use Rattle.age_cli.specs.declared.ending.Ending.TheVariants.{Fault, Usage as UsageEnding};
 
 use age_file::FileFault;
-use std::fmt;
 
 /// A command line that asks for nothing that can be done.
 #[derive(Clone, Copy, Debug, PartialEq, Eq)]
@@ -33,20 +32,21 @@ pub(crate) enum Usage {
     Unread,
 }
 
-impl fmt::Display for Usage {
-    fn fmt<W: fmt::Write>(&self, f: &mut fmt::Formatter<W>) -> fmt::Result {
+impl Usage {
+    /// What is told of it; a script's line number follows.
+    pub(crate) fn text(&self) -> &'static str {
         match self {
-            Usage::GiveOneOpener => write!(f, "give one of --pass, --file-key and --shared"),
-            Usage::BadFileKey => write!(f, "bad file key"),
-            Usage::SameFile => write!(f, "same file named twice"),
-            Usage::BadPassphraseFile => write!(f, "bad passphrase file"),
-            Usage::BadSharedFile => write!(f, "bad shared file"),
-            Usage::BadRandomFile => write!(f, "bad random file"),
-            Usage::GiveClearOrPass => write!(f, "give one of --clear and --pass"),
-            Usage::ScriptTooLong => write!(f, "script too long"),
-            Usage::BadScriptLine(line) => write!(f, "bad script line {line}"),
-            Usage::PayloadTooLong => write!(f, "payload too long"),
-            Usage::Unread => write!(f, "bad command line"),
+            Usage::GiveOneOpener => "give one of --pass, --file-key and --shared",
+            Usage::BadFileKey => "bad file key",
+            Usage::SameFile => "same file named twice",
+            Usage::BadPassphraseFile => "bad passphrase file",
+            Usage::BadSharedFile => "bad shared file",
+            Usage::BadRandomFile => "bad random file",
+            Usage::GiveClearOrPass => "give one of --clear and --pass",
+            Usage::ScriptTooLong => "script too long",
+            Usage::BadScriptLine(_) => "bad script line ",
+            Usage::PayloadTooLong => "payload too long",
+            Usage::Unread => "bad command line",
         }
     }
 }

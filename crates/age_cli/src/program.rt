@@ -149,7 +149,7 @@ pub fn run<F: FileSet, I: Source, O: Sink, E: Sink>(
     match obey(alloc, words, files, input, output) {
         Ok(()) => 0,
         Err(ending) => {
-            tell(alloc, faults, &ending);
+            tell(faults, &ending);
             ending.status()
         }
     }

@@ -9,7 +9,6 @@ use crate::ending::{Ending, Usage};
 use crate::print::{flush, put_bytes};
 use age_file::{FileFault, Sink};
 use itoa::Buffer;
-use std::alloc::Global;
 
 /// A word, and a number in decimal.
 fn put_number<E: Sink>(faults: &mut E, word: &str, number: u64) -> Result<(), FileFault>
@@ -52,18 +51,23 @@ fn put_fault<E: Sink>(faults: &mut E, fault: FileFault) -> Result<(), FileFault>
     put_bytes(faults, b"\n")
 }
 
-fn put_usage<E: Sink>(alloc: Global, faults: &mut E, usage: Usage) -> Result<(), FileFault> {
-    let line = format!(in alloc; "age_tool: {usage}\n")?;
-    put_bytes(faults, line.as_bytes())
+/// One line, which takes no memory either.
+fn put_usage<E: Sink>(faults: &mut E, usage: Usage) -> Result<(), FileFault> {
+    put_bytes(faults, b"age_tool: ")?;
+    match usage {
+        Usage::BadScriptLine(line) => put_number(faults, usage.text(), line as u64)?,
+        _ => put_bytes(faults, usage.text().as_bytes())?,
+    }
+    put_bytes(faults, b"\n")
 }
 
-fn put_ending<E: Sink>(alloc: Global, faults: &mut E, ending: &Ending) -> Result<(), FileFault>
+fn put_ending<E: Sink>(faults: &mut E, ending: &Ending) -> Result<(), FileFault>
     ensures { TellsEnding ending.now (E.taken faults.old) (E.taken faults.new) (E.failed faults.old)
         (E.failed faults.new) }
 {
     match ending {
         Ending::Words(text) => put_bytes(faults, text.as_bytes())?,
-        Ending::Usage(usage) => put_usage(alloc, faults, *usage)?,
+        Ending::Usage(usage) => put_usage(faults, *usage)?,
         Ending::Fault(fault) => put_fault(faults, *fault)?,
         Ending::Unsaved(fault, second) => {
             put_fault(faults, *fault)?;
@@ -74,9 +78,9 @@ fn put_ending<E: Sink>(alloc: Global, faults: &mut E, ending: &Ending) -> Result
 }
 
 /// Tells why a run ended, where the sink takes it.
-pub(crate) fn tell<E: Sink>(alloc: Global, faults: &mut E, ending: &Ending)
+pub(crate) fn tell<E: Sink>(faults: &mut E, ending: &Ending)
     ensures { TellsEnding ending.now (E.taken faults.old) (E.taken faults.new) (E.failed faults.old)
         (E.failed faults.new) }
 {
-    let _ = put_ending(alloc, faults, ending);
+    let _ = put_ending(faults, ending);
 }
