@@ -21,7 +21,7 @@ first_chunks-take n i d xs =
     ap (take i) (first_chunks-add n i d xs) ∙ take_at (first_chunks n i xs) (first_chunks n d (drop (i * n) xs)) i (length-first_chunks n i xs)
 
 -- texts of n bytes each are the first chunks of what they join to
-first_chunks-full : (n : ℕ) (ts : List (List ℕ)) (l : List ℕ) → AllByRecursion (λ (t : List ℕ). length t ≡ n) ts
+pub first_chunks-full : (n : ℕ) (ts : List (List ℕ)) (l : List ℕ) → AllByRecursion (λ (t : List ℕ). length t ≡ n) ts
     → first_chunks n (length ts) (flat_map (λ (t : List ℕ). t) ts ++ l) ≡ ts
 first_chunks-full n [] l h = refl
 first_chunks-full n (t ∷ ts) l h =
@@ -31,7 +31,7 @@ first_chunks-full n (t ∷ ts) l h =
     ∙ (ap (λ (x : List ℕ). x ∷ first_chunks n (length ts) (drop n (t ++ (rest ++ l)))) (take_at t (rest ++ l) n h.0)
     ∙ ap (λ (cs : List (List ℕ)). t ∷ cs) (ap (first_chunks n (length ts)) (drop_at t (rest ++ l) n h.0) ∙ first_chunks-full n ts l h.1))
 
-flat_full : (n : ℕ) (ts : List (List ℕ)) → AllByRecursion (λ (t : List ℕ). length t ≡ n) ts → length (flat_map (λ (t : List ℕ). t) ts) ≡ length ts * n
+pub flat_full : (n : ℕ) (ts : List (List ℕ)) → AllByRecursion (λ (t : List ℕ). length t ≡ n) ts → length (flat_map (λ (t : List ℕ). t) ts) ≡ length ts * n
 flat_full n [] h = omega arith
 flat_full n (t ∷ ts) h =
     let e : suc (length ts) * n ≡ length ts * n + n = omega arith in

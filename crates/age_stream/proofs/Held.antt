@@ -135,9 +135,20 @@ module _ (sealing : List ℕ → List ℕ → List ℕ) (opening : List ℕ → 
         place = in_place sealing opening lawful n text few positive s.segment auth.1 reached;
       }
 
-on_from : (opening : List ℕ → List ℕ → Option (List ℕ)) (n : ℕ) (xs ys : List Delivery) (s : Standing) → standing_from opening n s (xs ++ ys) ≡ standing_from opening n (standing_from opening n s xs) ys
+pub on_from : (opening : List ℕ → List ℕ → Option (List ℕ)) (n : ℕ) (xs ys : List Delivery) (s : Standing) → standing_from opening n s (xs ++ ys) ≡ standing_from opening n (standing_from opening n s xs) ys
 on_from opening n [] ys s = refl
 on_from opening n (x ∷ xs) ys s = on_from opening n xs ys (after_delivery opening n s x)
 
 pub standing_more : (opening : List ℕ → List ℕ → Option (List ℕ)) (n : ℕ) (ds : List Delivery) (d : Delivery) → standing opening n (ds ++ d ∷ []) ≡ after_delivery opening n (standing opening n ds) d
 standing_more opening n ds d = on_from opening n ds (d ∷ []) begin
+
+-- pieces alone leave all but the bytes of the segment
+pub pieces_from : (opening : List ℕ → List ℕ → Option (List ℕ)) (n : ℕ) (ps : List (Bor (List ℕ))) (up : List Segment) (k : ℕ) (base bytes : List ℕ) (refused : ℕ)
+    → standing_from opening n (record { given_up = up; base = base; segment = record { start = k; bytes = bytes; ended = false; late = false }; refused = refused }) (map Piece ps)
+    ≡ record { given_up = up; base = base; segment = record { start = k; bytes = bytes ++ flat_map (λ (p : Bor (List ℕ)). p.now) ps; ended = false; late = false }; refused = refused }
+pieces_from opening n [] up k base bytes refused =
+    ap (λ (bs : List ℕ). record { given_up = up; base = base; segment = record { start = k; bytes = bs; ended = false; late = false }; refused = refused }) (sym (append-nil bytes))
+pieces_from opening n (p ∷ ps) up k base bytes refused =
+    pieces_from opening n ps up k base (bytes ++ p.now) refused
+    ∙ ap (λ (bs : List ℕ). record { given_up = up; base = base; segment = record { start = k; bytes = bs; ended = false; late = false }; refused = refused })
+    (append_assoc bytes p.now (flat_map (λ (p : Bor (List ℕ)). p.now) ps))

@@ -1,16 +1,17 @@
 -- The writer's own payload, from any chunk on, opens to the end.
 use Rattle.std.proofs.Common.{inl, inr, ◌≡◌, ℕ, zero, suc, ◌<◌, ◌≤◌, ◌+◌, ◌*◌, ◌/◌, refl, ap, sym, subst, ◌∙◌, List, [], ◌∷◌, ◌++◌, length, take, drop, get_or, Bool, true, false, arith}
-use Rattle.std.specs.Prelude.{Option, Some, None, cond, nat_lt, ◌||◌, ◌==◌, slice_get, map}
+use Rattle.std.specs.Prelude.{Option, Some, None, cond, nat_lt, ◌||◌, ◌==◌, slice_get, map, Contains, IsSome}
 use Rattle.std.specs.List.{enumerate_from, AllByRecursion}
 use Rattle.std.specs.Simd.{first_chunks}
 use Rattle.std.proofs.lemmas.Grind.{flat_map-append}
-use Rattle.std.proofs.lemmas.List.{length-append, length-drop, length-take, append-nil, append_assoc, get_or_at, drop_all, take_at, drop_at, drop-drop, take_all}
+use Rattle.std.proofs.lemmas.List.{length-append, length-drop, length-take, append-nil, append_assoc, get_or_at, drop_all, take_at, drop_at, drop-drop, take_all, get_or-map, length-map, get_or_append_left, length_push, get_or_push, get_or-drop}
+use Rattle.std.proofs.lemmas.List.FromFn.{length-enumerate_from, get_or-enumerate_from}
 use Rattle.std.proofs.lemmas.Bool.{cases_lt, lt-ltb, le-ltb, eq-eqb, eqb-true, ltb-true}
 use Rattle.std.proofs.lemmas.Nat.{div-mul-add, mul-le}
 use Rattle.std.proofs.Math.Nat.{add-mul-div_left}
 use Rattle.age_stream.specs.Lawful.{IsLawful}
 use Rattle.age_stream.specs.Nonce.{nonce_bytes, chunk_limit}
-use Rattle.age_stream.specs.Payload.{last_index, last_chunk, chunk_count, pair, sealed_before_last, block_bytes, payload}
+use Rattle.age_stream.specs.Payload.{last_index, last_chunk, chunk_count, pair, sealed_before_last, sealed, block_bytes, payload}
 use Rattle.age_stream.specs.Segment.{Segment, Outcome, outcome, outcome_of, stop, at_block, at_rest, after_last, front_texts, text_then, unless_greatest, whole_blocks, rest_bytes}
 use Rattle.age_stream.specs.Headline.{IsAuthentic, IsWriters}
 use Rattle.age_stream.specs.declared.step.Status.TheVariants.{Done}
@@ -30,6 +31,10 @@ all_drop : (n k : ℕ) (xs : List (List ℕ)) → AllByRecursion (λ (x : List �
 all_drop n zero xs h = h
 all_drop n (suc k) [] h = tt
 all_drop n (suc k) (x ∷ xs) h = all_drop n k xs h.1
+
+none_is : (o : Option (List ℕ)) → o ≡ None → IsSome o → ⊥
+none_is None e h = cc
+none_is (Some t) e h = cc
 
 module _ (sealing : List ℕ → List ℕ → List ℕ) (opening : List ℕ → List ℕ → Option (List ℕ)) (lawful : IsLawful sealing opening) (n : ℕ) where
   -- the blocks of these chunks, none of them the last
@@ -52,6 +57,13 @@ module _ (sealing : List ℕ → List ℕ → List ℕ) (opening : List ℕ → 
   length-blocks_of : (i : ℕ) (ds : List (List ℕ)) → length (blocks_of i ds) ≡ length ds
   length-blocks_of i [] = refl
   length-blocks_of i (d ∷ ds) = ap (λ (k : ℕ). suc k) (length-blocks_of (i + 1) ds)
+
+  get_or-blocks_of : (i : ℕ) (ds : List (List ℕ)) (j : ℕ) → j < length ds → get_or (blocks_of i ds) j [] ≡ sealing (nonce_bytes (i + j) false) (get_or ds j [])
+  get_or-blocks_of i [] j h = absurd (omega arith)
+  get_or-blocks_of i (d ∷ ds) zero h = let z : i ≡ i + 0 = omega arith in ap (λ (x : ℕ). sealing (nonce_bytes x false) d) z
+  get_or-blocks_of i (d ∷ ds) (suc j) h =
+      let e : i + 1 + j ≡ i + suc j = omega arith in
+      get_or-blocks_of (i + 1) ds j (omega arith) ∙ ap (λ (x : ℕ). sealing (nonce_bytes x false) (get_or ds j [])) e
 
   length-bytes_of : (i : ℕ) (ds : List (List ℕ)) → Full ds → length (bytes_of i ds) ≡ (n + 16) * length ds
   length-bytes_of i [] h = omega arith
@@ -306,4 +318,87 @@ module _ (sealing : List ℕ → List ℕ → List ℕ) (opening : List ℕ → 
         elim (cases_lt (length tail) (n + 16)) [
           | inl lt ↦ short_done lt
           | inr le ↦ full_done (omega (arith, le, tail_len, last_chunk_le n text positive)) auth
+        ]
+
+    -- the writer's pairs
+    writers_front : (i : ℕ) → i < q → Contains (sealed sealing n text) (nonce_bytes i false, sealing (nonce_bytes i false) (get_or cs i []))
+    writers_front i lt =
+        let p : List ℕ × List ℕ = (nonce_bytes i false, sealing (nonce_bytes i false) (get_or cs i [])) in
+        let front = sealed_before_last sealing n text in
+        let len_cs : length cs ≡ q = length-first_chunks n q text in
+        let len_en : length (enumerate_from 0 cs) ≡ q = length-enumerate_from 0 cs ∙ len_cs in
+        let len : length front ≡ q = length-map (enumerate_from 0 cs) (pair sealing false) ∙ len_en in
+        let total : length (sealed sealing n text) ≡ q + 1 = length_push front (pair sealing true (q, last_chunk n text)) ∙ ap (λ (j : ℕ). j + 1) len in
+        let e0 : get_or (sealed sealing n text) i p ≡ get_or front i p =
+        get_or_append_left front (pair sealing true (q, last_chunk n text) ∷ []) p i (omega (arith, lt, len)) in
+        let e1 : get_or front i p ≡ pair sealing false (get_or (enumerate_from 0 cs) i (0, [])) =
+        get_or-map (pair sealing false) (enumerate_from 0 cs) i (0, []) p (omega (arith, lt, len_en)) in
+        let e2 : get_or (enumerate_from 0 cs) i (0, []) ≡ (0 + i, get_or cs i []) = get_or-enumerate_from 0 cs i (0, []) (omega (arith, lt, len_cs)) in
+        let z : 0 + i ≡ i = omega arith in
+        (i, omega (arith, lt, total), e0 ∙ (e1 ∙ (ap (pair sealing false) e2 ∙ ap (λ (j : ℕ). pair sealing false (j, get_or cs i [])) z)))
+
+    writers_last : Contains (sealed sealing n text) (nonce_bytes q true, tail)
+    writers_last =
+        let p : List ℕ × List ℕ = (nonce_bytes q true, tail) in
+        let front = sealed_before_last sealing n text in
+        let len : length front ≡ q = length-map (enumerate_from 0 cs) (pair sealing false) ∙ (length-enumerate_from 0 cs ∙ length-first_chunks n q text) in
+        let total : length (sealed sealing n text) ≡ q + 1 = length_push front (pair sealing true (q, last_chunk n text)) ∙ ap (λ (j : ℕ). j + 1) len in
+        (q, omega (arith, total), get_or_push front (pair sealing true (q, last_chunk n text)) p q len)
+
+    -- the blocks before the last are the writer's
+    front_writers : (ys : List (List ℕ)) (j : ℕ) → j < length ds → IsWriters sealing opening n text (nonce_bytes (k + j) false) (get_or (blocks_of k ds ++ ys) j [])
+    front_writers ys j lt some =
+        let is : get_or (blocks_of k ds ++ ys) j [] ≡ sealing (nonce_bytes (k + j) false) (get_or cs (k + j) []) =
+        get_or_append_left (blocks_of k ds) ys [] j (omega (arith, lt, length-blocks_of k ds))
+        ∙ (get_or-blocks_of k ds j lt ∙ ap (sealing (nonce_bytes (k + j) false)) (get_or-drop k cs j [])) in
+        subst (λ (b : List ℕ). Contains (sealed sealing n text) (nonce_bytes (k + j) false, b)) (sym is) (writers_front (k + j) (omega (arith, lt, ds_len)))
+
+    short_authentic : length tail < n + 16 → IsAuthentic sealing opening n text rest_segment
+    short_authentic short =
+        let whole : whole_blocks n bytes ≡ blocks_of k ds ++ [] = whole_of k ds tail ds_full ∙ ap (λ (ys : List (List ℕ)). blocks_of k ds ++ ys) (none_whole short) in
+        let front : front_texts opening k (whole_blocks n bytes) ≡ ds = ap (front_texts opening k) whole ∙ (front_behind [] ∙ append-nil ds) in
+        let e : length tail ≡ 0 * (n + 16) + length tail = omega arith in
+        let none : length tail / (n + 16) ≡ 0 = ap (λ (x : ℕ). x / (n + 16)) e ∙ div-mul-add 0 (n + 16) (length tail) short in
+        let count : length bytes / (n + 16) ≡ length ds = omega (arith, count_of k ds tail ds_full, none) in
+        let len : length (front_texts opening k (whole_blocks n bytes)) ≡ length ds = ap length front in
+        record {
+          front = λ j lt. subst (λ (bs : List (List ℕ)). IsWriters sealing opening n text (nonce_bytes (k + j) false) (get_or bs j [])) (sym whole) (front_writers [] j (omega (arith, lt, len)));
+          next = λ lt last. absurd (omega (arith, lt, len, count));
+          rest = λ eq ended long empty some.
+              let left : rest_bytes n bytes ≡ tail = left_of k ds tail ds_full ∙ all_left short in
+              let at : k + length bytes / (n + 16) ≡ q = omega (arith, count, ds_len) in
+              subst (λ (b : List ℕ). Contains (sealed sealing n text) (nonce_bytes (k + length bytes / (n + 16)) true, b)) (sym left)
+              (subst (λ (i : ℕ). Contains (sealed sealing n text) (nonce_bytes i true, tail)) (sym at) writers_last);
+        }
+
+    last_writers : opening (nonce_bytes q false) tail ≡ None → (last : Bool) → IsWriters sealing opening n text (nonce_bytes q last) tail
+    last_writers shut true some = writers_last
+    last_writers shut false some = absurd (none_is (opening (nonce_bytes q false) tail) shut some)
+
+    full_authentic : length tail ≡ n + 16 → opening (nonce_bytes q false) tail ≡ None → IsAuthentic sealing opening n text rest_segment
+    full_authentic full shut =
+        let whole : whole_blocks n bytes ≡ blocks_of k ds ++ tail ∷ [] = blocks_are full in
+        let front : front_texts opening k (whole_blocks n bytes) ≡ ds =
+        ap (front_texts opening k) whole ∙ (front_behind (tail ∷ []) ∙ (ap (λ (o : Option (List ℕ)). ds ++ text_then opening (unless_greatest q o) []) shut ∙ append-nil ds)) in
+        let count : length bytes / (n + 16) ≡ length ds + 1 = omega (arith, count_of k ds tail ds_full, one_count full) in
+        let len : length (front_texts opening k (whole_blocks n bytes)) ≡ length ds = ap length front in
+        let there : get_or (whole_blocks n bytes) (length ds) [] ≡ tail =
+        ap (λ (bs : List (List ℕ)). get_or bs (length ds) []) whole ∙ get_or_at (blocks_of k ds) tail [] [] (length ds) (length-blocks_of k ds) in
+        let at : (last : Bool) → IsWriters sealing opening n text (nonce_bytes q last) tail = last_writers shut in
+        record {
+          front = λ j lt. subst (λ (bs : List (List ℕ)). IsWriters sealing opening n text (nonce_bytes (k + j) false) (get_or bs j [])) (sym whole) (front_writers (tail ∷ []) j (omega (arith, lt, len)));
+          next = λ lt last.
+              let i : k + length (front_texts opening k (whole_blocks n bytes)) ≡ q = omega (arith, len, ds_len) in
+              let b : get_or (whole_blocks n bytes) (length (front_texts opening k (whole_blocks n bytes))) [] ≡ tail = ap (λ (j : ℕ). get_or (whole_blocks n bytes) j []) len ∙ there in
+              subst (λ (c : List ℕ). IsWriters sealing opening n text (nonce_bytes (k + length (front_texts opening k (whole_blocks n bytes))) last) c) (sym b)
+              (subst (λ (j : ℕ). IsWriters sealing opening n text (nonce_bytes j last) tail) (sym i) (at last));
+          rest = λ eq ended long empty. absurd (omega (arith, eq, len, count));
+        }
+
+    -- all that is tried is the writer's, unless the last block is full and opens as one before the last
+    pub rest_authentic : (length (last_chunk n text) ≡ n → opening (nonce_bytes q false) tail ≡ None) → IsAuthentic sealing opening n text rest_segment
+    rest_authentic shut =
+        elim (cases_lt (length tail) (n + 16)) [
+          | inl lt ↦ short_authentic lt
+          | inr le ↦ full_authentic (omega (arith, le, tail_len, last_chunk_le n text positive)) (shut (omega (arith, le, tail_len, last_chunk_le n text positive)))
         ]

@@ -2,6 +2,7 @@ pub mod Lawful
 pub mod Clear
 pub mod Nonce
 pub mod Payload
+pub mod Parts
 pub mod Segment
 pub mod Deliveries
 pub mod Sealing
@@ -16,6 +17,8 @@ pub mod Replaying
 pub mod ReplaySteps
 pub mod Places
 pub mod Headline
+pub mod Feeding
 pub mod Drills
 pub mod FaultNumbers
 pub mod Laws
+pub mod Authentic

@@ -1,5 +1,5 @@
 -- What an opener stands for, and what its calls answer. A chunk has n bytes.
-use Rattle.std.specs.Prelude.{◌≡◌, ℕ, List, [], ◌∷◌, take, Bool, true, false, Option, Some, None, Result, Ok, Err}
+use Rattle.std.specs.Prelude.{◌≡◌, ℕ, ◌+◌, ◌-◌, ◌*◌, ◌/◌, List, [], ◌∷◌, length, take, Bool, true, false, Option, Some, None, Result, Ok, Err}
 use Rattle.std.specs.Borrow.{Bor}
 use Rattle.age_stream.specs.declared.step.Status.{Status}
 use Rattle.age_stream.specs.declared.step.Status.TheVariants.{Open, Failed}
@@ -44,3 +44,20 @@ handed_bytes (Err fault) = []
 abbrev pub chunk_texts : Option (Bor (List ℕ)) → List (List ℕ)
 chunk_texts None = []
 chunk_texts (Some chunk) = chunk.now ∷ []
+
+-- the number while the opener is open, else 0
+abbrev pub while_open : Status → ℕ → ℕ
+while_open Open len = len
+while_open other len = 0
+
+-- how much text so many bytes hold: of each whole block what isn't its tag
+abbrev pub whole_text : ℕ → ℕ → ℕ
+whole_text n len = len / (n + 16) * n
+
+-- how much text an end releases, if it releases any: what is held, without the tag
+abbrev pub text_at_end : {B : Type 0} → OpenerView B → ℕ
+text_at_end o = while_open o.status (length o.held - 16)
+
+-- how much text a piece releases at most
+abbrev pub text_of_piece : {B : Type 0} → ℕ → OpenerView B → ℕ → ℕ
+text_of_piece n o len = while_open o.status (whole_text n (length o.held + len))

@@ -1,14 +1,17 @@
 -- What a replay stands for. A chunk has n bytes.
-use Rattle.std.specs.Prelude.{◌≡◌, ℕ, List, Option}
+use Rattle.std.specs.Prelude.{◌≡◌, ◌<◌, ◌+◌, ℕ, List, [], length, Option}
 use Rattle.age_stream.specs.Deliveries.{Standing, standing, text_held, with_piece}
-use Rattle.age_stream.specs.Opening.{OpenerView, Stands}
+use Rattle.age_stream.specs.Opening.{OpenerView, Stands, text_of_piece, text_at_end}
 use Rattle.age_stream.specs.declared.delivery.Delivery.{Delivery}
+use Rattle.age_stream.specs.declared.delivery.Delivery.TheVariants.{Piece, End, Restart}
 
--- its key, the opener of the current segment, the text that is held, and how many restarts were refused
+-- its key, the opener of the current segment, the text that is held, how many bytes there is room for with no more memory,
+-- and how many restarts were refused
 pub record ReplayView (B : Type 0) : Type 0 where
   pub key : B
   pub opener : OpenerView B
   pub text : List ℕ
+  pub capacity : ℕ
   pub refused : ℕ
 
 -- more bytes came to the current segment
@@ -31,3 +34,20 @@ module _ {B : Type 0} (opening : B → List ℕ → List ℕ → Option (List �
   -- it was given these deliveries
   abbrev pub Replays : ReplayView B → List Delivery → Type 0
   Replays r deliveries = IsAt r (standing (opening r.key) n deliveries)
+
+-- how much text a delivery releases at most: no more room is asked for
+abbrev pub could_release : {B : Type 0} → ℕ → OpenerView B → Delivery → ℕ
+could_release n o (Piece piece) = text_of_piece n o (length piece.now)
+could_release n o End = text_at_end o
+could_release n o (Restart k) = 0
+
+-- the delivery could release some text, and there is no room for as much of it as it could: so it is never a restart
+pub record IsCramped {B : Type 0} (n : ℕ) (r : ReplayView B) (delivery : Delivery) : Type 0 where
+  pub some : 0 < could_release n r.opener delivery
+  pub full : r.capacity < length r.text + could_release n r.opener delivery
+
+-- the bytes of a delivery
+abbrev pub bytes_in : Delivery → List ℕ
+bytes_in (Piece piece) = piece.now
+bytes_in End = []
+bytes_in (Restart k) = []

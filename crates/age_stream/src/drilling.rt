@@ -1,7 +1,9 @@
 //! Whole lists of deliveries.
-ghost use Rattle.std.specs.Prelude.{◌-◌, ◌≤◌, IfOk};
+ghost use Rattle.std.specs.Prelude.{◌-◌, ◌<◌, ◌≤◌, length, IfOk, OnErr};
+ghost use Rattle.std.specs.List.{flat_map};
 ghost use Rattle.age_stream.specs.Drills.{IsHeldAfter};
 ghost use Rattle.age_stream.specs.Headline.{HoldsWritten};
+ghost use Rattle.age_stream.specs.Replaying.{bytes_in};
 
 use crate::chunk_box::ChunkBox;
 use crate::delivery::Delivery;
@@ -24,6 +26,9 @@ pub fn drill<B: ChunkBox, const SEALED: usize>(
     // reported only with all of it, an undamaged payload, or its rest, gives all of it, and each block stands in its place.
     ensures written { IfOk result (λ drill. HoldsWritten (B.sealing key.now) (B.opening key.now)
         (SEALED - 16) events.now drill.text.items drill.status) }
+
+    // Memory is refused only where more bytes are delivered than a tag has.
+    ensures memory { OnErr result (16 < length (flat_map bytes_in events.now)) }
 {
     let mut replay = Replay::<B, SEALED>::new(alloc, key);
     for event in events {

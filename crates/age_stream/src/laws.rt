@@ -1,5 +1,7 @@
 //! Laws over the definitions, for the layers above.
 ghost use Rattle.age_stream.specs.Laws.{ChunksAreCounted, NoncesDiffer, PiecesJoin, ReleasedGrows, SealedGrows};
+ghost use Rattle.age_stream.specs.Authentic.{ClearIsAuthentic, ClearRoundTrip, RestIsAuthentic, RoundTrip, UndamagedIsAuthentic};
+ghost use Rattle.age_stream.specs.Parts.{ChunksAreOne, SealsChunks};
 
 /// No two chunks of a payload have the same nonce.
 pub fn nonces_differ()
@@ -28,4 +30,33 @@ pub fn sealed_grows()
 /// last joins to the first `index` chunks of all text so far.
 pub fn chunks_are_counted()
     ensures { ChunksAreCounted }
+{}
+
+/// The payload of a text, delivered in any pieces and then an end, meets the
+/// premise of the headline, and so does its rest from a chunk on, if the last
+/// chunk is short or its block doesn't open as one before the last.
+pub fn undamaged_is_authentic()
+    ensures whole { UndamagedIsAuthentic }
+    ensures rest { RestIsAuthentic }
+{}
+
+/// With [`ClearBox`](crate::ClearBox) every payload meets it.
+pub fn clear_is_authentic()
+    ensures { ClearIsAuthentic }
+{}
+
+/// The payload of a text, delivered in any pieces and then an end, is held as
+/// that text, with the status [`Done`](crate::Status::Done), if the last chunk
+/// is short or its block doesn't open as one before the last. With
+/// [`ClearBox`](crate::ClearBox) it always is.
+pub fn round_trip()
+    ensures lawful { RoundTrip }
+    ensures clear { ClearRoundTrip }
+{}
+
+/// A text has exactly one list of chunks, and the payload seals each at the
+/// nonce of its number and of whether it is the last (C2SP age.md, "Payload").
+pub fn chunks_are_one()
+    ensures one { ChunksAreOne }
+    ensures sealed { SealsChunks }
 {}

@@ -33,7 +33,10 @@ pub use delivery::Delivery;
 pub use drilling::drill;
 pub use fault::{Memory, StreamFault, StreamKind};
 pub use headline::held_is_written;
-pub use laws::{chunks_are_counted, nonces_differ, pieces_join, released_grows, sealed_grows};
+pub use laws::{
+    chunks_are_counted, chunks_are_one, clear_is_authentic, nonces_differ, pieces_join,
+    released_grows, round_trip, sealed_grows, undamaged_is_authentic,
+};
 pub use nonce::{CHUNK_LIMIT, nonce_of};
 pub use opener::Opener;
 pub use replay::{Drill, Replay};

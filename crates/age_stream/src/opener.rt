@@ -4,7 +4,6 @@ ghost use Rattle.std.specs.Bool.{OnTrue, OnFalse};
 ghost use Rattle.std.specs.List.{flat_map};
 ghost use Rattle.std.specs.Borrow.{sem};
 ghost use Rattle.std.specs.Io.BufRead.{Rests};
-ghost use Rattle.age_stream.specs.Lent.{lent_text};
 ghost use Rattle.age_stream.specs.Headline.{ReleasesWritten};
 ghost use Rattle.age_stream.specs.Nonce.{nonce_bytes, chunk_limit};
 ghost use Rattle.age_stream.specs.declared.step.Status.TheVariants.{Open};
@@ -34,7 +33,7 @@ struct OpenerState<'k, B: ChunkBox, const SEALED: usize> {
 impl<'k, B: ChunkBox, const SEALED: usize> OpenerState<'k, B, SEALED> {
     ghost use Rattle.age_stream.specs.Segment.{Segment, outcome, released, one_block, at_rest, status_ended, failed};
     ghost use Rattle.age_stream.specs.Deliveries.{with_piece, with_end};
-    ghost use Rattle.age_stream.specs.Opening.{Stands, given, handed, has_failed};
+    ghost use Rattle.age_stream.specs.Opening.{Stands, given, handed, has_failed, text_at_end};
     ghost use Rattle.age_stream.specs.OpenerSteps.{held_bytes, opener_view, IsTried, TakesPart, TakesWhole, TakesNone, Ends, front_bytes};
 
     // Empties the buffer of a text that was lent.
@@ -151,6 +150,11 @@ impl<'k, B: ChunkBox, const SEALED: usize> OpenerState<'k, B, SEALED> {
         ensures unfailed { OnOk result (has_failed self.old.status ≡ false) }
         ensures still { length piece.now ≡ 0 → opener_view self.new ≡ opener_view self.old }
         ensures nothing { length piece.now ≡ 0 → IfOk result (λ a. a.1 ≡ false) }
+        ensures was_open { OnOk result (0 < length piece.now → self.old.status ≡ Status.Open) }
+        ensures lent { IfOk result (λ a. a.1 ≡ true
+            → (length (held_bytes self.old) + a.0 ≡ SEALED) × (held_bytes self.new ≡ [])) }
+        ensures unlent { IfOk result (λ a. a.1 ≡ false
+            → length (held_bytes self.new) ≡ length (held_bytes self.old) + a.0) }
         ensures room { IfOk result (λ a. length (held_bytes self.new)
             + length (if a.1 then take (SEALED - 16) self.new.buffer.items else [])
             ≤ length (held_bytes self.old) + a.0) }
@@ -167,6 +171,7 @@ impl<'k, B: ChunkBox, const SEALED: usize> OpenerState<'k, B, SEALED> {
         ensures ends { Ends (at_rest (B.opening self.old.key.now) [] self.old.index
             (held_bytes self.old) false true) self.old result self.new }
         ensures done { OnOk result (self.new.status ≡ Status.Done) }
+        ensures len { IfOk result (λ len. len ≡ length (held_bytes self.old) - 16) }
     {
         self.settle();
         let len = self.buffer.len();
@@ -198,6 +203,7 @@ impl<'k, B: ChunkBox, const SEALED: usize> OpenerState<'k, B, SEALED> {
             → self.old.status ≡ Status.Failed earlier → fault ≡ earlier) }
         ensures unfailed { OnOk result (has_failed self.old.status ≡ false) }
         ensures done { OnOk result (self.new.status ≡ Status.Done) }
+        ensures len { IfOk result (λ len. len ≡ 0) }
     {
         if let Status::Failed(fault) = self.status {
             return Err(fault);
@@ -225,6 +231,7 @@ impl<'k, B: ChunkBox, const SEALED: usize> OpenerState<'k, B, SEALED> {
             → self.old.status ≡ Status.Failed earlier → fault ≡ earlier) }
         ensures unfailed { OnOk result (has_failed self.old.status ≡ false) }
         ensures key { self.new.key ≡ self.old.key }
+        ensures len { IfOk result (λ len. len ≡ text_at_end (opener_view self.old)) }
         ensures fits { IfOk result (λ len. (len ≤ length self.new.buffer.items)
             × (len ≤ length (held_bytes self.old))) }
     {
@@ -275,7 +282,8 @@ impl<'k, B: ChunkBox, const SEALED: usize> Model for Opener<'k, B, SEALED> {
 impl<'k, B: ChunkBox, const SEALED: usize> Opener<'k, B, SEALED> {
     ghost use Rattle.age_stream.specs.Segment.{Segment, outcome, released};
     ghost use Rattle.age_stream.specs.Deliveries.{with_piece, with_end, fresh};
-    ghost use Rattle.age_stream.specs.Opening.{Stands, given, handed, handed_bytes, chunk_texts, has_failed};
+    ghost use Rattle.age_stream.specs.Opening.{Stands, given, handed, handed_bytes, chunk_texts, has_failed, text_at_end};
+    ghost use Rattle.age_stream.specs.Feeding.{IsFed, IsEnded};
     ghost use Rattle.age_stream.specs.OpenerRow.{opener_row};
 
     /// An opener of a whole payload. Takes no memory.
@@ -358,22 +366,8 @@ impl<'k, B: ChunkBox, const SEALED: usize> Opener<'k, B, SEALED> {
     /// chunk are [`Trailing`](StreamKind::Trailing). After a refusal each call
     /// is refused with the same fault.
     pub fn feed(&mut self, piece: &[u8]) -> Result<Step<'_>, StreamFault>
-        // At last the headline: while what opens is the writer's, what was released is the beginning of the text.
-        ensures* after { sem 𝓛 (Rests (opener_row B.row SEALED.row B.ChunkBox) self.entry (λ new.
-            (new.key ≡ self.old.key)
-            × ((s : Segment) → Stands B.opening (SEALED - 16) self.old s
-            → Stands B.opening (SEALED - 16) new
-            (with_piece s (given (λ step. step.taken) result piece.now)))
-            × IfErr result (λ fault. new.status ≡ Status.Failed fault)
-            × IfOk result (λ step. (has_failed new.status ≡ false)
-            × (length new.held + length (lent_text step.chunk) ≤ length self.old.held + step.taken))
-            × (length piece.now ≡ 0 → new ≡ self.old)
-            × ((s : Segment) → Stands B.opening (SEALED - 16) self.old s
-            → ReleasesWritten (B.sealing self.old.key) (B.opening self.old.key) (SEALED - 16)
-            (with_piece s (given (λ step. step.taken) result piece.now))
-            (released (B.opening self.old.key) (SEALED - 16) s
-            ++ flat_map (λ text. text) (handed (λ step. chunk_texts step.chunk) result))
-            new.status))) }
+        ensures* after { sem 𝓛 (Rests (opener_row B.row SEALED.row B.ChunkBox) self.entry
+            (IsFed B.sealing B.opening (SEALED - 16) self.old piece.now result)) }
         ensures texts { (s : Segment) → Stands B.opening (SEALED - 16) self.old s
             → (outcome (B.opening self.old.key) (SEALED - 16)
             (with_piece s (given (λ step. step.taken) result piece.now))).texts
@@ -386,6 +380,7 @@ impl<'k, B: ChunkBox, const SEALED: usize> Opener<'k, B, SEALED> {
         ensures again { IfErr result (λ fault. (earlier : StreamFaultValue)
             → self.old.status ≡ Status.Failed earlier → fault ≡ earlier) }
         ensures unfailed { OnOk result (has_failed self.old.status ≡ false) }
+        ensures was_open { OnOk result (0 < length piece.now → self.old.status ≡ Status.Open) }
     {
         let (taken, full) = self.state.advance(piece)?;
         if !full {
@@ -407,21 +402,12 @@ impl<'k, B: ChunkBox, const SEALED: usize> Opener<'k, B, SEALED> {
     /// [`ChunkDamaged`](StreamKind::ChunkDamaged). After a refusal each call is
     /// refused with the same fault.
     pub fn end(&mut self) -> Result<&[u8], StreamFault>
-        // At last the headline: while what opens is the writer's, Ok comes only with all of the text.
-        ensures* after { sem 𝓛 (Rests (opener_row B.row SEALED.row B.ChunkBox) self.entry (λ new.
-            (new.key ≡ self.old.key)
-            × ((s : Segment) → Stands B.opening (SEALED - 16) self.old s
-            → Stands B.opening (SEALED - 16) new (with_end s))
-            × IfErr result (λ fault. new.status ≡ Status.Failed fault)
-            × OnOk result (new.status ≡ Status.Done)
-            × ((s : Segment) → Stands B.opening (SEALED - 16) self.old s
-            → ReleasesWritten (B.sealing self.old.key) (B.opening self.old.key)
-            (SEALED - 16) (with_end s)
-            (released (B.opening self.old.key) (SEALED - 16) s
-            ++ handed_bytes result) new.status))) }
+        ensures* after { sem 𝓛 (Rests (opener_row B.row SEALED.row B.ChunkBox) self.entry
+            (IsEnded B.sealing B.opening (SEALED - 16) self.old result)) }
         ensures text { (s : Segment) → Stands B.opening (SEALED - 16) self.old s
             → released (B.opening self.old.key) (SEALED - 16) (with_end s)
             ≡ released (B.opening self.old.key) (SEALED - 16) s ++ handed_bytes result }
+        ensures len { IfOk result (λ text. length text.now ≡ text_at_end self.old) }
         ensures fits { IfOk result (λ text. length text.now ≤ length self.old.held) }
         ensures again { IfErr result (λ fault. (earlier : StreamFaultValue)
             → self.old.status ≡ Status.Failed earlier → fault ≡ earlier) }

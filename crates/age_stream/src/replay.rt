@@ -39,7 +39,8 @@ struct ReplayState<'k, B: ChunkBox, const SEALED: usize> {
 }
 
 impl<'k, B: ChunkBox, const SEALED: usize> ReplayState<'k, B, SEALED> {
-    ghost use Rattle.age_stream.specs.Replaying.{IsAt, Replays, with_bytes};
+    ghost use Rattle.age_stream.specs.Replaying.{IsAt, IsCramped, Replays, with_bytes};
+    ghost use Rattle.age_stream.specs.Opening.{text_at_end, text_of_piece, whole_text};
     ghost use Rattle.age_stream.specs.ReplaySteps.{replay_view};
     ghost use Rattle.age_stream.specs.Deliveries.{Standing, after_delivery};
     ghost use Rattle.age_stream.specs.declared.delivery.Delivery.TheVariants.{End, Restart};
@@ -47,14 +48,17 @@ impl<'k, B: ChunkBox, const SEALED: usize> ReplayState<'k, B, SEALED> {
     // Feeds the front of a piece, and says how much was taken, unless the opener refused it.
     fn feed_once(&mut self, piece: &[u8]) -> Option<usize>
         requires some { 0 < length piece.now }
-        requires room { vec_len self.old.text + length self.old.opener.held + length piece.now
+        requires room { self.old.opener.status ≡ Status.Open → vec_len self.old.text
+            + whole_text (SEALED - 16) (length self.old.opener.held + length piece.now)
             ≤ vec_capacity self.old.text }
         ensures taken { IfSome result (λ t. (0 < t) × (t ≤ length piece.now)
-            × (vec_len self.new.text + length self.new.opener.held + length piece.now
-            ≤ vec_capacity self.new.text + t)
+            × (vec_len self.new.text
+            + whole_text (SEALED - 16) (length self.new.opener.held + (length piece.now - t))
+            ≤ vec_capacity self.new.text)
             × ((s : Standing) → IsAt B.opening (SEALED - 16) (replay_view self.old) s
             → IsAt B.opening (SEALED - 16) (replay_view self.new)
             (with_bytes s (take t piece.now)))) }
+        ensures capacity { vec_capacity self.old.text ≤ vec_capacity self.new.text }
         ensures refused { IfNone result ((s : Standing)
             → IsAt B.opening (SEALED - 16) (replay_view self.old) s
             → IsAt B.opening (SEALED - 16) (replay_view self.new) (with_bytes s piece.now)) }
@@ -72,8 +76,10 @@ impl<'k, B: ChunkBox, const SEALED: usize> ReplayState<'k, B, SEALED> {
 
     // Feeds a whole piece, for whose text there is room.
     fn feed_all(&mut self, piece: &[u8])
-        requires { vec_len self.old.text + length self.old.opener.held + length piece.now
+        requires { self.old.opener.status ≡ Status.Open → vec_len self.old.text
+            + whole_text (SEALED - 16) (length self.old.opener.held + length piece.now)
             ≤ vec_capacity self.old.text }
+        ensures capacity { vec_capacity self.old.text ≤ vec_capacity self.new.text }
         ensures fed { (s : Standing) → IsAt B.opening (SEALED - 16) (replay_view self.old) s
             → IsAt B.opening (SEALED - 16) (replay_view self.new) (with_bytes s piece.now) }
         ensures key { self.new.key ≡ self.old.key }
@@ -87,16 +93,39 @@ impl<'k, B: ChunkBox, const SEALED: usize> ReplayState<'k, B, SEALED> {
         }
     }
 
+    // How much text a piece releases at most.
+    fn piece_room(&self, piece: &[u8]) -> usize
+        ensures { result ≡ text_of_piece (SEALED - 16) self.now.opener (length piece.now) }
+    {
+        match self.opener.status() {
+            Status::Open => (self.opener.held_len() + piece.len()) / SEALED * (SEALED - 16),
+            _ => 0,
+        }
+    }
+
+    // How much text an end releases, if it releases any.
+    fn end_room(&self) -> usize
+        ensures { result ≡ text_at_end self.now.opener }
+    {
+        match self.opener.status() {
+            Status::Open => self.opener.held_len().saturating_sub(16),
+            _ => 0,
+        }
+    }
+
     // Takes a piece. Its text is made room for first.
     fn take_piece(&mut self, piece: &[u8]) -> Result<(), Memory>
         ensures fed { OnOk result ((s : Standing)
             → IsAt B.opening (SEALED - 16) (replay_view self.old) s
             → IsAt B.opening (SEALED - 16) (replay_view self.new) (with_bytes s piece.now)) }
         ensures err { OnErr result (replay_view self.new ≡ replay_view self.old) }
+        ensures cramped { OnErr result (vec_capacity self.old.text < vec_len self.old.text
+            + text_of_piece (SEALED - 16) self.old.opener (length piece.now)) }
+        ensures capacity { vec_capacity self.old.text ≤ vec_capacity self.new.text }
         ensures key { self.new.key ≡ self.old.key }
     {
-        let held = self.opener.held_len();
-        if self.text.reserve(held + piece.len()).is_err() {
+        let room = self.piece_room(piece);
+        if self.text.reserve(room).is_err() {
             return Err(Memory);
         }
         self.feed_all(piece);
@@ -110,10 +139,13 @@ impl<'k, B: ChunkBox, const SEALED: usize> ReplayState<'k, B, SEALED> {
             → IsAt B.opening (SEALED - 16) (replay_view self.new)
             (after_delivery (B.opening self.old.key.now) (SEALED - 16) s End)) }
         ensures err { OnErr result (replay_view self.new ≡ replay_view self.old) }
+        ensures cramped { OnErr result (vec_capacity self.old.text
+            < vec_len self.old.text + text_at_end self.old.opener) }
+        ensures capacity { vec_capacity self.old.text ≤ vec_capacity self.new.text }
         ensures key { self.new.key ≡ self.old.key }
     {
-        let held = self.opener.held_len();
-        if self.text.reserve(held).is_err() {
+        let room = self.end_room();
+        if self.text.reserve(room).is_err() {
             return Err(Memory);
         }
         if let Ok(text) = self.opener.end() {
@@ -136,6 +168,7 @@ impl<'k, B: ChunkBox, const SEALED: usize> ReplayState<'k, B, SEALED> {
         ensures restarted { (s : Standing) → IsAt B.opening (SEALED - 16) (replay_view self.old) s
             → IsAt B.opening (SEALED - 16) (replay_view self.new)
             (after_delivery (B.opening self.old.key.now) (SEALED - 16) s (Restart k)) }
+        ensures capacity { vec_capacity self.old.text ≤ vec_capacity self.new.text }
         ensures key { self.new.key ≡ self.old.key }
     {
         if self.reaches(k) {
@@ -153,6 +186,9 @@ impl<'k, B: ChunkBox, const SEALED: usize> ReplayState<'k, B, SEALED> {
             → IsAt B.opening (SEALED - 16) (replay_view self.new)
             (after_delivery (B.opening self.old.key.now) (SEALED - 16) s delivery.now)) }
         ensures err { OnErr result (replay_view self.new ≡ replay_view self.old) }
+        ensures memory { OnErr result
+            (IsCramped (SEALED - 16) (replay_view self.old) delivery.now) }
+        ensures capacity { vec_capacity self.old.text ≤ vec_capacity self.new.text }
         ensures key { self.new.key ≡ self.old.key }
     {
         match delivery {
@@ -172,6 +208,9 @@ impl<'k, B: ChunkBox, const SEALED: usize> ReplayState<'k, B, SEALED> {
             → Replays B.opening (SEALED - 16) (replay_view self.new)
             (deliveries ++ delivery.now ∷ [])) }
         ensures err { OnErr result (replay_view self.new ≡ replay_view self.old) }
+        ensures memory { OnErr result
+            (IsCramped (SEALED - 16) (replay_view self.old) delivery.now) }
+        ensures capacity { vec_capacity self.old.text ≤ vec_capacity self.new.text }
         ensures written { OnOk result ((deliveries : List DeliveryValue)
             → Replays B.opening (SEALED - 16) (replay_view self.old) deliveries
             → HoldsWritten (B.sealing self.old.key.now) (B.opening self.old.key.now) (SEALED - 16)
@@ -202,7 +241,7 @@ impl<'k, B: ChunkBox, const SEALED: usize> Model for Replay<'k, B, SEALED> {
 }
 
 impl<'k, B: ChunkBox, const SEALED: usize> Replay<'k, B, SEALED> {
-    ghost use Rattle.age_stream.specs.Replaying.{Replays};
+    ghost use Rattle.age_stream.specs.Replaying.{IsCramped, Replays};
 
     /// A replay that was given nothing yet. Takes no memory.
     pub fn new(alloc: Global, key: &'k B) -> Self
@@ -210,6 +249,7 @@ impl<'k, B: ChunkBox, const SEALED: usize> Replay<'k, B, SEALED> {
         requires most { SEALED ≤ 65552 }
         ensures key { result.key ≡ key.now }
         ensures nothing { Replays B.opening (SEALED - 16) result [] }
+        ensures room { result.capacity ≡ 0 }
     {
         Replay {
             state: ReplayState {
@@ -277,6 +317,11 @@ impl<'k, B: ChunkBox, const SEALED: usize> Replay<'k, B, SEALED> {
             → Replays B.opening (SEALED - 16) self.new (deliveries ++ delivery.now ∷ [])) }
         ensures err { OnErr result (self.new ≡ self.old) }
 
+        // Memory is refused only where the delivery could release more text than there is room for: never at a restart, nor
+        // behind the last chunk or a fault. What room there is stays.
+        ensures memory { OnErr result (IsCramped (SEALED - 16) self.old delivery.now) }
+        ensures capacity { self.old.capacity ≤ self.new.capacity }
+
         // While no block opens except as the writer of a text sealed it, what is held is the beginning of that text, the
         // end is reported only with all of it, an undamaged payload, or its rest, gives all of it, and each block stands in
         // its place.
@@ -293,7 +338,8 @@ impl<'k, B: ChunkBox, const SEALED: usize> Replay<'k, B, SEALED> {
 // Appends bytes to a text that has room for them.
 fn push_text(text: &mut Vec<u8>, bytes: &[u8])
     requires { vec_len text.old + length bytes.now ≤ vec_capacity text.old }
-    ensures { text.new.items ≡ text.old.items ++ bytes.now }
+    ensures items { text.new.items ≡ text.old.items ++ bytes.now }
+    ensures capacity { vec_capacity text.old ≤ vec_capacity text.new }
 {
     // within the capacity no memory is asked for
     let _ = text.extend_from_slice(bytes);

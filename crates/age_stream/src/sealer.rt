@@ -263,6 +263,7 @@ impl<'k, B: ChunkBox, const SEALED: usize> Sealer<'k, B, SEALED> {
             ≡ block_bytes (sealed_before_last (B.sealing self.old.key) (SEALED - 16) text)
             ++ block.now) }
         ensures fits { OnOk result (self.old.failed ≡ false) }
+        ensures limit { self.old.index < chunk_limit }
         ensures refused { IfErr result (λ fault. (self.old.failed ≡ true)
             × (fault ≡ too_many self.old.index)) }
     {

@@ -1,6 +1,8 @@
 //! A caller of the sealer: it feeds a text, and copies out the blocks that are lent.
 ghost use Rattle.std.specs.Prelude.{◌≡◌, ◌-◌, ◌≤◌, ◌++◌, IfOk, IfErr, OnOk};
-ghost use Rattle.age_stream.specs.Payload.{payload};
+ghost use Rattle.age_stream.specs.Payload.{payload, chunk_count};
+ghost use Rattle.age_stream.specs.Nonce.{chunk_limit};
+ghost use Rattle.age_stream.specs.Authentic.{GivesBack, IsClosed};
 ghost use Rattle.age_stream.specs.Sealing.{lent, lent_bytes};
 ghost use Rattle.age_stream.specs.WholeText.{SealRefuses, number_of, place_of};
 ghost use Rattle.age_stream.specs.declared.whole_text.SealFault.TheVariants.{Stream as StreamRefusal, Memory as MemoryRefusal};
@@ -74,6 +76,12 @@ pub fn seal_all<B: ChunkBox, const SEALED: usize>(
     requires most { SEALED ≤ 65552 }
     ensures sealed { IfOk result
         (λ v. v.items ≡ payload (B.sealing key.now) (SEALED - 16) text.now) }
+    ensures few { OnOk result (chunk_count (SEALED - 16) text.now ≤ chunk_limit) }
+
+    // Delivered in any pieces and then an end, it is held as the text again, with the status Done.
+    ensures gives_back { IfOk result
+        (λ v. IsClosed (B.sealing key.now) (B.opening key.now) (SEALED - 16) text.now
+        → GivesBack (B.opening key.now) (SEALED - 16) v.items text.now) }
     ensures refused { IfErr result (SealRefuses (SEALED - 16) text.now) }
 {
     let mut out = Vec::new(alloc);

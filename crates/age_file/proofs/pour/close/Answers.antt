@@ -14,15 +14,15 @@ returns-in_err-text g c =
       cut = [];
       releases = record {
         out = [];
-        key = after.0;
+        key = after.key;
         wrote = Appends-nil _;
         named = refl;
         count = omega arith;
-        stands = after.1;
+        stands = after.stands;
         text = c.in_err-text.ensures.text;
         marks = λ positive s base len h m. mark_end (g.B.ChunkBox.sealing c.args.opener.now.key) (g.B.ChunkBox.opening c.args.opener.now.key) (g.met.B.ChunkBox.lawful c.args.opener.now.key) (g.row.SEALED - 16) positive base s [] [] _ _ len (c.in_err-text.ensures.text s h) refl refl m;
       };
-      answered = rw (p.1, p.2) (after.2, refl, refl, refl);
+      answered = rw (p.1, p.2) (after.fault, refl, refl, refl);
     }
 
 pub returns : goal.returns
@@ -33,15 +33,15 @@ returns g c =
       cut = put.cut;
       releases = record {
         out = put.out;
-        key = after.0;
+        key = after.key;
         wrote = put.wrote;
         named = c.write_all.ensures.named;
         count = put.count;
-        stands = after.1;
+        stands = after.stands;
         text = λ s h. c.in_ok-text.ensures.text s h ∙ ap (λ (t : List ℕ). released (g.B.ChunkBox.opening c.args.opener.now.key) (g.row.SEALED - 16) s ++ t) put.parts;
         marks = λ positive s base len h m.
             let more = c.in_ok-text.ensures.text s h ∙ ap (λ (t : List ℕ). released (g.B.ChunkBox.opening c.args.opener.now.key) (g.row.SEALED - 16) s ++ t) put.parts in
             mark_end (g.B.ChunkBox.sealing c.args.opener.now.key) (g.B.ChunkBox.opening c.args.opener.now.key) (g.met.B.ChunkBox.lawful c.args.opener.now.key) (g.row.SEALED - 16) positive base s put.out put.cut _ _ len more refl refl m;
       };
-      answered = answer_as c.write_all.result put.answered c.write_all.ensures.fault (λ _ all. (after.3, all.0, all.1)) (λ _ is risen. rw is risen);
+      answered = answer_as c.write_all.result put.answered c.write_all.ensures.fault (λ _ all. (after.done, all.0, all.1)) (λ _ is risen. rw is risen);
     }

@@ -22,15 +22,15 @@ returns-in_err-step-clause-fed g c =
       parts = sym (append-nil piece);
       releases = record {
         out = [];
-        key = after.0;
+        key = after.key;
         wrote = Appends-nil _;
         named = refl;
         count = omega arith;
-        stands = after.1;
+        stands = after.stands;
         text = λ s h. more_text (g.B.ChunkBox.opening key) (g.row.SEALED - 16) s (with_piece s piece) [] [] (c.in_err-step.ensures.texts s h) refl;
-        marks = marks_refused g.B.ChunkBox.opening (g.row.SEALED - 16) (g.B.ChunkBox.sealing key) c.args.opener.now c.feed.follows.lender-at-none c.args.progress.now piece (g.met.B.ChunkBox.lawful key) after.1 c.in_err-step.ensures.texts;
+        marks = marks_refused g.B.ChunkBox.opening (g.row.SEALED - 16) (g.B.ChunkBox.sealing key) c.args.opener.now c.feed.follows.lender-at-none c.args.progress.now piece (g.met.B.ChunkBox.lawful key) after.stands c.in_err-step.ensures.texts;
       };
-      answered = rw (p.1, p.2) (after.2, refl, refl, refl);
+      answered = rw (p.1, p.2) (after.fault, refl, refl, refl);
     }
 
 -- the sink failed
@@ -50,8 +50,8 @@ returns-in_err-write_all-clause-fed g c =
       left = drop step.taken piece;
       cut = put.cut;
       parts = sym (take-append-drop step.taken piece);
-      releases = fed_front g.B.ChunkBox.opening (g.row.SEALED - 16) c.args.opener.now c.feed.follows.lender-at-none was _ piece step.taken step.chunk put.out put.cut after.0 after.1 ok.texts lent put.wrote c.in_err-write_all.ensures.named put.count
-          (marks_cut g.B.ChunkBox.opening (g.row.SEALED - 16) (g.B.ChunkBox.sealing key) c.args.opener.now c.feed.follows.lender-at-none c.args.progress.now _ (take step.taken piece) step.chunk put.out put.cut (g.met.B.ChunkBox.lawful key) after.1 ok.texts lent put.stopped refl refl);
+      releases = fed_front g.B.ChunkBox.opening (g.row.SEALED - 16) c.args.opener.now c.feed.follows.lender-at-none was _ piece step.taken step.chunk put.out put.cut after.key after.stands ok.texts lent put.wrote c.in_err-write_all.ensures.named put.count
+          (marks_cut g.B.ChunkBox.opening (g.row.SEALED - 16) (g.B.ChunkBox.sealing key) c.args.opener.now c.feed.follows.lender-at-none c.args.progress.now _ (take step.taken piece) step.chunk put.out put.cut (g.met.B.ChunkBox.lawful key) after.stands ok.texts lent put.stopped refl refl);
       answered = rw (p.1, p.2, c.in_err-write_all.ensures.fault) put.answered;
     }
 
@@ -75,7 +75,7 @@ returns-clause-fed g c =
       left = drop step.taken piece;
       cut = [];
       parts = sym (take-append-drop step.taken piece);
-      releases = fed_front g.B.ChunkBox.opening (g.row.SEALED - 16) c.args.opener.now c.feed.follows.lender-at-none was now piece step.taken step.chunk put.out [] after.0 after.1 ok.texts whole put.wrote c.in_ok-write_all.ensures.named count
-          (marks_whole g.B.ChunkBox.opening (g.row.SEALED - 16) (g.B.ChunkBox.sealing key) c.args.opener.now c.feed.follows.lender-at-none c.args.progress.now c.advance.new.self (take step.taken piece) step.chunk c.index.result c.next_link-link.result (g.met.B.ChunkBox.lawful key) after.0 c.index.ensures.index after.1 ok.texts linked c.advance.ensures.counted);
-      answered = goes_front g.B.ChunkBox.opening (g.row.SEALED - 16) c.args.opener.now c.feed.follows.lender-at-none was now piece step.taken step.chunk put.out [] (omega (arith, ok.taken)) after.3.1 whole count none put.answered.1;
+      releases = fed_front g.B.ChunkBox.opening (g.row.SEALED - 16) c.args.opener.now c.feed.follows.lender-at-none was now piece step.taken step.chunk put.out [] after.key after.stands ok.texts whole put.wrote c.in_ok-write_all.ensures.named count
+          (marks_whole g.B.ChunkBox.opening (g.row.SEALED - 16) (g.B.ChunkBox.sealing key) c.args.opener.now c.feed.follows.lender-at-none c.args.progress.now c.advance.new.self (take step.taken piece) step.chunk c.index.result c.next_link-link.result (g.met.B.ChunkBox.lawful key) after.key c.index.ensures.index after.stands ok.texts linked c.advance.ensures.counted);
+      answered = goes_front g.B.ChunkBox.opening (g.row.SEALED - 16) c.args.opener.now c.feed.follows.lender-at-none was now piece step.taken step.chunk put.out [] (omega (arith, ok.taken)) after.fits whole count none put.answered.1;
     }

@@ -1,11 +1,21 @@
-use Rattle.std.proofs.Common.{◌≡◌, ◌-◌, ◌<◌, ℕ, List, take, arith, refl, subst, sym, ◌∙◌}
+use Rattle.std.proofs.Common.{◌≡◌, ◌-◌, ◌<◌, ℕ, List, take, Result, Ok, Err, OnErr, arith, refl, subst, sym, ◌∙◌}
 use Rattle.std.proofs.lemmas.List.{take_all, take_more}
 use Rattle.age_stream.specs.declared.delivery.Delivery.{Delivery}
 use Rattle.age_stream.specs.Replaying.{Replays}
 use Rattle.age_stream.specs.declared.step.Status.{Status}
 use Rattle.age_stream.specs.Headline.{HoldsWritten}
+use Rattle.age_stream.proofs.Cramped.{cramped_at}
 use Rattle.age_stream.proofs.ReplaySteps.{written}
 use Rattle.age_stream.proofs.drilling.drill.Goals as goal
+
+on_err : {A E : Type 0} {P : Type 0} (r : Result A E) → P → OnErr r P
+on_err (Ok a) p = tt
+on_err (Err e) p = p
+
+pub returns-in_err-take-clause-memory : goal.returns-in_err-take-clause-memory
+returns-in_err-take-clause-memory g c =
+    on_err c.from_residual.result
+    (cramped_at g.B.ChunkBox.opening (g.row.SEALED - 16) c.loop-event.replay c.args.events.now c.loop-event.event-index _ c.loop-event-test.true c.loop-event.invariant.1 c.in_err-take.ensures.memory)
 
 pub loop-event-preserved : goal.loop-event-preserved
 loop-event-preserved g c =

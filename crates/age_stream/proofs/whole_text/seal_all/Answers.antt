@@ -1,7 +1,9 @@
-use Rattle.std.proofs.Common.{◌≡◌, ◌-◌, ◌≤◌, ℕ, ◌+◌, length, take, drop, List, ◌++◌, ap, sym, subst, ◌∙◌, arith, take-add, min}
+use Rattle.std.proofs.Common.{◌<◌, ◌≡◌, ◌-◌, ◌≤◌, ℕ, ◌+◌, length, take, drop, List, ◌++◌, ap, sym, subst, ◌∙◌, arith, take-add, min}
 use Rattle.std.proofs.lemmas.List.{take_all, take_rest, length-take, length-drop}
 use Rattle.age_stream.specs.Sealing.{Holds, lent, lent_bytes}
-use Rattle.age_stream.specs.Payload.{sealed_before_last, block_bytes, payload}
+use Rattle.age_stream.specs.Authentic.{GivesBack}
+use Rattle.age_stream.proofs.Authentic.{comes_back}
+use Rattle.age_stream.specs.Payload.{last_index, sealed_before_last, block_bytes, payload}
 use Rattle.age_stream.proofs.SealerSteps.{step_len_le}
 use Rattle.age_stream.proofs.whole_text.seal_all.Goals as goal
 
@@ -47,3 +49,19 @@ returns-clause-sealed g c =
     let last0 = c.in_ok-finish.ensures.chunk here inv.holds in
     let last = rw inv.key at last0 in
     c.in_ok-extend_from_slice.ensures.items ∙ (ap (λ (t : List ℕ). t ++ c.in_ok-finish.field-0.now) inv.blocks ∙ (sym last ∙ ap (payload (g.B.ChunkBox.sealing c.args.key.now) m) all))
+
+pub returns-clause-few : goal.returns-clause-few
+returns-clause-few g c =
+    let m = g.row.SEALED - 16 in
+    let text = c.args.text.now in
+    let here : List ℕ = take c.loop-at.at text in
+    let all : here ≡ text = take_all c.loop-at.at text (omega (arith, c.loop-at-test.false)) in
+    omega (arith, c.in_ok-finish.ensures.limit, c.loop-at.invariant.holds.index, ap (last_index m) all)
+
+pub returns-clause-gives_back : goal.returns-clause-gives_back
+returns-clause-gives_back g c = λ closed.
+    let m = g.row.SEALED - 16 in
+    let key = c.args.key.now in
+    let positive : 0 < m = omega (arith, c.requires) in
+    subst (λ (bytes : List ℕ). GivesBack (g.B.ChunkBox.opening key) m bytes c.args.text.now) (sym (returns-clause-sealed g c))
+    (comes_back (g.B.ChunkBox.sealing key) (g.B.ChunkBox.opening key) (g.met.B.ChunkBox.lawful key) m positive c.args.text.now (returns-clause-few g c) closed)

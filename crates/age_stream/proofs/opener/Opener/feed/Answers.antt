@@ -1,5 +1,7 @@
-use Rattle.std.proofs.Common.{refl, ap, ◌≡◌, true, false}
+use Rattle.std.proofs.Common.{refl, ap, ◌≡◌, ◌+◌, ◌-◌, length, take, arith, true, false}
+use Rattle.std.proofs.lemmas.List.{length-take}
 use Rattle.std.proofs.lemmas.Result.{err_from_is_err_and}
+use Rattle.age_stream.specs.OpenerSteps.{held_bytes}
 use Rattle.age_stream.proofs.opener.Opener.feed.Goals as goal
 
 never : {A : Type 0} → true ≡ false → A
@@ -10,22 +12,28 @@ returns-in_err-taken g c =
     let p = err_from_is_err_and c.from_residual.result c.from_residual.ensures.1 in
     let e = c.in_err-taken.ensures in
     rw (← c.self.view_is, p.1, p.2) (
-      (refl, λ _. tt, (ap (λ k. k.now) e.key, e.stands, e.fault, tt, e.still, e.written)),
-      record { after = tt; texts = e.texts; taken = tt; some = tt; nothing = λ _. tt; again = e.again; unfailed = tt },
+      (refl, λ _. tt, record { key = ap (λ k. k.now) e.key; stands = e.stands; fault = e.fault; unfailed = tt; lent = tt; unlent = tt; fits = tt; unchanged = e.still; written = e.written }),
+      record { after = tt; texts = e.texts; taken = tt; some = tt; nothing = λ _. tt; again = e.again; unfailed = tt; was_open = tt },
     )
 
 pub returns-then-not-full : goal.returns-then-not-full
 returns-then-not-full g c =
     let e = rw c.if-not-full.true at c.in_ok-taken.ensures in
     rw (← c.self.view_is) (
-      (refl, λ _. tt, (ap (λ k. k.now) e.key, e.stands, tt, (e.sound, e.room), e.still, e.written)),
-      record { after = tt; texts = e.texts; taken = e.taken; some = e.some; nothing = λ _. refl; again = tt; unfailed = e.unfailed },
+      (refl, λ _. tt, record { key = ap (λ k. k.now) e.key; stands = e.stands; fault = tt; unfailed = e.sound; lent = tt; unlent = e.unlent refl; fits = e.room; unchanged = e.still; written = e.written }),
+      record { after = tt; texts = e.texts; taken = e.taken; some = e.some; nothing = λ _. refl; again = tt; unfailed = e.unfailed; was_open = e.was_open },
     )
 
 pub returns : goal.returns
 returns g c =
     let e = rw c.if-not-full.false at c.in_ok-taken.ensures in
+    let state = c.self.inside.state in
+    let sizes = state.sizes in
+    let buffer = c.advance.new.self.buffer.items in
+    let whole = e.lent refl in
+    let size : length (take (g.row.SEALED - 16) buffer) ≡ g.row.SEALED - 16 = omega (arith, length-take (g.row.SEALED - 16) buffer, e.full refl) in
+    let was : length (held_bytes state) + c.in_ok-taken.taken ≡ g.row.SEALED - 16 + 16 = omega (arith, whole.0, sizes) in
     rw (← c.self.view_is, c.as_slice.ensures.value) (
-      (refl, λ _. tt, (ap (λ k. k.now) e.key, e.stands, tt, (e.sound, e.room), e.still, e.written)),
-      record { after = tt; texts = e.texts; taken = e.taken; some = e.some; nothing = λ h. never (e.nothing h); again = tt; unfailed = e.unfailed },
+      (refl, λ _. tt, record { key = ap (λ k. k.now) e.key; stands = e.stands; fault = tt; unfailed = e.sound; lent = (size, was, whole.1); unlent = tt; fits = e.room; unchanged = e.still; written = e.written }),
+      record { after = tt; texts = e.texts; taken = e.taken; some = e.some; nothing = λ h. never (e.nothing h); again = tt; unfailed = e.unfailed; was_open = e.was_open },
     )

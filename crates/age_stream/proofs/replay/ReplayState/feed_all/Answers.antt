@@ -1,5 +1,7 @@
-use Rattle.std.proofs.Common.{◌≡◌, ◌-◌, ◌+◌, ap, sym, subst, ◌∙◌, arith, length, take, drop, List, ℕ, ◌++◌, take-add, take-append-drop}
+use Rattle.std.proofs.Common.{rules, ◌<◌, ◌≤◌, vec_len, vec_capacity, ◌≡◌, ◌-◌, ◌+◌, ap, sym, subst, ◌∙◌, arith, length, take, drop, List, ℕ, ◌++◌, take-add, take-append-drop}
 use Rattle.std.proofs.lemmas.List.{take_rest, length-take, length-drop}
+use Rattle.age_stream.specs.Opening.{whole_text}
+use Rattle.age_stream.specs.declared.step.Status.TheVariants.{Open}
 use Rattle.age_stream.specs.ReplaySteps.{replay_view}
 use Rattle.age_stream.specs.Replaying.{IsAt, with_bytes}
 use Rattle.age_stream.proofs.ReplaySteps.{with_bytes-append}
@@ -17,7 +19,10 @@ loop-at-preserved g c =
     ap (λ (ys : List ℕ). take at piece ++ take taken ys) (take_rest piece at) ∙ sym (take-add at taken piece) in
     record {
       within = omega (arith, r.1, left, left2, c.loop-at.invariant.within);
-      room = omega (arith, r.2, left, left2, c.loop-at.invariant.within);
+      room = λ _.
+          let e : length (take (length piece - at) (drop at piece)) - taken ≡ length piece - (at + taken) = omega (arith, left, left2) in
+          omega (arith, r.2, ap (λ (k : ℕ). whole_text (g.row.SEALED - 16) (length c.feed_once.new.self.opener.held + k)) e);
+      capacity = omega (arith, c.feed_once.ensures.capacity, c.loop-at.invariant.capacity);
       key = c.feed_once.ensures.key ∙ c.loop-at.invariant.key;
       fed = λ s h.
           subst (IsAt g.B.ChunkBox.opening (g.row.SEALED - 16) (replay_view c.feed_once.new.self)) (with_bytes-append s (take at piece) (take taken (take (length piece - at) (drop at piece))) ∙ ap (with_bytes s) on)
@@ -31,3 +36,16 @@ returns-in-None-clause-fed g c = λ s h.
     let all : take at piece ++ take (length piece - at) (drop at piece) ≡ piece = ap (λ (ys : List ℕ). take at piece ++ ys) (take_rest piece at) ∙ take-append-drop at piece in
     subst (IsAt g.B.ChunkBox.opening (g.row.SEALED - 16) (replay_view c.feed_once.new.self)) (with_bytes-append s (take at piece) (take (length piece - at) (drop at piece)) ∙ ap (with_bytes s) all)
     (c.in-None.ensures.refused (with_bytes s (take at piece)) (c.loop-at.invariant.fed s h))
+
+pub feed_once-requires : goal.feed_once-requires
+feed_once-requires g c =
+    let piece = c.args.piece.now in
+    let at = c.loop-at.at in
+    let left = length-take (length piece - at) (drop at piece) in
+    let left2 = length-drop at piece in
+    let e : length (take (length piece - at) (drop at piece)) ≡ length piece - at = omega (arith, left, left2) in
+    let some : 0 < length (take (length piece - at) (drop at piece)) = omega (arith, e, c.loop-at-test.true) in
+    let room = λ (o : c.loop-at.self.opener.status ≡ Open).
+    let more : vec_len c.loop-at.self.text + whole_text (g.row.SEALED - 16) (length c.loop-at.self.opener.held + length (take (length piece - at) (drop at piece))) ≤ vec_capacity c.loop-at.self.text =
+    omega (arith, c.loop-at.invariant.room o, ap (λ (k : ℕ). whole_text (g.row.SEALED - 16) (length c.loop-at.self.opener.held + k)) e) in more in
+    (search rules, (some, room))

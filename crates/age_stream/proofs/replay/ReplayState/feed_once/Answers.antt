@@ -1,8 +1,9 @@
-use Rattle.std.proofs.Common.{◌-◌, refl, ap, sym, ◌∙◌, arith, length, List, ℕ, [], ◌++◌, append-nil}
+use Rattle.std.proofs.Common.{◌-◌, refl, ap, sym, ◌∙◌, ◌≤◌, arith, length, List, ℕ, [], ◌++◌, append-nil}
 use Rattle.std.proofs.lemmas.List.{length-append}
 use Rattle.age_stream.specs.ReplaySteps.{replay_view}
 use Rattle.age_stream.specs.Opening.{chunk_texts}
 use Rattle.age_stream.specs.Lent.{lent_text}
+use Rattle.age_stream.proofs.Room.{room_left}
 use Rattle.age_stream.proofs.ReplaySteps.{replay_step, lent_flat}
 use Rattle.age_stream.proofs.replay.ReplayState.feed_once.Goals as goal
 
@@ -16,15 +17,27 @@ returns-in-Ok-clause-taken g c =
     let items = c.push_lent.ensures.items ∙ ap (λ (t : List ℕ). c.args.self.now.text.items ++ t) (sym (lent_flat step.chunk)) in
     let long = c.push_lent.new.text.ok.0 in
     let was = c.args.self.now.text.ok.0 in
-    let room = after.3 in (
+    let fits : step.taken ≤ length c.args.piece.now = omega (arith, ok.taken) in
+    let left = room_left (g.row.SEALED - 16) (length c.args.self.now.opener.held) step.taken (length c.args.piece.now) _ step.chunk after.lent after.unlent fits in
+    let room = c.requires.room (ok.was_open c.requires.some) in (
       some,
-      omega (arith, ok.taken),
-      omega (arith, len, long, was, room, c.requires.room, c.push_lent.ensures.capacity),
-      λ s h. replay_step g.B.ChunkBox.opening (g.row.SEALED - 16) (replay_view c.args.self.now) _ s _ (chunk_texts step.chunk) h refl after.0 refl (after.1 s.segment h.segment) (ok.texts s.segment h.segment) items,
+      fits,
+      omega (arith, len, long, was, room, left, c.push_lent.ensures.capacity),
+      λ s h. replay_step g.B.ChunkBox.opening (g.row.SEALED - 16) (replay_view c.args.self.now) _ s _ (chunk_texts step.chunk) h refl after.key refl (after.stands s.segment h.segment) (ok.texts s.segment h.segment) items,
     )
 
 pub returns-in-Err-clause-refused : goal.returns-in-Err-clause-refused
 returns-in-Err-clause-refused g c =
     let after = rw c.in-Err.is at c.feed.follows.holds-at-none in
     let err = c.in-Err.ensures in
-    λ s h. replay_step g.B.ChunkBox.opening (g.row.SEALED - 16) (replay_view c.args.self.now) _ s _ [] h refl after.0 refl (after.1 s.segment h.segment) (err.texts s.segment h.segment) (sym (append-nil c.args.self.now.text.items))
+    λ s h. replay_step g.B.ChunkBox.opening (g.row.SEALED - 16) (replay_view c.args.self.now) _ s _ [] h refl after.key refl (after.stands s.segment h.segment) (err.texts s.segment h.segment) (sym (append-nil c.args.self.now.text.items))
+
+pub push_lent-requires : goal.push_lent-requires
+push_lent-requires g c =
+    let after = rw c.in-Ok.is at c.feed.follows.holds-at-none in
+    let ok = c.in-Ok.ensures in
+    let step = c.in-Ok.step in
+    let fits : step.taken ≤ length c.args.piece.now = omega (arith, ok.taken) in
+    let left = room_left (g.row.SEALED - 16) (length c.args.self.now.opener.held) step.taken (length c.args.piece.now) _ step.chunk after.lent after.unlent fits in
+    let room = c.requires.room (ok.was_open c.requires.some) in
+    omega (arith, room, left)

@@ -1,0 +1,36 @@
+-- How much room a text needs.
+use Rattle.std.proofs.Common.{◌≡◌, ℕ, ◌<◌, ◌≤◌, ◌+◌, ◌*◌, ◌-◌, ◌/◌, refl, ap, ◌∙◌, List, [], length, arith}
+use Rattle.std.specs.Prelude.{Option, Some, None, IfSome, IfNone}
+use Rattle.std.specs.Borrow.{Bor}
+use Rattle.std.proofs.Math.Nat.{add-mul-div_left}
+use Rattle.age_stream.specs.declared.step.Status.{Status}
+use Rattle.age_stream.specs.declared.step.Status.TheVariants.{Open, LastSeen, Done, Failed}
+use Rattle.age_stream.specs.Lent.{lent_text}
+use Rattle.age_stream.specs.Opening.{while_open, whole_text}
+
+pub open_number : (s : Status) (k : ℕ) → s ≡ Open → while_open s k ≡ k
+open_number s k e = ap (λ (x : Status). while_open x k) e
+
+pub shut_number : (s : Status) (k : ℕ) → (s ≡ Open → ⊥) → while_open s k ≡ 0
+shut_number Open k h = absurd (h refl)
+shut_number LastSeen k h = refl
+shut_number Done k h = refl
+shut_number (Failed f) k h = refl
+
+-- what is left to come needs the room that is left
+pub room_left : (n h t p : ℕ) (held : List ℕ) (chunk : Option (Bor (List ℕ)))
+    → IfSome chunk (λ chunk. (length chunk.now ≡ n) × (h + t ≡ n + 16) × (held ≡ []))
+    → IfNone chunk (length held ≡ h + t) → t ≤ p
+    → length (lent_text chunk) + whole_text n (length held + (p - t)) ≤ whole_text n (h + p)
+room_left n h t p held None some none le =
+    let e : length held + (p - t) ≡ h + p = omega (arith, none, le) in
+    omega (arith, ap (λ (k : ℕ). k / (n + 16) * n) e)
+room_left n h t p held (Some chunk) some none le =
+    let z = n + 16 in
+    let pos : 0 < z = omega arith in
+    let k = length held + (p - t) in
+    let none : length held ≡ 0 = ap length some.2 in
+    let e : h + p ≡ k + z * 1 = omega (arith, some.1, none, le) in
+    let d : (h + p) / z ≡ k / z + 1 = ap (λ (x : ℕ). x / z) e ∙ add-mul-div_left k 1 pos in
+    let m : (k / z + 1) * n ≡ k / z * n + n = omega arith in
+    omega (arith, some.0, ap (λ (x : ℕ). x * n) d, m)

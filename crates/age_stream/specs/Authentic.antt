@@ -1,0 +1,74 @@
+-- Where the headline's premise is met: the payload of a writer, delivered as it is. A chunk has n bytes.
+use Rattle.std.specs.Prelude.{◌≡◌, ℕ, ◌<◌, ◌≤◌, true, false, List, [], ◌∷◌, ◌++◌, length, Option, None, map}
+use Rattle.std.specs.List.{flat_map}
+use Rattle.std.specs.Borrow.{Bor}
+use Rattle.age_stream.specs.Lawful.{IsLawful}
+use Rattle.age_stream.specs.Nonce.{nonce_bytes, chunk_limit}
+use Rattle.age_stream.specs.Payload.{payload, chunk_count, last_index, last_chunk}
+use Rattle.age_stream.specs.Segment.{Segment, outcome}
+use Rattle.age_stream.specs.Deliveries.{standing, text_held}
+use Rattle.age_stream.specs.Headline.{IsAuthentic, AreAuthentic, IsRest}
+use Rattle.age_stream.specs.Clear.{clear_sealing, clear_opening}
+use Rattle.age_stream.specs.declared.step.Status.TheVariants.{Done}
+use Rattle.age_stream.specs.declared.delivery.Delivery.{Delivery}
+use Rattle.age_stream.specs.declared.delivery.Delivery.TheVariants.{Piece, End}
+
+-- the bytes come once, in any pieces, and then an end
+pub record AreWhole (bytes : List ℕ) (deliveries : List Delivery) : Type 0 where
+  pub pieces : List (Bor (List ℕ))
+  pub are : deliveries ≡ map Piece pieces ++ End ∷ []
+  pub join : flat_map (λ (piece : Bor (List ℕ)). piece.now) pieces ≡ bytes
+
+-- a full last block isn't also one before the last: a short one is never tried so
+abbrev pub IsClosed : (List ℕ → List ℕ → List ℕ) → (List ℕ → List ℕ → Option (List ℕ)) → ℕ
+    → List ℕ → Type 0
+IsClosed sealing opening n text = length (last_chunk n text) ≡ n
+    → opening (nonce_bytes (last_index n text) false)
+    (sealing (nonce_bytes (last_index n text) true) (last_chunk n text))
+    ≡ None
+
+-- the payload, or its rest from a chunk on, is authentic
+abbrev pub RestIsAuthentic : Type 0
+RestIsAuthentic = (sealing : List ℕ → List ℕ → List ℕ)
+    (opening : List ℕ → List ℕ → Option (List ℕ))
+    → IsLawful sealing opening
+    → (n : ℕ) → 0 < n
+    → (text : List ℕ) → chunk_count n text ≤ chunk_limit
+    → IsClosed sealing opening n text
+    → (s : Segment) → IsRest sealing opening n text s → IsAuthentic sealing opening n text s
+
+-- so are deliveries of a whole payload
+abbrev pub UndamagedIsAuthentic : Type 0
+UndamagedIsAuthentic = (sealing : List ℕ → List ℕ → List ℕ)
+    (opening : List ℕ → List ℕ → Option (List ℕ))
+    → IsLawful sealing opening
+    → (n : ℕ) → 0 < n
+    → (text : List ℕ) → chunk_count n text ≤ chunk_limit
+    → IsClosed sealing opening n text
+    → (deliveries : List Delivery) → AreWhole (payload sealing n text) deliveries
+    → AreAuthentic sealing opening n text deliveries
+
+-- in the clear all texts are closed
+abbrev pub ClearIsAuthentic : Type 0
+ClearIsAuthentic = (n : ℕ) → 0 < n → (text : List ℕ) → chunk_count n text ≤ chunk_limit
+    → (deliveries : List Delivery) → AreWhole (payload clear_sealing n text) deliveries
+    → AreAuthentic clear_sealing clear_opening n text deliveries
+
+-- where these bytes are delivered whole, the text is held, and its end was reported
+abbrev pub GivesBack : (List ℕ → List ℕ → Option (List ℕ)) → ℕ → List ℕ → List ℕ → Type 0
+GivesBack opening n bytes text = (deliveries : List Delivery) → AreWhole bytes deliveries
+    → (text_held opening n (standing opening n deliveries) ≡ text)
+    × ((outcome opening n (standing opening n deliveries).segment).status ≡ Done)
+
+-- a payload gives its text back
+abbrev pub RoundTrip : Type 0
+RoundTrip = (sealing : List ℕ → List ℕ → List ℕ) (opening : List ℕ → List ℕ → Option (List ℕ))
+    → IsLawful sealing opening
+    → (n : ℕ) → 0 < n
+    → (text : List ℕ) → chunk_count n text ≤ chunk_limit
+    → IsClosed sealing opening n text
+    → GivesBack opening n (payload sealing n text) text
+
+abbrev pub ClearRoundTrip : Type 0
+ClearRoundTrip = (n : ℕ) → 0 < n → (text : List ℕ) → chunk_count n text ≤ chunk_limit
+    → GivesBack clear_opening n (payload clear_sealing n text) text

@@ -1,0 +1,53 @@
+-- What an opener is once a call returned and what was lent is back. A chunk has n bytes.
+use Rattle.std.specs.Prelude.{◌≡◌, ℕ, ◌+◌, ◌≤◌, List, [], ◌++◌, length, false, Option, Result, IfOk, IfErr, OnOk, IfSome, IfNone}
+use Rattle.std.specs.List.{flat_map}
+use Rattle.std.specs.Borrow.{Bor}
+use Rattle.age_stream.specs.declared.step.Status.TheVariants.{Done, Failed}
+use Rattle.age_stream.specs.declared.step.Step.{Step}
+use Rattle.age_stream.specs.declared.fault.StreamFault.{StreamFault}
+use Rattle.age_stream.specs.Segment.{Segment, released}
+use Rattle.age_stream.specs.Deliveries.{with_piece, with_end}
+use Rattle.age_stream.specs.Opening.{OpenerView, Stands, given, handed, handed_bytes, chunk_texts, has_failed}
+use Rattle.age_stream.specs.Lent.{lent_text}
+use Rattle.age_stream.specs.Headline.{ReleasesWritten}
+
+module _ {B : Type 0} (sealing : B → List ℕ → List ℕ → List ℕ)
+    (opening : B → List ℕ → List ℕ → Option (List ℕ)) (n : ℕ) (old : OpenerView B) where
+  -- the segment with what was taken of the piece
+  abbrev pub fed : Segment → List ℕ → Result Step StreamFault → Segment
+  fed s piece answer = with_piece s (given (λ (step : Step). step.taken) answer piece)
+
+  -- the call took what the answer says of the piece, or, where it refused, all of it
+  pub record IsFed (piece : List ℕ) (answer : Result Step StreamFault)
+      (new : OpenerView B) : Type 0 where
+    pub key : new.key ≡ old.key
+    pub stands : (s : Segment) → Stands opening n old s
+        → Stands opening n new (fed s piece answer)
+    pub fault : IfErr answer (λ fault. new.status ≡ Failed fault)
+    pub unfailed : OnOk answer (has_failed new.status ≡ false)
+    -- a text that is lent is a whole chunk, and nothing is held; else all that was taken is held
+    pub lent : IfOk answer (λ step. IfSome step.chunk (λ chunk. (length chunk.now ≡ n)
+        × (length old.held + step.taken ≡ n + 16) × (new.held ≡ [])))
+    pub unlent : IfOk answer (λ step. IfNone step.chunk
+        (length new.held ≡ length old.held + step.taken))
+    pub fits : IfOk answer (λ step. length new.held + length (lent_text step.chunk)
+        ≤ length old.held + step.taken)
+    pub unchanged : length piece ≡ 0 → new ≡ old
+    -- at last the headline: while what opens is the writer's, what was released is the beginning of the text
+    pub written : (s : Segment) → Stands opening n old s
+        → ReleasesWritten (sealing old.key) (opening old.key) n (fed s piece answer)
+        (released (opening old.key) n s
+        ++ flat_map (λ (text : List ℕ). text)
+        (handed (λ (step : Step). chunk_texts step.chunk) answer)) new.status
+
+  -- the input ended
+  pub record IsEnded (answer : Result (Bor (List ℕ)) StreamFault)
+      (new : OpenerView B) : Type 0 where
+    pub key : new.key ≡ old.key
+    pub stands : (s : Segment) → Stands opening n old s → Stands opening n new (with_end s)
+    pub fault : IfErr answer (λ fault. new.status ≡ Failed fault)
+    pub done : OnOk answer (new.status ≡ Done)
+    -- at last the headline: while what opens is the writer's, Ok comes only with all of the text
+    pub written : (s : Segment) → Stands opening n old s
+        → ReleasesWritten (sealing old.key) (opening old.key) n (with_end s)
+        (released (opening old.key) n s ++ handed_bytes answer) new.status
