@@ -52,6 +52,8 @@ impl Sink for MemOut {
 
     ghost failed = { λ o. o.1.failures };
 
+    ghost settled = { λ o. o.1.settled ≡ true };
+
     ghost label = { λ o. o.0 };
 
     fn put(&mut self, from: &[u8]) -> Result<usize, Failed>
@@ -66,6 +68,7 @@ impl Sink for MemOut {
     }
 
     fn flush(&mut self) -> Result<(), Failed>
+        ensures settled { OnOk result (self.new.1.settled ≡ true) }
         ensures bytes { Keeps (Some self.old.1.held) (Some self.new.1.held) }
         ensures named { self.new.0 ≡ self.old.0 }
         ensures counted { MatchResult result (λ _. self.new.1.failures ≡ self.old.1.failures)

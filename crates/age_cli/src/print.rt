@@ -29,6 +29,7 @@ pub(crate) fn flush<O: Sink>(sink: &mut O) -> Result<(), FileFault>
     ensures ok { OnOk result (Keeps (O.taken sink.old) (O.taken sink.new)) }
     ensures same { OnOk result (O.failed sink.new ≡ O.failed sink.old) }
     ensures err { OnErr result (HasRisen (O.failed sink.old) (O.failed sink.new)) }
+    ensures settled { OnOk result (O.settled sink.new) }
     ensures named { O.label sink.new ≡ O.label sink.old }
     ensures fault { IsOkUnless result FileFault.Write }
 {

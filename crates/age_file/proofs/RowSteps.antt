@@ -30,7 +30,7 @@ authentic_of text first earlier r few f c = record {
 }
 
 -- the position that a run began from, where the old text begins a text
-same_carries : (p q : Position) (copied text : List ℕ) → IsOldText p copied → IsPrefixOf copied text → IsSame p q → (q.index * 65536 ≤ length text) × (q.chain ≡ chain (first_chunks 65536 q.index text))
+pub same_carries : (p q : Position) (copied text : List ℕ) → IsOldText p copied → IsPrefixOf copied text → IsSame p q → (q.index * 65536 ≤ length text) × (q.chain ≡ chain (first_chunks 65536 q.index text))
 same_carries p q copied text o c s =
     let le : p.index * 65536 ≤ length copied = omega (arith, o.size) in
     let over : chain (first_chunks 65536 p.index copied) ≡ chain (first_chunks 65536 p.index text) =

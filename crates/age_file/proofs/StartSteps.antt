@@ -58,15 +58,15 @@ module _ (Allows : Header → List ℕ → Type 0) (Refused : Header → KeyFaul
   head_to_start a b i j other h early = absurd h
 
   pub key_to_start : (a b : Option (List ℕ)) (i j : ℕ) (h : Header) (front rest : List ℕ) (fault : KeyFault) → HeadText h front → Consumes a b (front ++ rest)
-      → (fault ≢ KeyMemory → Refuses Allows Refused h fault) → StartFails Allows Refused a b i j (fault_of_key fault)
+      → Refuses Allows Refused h fault → StartFails Allows Refused a b i j (fault_of_key fault)
   key_to_start a b i j h front rest KeyMemory text consumed refuses = tt
-  key_to_start a b i j h front rest ScryptNotAlone text consumed refuses = (h, front, rest, text, consumed, λ e. cc, refuses (λ e. cc))
-  key_to_start a b i j h front rest BadScrypt text consumed refuses = (h, front, rest, text, consumed, λ e. cc, refuses (λ e. cc))
-  key_to_start a b i j h front rest WorkTooHigh text consumed refuses = (h, front, rest, text, consumed, λ e. cc, refuses (λ e. cc))
-  key_to_start a b i j h front rest NoMatch text consumed refuses = (h, front, rest, text, consumed, λ e. cc, refuses (λ e. cc))
-  key_to_start a b i j h front rest WrongKey text consumed refuses = (h, front, rest, text, consumed, λ e. cc, refuses (λ e. cc))
-  key_to_start a b i j h front rest MacMismatch text consumed refuses = (h, front, rest, text, consumed, λ e. cc, refuses (λ e. cc))
-  key_to_start a b i j h front rest BadX25519 text consumed refuses = (h, front, rest, text, consumed, λ e. cc, refuses (λ e. cc))
+  key_to_start a b i j h front rest ScryptNotAlone text consumed refuses = (h, front, rest, text, consumed, λ e. cc, refuses)
+  key_to_start a b i j h front rest BadScrypt text consumed refuses = (h, front, rest, text, consumed, λ e. cc, refuses)
+  key_to_start a b i j h front rest WorkTooHigh text consumed refuses = (h, front, rest, text, consumed, λ e. cc, refuses)
+  key_to_start a b i j h front rest NoMatch text consumed refuses = (h, front, rest, text, consumed, λ e. cc, refuses)
+  key_to_start a b i j h front rest WrongKey text consumed refuses = (h, front, rest, text, consumed, λ e. cc, refuses)
+  key_to_start a b i j h front rest MacMismatch text consumed refuses = (h, front, rest, text, consumed, λ e. cc, refuses)
+  key_to_start a b i j h front rest BadX25519 text consumed refuses = (h, front, rest, text, consumed, λ e. cc, refuses)
 
   -- what was pulled where a nonce fell short
   short_pulled : (a b c : Option (List ℕ)) (y z : Unread) (front : List ℕ) (u : UsesShort b c y z) → Pulled a b y.pulls (front ++ y.bytes) → Pulled a c z.pulls (front ++ u.0)

@@ -2,7 +2,7 @@
 use Rattle.std.proofs.Common.{inl, inr, ◌≡◌, ℕ, ◌+◌, ◌*◌, ◌<◌, List, [], ◌++◌, length, take, drop, Option, Some, None, refl, sym, ap, subst, ◌∙◌, arith, append-nil, append_assoc, Bool, true, false}
 use Rattle.std.specs.Prelude.{nat_lt}
 use Rattle.std.proofs.lemmas.List.{length-append, drop_at, take_at, drop_all}
-use Rattle.std.specs.Io.KnownBytes.{Consumes, IsAtEnd}
+use Rattle.std.specs.Io.KnownBytes.{Appends, Consumes, IsAtEnd}
 use Rattle.age_stanza.specs.declared.header.Header.{Header}
 use Rattle.age_stanza.specs.declared.fault.HeadFault.{HeadFault}
 use Rattle.age_stanza.specs.Grammar.{HeadText}
@@ -25,7 +25,7 @@ use Rattle.age_file.specs.Ports.{Ports}
 use Rattle.age_file.specs.Faults.{IsHeadFault, IsSourcesFault}
 use Rattle.age_file.specs.declared.position.Position.{Position}
 use Rattle.age_file.specs.Starts.{StartFails}
-use Rattle.age_file.specs.Decrypts.{segment, DecryptFails, IsWhole, IsUndamaged, StopsOutside}
+use Rattle.age_file.specs.Decrypts.{segment, Run, DecryptDone, DecryptFails, IsWhole, IsUndamaged, WritesText, StopsOutside}
 use Rattle.age_file.specs.declared.fault.FileFault.{FileFault}
 use Rattle.age_file.specs.declared.fault.FileFault.TheVariants.{Head, Key, NonceCut, Stream, Read, Write, Memory, ReadNeverEnds}
 
@@ -39,11 +39,11 @@ told before after bytes used is consumed = left after (subst (λ (b : Option (Li
 pub none_left : (after : Option (List ℕ)) (rest : List ℕ) → after ≡ Some rest → IsAtEnd after → rest ≡ []
 none_left after rest is ended = subst IsAtEnd is ended
 
-whole_dropped : (all : List ℕ) → all ≡ drop (0 * 65552) all
+pub whole_dropped : (all : List ℕ) → all ≡ drop (0 * 65552) all
 whole_dropped all = (let z : 0 * 65552 ≡ 0 = omega arith in ap (λ (k : ℕ). drop k all) (sym z))
 
 -- two texts that begin with as many bytes
-same_front : (a b x y : List ℕ) → length a ≡ length b → a ++ x ≡ b ++ y → (a ≡ b) × (x ≡ y)
+pub same_front : (a b x y : List ℕ) → length a ≡ length b → a ++ x ≡ b ++ y → (a ≡ b) × (x ≡ y)
 same_front a b x y len e = (
   sym (take_at a x (length b) len) ∙ (ap (take (length b)) e ∙ take_at b y (length b) refl),
   sym (drop_at a x (length b) len) ∙ (ap (drop (length b)) e ∙ drop_at b y (length b) refl),
@@ -98,7 +98,8 @@ module _ (one : OneHeader) (Allows : Header → List ℕ → Type 0) (Refused : 
       let r = subst (λ (x : Header). Refuses Allows Refused x fault) same.header_is refuses in
       elim (r.1 u.alone) [
         | inl refused ↦ not (u.never fault refused)
-        | inr wrong ↦ wrong.1.2 (subst (IsMacOf u.header) (sym (u.only wrong.1.0 wrong.1.1)) u.file.mac)
+        | inr (inl wrong) ↦ wrong.1.2 (subst (IsMacOf u.header) (sym (u.only wrong.1.0 wrong.1.1)) u.file.mac)
+        | inr (inr memory) ↦ not memory.0
       ]
 
   no_nonce_cut : (after : Option (List ℕ)) (h : Header) (front short : List ℕ) → HeadText h front → length short < 16 → Consumes coming after (front ++ short) → IsAtEnd after → ⊥
@@ -204,3 +205,25 @@ undamaged one Allows Refused old new written position Write text u f = tt
 undamaged one Allows Refused old new written position Memory text u f = tt
 undamaged one Allows Refused old new written position ReadNeverEnds text u f = tt
 undamaged one Allows Refused old new written position other text u f = absurd f.1
+
+-- blocks that are those of a segment are as authentic
+pub authentic_as : (text : List ℕ) (k : ℕ) (key nonce own_key own_nonce bytes all : List ℕ) (ended : Bool) → key ≡ own_key → nonce ≡ own_nonce → bytes ≡ all → ended ≡ true
+    → IsAuthentic (box own_key own_nonce) (unbox own_key own_nonce) 65536 text (segment k all true) → IsAuthentic (box key nonce) (unbox key nonce) 65536 text (segment k bytes ended)
+authentic_as text k key nonce own_key own_nonce bytes all ended keys nonces blocks ends a =
+    subst (λ (x : List ℕ). IsAuthentic (box x nonce) (unbox x nonce) 65536 text (segment k bytes ended)) (sym keys)
+    (subst (λ (x : List ℕ). IsAuthentic (box own_key x) (unbox own_key x) 65536 text (segment k bytes ended)) (sym nonces)
+    (subst (λ (x : List ℕ). IsAuthentic (box own_key own_nonce) (unbox own_key own_nonce) 65536 text (segment k x ended)) (sym blocks)
+    (subst (λ (e : Bool). IsAuthentic (box own_key own_nonce) (unbox own_key own_nonce) 65536 text (segment k all e)) (sym ends) a)))
+
+-- an undamaged file that was read to its end gave its text
+pub undamaged_done : OneHeader → (Allows : Header → List ℕ → Type 0) (Refused : Header → KeyFault → Type 0) (old new : Ports) (written : ℕ) (r : Run) (text : List ℕ)
+    → IsUndamaged Allows Refused old.coming text → DecryptDone Allows old new written r → WritesText old.taken new.taken written text
+undamaged_done one Allows Refused old new written r text u d =
+    let w = u.whole in
+    let is = d.wrote.is in
+    let all = payload (box w.key w.nonce) 65536 text in
+    let o = opened_as one Allows Refused old.coming text w new.coming r.header r.front r.key r.nonce r.bytes is.text is.opens.allowed is.size is.read in
+    let none = none_left new.coming o.left o.left_is (is.at_end d.ended) in
+    let bytes_is : r.bytes ≡ all = sym (append-nil r.bytes) ∙ (ap (λ (t : List ℕ). r.bytes ++ t) (sym none) ∙ o.payload_is) in
+    let whole = d.all text (w.few, authentic_as text 0 r.key r.nonce w.key w.nonce r.bytes all r.ended o.key_is o.nonce_is bytes_is d.ended u.authentic) in
+    (subst (λ (t : List ℕ). Appends old.taken new.taken t) whole is.wrote, is.count ∙ ap length whole)

@@ -1,23 +1,25 @@
 -- What can't stop a resumed decryption of an age file that is undamaged, behind the text that it was made for.
-use Rattle.std.proofs.Common.{inl, inr, ◌≡◌, ℕ, ◌*◌, ◌≤◌, List, ◌++◌, length, take, Option, sym, ap, ◌∙◌, arith}
-use Rattle.std.proofs.lemmas.List.{length-append, length-take}
+use Rattle.std.proofs.Common.{inl, inr, ◌≡◌, ℕ, ◌*◌, ◌≤◌, List, ◌++◌, length, take, drop, Option, sym, ap, subst, ◌∙◌, arith, append-nil, append_assoc}
+use Rattle.std.proofs.lemmas.List.{length-append, length-take, drop_at}
 use Rattle.std.specs.Simd.{first_chunks}
-use Rattle.std.specs.Io.KnownBytes.{IsAtEnd}
+use Rattle.std.specs.Io.KnownBytes.{Appends, IsAtEnd}
 use Rattle.age_stanza.specs.declared.header.Header.{Header}
 use Rattle.age_stanza.specs.Laws.{OneHeader}
 use Rattle.age_stream.proofs.Chunks.{first_chunks-append}
 use Rattle.age_keys.specs.declared.fault.KeyFault.{KeyFault}
 use Rattle.age_keys.specs.Keys.{position_key}
+use Rattle.age_stream.specs.Payload.{payload}
+use Rattle.age_file.specs.AgeFile.{box}
 use Rattle.age_file.specs.Bindings.{file_id, chain, position_tag}
-use Rattle.age_file.specs.Decrypts.{StopsOutside}
-use Rattle.age_file.specs.Resumes.{ResumePorts, Reads, WritesOld}
+use Rattle.age_file.specs.Decrypts.{WritesText, StopsOutside}
+use Rattle.age_file.specs.Resumes.{ResumePorts, Reads, WritesOld, Resumption, ResumeDone}
 use Rattle.age_file.specs.Verdicts.{OpenedFile, HasId, HasTag}
 use Rattle.age_file.specs.UndamagedRests.{IsUndamagedRest}
 use Rattle.age_file.specs.ResumeFaults.{ResumeFails}
 use Rattle.age_file.specs.declared.position.Position.{Position}
 use Rattle.age_file.specs.declared.fault.FileFault.{FileFault}
 use Rattle.age_file.specs.declared.fault.FileFault.TheVariants.{Head, Key, NonceCut, Stream, OtherFile, ShortText, Read, Write, Memory, ReadNeverEnds, PositionForged, OldTextDiffers}
-use Rattle.age_file.proofs.Undamaged.{told, none_left, start_undamaged, front_is, opened_as, no_stream_fault, no_early_end, IsOpenedAs}
+use Rattle.age_file.proofs.Undamaged.{told, none_left, start_undamaged, front_is, opened_as, no_stream_fault, no_early_end, same_front, authentic_as, IsOpenedAs}
 
 module _ (one : OneHeader) (Allows : Header → List ℕ → Type 0) (Refused : Header → KeyFault → Type 0) (p : Position) (old new : ResumePorts) (text : List ℕ)
     (u : IsUndamagedRest Allows Refused p old.main.coming old.old_coming text) where
@@ -76,3 +78,26 @@ module _ (one : OneHeader) (Allows : Header → List ℕ → Type 0) (Refused : 
   undamaged_rest written position Memory f = tt
   undamaged_rest written position ReadNeverEnds f = tt
   undamaged_rest written position other f = absurd f.1
+
+  -- an undamaged file that was read to its end gave its text, behind the old text that is the text's beginning
+  pub undamaged_rest_done : (written : ℕ) (r : Resumption) → ResumeDone Allows p old new written r → WritesText old.main.taken new.main.taken written text
+  undamaged_rest_done written r d =
+      let w = u.whole in
+      let is = d.resumed.is in
+      let b = u.old_text in
+      let all = payload (box w.key w.nonce) 65536 text in
+      let o = opened_of r.file (r.passed ++ r.bytes) is.reads in
+      let none = none_left new.main.coming o.left o.left_is (is.at_end d.ended) in
+      let behind : r.bytes ++ o.left ≡ drop (p.index * 65552) all =
+      sym (drop_at r.passed (r.bytes ++ o.left) (p.index * 65552) is.passed_size) ∙ ap (drop (p.index * 65552)) (sym (append_assoc r.passed r.bytes o.left) ∙ o.payload_is) in
+      let bytes_is : r.bytes ≡ drop (p.index * 65552) all = sym (append-nil r.bytes) ∙ (ap (λ (t : List ℕ). r.bytes ++ t) (sym none) ∙ behind) in
+      let t = told old.old_coming new.old_coming b.all (r.copied ++ is.more) b.told is.old_read in
+      let size : length (take (p.index * 65536) text) ≡ p.index * 65536 = omega (arith, length-take (p.index * 65536) text, b.within) in
+      let old_is = same_front r.copied (take (p.index * 65536) text) (is.more ++ t.0) b.begins.0 (is.old_text.size ∙ sym size) (sym (append_assoc r.copied is.more t.0) ∙ (sym t.1 ∙ sym b.begins.1)) in
+      let whole = d.all text (record {
+        few = w.few;
+        old_text = old_is.0;
+        within = b.within;
+        authentic = authentic_as text p.index r.file.key r.file.nonce w.key w.nonce r.bytes (drop (p.index * 65552) all) r.ended o.key_is o.nonce_is bytes_is d.ended u.authentic;
+      }) in
+      (subst (λ (x : List ℕ). Appends old.main.taken new.main.taken x) whole is.wrote, is.count ∙ ap length whole)

@@ -4,7 +4,7 @@ use Rattle.std.specs.Simd.{first_chunks}
 use Rattle.std.specs.Io.KnownBytes.{Consumes, Appends, IsAtEnd}
 use Rattle.age_stanza.specs.declared.header.Header.{Header}
 use Rattle.age_stanza.specs.Grammar.{HeadText}
-use Rattle.age_stream.specs.declared.step.Status.TheVariants.{Failed, Done}
+use Rattle.age_stream.specs.declared.step.Status.TheVariants.{Failed, Done as StreamDone}
 use Rattle.age_stream.specs.Payload.{payload, chunk_count}
 use Rattle.age_stream.specs.Segment.{Segment, outcome, released}
 use Rattle.age_stream.specs.Headline.{IsPrefixOf, IsAuthentic}
@@ -18,6 +18,8 @@ use Rattle.age_file.specs.Bindings.{file_id, chain, position_tag}
 use Rattle.age_file.specs.declared.position.Position.{Position}
 use Rattle.age_file.specs.Ports.{Ports, NoneFailed}
 use Rattle.age_file.specs.Starts.{StartFails}
+use Rattle.age_file.specs.declared.decryption.Done.{Done}
+use Rattle.age_file.specs.declared.decryption.Stopped.{Stopped}
 use Rattle.age_file.specs.declared.fault.FileFault.{FileFault}
 use Rattle.age_file.specs.declared.fault.FileFault.TheVariants.{Stream, Read, Write, Memory, ReadNeverEnds}
 
@@ -104,7 +106,7 @@ module _ (Allows : Header → List ℕ → Type 0) where
   pub record DecryptDone (old new : Ports) (written : ℕ) (r : Run) : Type 0 where
     pub wrote : Wrote old new written r
     pub ended : r.ended ≡ true
-    pub done : (outcome (unbox r.key r.nonce) 65536 (segment_of r)).status ≡ Done
+    pub done : (outcome (unbox r.key r.nonce) 65536 (segment_of r)).status ≡ StreamDone
     pub all : WritesAll r
     pub none_failed : NoneFailed old new
 
@@ -125,6 +127,19 @@ module _ (Allows : Header → List ℕ → Type 0) where
   DecryptFails Refused old new written position fault =
       WritesNone old new written position
       × StartFails Allows Refused old.coming new.coming old.read_failed new.read_failed fault
+
+-- what a decryption promises of its answers: how it ended, and how it stopped
+abbrev pub DecryptEnds : (Header → List ℕ → Type 0) → Ports → Ports → Done → Type 0
+DecryptEnds Allows old new done = (r : Run) × DecryptDone Allows old new done.written r
+
+abbrev pub DecryptStops : (Header → List ℕ → Type 0) → (Header → KeyFault → Type 0) → Ports → Ports
+    → Stopped → Type 0
+DecryptStops Allows Refused old new stopped = DecryptFails Allows Refused old new stopped.written
+    stopped.position stopped.fault
+
+-- exactly this text was written, of so many bytes
+abbrev pub WritesText : Option (List ℕ) → Option (List ℕ) → ℕ → List ℕ → Type 0
+WritesText old new written text = Appends old new text × (written ≡ length text)
 
 -- the source is an age file of this text, and the unlocker has its key and no other, and no fault but want of memory
 pub record IsWhole (Allows : Header → List ℕ → Type 0) (Refused : Header → KeyFault → Type 0)

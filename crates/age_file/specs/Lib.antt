@@ -26,3 +26,5 @@ pub mod Encrypts
 pub mod Passages
 pub mod Copies
 pub mod Rows
+pub mod Calls
+pub mod RoundTrips

@@ -14,11 +14,13 @@ use Rattle.age_file.specs.Bindings.{chain}
 use Rattle.age_file.specs.Starts.{StartFails}
 use Rattle.age_file.specs.Decrypts.{WritesNone}
 use Rattle.age_file.specs.declared.position.Position.{Position}
+use Rattle.age_file.specs.declared.decryption.Done.{Done}
+use Rattle.age_file.specs.declared.decryption.Stopped.{Stopped}
 use Rattle.age_file.specs.declared.fault.FileFault.{FileFault}
 use Rattle.age_file.specs.declared.fault.FileFault.TheVariants.{Stream, OtherFile, ShortText, Read, Write, ReadNeverEnds, PositionForged, OldTextDiffers}
 use Rattle.age_file.specs.Verdicts.{OpenedFile, HasId, HasTag}
 use Rattle.age_file.specs.OldTexts.{IsOldText}
-use Rattle.age_file.specs.Resumes.{ResumePorts, NoPortFailed, Reads, WritesOld, Resumption, segment_at, IsResumption, ResumesOf, IsNextPosition, IsSame, Accepts, Resumed}
+use Rattle.age_file.specs.Resumes.{ResumePorts, NoPortFailed, Reads, WritesOld, Resumption, segment_at, IsResumption, ResumesOf, IsNextPosition, IsSame, Accepts, Resumed, ResumeDone}
 
 module _ (Allows : Header → List ℕ → Type 0) (p : Position) where
   -- a run that stopped in the old text, before all that the position needs was written; it has no position
@@ -100,3 +102,11 @@ module _ (Allows : Header → List ℕ → Type 0) (p : Position) where
   ResumeFails Refused old new written position fault =
       WritesNone old.main new.main written position × StartFails Allows Refused old.main.coming
       new.main.coming old.main.read_failed new.main.read_failed fault
+
+  -- what a resumed decryption promises of its answers: how it ended, and how it stopped
+  abbrev pub ResumeEnds : ResumePorts → ResumePorts → Done → Type 0
+  ResumeEnds old new done = (r : Resumption) × ResumeDone Allows p old new done.written r
+
+  abbrev pub ResumeStops : (Header → KeyFault → Type 0) → ResumePorts → ResumePorts → Stopped → Type 0
+  ResumeStops Refused old new stopped = ResumeFails Refused old new stopped.written stopped.position
+      stopped.fault

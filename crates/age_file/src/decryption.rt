@@ -1,10 +1,10 @@
 //! Decrypts a file.
 
-ghost use Rattle.std.specs.Prelude.{◌≡◌, ℕ, List, None, IfOk, IfErr};
+ghost use Rattle.std.specs.Prelude.{◌≡◌, ℕ, List, None, IfOk, OnOk, IfErr, MatchResult};
 ghost use Rattle.age_keys.specs.Keys.{position_key};
 ghost use Rattle.age_file.specs.Ports.{ports};
 ghost use Rattle.age_file.specs.Bindings.{position_tag};
-ghost use Rattle.age_file.specs.Decrypts.{DecryptDone, DecryptFails, Run, IsUndamaged, StopsOutside};
+ghost use Rattle.age_file.specs.Decrypts.{DecryptEnds, DecryptStops, IsUndamaged, WritesText, StopsOutside};
 
 use crate::fault::FileFault;
 use crate::intake::Intake;
@@ -95,21 +95,22 @@ pub fn decrypt<U: Unlock, S: Source, O: Sink>(
     reader: &mut S,
     writer: &mut O,
 ) -> Result<Done, Stopped>
-    ensures done { IfOk result (λ done. (r : Run) × DecryptDone (U.allows unlock.now)
+    ensures done { IfOk result (DecryptEnds (U.allows unlock.now)
         (ports (S.remaining reader.old) (S.failed reader.old) (O.taken writer.old)
         (O.failed writer.old))
         (ports (S.remaining reader.new) (S.failed reader.new) (O.taken writer.new)
-        (O.failed writer.new)) done.written r) }
-    ensures stopped { IfErr result (λ stopped. DecryptFails (U.allows unlock.now)
-        (U.refuses unlock.now)
+        (O.failed writer.new))) }
+    ensures stopped { IfErr result (DecryptStops (U.allows unlock.now) (U.refuses unlock.now)
         (ports (S.remaining reader.old) (S.failed reader.old) (O.taken writer.old)
         (O.failed writer.old))
         (ports (S.remaining reader.new) (S.failed reader.new) (O.taken writer.new)
-        (O.failed writer.new)) stopped.written stopped.position stopped.fault) }
-    // An age file that is undamaged is decrypted, unless reading, writing or memory fails.
+        (O.failed writer.new))) }
+    // The text of an age file that is undamaged is written, unless reading, writing or memory fails.
     ensures undamaged { (text : List ℕ) → IsUndamaged (U.allows unlock.now) (U.refuses unlock.now)
-        (S.remaining reader.old) text
-        → IfErr result (λ stopped. StopsOutside stopped.fault) }
+        (S.remaining reader.old) text → MatchResult result
+        (λ done. WritesText (O.taken writer.old) (O.taken writer.new) done.written text)
+        (λ stopped. StopsOutside stopped.fault) }
+    ensures settled { OnOk result (O.settled writer.new) }
     ensures named { O.label writer.new ≡ O.label writer.old }
 {
     one_header();

@@ -1,6 +1,6 @@
 //! Encrypts a file under a passphrase.
 
-ghost use Rattle.std.specs.Prelude.{◌≡◌, IfOk, IfErr};
+ghost use Rattle.std.specs.Prelude.{◌≡◌, IfOk, OnOk, IfErr};
 ghost use Rattle.age_file.specs.Encrypts.{BeginsFile, Encrypts, EncryptFails};
 ghost use Rattle.age_file.specs.Ports.{ports};
 ghost use Rattle.age_file.specs.declared.fault.FileFault.TheVariants.{Memory};
@@ -59,6 +59,7 @@ pub fn encrypt<S: Source, O: Sink>(
         (O.failed writer.old))
         (ports (S.remaining reader.new) (S.failed reader.new) (O.taken writer.new)
         (O.failed writer.new))) }
+    ensures settled { OnOk result (O.settled writer.new) }
     ensures named { O.label writer.new ≡ O.label writer.old }
 {
     let front = front_of(alloc, secret)?;

@@ -1,6 +1,6 @@
 //! A sink over memory, with a limit and a plan of failures.
 
-ghost use Rattle.std.specs.Prelude.{◌≡◌, ◌<◌, ◌≤◌, [], Some, length, IfOk, MatchResult, vec_capacity};
+ghost use Rattle.std.specs.Prelude.{◌≡◌, ◌<◌, ◌≤◌, [], Some, true, false, length, IfOk, OnOk, MatchResult, vec_capacity};
 ghost use Rattle.std.specs.Io.KnownBytes.{WriteAppends, Keeps};
 ghost use Rattle.age_file.specs.Memory.{one_more, Puts, Flushes, Holding};
 
@@ -10,7 +10,8 @@ use std::alloc::Global;
 use std::marker::Model;
 
 /// A sink over memory. A contract sees what it holds, how much it holds at most, how much a put takes at most, which
-/// call fails, and how many calls were made and have failed.
+/// call fails, how many calls were made and have failed, and whether a flush came
+/// after the last put.
 #[derive(Debug, Drop)]
 pub struct MemSink {
     held: Vec<u8>,
@@ -19,6 +20,7 @@ pub struct MemSink {
     fail_call: Option<u64>,
     calls: u64,
     failed: u64,
+    settled: bool,
 }
 
 impl Model for MemSink {
@@ -31,6 +33,7 @@ impl Model for MemSink {
       fail_call = s.fail_call;
       calls = s.calls;
       failures = s.failed;
+      settled = s.settled;
     } };
 
     ghost invariant = { λ s. (length s.held.items ≤ s.room) × (s.room ≤ vec_capacity s.held)
@@ -54,6 +57,7 @@ impl MemSink {
           fail_call = fail_call;
           calls = 0;
           failures = 0;
+          settled = false;
         }) }
     {
         let held = Vec::with_capacity(alloc, room).map_err(|_| Memory)?;
@@ -64,6 +68,7 @@ impl MemSink {
             fail_call,
             calls: 0,
             failed: 0,
+            settled: false,
         })
     }
 
@@ -88,6 +93,8 @@ impl Sink for MemSink {
 
     ghost failed = { λ s. s.failures };
 
+    ghost settled = { λ s. s.settled ≡ true };
+
     fn put(&mut self, from: &[u8]) -> Result<usize, Failed>
         ensures bound { IfOk result (λ n. (n ≤ length from.now) × (0 < length from.now → 0 < n)) }
         ensures bytes { WriteAppends (Some self.old.held) (Some self.new.held) result from.now }
@@ -104,10 +111,12 @@ impl Sink for MemSink {
         }
         // The room was reserved.
         self.held.extend_from_slice(&from[..n]).unwrap();
+        self.settled = false;
         Ok(n)
     }
 
     fn flush(&mut self) -> Result<(), Failed>
+        ensures settled { OnOk result (self.new.settled ≡ true) }
         ensures bytes { Keeps (Some self.old.held) (Some self.new.held) }
         ensures counted { MatchResult result (λ _. self.new.failures ≡ self.old.failures)
             (λ _. self.new.failures ≡ one_more self.old.failures) }
@@ -119,6 +128,7 @@ impl Sink for MemSink {
             self.failed = self.failed.saturating_add(1);
             return Err(Failed);
         }
+        self.settled = true;
         Ok(())
     }
 

@@ -1,6 +1,6 @@
 //! Opens what a source gives, and writes each chunk once its tag was checked.
 
-ghost use Rattle.std.specs.Prelude.{◌≡◌, ◌+◌, ◌-◌, ◌^◌, ◌<◌, ◌≤◌, length, IfOk};
+ghost use Rattle.std.specs.Prelude.{◌≡◌, ◌+◌, ◌-◌, ◌^◌, ◌<◌, ◌≤◌, length, IfOk, OnOk};
 ghost use Rattle.age_stream.specs.Lent.{lent_text};
 ghost use Rattle.age_file.specs.Releases.{tally, FeedsOnce, FeedsPiece, Closes};
 ghost use Rattle.age_file.specs.Flows.{flow, HasRoom, Turns, OpensAll};
@@ -137,9 +137,10 @@ fn finish<B: ChunkBox, const SEALED: usize, O: Sink>(
     progress: &mut Progress,
 ) -> Result<(), FileFault>
     requires { length opener.old.held + progress.old.written < 2 ^ 128 }
-    ensures { Closes B.opening (SEALED - 16) opener.old opener.new
+    ensures closes { Closes B.opening (SEALED - 16) opener.old opener.new
         (tally (O.taken sink.old) (O.failed sink.old) (O.label sink.old) progress.old)
         (tally (O.taken sink.new) (O.failed sink.new) (O.label sink.new) progress.new) result }
+    ensures settled { OnOk result (O.settled sink.new) }
 {
     close(opener, sink, progress)?;
     flush_all(sink)
@@ -160,11 +161,12 @@ pub(crate) fn pour<B: ChunkBox, const SEALED: usize, S: Source, O: Sink>(
     requires room { HasPlace (stage (tally (O.taken sink.old) (O.failed sink.old) (O.label sink.old)
         progress.old)
         (S.remaining source.old) (S.failed source.old) intake.old) }
-    ensures { Pours (B.opening key.now) (SEALED - 16) index
+    ensures pours { Pours (B.opening key.now) (SEALED - 16) index
         (stage (tally (O.taken sink.old) (O.failed sink.old) (O.label sink.old) progress.old)
         (S.remaining source.old) (S.failed source.old) intake.old)
         (stage (tally (O.taken sink.new) (O.failed sink.new) (O.label sink.new) progress.new)
         (S.remaining source.new) (S.failed source.new) intake.new) result }
+    ensures settled { OnOk result (O.settled sink.new) }
 {
     let mut opener = Opener::<B, SEALED>::at(key, index);
     open_all(&mut opener, source, intake, sink, progress)?;

@@ -1,6 +1,6 @@
 //! Writes all of some bytes, and counts them; flushes.
 
-ghost use Rattle.std.specs.Prelude.{◌≡◌, ◌+◌, ◌^◌, ◌<◌, length, IfErr, MatchResult};
+ghost use Rattle.std.specs.Prelude.{◌≡◌, ◌+◌, ◌^◌, ◌<◌, length, IfErr, OnOk, MatchResult};
 ghost use Rattle.std.specs.Io.KnownBytes.{Keeps};
 ghost use Rattle.age_file.specs.Memory.{one_more};
 ghost use Rattle.age_file.specs.Writes.{Writes};
@@ -40,6 +40,7 @@ pub fn write_all<O: Sink>(sink: &mut O, bytes: &[u8], written: &mut u128) -> Res
 
 /// Sends on what a sink took. It refuses with `Write` (27) alone.
 pub fn flush_all<O: Sink>(sink: &mut O) -> Result<(), FileFault>
+    ensures settled { OnOk result (O.settled sink.new) }
     ensures bytes { Keeps (O.taken sink.old) (O.taken sink.new) }
     ensures named { O.label sink.new ≡ O.label sink.old }
     ensures fault { IfErr result (λ fault. fault ≡ Write) }

@@ -1,16 +1,16 @@
 //! Goes on with a decryption that stopped.
 
-ghost use Rattle.std.specs.Prelude.{◌≡◌, ℕ, List, ◌^◌, ◌<◌, ◌≤◌, [], replicate, IfOk, IfErr};
+ghost use Rattle.std.specs.Prelude.{◌≡◌, ℕ, List, ◌^◌, ◌<◌, ◌≤◌, [], replicate, IfOk, OnOk, IfErr, MatchResult};
 ghost use Rattle.age_file.specs.Releases.{tally};
 ghost use Rattle.age_file.specs.Passages.{side};
 ghost use Rattle.age_file.specs.Copies.{CopiesText};
 ghost use Rattle.age_file.specs.Pours.{stage};
 ghost use Rattle.age_file.specs.GoingOn.{HasPulled, GoesOn};
 ghost use Rattle.age_file.specs.Ports.{ports};
-ghost use Rattle.age_file.specs.Decrypts.{StopsOutside};
+ghost use Rattle.age_file.specs.Decrypts.{WritesText, StopsOutside};
 ghost use Rattle.age_file.specs.Verdicts.{VerdictOn};
-ghost use Rattle.age_file.specs.Resumes.{Resumption, ResumeDone, resume_ports};
-ghost use Rattle.age_file.specs.ResumeFaults.{ResumeFails};
+ghost use Rattle.age_file.specs.Resumes.{resume_ports};
+ghost use Rattle.age_file.specs.ResumeFaults.{ResumeEnds, ResumeStops};
 ghost use Rattle.age_file.specs.UndamagedRests.{IsUndamagedRest};
 ghost use Rattle.age_cipher.specs.Opening.{opening};
 
@@ -82,11 +82,12 @@ fn open_rest<S: Source, O: Sink>(
     requires pulled { HasPulled (stage (tally (O.taken writer.old) (O.failed writer.old)
         (O.label writer.old) progress.old)
         (S.remaining reader.old) (S.failed reader.old) intake.old) }
-    ensures { GoesOn (λ nonce block. opening key.now nonce [] block) index
+    ensures goes_on { GoesOn (λ nonce block. opening key.now nonce [] block) index
         (stage (tally (O.taken writer.old) (O.failed writer.old) (O.label writer.old) progress.old)
         (S.remaining reader.old) (S.failed reader.old) intake.old)
         (stage (tally (O.taken writer.new) (O.failed writer.new) (O.label writer.new) progress.new)
         (S.remaining reader.new) (S.failed reader.new) intake.new) result }
+    ensures settled { OnOk result (O.settled writer.new) }
 {
     pass_over(reader, intake, index)?;
     pour::<PayloadKey, 65552, S, O>(key, index, reader, intake, writer, progress)
@@ -110,8 +111,7 @@ pub fn resume<U: Unlock, S: Source, L: Source, O: Sink>(
     old_reader: &mut L,
     writer: &mut O,
 ) -> Result<Done, Stopped>
-    ensures done { IfOk result (λ done. (r : Resumption)
-        × ResumeDone (U.allows unlock.now) position.now
+    ensures done { IfOk result (ResumeEnds (U.allows unlock.now) position.now
         (resume_ports
         (ports (S.remaining reader.old) (S.failed reader.old) (O.taken writer.old)
         (O.failed writer.old))
@@ -119,10 +119,9 @@ pub fn resume<U: Unlock, S: Source, L: Source, O: Sink>(
         (resume_ports
         (ports (S.remaining reader.new) (S.failed reader.new) (O.taken writer.new)
         (O.failed writer.new))
-        (L.remaining old_reader.new) (L.failed old_reader.new))
-        done.written r) }
-    ensures stopped { IfErr result (λ stopped.
-        ResumeFails (U.allows unlock.now) position.now (U.refuses unlock.now)
+        (L.remaining old_reader.new) (L.failed old_reader.new))) }
+    ensures stopped { IfErr result
+        (ResumeStops (U.allows unlock.now) position.now (U.refuses unlock.now)
         (resume_ports
         (ports (S.remaining reader.old) (S.failed reader.old) (O.taken writer.old)
         (O.failed writer.old))
@@ -130,13 +129,15 @@ pub fn resume<U: Unlock, S: Source, L: Source, O: Sink>(
         (resume_ports
         (ports (S.remaining reader.new) (S.failed reader.new) (O.taken writer.new)
         (O.failed writer.new))
-        (L.remaining old_reader.new) (L.failed old_reader.new))
-        stopped.written stopped.position stopped.fault) }
-    // An age file that is undamaged, from a position of its text, is decrypted, unless reading, writing or memory fails.
+        (L.remaining old_reader.new) (L.failed old_reader.new))) }
+    // The text of an age file that is undamaged, from a position of it, is written whole, unless reading, writing or memory
+    // fails.
     ensures undamaged { (text : List ℕ) → IsUndamagedRest (U.allows unlock.now)
         (U.refuses unlock.now) position.now (S.remaining reader.old)
-        (L.remaining old_reader.old) text
-        → IfErr result (λ stopped. StopsOutside stopped.fault) }
+        (L.remaining old_reader.old) text → MatchResult result
+        (λ done. WritesText (O.taken writer.old) (O.taken writer.new) done.written text)
+        (λ stopped. StopsOutside stopped.fault) }
+    ensures settled { OnOk result (O.settled writer.new) }
     ensures named { O.label writer.new ≡ O.label writer.old }
 {
     one_header();

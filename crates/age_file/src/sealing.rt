@@ -1,6 +1,6 @@
 //! Seals what a source gives, and writes each block.
 
-ghost use Rattle.std.specs.Prelude.{◌≡◌, ◌-◌, ◌^◌, ◌≤◌, [], length, IfOk, IfErr};
+ghost use Rattle.std.specs.Prelude.{◌≡◌, ◌-◌, ◌^◌, ◌≤◌, [], length, IfOk, OnOk, IfErr};
 ghost use Rattle.age_stream.specs.Sealing.{Holds};
 ghost use Rattle.age_file.specs.Ports.{ports};
 ghost use Rattle.age_file.specs.Seals.{tally, IsFeeding, HasRoom, SealsOnce, SealsPiece, SealsLast, SealsSource, SealsAll, SealsFront};
@@ -86,6 +86,7 @@ fn finish<B: ChunkBox, const SEALED: usize, O: Sink>(
     ensures sealed { SealsLast B.sealing (SEALED - 16) sealer.old
         (tally (O.taken sink.old) (O.failed sink.old) written.old)
         (tally (O.taken sink.new) (O.failed sink.new) written.new) result }
+    ensures settled { OnOk result (O.settled sink.new) }
     ensures named { O.label sink.new ≡ O.label sink.old }
 {
     seal_last(sealer, sink, written)?;
@@ -148,6 +149,7 @@ pub(crate) fn seal_all<B: ChunkBox, const SEALED: usize, S: Source, O: Sink>(
         (O.failed sink.old))
         (ports (S.remaining source.new) (S.failed source.new) (O.taken sink.new)
         (O.failed sink.new)) written.old written.new) }
+    ensures settled { OnOk result (O.settled sink.new) }
     ensures named { O.label sink.new ≡ O.label sink.old }
 {
     let mut sealer = Sealer::<B, SEALED>::new(key);

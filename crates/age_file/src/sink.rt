@@ -1,6 +1,6 @@
 //! Where bytes go.
 
-ghost use Rattle.std.specs.Prelude.{◌≡◌, ◌<◌, ◌≤◌, ℕ, Option, List, [], length, None, IfOk, MatchResult};
+ghost use Rattle.std.specs.Prelude.{◌≡◌, ◌<◌, ◌≤◌, ℕ, Option, List, [], length, None, ⊤, IfOk, OnOk, MatchResult};
 ghost use Rattle.std.specs.Io.KnownBytes.{WriteAppends, Keeps};
 ghost use Rattle.age_file.specs.Memory.{one_more};
 ghost use Rattle.std.specs.Coded.{coded_ℕ, coded×};
@@ -17,6 +17,9 @@ pub trait Sink {
     // How many puts and flushes have failed; it stays at its greatest value.
     ghost failed: { Self → ℕ };
 
+    // Whether what was taken was sent on; a put may undo it. True of each sink that does not say.
+    ghost settled: { Self → Type 0 } = { λ _. ⊤ };
+
     // The name that the sink goes by, which stays with it, so that a set of files can say where its bytes end up.
     ghost label: { Self → List ℕ } = { λ _. [] };
 
@@ -31,6 +34,7 @@ pub trait Sink {
 
     /// Sends on what was taken.
     fn flush(&mut self) -> Result<(), Failed>
+        ensures settled { OnOk result (settled self.new) }
         ensures bytes { Keeps (taken self.old) (taken self.new) }
         ensures named { label self.new ≡ label self.old }
         ensures counted { MatchResult result (λ _. failed self.new ≡ failed self.old)

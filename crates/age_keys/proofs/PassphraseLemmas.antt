@@ -97,22 +97,22 @@ other_key w h log salt key other has found =
     one_wrapped (wrap_key w.pass salt log) other key
     (ap (λ (k : List ℕ). wrapped k other) (sym wrap) ∙ sym found.opens ∙ same.bodies)
 
-none_refused : (w : Words) (h : Header) (log : ℕ) (salt key : List ℕ) → log ≤ w.max_log → has_scrypt h ≡ true
-    → HasScryptStanza h salt log (wrapped (wrap_key w.pass salt log) key) → (fault : KeyFault) → ¬ PassphraseRefuses w h fault
-none_refused w h log salt key within typed has ScryptNotAlone r = not_beside h has.stanza has.alone r
-none_refused w h log salt key within typed has NoMatch r = false≢true (sym r ∙ typed)
-none_refused w h log salt key within typed has BadScrypt r = r.2 salt log (wrapped (wrap_key w.pass salt log) key) has
-none_refused w h log salt key within typed has WorkTooHigh r =
+only_memory : (w : Words) (h : Header) (log : ℕ) (salt key : List ℕ) → log ≤ w.max_log → has_scrypt h ≡ true
+    → HasScryptStanza h salt log (wrapped (wrap_key w.pass salt log) key) → (fault : KeyFault) → PassphraseRefuses w h fault → fault ≡ Memory
+only_memory w h log salt key within typed has ScryptNotAlone r = absurd (not_beside h has.stanza has.alone r)
+only_memory w h log salt key within typed has NoMatch r = absurd (false≢true (sym r ∙ typed))
+only_memory w h log salt key within typed has BadScrypt r = absurd (r.2 salt log (wrapped (wrap_key w.pass salt log) key) has)
+only_memory w h log salt key within typed has WorkTooHigh r =
     let same = same_parts h r.0 salt r.1 log r.2 (wrapped (wrap_key w.pass salt log) key) r.3 has in
     let above = r.4 in
     let logs = same.logs in
-    omega arith
-none_refused w h log salt key within typed has WrongKey r =
+    absurd (omega arith)
+only_memory w h log salt key within typed has WrongKey r =
     let same = same_parts h r.0 salt r.1 log r.2 (wrapped (wrap_key w.pass salt log) key) r.3 has in
-    r.5 key (same.bodies ∙ ap (λ (k : List ℕ). wrapped k key) (sym (ap₂ (wrap_key w.pass) same.salts same.logs)))
-none_refused w h log salt key within typed has MacMismatch r = r
-none_refused w h log salt key within typed has BadX25519 r = r
-none_refused w h log salt key within typed has Memory r = r
+    absurd (r.5 key (same.bodies ∙ ap (λ (k : List ℕ). wrapped k key) (sym (ap₂ (wrap_key w.pass) same.salts same.logs))))
+only_memory w h log salt key within typed has MacMismatch r = absurd r
+only_memory w h log salt key within typed has BadX25519 r = absurd r
+only_memory w h log salt key within typed has Memory r = refl
 
 pub opens_alone : (w : Words) (log : ℕ) (salt key : List ℕ) → 1 ≤ log → log ≤ 22 → log ≤ w.max_log → length salt ≡ 16 → IsBytes salt → length key ≡ 16
     → AllowsAlone (IsPassphraseKey w) (PassphraseRefuses w) (scrypt_head w.pass log salt key) key
@@ -123,6 +123,6 @@ opens_alone w log salt key some few within size fits key_size =
       alone = not_beside h has.stanza has.alone;
       allowed = record { salt = salt; log = log; body = wrapped (wrap_key w.pass salt log) key; stanza = has; within = within; opens = refl };
       no_other = λ other found. other_key w h log salt key other has found;
-      no_fault = none_refused w h log salt key within (own_type w log salt key) has;
+      never = only_memory w h log salt key within (own_type w log salt key) has;
       mac = own_mac w log salt key;
     }

@@ -2,7 +2,7 @@
 use Rattle.std.specs.Prelude.{◌≡◌, ◌⊎◌, ℕ, List, length}
 use Rattle.age_stanza.specs.declared.header.Header.{Header}
 use Rattle.age_keys.specs.declared.fault.KeyFault.{KeyFault}
-use Rattle.age_keys.specs.declared.fault.KeyFault.TheVariants.{ScryptNotAlone, MacMismatch}
+use Rattle.age_keys.specs.declared.fault.KeyFault.TheVariants.{ScryptNotAlone, MacMismatch, Memory}
 use Rattle.age_keys.specs.Keys.{IsScryptBeside, IsMacOf}
 
 -- the file key may be answered for the header
@@ -12,20 +12,22 @@ pub record Opens (Allows : Header → List ℕ → Type 0) (h : Header) (key : L
   pub mac : IsMacOf h key
   pub size : length key ≡ 16
 
--- the fault may be answered for it, want of memory aside
+-- the fault may be answered for it; want of memory, where the unlocker may answer that, or some key whose MAC was to be
+-- computed
 abbrev pub Refuses : (Header → List ℕ → Type 0) → (Header → KeyFault → Type 0) → Header
     → KeyFault → Type 0
 Refuses Allows Refused h fault =
     (IsScryptBeside h → fault ≡ ScryptNotAlone)
     × ((¬ IsScryptBeside h)
     → Refused h fault
-    ⊎ ((fault ≡ MacMismatch) × ((key : List ℕ) × Allows h key × (¬ IsMacOf h key))))
+    ⊎ ((fault ≡ MacMismatch) × ((key : List ℕ) × Allows h key × (¬ IsMacOf h key)))
+    ⊎ ((fault ≡ Memory) × ((key : List ℕ) × Allows h key)))
 
--- nothing but the key may be answered for the header, want of memory aside
+-- nothing but the key and want of memory may be answered for the header
 pub record AllowsAlone (Allows : Header → List ℕ → Type 0) (Refused : Header → KeyFault → Type 0)
     (h : Header) (key : List ℕ) : Type 0 where
   pub alone : ¬ IsScryptBeside h
   pub allowed : Allows h key
   pub no_other : (other : List ℕ) → Allows h other → other ≡ key
-  pub no_fault : (fault : KeyFault) → ¬ Refused h fault
+  pub never : (fault : KeyFault) → Refused h fault → fault ≡ Memory
   pub mac : IsMacOf h key

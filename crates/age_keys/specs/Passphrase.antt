@@ -2,7 +2,7 @@
 use Rattle.std.specs.Prelude.{◌≡◌, ◌≢◌, ℕ, ◌<◌, ◌≤◌, true, false, List, length}
 use Rattle.age_stanza.specs.declared.header.Header.{Header}
 use Rattle.age_keys.specs.declared.fault.KeyFault.{KeyFault}
-use Rattle.age_keys.specs.declared.fault.KeyFault.TheVariants.{ScryptNotAlone, BadScrypt, WorkTooHigh, NoMatch, WrongKey}
+use Rattle.age_keys.specs.declared.fault.KeyFault.TheVariants.{ScryptNotAlone, BadScrypt, WorkTooHigh, NoMatch, WrongKey, Memory}
 use Rattle.age_keys.specs.Keys.{IsScryptBeside, has_scrypt, wrapped}
 use Rattle.age_keys.specs.Scrypt.{wrap_key, HasScryptStanza}
 
@@ -37,6 +37,9 @@ PassphraseRefuses w h BadScrypt =
 PassphraseRefuses w h WorkTooHigh =
     (salt : List ℕ) × (log : ℕ) × (body : List ℕ) × HasScryptStanza h salt log body
     × (w.max_log < log)
+PassphraseRefuses w h Memory =
+    (salt : List ℕ) × (log : ℕ) × (body : List ℕ) × HasScryptStanza h salt log body
+    × (log ≤ w.max_log)
 PassphraseRefuses w h WrongKey =
     (salt : List ℕ) × (log : ℕ) × (body : List ℕ) × HasScryptStanza h salt log body
     × (log ≤ w.max_log)

@@ -1,6 +1,6 @@
 //! Opens a header.
 
-ghost use Rattle.std.specs.Prelude.{◌≡◌, ◌≢◌, IfOk, IfErr};
+ghost use Rattle.std.specs.Prelude.{◌≡◌, IfOk, IfErr};
 ghost use Rattle.std.specs.List.{list_any};
 ghost use Rattle.base64.specs.GeneralPurpose.{IsBytes};
 ghost use Rattle.age_stanza.specs.Grammar.{HasText};
@@ -67,8 +67,8 @@ pub fn open_header<U: Unlock>(
 ) -> Result<FileKey, KeyFault>
     requires { HasText header.now }
     ensures key { IfOk result (Opens (U.allows unlock.now) header.now) }
-    ensures refused { IfErr result (λ fault. fault ≢ Memory
-        → Refuses (U.allows unlock.now) (U.refuses unlock.now) header.now fault) }
+    ensures refused { IfErr result
+        (Refuses (U.allows unlock.now) (U.refuses unlock.now) header.now) }
 {
     if is_scrypt_beside(header) {
         return Err(KeyFault::ScryptNotAlone);

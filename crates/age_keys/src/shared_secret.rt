@@ -143,10 +143,7 @@ impl Unlock for SharedSecret {
 
     ghost refuses = { SharedRefuses };
 
-    fn unlock(&self, _alloc: Global, header: &Header) -> Result<FileKey, KeyFault>
-        ensures { MatchResult result (IsSharedKey self.now header.now)
-            (SharedRefuses self.now header.now) }
-    {
+    fn unlock(&self, _alloc: Global, header: &Header) -> Result<FileKey, KeyFault> {
         self.find(header)
     }
 }

@@ -1,9 +1,8 @@
 //! What finds a file key in a header.
 
-ghost use Rattle.std.specs.Prelude.{◌≡◌, ◌≢◌, ℕ, List, MatchResult, IfSome, IfNone};
+ghost use Rattle.std.specs.Prelude.{◌≡◌, ℕ, List, MatchResult, IfSome, IfNone};
 ghost use Rattle.age_stanza.specs.declared.header.Header.{Header as HeaderValue};
 ghost use Rattle.age_keys.specs.declared.fault.KeyFault.{KeyFault as Fault};
-ghost use Rattle.age_keys.specs.declared.fault.KeyFault.TheVariants.{Memory};
 ghost use Rattle.age_keys.specs.Keys.{SpellsKey};
 
 use crate::fault::KeyFault;
@@ -21,13 +20,13 @@ pub trait Unlock {
     /// The keys that it may answer for a header.
     ghost allows: { Self → HeaderValue → List ℕ → Type 0 };
 
-    /// The faults that it may answer for a header, want of memory aside.
+    /// The faults that it may answer for a header.
     ghost refuses: { Self → HeaderValue → Fault → Type 0 };
 
     /// The file key of a header. Nothing is changed.
     fn unlock(&self, alloc: Global, header: &Header) -> Result<FileKey, KeyFault>
         ensures { MatchResult result (λ key. allows self.now header.now key)
-            (λ fault. fault ≢ Memory → refuses self.now header.now fault) };
+            (refuses self.now header.now) };
 }
 
 /// A file key that is known: it is answered for every header. A contract sees the list of its
@@ -71,9 +70,7 @@ impl Unlock for KnownKey {
 
     ghost refuses = { λ _ _ _. ⊥ };
 
-    fn unlock(&self, _alloc: Global, _header: &Header) -> Result<FileKey, KeyFault>
-        ensures { MatchResult result (λ key. key ≡ self.now) (λ _. ⊥) }
-    {
+    fn unlock(&self, _alloc: Global, _header: &Header) -> Result<FileKey, KeyFault> {
         Ok(FileKey::new(self.bytes))
     }
 }

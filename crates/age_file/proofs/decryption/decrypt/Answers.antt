@@ -4,7 +4,7 @@ use Rattle.age_file.specs.Ports.{ports}
 use Rattle.age_file.specs.Releases.{tally}
 use Rattle.age_file.specs.Pours.{stage}
 use Rattle.age_file.proofs.DecryptSteps.{poured, decrypt_done, decrypt_fails, start_fails}
-use Rattle.age_file.proofs.Undamaged.{undamaged}
+use Rattle.age_file.proofs.Undamaged.{undamaged, undamaged_done}
 use Rattle.age_file.proofs.decryption.decrypt.Goals as goal
 
 pub returns-in-Err-clause-stopped : goal.returns-in-Err-clause-stopped
@@ -25,7 +25,7 @@ returns-in-Ok-pour-clause-done g c =
     let Allows = g.U.Unlock.allows c.args.unlock.now in
     let Refused = g.U.Unlock.refuses c.args.unlock.now in
     let ran = poured Allows Refused (g.S.Source.remaining c.args.reader.now) (g.S.Source.failed c.args.reader.now) c.in-Ok-start.unlocked c.payload_key-key.result old new _
-    c.new-progress.ensures.written c.new-progress.ensures.index c.new-progress.ensures.chain c.payload_key-key.ensures c.in-Ok-start.ensures.found c.in-Ok-pour.ensures in
+    c.new-progress.ensures.written c.new-progress.ensures.index c.new-progress.ensures.chain c.payload_key-key.ensures c.in-Ok-start.ensures.found c.in-Ok-pour.ensures.pours in
     (ran.run, decrypt_done Allows Refused (g.S.Source.remaining c.args.reader.now) (g.S.Source.failed c.args.reader.now) c.in-Ok-start.unlocked old new c.in-Ok-start.ensures.unfailed ran)
 
 pub returns-clause-stopped : goal.returns-clause-stopped
@@ -35,7 +35,7 @@ returns-clause-stopped g c =
     let Allows = g.U.Unlock.allows c.args.unlock.now in
     let Refused = g.U.Unlock.refuses c.args.unlock.now in
     let ran = poured Allows Refused (g.S.Source.remaining c.args.reader.now) (g.S.Source.failed c.args.reader.now) c.in-Ok-start.unlocked c.payload_key-key.result old new _
-    c.new-progress.ensures.written c.new-progress.ensures.index c.new-progress.ensures.chain c.payload_key-key.ensures c.in-Ok-start.ensures.found c.in-Err-pour.ensures in
+    c.new-progress.ensures.written c.new-progress.ensures.index c.new-progress.ensures.chain c.payload_key-key.ensures c.in-Ok-start.ensures.found c.in-Err-pour.ensures.pours in
     let at = c.position_of-next.ensures in
     rw c.behind.ensures (decrypt_fails Allows Refused (g.S.Source.remaining c.args.reader.now) (g.S.Source.failed c.args.reader.now) c.in-Ok-start.unlocked old new c.in-Err-pour.fault c.position_of-next.result c.in-Ok-start.ensures.unfailed ran at.index at.file_id at.chain at.tag)
 
@@ -45,3 +45,10 @@ returns-clause-undamaged g c = λ text whole.
     let new = ports (g.S.Source.remaining c.pour.new.source) (g.S.Source.failed c.pour.new.source) (g.O.Sink.taken c.pour.new.sink) (g.O.Sink.failed c.pour.new.sink) in
     let stopped = rw c.behind.ensures at (returns-clause-stopped g c) in
     rw c.behind.ensures (undamaged c.one_header.ensures (g.U.Unlock.allows c.args.unlock.now) (g.U.Unlock.refuses c.args.unlock.now) old new c.pour.new.progress.written (Some c.position_of-next.result) c.in-Err-pour.fault text whole stopped)
+
+pub returns-in-Ok-pour-clause-undamaged : goal.returns-in-Ok-pour-clause-undamaged
+returns-in-Ok-pour-clause-undamaged g c = λ text whole.
+    let old = ports (g.S.Source.remaining c.args.reader.now) (g.S.Source.failed c.args.reader.now) (g.O.Sink.taken c.args.writer.now) (g.O.Sink.failed c.args.writer.now) in
+    let new = ports (g.S.Source.remaining c.pour.new.source) (g.S.Source.failed c.pour.new.source) (g.O.Sink.taken c.pour.new.sink) (g.O.Sink.failed c.pour.new.sink) in
+    let done = returns-in-Ok-pour-clause-done g c in
+    undamaged_done c.one_header.ensures (g.U.Unlock.allows c.args.unlock.now) (g.U.Unlock.refuses c.args.unlock.now) old new _ done.0 text whole done.1

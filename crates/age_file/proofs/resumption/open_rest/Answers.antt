@@ -10,7 +10,7 @@ pour-requires-clause-room g c =
     let mid = stage (tally (g.O.Sink.taken c.args.writer.now) (g.O.Sink.failed c.args.writer.now) (g.O.Sink.label c.args.writer.now) c.args.progress.now) (g.S.Source.remaining c.pass_over.new.source) (g.S.Source.failed c.pass_over.new.source) c.pass_over.new.intake in
     place_behind old mid c.in_ok-pass_over.ensures.0 c.requires.room refl c.requires.pulled c.in_ok-pass_over.ensures.2
 
-pub returns : goal.returns
-returns g c =
+pub returns-clause-goes_on : goal.returns-clause-goes_on
+returns-clause-goes_on g c =
     let mid = stage (tally (g.O.Sink.taken c.args.writer.now) (g.O.Sink.failed c.args.writer.now) (g.O.Sink.label c.args.writer.now) c.args.progress.now) (g.S.Source.remaining c.pass_over.new.source) (g.S.Source.failed c.pass_over.new.source) c.pass_over.new.intake in
-    inr (record { mid = mid; passed = c.in_ok-pass_over.ensures.0; size = c.in_ok-pass_over.ensures.1; passes = c.in_ok-pass_over.ensures.2; same = refl; pours = c.pour.ensures })
+    inr (record { mid = mid; passed = c.in_ok-pass_over.ensures.0; size = c.in_ok-pass_over.ensures.1; passes = c.in_ok-pass_over.ensures.2; same = refl; pours = c.pour.ensures.pours })

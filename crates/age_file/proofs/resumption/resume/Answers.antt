@@ -6,7 +6,7 @@ use Rattle.age_file.specs.Pours.{stage}
 use Rattle.age_file.specs.Ports.{ports}
 use Rattle.age_file.specs.Resumes.{resume_ports}
 use Rattle.age_file.proofs.ResumeSteps.{start_fails, verdict_fails, copy_fails, resume_done, resume_fails}
-use Rattle.age_file.proofs.UndamagedRest.{undamaged_rest}
+use Rattle.age_file.proofs.UndamagedRest.{undamaged_rest, undamaged_rest_done}
 use Rattle.age_file.proofs.resumption.resume.Goals as goal
 
 pub returns-in-Err-verify-clause-stopped : goal.returns-in-Err-verify-clause-stopped
@@ -36,7 +36,7 @@ returns-in-Ok-open_rest-clause-done g c =
     let s2 = stage (tally (g.O.Sink.taken c.open_rest.new.writer) (g.O.Sink.failed c.open_rest.new.writer) (g.O.Sink.label c.open_rest.new.writer) c.open_rest.new.progress) (g.S.Source.remaining c.open_rest.new.reader) (g.S.Source.failed c.open_rest.new.reader) c.open_rest.new.intake in
     resume_done (g.U.Unlock.allows c.args.unlock.now) (g.U.Unlock.refuses c.args.unlock.now) c.args.position.now (g.S.Source.remaining c.args.reader.now) (g.S.Source.failed c.args.reader.now) c.in-Ok.unlocked
     s1 c.in-Ok.ensures.found c.in-Ok-verify.ensures c.in-Ok.ensures.unfailed first c.new-progress.ensures.written x z c.in-Ok-Ok.ensures'.0 c.in-Ok-Ok.ensures'.1
-    c.in-Ok-copy_old.ensures c.args.position.now.within c.payload_key-key.result s2 c.payload_key-key.ensures c.in-Ok-open_rest.ensures
+    c.in-Ok-copy_old.ensures c.args.position.now.within c.payload_key-key.result s2 c.payload_key-key.ensures c.in-Ok-open_rest.ensures.goes_on
 
 pub returns-clause-stopped : goal.returns-clause-stopped
 returns-clause-stopped g c =
@@ -50,7 +50,7 @@ returns-clause-stopped g c =
     (resume_fails (g.U.Unlock.allows c.args.unlock.now) (g.U.Unlock.refuses c.args.unlock.now) c.args.position.now (g.S.Source.remaining c.args.reader.now) (g.S.Source.failed c.args.reader.now) c.in-Ok.unlocked
     s1 c.in-Ok.ensures.found c.in-Ok-verify.ensures c.in-Ok.ensures.unfailed first c.new-progress.ensures.written x z c.in-Ok-Ok.ensures'.0 c.in-Ok-Ok.ensures'.1
     c.in-Ok-copy_old.ensures c.args.position.now.within c.payload_key-key.result s2 c.position_of-next.result c.in-Err-open_rest.fault c.payload_key-key.ensures
-    at.index at.file_id at.chain at.tag c.in-Err-open_rest.ensures)
+    at.index at.file_id at.chain at.tag c.in-Err-open_rest.ensures.goes_on)
 
 pub returns-in-Err-clause-undamaged : goal.returns-in-Err-clause-undamaged
 returns-in-Err-clause-undamaged g c = λ text whole.
@@ -78,3 +78,10 @@ returns-clause-undamaged g c = λ text whole.
     let old = resume_ports (ports (g.S.Source.remaining c.args.reader.now) (g.S.Source.failed c.args.reader.now) (g.O.Sink.taken c.args.writer.now) (g.O.Sink.failed c.args.writer.now)) (g.L.Source.remaining c.args.old_reader.now) (g.L.Source.failed c.args.old_reader.now) in
     let new = resume_ports (ports (g.S.Source.remaining c.open_rest.new.reader) (g.S.Source.failed c.open_rest.new.reader) (g.O.Sink.taken c.open_rest.new.writer) (g.O.Sink.failed c.open_rest.new.writer)) (g.L.Source.remaining c.copy_old.new.old_reader) (g.L.Source.failed c.copy_old.new.old_reader) in
     undamaged_rest c.one_header.ensures (g.U.Unlock.allows c.args.unlock.now) (g.U.Unlock.refuses c.args.unlock.now) c.args.position.now old new text whole c.behind-in-Err-open_rest.result.written c.behind-in-Err-open_rest.result.position c.behind-in-Err-open_rest.result.fault (returns-clause-stopped g c)
+
+pub returns-in-Ok-open_rest-clause-undamaged : goal.returns-in-Ok-open_rest-clause-undamaged
+returns-in-Ok-open_rest-clause-undamaged g c = λ text whole.
+    let old = resume_ports (ports (g.S.Source.remaining c.args.reader.now) (g.S.Source.failed c.args.reader.now) (g.O.Sink.taken c.args.writer.now) (g.O.Sink.failed c.args.writer.now)) (g.L.Source.remaining c.args.old_reader.now) (g.L.Source.failed c.args.old_reader.now) in
+    let new = resume_ports (ports (g.S.Source.remaining c.open_rest.new.reader) (g.S.Source.failed c.open_rest.new.reader) (g.O.Sink.taken c.open_rest.new.writer) (g.O.Sink.failed c.open_rest.new.writer)) (g.L.Source.remaining c.copy_old.new.old_reader) (g.L.Source.failed c.copy_old.new.old_reader) in
+    let done = returns-in-Ok-open_rest-clause-done g c in
+    undamaged_rest_done c.one_header.ensures (g.U.Unlock.allows c.args.unlock.now) (g.U.Unlock.refuses c.args.unlock.now) c.args.position.now old new text whole _ done.0 done.1

@@ -1,0 +1,56 @@
+-- What was encrypted under a passphrase, decrypted with it.
+use Rattle.std.specs.Prelude.{◌≡◌, ℕ, ◌≤◌, List, [], length, Some, None, Result, MatchResult, true, false}
+use Rattle.base64.specs.GeneralPurpose.{IsBytes}
+use Rattle.age_stream.specs.Payload.{chunk_count, last_index, last_chunk}
+use Rattle.age_stream.specs.Nonce.{nonce_bytes}
+use Rattle.age_keys.specs.Passphrase.{Words, IsPassphraseKey, PassphraseRefuses}
+use Rattle.age_file.specs.AgeFile.{box, unbox}
+use Rattle.age_file.specs.Ports.{Ports}
+use Rattle.age_file.specs.Secrets.{SecretView, IsWithinLimits}
+use Rattle.age_file.specs.Encrypts.{AgeFile, Encrypts}
+use Rattle.age_file.specs.Decrypts.{IsWhole, StopsOutside}
+use Rattle.age_file.specs.Calls.{DecryptAnswers}
+use Rattle.age_file.specs.declared.decryption.Done.{Done}
+use Rattle.age_file.specs.declared.decryption.Stopped.{Stopped}
+use Rattle.age_file.specs.declared.encryption.Written.{Written}
+
+-- a secret whose parts have their sizes
+pub record IsSecret (s : SecretView) : Type 0 where
+  pub within : IsWithinLimits s.pass s.log
+  pub salt_length : length s.salt ≡ 16
+  pub salt_bytes : IsBytes s.salt
+  pub key_length : length s.key ≡ 16
+
+-- the secret's passphrase, with a limit
+abbrev pub words_of : SecretView → ℕ → Words
+words_of s max_log = record { pass = s.pass; max_log = max_log }
+
+-- the age file of a secret and a text is a whole one for the secret's passphrase, where the limit allows its work factor
+abbrev pub AgeFileIsWhole : Type 0
+AgeFileIsWhole = (s : SecretView) (max_log : ℕ) (text bytes : List ℕ) → IsSecret s → s.log ≤ max_log
+    → chunk_count 65536 text ≤ 281474976710656 → AgeFile s text bytes
+    → IsWhole (IsPassphraseKey (words_of s max_log)) (PassphraseRefuses (words_of s max_log))
+    (Some bytes) text
+
+-- the block of a last chunk that is full doesn't open as one before the last
+abbrev pub OpensAsSealed : SecretView → List ℕ → Type 0
+OpensAsSealed s text = length (last_chunk 65536 text) ≡ 65536
+    → unbox s.key s.nonce (nonce_bytes (last_index 65536 text) false)
+    (box s.key s.nonce (nonce_bytes (last_index 65536 text) true) (last_chunk 65536 text)) ≡ None
+
+-- an encryption of a text came to its end, into a sink that had taken nothing
+pub record WasEncrypted (s : SecretView) (text : List ℕ) (old new : Ports) (written : Written)
+    : Type 0 where
+  pub source : old.coming ≡ Some text
+  pub sink : old.taken ≡ Some []
+  pub done : Encrypts s old new written
+
+-- then a decryption of what the sink took, with the same passphrase, gives the text back, or stops as reading, writing or
+-- want of memory may stop it
+abbrev pub RoundTrip : Type 0
+RoundTrip = (s : SecretView) (max_log : ℕ) (text : List ℕ) (was file now last : Ports)
+    (written : Written) (result : Result Done Stopped) → IsSecret s → s.log ≤ max_log
+    → chunk_count 65536 text ≤ 281474976710656 → OpensAsSealed s text
+    → WasEncrypted s text was file written → now.coming ≡ file.taken → now.taken ≡ Some []
+    → DecryptAnswers Words IsPassphraseKey PassphraseRefuses (words_of s max_log) now last result
+    → MatchResult result (λ done. last.taken ≡ Some text) (λ stopped. StopsOutside stopped.fault)
