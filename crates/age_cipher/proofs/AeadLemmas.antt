@@ -1,7 +1,7 @@
 -- The tag of a block, and the comparison of a block's end with it.
-use Rattle.std.proofs.Common.{◌≡◌, ℕ, ◌-◌, List, [], ◌∷◌, ◌++◌, length, take, drop, refl, sym, ap, ap₂, ◌∙◌, Bool, true, eqb}
-use Rattle.std.specs.Cmp.Lexicographic.{pointwise}
-use Rattle.std.proofs.lemmas.Slice.Eq.{bytes_eq-Decides}
+use Rattle.std.proofs.Common.{◌≡◌, ℕ, ◌-◌, List, [], ◌∷◌, ◌++◌, length, take, drop, refl, sym, ap, ap₂, ◌∙◌, arith, bit_or, bit_xor}
+use Rattle.std.proofs.lemmas.Nat.{le_or_l, le_or_r, and_le_l, and_le_r}
+use Rattle.std.specs.Int.Bits.{xor_add_and, xor_self}
 use Rattle.std.specs.List.{concat}
 use Rattle.std.specs.Int.{w64, to_le_bytes}
 use Rattle.std.proofs.lemmas.List.{take-append-drop}
@@ -35,20 +35,27 @@ sealed_by_tag key nonce aad block n e =
 
 -- ---- the comparison of a block's end with a tag
 
-same_if : (xs ys : List ℕ) → pointwise eqb xs ys ≡ true → xs ≡ ys
-same_if xs ys h = (bytes_eq-Decides xs ys).0 h
-
-same_of : (xs : List ℕ) → pointwise eqb xs xs ≡ true
-same_of xs = (bytes_eq-Decides xs xs).1 refl
-
 -- the clauses of an opening
-pub opens_if : (key nonce aad block : List ℕ) (n : ℕ) (t e : List ℕ) (r : Bool) → r ≡ pointwise eqb t e → t ≡ tag key nonce aad (take n block) → e ≡ drop n block
-    → r ≡ true → block ≡ sealing key nonce aad (ciphertext key nonce 1 (take n block))
-opens_if key nonce aad block n t e r same tags ends h =
-    sealed_by_tag key nonce aad block n (sym ends ∙ sym (same_if t e (sym same ∙ h)) ∙ tags)
+pub opens_if : (key nonce aad block : List ℕ) (n : ℕ) (t e : List ℕ) → t ≡ e → t ≡ tag key nonce aad (take n block) → e ≡ drop n block
+    → block ≡ sealing key nonce aad (ciphertext key nonce 1 (take n block))
+opens_if key nonce aad block n t e same tags ends =
+    sealed_by_tag key nonce aad block n (sym ends ∙ sym same ∙ tags)
 
-pub opens_of : (key nonce aad block : List ℕ) (t e : List ℕ) (r : Bool) → r ≡ pointwise eqb t e → t ≡ tag key nonce aad (take (length block - 16) block) → e ≡ drop (length block - 16) block
-    → IsSealing key nonce aad block → r ≡ true
-opens_of key nonce aad block t e r same tags ends w =
-    let one : e ≡ t = ends ∙ end_is_tag key nonce aad w.0 block w.1 ∙ sym tags in
-    same ∙ ap (pointwise eqb t) one ∙ same_of t
+pub opens_of : (key nonce aad block : List ℕ) (t e : List ℕ) → t ≡ tag key nonce aad (take (length block - 16) block) → e ≡ drop (length block - 16) block
+    → IsSealing key nonce aad block → t ≡ e
+opens_of key nonce aad block t e tags ends w = sym (ends ∙ end_is_tag key nonce aad w.0 block w.1 ∙ sym tags)
+
+-- ---- differences, gathered by or
+
+both_zero : (a b : ℕ) → bit_or a b ≡ 0 → (a ≡ 0) × (b ≡ 0)
+both_zero a b e = (omega (arith, le_or_l a b), omega (arith, le_or_r a b))
+
+no_difference : (a b : ℕ) → bit_xor a b ≡ 0 → a ≡ b
+no_difference a b e = omega (arith, xor_add_and a b, and_le_l a b, and_le_r a b)
+
+pub still_same : (d a b : ℕ) → bit_or d (bit_xor a b) ≡ 0 → (d ≡ 0) × (a ≡ b)
+still_same d a b e =
+    let each = both_zero d (bit_xor a b) e in (each.0, no_difference a b each.1)
+
+pub still_none : (d a b : ℕ) → d ≡ 0 → a ≡ b → bit_or d (bit_xor a b) ≡ 0
+still_none d a b e f = rw (e, f, xor_self) refl

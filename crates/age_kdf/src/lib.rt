@@ -9,7 +9,7 @@
 //! part by part and is nowhere joined.
 #![tactic(auto)]
 
-ghost use Rattle.std.specs.Prelude.{◌≡◌, map, length, ◌≤◌};
+ghost use Rattle.std.specs.Prelude.{◌≡◌, ℕ, map, length, ◌≤◌, List};
 ghost use Rattle.std.specs.List.{concat};
 ghost use Rattle.age_kdf.specs.Hmac.{zero_filled, key_block, xor_pad, hmac};
 ghost use Rattle.age_kdf.specs.Hkdf.{hkdf32};
@@ -54,22 +54,29 @@ fn xor_pad(block: &[u8; 64], pad: u8) -> [u8; 64]
     block.map(|byte| byte ^ pad)
 }
 
+// The HMAC of a message under each key that has this block.
+fn hmac_of_block(block: &[u8; 64], parts: &[&[u8]]) -> [u8; 32]
+    ensures { (key : List ℕ) → block.now ≡ key_block key
+        → result ≡ hmac key (concat (map (λ part. part.now) parts.now)) }
+{
+    let mut inner = Sha256::new();
+    inner.update(xor_pad(block, INNER_PAD).as_slice());
+    for part in parts {
+        inner.update(*part);
+    }
+    let mut outer = Sha256::new();
+    outer.update(xor_pad(block, OUTER_PAD).as_slice());
+    outer.update(inner.finalize().as_slice());
+    outer.finalize()
+}
+
 /// The HMAC-SHA-256 of a message under a key (RFC 2104). The message is the parts joined.
 ///
 /// The key may have any length: one of more than 64 bytes counts as its SHA-256.
 pub fn hmac(key: &[u8], parts: &[&[u8]]) -> [u8; 32]
     ensures { result ≡ hmac key.now (concat (map (λ part. part.now) parts.now)) }
 {
-    let block = key_block(key);
-    let mut inner = Sha256::new();
-    inner.update(xor_pad(&block, INNER_PAD).as_slice());
-    for part in parts {
-        inner.update(*part);
-    }
-    let mut outer = Sha256::new();
-    outer.update(xor_pad(&block, OUTER_PAD).as_slice());
-    outer.update(inner.finalize().as_slice());
-    outer.finalize()
+    hmac_of_block(&key_block(key), parts)
 }
 
 /// The 32 bytes that HKDF-SHA-256 derives from input keying material (RFC 5869), by its
@@ -84,12 +91,12 @@ pub fn hkdf32(ikm: &[u8], salt: &[u8], info: &[u8]) -> [u8; 32]
     hmac(&prk, &[info, &[1]])
 }
 
-// The block of number `i`, from 1.
-#[tactic(auto, unfolding(crate::specs::Pbkdf2::pbkdf2_block))]
-fn pbkdf2_block(pass: &[u8], salt: &[u8], i: u32) -> [u8; 32]
-    ensures { result ≡ pbkdf2_block pass.now salt.now i }
+// The block of number `i`, from 1, for each passphrase that has this key block.
+fn pbkdf2_block(block: &[u8; 64], salt: &[u8], i: u32) -> [u8; 32]
+    ensures { (pass : List ℕ) → block.now ≡ key_block pass
+        → result ≡ pbkdf2_block pass salt.now i }
 {
-    hmac(pass, &[salt, &i.to_be_bytes()])
+    hmac_of_block(block, &[salt, &i.to_be_bytes()])
 }
 
 /// Fills `out` with the key that PBKDF2-HMAC-SHA-256 derives in one iteration (RFC 8018,
@@ -98,8 +105,9 @@ pub fn pbkdf2_once(pass: &[u8], salt: &[u8], out: &mut [u8])
     requires { length out.old ≤ 65536 }
     ensures { out.new ≡ pbkdf2_once pass.now salt.now (length out.old) }
 {
+    let key = key_block(pass);
     for i in 0..out.len().div_ceil(32) {
-        let block = pbkdf2_block(pass, salt, i as u32 + 1);
+        let block = pbkdf2_block(&key, salt, i as u32 + 1);
         let start = 32 * i;
         let end = (start + 32).min(out.len());
         out[start..end].copy_from_slice(&block[..end - start]);

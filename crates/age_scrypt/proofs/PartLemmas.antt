@@ -1,5 +1,5 @@
 -- A list cut into parts of k: what a write to one part leaves, and the list as its parts joined.
-use Rattle.std.proofs.Common.{◌≡◌, ◌≢◌, ◌++◌, ◌+◌, ◌-◌, ◌*◌, ◌/◌, ◌%◌, ◌<◌, ◌≤◌, ℕ, zero, suc, List, [], ◌∷◌, bit_xor, refl, sym, ap, ap₂, ◌∙◌, arith, length, take, drop, length-take, length-drop, inl, inr}
+use Rattle.std.proofs.Common.{◌≡◌, ◌≢◌, ◌++◌, ◌+◌, ◌-◌, ◌*◌, ◌<◌, ◌≤◌, ℕ, zero, suc, List, [], ◌∷◌, bit_xor, refl, sym, ap, ap₂, ◌∙◌, arith, length, take, drop, length-take, length-drop, inl, inr}
 use Rattle.std.specs.List.{flat_map, range_with_len}
 use Rattle.std.proofs.Math.Nat.{mul-le-mul_left}
 use Rattle.std.proofs.lemmas.List.{drop_all, drop-take, drop-drop, take-append-drop, take_at, drop_at, append_assoc, length-append, drop-append-le, take-append-le, take_all}
@@ -9,7 +9,7 @@ use Rattle.std.proofs.Math.Seq.{take-add}
 use Rattle.std.proofs.lemmas.Slice.{take-put_mid_below, drop-put_mid, between-put_mid}
 use Rattle.std.proofs.lemmas.Bool.{cases_lt}
 use borrow.Rule.Slice.PartMut.{put_mid}
-use Rattle.age_scrypt.specs.BlockMix.{part, xor_words, chained, block_mix}
+use Rattle.age_scrypt.specs.BlockMix.{part, xor_words}
 
 -- a part ends where the next begins
 next_part : (k i j : ℕ) → i < j → k * i + k ≤ k * j
@@ -52,30 +52,6 @@ parts_joined k n xs h =
 pub same_pieces : (f g : ℕ → List ℕ) (a n : ℕ) → ((i : ℕ) → a ≤ i → i < a + n → f i ≡ g i) → flat_map f (range_with_len a n) ≡ flat_map g (range_with_len a n)
 same_pieces f g a zero h = refl
 same_pieces f g a (suc n) h = ap₂ ◌++◌ (h a (omega arith) (omega arith)) (same_pieces f g (a + 1) n (λ i low high. h i (omega arith) (omega arith)))
-
--- the block whose parts are the outputs, each at its place
-pub mixed_is : (from to : List ℕ) → length to ≡ 256 → ((j : ℕ) → j < 16 → part 16 to (j / 2 + j % 2 * 8) ≡ chained from (j + 1)) → to ≡ block_mix from
-unfolding block_mix
-mixed_is from to len h =
-    parts_joined 16 16 to len
-    ∙ rw (
-      h 0 (omega arith),
-      h 2 (omega arith),
-      h 4 (omega arith),
-      h 6 (omega arith),
-      h 8 (omega arith),
-      h 10 (omega arith),
-      h 12 (omega arith),
-      h 14 (omega arith),
-      h 1 (omega arith),
-      h 3 (omega arith),
-      h 5 (omega arith),
-      h 7 (omega arith),
-      h 9 (omega arith),
-      h 11 (omega arith),
-      h 13 (omega arith),
-      h 15 (omega arith),
-    ) refl
 
 -- four rows of four, one after the other, are sixteen words
 pub rows_read : (block : List ℕ) (at : ℕ)
@@ -125,16 +101,18 @@ drop-zip2 f (suc n) [] ys len = refl
 drop-zip2 f (suc n) (x ∷ xs) [] len = absurd (omega arith)
 drop-zip2 f (suc n) (x ∷ xs) (y ∷ ys) len = drop-zip2 f n xs ys (omega arith)
 
+pub part-xor : (x y : List ℕ) → length x ≡ length y → (j : ℕ) → part 16 (xor_words x y) j ≡ xor_words (part 16 x j) (part 16 y j)
+unfolding part
+part-xor x y same_len j =
+    ap (take 16) (drop-zip2 bit_xor (16 * j) x y same_len) ∙ take-zip2 bit_xor 16 (drop (16 * j) x) (drop (16 * j) y)
+
 -- a block whose parts are those of two others, changed part by part
 pub xored_parts : (x y to : List ℕ) → length x ≡ 256 → length y ≡ 256 → length to ≡ 256
     → ((j : ℕ) → j < 16 → part 16 to j ≡ xor_words (part 16 x j) (part 16 y j)) → to ≡ xor_words x y
-unfolding part
 xored_parts x y to x_len y_len to_len h =
     let same_len : length x ≡ length y = omega arith in
-    let of_xor : (j : ℕ) → part 16 (xor_words x y) j ≡ xor_words (part 16 x j) (part 16 y j) =
-    λ j. ap (take 16) (drop-zip2 bit_xor (16 * j) x y same_len) ∙ take-zip2 bit_xor 16 (drop (16 * j) x) (drop (16 * j) y) in
     parts_joined 16 16 to to_len
-    ∙ same_pieces (part 16 to) (part 16 (xor_words x y)) 0 16 (λ j low high. h j (omega arith) ∙ sym (of_xor j))
+    ∙ same_pieces (part 16 to) (part 16 (xor_words x y)) 0 16 (λ j low high. h j (omega arith) ∙ sym (part-xor x y same_len j))
     ∙ sym (parts_joined 16 16 (xor_words x y) (length-zip2 bit_xor x y same_len ∙ x_len))
 
 pub part-append_left : (k : ℕ) (xs ys : List ℕ) (j : ℕ) → k * j + k ≤ length xs → part k (xs ++ ys) j ≡ part k xs j

@@ -1,11 +1,12 @@
 -- Steps of ROMix's two loops.
-use Rattle.std.proofs.Common.{◌≡◌, ◌++◌, ◌+◌, ◌-◌, ◌*◌, ◌/◌, ◌%◌, ◌^◌, ◌<◌, ◌≤◌, ℕ, suc, List, [], ◌∷◌, length, take, drop, get_or, refl, sym, ap, ◌∙◌, arith, add-one, length-drop, below_more}
+use Rattle.std.proofs.Common.{◌≡◌, ◌++◌, ◌+◌, ◌-◌, ◌*◌, ◌/◌, ◌%◌, ◌^◌, ◌<◌, ◌≤◌, ℕ, suc, List, [], ◌∷◌, length, take, drop, get_or, refl, sym, ap, ◌∙◌, subst, arith, add-one, length-drop, below_more}
 use Rattle.std.proofs.Math.Nat.{add-mul-mod_self_left, mul_assoc, div-add-mod, mod-lt, mul-mod_left, pow-le-pow_right}
 use Rattle.std.proofs.lemmas.List.{get_or-drop}
 use Rattle.std.proofs.lemmas.Nat.{pow-add}
 use Rattle.age_scrypt.specs.BlockMix.{part, xor_words, block_mix}
 use Rattle.age_scrypt.specs.Romix.{mixed_times, number, integerify, looked_up}
 use Rattle.age_scrypt.specs.Table.{IsTable}
+use Rattle.age_scrypt.specs.Turned.{IsTurned}
 use Rattle.age_scrypt.proofs.PartLemmas.{part-append_left, part-append_right}
 
 number_of_front : (xs : List ℕ) (k : ℕ) → 0 < length xs → (rest : ℕ) × (number (take (suc k) xs) ≡ get_or xs 0 0 + 2 ^ 32 * rest)
@@ -40,23 +41,26 @@ pub power_whole : (log : ℕ) → log ≤ 22 → 1 * 2 ^ log % 2 ^ 64 ≡ 2 ^ lo
 power_whole log h = omega (arith, power_few log h)
 
 -- one more block of the table
-pub table_more : (b : List ℕ) (i : ℕ) (table x : List ℕ) → length table ≡ 256 * i → length x ≡ 256 → IsTable b i table → x ≡ mixed_times b i
-    → IsTable b (i + 1) (table ++ x)
+pub table_more : (b : List ℕ) (i : ℕ) (table x : List ℕ) → length table ≡ 256 * i → length x ≡ 256 → IsTable b i table
+    → IsTurned (mixed_times b i) x → IsTable b (i + 1) (table ++ x)
 table_more b i table x len x_len t e = record {
   at = below_more _ _
-      (λ j below. part-append_left 256 table x j (omega arith) ∙ t.at j below)
-      (part-append_right 256 table x i len x_len ∙ e);
+      (λ j below. subst (IsTurned (mixed_times b j)) (sym (part-append_left 256 table x j (omega arith))) (t.at j below))
+      (subst (IsTurned (mixed_times b i)) (sym (part-append_right 256 table x i len x_len)) e);
 }
 
-pub mixed_times_more : (b x y : List ℕ) (i : ℕ) → x ≡ mixed_times b i → y ≡ block_mix x → y ≡ mixed_times b (i + 1)
+pub mixed_times_more : (b y : List ℕ) (i : ℕ) → IsTurned (block_mix (mixed_times b i)) y → IsTurned (mixed_times b (i + 1)) y
 unfolding mixed_times
-mixed_times_more b x y i e f = rw add-one (f ∙ ap block_mix e)
+mixed_times_more b y i t = rw add-one t
 
--- one more look-up
-pub looked_up_more : (n : ℕ) (b table x mixed y : List ℕ) (i at : ℕ) → IsTable b n table → x ≡ looked_up n b i → 0 < n
-    → at ≡ integerify x % n → mixed ≡ xor_words x (part 256 table at) → y ≡ block_mix mixed → y ≡ looked_up n b (i + 1)
+pub looked_up_more : (n : ℕ) (b y : List ℕ) (i : ℕ)
+    → IsTurned (block_mix (xor_words (looked_up n b i) (mixed_times b (integerify (looked_up n b i) % n)))) y → IsTurned (looked_up n b (i + 1)) y
 unfolding looked_up
-looked_up_more n b table x mixed y i at t e some place m f =
+looked_up_more n b y i t = rw add-one t
+
+-- the block of the table that a turned block asks for
+pub table_at : (n : ℕ) (b table x : List ℕ) (at : ℕ) → IsTable b n table → 0 < n → at ≡ integerify x % n
+    → IsTurned (mixed_times b (integerify x % n)) (part 256 table at)
+table_at n b table x at t some place =
     let within : at < n = omega (arith, place, mod-lt (integerify x) some) in
-    rw add-one (f ∙ ap block_mix (m ∙ ap (xor_words x) (t.at at within ∙ ap (mixed_times b) place)
-    ∙ ap (λ z. xor_words z (mixed_times b (integerify z % n))) e))
+    subst (λ k. IsTurned (mixed_times b k) (part 256 table at)) place (t.at at within)

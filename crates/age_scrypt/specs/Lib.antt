@@ -3,4 +3,5 @@ pub mod BlockMix
 pub mod Romix
 pub mod Scrypt
 pub mod Lanes
+pub mod Turned
 pub mod Table

@@ -25,6 +25,7 @@ mod salsa;
 mod steps;
 #[cfg(test)]
 mod tests;
+mod turn;
 mod words;
 
 use age_kdf::pbkdf2_once;

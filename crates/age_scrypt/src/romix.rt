@@ -3,10 +3,12 @@ ghost use Rattle.std.specs.Prelude.{◌≡◌, ℕ, ◌+◌, ◌*◌, ◌%◌, �
 ghost use Rattle.age_scrypt.specs.BlockMix.{xor_words};
 ghost use Rattle.age_scrypt.specs.Romix.{mixed_times, integerify, romix};
 ghost use Rattle.age_scrypt.specs.Table.{IsTable};
+ghost use Rattle.age_scrypt.specs.Turned.{IsTurned};
 
 use crate::mix::block_mix;
 use crate::part::Part;
 use crate::steps::Steps;
+use crate::turn::{turn, turn_back};
 
 /// How many blocks the table has.
 pub(crate) fn block_count(log: u32) -> usize
@@ -31,26 +33,27 @@ fn xor_blocks(x: &[u32], y: &[u32], to: &mut [u32])
     }
 }
 
-// The place in a table of `n` blocks of the one that `x` asks for. The lowest word says it, since
-// 2^32 is a multiple of `n`.
+// The place in a table of `n` blocks of the one that the turned block `x` asks for. The lowest word
+// says it, since 2^32 is a multiple of `n`, and it is where it was before the turn.
 fn place_of(x: &[u32], n: usize) -> usize
     requires x { length x.now ≡ 256 }
     requires n { 2 ^ 32 % n ≡ 0 }
     requires some { 0 < n }
-    ensures { result ≡ integerify x.now % n }
+    ensures below { result < n }
+    ensures place { (b : List ℕ) → IsTurned b x.now → result ≡ integerify b % n }
 {
     x[240] as usize % n
 }
 
-// Fills a table that has room for `n` blocks: block `i` is `x` mixed `i` times.
+// Fills a table that has room for `n` turned blocks: block `i` is `x` mixed `i` times.
 fn fill(table: &mut Vec<u32>, x: &mut [u32], n: usize, steps: &mut Steps)
     requires empty { vec_len table.old ≡ 0 }
     requires room { 256 * n ≤ vec_capacity table.old }
     requires few { n ≤ 2 ^ 22 }
     requires x { length x.old ≡ 256 }
     ensures len { vec_len table.new ≡ 256 * n }
-    ensures table { IsTable x.old n table.new.items }
-    ensures x { x.new ≡ mixed_times x.old n }
+    ensures table { (b : List ℕ) → IsTurned b x.old → IsTable b n table.new.items }
+    ensures x { (b : List ℕ) → IsTurned b x.old → IsTurned (mixed_times b n) x.new }
     ensures counted { steps.new ≡ steps.old + n }
 {
     for i in 0..n {
@@ -67,7 +70,8 @@ fn look_up(table: &[u32], x: &mut [u32], y: &mut [u32], n: usize, steps: &mut St
     requires y { length y.old ≡ 256 }
     requires n { 2 ^ 32 % n ≡ 0 }
     requires some { 0 < n }
-    ensures x { (b : List ℕ) → IsTable b n table.now → x.old ≡ mixed_times b n → x.new ≡ romix n b }
+    ensures x { (b : List ℕ) → IsTable b n table.now → IsTurned (mixed_times b n) x.old
+        → IsTurned (romix n b) x.new }
     ensures counted { steps.new ≡ steps.old + n }
 {
     for _round in 0..n {
@@ -89,6 +93,8 @@ pub(crate) fn romix(table: &mut Vec<u32>, x: &mut [u32], y: &mut [u32], log: u32
     ensures counted { steps.new ≡ steps.old + 2 * 2 ^ log }
 {
     let n = block_count(log);
-    fill(table, x, n, steps);
-    look_up(table, x, y, n, steps);
+    turn(x, y);
+    fill(table, y, n, steps);
+    look_up(table, y, x, n, steps);
+    turn_back(y, x);
 }

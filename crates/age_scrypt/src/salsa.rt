@@ -8,6 +8,7 @@ ghost use Rattle.std.specs.Int.{w32, rotate_left};
 ghost use Rattle.std.specs.Simd.Lanes.{zip2};
 ghost use Rattle.age_scrypt.specs.Salsa.{add32, rows, columns, salsa20_8};
 ghost use Rattle.age_scrypt.specs.Lanes.{words, IsRows, IsDiagonals, transpose, quarters};
+ghost use Rattle.age_scrypt.specs.Turned.{turned};
 
 use crate::part::Part;
 use std::simd::u32x4;
@@ -79,7 +80,7 @@ fn halves(x: u32x4, y: u32x4) -> u32x4
 
 // From rows to diagonals. Each word stays in its lane.
 #[inline(always)]
-fn diagonals(p: Part) -> Part
+pub(crate) fn diagonals(p: Part) -> Part
     ensures { (x : List ℕ) → IsRows x p → IsDiagonals x result }
 {
     let (ab, cd) = (alternate(p.a, p.b), alternate(p.c, p.d));
@@ -94,7 +95,7 @@ fn diagonals(p: Part) -> Part
 
 // From diagonals to rows.
 #[inline(always)]
-fn rows(p: Part) -> Part
+pub(crate) fn rows(p: Part) -> Part
     ensures { (x : List ℕ) → IsDiagonals x p → IsRows x result }
 {
     let (ad, cb) = (alternate(p.a, p.d), alternate(p.c, p.b));
@@ -107,14 +108,15 @@ fn rows(p: Part) -> Part
     }
 }
 
-/// Four double rounds of sixteen words, and the sum with them.
+/// Four double rounds of sixteen words that are kept as their diagonals, and the sum with them.
 #[inline(always)]
 pub(crate) fn salsa20_8(p: Part) -> Part
-    ensures { words result ≡ salsa20_8 (words p) }
+    ensures { (x : List ℕ) → length x ≡ 16 → words p ≡ turned x
+        → words result ≡ turned (salsa20_8 x) }
 {
-    let mut mixed = diagonals(p);
+    let mut mixed = p;
     for _round in 0..4u32 {
         mixed = double_round(mixed);
     }
-    rows(mixed).wrapping_add(p)
+    mixed.wrapping_add(p)
 }

@@ -18,8 +18,9 @@ loop-i-preserved c =
     let n : ℕ = length c.args.out.now in
     let a : ℕ = 32 * i in
     let k : ℕ = c.min-end.result - a in
+    let is = c.pbkdf2_block-block.ensures pass c.key_block-key.ensures in
     let front : length (joined pass salt i) ≡ a = length-joined pass salt i in
-    let block : length c.pbkdf2_block-block.result ≡ 32 = ap length c.pbkdf2_block-block.ensures ∙ length-pbkdf2_block pass salt (i + 1) in
+    let block : length c.pbkdf2_block-block.result ≡ 32 = ap length is ∙ length-pbkdf2_block pass salt (i + 1) in
     let room : length c.loop-i.out ≡ n = c.loop-i.auto.out in
     let reach : (k ≡ 32) ⊎ (a + k ≡ n) = elim (cases_lt n (a + 32)) [ inl below ↦ inr (omega arith) | inr above ↦ inl (omega arith) ] in
     let before : take a c.loop-i.out ≡ joined pass salt i = c.loop-i.invariant ∙ take_all n (joined pass salt i) (omega arith) in
@@ -27,7 +28,7 @@ loop-i-preserved c =
     rw (next, joined_more) (
     chunk_written (joined pass salt i) c.pbkdf2_block-block.result c.loop-i.out c.copy_from_slice.new.self a k n front block room (omega arith) (omega arith) reach
     c.copy_from_slice.ensures.after before
-    ∙ ap (λ b. take n (joined pass salt i ++ b)) c.pbkdf2_block-block.ensures
+    ∙ ap (λ b. take n (joined pass salt i ++ b)) is
     )
 
 pub returns : goal.returns

@@ -14,8 +14,8 @@ returns-then-same-clause-exact c =
     let block : List ℕ = c.args.block.now in
     let n : ℕ = length block - 16 in
     let split = c.split_at_mut-front.ensures in
-    let tags = c.as_slice.ensures ∙ c.tag.ensures ∙ ap (tag key nonce aad) split.front in (
-      λ h. (ciphertext key nonce 1 (take n block), opens_if key nonce aad block n c.as_slice.result.now c.split_at_mut-front.result.1.now c.eq-same.result c.eq-same.ensures tags split.back h),
+    let tags = c.tag.ensures ∙ ap (tag key nonce aad) split.front in (
+      λ h. (ciphertext key nonce 1 (take n block), opens_if key nonce aad block n c.tag.result c.split_at_mut-front.result.1.now (c.is_tag-same.ensures.0 h) tags split.back),
       λ w. c.if-same.true,
     )
 
@@ -27,11 +27,11 @@ returns-then-same-clause-text c =
     let block : List ℕ = c.args.block.now in
     let n : ℕ = length block - 16 in
     let split = c.split_at_mut-front.ensures in
-    let tags = c.as_slice.ensures ∙ c.tag.ensures ∙ ap (tag key nonce aad) split.front in
+    let tags = c.tag.ensures ∙ ap (tag key nonce aad) split.front in
     let text : c.xor_stream.new.text ≡ ciphertext key nonce 1 (take n block) = c.xor_stream.ensures ∙ ap (ciphertext key nonce 1) split.front in
     let front : take n (c.xor_stream.new.text ++ c.split_at_mut-front.result.1.now) ≡ c.xor_stream.new.text = take_at _ _ n (omega arith) in
     OnTrue_from _ _ (λ h.
-    opens_if key nonce aad block n c.as_slice.result.now c.split_at_mut-front.result.1.now c.eq-same.result c.eq-same.ensures tags split.back h
+    opens_if key nonce aad block n c.tag.result c.split_at_mut-front.result.1.now (c.is_tag-same.ensures.0 h) tags split.back
     ∙ ap (sealing key nonce aad) (sym (front ∙ text)))
 
 pub returns-else-same-clause-exact : goal.returns-else-same-clause-exact
@@ -42,7 +42,7 @@ returns-else-same-clause-exact c =
     let block : List ℕ = c.args.block.now in
     let n : ℕ = length block - 16 in
     let split = c.split_at_mut-front.ensures in
-    let tags = c.as_slice.ensures ∙ c.tag.ensures ∙ ap (tag key nonce aad) split.front in (
-      λ h. (ciphertext key nonce 1 (take n block), opens_if key nonce aad block n c.as_slice.result.now c.split_at_mut-front.result.1.now c.eq-same.result c.eq-same.ensures tags split.back h),
-      λ w. opens_of key nonce aad block c.as_slice.result.now c.split_at_mut-front.result.1.now c.eq-same.result c.eq-same.ensures tags split.back w,
+    let tags = c.tag.ensures ∙ ap (tag key nonce aad) split.front in (
+      λ h. (ciphertext key nonce 1 (take n block), opens_if key nonce aad block n c.tag.result c.split_at_mut-front.result.1.now (c.is_tag-same.ensures.0 h) tags split.back),
+      λ w. c.is_tag-same.ensures.1 (opens_of key nonce aad block c.tag.result c.split_at_mut-front.result.1.now tags split.back w),
     )

@@ -1,15 +1,22 @@
-use Rattle.std.proofs.Common.{◌≡◌, ◌+◌, ◌-◌, ◌*◌, ◌∙◌, ◌++◌, ℕ, List, length, take, drop, refl, ap, arith}
+use Rattle.std.proofs.Common.{◌≡◌, ◌+◌, ◌-◌, ◌*◌, ◌++◌, ℕ, List, length, take, drop, refl, sym, subst, ap, arith}
 use Rattle.std.proofs.lemmas.List.{length-append}
 use Rattle.std.proofs.lemmas.Slice.{pushed}
-use Rattle.age_scrypt.specs.BlockMix.{part, block_mix}
+use Rattle.age_scrypt.specs.BlockMix.{part}
 use Rattle.age_scrypt.specs.Romix.{mixed_times}
+use Rattle.age_scrypt.specs.Turned.{IsTurned}
 use Rattle.age_scrypt.proofs.PartLemmas.{part-append_right}
 use Rattle.age_scrypt.proofs.RomixLemmas.{table_more, mixed_times_more}
 use Rattle.age_scrypt.proofs.romix.fill.Goals as goal
 
 pub loop-i-init : goal.loop-i-init
 unfolding mixed_times
-loop-i-init c = record { room = c.requires.room; len = c.requires.empty; table = record { at = λ j h. absurd (omega arith) }; x = refl; counted = omega arith }
+loop-i-init c = record {
+  room = c.requires.room;
+  len = c.requires.empty;
+  table = λ b t. record { at = λ j h. absurd (omega arith) };
+  x = λ b t. t;
+  counted = omega arith;
+}
 
 pub unwrap-requires : goal.unwrap-requires
 unwrap-requires c = c.extend_from_slice.ensures.succeeds (omega arith)
@@ -31,7 +38,8 @@ loop-i-preserved c =
     record {
       room = omega (arith, c.extend_from_slice.ensures.capacity);
       len = omega (arith, c.deref.ensures.len, ap length c.deref.ensures.value, ap length items, length-append table x);
-      table = rw items (table_more c.args.x.now i table x len x_len inv.table inv.x);
-      x = mixed_times_more c.args.x.now x c.block_mix.new.to i inv.x (c.block_mix.ensures.mixed ∙ ap block_mix from);
+      table = λ b t. rw items (table_more b i table x len x_len (inv.table b t) (inv.x b t));
+      x = λ b t. mixed_times_more b c.block_mix.new.to i
+          (c.block_mix.ensures.mixed (mixed_times b i) (subst (IsTurned (mixed_times b i)) (sym from) (inv.x b t)));
       counted = omega arith;
     }

@@ -1,7 +1,11 @@
-use Rattle.std.proofs.Common.{◌≡◌, ◌+◌, ◌-◌, ◌*◌, ◌∙◌, ℕ, List, take, drop, ap, arith}
+use Rattle.std.proofs.Common.{◌≡◌, ◌+◌, ◌-◌, ◌*◌, ◌%◌, ◌∙◌, ℕ, List, length, take, drop, sym, subst, ap, arith}
+use Rattle.std.proofs.lemmas.List.{length-take, length-drop}
 use Rattle.age_scrypt.specs.BlockMix.{part, xor_words}
-use Rattle.age_scrypt.specs.Romix.{looked_up}
-use Rattle.age_scrypt.proofs.RomixLemmas.{looked_up_more}
+use Rattle.age_scrypt.specs.Romix.{mixed_times, looked_up, integerify}
+use Rattle.age_scrypt.specs.Table.{IsTable}
+use Rattle.age_scrypt.specs.Turned.{IsTurned}
+use Rattle.age_scrypt.proofs.TurnLemmas.{xor_turned}
+use Rattle.age_scrypt.proofs.RomixLemmas.{table_at, looked_up_more}
 use Rattle.age_scrypt.proofs.romix.look_up.Goals as goal
 
 pub loop-round-init : goal.loop-round-init
@@ -11,15 +15,25 @@ loop-round-init c = record { x = λ b t e. e; counted = omega arith }
 pub loop-round-preserved : goal.loop-round-preserved
 unfolding part
 loop-round-preserved c =
+    let n : ℕ = c.args.n in
+    let round : ℕ = c.loop-round._round in
     let inv = c.loop-round.invariant in
     let x : List ℕ = c.loop-round.x in
     let table : List ℕ = c.args.table.now in
     let place : ℕ = c.place_of-at.result in
     let width : 256 * place + 256 - 256 * place ≡ 256 = omega arith in
+    let part_len : length (part 256 table place) ≡ 256 = omega (arith, length-take 256 (drop (256 * place) table), length-drop (256 * place) table) in
     let mixed : c.xor_blocks.new.to ≡ xor_words x (part 256 table place) =
     c.xor_blocks.ensures ∙ ap (λ w. xor_words x (take w (drop (256 * place) table))) width in
     record {
-      x = λ b t e. looked_up_more c.args.n b table x c.xor_blocks.new.to c.block_mix.new.to c.loop-round._round place
-          t (inv.x b t e) c.requires.some c.place_of-at.ensures mixed c.block_mix.ensures.mixed;
+      x = λ (b : List ℕ) (t : IsTable b n table) (e : IsTurned (mixed_times b n) c.args.x.now).
+          let now : List ℕ = looked_up n b round in
+          let is : IsTurned now x = inv.x b t e in
+          let there : IsTurned (mixed_times b (integerify now % n)) (part 256 table place) =
+          table_at n b table now place t c.requires.some (c.place_of-at.ensures.place now is) in
+          let xored = xor_turned now (mixed_times b (integerify now % n)) x (part 256 table place) is there (omega arith) part_len in
+          looked_up_more n b c.block_mix.new.to round
+          (c.block_mix.ensures.mixed (xor_words now (mixed_times b (integerify now % n)))
+          (subst (IsTurned (xor_words now (mixed_times b (integerify now % n)))) (sym mixed) xored));
       counted = omega arith;
     }

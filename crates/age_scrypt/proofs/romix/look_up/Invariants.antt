@@ -1,10 +1,11 @@
 use Rattle.std.proofs.Common.{◌≡◌, ◌+◌, ℕ, List}
 use Rattle.age_scrypt.specs.Romix.{mixed_times, looked_up}
 use Rattle.age_scrypt.specs.Table.{IsTable}
+use Rattle.age_scrypt.specs.Turned.{IsTurned}
 use Rattle.age_scrypt.proofs.romix.look_up.Given as goal
 
 abbrev pub invariant-loop-round : goal.invariant-loop-round
 invariant-loop-round l = record {
-  x : (b : List ℕ) → IsTable b l.n l.table → l.initial.x ≡ mixed_times b l.n → l.x ≡ looked_up l.n b l._round;
+  x : (b : List ℕ) → IsTable b l.n l.table → IsTurned (mixed_times b l.n) l.initial.x → IsTurned (looked_up l.n b l._round) l.x;
   counted : l.steps ≡ l.initial.steps + l._round;
 }

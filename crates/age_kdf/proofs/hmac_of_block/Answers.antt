@@ -4,7 +4,7 @@ use Rattle.std.proofs.lemmas.List.{take_more, take_all, map-append, append-nil, 
 use Rattle.std.proofs.lemmas.List.Folds.{concat-append}
 use Rattle.sha2.specs.Sha256.{sha256}
 use Rattle.age_kdf.specs.Hmac.{hmac, xor_pad}
-use Rattle.age_kdf.proofs.hmac.Goals as goal
+use Rattle.age_kdf.proofs.hmac_of_block.Goals as goal
 
 pub loop-part-preserved : goal.loop-part-preserved
 loop-part-preserved c =
@@ -13,12 +13,12 @@ loop-part-preserved c =
 
 pub returns : goal.returns
 unfolding hmac
-returns c =
+returns c key e =
     let m : List ℕ = concat (map (λ part. part.now) c.args.parts.now) in
-    let inner : c.finalize.result ≡ sha256 (xor_pad 0x36 c.key_block-block.result ++ m) =
+    let inner : c.finalize.result ≡ sha256 (xor_pad 0x36 c.args.block.now ++ m) =
     c.finalize.ensures _ (rw (take_all c.loop-part.part-index c.args.parts.now c.loop-part-test.false) at c.loop-part.invariant) in
     let outer = c.finalize-2.ensures _ (c.update-3.ensures _ (c.update-2.ensures [] c.new-outer.ensures)) in
     outer
     ∙ ap sha256 (ap₂ ◌++◌
-    (c.as_slice-2.ensures ∙ c.xor_pad-2.ensures ∙ ap (xor_pad 0x5c) c.key_block-block.ensures)
-    (c.as_slice-3.ensures ∙ inner ∙ ap (λ b. sha256 (xor_pad 0x36 b ++ m)) c.key_block-block.ensures))
+    (c.as_slice-2.ensures ∙ c.xor_pad-2.ensures ∙ ap (xor_pad 0x5c) e)
+    (c.as_slice-3.ensures ∙ inner ∙ ap (λ b. sha256 (xor_pad 0x36 b ++ m)) e))
