@@ -7,3 +7,5 @@ pub mod EncryptionSteps
 pub mod OpenerLemmas
 pub mod ResumptionSteps
 pub mod Telling
+pub mod StopSteps
+pub mod EventSteps

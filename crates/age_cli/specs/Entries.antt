@@ -2,6 +2,7 @@
 use Rattle.std.specs.Prelude.{ℕ, ◌-◌, ◌^◌, Bool, false, List, [], Option, None, find, option_map}
 use Rattle.std.specs.Str.{bytes_eq}
 use Rattle.age_file.specs.Memory.{Holding}
+use Rattle.age_cli.specs.Events.{Event}
 use Rattle.age_cli.specs.declared.mem_entry.MemEntry.{MemEntry}
 
 abbrev pub has_name : List ℕ → MemEntry → Bool
@@ -11,11 +12,12 @@ has_name q e = bytes_eq e.name q
 abbrev pub entry_of : List MemEntry → List ℕ → Option (List ℕ)
 entry_of es q = option_map (λ e. e.bytes) (find (has_name q) es)
 
--- the files, the names that can't be written, and how many bytes a file that is written can hold
+-- the files, the names that can't be written, and how many bytes a file that is written can hold, and what was done
 pub record Shelf : Type 0 where
   pub entries : List MemEntry
   pub refused : List (List ℕ)
   pub room : ℕ
+  pub events : List Event
 
 -- the sink of a new file that holds at most so many bytes
 abbrev pub empty_with : ℕ → Holding

@@ -1,4 +1,6 @@
 pub mod Entries
+pub mod Events
+pub mod Orders
 pub mod FileSet
 pub mod Commands
 pub mod Asked
@@ -13,5 +15,6 @@ pub mod Openers
 pub mod OpenerSteps
 pub mod Encryptions
 pub mod Decryptions
+pub mod Stops
 pub mod Resumptions
 pub mod Randoms

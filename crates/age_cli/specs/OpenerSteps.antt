@@ -1,9 +1,10 @@
 -- From the options to what opens a file, step by step. What only private code cites.
-use Rattle.std.specs.Prelude.{◌≡◌, ℕ, Some, None}
+use Rattle.std.specs.Prelude.{◌≡◌, ℕ, List, [], ◌∷◌, Some, None}
 use Rattle.clap.specs.Words.{Text}
 use Rattle.age_keys.specs.Keys.{SpellsKey}
 use Rattle.age_keys.specs.Passphrase.{IsAllowed}
 use Rattle.age_cli.specs.Held.{Held}
+use Rattle.age_cli.specs.Events.{Event, Opened}
 use Rattle.age_cli.specs.Requests.{text_of}
 use Rattle.age_cli.specs.Openers.{Opener, ByWords, ByKey, ByShared, without_line_feed, IsSharedIn}
 use Rattle.age_cli.specs.declared.request.Unlocking.{Unlocking}
@@ -30,6 +31,12 @@ IsMaterial old (chosen.Pass name) (material.Pass bytes) = old name.now ≡ Some 
 IsMaterial old (chosen.Key key) (material.Key known) = known ≡ key
 IsMaterial old (chosen.Shared name) (material.Shared shared) = IsSharedIn (old name.now) shared
 IsMaterial old other m = ⊥
+
+-- the files that are opened for it
+abbrev pub chosen_order : Chosen → List Event
+chosen_order (chosen.Pass name) = Opened name.now ∷ []
+chosen_order (chosen.Key key) = []
+chosen_order (chosen.Shared name) = Opened name.now ∷ []
 
 abbrev pub opener_of : Unlocker → Opener
 opener_of (unlocker.Pass words) = ByWords words

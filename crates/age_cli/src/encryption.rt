@@ -1,7 +1,8 @@
 //! The command that encrypts a file.
 
-ghost use Rattle.std.specs.Prelude.{◌≡◌, ◌++◌, ℕ, List, Some, true, IfOk, IfErr, IfSome, OnOk};
+ghost use Rattle.std.specs.Prelude.{◌≡◌, [], ◌∷◌, ◌++◌, ℕ, List, Some, true, IfOk, IfErr, IfSome, OnOk};
 ghost use Rattle.age_cli.specs.Requests.{text_of};
+ghost use Rattle.age_cli.specs.Events.{Follows, Opened, making, encrypting_order};
 ghost use Rattle.age_cli.specs.Encryptions.{random_name, EncryptsOut, EncryptsFile};
 ghost use Rattle.age_cli.specs.Randoms.{IsRandom};
 ghost use Rattle.age_cli.specs.Endings.{is_usage};
@@ -47,6 +48,7 @@ fn read_random<F: FileSet>(alloc: Global, files: &mut F, name: &str) -> Result<R
     ensures read { IfOk result (λ r. F.tells files.old ≡ true
         → (bytes : List ℕ) × (rest : List ℕ) × (F.entry files.old name.now ≡ Some (bytes ++ rest))
         × IsRandom bytes r) }
+    ensures noted { F.events files.new ≡ F.events files.old ++ Opened name.now ∷ [] }
 {
     let mut source = files.open(alloc, name)?;
     let bytes = read_front(alloc, &mut source, 48)?;
@@ -68,6 +70,9 @@ fn write_out<F: FileSet>(
         → EncryptsOut secret.now (F.In.remaining source.old) (F.entry files.new to.now)) }
     ensures others { F.tells files.old ≡ true
         → SparesBut to.now (F.entry files.old) (F.entry files.new) }
+    ensures noted { Follows (making (Some to.now)) (F.events files.old) (F.events files.new) }
+    ensures noted_done { OnOk result
+        (F.events files.new ≡ F.events files.old ++ making (Some to.now)) }
 {
     let mut out = files.create(alloc, to)?;
     let encrypted = encrypt(alloc, secret, source, &mut out);
@@ -98,6 +103,16 @@ pub(crate) fn encrypt_file<F: FileSet>(
     ensures usage { IfErr result (λ e. is_usage e ≡ true → F.entry files.new ≡ F.entry files.old) }
     ensures spares { F.tells files.old ≡ true
         → SparesBut asked.now.to.now (F.entry files.old) (F.entry files.new) }
+    ensures order { Follows
+        (encrypting_order asked.now.pass.now (random_name (text_of asked.now.random))
+        asked.now.from.now asked.now.to.now)
+        (F.events files.old) (F.events files.new) }
+    ensures order_done { OnOk result (F.events files.new ≡ F.events files.old
+        ++ encrypting_order asked.now.pass.now (random_name (text_of asked.now.random))
+        asked.now.from.now asked.now.to.now) }
+    ensures order_usage { IfErr result (λ e. is_usage e ≡ true → Follows
+        (Opened asked.now.pass.now ∷ Opened (random_name (text_of asked.now.random)) ∷ [])
+        (F.events files.old) (F.events files.new)) }
 {
     if files.is_same(asked.from, asked.to) {
         return Err(Ending::Usage(Usage::SameFile));

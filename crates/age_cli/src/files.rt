@@ -1,7 +1,8 @@
 //! Files by their names.
 
-ghost use Rattle.std.specs.Prelude.{◌≡◌, ◌≢◌, ℕ, Bool, true, List, [], Option, Some, IfOk, IfErr, IsOkUnless, OnOk, OnErr, is_some};
+ghost use Rattle.std.specs.Prelude.{◌≡◌, ◌≢◌, ℕ, Bool, true, List, [], ◌∷◌, ◌++◌, Option, Some, IfOk, IfErr, IsOkUnless, OnOk, OnErr, is_some};
 ghost use Rattle.age_cli.specs.FileSet.{IsMemoryOr};
+ghost use Rattle.age_cli.specs.Events.{Event, Opened, Created, Closed};
 
 use age_file::{FileFault, Sink, Source};
 use std::alloc::Global;
@@ -20,6 +21,9 @@ pub trait FileSet {
     // The bytes of the entry of a name, where there is one.
     ghost entry: { Self → List ℕ → Option (List ℕ) };
 
+    // What was opened, made and closed, in order, also where the entries aren't told, and whether it succeeded or not.
+    ghost events: { Self → List Event };
+
     /// Whether two names stand for one file. Equal names do, and of files that are told no others.
     fn is_same(&self, one: &str, other: &str) -> bool
         ensures equal { one.now ≡ other.now → result ≡ true }
@@ -29,6 +33,7 @@ pub trait FileSet {
     fn open(&mut self, alloc: Global, name: &str) -> Result<Self::In, FileFault>
         ensures told { tells self.new ≡ tells self.old }
         ensures kept { entry self.new ≡ entry self.old }
+        ensures noted { events self.new ≡ events self.old ++ Opened name.now ∷ [] }
         ensures found { IfOk result (λ s. tells self.old ≡ true
             → (is_some (entry self.old name.now) ≡ true)
             × (Self.In.remaining s ≡ entry self.old name.now)) }
@@ -42,6 +47,7 @@ pub trait FileSet {
             × (Self.Out.label o ≡ name.now)) }
         ensures others { (q : List ℕ) → q ≢ name.now → entry self.new q ≡ entry self.old q }
         ensures err { OnErr result (entry self.new ≡ entry self.old) }
+        ensures noted { events self.new ≡ events self.old ++ Created name.now ∷ [] }
         ensures faults { IfErr result (IsMemoryOr FileFault.Write) };
 
     /// Ends a file that was created, with the bytes that its sink took. Refuses with `Write` (27).
@@ -51,5 +57,7 @@ pub trait FileSet {
             → entry self.new (Self.Out.label out) ≡ Self.Out.taken out) }
         ensures others { (q : List ℕ) → q ≢ Self.Out.label out
             → entry self.new q ≡ entry self.old q }
+        ensures err { OnErr result (entry self.new ≡ entry self.old) }
+        ensures noted { events self.new ≡ events self.old ++ Closed ∷ [] }
         ensures faults { IsOkUnless result FileFault.Write };
 }

@@ -4,6 +4,7 @@ ghost use Rattle.std.specs.Prelude.{false, None};
 ghost use Rattle.age_cli.specs.FileSet.{IsMemoryOr};
 
 use crate::files::FileSet;
+use crate::log::Log;
 use crate::print::flush;
 use age_file::{FileFault, Reading, Writing};
 use std::alloc::Global;
@@ -12,16 +13,20 @@ use std::io;
 use std::os::unix::fs::MetadataExt;
 use std::rt::Files;
 
-/// The machine's files, of which nothing is told.
+/// The machine's files, of which nothing is told but what was done with them.
 #[derive(Drop)]
 pub struct HostFiles<'r, R: Files> {
     rt: &'r R,
+    log: Log,
 }
 
 impl<'r, R: Files> HostFiles<'r, R> {
     /// The files that this runtime reaches.
     pub fn new(rt: &'r R) -> HostFiles<'r, R> {
-        HostFiles { rt }
+        HostFiles {
+            rt,
+            log: Log::new(),
+        }
     }
 }
 
@@ -53,12 +58,15 @@ impl<'r, R: Files> FileSet for HostFiles<'r, R> {
 
     ghost entry = { λ _ _. None };
 
+    ghost events = { λ f. f.log };
+
     /// Two paths of one regular file are the same too, so that no link destroys what is read.
     fn is_same(&self, one: &str, other: &str) -> bool {
         one == other || lead_to_one(self.rt, one, other)
     }
 
     fn open(&mut self, _alloc: Global, name: &str) -> Result<Reading<R::File>, FileFault> {
+        self.log.opened(name);
         match File::open(self.rt, name) {
             Ok(file) => Ok(Reading::new(file)),
             Err(error) => Err(fault_of(error, FileFault::Read)),
@@ -66,6 +74,7 @@ impl<'r, R: Files> FileSet for HostFiles<'r, R> {
     }
 
     fn create(&mut self, _alloc: Global, name: &str) -> Result<Writing<R::File>, FileFault> {
+        self.log.created(name);
         match File::create(self.rt, name) {
             Ok(file) => Ok(Writing::new(file)),
             Err(error) => Err(fault_of(error, FileFault::Write)),
@@ -74,6 +83,7 @@ impl<'r, R: Files> FileSet for HostFiles<'r, R> {
 
     // The machine's close tells no failure, so the last one that can be told is that of a flush.
     fn close(&mut self, mut out: Writing<R::File>) -> Result<(), FileFault> {
+        self.log.closed();
         flush(&mut out)
     }
 }

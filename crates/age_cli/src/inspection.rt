@@ -1,6 +1,7 @@
 //! The command that reports what a file holds.
 
-ghost use Rattle.std.specs.Prelude.{◌≡◌, true, OnOk};
+ghost use Rattle.std.specs.Prelude.{◌≡◌, [], ◌∷◌, ◌++◌, true, OnOk};
+ghost use Rattle.age_cli.specs.Events.{Opened};
 ghost use Rattle.age_cli.specs.Runs.{Reports, ReportsFile};
 
 use crate::ending::Ending;
@@ -33,6 +34,7 @@ pub(crate) fn report_file<F: FileSet, O: Sink>(
     output: &mut O,
 ) -> Result<(), Ending>
     ensures kept { F.entry files.new ≡ F.entry files.old }
+    ensures noted { F.events files.new ≡ F.events files.old ++ Opened name.now ∷ [] }
     ensures done { OnOk result (ReportsFile (F.tells files.old) (F.entry files.old name.now)
         (O.taken output.old) (O.taken output.new)) }
 {

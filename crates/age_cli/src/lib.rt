@@ -15,6 +15,7 @@ mod front;
 mod help;
 mod host_files;
 mod inspection;
+mod log;
 mod mem_entry;
 mod mem_files;
 mod opener;
@@ -29,5 +30,6 @@ mod tell;
 
 pub use files::FileSet;
 pub use host_files::HostFiles;
+pub use log::Log;
 pub use mem_files::{MemFiles, MemOut};
 pub use program::run;

@@ -5,8 +5,10 @@ ghost use Rattle.std.specs.Io.KnownBytes.{WriteAppends, Keeps};
 ghost use Rattle.age_file.specs.Memory.{one_more, Puts, Flushes};
 ghost use Rattle.age_cli.specs.Entries.{entry_of, empty_with};
 ghost use Rattle.age_cli.specs.FileSet.{IsMemoryOr};
+ghost use Rattle.age_cli.specs.Events.{Opened, Created, Closed};
 
 use crate::files::FileSet;
+use crate::log::Log;
 use crate::mem_entry::{MemEntry, Name, bytes_of, put_entry};
 use age_file::{Failed, FileFault, MemSink, MemSource, Memory, Sink};
 use age_stanza::Bytes;
@@ -20,6 +22,7 @@ pub struct MemFiles {
     entries: Vec<MemEntry>,
     refused: Vec<Name>,
     room: usize,
+    log: Log,
 }
 
 impl Model for MemFiles {
@@ -27,8 +30,12 @@ impl Model for MemFiles {
 
     ghost Value = { Shelf };
 
-    ghost view = { λ f. record
-        { entries = f.entries.items; refused = f.refused.items; room = f.room } };
+    ghost view = { λ f. record {
+      entries = f.entries.items;
+      refused = f.refused.items;
+      room = f.room;
+      events = f.log;
+    } };
 }
 
 /// A file over memory that is written. A contract sees its name and its sink.
@@ -86,12 +93,13 @@ impl Sink for MemOut {
 impl MemFiles {
     /// No files. A file that is written can hold `room` bytes.
     pub fn new(alloc: Global, room: usize) -> MemFiles
-        ensures { result ≡ record { entries = []; refused = []; room = room } }
+        ensures { result ≡ record { entries = []; refused = []; room = room; events = [] } }
     {
         MemFiles {
             entries: Vec::new(alloc),
             refused: Vec::new(alloc),
             room,
+            log: Log::new(),
         }
     }
 
@@ -159,18 +167,21 @@ impl FileSet for MemFiles {
 
     ghost entry = { λ f. entry_of f.entries };
 
+    ghost events = { λ f. f.events };
+
     fn is_same(&self, one: &str, other: &str) -> bool {
         one == other
     }
 
     /// Opens a copy of a file's bytes. Refuses with `Read` (26) exactly where no file has the name.
     fn open(&mut self, alloc: Global, name: &str) -> Result<MemSource, FileFault>
-        ensures kept { self.new ≡ self.old }
+        ensures kept { self.new ≡ record self.old { events = self.old.events ++ Opened name.now ∷ [] } }
         ensures found { IfOk result (λ s. entry_of self.old.entries name.now ≡ Some s.left) }
         ensures missing { IsErrOf result FileFault.Read
             ↔ (entry_of self.old.entries name.now ≡ None) }
         ensures faults { IfErr result (IsMemoryOr FileFault.Read) }
     {
+        self.log.opened(name);
         match bytes_of(self.entries.as_slice(), name) {
             Some(bytes) => source_of(alloc, bytes),
             None => Err(FileFault::Read),
@@ -187,9 +198,12 @@ impl FileSet for MemFiles {
             → entry_of self.new.entries q ≡ entry_of self.old.entries q }
         ensures refused { IsErrOf result FileFault.Write ↔ Contains self.old.refused name.now }
         ensures kept { (self.new.refused ≡ self.old.refused) × (self.new.room ≡ self.old.room) }
-        ensures err { OnErr result (self.new ≡ self.old) }
+        ensures err { OnErr result
+            (self.new ≡ record self.old { events = self.old.events ++ Created name.now ∷ [] }) }
+        ensures noted { self.new.events ≡ self.old.events ++ Created name.now ∷ [] }
         ensures faults { IfErr result (IsMemoryOr FileFault.Write) }
     {
+        self.log.created(name);
         if is_refused(self.refused.as_slice(), name) {
             return Err(FileFault::Write);
         }
@@ -206,9 +220,12 @@ impl FileSet for MemFiles {
         ensures others { (q : List ℕ) → q ≢ out.0
             → entry_of self.new.entries q ≡ entry_of self.old.entries q }
         ensures there { is_some (entry_of self.old.entries out.0) ≡ true → IsOk result }
+        ensures err { OnErr result (self.new.entries ≡ self.old.entries) }
         ensures faults { IsOkUnless result FileFault.Write }
         ensures kept { (self.new.refused ≡ self.old.refused) × (self.new.room ≡ self.old.room) }
+        ensures noted { self.new.events ≡ self.old.events ++ Closed ∷ [] }
     {
+        self.log.closed();
         let MemOut { name, sink } = out;
         match put_entry(&mut self.entries, name, Bytes::from_vec(sink.into_bytes())) {
             Ok(()) => Ok(()),

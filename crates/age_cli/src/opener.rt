@@ -1,8 +1,9 @@
 //! What opens a file, as the options and the files make it.
 
-ghost use Rattle.std.specs.Prelude.{◌≡◌, true, IfOk, IfSome, Some};
+ghost use Rattle.std.specs.Prelude.{◌≡◌, [], ◌∷◌, ◌++◌, true, IfOk, IfSome, Some};
 ghost use Rattle.age_cli.specs.Openers.{without_line_feed, IsSharedIn};
-ghost use Rattle.age_cli.specs.OpenerSteps.{IsChosen, IsMaterial, IsMade, opener_of};
+ghost use Rattle.age_cli.specs.Events.{Opened};
+ghost use Rattle.age_cli.specs.OpenerSteps.{IsChosen, IsMaterial, IsMade, chosen_order, opener_of};
 
 use crate::ending::{Ending, Usage};
 use crate::files::FileSet;
@@ -70,6 +71,7 @@ pub(crate) fn read_pass<F: FileSet>(
 ) -> Result<Vec<u8>, Ending>
     ensures told { F.tells files.new ≡ F.tells files.old }
     ensures kept { F.entry files.new ≡ F.entry files.old }
+    ensures noted { F.events files.new ≡ F.events files.old ++ Opened name.now ∷ [] }
     ensures read { IfOk result
         (λ v. F.tells files.old ≡ true → F.entry files.old name.now ≡ Some v.items) }
 {
@@ -96,6 +98,7 @@ fn shared_of(bytes: &[u8]) -> Option<SharedSecret>
 fn read_shared<F: FileSet>(alloc: Global, files: &mut F, name: &str) -> Result<SharedSecret, Ending>
     ensures told { F.tells files.new ≡ F.tells files.old }
     ensures kept { F.entry files.new ≡ F.entry files.old }
+    ensures noted { F.events files.new ≡ F.events files.old ++ Opened name.now ∷ [] }
     ensures read { IfOk result
         (λ s. F.tells files.old ≡ true → IsSharedIn (F.entry files.old name.now) s) }
 {
@@ -117,6 +120,7 @@ pub(crate) fn read_material<F: FileSet>(
 ) -> Result<Material, Ending>
     ensures told { F.tells files.new ≡ F.tells files.old }
     ensures kept { F.entry files.new ≡ F.entry files.old }
+    ensures noted { F.events files.new ≡ F.events files.old ++ chosen_order chosen.entry }
     ensures read { IfOk result
         (λ m. F.tells files.old ≡ true → IsMaterial (F.entry files.old) chosen.entry m) }
 {

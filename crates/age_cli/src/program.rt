@@ -1,14 +1,17 @@
 //! The program, over words, files, a source and sinks.
 
-ghost use Rattle.std.specs.Prelude.{◌≡◌, ◌≤◌, List, [], true, OnOk, IfErr, IsOk, codes};
+ghost use Rattle.std.specs.Prelude.{◌≡◌, ◌≤◌, List, [], ◌++◌, true, OnOk, IfErr, IsOk, codes};
 ghost use Rattle.clap.specs.Words.{Row, Text, first_of, kind_of};
 ghost use Rattle.clap.specs.Walk.{texts};
-ghost use Rattle.clap.specs.declared.error.ErrorKind.TheVariants.{OutOfMemory};
-ghost use Rattle.age_cli.specs.Asked.{Asks, refusals};
+ghost use Rattle.clap.specs.declared.error.kind.ErrorKind.TheVariants.{DisplayHelp};
+ghost use Rattle.age_cli.specs.Asked.{Asks, IsServed, refusals};
 ghost use Rattle.age_cli.specs.Encryptions.{EncryptsRows};
 ghost use Rattle.age_cli.specs.Decryptions.{DecryptsRows};
 ghost use Rattle.age_cli.specs.Resumptions.{ResumesRows};
 ghost use Rattle.age_cli.specs.Endings.{is_usage};
+ghost use Rattle.age_cli.specs.Stops.{StopsRows, StopsTold};
+ghost use Rattle.age_cli.specs.Events.{Follows};
+ghost use Rattle.age_cli.specs.Orders.{encrypt_order, decrypt_order, decrypt_whole, opener_rows};
 ghost use Rattle.age_cli.specs.FaultLines.{TellsFault};
 ghost use Rattle.age_cli.specs.Held.{Spares};
 ghost use Rattle.age_cli.specs.Runs.{Reports, Inspects};
@@ -31,7 +34,7 @@ use std::alloc::Global;
 
 /// Help that was asked for goes to the output; other words are refused.
 fn answer_refusal<O: Sink>(alloc: Global, error: Error, output: &mut O) -> Result<(), Ending>
-    ensures help { IsOk result → kind_of error ≡ OutOfMemory → ⊥ }
+    ensures help { IsOk result → kind_of error ≡ DisplayHelp }
 {
     if error.kind() == ErrorKind::OutOfMemory {
         return Err(Ending::Fault(FileFault::Memory));
@@ -39,7 +42,7 @@ fn answer_refusal<O: Sink>(alloc: Global, error: Error, output: &mut O) -> Resul
     let Ok(text) = error.to_string(alloc) else {
         return Err(Ending::Fault(FileFault::Memory));
     };
-    if error.use_stderr() {
+    if error.kind() != ErrorKind::DisplayHelp {
         return Err(Ending::Words(text));
     }
     put_bytes(output, text.as_bytes())?;
@@ -55,6 +58,7 @@ fn obey<F: FileSet, I: Source, O: Sink>(
     input: &mut I,
     output: &mut O,
 ) -> Result<(), Ending>
+    ensures served { OnOk result (IsServed (texts words.now)) }
     ensures report { words.now ≡ []
         → OnOk result (Reports (I.remaining input.old) (I.remaining input.new) (O.taken output.old)
         (O.taken output.new)) }
@@ -77,6 +81,22 @@ fn obey<F: FileSet, I: Source, O: Sink>(
     ensures usage { IfErr result (λ e. is_usage e ≡ true → F.entry files.new ≡ F.entry files.old) }
     ensures refused { (refusals (texts words.now) ≡ [] → ⊥)
         → F.entry files.new ≡ F.entry files.old }
+    ensures decrypts_stop { (rows : List Row) → Asks (texts words.now) (codes "decrypt") rows
+        → IfErr result (λ e. F.tells files.old ≡ true
+        → StopsRows rows (F.entry files.old) (F.entry files.new) e) }
+    ensures untouched { (refusals (texts words.now) ≡ [] → ⊥)
+        → F.events files.new ≡ F.events files.old }
+    ensures decrypts_order { (rows : List Row) → Asks (texts words.now) (codes "decrypt") rows
+        → Follows (decrypt_whole rows) (F.events files.old) (F.events files.new) }
+    ensures decrypts_done { (rows : List Row) → Asks (texts words.now) (codes "decrypt") rows
+        → OnOk result (F.events files.new ≡ F.events files.old ++ decrypt_order rows) }
+    ensures decrypts_usage { (rows : List Row) → Asks (texts words.now) (codes "decrypt") rows
+        → IfErr result (λ e. is_usage e ≡ true
+        → Follows (opener_rows rows) (F.events files.old) (F.events files.new)) }
+    ensures encrypts_order { (rows : List Row) → Asks (texts words.now) (codes "encrypt") rows
+        → Follows (encrypt_order rows) (F.events files.old) (F.events files.new) }
+    ensures encrypts_done { (rows : List Row) → Asks (texts words.now) (codes "encrypt") rows
+        → OnOk result (F.events files.new ≡ F.events files.old ++ encrypt_order rows) }
 {
     if words.is_empty() {
         report(alloc, input, output)?;
@@ -119,6 +139,8 @@ pub fn run<F: FileSet, I: Source, O: Sink, E: Sink>(
     ensures told { result ≡ 1
         → TellsFault (E.taken faults.old) (E.taken faults.new) (E.failed faults.old)
         (E.failed faults.new) }
+    // 0 comes only without words, for a command, and where help is asked for; never of words that are refused.
+    ensures served { result ≡ 0 → IsServed (texts words.now) }
     // 0 means that the input was read to its end, and that its report and nothing else was written.
     ensures report { words.now ≡ [] → result ≡ 0
         → Reports (I.remaining input.old) (I.remaining input.new) (O.taken output.old)
@@ -145,6 +167,27 @@ pub fn run<F: FileSet, I: Source, O: Sink, E: Sink>(
     ensures usage { result ≡ 2 → F.entry files.new ≡ F.entry files.old }
     ensures refused { (refusals (texts words.now) ≡ [] → ⊥)
         → F.entry files.new ≡ F.entry files.old }
+    // 1 means that nothing differs, or that OUT holds what the engine promises for a stop, the file of --save its
+    // position, and that the line which is told is that stop's.
+    ensures decrypts_stop { (rows : List Row) → Asks (texts words.now) (codes "decrypt") rows
+        → result ≡ 1 → F.tells files.old ≡ true
+        → StopsTold rows (F.entry files.old) (F.entry files.new) (E.taken faults.old)
+        (E.taken faults.new) (E.failed faults.old) (E.failed faults.new) }
+    // What is opened and made, also of the machine's files: a front of the order of the command; with 0 that order; with 2
+    // only what opens the input; and nothing of a command line that is refused.
+    ensures untouched { (refusals (texts words.now) ≡ [] → ⊥)
+        → F.events files.new ≡ F.events files.old }
+    ensures decrypts_order { (rows : List Row) → Asks (texts words.now) (codes "decrypt") rows
+        → Follows (decrypt_whole rows) (F.events files.old) (F.events files.new) }
+    ensures decrypts_done { (rows : List Row) → Asks (texts words.now) (codes "decrypt") rows
+        → result ≡ 0 → F.events files.new ≡ F.events files.old ++ decrypt_order rows }
+    ensures decrypts_usage { (rows : List Row) → Asks (texts words.now) (codes "decrypt") rows
+        → result ≡ 2
+        → Follows (opener_rows rows) (F.events files.old) (F.events files.new) }
+    ensures encrypts_order { (rows : List Row) → Asks (texts words.now) (codes "encrypt") rows
+        → Follows (encrypt_order rows) (F.events files.old) (F.events files.new) }
+    ensures encrypts_done { (rows : List Row) → Asks (texts words.now) (codes "encrypt") rows
+        → result ≡ 0 → F.events files.new ≡ F.events files.old ++ encrypt_order rows }
 {
     match obey(alloc, words, files, input, output) {
         Ok(()) => 0,

@@ -1,14 +1,13 @@
 //! Reads what the words ask for.
 
 ghost use Rattle.std.specs.Prelude.{◌≡◌, ◌≤◌, [], true, false, Some, None, IfOk, IfErr, IfSome, codes};
-ghost use Rattle.clap.specs.Words.{subcommand_rows_of, rows_of, found_of, one_of, first_of, kind_of};
+ghost use Rattle.clap.specs.Words.{subcommand_rows_of, rows_of, found_of, one_of, first_of, FailsBy};
 ghost use Rattle.clap.specs.Walk.{texts};
 ghost use Rattle.age_cli.specs.Asked.{refusals};
 ghost use Rattle.age_cli.specs.Requests.{number_or, text_of, IsEncrypting, IsUnlocking, IsDecrypting, IsResuming, IsDrilling, IsRequest, Requests};
 
 use crate::commands::matches_of;
 use crate::request::{Decrypting, Drilling, Encrypting, Request, Resuming, Unlocking};
-use clap::error::ErrorKind;
 use clap::{ArgMatches, Error};
 use std::alloc::Global;
 
@@ -129,8 +128,7 @@ pub(crate) fn read_request<'a>(
     words: &'a [&'a str],
 ) -> Result<Option<Request<'a>>, Error>
     ensures asked { IfOk result (λ o. IfSome o (Requests (texts words.now))) }
-    ensures refused { IfErr result
-        (λ e. refusals (texts words.now) ≡ [] → kind_of e ≡ ErrorKind.OutOfMemory) }
+    ensures refusals { FailsBy (refusals (texts words.now)) result }
 {
     let matches = matches_of(alloc, words)?;
     match command_of(&matches) {

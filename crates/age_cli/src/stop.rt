@@ -1,13 +1,15 @@
 //! How a command that writes a text stops, and where its position goes.
 
-ghost use Rattle.std.specs.Prelude.{◌≡◌, true, false, None, OnOk};
+ghost use Rattle.std.specs.Prelude.{◌≡◌, true, false, None, OnOk, OnErr};
 ghost use Rattle.age_cli.specs.Requests.{text_of};
 ghost use Rattle.age_cli.specs.Endings.{is_usage};
+ghost use Rattle.age_cli.specs.Stops.{SaveFails, EndsOf};
+ghost use Rattle.age_cli.specs.Events.{Follows, making};
 ghost use Rattle.age_cli.specs.Held.{SparesBoth, Saves};
 
 use crate::ending::Ending;
 use crate::files::FileSet;
-use crate::print::put_bytes;
+use crate::print::put_front;
 use age_file::{FileFault, Position, Stopped};
 use std::alloc::Global;
 
@@ -49,7 +51,12 @@ fn save<F: FileSet>(
 ) -> Result<(), FileFault>
     ensures saved { OnOk result (F.tells files.old ≡ true
         → Saves (text_of name.entry) position (F.entry files.old) (F.entry files.new)) }
+    ensures unsaved { OnErr result (F.tells files.old ≡ true
+        → SaveFails (text_of name.entry) position (F.entry files.old) (F.entry files.new)) }
     ensures alone { position ≡ None → F.entry files.new ≡ F.entry files.old }
+    ensures noted { Follows (making (text_of name.entry)) (F.events files.old)
+        (F.events files.new) }
+    ensures idle { position ≡ None → F.events files.new ≡ F.events files.old }
     ensures others { F.tells files.old ≡ true
         → SparesBoth None (text_of name.entry) (F.entry files.old) (F.entry files.new) }
 {
@@ -58,7 +65,7 @@ fn save<F: FileSet>(
     };
     let text = position.text(alloc)?;
     let mut out = files.create(alloc, name)?;
-    let put = put_bytes(&mut out, text.as_slice());
+    let put = put_front(&mut out, text.as_slice());
     files.close(out)?;
     put
 }
@@ -71,7 +78,13 @@ pub(crate) fn end_of<F: FileSet>(
     stop: Stop,
 ) -> Ending
     ensures fault { is_usage result ≡ false }
+    ensures ends { F.tells files.old ≡ true
+        → EndsOf stop.fault (text_of name.entry) stop.position (F.entry files.old)
+        (F.entry files.new) result }
     ensures alone { stop.position ≡ None → F.entry files.new ≡ F.entry files.old }
+    ensures noted { Follows (making (text_of name.entry)) (F.events files.old)
+        (F.events files.new) }
+    ensures idle { stop.position ≡ None → F.events files.new ≡ F.events files.old }
     ensures others { F.tells files.old ≡ true
         → SparesBoth None (text_of name.entry) (F.entry files.old) (F.entry files.new) }
 {
