@@ -1,7 +1,7 @@
 -- The events of a command, in order.
-use Rattle.std.proofs.Common.{◌≡◌, ◌∙◌, ◌++◌, ◌∷◌, [], ◌⊎◌, inl, inr, refl, ap, ap₂, sym, List, Option, Some, None, Result, Ok, Err, IfErr, append_assoc}
+use Rattle.std.proofs.Common.{◌≡◌, ◌∙◌, ◌++◌, ◌∷◌, [], ◌⊎◌, inl, inr, refl, ap, ap₂, sym, List, Option, Some, Result, Ok, Err, IfErr, append_assoc}
 use Rattle.clap.specs.Words.{Text}
-use Rattle.age_cli.specs.Events.{Event, Follows, Opened, Created, Closed, opening, making, opener_order, decrypting_order}
+use Rattle.age_cli.specs.Events.{Event, Follows, Created, Closed, making, opener_order}
 use Rattle.age_cli.specs.OpenerSteps.{IsChosen, chosen_order}
 use Rattle.age_cli.specs.Requests.{text_of}
 use Rattle.age_cli.specs.declared.request.Unlocking.{Unlocking}
@@ -22,39 +22,45 @@ chosen_opens u (chosen.Shared name) h = ap₂ opener_order h.0 h.2
 pub two_events : (old mid new : List Event) (a b : Event) → mid ≡ old ++ a ∷ [] → new ≡ mid ++ b ∷ [] → new ≡ old ++ a ∷ b ∷ []
 two_events old mid new a b m n = n ∙ (ap (λ x. x ++ b ∷ []) m ∙ append_assoc old (a ∷ []) (b ∷ []))
 
-module _ (old material source output end : List Event) (opener : List Event) (from to : Text) (save : Option Text)
-    (m : material ≡ old ++ opener) (s : source ≡ material ++ Opened from ∷ []) where
-  at_source : source ≡ old ++ (opener ++ Opened from ∷ [])
-  at_source = s ∙ (ap (λ x. x ++ Opened from ∷ []) m ∙ append_assoc old opener (Opened from ∷ []))
+-- of three
+pub three_events : (old one two new : List Event) (a b c : Event) → one ≡ old ++ a ∷ [] → two ≡ one ++ b ∷ [] → new ≡ two ++ c ∷ [] → new ≡ old ++ a ∷ b ∷ c ∷ []
+three_events old one two new a b c x y z = z ∙ (ap (λ t. t ++ c ∷ []) (two_events old one two a b x y) ∙ append_assoc old (a ∷ b ∷ []) (c ∷ []))
 
-  at_output : (made : List Event) → output ≡ source ++ made → output ≡ old ++ (opener ++ Opened from ∷ made)
-  at_output made o = o ∙ (ap (λ x. x ++ made) at_source ∙ (append_assoc old (opener ++ Opened from ∷ []) made
-      ∙ ap (λ x. old ++ x) (append_assoc opener (Opened from ∷ []) made)))
+-- what opens the input was read, then these files were opened
+module _ (old material source output end : List Event) (opener reads : List Event) (to : Text) (save : Option Text)
+    (m : material ≡ old ++ opener) (s : source ≡ material ++ reads) where
+  at_source : source ≡ old ++ (opener ++ reads)
+  at_source = s ∙ (ap (λ x. x ++ reads) m ∙ append_assoc old opener reads)
+
+  at_output : (made : List Event) → output ≡ source ++ made → output ≡ old ++ (opener ++ (reads ++ made))
+  at_output made o = o ∙ (ap (λ x. x ++ made) at_source ∙ (append_assoc old (opener ++ reads) made
+      ∙ ap (λ x. old ++ x) (append_assoc opener reads made)))
 
   -- a stop: the output was made and closed, and the position was saved as far as that came; or it wasn't made
   stopped : (output ≡ source ++ Created to ∷ Closed ∷ []) → Follows (making save) output end
-      → Follows ((opener ++ (opening (Some from) ++ making (Some to))) ++ making save) old end
+      → Follows ((opener ++ (reads ++ making (Some to))) ++ making save) old end
   stopped o f = record {
-    done = (opener ++ Opened from ∷ Created to ∷ Closed ∷ []) ++ f.done;
+    done = (opener ++ (reads ++ Created to ∷ Closed ∷ [])) ++ f.done;
     rest = f.rest;
-    did = f.did ∙ (ap (λ x. x ++ f.done) (at_output (Created to ∷ Closed ∷ []) o) ∙ append_assoc old (opener ++ Opened from ∷ Created to ∷ Closed ∷ []) f.done);
-    front = ap (λ x. (opener ++ Opened from ∷ Created to ∷ Closed ∷ []) ++ x) f.front ∙ sym (append_assoc (opener ++ Opened from ∷ Created to ∷ Closed ∷ []) f.done f.rest);
+    did = f.did ∙ (ap (λ x. x ++ f.done) (at_output (Created to ∷ Closed ∷ []) o) ∙ append_assoc old (opener ++ (reads ++ Created to ∷ Closed ∷ [])) f.done);
+    front = ap (λ x. (opener ++ (reads ++ Created to ∷ Closed ∷ [])) ++ x) f.front ∙ sym (append_assoc (opener ++ (reads ++ Created to ∷ Closed ∷ [])) f.done f.rest);
   }
 
   unmade : (output ≡ source ++ Created to ∷ []) → end ≡ output
-      → Follows ((opener ++ (opening (Some from) ++ making (Some to))) ++ making save) old end
+      → Follows ((opener ++ (reads ++ making (Some to))) ++ making save) old end
   unmade o same = record {
-    done = opener ++ Opened from ∷ Created to ∷ [];
+    done = opener ++ (reads ++ Created to ∷ []);
     rest = Closed ∷ making save;
     did = same ∙ at_output (Created to ∷ []) o;
-    front = append_assoc opener (Opened from ∷ Created to ∷ Closed ∷ []) (making save)
-        ∙ sym (append_assoc opener (Opened from ∷ Created to ∷ []) (Closed ∷ making save));
+    front = append_assoc opener (reads ++ Created to ∷ Closed ∷ []) (making save)
+        ∙ (ap (λ x. opener ++ x) (append_assoc reads (Created to ∷ Closed ∷ []) (making save) ∙ sym (append_assoc reads (Created to ∷ []) (Closed ∷ making save)))
+        ∙ sym (append_assoc opener (reads ++ Created to ∷ []) (Closed ∷ making save)));
   }
 
   pub stop_follows : (None_there : Type 0)
       → ((output ≡ source ++ Created to ∷ Closed ∷ []) ⊎ ((output ≡ source ++ Created to ∷ []) × None_there))
       → Follows (making save) output end → (None_there → end ≡ output)
-      → Follows ((opener ++ (opening (Some from) ++ making (Some to))) ++ making save) old end
+      → Follows ((opener ++ (reads ++ making (Some to))) ++ making save) old end
   stop_follows N (inl o) f alone = stopped o f
   stop_follows N (inr o) f alone = unmade o.0 (alone o.1)
 

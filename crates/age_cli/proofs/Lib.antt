@@ -5,7 +5,8 @@ pub mod Literals
 pub mod Cuts
 pub mod EncryptionSteps
 pub mod OpenerLemmas
-pub mod ResumptionSteps
+pub mod RowSteps
 pub mod Telling
 pub mod StopSteps
 pub mod EventSteps
+pub mod OrderSteps

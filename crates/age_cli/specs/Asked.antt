@@ -2,7 +2,7 @@
 use Rattle.std.specs.Prelude.{◌≡◌, ◌⊎◌, List, [], Option, Some}
 use Rattle.clap.specs.Words.{Row, Text, fault_of, subcommand_of}
 use Rattle.clap.specs.Kinds.{Kinds, IsAmong}
-use Rattle.clap.specs.declared.error.kind.ErrorKind.TheVariants.{DisplayHelp}
+use Rattle.clap.specs.declared.error.kind.ErrorKind.TheVariants.{DisplayHelp, DisplayVersion}
 use Rattle.age_cli.specs.Commands.{age_tool}
 
 -- the kinds of refusal of the words, none where they are taken
@@ -18,11 +18,14 @@ pub record Asks (words : List Text) (name : Text) (rows : List Row) : Type 0 whe
   pub taken : refusals words ≡ []
   pub command : named words ≡ Some (name, rows)
 
--- the words are refused as ones that ask for help
+-- the arguments ask for help, or for the version; such a request is one of the kinds of refusal
 abbrev pub AsksHelp : List Text → Type 0
 AsksHelp words = IsAmong DisplayHelp (refusals words)
 
--- what a run may have been asked that ends well: nothing, a command, or help
+abbrev pub AsksVersion : List Text → Type 0
+AsksVersion words = IsAmong DisplayVersion (refusals words)
+
+-- what a run may have been asked that ends well: nothing, help, the version, or a command
 abbrev pub IsServed : List Text → Type 0
-IsServed words = (words ≡ []) ⊎ (AsksHelp words
-    ⊎ ((name : Text) × (rows : List Row) × Asks words name rows))
+IsServed words = (words ≡ []) ⊎ (AsksHelp words ⊎ (AsksVersion words
+    ⊎ ((name : Text) × (rows : List Row) × Asks words name rows)))

@@ -1,5 +1,5 @@
 -- What was done with a set of files.
-use Rattle.std.specs.Prelude.{◌≡◌, ◌⊎◌, ℕ, List, [], ◌∷◌, ◌++◌, refl, Option, Some, None}
+use Rattle.std.specs.Prelude.{◌≡◌, ◌⊎◌, List, [], ◌∷◌, ◌++◌, refl, Option, Some, None}
 use Rattle.std.specs.Coded.{Coded, coded_ℕ, coded_list, coded⊎, code_by}
 use base.Stored.{coded_unit}
 use mathlib.Core.Logic.{inl, inr}
@@ -48,11 +48,3 @@ making None = []
 -- what opens the input, where its file is named: of a passphrase or of a shared secret
 abbrev pub opener_order : Option Text → Option Text → List Event
 opener_order pass shared = opening pass ++ opening shared
-
--- `decrypt`: what opens the input, the input, then the output
-abbrev pub decrypting_order : Option Text → Option Text → Option Text → Option Text → List Event
-decrypting_order pass shared from to = opener_order pass shared ++ (opening from ++ making to)
-
--- `encrypt`: the passphrase, the random bytes, the input, then the output
-abbrev pub encrypting_order : Text → Text → Text → Text → List Event
-encrypting_order pass random from to = Opened pass ∷ Opened random ∷ Opened from ∷ Created to ∷ Closed ∷ []

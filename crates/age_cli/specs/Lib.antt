@@ -1,6 +1,7 @@
 pub mod Entries
 pub mod Events
 pub mod Orders
+pub mod Asking
 pub mod FileSet
 pub mod Commands
 pub mod Asked

@@ -6,7 +6,7 @@ use Rattle.age_keys.specs.Passphrase.{IsAllowed}
 use Rattle.age_cli.specs.Held.{Held}
 use Rattle.age_cli.specs.Events.{Event, Opened}
 use Rattle.age_cli.specs.Requests.{text_of}
-use Rattle.age_cli.specs.Openers.{Opener, ByWords, ByKey, ByShared, without_line_feed, IsSharedIn}
+use Rattle.age_cli.specs.Openers.{Opener, Options, ByWords, ByKey, ByShared, without_line_feed, IsSharedIn}
 use Rattle.age_cli.specs.declared.request.Unlocking.{Unlocking}
 use Rattle.age_cli.specs.declared.opener.Chosen.{Chosen}
 use Rattle.age_cli.specs.declared.opener.Chosen.TheVariants as chosen
@@ -14,6 +14,14 @@ use Rattle.age_cli.specs.declared.opener.Material.{Material}
 use Rattle.age_cli.specs.declared.opener.Material.TheVariants as material
 use Rattle.age_cli.specs.declared.opener.Unlocker.{Unlocker}
 use Rattle.age_cli.specs.declared.opener.Unlocker.TheVariants as unlocker
+
+abbrev pub options_asked : Unlocking → Options
+options_asked u = record {
+  pass = text_of u.pass;
+  file_key = text_of u.file_key;
+  shared = text_of u.shared;
+  max_log = u.max_log;
+}
 
 -- the option is the only one of the three that is given
 abbrev pub IsChosen : Unlocking → Chosen → Type 0

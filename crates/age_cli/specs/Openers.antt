@@ -50,8 +50,21 @@ IsOpener old None (Some digits) None max_log (ByKey known) = SpellsKey digits kn
 IsOpener old None None (Some name) max_log (ByShared shared) = IsSharedIn (old name) shared
 IsOpener old pass file_key shared max_log opener = ⊥
 
--- the same, of what the words give for each argument
-abbrev pub OpensBy : Held → List Row → Opener → Type 0
-OpensBy old rows opener =
-    IsOpener old (first_of (codes "pass") rows) (first_of (codes "file-key") rows)
-    (first_of (codes "shared") rows) (number_or 22 (one_of (codes "max-log") rows)) opener
+-- the options that say what opens a file, as they are given
+pub record Options : Type 0 where
+  pub pass : Option Text
+  pub file_key : Option Text
+  pub shared : Option Text
+  pub max_log : ℕ
+
+abbrev pub options_of : List Row → Options
+options_of rows = record {
+  pass = first_of (codes "pass") rows;
+  file_key = first_of (codes "file-key") rows;
+  shared = first_of (codes "shared") rows;
+  max_log = number_or 22 (one_of (codes "max-log") rows);
+}
+
+-- the options, and the file that they name, make what opens the input
+abbrev pub OpensBy : Held → Options → Opener → Type 0
+OpensBy old o opener = IsOpener old o.pass o.file_key o.shared o.max_log opener

@@ -1,22 +1,62 @@
--- The order in which a command opens and makes the files that the words name.
-use Rattle.std.specs.Prelude.{List, ◌++◌, Some, codes}
-use Rattle.clap.specs.Words.{Row, first_of}
+-- The order in which a command opens and makes the files that the arguments name.
+use Rattle.std.specs.Prelude.{List, [], ◌++◌, Option, Some, codes, if◌then◌else◌}
+use Rattle.std.specs.Str.{bytes_eq}
+use Rattle.clap.specs.Words.{Row, Text, first_of}
 use Rattle.age_cli.specs.Encryptions.{random_name}
-use Rattle.age_cli.specs.Events.{Event, opening, making, opener_order, decrypting_order}
+use Rattle.age_cli.specs.Events.{Event, opening, making, opener_order}
 
--- `decrypt`: what opens the input, the input, the output
-abbrev pub decrypt_order : List Row → List Event
-decrypt_order rows = decrypting_order (first_of (codes "pass") rows) (first_of (codes "shared") rows) (first_of (codes "IN") rows) (first_of (codes "OUT") rows)
+-- what a command opens and makes: up to where its arguments may still be refused; where it ends well; and with all that a
+-- stop may add
+pub record Order : Type 0 where
+  pub judged : List Event
+  pub done : List Event
+  pub whole : List Event
 
--- and where it stops the position
-abbrev pub decrypt_whole : List Row → List Event
-decrypt_whole rows = decrypt_order rows ++ making (first_of (codes "save") rows)
+-- the file, where one is named
+abbrev pub inspecting_order : Option Text → Order
+inspecting_order file = record { judged = []; done = opening file; whole = opening file }
 
--- before the input
-abbrev pub opener_rows : List Row → List Event
-opener_rows rows = opener_order (first_of (codes "pass") rows) (first_of (codes "shared") rows)
+-- the passphrase, the random bytes, the input, the output
+abbrev pub encrypting_order : Option Text → Option Text → Option Text → Option Text → Order
+encrypting_order pass random from to =
+    let judged = opening pass ++ opening (Some (random_name random)) in
+    let done = judged ++ (opening from ++ making to) in
+    record { judged = judged; done = done; whole = done }
 
--- `encrypt`: the passphrase, the random bytes, the input, the output
-abbrev pub encrypt_order : List Row → List Event
-encrypt_order rows = opening (first_of (codes "pass") rows) ++ (opening (Some (random_name (first_of (codes "random") rows)))
-    ++ (opening (first_of (codes "IN") rows) ++ making (first_of (codes "OUT") rows)))
+-- what opens the input, the input, the output; where it stops the position
+abbrev pub decrypting_order : Option Text → Option Text → Option Text → Option Text → Option Text
+    → Order
+decrypting_order pass shared from to save =
+    let judged = opener_order pass shared in
+    let done = judged ++ (opening from ++ making to) in
+    record { judged = judged; done = done; whole = done ++ making save }
+
+-- what opens the input, the position, the old text, the input, the output; where it stops the next position
+abbrev pub resuming_order : Option Text → Option Text → Option Text → Option Text → Option Text
+    → Option Text → Option Text → Order
+resuming_order pass shared position old from to save =
+    let judged = opener_order pass shared in
+    let done = judged ++ ((opening position ++ (opening old ++ opening from)) ++ making to) in
+    record { judged = judged; done = done; whole = done ++ making save }
+
+-- the passphrase, where its file is named, the script, the input
+abbrev pub drilling_order : Option Text → Option Text → Option Text → Order
+drilling_order pass script from =
+    let done = opening pass ++ (opening script ++ opening from) in
+    record { judged = done; done = done; whole = done }
+
+-- the order of a command, by its name and by what the arguments give
+abbrev pub order_of : Text → List Row → Order
+order_of name rows =
+    let first = λ (id : Text). first_of id rows in
+    if bytes_eq name (codes "inspect") then inspecting_order (first (codes "FILE"))
+    else (if bytes_eq name (codes "encrypt") then encrypting_order (first (codes "pass"))
+    (first (codes "random")) (first (codes "IN")) (first (codes "OUT"))
+    else (if bytes_eq name (codes "decrypt") then decrypting_order (first (codes "pass"))
+    (first (codes "shared")) (first (codes "IN")) (first (codes "OUT")) (first (codes "save"))
+    else (if bytes_eq name (codes "resume") then resuming_order (first (codes "pass"))
+    (first (codes "shared")) (first (codes "position")) (first (codes "old"))
+    (first (codes "IN")) (first (codes "OUT")) (first (codes "save"))
+    else (if bytes_eq name (codes "drill") then drilling_order (first (codes "pass"))
+    (first (codes "SCRIPT")) (first (codes "IN"))
+    else record { judged = []; done = []; whole = [] }))))

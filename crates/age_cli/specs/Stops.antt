@@ -8,14 +8,14 @@ use Rattle.age_file.specs.declared.position.Position.{Position}
 use Rattle.age_file.specs.declared.fault.FileFault.{FileFault}
 use Rattle.age_file.specs.declared.fault.FileFault.TheVariants.{Write}
 use Rattle.age_cli.specs.FileSet.{IsMemoryOr}
-use Rattle.age_cli.specs.Held.{Held, SparesBoth}
-use Rattle.age_cli.specs.Openers.{Opener, allows_by, refuses_by, IsOpener, OpensBy}
+use Rattle.age_cli.specs.Held.{Held}
+use Rattle.age_cli.specs.Openers.{Opener, options_of, allows_by, refuses_by, IsOpener, OpensBy}
 use Rattle.age_cli.specs.Endings.{status_of}
 use Rattle.age_cli.specs.FaultLines.{TellsEnding}
 use Rattle.age_cli.specs.Requests.{text_of}
 use Rattle.age_cli.specs.declared.request.Decrypting.{Decrypting}
 use Rattle.age_cli.specs.declared.ending.Ending.{Ending}
-use Rattle.age_cli.specs.declared.ending.Ending.TheVariants.{Words, Usage, Fault, Unsaved}
+use Rattle.age_cli.specs.declared.ending.Ending.TheVariants.{Fault, Unsaved}
 
 -- the engine's promise for the input's bytes and what opens them, of a stop: the output holds what was written then, or
 -- nothing, where it could not be closed
@@ -82,7 +82,7 @@ pub record DecryptsStopRows (rows : List Row) (old new : Held) (e : Ending) : Ty
   pub opener : Opener
   pub from : Text
   pub to : Text
-  pub opens : OpensBy old rows opener
+  pub opens : OpensBy old (options_of rows) opener
   pub from_is : first_of (codes "IN") rows ≡ Some from
   pub to_is : first_of (codes "OUT") rows ≡ Some to
   pub there : is_some (old from) ≡ true

@@ -154,6 +154,7 @@ fn program<'a>(alloc: Global) -> Result<Command<'a>, AllocError>
     let bare = Command::new(alloc, "age_tool")
         .about(help::PROGRAM)
         .after_help(help::AFTER_PROGRAM)
+        .version(help::VERSION)
         .bin_name("age_tool")?
         .no_binary_name(true)
         .subcommand_required(true);

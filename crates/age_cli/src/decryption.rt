@@ -2,9 +2,11 @@
 
 ghost use Rattle.age_cli.specs.Stops.{OutStops, Stops};
 ghost use Rattle.std.specs.Prelude.{◌≡◌, ◌⊎◌, [], ◌∷◌, ◌++◌, true, false, Some, None, IfErr, OnOk};
-ghost use Rattle.age_cli.specs.Events.{Follows, Created, Closed, making, opener_order, decrypting_order};
+ghost use Rattle.age_cli.specs.Events.{Follows, Created, Closed};
+ghost use Rattle.age_cli.specs.Asking.{order_asked};
+ghost use Rattle.age_cli.specs.declared.request.Request.TheVariants.{Decrypt};
 ghost use Rattle.age_cli.specs.Requests.{text_of};
-ghost use Rattle.age_cli.specs.OpenerSteps.{opener_of};
+ghost use Rattle.age_cli.specs.OpenerSteps.{opener_of, options_asked};
 ghost use Rattle.age_cli.specs.Decryptions.{DecryptsOut, DecryptsFile};
 ghost use Rattle.age_cli.specs.Endings.{is_usage};
 ghost use Rattle.age_cli.specs.Held.{SparesBut, SparesBoth};
@@ -77,24 +79,20 @@ pub(crate) fn decrypt_file<F: FileSet>(
     asked: &Decrypting<'_>,
 ) -> Result<(), Ending>
     ensures done { OnOk result (F.tells files.old ≡ true
-        → DecryptsFile asked.now (F.entry files.old) (F.entry files.new)) }
+        → DecryptsFile (options_asked asked.now.unlocking) asked.now.from.now asked.now.to.now
+        (F.entry files.old) (F.entry files.new)) }
     ensures stops { IfErr result (λ e. F.tells files.old ≡ true
         → Stops asked.now (F.entry files.old) (F.entry files.new) e) }
     ensures usage { IfErr result (λ e. is_usage e ≡ true → F.entry files.new ≡ F.entry files.old) }
     ensures spares { F.tells files.old ≡ true
         → SparesBoth (Some asked.now.to.now) (text_of asked.now.save) (F.entry files.old)
         (F.entry files.new) }
-    ensures order { Follows
-        (decrypting_order (text_of asked.now.unlocking.pass) (text_of asked.now.unlocking.shared)
-        (Some asked.now.from.now) (Some asked.now.to.now) ++ making (text_of asked.now.save))
-        (F.events files.old) (F.events files.new) }
+    ensures order { Follows (order_asked (Decrypt asked.now)).whole (F.events files.old)
+        (F.events files.new) }
     ensures order_done { OnOk result
-        (F.events files.new ≡ F.events files.old
-        ++ decrypting_order (text_of asked.now.unlocking.pass) (text_of asked.now.unlocking.shared)
-        (Some asked.now.from.now) (Some asked.now.to.now)) }
+        (F.events files.new ≡ F.events files.old ++ (order_asked (Decrypt asked.now)).done) }
     ensures order_usage { IfErr result (λ e. is_usage e ≡ true → Follows
-        (opener_order (text_of asked.now.unlocking.pass) (text_of asked.now.unlocking.shared))
-        (F.events files.old) (F.events files.new)) }
+        (order_asked (Decrypt asked.now)).judged (F.events files.old) (F.events files.new)) }
 {
     let chosen = choose(&asked.unlocking)?;
     if names_a_file_twice(files, asked) {

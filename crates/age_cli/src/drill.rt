@@ -1,11 +1,14 @@
 //! The command that delivers a payload by a script.
 
-ghost use Rattle.std.specs.Prelude.{◌≡◌, ◌≤◌, IfOk};
+ghost use Rattle.std.specs.Prelude.{◌≡◌, ◌≤◌, ◌++◌, ◌∷◌, [], Some, IfOk, OnOk, length};
+ghost use Rattle.age_cli.specs.Events.{Follows, Opened};
+ghost use Rattle.age_cli.specs.Asking.{order_asked};
+ghost use Rattle.age_cli.specs.declared.request.Request.TheVariants.{Drill};
 ghost use Rattle.age_stanza.specs.Grammar.{HasText};
 
 use crate::ending::{Ending, Usage};
 use crate::files::FileSet;
-use crate::front::{read_front, read_up_to};
+use crate::front::{fill_front, read_up_to};
 use crate::opener::{read_pass, trimmed};
 use crate::print::{flush, put_bytes};
 use crate::request::Drilling;
@@ -22,12 +25,16 @@ const PAYLOAD_MAX: usize = 16_777_216;
 /// How many bytes follow a header before the payload.
 const NONCE_LEN: usize = 16;
 
+/// The most bytes of a file that are read: one more than the longest header and payload have.
+const BYTES_MAX: usize = HEAD_MAX + NONCE_LEN + PAYLOAD_MAX + 1;
+
 /// The greatest work factor that is accepted.
 const MAX_LOG: u32 = 22;
 
 /// The bytes of a script.
 fn read_script<F: FileSet>(alloc: Global, files: &mut F, name: &str) -> Result<Vec<u8>, Ending>
     ensures kept { F.entry files.new ≡ F.entry files.old }
+    ensures noted { F.events files.new ≡ F.events files.old ++ Opened name.now ∷ [] }
 {
     let mut source = files.open(alloc, name)?;
     match read_up_to(alloc, &mut source, SCRIPT_MAX)? {
@@ -36,27 +43,41 @@ fn read_script<F: FileSet>(alloc: Global, files: &mut F, name: &str) -> Result<V
     }
 }
 
-/// The header at the front of a file, and what follows it.
-fn read_header(alloc: Global, bytes: &[u8]) -> Result<(Header, &[u8]), FileFault>
-    ensures { IfOk result (λ p. HasText p.0) }
+/// The header at the beginning of a file, and its length. `read` is how reading those bytes ended: its fault comes only
+/// where the bytes before it have none.
+fn read_header(
+    alloc: Global,
+    bytes: &[u8],
+    read: Result<(), FileFault>,
+) -> Result<(Header, usize), FileFault>
+    ensures text { IfOk result (λ p. HasText p.0) }
+    ensures within { IfOk result (λ p. p.1 ≤ length bytes.now) }
 {
     let mut parser = HeadParser::new(alloc);
     match parser.feed(bytes)? {
-        HeadStep::Ready { taken, header } => Ok((header, &bytes[taken..])),
-        HeadStep::More => Err(FileFault::from(parser.end())),
+        HeadStep::Ready { taken, header } => Ok((header, taken)),
+        HeadStep::More => {
+            read?;
+            Err(FileFault::from(parser.end()))
+        }
     }
 }
 
-/// The key of a file's payload, and the payload.
-fn open_payload<'a>(
+/// The key of a file's payload, and where in the bytes the payload begins. Faults come in the order of the bytes: that of
+/// reading after those of the header and the key.
+fn open_payload(
     alloc: Global,
     unlock: &Passphrase<'_>,
-    bytes: &'a [u8],
-) -> Result<(PayloadKey, &'a [u8]), FileFault> {
-    let (header, rest) = read_header(alloc, bytes)?;
+    bytes: &[u8],
+    read: Result<(), FileFault>,
+) -> Result<(PayloadKey, usize), FileFault>
+    ensures { IfOk result (λ p. p.1 ≤ length bytes.now) }
+{
+    let (header, len) = read_header(alloc, bytes, read)?;
     let key = open_header(alloc, &header, unlock)?;
-    match rest.split_first_chunk::<NONCE_LEN>() {
-        Some((nonce, payload)) => Ok((payload_key(&key, nonce), payload)),
+    read?;
+    match bytes[len..].first_chunk::<NONCE_LEN>() {
+        Some(nonce) => Ok((payload_key(&key, nonce), len + NONCE_LEN)),
         None => Err(FileFault::NonceCut),
     }
 }
@@ -154,6 +175,10 @@ fn drill_clear<F: FileSet, O: Sink>(
     output: &mut O,
 ) -> Result<(), Ending>
     ensures kept { F.entry files.new ≡ F.entry files.old }
+    ensures order { Follows (Opened asked.now.script.now ∷ Opened asked.now.from.now ∷ [])
+        (F.events files.old) (F.events files.new) }
+    ensures order_done { OnOk result (F.events files.new
+        ≡ F.events files.old ++ Opened asked.now.script.now ∷ Opened asked.now.from.now ∷ []) }
 {
     let script = read_script(alloc, files, asked.script)?;
     let mut source = files.open(alloc, asked.from)?;
@@ -169,8 +194,8 @@ fn drill_clear<F: FileSet, O: Sink>(
     )
 }
 
-/// Drills the payload of an age file that a passphrase opens. A fault of the header, the key or the nonce is told before
-/// a payload that is too long.
+/// Drills the payload of an age file that a passphrase opens. A fault of the header, the key or the nonce is reported
+/// before a payload that is too long.
 fn drill_sealed<F: FileSet, O: Sink>(
     alloc: Global,
     files: &mut F,
@@ -179,6 +204,11 @@ fn drill_sealed<F: FileSet, O: Sink>(
     output: &mut O,
 ) -> Result<(), Ending>
     ensures kept { F.entry files.new ≡ F.entry files.old }
+    ensures order { Follows
+        (Opened pass_name.now ∷ Opened asked.now.script.now ∷ Opened asked.now.from.now ∷ [])
+        (F.events files.old) (F.events files.new) }
+    ensures order_done { OnOk result (F.events files.new ≡ F.events files.old
+        ++ Opened pass_name.now ∷ Opened asked.now.script.now ∷ Opened asked.now.from.now ∷ []) }
 {
     let pass = read_pass(alloc, files, pass_name)?;
     let Some(unlock) = Passphrase::new(trimmed(pass.as_slice()), MAX_LOG) else {
@@ -186,23 +216,14 @@ fn drill_sealed<F: FileSet, O: Sink>(
     };
     let script = read_script(alloc, files, asked.script)?;
     let mut source = files.open(alloc, asked.from)?;
-    let bytes = read_front(alloc, &mut source, HEAD_MAX + NONCE_LEN + PAYLOAD_MAX + 1)?;
-    let (key, sealed) = open_payload(alloc, &unlock, bytes.as_slice())?;
-    if sealed.len() > PAYLOAD_MAX {
+    let mut bytes = Vec::new(alloc);
+    let read = fill_front(&mut source, &mut bytes, BYTES_MAX);
+    let (key, start) = open_payload(alloc, &unlock, bytes.as_slice(), read)?;
+    let payload = &mut bytes.as_mut_slice()[start..];
+    if payload.len() > PAYLOAD_MAX {
         return Err(Ending::Usage(Usage::PayloadTooLong));
     }
-    let mut payload = copied(alloc, sealed)?;
-    deliver::<PayloadKey, 65_552, O>(
-        alloc,
-        &key,
-        payload.as_mut_slice(),
-        script.as_slice(),
-        output,
-    )
-}
-
-fn copied(alloc: Global, bytes: &[u8]) -> Result<Vec<u8>, FileFault> {
-    Ok(bytes.to_vec(alloc)?)
+    deliver::<PayloadKey, 65_552, O>(alloc, &key, payload, script.as_slice(), output)
 }
 
 /// Delivers a payload as the words ask. No file is changed, and whatever the deliveries gave is no fault.
@@ -213,6 +234,10 @@ pub(crate) fn drill_file<F: FileSet, O: Sink>(
     output: &mut O,
 ) -> Result<(), Ending>
     ensures kept { F.entry files.new ≡ F.entry files.old }
+    ensures order { Follows (order_asked (Drill asked.now)).whole (F.events files.old)
+        (F.events files.new) }
+    ensures order_done { OnOk result
+        (F.events files.new ≡ F.events files.old ++ (order_asked (Drill asked.now)).done) }
 {
     match (asked.clear, asked.pass) {
         (true, None) => drill_clear(alloc, files, asked, output),

@@ -2,7 +2,9 @@
 
 ghost use Rattle.std.specs.Prelude.{◌≡◌, [], ◌∷◌, ◌++◌, ℕ, List, Some, true, IfOk, IfErr, IfSome, OnOk};
 ghost use Rattle.age_cli.specs.Requests.{text_of};
-ghost use Rattle.age_cli.specs.Events.{Follows, Opened, making, encrypting_order};
+ghost use Rattle.age_cli.specs.Events.{Follows, Opened, making};
+ghost use Rattle.age_cli.specs.Asking.{order_asked};
+ghost use Rattle.age_cli.specs.declared.request.Request.TheVariants.{Encrypt};
 ghost use Rattle.age_cli.specs.Encryptions.{random_name, EncryptsOut, EncryptsFile};
 ghost use Rattle.age_cli.specs.Randoms.{IsRandom};
 ghost use Rattle.age_cli.specs.Endings.{is_usage};
@@ -103,16 +105,12 @@ pub(crate) fn encrypt_file<F: FileSet>(
     ensures usage { IfErr result (λ e. is_usage e ≡ true → F.entry files.new ≡ F.entry files.old) }
     ensures spares { F.tells files.old ≡ true
         → SparesBut asked.now.to.now (F.entry files.old) (F.entry files.new) }
-    ensures order { Follows
-        (encrypting_order asked.now.pass.now (random_name (text_of asked.now.random))
-        asked.now.from.now asked.now.to.now)
-        (F.events files.old) (F.events files.new) }
-    ensures order_done { OnOk result (F.events files.new ≡ F.events files.old
-        ++ encrypting_order asked.now.pass.now (random_name (text_of asked.now.random))
-        asked.now.from.now asked.now.to.now) }
+    ensures order { Follows (order_asked (Encrypt asked.now)).whole (F.events files.old)
+        (F.events files.new) }
+    ensures order_done { OnOk result
+        (F.events files.new ≡ F.events files.old ++ (order_asked (Encrypt asked.now)).done) }
     ensures order_usage { IfErr result (λ e. is_usage e ≡ true → Follows
-        (Opened asked.now.pass.now ∷ Opened (random_name (text_of asked.now.random)) ∷ [])
-        (F.events files.old) (F.events files.new)) }
+        (order_asked (Encrypt asked.now)).judged (F.events files.old) (F.events files.new)) }
 {
     if files.is_same(asked.from, asked.to) {
         return Err(Ending::Usage(Usage::SameFile));

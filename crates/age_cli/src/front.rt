@@ -1,6 +1,6 @@
 //! What stands at the front of a source.
 
-ghost use Rattle.std.specs.Prelude.{◌≡◌, ◌^◌, ◌<◌, ◌≤◌, take, IfOk, IfSome};
+ghost use Rattle.std.specs.Prelude.{◌≡◌, ◌^◌, ◌<◌, ◌≤◌, take, [], OnOk, IfOk, IfSome};
 ghost use Rattle.std.specs.Io.KnownBytes.{Consumes, IsAtEnd};
 ghost use Rattle.age_cli.specs.Fronts.{IsFront};
 
@@ -29,6 +29,28 @@ fn pull_some<S: Source>(
     }
 }
 
+/// Puts the first bytes of a source into a vector that is empty: so many, or all that it gives where it ends before. Not
+/// a byte more is pulled. Where it fails, the vector holds what came before.
+pub(crate) fn fill_front<S: Source>(
+    source: &mut S,
+    held: &mut Vec<u8>,
+    most: usize,
+) -> Result<(), FileFault>
+    requires { held.old.items ≡ [] }
+    ensures { OnOk result
+        (IsFront (S.remaining source.old) (S.remaining source.new) most held.new.items) }
+{
+    let mut buffer = [0; ROOM];
+    'pieces: while held.len() < most {
+        let n = pull_some(source, &mut buffer, (most - held.len()).min(ROOM))?;
+        if n == 0 {
+            return Ok(());
+        }
+        held.extend_from_slice(&buffer[..n])?;
+    }
+    Ok(())
+}
+
 /// The first bytes of a source: so many, or all that it gives where it ends before. Not a byte more is pulled.
 pub(crate) fn read_front<S: Source>(
     alloc: Global,
@@ -39,14 +61,7 @@ pub(crate) fn read_front<S: Source>(
         (λ v. IsFront (S.remaining source.old) (S.remaining source.new) most v.items) }
 {
     let mut held = Vec::new(alloc);
-    let mut buffer = [0; ROOM];
-    'pieces: while held.len() < most {
-        let n = pull_some(source, &mut buffer, (most - held.len()).min(ROOM))?;
-        if n == 0 {
-            return Ok(held);
-        }
-        held.extend_from_slice(&buffer[..n])?;
-    }
+    fill_front(source, &mut held, most)?;
     Ok(held)
 }
 

@@ -1,5 +1,8 @@
 //! The texts of the help.
 
+/// The version of the workspace, which `--version` prints.
+pub(crate) const VERSION: &str = "0.1.0";
+
 pub(crate) const PROGRAM: &str = "Encrypt, decrypt and inspect age files (age-encryption.org/v1).";
 
 pub(crate) const AFTER_PROGRAM: &str =

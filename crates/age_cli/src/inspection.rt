@@ -1,6 +1,7 @@
 //! The command that reports what a file holds.
 
-ghost use Rattle.std.specs.Prelude.{◌≡◌, [], ◌∷◌, ◌++◌, true, OnOk};
+ghost use Rattle.std.specs.Prelude.{◌≡◌, [], ◌∷◌, ◌++◌, true, false, OnOk, IfErr};
+ghost use Rattle.age_cli.specs.Endings.{is_usage};
 ghost use Rattle.age_cli.specs.Events.{Opened};
 ghost use Rattle.age_cli.specs.Runs.{Reports, ReportsFile};
 
@@ -37,6 +38,7 @@ pub(crate) fn report_file<F: FileSet, O: Sink>(
     ensures noted { F.events files.new ≡ F.events files.old ++ Opened name.now ∷ [] }
     ensures done { OnOk result (ReportsFile (F.tells files.old) (F.entry files.old name.now)
         (O.taken output.old) (O.taken output.new)) }
+    ensures fault { IfErr result (λ e. is_usage e ≡ false) }
 {
     let mut source = files.open(alloc, name)?;
     report(alloc, &mut source, output)?;

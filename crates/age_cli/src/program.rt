@@ -1,9 +1,9 @@
 //! The program, over words, files, a source and sinks.
 
-ghost use Rattle.std.specs.Prelude.{◌≡◌, ◌≤◌, List, [], ◌++◌, true, OnOk, IfErr, IsOk, codes};
+ghost use Rattle.std.specs.Prelude.{◌≡◌, ◌⊎◌, ◌≤◌, List, [], ◌++◌, true, OnOk, IfErr, IsOk, codes};
 ghost use Rattle.clap.specs.Words.{Row, Text, first_of, kind_of};
 ghost use Rattle.clap.specs.Walk.{texts};
-ghost use Rattle.clap.specs.declared.error.kind.ErrorKind.TheVariants.{DisplayHelp};
+ghost use Rattle.clap.specs.declared.error.kind.ErrorKind.TheVariants.{DisplayHelp, DisplayVersion};
 ghost use Rattle.age_cli.specs.Asked.{Asks, IsServed, refusals};
 ghost use Rattle.age_cli.specs.Encryptions.{EncryptsRows};
 ghost use Rattle.age_cli.specs.Decryptions.{DecryptsRows};
@@ -11,7 +11,7 @@ ghost use Rattle.age_cli.specs.Resumptions.{ResumesRows};
 ghost use Rattle.age_cli.specs.Endings.{is_usage};
 ghost use Rattle.age_cli.specs.Stops.{StopsRows, StopsTold};
 ghost use Rattle.age_cli.specs.Events.{Follows};
-ghost use Rattle.age_cli.specs.Orders.{encrypt_order, decrypt_order, decrypt_whole, opener_rows};
+ghost use Rattle.age_cli.specs.Orders.{order_of};
 ghost use Rattle.age_cli.specs.FaultLines.{TellsFault};
 ghost use Rattle.age_cli.specs.Held.{Spares};
 ghost use Rattle.age_cli.specs.Runs.{Reports, Inspects};
@@ -32,9 +32,9 @@ use clap::Error;
 use clap::error::ErrorKind;
 use std::alloc::Global;
 
-/// Help that was asked for goes to the output; other words are refused.
+/// Help and the version go to the output where they are asked for; other arguments are refused.
 fn answer_refusal<O: Sink>(alloc: Global, error: Error, output: &mut O) -> Result<(), Ending>
-    ensures help { IsOk result → kind_of error ≡ DisplayHelp }
+    ensures asked { IsOk result → (kind_of error ≡ DisplayHelp) ⊎ (kind_of error ≡ DisplayVersion) }
 {
     if error.kind() == ErrorKind::OutOfMemory {
         return Err(Ending::Fault(FileFault::Memory));
@@ -42,7 +42,7 @@ fn answer_refusal<O: Sink>(alloc: Global, error: Error, output: &mut O) -> Resul
     let Ok(text) = error.to_string(alloc) else {
         return Err(Ending::Fault(FileFault::Memory));
     };
-    if error.kind() != ErrorKind::DisplayHelp {
+    if error.kind() != ErrorKind::DisplayHelp && error.kind() != ErrorKind::DisplayVersion {
         return Err(Ending::Words(text));
     }
     put_bytes(output, text.as_bytes())?;
@@ -84,19 +84,15 @@ fn obey<F: FileSet, I: Source, O: Sink>(
     ensures decrypts_stop { (rows : List Row) → Asks (texts words.now) (codes "decrypt") rows
         → IfErr result (λ e. F.tells files.old ≡ true
         → StopsRows rows (F.entry files.old) (F.entry files.new) e) }
+    ensures touches { (name : Text) (rows : List Row) → Asks (texts words.now) name rows
+        → Follows (order_of name rows).whole (F.events files.old) (F.events files.new) }
+    ensures finished { (name : Text) (rows : List Row) → Asks (texts words.now) name rows
+        → OnOk result (F.events files.new ≡ F.events files.old ++ (order_of name rows).done) }
+    ensures judged { (name : Text) (rows : List Row) → Asks (texts words.now) name rows
+        → IfErr result (λ e. is_usage e ≡ true
+        → Follows (order_of name rows).judged (F.events files.old) (F.events files.new)) }
     ensures untouched { (refusals (texts words.now) ≡ [] → ⊥)
         → F.events files.new ≡ F.events files.old }
-    ensures decrypts_order { (rows : List Row) → Asks (texts words.now) (codes "decrypt") rows
-        → Follows (decrypt_whole rows) (F.events files.old) (F.events files.new) }
-    ensures decrypts_done { (rows : List Row) → Asks (texts words.now) (codes "decrypt") rows
-        → OnOk result (F.events files.new ≡ F.events files.old ++ decrypt_order rows) }
-    ensures decrypts_usage { (rows : List Row) → Asks (texts words.now) (codes "decrypt") rows
-        → IfErr result (λ e. is_usage e ≡ true
-        → Follows (opener_rows rows) (F.events files.old) (F.events files.new)) }
-    ensures encrypts_order { (rows : List Row) → Asks (texts words.now) (codes "encrypt") rows
-        → Follows (encrypt_order rows) (F.events files.old) (F.events files.new) }
-    ensures encrypts_done { (rows : List Row) → Asks (texts words.now) (codes "encrypt") rows
-        → OnOk result (F.events files.new ≡ F.events files.old ++ encrypt_order rows) }
 {
     if words.is_empty() {
         report(alloc, input, output)?;
@@ -173,21 +169,17 @@ pub fn run<F: FileSet, I: Source, O: Sink, E: Sink>(
         → result ≡ 1 → F.tells files.old ≡ true
         → StopsTold rows (F.entry files.old) (F.entry files.new) (E.taken faults.old)
         (E.taken faults.new) (E.failed faults.old) (E.failed faults.new) }
-    // What is opened and made, also of the machine's files: a front of the order of the command; with 0 that order; with 2
-    // only what opens the input; and nothing of a command line that is refused.
+    // What is opened and made, also of the machine's files: the beginning of the command's order; with 0 all of it but what a
+    // stop adds; with 2 only what the arguments are judged by; and nothing of a command line that is refused.
+    ensures touches { (name : Text) (rows : List Row) → Asks (texts words.now) name rows
+        → Follows (order_of name rows).whole (F.events files.old) (F.events files.new) }
+    ensures finished { (name : Text) (rows : List Row) → Asks (texts words.now) name rows
+        → result ≡ 0 → F.events files.new ≡ F.events files.old ++ (order_of name rows).done }
+    ensures judged { (name : Text) (rows : List Row) → Asks (texts words.now) name rows
+        → result ≡ 2
+        → Follows (order_of name rows).judged (F.events files.old) (F.events files.new) }
     ensures untouched { (refusals (texts words.now) ≡ [] → ⊥)
         → F.events files.new ≡ F.events files.old }
-    ensures decrypts_order { (rows : List Row) → Asks (texts words.now) (codes "decrypt") rows
-        → Follows (decrypt_whole rows) (F.events files.old) (F.events files.new) }
-    ensures decrypts_done { (rows : List Row) → Asks (texts words.now) (codes "decrypt") rows
-        → result ≡ 0 → F.events files.new ≡ F.events files.old ++ decrypt_order rows }
-    ensures decrypts_usage { (rows : List Row) → Asks (texts words.now) (codes "decrypt") rows
-        → result ≡ 2
-        → Follows (opener_rows rows) (F.events files.old) (F.events files.new) }
-    ensures encrypts_order { (rows : List Row) → Asks (texts words.now) (codes "encrypt") rows
-        → Follows (encrypt_order rows) (F.events files.old) (F.events files.new) }
-    ensures encrypts_done { (rows : List Row) → Asks (texts words.now) (codes "encrypt") rows
-        → result ≡ 0 → F.events files.new ≡ F.events files.old ++ encrypt_order rows }
 {
     match obey(alloc, words, files, input, output) {
         Ok(()) => 0,

@@ -1,8 +1,11 @@
 //! The command that goes on with a decryption that stopped.
 
-ghost use Rattle.std.specs.Prelude.{◌≡◌, true, Some, IfOk, IfErr, OnOk};
+ghost use Rattle.std.specs.Prelude.{◌≡◌, ◌⊎◌, ◌++◌, ◌∷◌, [], true, Some, None, IfOk, IfErr, OnOk};
+ghost use Rattle.age_cli.specs.Events.{Follows, Opened, Created, Closed};
+ghost use Rattle.age_cli.specs.Asking.{order_asked};
+ghost use Rattle.age_cli.specs.declared.request.Request.TheVariants.{Resume};
 ghost use Rattle.age_cli.specs.Requests.{text_of};
-ghost use Rattle.age_cli.specs.OpenerSteps.{opener_of};
+ghost use Rattle.age_cli.specs.OpenerSteps.{opener_of, options_asked};
 ghost use Rattle.age_cli.specs.Resumptions.{IsPositionIn, ResumesOut, ResumesFile};
 ghost use Rattle.age_cli.specs.Endings.{is_usage};
 ghost use Rattle.age_cli.specs.Held.{SparesBut, SparesBoth};
@@ -25,6 +28,7 @@ fn read_position<F: FileSet>(
 ) -> Result<Position, FileFault>
     ensures told { F.tells files.new ≡ F.tells files.old }
     ensures kept { F.entry files.new ≡ F.entry files.old }
+    ensures noted { F.events files.new ≡ F.events files.old ++ Opened name.now ∷ [] }
     ensures read { IfOk result
         (λ p. F.tells files.old ≡ true → IsPositionIn (F.entry files.old name.now) p) }
 {
@@ -51,6 +55,12 @@ fn write_out<F: FileSet>(
         (F.In.remaining old.old) (F.entry files.new to.now)) }
     ensures others { F.tells files.old ≡ true
         → SparesBut to.now (F.entry files.old) (F.entry files.new) }
+    ensures noted { OnOk result
+        (F.events files.new ≡ F.events files.old ++ Created to.now ∷ Closed ∷ []) }
+    ensures noted_stop { IfErr result
+        (λ stop. (F.events files.new ≡ F.events files.old ++ Created to.now ∷ Closed ∷ [])
+        ⊎ ((F.events files.new ≡ F.events files.old ++ Created to.now ∷ [])
+        × (stop.position ≡ None))) }
 {
     let mut out = files.create(alloc, to)?;
     let resumed = resume(alloc, unlocker, position, source, old, &mut out);
@@ -76,11 +86,19 @@ pub(crate) fn resume_file<F: FileSet>(
     asked: &Resuming<'_>,
 ) -> Result<(), Ending>
     ensures done { OnOk result (F.tells files.old ≡ true
-        → ResumesFile asked.now (F.entry files.old) (F.entry files.new)) }
+        → ResumesFile (options_asked asked.now.decrypting.unlocking) asked.now.position.now
+        asked.now.old.now asked.now.decrypting.from.now asked.now.decrypting.to.now
+        (F.entry files.old) (F.entry files.new)) }
     ensures usage { IfErr result (λ e. is_usage e ≡ true → F.entry files.new ≡ F.entry files.old) }
     ensures spares { F.tells files.old ≡ true
         → SparesBoth (Some asked.now.decrypting.to.now) (text_of asked.now.decrypting.save)
         (F.entry files.old) (F.entry files.new) }
+    ensures order { Follows (order_asked (Resume asked.now)).whole (F.events files.old)
+        (F.events files.new) }
+    ensures order_done { OnOk result
+        (F.events files.new ≡ F.events files.old ++ (order_asked (Resume asked.now)).done) }
+    ensures order_usage { IfErr result (λ e. is_usage e ≡ true → Follows
+        (order_asked (Resume asked.now)).judged (F.events files.old) (F.events files.new)) }
 {
     let wanted = &asked.decrypting;
     let chosen = choose(&wanted.unlocking)?;

@@ -1,8 +1,8 @@
-use Rattle.std.proofs.Common.{◌≡◌, ◌∙◌, ◌++◌, inr, ap, sym, subst, true≢false, Some}
+use Rattle.std.proofs.Common.{◌≡◌, ◌∙◌, ◌++◌, ◌∷◌, [], inr, ap, sym, subst, true≢false, Some}
 use Rattle.age_cli.specs.Requests.{text_of}
 use Rattle.age_cli.specs.Stops.{OutStops}
 use Rattle.age_cli.proofs.StopSteps.{ends_from}
-use Rattle.age_cli.specs.Events.{Follows, opening, making}
+use Rattle.age_cli.specs.Events.{Follows, Opened, opening, making}
 use Rattle.age_cli.proofs.EventSteps.{chosen_opens, stop_follows}
 use Rattle.std.specs.Prelude.{is_some}
 use Rattle.age_cli.specs.Decryptions.{DecryptsOut}
@@ -81,4 +81,4 @@ returns-clause-order g c =
     let events = g.F.FileSet.events in
     subst (λ o. Follows ((o ++ (opening (Some d.from.now) ++ making (Some d.to.now))) ++ making save) (events c.args.files.now) (events c.end_of.new.files))
     (sym (chosen_opens d.unlocking c.in_ok-chosen.chosen c.in_ok-chosen.ensures))
-    (stop_follows _ _ _ _ _ _ d.from.now d.to.now save c.in_ok-material.ensures.noted c.in_ok-source.ensures.noted _ c.in-Err.ensures.noted_stop c.end_of.ensures.noted c.end_of.ensures.idle)
+    (stop_follows _ _ _ _ _ _ (Opened d.from.now ∷ []) d.to.now save c.in_ok-material.ensures.noted c.in_ok-source.ensures.noted _ c.in-Err.ensures.noted_stop c.end_of.ensures.noted c.end_of.ensures.idle)

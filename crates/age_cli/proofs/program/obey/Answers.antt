@@ -1,14 +1,18 @@
-use Rattle.std.proofs.Common.{◌≡◌, ◌∙◌, ap, subst, length, Option, Some, rules}
+use Rattle.std.proofs.Common.{◌≡◌, ◌∙◌, ◌++◌, ap, sym, subst, length, Option, Some, rules, true≢false}
 use Rattle.std.specs.Option.{IfSome}
 use Rattle.std.proofs.lemmas.Result.{on_ok_weaker, IfErr-weaker}
 use Rattle.std.proofs.lemmas.List.{nil_from_length}
 use Rattle.clap.specs.Walk.{texts}
 use Rattle.age_cli.specs.Requests.{Requests}
 use Rattle.age_cli.specs.declared.request.Request.{Request}
+use Rattle.age_cli.specs.declared.request.Request.TheVariants.{Encrypt, Decrypt, Resume, Drill}
 use Rattle.age_cli.proofs.StopSteps.{stops_rows}
-use Rattle.age_cli.proofs.EventSteps.{none_done}
+use Rattle.age_cli.specs.Events.{Follows}
+use Rattle.age_cli.specs.Orders.{Order}
+use Rattle.age_cli.proofs.EventSteps.{every_fault, none_done}
+use Rattle.age_cli.proofs.OrderSteps.{asked_order}
 use Rattle.age_cli.proofs.Simple.{no_command}
-use Rattle.age_cli.proofs.ResumptionSteps.{resumes_rows}
+use Rattle.age_cli.proofs.RowSteps.{decrypts_rows, resumes_rows}
 use Rattle.age_cli.proofs.program.obey.Goals as goal
 
 pub returns-then-is_empty-clause-inspects : goal.returns-then-is_empty-clause-inspects
@@ -38,6 +42,13 @@ returns-in-Ok-Some-Resume-clause-resumes g c = λ rows asks.
     let request = subst (λ (o : Option Request). IfSome o (Requests w)) (here.field-0-is ∙ ap Some here.field-0-0-is) here.ensures.asked in
     on_ok_weaker c.resume_file.result (λ did told. resumes_rows w rows here.asked _ _ request asks (did told)) c.resume_file.ensures.done
 
+pub returns-in-Ok-Some-Decrypt-clause-decrypts : goal.returns-in-Ok-Some-Decrypt-clause-decrypts
+returns-in-Ok-Some-Decrypt-clause-decrypts g c = λ rows asks.
+    let w = texts c.args.words.now in
+    let here = c.in-Ok-Some-Decrypt in
+    let request = subst (λ (o : Option Request). IfSome o (Requests w)) (here.field-0-is ∙ ap Some here.field-0-0-is) here.ensures.asked in
+    on_ok_weaker c.decrypt_file.result (λ did told. decrypts_rows w rows here.asked _ _ request asks (did told)) c.decrypt_file.ensures.done
+
 pub returns-in-Ok-Some-Decrypt-clause-decrypts_stop : goal.returns-in-Ok-Some-Decrypt-clause-decrypts_stop
 returns-in-Ok-Some-Decrypt-clause-decrypts_stop g c = λ rows asks.
     let w = texts c.args.words.now in
@@ -45,24 +56,144 @@ returns-in-Ok-Some-Decrypt-clause-decrypts_stop g c = λ rows asks.
     let request = subst (λ (o : Option Request). IfSome o (Requests w)) (here.field-0-is ∙ ap Some here.field-0-0-is) here.ensures.asked in
     IfErr-weaker c.decrypt_file.result _ _ (λ e did told. stops_rows w rows here.asked _ _ e request asks (did told)) c.decrypt_file.ensures.stops
 
-pub returns-then-is_empty-clause-decrypts_order : goal.returns-then-is_empty-clause-decrypts_order
-returns-then-is_empty-clause-decrypts_order g c = λ rows asks. none_done _ _
+pub returns-in-Ok-Some-Encrypt-clause-touches : goal.returns-in-Ok-Some-Encrypt-clause-touches
+returns-in-Ok-Some-Encrypt-clause-touches g c = λ name rows asks.
+    let w = texts c.args.words.now in
+    let here = c.in-Ok-Some-Encrypt in
+    let request = subst (λ (o : Option Request). IfSome o (Requests w)) (here.field-0-is ∙ ap Some here.field-0-0-is) here.ensures.asked in
+    let same = asked_order w name rows (Encrypt here.asked) request asks in
+    let events = g.F.FileSet.events in
+    subst (λ (o : Order). Follows o.whole (events c.args.files.now) (events c.encrypt_file.new.files)) (sym same) c.encrypt_file.ensures.order
 
-pub returns-then-is_empty-clause-decrypts_done : goal.returns-then-is_empty-clause-decrypts_done
-returns-then-is_empty-clause-decrypts_done g c =
+pub returns-in-Ok-Some-Encrypt-clause-finished : goal.returns-in-Ok-Some-Encrypt-clause-finished
+returns-in-Ok-Some-Encrypt-clause-finished g c = λ name rows asks.
+    let w = texts c.args.words.now in
+    let here = c.in-Ok-Some-Encrypt in
+    let request = subst (λ (o : Option Request). IfSome o (Requests w)) (here.field-0-is ∙ ap Some here.field-0-0-is) here.ensures.asked in
+    let same = asked_order w name rows (Encrypt here.asked) request asks in
+    let events = g.F.FileSet.events in
+    on_ok_weaker c.encrypt_file.result (λ did. did ∙ ap (λ (o : Order). (events c.args.files.now) ++ o.done) (sym same)) c.encrypt_file.ensures.order_done
+
+pub returns-in-Ok-Some-Encrypt-clause-judged : goal.returns-in-Ok-Some-Encrypt-clause-judged
+returns-in-Ok-Some-Encrypt-clause-judged g c = λ name rows asks.
+    let w = texts c.args.words.now in
+    let here = c.in-Ok-Some-Encrypt in
+    let request = subst (λ (o : Option Request). IfSome o (Requests w)) (here.field-0-is ∙ ap Some here.field-0-0-is) here.ensures.asked in
+    let same = asked_order w name rows (Encrypt here.asked) request asks in
+    let events = g.F.FileSet.events in
+    IfErr-weaker c.encrypt_file.result _ _ (λ e did usage. subst (λ (o : Order). Follows o.judged (events c.args.files.now) (events c.encrypt_file.new.files)) (sym same) (did usage)) c.encrypt_file.ensures.order_usage
+
+pub returns-in-Ok-Some-Decrypt-clause-touches : goal.returns-in-Ok-Some-Decrypt-clause-touches
+returns-in-Ok-Some-Decrypt-clause-touches g c = λ name rows asks.
+    let w = texts c.args.words.now in
+    let here = c.in-Ok-Some-Decrypt in
+    let request = subst (λ (o : Option Request). IfSome o (Requests w)) (here.field-0-is ∙ ap Some here.field-0-0-is) here.ensures.asked in
+    let same = asked_order w name rows (Decrypt here.asked) request asks in
+    let events = g.F.FileSet.events in
+    subst (λ (o : Order). Follows o.whole (events c.args.files.now) (events c.decrypt_file.new.files)) (sym same) c.decrypt_file.ensures.order
+
+pub returns-in-Ok-Some-Decrypt-clause-finished : goal.returns-in-Ok-Some-Decrypt-clause-finished
+returns-in-Ok-Some-Decrypt-clause-finished g c = λ name rows asks.
+    let w = texts c.args.words.now in
+    let here = c.in-Ok-Some-Decrypt in
+    let request = subst (λ (o : Option Request). IfSome o (Requests w)) (here.field-0-is ∙ ap Some here.field-0-0-is) here.ensures.asked in
+    let same = asked_order w name rows (Decrypt here.asked) request asks in
+    let events = g.F.FileSet.events in
+    on_ok_weaker c.decrypt_file.result (λ did. did ∙ ap (λ (o : Order). (events c.args.files.now) ++ o.done) (sym same)) c.decrypt_file.ensures.order_done
+
+pub returns-in-Ok-Some-Decrypt-clause-judged : goal.returns-in-Ok-Some-Decrypt-clause-judged
+returns-in-Ok-Some-Decrypt-clause-judged g c = λ name rows asks.
+    let w = texts c.args.words.now in
+    let here = c.in-Ok-Some-Decrypt in
+    let request = subst (λ (o : Option Request). IfSome o (Requests w)) (here.field-0-is ∙ ap Some here.field-0-0-is) here.ensures.asked in
+    let same = asked_order w name rows (Decrypt here.asked) request asks in
+    let events = g.F.FileSet.events in
+    IfErr-weaker c.decrypt_file.result _ _ (λ e did usage. subst (λ (o : Order). Follows o.judged (events c.args.files.now) (events c.decrypt_file.new.files)) (sym same) (did usage)) c.decrypt_file.ensures.order_usage
+
+pub returns-in-Ok-Some-Resume-clause-touches : goal.returns-in-Ok-Some-Resume-clause-touches
+returns-in-Ok-Some-Resume-clause-touches g c = λ name rows asks.
+    let w = texts c.args.words.now in
+    let here = c.in-Ok-Some-Resume in
+    let request = subst (λ (o : Option Request). IfSome o (Requests w)) (here.field-0-is ∙ ap Some here.field-0-0-is) here.ensures.asked in
+    let same = asked_order w name rows (Resume here.asked) request asks in
+    let events = g.F.FileSet.events in
+    subst (λ (o : Order). Follows o.whole (events c.args.files.now) (events c.resume_file.new.files)) (sym same) c.resume_file.ensures.order
+
+pub returns-in-Ok-Some-Resume-clause-finished : goal.returns-in-Ok-Some-Resume-clause-finished
+returns-in-Ok-Some-Resume-clause-finished g c = λ name rows asks.
+    let w = texts c.args.words.now in
+    let here = c.in-Ok-Some-Resume in
+    let request = subst (λ (o : Option Request). IfSome o (Requests w)) (here.field-0-is ∙ ap Some here.field-0-0-is) here.ensures.asked in
+    let same = asked_order w name rows (Resume here.asked) request asks in
+    let events = g.F.FileSet.events in
+    on_ok_weaker c.resume_file.result (λ did. did ∙ ap (λ (o : Order). (events c.args.files.now) ++ o.done) (sym same)) c.resume_file.ensures.order_done
+
+pub returns-in-Ok-Some-Resume-clause-judged : goal.returns-in-Ok-Some-Resume-clause-judged
+returns-in-Ok-Some-Resume-clause-judged g c = λ name rows asks.
+    let w = texts c.args.words.now in
+    let here = c.in-Ok-Some-Resume in
+    let request = subst (λ (o : Option Request). IfSome o (Requests w)) (here.field-0-is ∙ ap Some here.field-0-0-is) here.ensures.asked in
+    let same = asked_order w name rows (Resume here.asked) request asks in
+    let events = g.F.FileSet.events in
+    IfErr-weaker c.resume_file.result _ _ (λ e did usage. subst (λ (o : Order). Follows o.judged (events c.args.files.now) (events c.resume_file.new.files)) (sym same) (did usage)) c.resume_file.ensures.order_usage
+
+pub returns-in-Ok-Some-Drill-clause-touches : goal.returns-in-Ok-Some-Drill-clause-touches
+returns-in-Ok-Some-Drill-clause-touches g c = λ name rows asks.
+    let w = texts c.args.words.now in
+    let here = c.in-Ok-Some-Drill in
+    let request = subst (λ (o : Option Request). IfSome o (Requests w)) (here.field-0-is ∙ ap Some here.field-0-0-is) here.ensures.asked in
+    let same = asked_order w name rows (Drill here.asked) request asks in
+    let events = g.F.FileSet.events in
+    subst (λ (o : Order). Follows o.whole (events c.args.files.now) (events c.drill_file.new.files)) (sym same) c.drill_file.ensures.order
+
+pub returns-in-Ok-Some-Drill-clause-finished : goal.returns-in-Ok-Some-Drill-clause-finished
+returns-in-Ok-Some-Drill-clause-finished g c = λ name rows asks.
+    let w = texts c.args.words.now in
+    let here = c.in-Ok-Some-Drill in
+    let request = subst (λ (o : Option Request). IfSome o (Requests w)) (here.field-0-is ∙ ap Some here.field-0-0-is) here.ensures.asked in
+    let same = asked_order w name rows (Drill here.asked) request asks in
+    let events = g.F.FileSet.events in
+    on_ok_weaker c.drill_file.result (λ did. did ∙ ap (λ (o : Order). (events c.args.files.now) ++ o.done) (sym same)) c.drill_file.ensures.order_done
+
+pub returns-in-Ok-Some-Drill-clause-judged : goal.returns-in-Ok-Some-Drill-clause-judged
+returns-in-Ok-Some-Drill-clause-judged g c = λ name rows asks.
+    let w = texts c.args.words.now in
+    let here = c.in-Ok-Some-Drill in
+    let request = subst (λ (o : Option Request). IfSome o (Requests w)) (here.field-0-is ∙ ap Some here.field-0-0-is) here.ensures.asked in
+    let same = asked_order w name rows (Drill here.asked) request asks in
+    let events = g.F.FileSet.events in
+    every_fault c.drill_file.result _ (λ e usage. subst (λ (o : Order). Follows o.judged (events c.args.files.now) (events c.drill_file.new.files)) (sym same) c.drill_file.ensures.order)
+
+pub returns-then-is_empty-clause-touches : goal.returns-then-is_empty-clause-touches
+returns-then-is_empty-clause-touches g c =
     let short : length c.args.words.now ≡ 0 = search rules in
-    λ rows asks. absurd (no_command (texts c.args.words.now) _ rows (ap texts (nil_from_length c.args.words.now short)) asks)
+    λ name rows asks. absurd (no_command (texts c.args.words.now) _ rows (ap texts (nil_from_length c.args.words.now short)) asks)
 
-pub returns-in-Err-clause-decrypts_order : goal.returns-in-Err-clause-decrypts_order
-returns-in-Err-clause-decrypts_order g c = λ rows asks. none_done _ _
-
-pub returns-then-is_empty-clause-encrypts_order : goal.returns-then-is_empty-clause-encrypts_order
-returns-then-is_empty-clause-encrypts_order g c = λ rows asks. none_done _ _
-
-pub returns-then-is_empty-clause-encrypts_done : goal.returns-then-is_empty-clause-encrypts_done
-returns-then-is_empty-clause-encrypts_done g c =
+pub returns-then-is_empty-clause-finished : goal.returns-then-is_empty-clause-finished
+returns-then-is_empty-clause-finished g c =
     let short : length c.args.words.now ≡ 0 = search rules in
-    λ rows asks. absurd (no_command (texts c.args.words.now) _ rows (ap texts (nil_from_length c.args.words.now short)) asks)
+    λ name rows asks. absurd (no_command (texts c.args.words.now) _ rows (ap texts (nil_from_length c.args.words.now short)) asks)
 
-pub returns-in-Err-clause-encrypts_order : goal.returns-in-Err-clause-encrypts_order
-returns-in-Err-clause-encrypts_order g c = λ rows asks. none_done _ _
+pub returns-then-is_empty-clause-judged : goal.returns-then-is_empty-clause-judged
+returns-then-is_empty-clause-judged g c =
+    let short : length c.args.words.now ≡ 0 = search rules in
+    λ name rows asks. absurd (no_command (texts c.args.words.now) _ rows (ap texts (nil_from_length c.args.words.now short)) asks)
+
+pub returns-in-Err-clause-touches : goal.returns-in-Err-clause-touches
+returns-in-Err-clause-touches g c = λ name rows asks. none_done _ _
+
+pub returns-in_err-report-clause-touches : goal.returns-in_err-report-clause-touches
+returns-in_err-report-clause-touches g c = λ name rows asks. none_done _ _
+
+pub returns-in-Err-clause-judged : goal.returns-in-Err-clause-judged
+returns-in-Err-clause-judged g c = λ name rows asks. every_fault c.answer_refusal.result _ (λ e usage. none_done _ _)
+
+pub returns-in-Ok-Some-Inspect-Some-clause-judged : goal.returns-in-Ok-Some-Inspect-Some-clause-judged
+returns-in-Ok-Some-Inspect-Some-clause-judged g c = λ name rows asks.
+    IfErr-weaker c.report_file.result _ _ (λ e no usage. absurd (true≢false (sym usage ∙ no))) c.report_file.ensures.fault
+
+pub returns-in-Ok-None-clause-touches : goal.returns-in-Ok-None-clause-touches
+returns-in-Ok-None-clause-touches g c = λ name rows asks. none_done _ _
+
+pub returns-in-Ok-None-clause-judged : goal.returns-in-Ok-None-clause-judged
+returns-in-Ok-None-clause-judged g c = λ name rows asks usage. none_done _ _

@@ -1,8 +1,11 @@
-use Rattle.std.proofs.Common.{◌∙◌, ap, sym, subst, Some}
+use Rattle.std.proofs.Common.{◌∙◌, ◌++◌, ◌∷◌, [], ap, sym, subst, Some}
 use Rattle.std.specs.Prelude.{is_some}
 use Rattle.age_cli.specs.Resumptions.{ResumesOut}
 use Rattle.age_cli.specs.OpenerSteps.{opener_of}
+use Rattle.age_cli.specs.Requests.{text_of}
+use Rattle.age_cli.specs.Events.{Follows, Opened, making}
 use Rattle.age_cli.proofs.OpenerLemmas.{opener_made}
+use Rattle.age_cli.proofs.EventSteps.{chosen_opens, stop_follows, three_events}
 use Rattle.age_cli.proofs.resumption.resume_file.Goals as goal
 
 pub returns-in-Ok-clause-done : goal.returns-in-Ok-clause-done
@@ -41,3 +44,14 @@ returns-clause-spares g c = λ told q other none.
     let k4 = c.in_ok-source.ensures.kept ∙ (c.in_ok-old.ensures.kept ∙ (c.in_ok-position.ensures.kept ∙ c.in_ok-material.ensures.kept)) in
     let t5 = c.in-Err.ensures.told ∙ t4 in
     c.end_of.ensures.others t5 q (λ e. cc) none ∙ (c.in-Err.ensures.others t4 q (λ e. other (ap Some (sym e))) ∙ ap (λ f. f q) k4)
+
+pub returns-clause-order : goal.returns-clause-order
+returns-clause-order g c =
+    let r = c.args.asked.now in
+    let d = r.decrypting in
+    let save = text_of d.save in
+    let events = g.F.FileSet.events in
+    subst (λ o. Follows ((o ++ ((Opened r.position.now ∷ Opened r.old.now ∷ Opened d.from.now ∷ []) ++ making (Some d.to.now))) ++ making save) (events c.args.files.now) (events c.end_of.new.files))
+    (sym (chosen_opens d.unlocking c.in_ok-chosen.chosen c.in_ok-chosen.ensures))
+    (stop_follows _ _ _ _ _ _ (Opened r.position.now ∷ Opened r.old.now ∷ Opened d.from.now ∷ []) d.to.now save c.in_ok-material.ensures.noted
+    (three_events _ _ _ _ _ _ _ c.in_ok-position.ensures.noted c.in_ok-old.ensures.noted c.in_ok-source.ensures.noted) _ c.in-Err.ensures.noted_stop c.end_of.ensures.noted c.end_of.ensures.idle)

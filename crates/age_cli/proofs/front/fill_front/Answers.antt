@@ -1,7 +1,7 @@
 use Rattle.std.proofs.Common.{take, arith, ap, length}
 use Rattle.std.proofs.lemmas.List.{length-append, length-take}
 use Rattle.age_file.proofs.Bytes.{Consumes-then}
-use Rattle.age_cli.proofs.front.read_front.Goals as goal
+use Rattle.age_cli.proofs.front.fill_front.Goals as goal
 
 pub pieces-preserved : goal.pieces-preserved
 pieces-preserved g c =

@@ -1,6 +1,6 @@
 use Rattle.std.proofs.Common.{◌≡◌, ◌≤◌, ◌-◌, length}
 use Rattle.std.specs.Io.KnownBytes.{Consumes}
-use Rattle.age_cli.proofs.front.read_front.Given as goal
+use Rattle.age_cli.proofs.front.fill_front.Given as goal
 
 -- what was read so far
 abbrev pub invariant-pieces : goal.invariant-pieces

@@ -1,0 +1,60 @@
+-- What a command did, of the arguments that ask for it.
+use Rattle.std.proofs.Common.{◌≡◌, ◌∙◌, ap, sym, subst, refl, codes, List, [], Option}
+use Rattle.std.specs.Option.{option_map_or}
+use Rattle.clap.specs.Words.{Row, Text}
+use Rattle.age_cli.specs.Asked.{Asks}
+use Rattle.age_cli.specs.Requests.{IsUnlocking, IsDecrypting, IsResuming, Requests}
+use Rattle.age_cli.specs.declared.request.Request.TheVariants.{Decrypt, Resume}
+use Rattle.age_cli.specs.declared.request.Unlocking.{Unlocking}
+use Rattle.age_cli.specs.declared.request.Decrypting.{Decrypting}
+use Rattle.age_cli.specs.declared.request.Resuming.{Resuming}
+use Rattle.age_cli.specs.Held.{Held}
+use Rattle.age_cli.specs.Openers.{Options, options_of}
+use Rattle.age_cli.specs.OpenerSteps.{options_asked}
+use Rattle.age_cli.specs.Decryptions.{DecryptsFile, DecryptsRows}
+use Rattle.age_cli.specs.Resumptions.{ResumesFile, ResumesRows}
+
+-- the arguments name one command
+pub one_command : (words : List Text) (name other : Text) (rows given : List Row) → Asks words name rows → Asks words other given → rows ≡ given
+one_command words name other rows given a b =
+    ap (λ (o : Option (Text × List Row)). option_map_or (λ p. p.1) o []) (sym a.command ∙ b.command)
+
+-- the options that are asked for are those that the arguments give
+pub options_same : (rows : List Row) (u : Unlocking) → IsUnlocking rows u → options_of rows ≡ options_asked u
+options_same rows u is = rw (sym is.pass, sym is.file_key, sym is.shared, sym is.max_log) refl
+
+decrypts_given : (rows : List Row) (d : Decrypting) (old new : Held) → IsDecrypting rows d → DecryptsFile (options_asked d.unlocking) d.from.now d.to.now old new → DecryptsRows rows old new
+decrypts_given rows d old new is did = record {
+  from = d.from.now;
+  to = d.to.now;
+  from_is = sym is.from;
+  to_is = sym is.to;
+  decrypts = subst (λ (o : Options). DecryptsFile o d.from.now d.to.now old new) (sym (options_same rows d.unlocking is.unlocking)) did;
+}
+
+pub decrypts_rows : (words : List Text) (rows : List Row) (d : Decrypting) (old new : Held) → Requests words (Decrypt d) → Asks words (codes "decrypt") rows
+    → DecryptsFile (options_asked d.unlocking) d.from.now d.to.now old new → DecryptsRows rows old new
+decrypts_rows words rows d old new (name, given, asked, request) asks did =
+    subst (λ (t : List Row). DecryptsRows t old new) (one_command words name (codes "decrypt") given rows asked asks) (decrypts_given given d old new request.1 did)
+
+resumes_given : (rows : List Row) (r : Resuming) (old new : Held) → IsResuming rows r
+    → ResumesFile (options_asked r.decrypting.unlocking) r.position.now r.old.now r.decrypting.from.now r.decrypting.to.now old new → ResumesRows rows old new
+resumes_given rows r old new is did =
+    let d = is.decrypting in
+    record {
+      position_name = r.position.now;
+      old_name = r.old.now;
+      from = r.decrypting.from.now;
+      to = r.decrypting.to.now;
+      position_name_is = sym is.position;
+      old_name_is = sym is.old;
+      from_is = sym d.from;
+      to_is = sym d.to;
+      resumes = subst (λ (o : Options). ResumesFile o r.position.now r.old.now r.decrypting.from.now r.decrypting.to.now old new)
+          (sym (options_same rows r.decrypting.unlocking d.unlocking)) did;
+    }
+
+pub resumes_rows : (words : List Text) (rows : List Row) (r : Resuming) (old new : Held) → Requests words (Resume r) → Asks words (codes "resume") rows
+    → ResumesFile (options_asked r.decrypting.unlocking) r.position.now r.old.now r.decrypting.from.now r.decrypting.to.now old new → ResumesRows rows old new
+resumes_rows words rows r old new (name, given, asked, request) asks did =
+    subst (λ (t : List Row). ResumesRows t old new) (one_command words name (codes "resume") given rows asked asks) (resumes_given given r old new request.1 did)
