@@ -1,6 +1,6 @@
 -- From what was read, copied, passed over and poured to what a resumed decryption did.
 use Rattle.std.proofs.Common.{◌≡◌, ℕ, ◌+◌, ◌*◌, ◌<◌, ◌≤◌, ◌/◌, min, List, [], ◌++◌, length, take, drop, Option, Some, None, refl, inl, inr, sym, ap, subst, ◌∙◌, suc, arith, append-nil, append_assoc}
-use Rattle.std.specs.Prelude.{Result, MatchResult, Ok, Err}
+use Rattle.std.specs.Prelude.{Result, MatchResult, Ok, Err, IsSomeAnd}
 use Rattle.std.specs.Simd.{first_chunks}
 use Rattle.std.specs.Io.KnownBytes.{Consumes, Appends}
 use Rattle.std.proofs.KnownBytes.{Consumes-nil}
@@ -17,11 +17,13 @@ use Rattle.age_cipher.specs.Opening.{opening}
 use Rattle.age_keys.specs.Keys.{payload_key, position_key}
 use Rattle.age_keys.specs.PayloadBox.{box_lawful}
 use Rattle.age_file.specs.AgeFile.{box, unbox}
-use Rattle.age_file.specs.Bindings.{file_id, chain, position_tag}
+use Rattle.age_file.specs.Bindings.{file_id, chain, chain_if, position_tag}
+use Rattle.age_file.specs.declared.position.Positions.TheVariants.{Kept}
 use Rattle.age_file.specs.Copies.{CopiesText}
 use Rattle.age_file.specs.Faults.{HasRisen}
 use Rattle.age_file.specs.GoingOn.{side_of, GoesOn, PoursBehind}
 use Rattle.age_file.specs.Intakes.{Pulled}
+use Rattle.age_file.specs.Decrypts.{IsPositionAt, PositionAt}
 use Rattle.age_file.specs.Marks.{IsMarked}
 use Rattle.age_file.specs.Passages.{Side, Passes, Dries, PassFails}
 use Rattle.age_file.specs.Pours.{Stage, Pours, PourFails, PourDone}
@@ -35,7 +37,6 @@ use Rattle.age_file.specs.Unread.{Unread}
 use Rattle.age_file.specs.declared.fault.FileFault.{FileFault}
 use Rattle.age_file.specs.declared.fault.FileFault.TheVariants.{Stream, OtherFile, ShortText, Read, Write, ReadNeverEnds, PositionForged, OldTextDiffers}
 use Rattle.age_file.specs.declared.position.Position.{Position}
-use Rattle.age_file.specs.declared.progress.Progress.{Progress}
 use Rattle.age_file.specs.declared.start.Unlocked.{Unlocked}
 use Rattle.age_file.proofs.Bytes.{Appends-then, prefix_trans}
 use Rattle.age_file.proofs.DecryptSteps.{own_tag}
@@ -219,7 +220,7 @@ module _ (Allows : Header → List ℕ → Type 0) (Refused : Header → KeyFaul
             of = old_of p x.coming z.coming (c.out ++ z.unread.bytes) c.out used.consumed front le;
           },
           f.0.0,
-          λ e. f.1 (f.0.4 ∙ e),
+          λ e. f.1 (f.0.4 ∙ ap Some e),
         )
     copy_fails other c = absurd c.answered.1
 
@@ -228,7 +229,11 @@ module _ (Allows : Header → List ℕ → Type 0) (Refused : Header → KeyFaul
     -- the old text was copied, and is the position's
     module _ (c : CopiesText 65536 p.index p.chain x z first s1.tally (Ok tt)) (limit : p.index < 281474976710656) where
       old_text : IsOldText p c.out
-      old_text = (let f = c.answered in old_text_of p c.out f.0.0 (sym f.0.4 ∙ f.1))
+      old_text =
+          let f = c.answered in
+          let both : Some (chain (first_chunks 65536 p.index c.out)) ≡ Some p.chain = sym f.0.4 ∙ f.1 in
+          let same_links : chain (first_chunks 65536 p.index c.out) ≡ p.chain = cc in
+          old_text_of p c.out f.0.0 same_links
 
       old_used : Pulled x.coming z.coming z.unread.pulls (c.out ++ z.unread.bytes)
       old_used = used_old x z c.out none pulls c.answered.0.1
@@ -296,7 +301,7 @@ module _ (Allows : Header → List ℕ → Type 0) (Refused : Header → KeyFaul
         file_is : run.file ≡ file
         is : IsResumption Allows p (before a i first x) (after s2 z) s2.tally.progress.written run
         pulled : Pulled a s2.coming s2.unread.pulls (head ++ (run.passed ++ run.bytes))
-        marks : IsMarked (unbox run.file.key run.file.nonce) 65536 (run.copied ++ run.out) (segment_at p run) s2.tally.progress
+        marks : IsMarked Kept (unbox run.file.key run.file.nonce) 65536 (run.copied ++ run.out) (segment_at p run) s2.tally.progress
         mid : Stage
         read_failed : mid.read_failed ≡ i
         write_failed : mid.tally.failed ≡ first.failed
@@ -315,7 +320,7 @@ module _ (Allows : Header → List ℕ → Type 0) (Refused : Header → KeyFaul
           let wrote : Appends s1.tally.taken s2.tally.taken q.out = subst (λ (t : Option (List ℕ)). Appends t s2.tally.taken q.out) (ap (λ (t : Tally). t.taken) b.same) q.wrote in
           let written : b.mid.tally.progress.written ≡ s1.tally.progress.written = ap (λ (t : Tally). t.progress.written) b.same in
           let index : b.mid.tally.progress.index ≡ p.index = ap (λ (t : Tally). t.progress.index) b.same ∙ c.answered.0.3 in
-          let links : b.mid.tally.progress.chain ≡ chain (first_chunks 65536 p.index c.out) = ap (λ (t : Tally). t.progress.chain) b.same ∙ c.answered.0.4 in
+          let links : b.mid.tally.progress.chain ≡ chain_if Kept (first_chunks 65536 p.index c.out) = ap (λ (t : Tally). t.progress.chain) b.same ∙ c.answered.0.4 in
           record {
             run = record { file = file; copied = c.out; passed = b.passed; bytes = q.bytes; ended = q.ended; out = q.out };
             file_is = refl;
@@ -333,7 +338,7 @@ module _ (Allows : Header → List ℕ → Type 0) (Refused : Header → KeyFaul
               prefix = q.prefix;
             };
             pulled = pulls;
-            marks = q.marks c.out c.answered.0.0 index links;
+            marks = q.marks Kept c.out c.answered.0.0 index links;
             mid = b.mid;
             read_failed = b.passes.unfailed ∙ same;
             write_failed = ap (λ (t : Tally). t.failed) b.same ∙ c.answered.0.2;
@@ -352,23 +357,19 @@ module _ (Allows : Header → List ℕ → Type 0) (Refused : Header → KeyFaul
           }
 
       -- the position behind what was written
-      record IsHere (now : Progress) (next : Position) : Type 0 where
-        index : next.index ≡ now.index
-        file_id_is : next.file_id ≡ unlocked.id
-        chain_is : next.chain ≡ now.chain
-        tag_is : next.tag ≡ position_tag (position_key unlocked.key unlocked.nonce) now.index unlocked.id now.chain
+      abbrev IsHere : (s2 : Stage) (result : Result (Unit {0}) FileFault) (next : Position) (b : IsPoured s2 result) → Type 0
+      IsHere s2 result next b = IsPositionAt unlocked s2.tally.progress.index (chain (first_chunks 65536 s2.tally.progress.index (b.run.copied ++ b.run.out))) next
 
-      next_position : (s2 : Stage) (result : Result (Unit {0}) FileFault) (next : Position) (b : IsPoured s2 result) → IsHere s2.tally.progress next → IsNextPosition p b.run next
+      next_position : (s2 : Stage) (result : Result (Unit {0}) FileFault) (next : Position) (b : IsPoured s2 result) → IsHere s2 result next b → IsNextPosition p b.run next
       next_position s2 result next b h =
           let text = b.run.copied ++ b.run.out in
-          let over : next.chain ≡ chain (first_chunks 65536 next.index text) = h.chain_is ∙ (b.marks.chain_is ∙ ap (λ (k : ℕ). chain (first_chunks 65536 k text)) (sym h.index)) in
-          let least : next.index ≡ min (length text / 65536) (outcome (unbox b.run.file.key b.run.file.nonce) 65536 (segment_at p b.run)).index = h.index ∙ b.marks.index in
+          let over : next.chain ≡ chain (first_chunks 65536 next.index text) = h.chain_is ∙ ap (λ (k : ℕ). chain (first_chunks 65536 k text)) (sym h.index_is) in
+          let least : next.index ≡ min (length text / 65536) (outcome (unbox b.run.file.key b.run.file.nonce) 65536 (segment_at p b.run)).index = h.index_is ∙ b.marks.index in
           record {
             index = least;
             own = h.file_id_is ∙ (s.id ∙ ap (λ (f : OpenedFile). file_id f.front f.nonce) (sym b.file_is));
             chain_is = over;
-            tagged = own_tag (position_key unlocked.key unlocked.nonce) next.tag s2.tally.progress.index next.index unlocked.id next.file_id s2.tally.progress.chain next.chain h.index h.file_id_is h.chain_is h.tag_is
-                ∙ ap (λ (f : OpenedFile). position_tag (position_key f.key f.nonce) next.index next.file_id next.chain) (sym b.file_is);
+            tagged = h.tag_is ∙ ap (λ (f : OpenedFile). position_tag (position_key f.key f.nonce) next.index next.file_id next.chain) (sym b.file_is);
             carries = λ whole auth.
                 let rest = resumes_of p b.run limit b.is.prefix whole auth in
                 let positive : 0 < 65536 = omega arith in
@@ -379,7 +380,7 @@ module _ (Allows : Header → List ℕ → Type 0) (Refused : Header → KeyFaul
                 );
           }
 
-      poured_fails : (s2 : Stage) (next : Position) (fault : FileFault) (b : IsPoured s2 (Err fault)) → IsHere s2.tally.progress next
+      poured_fails : (s2 : Stage) (next : Position) (fault : FileFault) (b : IsPoured s2 (Err fault)) → IsHere s2 (Err fault) next b
           → PourFails (unbox b.run.file.key b.run.file.nonce) 65536 b.mid s2 (segment_at p b.run) b.run.out fault
           → ResumeFails Allows p Refused (before a i first x) (after s2 z) s2.tally.progress.written (Some next) fault
       poured_fails s2 next (Stream fault) b h f = (
@@ -410,29 +411,36 @@ module _ (Allows : Header → List ℕ → Type 0) (Refused : Header → KeyFaul
       resume_done key s2 key_is (inr behind) = (let b = poured key s2 (Ok tt) key_is behind in (b.run, poured_done s2 b))
 
       -- the position is that from which the run began, where nothing was poured
-      same_position : (s2 : Stage) (next : Position) → s2.tally ≡ s1.tally → IsHere s2.tally.progress next → IsSame p next
+      same_position : (s2 : Stage) (next : Position) → s2.tally ≡ s1.tally → IsPositionAt unlocked s2.tally.progress.index p.chain next → IsSame p next
       same_position s2 next still h =
-          let index : next.index ≡ p.index = h.index ∙ (ap (λ (t : Tally). t.progress.index) still ∙ c.answered.0.3) in
-          let links : next.chain ≡ p.chain = h.chain_is ∙ (ap (λ (t : Tally). t.progress.chain) still ∙ c.answered.1) in
+          let index : next.index ≡ p.index = h.index_is ∙ (ap (λ (t : Tally). t.progress.index) still ∙ c.answered.0.3) in
           let id : next.file_id ≡ p.file_id = h.file_id_is ∙ sym v.0 in
           record {
             index = index;
             file_id_is = id;
-            chain_is = links;
-            tag_is = own_tag (position_key unlocked.key unlocked.nonce) next.tag s2.tally.progress.index p.index unlocked.id p.file_id s2.tally.progress.chain p.chain
-                (sym index ∙ h.index) (sym id ∙ h.file_id_is) (sym links ∙ h.chain_is) h.tag_is
-                ∙ sym v.1;
+            chain_is = h.chain_is;
+            tag_is = own_tag (position_key unlocked.key unlocked.nonce) next.tag next.index p.index next.file_id p.file_id next.chain p.chain (sym index) (sym id) (sym h.chain_is) h.tag_is ∙ sym v.1;
           }
 
-      pub resume_fails : (key : List ℕ) (s2 : Stage) (next : Position) (fault : FileFault) → key ≡ payload_key unlocked.key unlocked.nonce
-          → next.index ≡ s2.tally.progress.index → next.file_id ≡ unlocked.id → next.chain ≡ s2.tally.progress.chain
-          → next.tag ≡ position_tag (position_key unlocked.key unlocked.nonce) s2.tally.progress.index unlocked.id s2.tally.progress.chain
-          → GoesOn (λ nonce block. opening key nonce [] block) p.index s1 s2 (Err fault) → ResumeFails Allows p Refused (before a i first x) (after s2 z) s2.tally.progress.written (Some next) fault
-      resume_fails key s2 next fault key_is index id links tag (inl stopped) =
+      passed_told : (s2 : Stage) (position : Option Position) (fault : FileFault) → s2.tally ≡ s1.tally → IsSomeAnd position (IsPositionAt unlocked s2.tally.progress.index p.chain)
+          → PassFails 65552 p.index (side_of s1) (side_of s2) fault → ResumeFails Allows p Refused (before a i first x) (after s2 z) s2.tally.progress.written position fault
+      passed_told s2 (Some next) fault still at f = passed_fails s2 next fault still (same_position s2 next still at) f
+      passed_told s2 None fault still at f = absurd at
+
+      poured_told : (s2 : Stage) (position : Option Position) (fault : FileFault) (b : IsPoured s2 (Err fault)) → IsSomeAnd position (λ next. IsHere s2 (Err fault) next b)
+          → ResumeFails Allows p Refused (before a i first x) (after s2 z) s2.tally.progress.written position fault
+      poured_told s2 (Some next) fault b at = poured_fails s2 next fault b at b.answered
+      poured_told s2 None fault b at = absurd at
+
+      pub resume_fails : (key : List ℕ) (s2 : Stage) (position : Option Position) (fault : FileFault) → key ≡ payload_key unlocked.key unlocked.nonce
+          → PositionAt unlocked s2.tally.progress.index s2.tally.progress.chain position
+          → GoesOn (λ nonce block. opening key nonce [] block) p.index s1 s2 (Err fault) → ResumeFails Allows p Refused (before a i first x) (after s2 z) s2.tally.progress.written position fault
+      resume_fails key s2 position fault key_is at (inl stopped) =
           let is : Err fault ≡ Err stopped.fault = stopped.is in
           let e : stopped.fault ≡ fault = cc in
-          passed_fails s2 next fault stopped.same (same_position s2 next stopped.same (record { index = index; file_id_is = id; chain_is = links; tag_is = tag }))
+          let links : s2.tally.progress.chain ≡ Some p.chain = ap (λ (t : Tally). t.progress.chain) stopped.same ∙ c.answered.1 in
+          passed_told s2 position fault stopped.same (subst (λ (l : Option (List ℕ)). PositionAt unlocked s2.tally.progress.index l position) links at)
           (subst (λ (f : FileFault). PassFails 65552 p.index (side_of s1) (side_of s2) f) e stopped.fails)
-      resume_fails key s2 next fault key_is index id links tag (inr behind) =
+      resume_fails key s2 position fault key_is at (inr behind) =
           let b = poured key s2 (Err fault) key_is behind in
-          poured_fails s2 next fault b (record { index = index; file_id_is = id; chain_is = links; tag_is = tag }) b.answered
+          poured_told s2 position fault b (subst (λ (l : Option (List ℕ)). PositionAt unlocked s2.tally.progress.index l position) b.marks.chain_is at)

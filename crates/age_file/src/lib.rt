@@ -35,7 +35,7 @@ mod sink;
 mod source;
 mod start;
 
-pub use decryption::{Done, Stopped, decrypt};
+pub use decryption::{Done, Stopped, decrypt, decrypt_with};
 pub use encryption::{Written, encrypt};
 pub use failed::{Failed, Memory};
 pub use fault::FileFault;
@@ -43,7 +43,7 @@ pub use inspection::inspect;
 pub use laws::{age_file_is_whole, calls_in_a_row, round_trip, runs_in_a_row};
 pub use mem_sink::MemSink;
 pub use mem_source::MemSource;
-pub use position::Position;
+pub use position::{Position, Positions};
 pub use put::{flush_all, put_all, write_all};
 pub use report::{Report, StanzaReport, StanzaReports};
 pub use resumption::resume;

@@ -1,6 +1,6 @@
 //! Goes on with a decryption that stopped.
 
-ghost use Rattle.std.specs.Prelude.{◌≡◌, ℕ, List, ◌^◌, ◌<◌, ◌≤◌, [], replicate, IfOk, OnOk, IfErr, MatchResult};
+ghost use Rattle.std.specs.Prelude.{◌≡◌, ℕ, List, ◌^◌, ◌<◌, ◌≤◌, [], IfOk, OnOk, IfErr, MatchResult};
 ghost use Rattle.age_file.specs.Releases.{tally};
 ghost use Rattle.age_file.specs.Passages.{side};
 ghost use Rattle.age_file.specs.Copies.{CopiesText};
@@ -8,6 +8,8 @@ ghost use Rattle.age_file.specs.Pours.{stage};
 ghost use Rattle.age_file.specs.GoingOn.{HasPulled, GoesOn};
 ghost use Rattle.age_file.specs.Ports.{ports};
 ghost use Rattle.age_file.specs.Decrypts.{WritesText, StopsOutside};
+ghost use Rattle.age_file.specs.declared.position.Positions.TheVariants.{Kept};
+ghost use Rattle.age_file.specs.Bindings.{chain_if};
 ghost use Rattle.age_file.specs.Verdicts.{VerdictOn};
 ghost use Rattle.age_file.specs.Resumes.{resume_ports};
 ghost use Rattle.age_file.specs.ResumeFaults.{ResumeEnds, ResumeStops};
@@ -19,7 +21,7 @@ use crate::decryption::{Done, Stopped, position_of};
 use crate::fault::FileFault;
 use crate::intake::Intake;
 use crate::passage::pass_over;
-use crate::position::{Position, tag_of};
+use crate::position::{Position, Positions, tag_of};
 use crate::pour::pour;
 use crate::progress::Progress;
 use crate::sink::Sink;
@@ -53,7 +55,7 @@ fn copy_old<L: Source, O: Sink>(
     progress: &mut Progress,
 ) -> Result<(), FileFault>
     requires fresh { (progress.old.written ≡ 0) × (progress.old.index ≡ 0)
-        × (progress.old.chain ≡ replicate 32 0) }
+        × (progress.old.chain ≡ chain_if Kept []) }
     ensures { CopiesText 65536 position.now.index position.now.chain
         (side (L.remaining old_reader.old) (L.failed old_reader.old) intake.old)
         (side (L.remaining old_reader.new) (L.failed old_reader.new) intake.new)
@@ -62,7 +64,7 @@ fn copy_old<L: Source, O: Sink>(
         result }
 {
     copy_chunks(old_reader, intake, position.index, writer, progress)?;
-    if progress.chain != position.chain {
+    if progress.chain != Some(position.chain) {
         return Err(FileFault::OldTextDiffers);
     }
     Ok(())
@@ -152,7 +154,7 @@ pub fn resume<U: Unlock, S: Source, L: Source, O: Sink>(
         Ok(()) => {}
         Err(fault) => return Err(Stopped::early(fault)),
     }
-    let mut progress = Progress::new();
+    let mut progress = Progress::new(Positions::Kept);
     match copy_old(position, old_reader, &mut old_intake, writer, &mut progress) {
         Ok(()) => {}
         Err(fault) => return Err(Stopped::behind(fault, &progress, None)),
@@ -171,7 +173,7 @@ pub fn resume<U: Unlock, S: Source, L: Source, O: Sink>(
         }),
         Err(fault) => {
             let next = position_of(&unlocked, &progress);
-            Err(Stopped::behind(fault, &progress, Some(next)))
+            Err(Stopped::behind(fault, &progress, next))
         }
     }
 }

@@ -45,12 +45,11 @@ returns-clause-stopped g c =
     let z = side (g.L.Source.remaining c.copy_old.new.old_reader) (g.L.Source.failed c.copy_old.new.old_reader) c.copy_old.new.intake in
     let s1 = stage (tally (g.O.Sink.taken c.copy_old.new.writer) (g.O.Sink.failed c.copy_old.new.writer) (g.O.Sink.label c.copy_old.new.writer) c.copy_old.new.progress) (g.S.Source.remaining c.start.new.source) (g.S.Source.failed c.start.new.source) c.start.new.intake in
     let s2 = stage (tally (g.O.Sink.taken c.open_rest.new.writer) (g.O.Sink.failed c.open_rest.new.writer) (g.O.Sink.label c.open_rest.new.writer) c.open_rest.new.progress) (g.S.Source.remaining c.open_rest.new.reader) (g.S.Source.failed c.open_rest.new.reader) c.open_rest.new.intake in
-    let at = c.position_of-next.ensures in
     rw c.behind-in-Err-open_rest.ensures
     (resume_fails (g.U.Unlock.allows c.args.unlock.now) (g.U.Unlock.refuses c.args.unlock.now) c.args.position.now (g.S.Source.remaining c.args.reader.now) (g.S.Source.failed c.args.reader.now) c.in-Ok.unlocked
     s1 c.in-Ok.ensures.found c.in-Ok-verify.ensures c.in-Ok.ensures.unfailed first c.new-progress.ensures.written x z c.in-Ok-Ok.ensures'.0 c.in-Ok-Ok.ensures'.1
     c.in-Ok-copy_old.ensures c.args.position.now.within c.payload_key-key.result s2 c.position_of-next.result c.in-Err-open_rest.fault c.payload_key-key.ensures
-    at.index at.file_id at.chain at.tag c.in-Err-open_rest.ensures.goes_on)
+    c.position_of-next.ensures c.in-Err-open_rest.ensures.goes_on)
 
 pub returns-in-Err-clause-undamaged : goal.returns-in-Err-clause-undamaged
 returns-in-Err-clause-undamaged g c = λ text whole.
