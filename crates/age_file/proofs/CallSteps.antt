@@ -83,7 +83,7 @@ module _ (text : List ℕ) (few : chunk_count 65536 text ≤ 281474976710656) (k
 
 -- ---- a resumed one, where the old text begins the text
 
-module _ (text : List ℕ) (few : chunk_count 65536 text ≤ 281474976710656) (A : Header → List ℕ → Type 0) (R : Header → KeyFault → Type 0) where
+module _ (text : List ℕ) (few : chunk_count 65536 text ≤ 281474976710656) (keep : Positions) (A : Header → List ℕ → Type 0) (R : Header → KeyFault → Type 0) where
   authentic_of : (p : Position) (r : Resumption) → IsOldText p r.copied → IsPrefixOf r.copied text → IsTextsFrom text p r → IsAuthenticResumption p r text
   authentic_of p r old c auth = record {
     few = few;
@@ -102,9 +102,9 @@ module _ (text : List ℕ) (few : chunk_count 65536 text ≤ 281474976710656) (A
     in_old_right : StopsInOld A p old new written position → Right text new.main.taken position
     in_old_right s = (old_right s.copied s.writes, none_carries (CarriesText text) position s.none)
 
-    in_passed_right : (passed : List ℕ) → StopsInPassed A p old new written position passed → Right text new.main.taken position
+    in_passed_right : (passed : List ℕ) → StopsInPassed keep A p old new written position passed → Right text new.main.taken position
     in_passed_right passed s =
-        (old_right s.copied s.writes, some_carries (IsSame p) (CarriesText text) position s.here (λ q same. same_carries p q s.copied text s.old_text (copied_begins s.copied s.writes) same))
+        (old_right s.copied s.writes, some_told keep (IsSame p) (CarriesText text) position s.here (λ q same. same_carries p q s.copied text s.old_text (copied_begins s.copied s.writes) same))
 
     run_begins : (r : Resumption) → IsResumption A p old new written r → IsPrefixOf r.copied text
     run_begins r is = prefix_trans r.copied (r.copied ++ is.more) text (is.more, refl) (pulled_begins text old.old_coming new.old_coming (r.copied ++ is.more) before is.old_read)
@@ -112,14 +112,14 @@ module _ (text : List ℕ) (few : chunk_count 65536 text ≤ 281474976710656) (A
     run_authentic : (r : Resumption) → IsResumption A p old new written r → IsTextsFrom text p r → IsAuthenticResumption p r text
     run_authentic r is auth = authentic_of p r is.old_text (run_begins r is) auth
 
-    rerun_right : (r : Resumption) → IsResumption A p old new written r → ResumesOf p r → IsSomeAnd position (IsNextPosition p r) → IsTextsFrom text p r → Right text new.main.taken position
+    rerun_right : (r : Resumption) → IsResumption A p old new written r → ResumesOf p r → Told keep (IsNextPosition p r) position → IsTextsFrom text p r → Right text new.main.taken position
     rerun_right r is of at auth =
         let whole = run_authentic r is auth in (
           record { out = r.copied ++ r.out; told = took old.main.taken new.main.taken (r.copied ++ r.out) empty is.wrote; begins = of text whole },
-          some_carries (IsNextPosition p r) (CarriesText text) position at (λ q h. h.carries text whole),
+          some_told keep (IsNextPosition p r) (CarriesText text) position at (λ q h. h.carries text whole),
         )
 
-    next_right : (fault : FileFault) (f : ResumeFails A p R old new written position fault) → NextStopIsTexts text A p R old new written position fault f → Right text new.main.taken position
+    next_right : (fault : FileFault) (f : ResumeFails keep A p R old new written position fault) → NextStopIsTexts text keep A p R old new written position fault f → Right text new.main.taken position
     next_right OtherFile f auth = none_right text old.main new.main written position empty f.0
     next_right PositionForged f auth = none_right text old.main new.main written position empty f.0
     next_right ShortText f auth = in_old_right f.0
@@ -150,14 +150,14 @@ module _ (Who : Type 0) (Allows : Who → Header → List ℕ → Type 0) (Refus
   first_right keep who old new (Ok done) empty f auth = took old.taken new.taken f.0.out empty f.1.wrote.is.wrote ∙ ap Some (f.1.all text (few, auth))
   first_right keep who old new (Err s) empty f auth = stop_right text few keep (Allows who) (Refused who) old new s.written s.position s.fault empty f auth
 
-  call_right : (who : Who) (p : Position) (old new : ResumePorts) (result : Result Done Stopped) → old.main.taken ≡ Some [] → TookBeginning text old.old_coming
-      → (f : ResumeAnswers Who Allows Refused who p old new result) → NextAnswerIsTexts Who Allows Refused text who p old new result f → AnswersRight text new.main.taken result
-  call_right who p old new (Ok done) empty before f auth =
+  call_right : (keep : Positions) (who : Who) (p : Position) (old new : ResumePorts) (result : Result Done Stopped) → old.main.taken ≡ Some [] → TookBeginning text old.old_coming
+      → (f : ResumeAnswers Who Allows Refused keep who p old new result) → NextAnswerIsTexts Who Allows Refused text keep who p old new result f → AnswersRight text new.main.taken result
+  call_right keep who p old new (Ok done) empty before f auth =
       let r = f.0 in
       let is = f.1.resumed.is in
-      let whole = run_authentic text few (Allows who) (Refused who) p old new done.written None empty before r is auth in
+      let whole = run_authentic text few keep (Allows who) (Refused who) p old new done.written None empty before r is auth in
       took old.main.taken new.main.taken (r.copied ++ r.out) empty is.wrote ∙ ap Some (f.1.all text whole)
-  call_right who p old new (Err s) empty before f auth = next_right text few (Allows who) (Refused who) p old new s.written s.position empty before s.fault f auth
+  call_right keep who p old new (Err s) empty before f auth = next_right text few keep (Allows who) (Refused who) p old new s.written s.position empty before s.fault f auth
 
   last_began : (first : FirstCall Who Allows Refused) (calls : List (NextCall Who Allows Refused)) → AllAnswerRight Who Allows Refused text first calls → TookBeginning text (taken Who Allows Refused first calls)
   last_began first [] a = began text first.new.taken first.result a
@@ -169,4 +169,4 @@ module _ (Who : Type 0) (Allows : Who → Header → List ℕ → Type 0) (Refus
   in_a_row first (c ∷ earlier) row auth =
       let rest = in_a_row first earlier row.1 auth.1 in
       let before = subst (TookBeginning text) (sym row.0) (last_began first earlier rest) in
-      (call_right c.who c.from c.old c.new c.result c.empty before c.answers auth.0, rest)
+      (call_right c.keep c.who c.from c.old c.new c.result c.empty before c.answers auth.0, rest)

@@ -46,7 +46,7 @@ pub use mem_source::MemSource;
 pub use position::{Position, Positions};
 pub use put::{flush_all, put_all, write_all};
 pub use report::{Report, StanzaReport, StanzaReports};
-pub use resumption::resume;
+pub use resumption::{resume, resume_with};
 pub use secret::Secret;
 pub use sink::{Sink, Writing};
 pub use source::{Reading, Source};

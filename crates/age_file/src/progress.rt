@@ -1,7 +1,8 @@
 //! How far a run has come.
 
-ghost use Rattle.std.specs.Prelude.{◌≡◌, ◌<◌, []};
+ghost use Rattle.std.specs.Prelude.{◌≡◌, ◌<◌, ℕ, List, []};
 ghost use Rattle.age_file.specs.Bindings.{chain_if, link_if};
+ghost use Rattle.age_file.specs.declared.position.Positions.TheVariants.{Kept};
 
 use crate::position::{Positions, next_link};
 
@@ -43,6 +44,19 @@ impl Progress {
         match &self.chain {
             Some(chain) => Some(next_link(chain, chunk)),
             None => None,
+        }
+    }
+
+    /// Drops the chain where positions aren't kept.
+    pub(crate) fn keep(&mut self, positions: Positions)
+        ensures written { self.new.written ≡ self.old.written }
+        ensures index { self.new.index ≡ self.old.index }
+        ensures chain { (chunks : List (List ℕ)) → self.old.chain ≡ chain_if Kept chunks
+            → self.new.chain ≡ chain_if positions chunks }
+    {
+        match positions {
+            Positions::Kept => {}
+            Positions::Dropped => self.chain = None,
         }
     }
 
