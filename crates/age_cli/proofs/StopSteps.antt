@@ -5,7 +5,14 @@ use Rattle.age_file.specs.declared.position.Position.{Position}
 use Rattle.age_file.specs.declared.fault.FileFault.{FileFault}
 use Rattle.std.specs.Option.{option_map_or}
 use Rattle.std.specs.Prelude.{codes, List, []}
-use Rattle.std.proofs.Common.{subst}
+use Rattle.std.proofs.Common.{subst, ℕ, length}
+use Rattle.std.specs.Io.KnownBytes.{Appends}
+use Rattle.std.proofs.lemmas.List.{nil_from_length}
+use Rattle.age_stanza.specs.declared.header.Header.{Header}
+use Rattle.age_keys.specs.declared.fault.KeyFault.{KeyFault}
+use Rattle.age_file.specs.Ports.{Ports}
+use Rattle.age_file.specs.Decrypts.{DecryptFails, WritesNone, WroteSoFar}
+use Rattle.age_file.specs.declared.fault.FileFault.TheVariants as fault
 use Rattle.clap.specs.Words.{Row, Text}
 use Rattle.age_cli.specs.Asked.{Asks}
 use Rattle.age_cli.specs.Requests.{IsDecrypting, Requests}
@@ -21,13 +28,44 @@ pub either : {T E : Type 0} (r : Result T E) (A B : Type 0) → OnOk r A → OnE
 either (Ok x) A B a b = inl a
 either (Err e) A B a b = inr b
 
+none_out : (new : Option (List ℕ)) (out : List ℕ) (written : ℕ) → Appends (Some []) new out → written ≡ length out → written ≡ 0 → new ≡ Some []
+none_out None out written put count none = absurd put
+none_out (Some ys) out written put count none = ap Some (put ∙ nil_from_length out (sym count ∙ none))
+
+-- where a decryption wrote nothing, the sink holds nothing, as before
+module _ (A : Header → List ℕ → Type 0) (R : Header → KeyFault → Type 0) (old new : Ports) (written : ℕ) (position : Option Position) (empty : old.taken ≡ Some []) (none : written ≡ 0) where
+  of_out : (out : List ℕ) → Appends old.taken new.taken out → written ≡ length out → new.taken ≡ Some []
+  of_out out put count = none_out new.taken out written (subst (λ (o : Option (List ℕ)). Appends o new.taken out) empty put) count none
+
+  of_none : WritesNone old new written position → new.taken ≡ Some []
+  of_none h = of_out [] h.0 h.1
+
+  of_so_far : WroteSoFar A old new written position → new.taken ≡ Some []
+  of_so_far (inl h) = of_none h.0
+  of_so_far (inr h) = of_out h.0.out h.1.is.wrote h.1.is.count
+
+  pub stopped_empty : (fault : FileFault) → DecryptFails A R old new written position fault → new.taken ≡ Some []
+  stopped_empty (fault.Stream f) h = of_out h.0.out h.1.is.wrote h.1.is.count
+  stopped_empty fault.Write h = of_out h.0.out h.1.wrote h.1.count
+  stopped_empty fault.Read h = of_so_far h.0
+  stopped_empty fault.ReadNeverEnds h = of_so_far h.0
+  stopped_empty (fault.Head f) h = of_none h.0
+  stopped_empty (fault.Key f) h = of_none h.0
+  stopped_empty fault.NonceCut h = of_none h.0
+  stopped_empty fault.BadPosition h = of_none h.0
+  stopped_empty fault.OtherFile h = of_none h.0
+  stopped_empty fault.ShortText h = of_none h.0
+  stopped_empty fault.Memory h = of_none h.0
+  stopped_empty fault.PositionForged h = of_none h.0
+  stopped_empty fault.OldTextDiffers h = of_none h.0
+
 -- an ending is the same seen from before the output was made, where the position goes elsewhere
 pub ends_from : (f : FileFault) (name : Option Text) (p : Option Position) (old mid new : Held) (e : Ending) → ((q : Text) → name ≡ Some q → mid q ≡ old q)
     → EndsOf f name p mid new e → EndsOf f name p old new e
 ends_from f (Some n) (Some p) old mid new (Fault x) same h = h
 ends_from f (Some n) None old mid new (Fault x) same h = (h.0, h.1 ∙ same n refl)
 ends_from f None p old mid new (Fault x) same h = h
-ends_from f (Some n) (Some p) old mid new (Unsaved x s) same h = (h.0, ⊎_elim (λ e. inl (e ∙ same n refl)) (λ front. inr front) h.1)
+ends_from f (Some n) (Some p) old mid new (Unsaved x s) same h = (h.0, h.1 ∙ same n refl)
 ends_from f (Some n) None old mid new (Unsaved x s) same h = h
 ends_from f None p old mid new (Unsaved x s) same h = h
 ends_from f name p old mid new (Words t) same h = absurd h

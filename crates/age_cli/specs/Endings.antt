@@ -2,6 +2,9 @@
 use Rattle.std.specs.Prelude.{ℕ, Bool, true, false, if◌then◌else◌}
 use Rattle.age_cli.specs.declared.ending.Ending.{Ending}
 use Rattle.age_cli.specs.declared.ending.Ending.TheVariants.{Words, Usage, Fault, Unsaved}
+use Rattle.age_cli.specs.declared.ending.Usage.TheVariants as usage
+use Rattle.age_cli.specs.declared.files.CreateFault.{CreateFault}
+use Rattle.age_cli.specs.declared.files.CreateFault.TheVariants as create
 
 -- the command line was refused
 abbrev pub is_usage : Ending → Bool
@@ -13,3 +16,8 @@ is_usage (Unsaved fault second) = false
 -- the status of the program: 1 on a fault, 2 for a bad command line
 abbrev pub status_of : Ending → ℕ
 status_of e = if is_usage e then 2 else 1
+
+-- how a command ends whose output can't be created
+abbrev pub ending_of : CreateFault → Ending
+ending_of create.SameFile = Usage usage.SameFile
+ending_of (create.Fault fault) = Fault fault

@@ -2,7 +2,7 @@
 use Rattle.std.specs.Prelude.{List, ◌++◌, Some, codes}
 use Rattle.clap.specs.Words.{Row, first_of}
 use Rattle.age_cli.specs.Encryptions.{random_name}
-use Rattle.age_cli.specs.Events.{Event, opening, making, opener_order, decrypting_order}
+use Rattle.age_cli.specs.Events.{Event, opening, making, replacing, opener_order, decrypting_order}
 
 -- `decrypt`: what opens the input, the input, the output
 abbrev pub decrypt_order : List Row → List Event
@@ -10,7 +10,7 @@ decrypt_order rows = decrypting_order (first_of (codes "pass") rows) (first_of (
 
 -- and where it stops the position
 abbrev pub decrypt_whole : List Row → List Event
-decrypt_whole rows = decrypt_order rows ++ making (first_of (codes "save") rows)
+decrypt_whole rows = decrypt_order rows ++ replacing (first_of (codes "save") rows)
 
 -- before the input
 abbrev pub opener_rows : List Row → List Event

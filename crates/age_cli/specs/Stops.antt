@@ -17,9 +17,14 @@ use Rattle.age_cli.specs.declared.request.Decrypting.{Decrypting}
 use Rattle.age_cli.specs.declared.ending.Ending.{Ending}
 use Rattle.age_cli.specs.declared.ending.Ending.TheVariants.{Words, Usage, Fault, Unsaved}
 
--- the engine's promise for the input's bytes and what opens them, of a stop: the output holds what was written then, or
--- nothing, where it could not be closed
-pub record StopsOut (opener : Opener) (input output : Option (List ℕ)) (position : Option Position)
+-- where the output is left of which so many bytes were written: it holds what its sink took, or, where it could not be
+-- closed, what it held; and that for sure where nothing was written
+pub record Leaves (written : ℕ) (taken old new : Option (List ℕ)) : Type 0 where
+  pub held : (new ≡ taken) ⊎ (new ≡ old)
+  pub spared : written ≡ 0 → new ≡ old
+
+-- the engine's promise for the input's bytes and what opens them, of a stop
+pub record StopsOut (opener : Opener) (input old new : Option (List ℕ)) (position : Option Position)
     (fault : FileFault) : Type 0 where
   pub before : Ports
   pub after : Ports
@@ -27,22 +32,14 @@ pub record StopsOut (opener : Opener) (input output : Option (List ℕ)) (positi
   pub coming : input ≡ before.coming
   pub empty : before.taken ≡ Some []
   pub fails : DecryptFails (allows_by opener) (refuses_by opener) before after written position fault
-  pub taken : (output ≡ after.taken) ⊎ (output ≡ Some [])
+  pub leaves : Leaves written after.taken old new
 
--- the output could not be made, and is as it was; or the decryption stopped; or it could not be closed, and holds nothing
+-- the decryption stopped; or it did not, and the output could not be closed, and is as it was
 abbrev pub OutStops : Opener → Option (List ℕ) → Option (List ℕ) → Option (List ℕ) → Option Position
     → FileFault → Type 0
 OutStops opener input old new position fault =
-    ((new ≡ old) × (position ≡ None) × IsMemoryOr Write fault)
-    ⊎ (StopsOut opener input new position fault
-    ⊎ ((new ≡ Some []) × (position ≡ None) × (fault ≡ Write)))
-
--- a file holds a front of these bytes
-pub record HoldsFront (held : Option (List ℕ)) (bytes : List ℕ) : Type 0 where
-  pub front : List ℕ
-  pub rest : List ℕ
-  pub holds : held ≡ Some front
-  pub parts : bytes ≡ front ++ rest
+    StopsOut opener input old new position fault
+    ⊎ ((new ≡ old) × (position ≡ None) × (fault ≡ Write))
 
 -- the file of `--save` holds the position; without a position it is as it was
 abbrev pub IsSaved : Option Text → Option Position → Held → Held → Type 0
@@ -50,10 +47,9 @@ IsSaved (Some name) (Some position) old new = new name ≡ Some (position_text p
 IsSaved (Some name) None old new = new name ≡ old name
 IsSaved None position old new = Unit {0}
 
--- it is as it was, or holds a front of the position's text
+-- there is a position to save, and the file of `--save` is as it was
 abbrev pub SaveFails : Option Text → Option Position → Held → Held → Type 0
-SaveFails (Some name) (Some position) old new =
-    (new name ≡ old name) ⊎ HoldsFront (new name) (position_text position)
+SaveFails (Some name) (Some position) old new = new name ≡ old name
 SaveFails name position old new = ⊥
 
 -- the fault is told, and the position is saved; or it is told with that of a save that failed

@@ -2,7 +2,7 @@
 
 ghost use Rattle.age_cli.specs.Stops.{OutStops, Stops};
 ghost use Rattle.std.specs.Prelude.{◌≡◌, ◌⊎◌, [], ◌∷◌, ◌++◌, true, false, Some, None, IfErr, OnOk};
-ghost use Rattle.age_cli.specs.Events.{Follows, Created, Closed, making, opener_order, decrypting_order};
+ghost use Rattle.age_cli.specs.Events.{Follows, Closed, replacing, opener_order, decrypting_order};
 ghost use Rattle.age_cli.specs.Requests.{text_of};
 ghost use Rattle.age_cli.specs.OpenerSteps.{opener_of};
 ghost use Rattle.age_cli.specs.Decryptions.{DecryptsOut, DecryptsFile};
@@ -10,43 +10,44 @@ ghost use Rattle.age_cli.specs.Endings.{is_usage};
 ghost use Rattle.age_cli.specs.Held.{SparesBut, SparesBoth};
 
 use crate::ending::{Ending, Usage};
-use crate::files::FileSet;
+use crate::files::{Durability, FileSet};
 use crate::opener::{Unlocker, choose, read_material, unlocker_of};
+use crate::output::{create_out, leave};
 use crate::request::Decrypting;
 use crate::stop::{Stop, end_of};
 use age_file::decrypt;
 use std::alloc::Global;
 
-/// Makes the output, and decrypts the input into it.
+/// Decrypts the input into the output, and ends that. Where it stops before anything is written, the output is as it was.
 fn write_out<F: FileSet>(
     alloc: Global,
     files: &mut F,
     source: &mut F::In,
     unlocker: &Unlocker<'_>,
-    to: &str,
+    mut out: F::Out,
+    durability: Durability,
 ) -> Result<(), Stop>
     ensures told { F.tells files.new ≡ F.tells files.old }
-    ensures done { OnOk result (F.tells files.old ≡ true
+    ensures done { OnOk result (F.tells files.old ≡ true → F.Out.taken out ≡ Some []
         → DecryptsOut (opener_of unlocker.now) (F.In.remaining source.old)
-        (F.entry files.new to.now)) }
-    ensures stops { IfErr result (λ stop. F.tells files.old ≡ true
-        → OutStops (opener_of unlocker.now) (F.In.remaining source.old) (F.entry files.old to.now)
-        (F.entry files.new to.now) stop.position stop.fault) }
-    ensures others { F.tells files.old ≡ true
-        → SparesBut to.now (F.entry files.old) (F.entry files.new) }
-    ensures noted { OnOk result
-        (F.events files.new ≡ F.events files.old ++ Created to.now ∷ Closed ∷ []) }
-    ensures noted_stop { IfErr result
-        (λ stop. (F.events files.new ≡ F.events files.old ++ Created to.now ∷ Closed ∷ [])
-        ⊎ ((F.events files.new ≡ F.events files.old ++ Created to.now ∷ [])
-        × (stop.position ≡ None))) }
+        (F.entry files.new (F.Out.label out))) }
+    ensures stops { IfErr result (λ stop. F.tells files.old ≡ true → F.Out.taken out ≡ Some []
+        → OutStops (opener_of unlocker.now) (F.In.remaining source.old)
+        (F.entry files.old (F.Out.label out)) (F.entry files.new (F.Out.label out)) stop.position
+        stop.fault) }
+    ensures others { SparesBut (F.Out.label out) (F.entry files.old) (F.entry files.new) }
+    ensures noted { F.events files.new ≡ F.events files.old ++ Closed ∷ [] }
 {
-    let mut out = files.create(alloc, to)?;
-    let decrypted = decrypt(alloc, unlocker, source, &mut out);
-    let closed = files.close(out);
-    decrypted?;
-    closed?;
-    Ok(())
+    match decrypt(alloc, unlocker, source, &mut out) {
+        Ok(_) => {
+            files.close(out, durability)?;
+            Ok(())
+        }
+        Err(stopped) => {
+            leave(files, out, stopped.written, durability);
+            Err(Stop::from(stopped))
+        }
+    }
 }
 
 /// Whether a position is saved to the file of this name.
@@ -86,13 +87,17 @@ pub(crate) fn decrypt_file<F: FileSet>(
         (F.entry files.new) }
     ensures order { Follows
         (decrypting_order (text_of asked.now.unlocking.pass) (text_of asked.now.unlocking.shared)
-        (Some asked.now.from.now) (Some asked.now.to.now) ++ making (text_of asked.now.save))
+        (Some asked.now.from.now) (Some asked.now.to.now) ++ replacing (text_of asked.now.save))
         (F.events files.old) (F.events files.new) }
     ensures order_done { OnOk result
         (F.events files.new ≡ F.events files.old
         ++ decrypting_order (text_of asked.now.unlocking.pass) (text_of asked.now.unlocking.shared)
         (Some asked.now.from.now) (Some asked.now.to.now)) }
     ensures order_usage { IfErr result (λ e. is_usage e ≡ true → Follows
+        (decrypting_order (text_of asked.now.unlocking.pass) (text_of asked.now.unlocking.shared)
+        (Some asked.now.from.now) (Some asked.now.to.now)) (F.events files.old) (F.events files.new)) }
+    ensures order_told { F.tells files.old ≡ true
+        → IfErr result (λ e. is_usage e ≡ true → Follows
         (opener_order (text_of asked.now.unlocking.pass) (text_of asked.now.unlocking.shared))
         (F.events files.old) (F.events files.new)) }
 {
@@ -103,8 +108,16 @@ pub(crate) fn decrypt_file<F: FileSet>(
     let material = read_material(alloc, files, chosen)?;
     let unlocker = unlocker_of(&material, asked.unlocking.max_log)?;
     let mut source = files.open(alloc, asked.from)?;
-    match write_out(alloc, files, &mut source, &unlocker, asked.to) {
+    let out = create_out(alloc, files, asked.to, asked.save, None)?;
+    match write_out(
+        alloc,
+        files,
+        &mut source,
+        &unlocker,
+        out,
+        Durability::Synced,
+    ) {
         Ok(()) => Ok(()),
-        Err(stop) => Err(end_of(alloc, files, asked.save, stop)),
+        Err(stop) => Err(end_of(alloc, files, asked.save, stop, Durability::Synced)),
     }
 }

@@ -92,6 +92,10 @@ fn obey<F: FileSet, I: Source, O: Sink>(
         → OnOk result (F.events files.new ≡ F.events files.old ++ decrypt_order rows) }
     ensures decrypts_usage { (rows : List Row) → Asks (texts words.now) (codes "decrypt") rows
         → IfErr result (λ e. is_usage e ≡ true
+        → Follows (decrypt_order rows) (F.events files.old) (F.events files.new)) }
+    ensures decrypts_usage_told { F.tells files.old ≡ true
+        → (rows : List Row) → Asks (texts words.now) (codes "decrypt") rows
+        → IfErr result (λ e. is_usage e ≡ true
         → Follows (opener_rows rows) (F.events files.old) (F.events files.new)) }
     ensures encrypts_order { (rows : List Row) → Asks (texts words.now) (codes "encrypt") rows
         → Follows (encrypt_order rows) (F.events files.old) (F.events files.new) }
@@ -183,6 +187,9 @@ pub fn run<F: FileSet, I: Source, O: Sink, E: Sink>(
         → result ≡ 0 → F.events files.new ≡ F.events files.old ++ decrypt_order rows }
     ensures decrypts_usage { (rows : List Row) → Asks (texts words.now) (codes "decrypt") rows
         → result ≡ 2
+        → Follows (decrypt_order rows) (F.events files.old) (F.events files.new) }
+    ensures decrypts_usage_told { F.tells files.old ≡ true
+        → (rows : List Row) → Asks (texts words.now) (codes "decrypt") rows → result ≡ 2
         → Follows (opener_rows rows) (F.events files.old) (F.events files.new) }
     ensures encrypts_order { (rows : List Row) → Asks (texts words.now) (codes "encrypt") rows
         → Follows (encrypt_order rows) (F.events files.old) (F.events files.new) }

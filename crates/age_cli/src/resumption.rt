@@ -1,6 +1,7 @@
 //! The command that goes on with a decryption that stopped.
 
-ghost use Rattle.std.specs.Prelude.{◌≡◌, true, Some, IfOk, IfErr, OnOk};
+ghost use Rattle.std.specs.Prelude.{◌≡◌, [], ◌∷◌, ◌++◌, true, Some, IfOk, IfErr, OnOk};
+ghost use Rattle.age_cli.specs.Events.{Closed};
 ghost use Rattle.age_cli.specs.Requests.{text_of};
 ghost use Rattle.age_cli.specs.OpenerSteps.{opener_of};
 ghost use Rattle.age_cli.specs.Resumptions.{IsPositionIn, ResumesOut, ResumesFile};
@@ -9,9 +10,10 @@ ghost use Rattle.age_cli.specs.Held.{SparesBut, SparesBoth};
 
 use crate::decryption::{names_a_file_twice, saves_to};
 use crate::ending::{Ending, Usage};
-use crate::files::FileSet;
+use crate::files::{Durability, FileSet};
 use crate::front::read_up_to;
 use crate::opener::{Unlocker, choose, read_material, unlocker_of};
+use crate::output::{create_out, leave};
 use crate::request::Resuming;
 use crate::stop::{Stop, end_of};
 use age_file::{FileFault, Position, resume};
@@ -35,7 +37,8 @@ fn read_position<F: FileSet>(
     }
 }
 
-/// Makes the output, and writes the whole text into it: the old text up to the position, and the input's behind it.
+/// Writes the whole text into the output, and ends that: the old text up to the position, and the input's behind it. Where
+/// it stops before anything is written, the output is as it was.
 fn write_out<F: FileSet>(
     alloc: Global,
     files: &mut F,
@@ -43,21 +46,26 @@ fn write_out<F: FileSet>(
     old: &mut F::In,
     unlocker: &Unlocker<'_>,
     position: &Position,
-    to: &str,
+    mut out: F::Out,
+    durability: Durability,
 ) -> Result<(), Stop>
     ensures told { F.tells files.new ≡ F.tells files.old }
-    ensures done { OnOk result (F.tells files.old ≡ true
+    ensures done { OnOk result (F.tells files.old ≡ true → F.Out.taken out ≡ Some []
         → ResumesOut (opener_of unlocker.now) position.now (F.In.remaining source.old)
-        (F.In.remaining old.old) (F.entry files.new to.now)) }
-    ensures others { F.tells files.old ≡ true
-        → SparesBut to.now (F.entry files.old) (F.entry files.new) }
+        (F.In.remaining old.old) (F.entry files.new (F.Out.label out))) }
+    ensures others { SparesBut (F.Out.label out) (F.entry files.old) (F.entry files.new) }
+    ensures noted { F.events files.new ≡ F.events files.old ++ Closed ∷ [] }
 {
-    let mut out = files.create(alloc, to)?;
-    let resumed = resume(alloc, unlocker, position, source, old, &mut out);
-    let closed = files.close(out);
-    resumed?;
-    closed?;
-    Ok(())
+    match resume(alloc, unlocker, position, source, old, &mut out) {
+        Ok(_) => {
+            files.close(out, durability)?;
+            Ok(())
+        }
+        Err(stopped) => {
+            leave(files, out, stopped.written, durability);
+            Err(Stop::from(stopped))
+        }
+    }
 }
 
 /// Whether the old text is a file that has to differ from it, or two of those are one.
@@ -92,6 +100,7 @@ pub(crate) fn resume_file<F: FileSet>(
     let position = read_position(alloc, files, asked.position)?;
     let mut old = files.open(alloc, asked.old)?;
     let mut source = files.open(alloc, wanted.from)?;
+    let out = create_out(alloc, files, wanted.to, wanted.save, Some(asked.position))?;
     match write_out(
         alloc,
         files,
@@ -99,9 +108,10 @@ pub(crate) fn resume_file<F: FileSet>(
         &mut old,
         &unlocker,
         &position,
-        wanted.to,
+        out,
+        Durability::Synced,
     ) {
         Ok(()) => Ok(()),
-        Err(stop) => Err(end_of(alloc, files, wanted.save, stop)),
+        Err(stop) => Err(end_of(alloc, files, wanted.save, stop, Durability::Synced)),
     }
 }
