@@ -1,7 +1,7 @@
 -- The events of a command, in order.
-use Rattle.std.proofs.Common.{◌≡◌, ◌∙◌, ◌++◌, ◌∷◌, [], ◌⊎◌, inl, inr, refl, ap, ap₂, sym, List, Option, Some, Result, Ok, Err, IfErr, append_assoc}
+use Rattle.std.proofs.Common.{◌≡◌, ◌∙◌, ◌++◌, ◌∷◌, [], ◌⊎◌, inl, inr, refl, ap, ap₂, sym, List, Option, Some, None, Result, Ok, Err, IfErr, append_assoc}
 use Rattle.clap.specs.Words.{Text}
-use Rattle.age_cli.specs.Events.{Event, Follows, Created, Closed, making, opener_order}
+use Rattle.age_cli.specs.Events.{Event, Follows, Opened, Created, Closed, opening, making, replacing, opener_order}
 use Rattle.age_cli.specs.OpenerSteps.{IsChosen, chosen_order}
 use Rattle.age_cli.specs.Requests.{text_of}
 use Rattle.age_cli.specs.declared.request.Unlocking.{Unlocking}
@@ -32,37 +32,38 @@ module _ (old material source output end : List Event) (opener reads : List Even
   at_source : source ≡ old ++ (opener ++ reads)
   at_source = s ∙ (ap (λ x. x ++ reads) m ∙ append_assoc old opener reads)
 
-  at_output : (made : List Event) → output ≡ source ++ made → output ≡ old ++ (opener ++ (reads ++ made))
-  at_output made o = o ∙ (ap (λ x. x ++ made) at_source ∙ (append_assoc old (opener ++ reads) made
+  at_output : (x made : List Event) → x ≡ source ++ made → x ≡ old ++ (opener ++ (reads ++ made))
+  at_output x made o = o ∙ (ap (λ x. x ++ made) at_source ∙ (append_assoc old (opener ++ reads) made
       ∙ ap (λ x. old ++ x) (append_assoc opener reads made)))
 
-  -- a stop: the output was made and closed, and the position was saved as far as that came; or it wasn't made
-  stopped : (output ≡ source ++ Created to ∷ Closed ∷ []) → Follows (making save) output end
-      → Follows ((opener ++ (reads ++ making (Some to))) ++ making save) old end
-  stopped o f = record {
+  -- a stop: the output was made and ended, and the position was saved as far as that came
+  pub stop_follows : (created : List Event) → created ≡ source ++ Created to ∷ [] → output ≡ created ++ Closed ∷ [] → Follows (replacing save) output end
+      → Follows ((opener ++ (reads ++ making (Some to))) ++ replacing save) old end
+  stop_follows created m o f = record {
     done = (opener ++ (reads ++ Created to ∷ Closed ∷ [])) ++ f.done;
     rest = f.rest;
-    did = f.did ∙ (ap (λ x. x ++ f.done) (at_output (Created to ∷ Closed ∷ []) o) ∙ append_assoc old (opener ++ (reads ++ Created to ∷ Closed ∷ [])) f.done);
+    did = f.did ∙ (ap (λ x. x ++ f.done) (at_output output (Created to ∷ Closed ∷ []) (two_events source created output (Created to) Closed m o))
+        ∙ append_assoc old (opener ++ (reads ++ Created to ∷ Closed ∷ [])) f.done);
     front = ap (λ x. (opener ++ (reads ++ Created to ∷ Closed ∷ [])) ++ x) f.front ∙ sym (append_assoc (opener ++ (reads ++ Created to ∷ Closed ∷ [])) f.done f.rest);
   }
 
-  unmade : (output ≡ source ++ Created to ∷ []) → end ≡ output
-      → Follows ((opener ++ (reads ++ making (Some to))) ++ making save) old end
-  unmade o same = record {
-    done = opener ++ (reads ++ Created to ∷ []);
-    rest = Closed ∷ making save;
-    did = same ∙ at_output (Created to ∷ []) o;
-    front = append_assoc opener (reads ++ Created to ∷ Closed ∷ []) (making save)
-        ∙ (ap (λ x. opener ++ x) (append_assoc reads (Created to ∷ Closed ∷ []) (making save) ∙ sym (append_assoc reads (Created to ∷ []) (Closed ∷ making save)))
-        ∙ sym (append_assoc opener (reads ++ Created to ∷ []) (Closed ∷ making save)));
+  -- the output could not be made
+  pub unmade : Follows (making (Some to)) source end → Follows (opener ++ (reads ++ making (Some to))) old end
+  unmade f = record {
+    done = opener ++ (reads ++ f.done);
+    rest = f.rest;
+    did = at_output end f.done f.did;
+    front = ap (λ x. opener ++ (reads ++ x)) f.front ∙ (ap (λ x. opener ++ x) (sym (append_assoc reads f.done f.rest)) ∙ sym (append_assoc opener (reads ++ f.done) f.rest));
   }
 
-  pub stop_follows : (None_there : Type 0)
-      → ((output ≡ source ++ Created to ∷ Closed ∷ []) ⊎ ((output ≡ source ++ Created to ∷ []) × None_there))
-      → Follows (making save) output end → (None_there → end ≡ output)
-      → Follows ((opener ++ (reads ++ making (Some to))) ++ making save) old end
-  stop_follows N (inl o) f alone = stopped o f
-  stop_follows N (inr o) f alone = unmade o.0 (alone o.1)
+-- what follows an order follows a longer one
+pub longer : (order more old new : List Event) → Follows order old new → Follows (order ++ more) old new
+longer order more old new f = record {
+  done = f.done;
+  rest = f.rest ++ more;
+  did = f.did;
+  front = ap (λ x. x ++ more) f.front ∙ append_assoc f.done f.rest more;
+}
 
 nil_behind : (xs : List Event) → xs ≡ xs ++ []
 nil_behind [] = refl

@@ -10,3 +10,4 @@ pub mod Telling
 pub mod StopSteps
 pub mod EventSteps
 pub mod OrderSteps
+pub mod HeadlineSteps

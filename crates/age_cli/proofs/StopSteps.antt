@@ -1,25 +1,114 @@
--- What stands where a decryption stopped, step by step.
-use Rattle.std.proofs.Common.{◌≡◌, ◌∙◌, ◌⊎◌, inl, inr, refl, ap, sym, Option, Some, None, Result, Ok, Err, ⊎_elim}
+-- What stands where a command stopped, step by step.
+use Rattle.std.proofs.Common.{◌≡◌, ◌∙◌, ◌⊎◌, ◌++◌, ℕ, inl, inr, refl, ap, sym, subst, codes, List, [], length, Option, Some, None, Result, Ok, Err, ⊎_elim}
 use Rattle.std.specs.Prelude.{OnOk, OnErr}
+use Rattle.std.specs.Io.KnownBytes.{Appends}
+use Rattle.std.proofs.lemmas.List.{nil_from_length}
+use Rattle.clap.specs.Words.{Row, Text, first_of}
+use Rattle.age_stanza.specs.declared.header.Header.{Header}
+use Rattle.age_keys.specs.declared.fault.KeyFault.{KeyFault}
+use Rattle.age_stream.specs.Headline.{IsPrefixOf}
+use Rattle.age_file.specs.Ports.{Ports}
+use Rattle.age_file.specs.Decrypts.{Run, IsRun, IsAuthenticRun, DecryptFails, WritesNone, WroteSoFar}
+use Rattle.age_file.specs.Resumes.{ResumePorts, WritesOld}
+use Rattle.age_file.specs.ResumeFaults.{ResumeFails, FailsAt}
 use Rattle.age_file.specs.declared.position.Position.{Position}
+use Rattle.age_file.specs.declared.position.Positions.{Positions}
 use Rattle.age_file.specs.declared.fault.FileFault.{FileFault}
-use Rattle.std.specs.Option.{option_map_or}
-use Rattle.std.specs.Prelude.{codes, List, []}
-use Rattle.std.proofs.Common.{subst}
-use Rattle.clap.specs.Words.{Row, Text}
+use Rattle.age_file.specs.declared.fault.FileFault.TheVariants as fault
 use Rattle.age_cli.specs.Asked.{Asks}
-use Rattle.age_cli.specs.Requests.{IsDecrypting, Requests}
-use Rattle.age_cli.specs.declared.request.Request.TheVariants.{Decrypt}
+use Rattle.age_cli.specs.Requests.{IsDecrypting, IsResuming, Requests, text_of}
+use Rattle.age_cli.specs.declared.request.Request.TheVariants.{Decrypt, Resume}
 use Rattle.age_cli.specs.declared.request.Decrypting.{Decrypting}
+use Rattle.age_cli.specs.declared.request.Resuming.{Resuming}
 use Rattle.age_cli.specs.Held.{Held}
-use Rattle.age_cli.specs.Stops.{EndsOf, Stops, StopsRows}
+use Rattle.age_cli.specs.Openers.{Options}
+use Rattle.age_cli.specs.OpenerSteps.{options_asked}
+use Rattle.age_cli.specs.Endings.{EndsEarly}
+use Rattle.age_cli.specs.Stops.{EndsOf, DecryptsStop, ResumesStop, FailsToDecrypt, FailsToResume}
 use Rattle.age_cli.specs.declared.ending.Ending.{Ending}
 use Rattle.age_cli.specs.declared.ending.Ending.TheVariants.{Words, Usage, Fault, Unsaved}
+use Rattle.age_cli.proofs.RowSteps.{one_command, options_same}
 
 -- a call did one or the other
 pub either : {T E : Type 0} (r : Result T E) (A B : Type 0) → OnOk r A → OnErr r B → A ⊎ B
 either (Ok x) A B a b = inl a
 either (Err e) A B a b = inr b
+
+none_out : (new : Option (List ℕ)) (out : List ℕ) (written : ℕ) → Appends (Some []) new out → written ≡ length out → written ≡ 0 → new ≡ Some []
+none_out None out written put count none = absurd put
+none_out (Some ys) out written put count none = ap Some (put ∙ nil_from_length out (sym count ∙ none))
+
+-- so many bytes were written
+abbrev pub Written : Option (List ℕ) → Option (List ℕ) → ℕ → List ℕ → Type 0
+Written old new written out = Appends old new out × (written ≡ length out)
+
+-- where nothing was written, the sink holds nothing, as before
+pub holds_nothing : (old new : Option (List ℕ)) (written : ℕ) (out : List ℕ) → old ≡ Some [] → Written old new written out → written ≡ 0 → new ≡ Some []
+holds_nothing old new written out empty put none = none_out new out written (subst (λ (o : Option (List ℕ)). Appends o new out) empty put.0) put.1 none
+
+-- what a decryption wrote before it stopped; it begins the text of which each run is authentic
+module _ (keep : Positions) (A : Header → List ℕ → Type 0) (R : Header → KeyFault → Type 0) (old new : Ports) (written : ℕ) (position : Option Position) where
+  abbrev pub Begins : List ℕ → Type 0
+  Begins out = (text : List ℕ) → ((r : Run) → IsRun A old new written r → IsAuthenticRun r text) → IsPrefixOf out text
+
+  abbrev pub Wrote : Type 0
+  Wrote = (out : List ℕ) × Written old.taken new.taken written out × Begins out
+
+  of_none : WritesNone old new written position → Wrote
+  of_none h = ([], (h.0, h.1), (λ text auth. (text, refl)))
+
+  of_so_far : WroteSoFar keep A old new written position → Wrote
+  of_so_far (inl h) = of_none h.0
+  of_so_far (inr h) = (h.0.out, (h.1.is.wrote, h.1.is.count), (λ text auth. h.1.of text (auth h.0 h.1.is)))
+
+  pub stop_wrote : (fault : FileFault) → DecryptFails keep A R old new written position fault → Wrote
+  stop_wrote (fault.Stream f) h = (h.0.out, (h.1.is.wrote, h.1.is.count), (λ text auth. h.1.of text (auth h.0 h.1.is)))
+  stop_wrote fault.Write h = (h.0.out, (h.1.wrote, h.1.count), (λ text auth. h.2 text (auth h.0 h.1)))
+  stop_wrote fault.Read h = of_so_far h.0
+  stop_wrote fault.ReadNeverEnds h = of_so_far h.0
+  stop_wrote (fault.Head f) h = of_none h.0
+  stop_wrote (fault.Key f) h = of_none h.0
+  stop_wrote fault.NonceCut h = of_none h.0
+  stop_wrote fault.BadPosition h = of_none h.0
+  stop_wrote fault.OtherFile h = of_none h.0
+  stop_wrote fault.ShortText h = of_none h.0
+  stop_wrote fault.Memory h = of_none h.0
+  stop_wrote fault.PositionForged h = of_none h.0
+  stop_wrote fault.OldTextDiffers h = of_none h.0
+
+-- what a resumed decryption wrote before it stopped
+module _ (keep : Positions) (A : Header → List ℕ → Type 0) (p : Position) (R : Header → KeyFault → Type 0) (old new : ResumePorts) (written : ℕ) (position : Option Position) where
+  abbrev pub Rewrote : Type 0
+  Rewrote = (out : List ℕ) × Written old.main.taken new.main.taken written out
+
+  none_new : WritesNone old.main new.main written position → Rewrote
+  none_new h = ([], (h.0, h.1))
+
+  old_new : (copied : List ℕ) → WritesOld p old new written copied → Rewrote
+  old_new copied h = (copied, (h.wrote, h.count))
+
+  at_new : (M O : Type 0) → FailsAt keep A p M O old new written position → Rewrote
+  at_new M O (inl h) = none_new h.0
+  at_new M O (inr (inl h)) = old_new h.0.copied h.0.writes
+  at_new M O (inr (inr (inl h))) = old_new h.1.copied h.1.writes
+  at_new M O (inr (inr (inr h))) = (h.0.copied ++ h.0.out, (h.1.is.wrote, h.1.is.count))
+
+  pub resume_wrote : (fault : FileFault) → ResumeFails keep A p R old new written position fault → Rewrote
+  resume_wrote fault.OtherFile h = none_new h.0
+  resume_wrote fault.PositionForged h = none_new h.0
+  resume_wrote fault.ShortText h = old_new h.0.copied h.0.writes
+  resume_wrote fault.OldTextDiffers h = old_new h.4 h.5
+  resume_wrote (fault.Stream f) (inl h, rest) = old_new h.stops.copied h.stops.writes
+  resume_wrote (fault.Stream f) (inr h, rest) = (h.0.copied ++ h.0.out, (h.1.is.wrote, h.1.is.count))
+  resume_wrote fault.Write (inl h, rest) = old_new h.copied h.writes
+  resume_wrote fault.Write (inr h, rest) = (h.0.copied ++ h.0.out, (h.1.wrote, h.1.count))
+  resume_wrote fault.Read h = at_new _ _ h
+  resume_wrote fault.ReadNeverEnds h = at_new _ _ h
+  resume_wrote (fault.Head f) h = none_new h.0
+  resume_wrote (fault.Key f) h = none_new h.0
+  resume_wrote fault.NonceCut h = none_new h.0
+  resume_wrote fault.BadPosition h = none_new h.0
+  resume_wrote fault.Memory h = none_new h.0
 
 -- an ending is the same seen from before the output was made, where the position goes elsewhere
 pub ends_from : (f : FileFault) (name : Option Text) (p : Option Position) (old mid new : Held) (e : Ending) → ((q : Text) → name ≡ Some q → mid q ≡ old q)
@@ -27,35 +116,61 @@ pub ends_from : (f : FileFault) (name : Option Text) (p : Option Position) (old 
 ends_from f (Some n) (Some p) old mid new (Fault x) same h = h
 ends_from f (Some n) None old mid new (Fault x) same h = (h.0, h.1 ∙ same n refl)
 ends_from f None p old mid new (Fault x) same h = h
-ends_from f (Some n) (Some p) old mid new (Unsaved x s) same h = (h.0, ⊎_elim (λ e. inl (e ∙ same n refl)) (λ front. inr front) h.1)
+ends_from f (Some n) (Some p) old mid new (Unsaved x s) same h = (h.0, h.1 ∙ same n refl)
 ends_from f (Some n) None old mid new (Unsaved x s) same h = h
 ends_from f None p old mid new (Unsaved x s) same h = h
 ends_from f name p old mid new (Words t) same h = absurd h
 ends_from f name p old mid new (Usage u) same h = absurd h
 
-one_command : (words : List Text) (name other : Text) (rows given : List Row) → Asks words name rows → Asks words other given → rows ≡ given
-one_command words name other rows given a b =
-    ap (λ (o : Option (Text × List Row)). option_map_or (λ p. p.1) o []) (sym a.command ∙ b.command)
+-- a stop, of the arguments that ask for it
+module _ (IsPorts : Ports → Type 0) where
+  abbrev StopsHere : Decrypting → Held → Held → Ending → Type 0
+  StopsHere d old new e = DecryptsStop IsPorts (options_asked d.unlocking) d.from.now d.to.now (text_of d.save) old new e
 
-stops_given : (rows : List Row) (d : Decrypting) (old new : Held) (e : Ending) → IsDecrypting rows d → Stops d old new e → StopsRows rows old new e
-stops_given rows d old new e is (inl same) = inl same
-stops_given rows d old new e is (inr did) =
-    let u = is.unlocking in
-    inr (record {
-      opener = did.opener;
-      from = d.from.now;
-      to = d.to.now;
-      opens = rw (sym u.pass, sym u.file_key, sym u.shared, sym u.max_log) did.opens;
-      from_is = sym is.from;
-      to_is = sym is.to;
-      there = did.there;
-      position = did.position;
-      fault = did.fault;
-      output = did.output;
-      ends = subst (λ (name : Option Text). EndsOf did.fault name did.position old new e) is.save did.ends;
-    })
+  stops_given : (rows : List Row) (d : Decrypting) (old new : Held) (e : Ending) → IsDecrypting rows d → ((new ≡ old) × EndsEarly e) ⊎ StopsHere d old new e
+      → FailsToDecrypt IsPorts rows old new e
+  stops_given rows d old new e is (inl same) = inl same
+  stops_given rows d old new e is (inr did) = inr (record {
+    from = d.from.now;
+    to = d.to.now;
+    from_is = sym is.from;
+    to_is = sym is.to;
+    stops = subst (λ (o : Options). DecryptsStop IsPorts o d.from.now d.to.now (first_of (codes "save") rows) old new e) (sym (options_same rows d.unlocking is.unlocking))
+        (subst (λ (save : Option Text). DecryptsStop IsPorts (options_asked d.unlocking) d.from.now d.to.now save old new e) is.save did);
+  })
 
-pub stops_rows : (words : List Text) (rows : List Row) (d : Decrypting) (old new : Held) (e : Ending) → Requests words (Decrypt d) → Asks words (codes "decrypt") rows
-    → Stops d old new e → StopsRows rows old new e
-stops_rows words rows d old new e (name, given, asked, request) asks did =
-    subst (λ (t : List Row). StopsRows t old new e) (one_command words name (codes "decrypt") given rows asked asks) (stops_given given d old new e request.1 did)
+  pub stops_rows : (words : List Text) (rows : List Row) (d : Decrypting) (old new : Held) (e : Ending) → Requests words (Decrypt d) → Asks words (codes "decrypt") rows
+      → ((new ≡ old) × EndsEarly e) ⊎ StopsHere d old new e → FailsToDecrypt IsPorts rows old new e
+  stops_rows words rows d old new e (name, given, asked, request) asks did =
+      subst (λ (t : List Row). FailsToDecrypt IsPorts t old new e) (one_command words name (codes "decrypt") given rows asked asks) (stops_given given d old new e request.1 did)
+
+  abbrev ResumesHere : Resuming → Held → Held → Ending → Type 0
+  ResumesHere r old new e = ResumesStop IsPorts (options_asked r.decrypting.unlocking) r.position.now r.old.now r.decrypting.from.now r.decrypting.to.now (text_of r.decrypting.save) old new e
+
+  abbrev ResumeEarly : Held → Held → Ending → Type 0
+  ResumeEarly old new e = (new ≡ old) × (EndsEarly e ⊎ (e ≡ Fault fault.BadPosition))
+
+  resumes_stop_given : (rows : List Row) (r : Resuming) (old new : Held) (e : Ending) → IsResuming rows r → ResumeEarly old new e ⊎ ResumesHere r old new e
+      → FailsToResume IsPorts rows old new e
+  resumes_stop_given rows r old new e is (inl same) = inl same
+  resumes_stop_given rows r old new e is (inr did) =
+      let d = is.decrypting in
+      inr (record {
+        position_name = r.position.now;
+        old_name = r.old.now;
+        from = r.decrypting.from.now;
+        to = r.decrypting.to.now;
+        position_name_is = sym is.position;
+        old_name_is = sym is.old;
+        from_is = sym d.from;
+        to_is = sym d.to;
+        stops = subst (λ (o : Options). ResumesStop IsPorts o r.position.now r.old.now r.decrypting.from.now r.decrypting.to.now (first_of (codes "save") rows) old new e)
+            (sym (options_same rows r.decrypting.unlocking d.unlocking))
+            (subst (λ (save : Option Text). ResumesStop IsPorts (options_asked r.decrypting.unlocking) r.position.now r.old.now r.decrypting.from.now r.decrypting.to.now save old new e)
+            d.save did);
+      })
+
+  pub resumes_stop_rows : (words : List Text) (rows : List Row) (r : Resuming) (old new : Held) (e : Ending) → Requests words (Resume r) → Asks words (codes "resume") rows
+      → ResumeEarly old new e ⊎ ResumesHere r old new e → FailsToResume IsPorts rows old new e
+  resumes_stop_rows words rows r old new e (name, given, asked, request) asks did =
+      subst (λ (t : List Row). FailsToResume IsPorts t old new e) (one_command words name (codes "resume") given rows asked asks) (resumes_stop_given given r old new e request.1 did)

@@ -1,6 +1,6 @@
 -- What was told of an ending with status 1.
-use Rattle.std.proofs.Common.{◌≡◌, ℕ, List, Option, inl, inr, arith}
-use Rattle.age_cli.specs.Endings.{status_of}
+use Rattle.std.proofs.Common.{◌≡◌, ℕ, List, Option, inl, inr, arith, refl, true}
+use Rattle.age_cli.specs.Endings.{is_usage, status_of}
 use Rattle.age_cli.specs.FaultLines.{TellsEnding, TellsFault}
 use Rattle.age_cli.specs.declared.ending.Ending.{Ending}
 use Rattle.age_cli.specs.declared.ending.Ending.TheVariants.{Words, Usage, Fault, Unsaved}
@@ -12,3 +12,17 @@ tells_fault (Fault fault) old new failed_old failed_new one tells = inl (fault, 
 tells_fault (Unsaved fault second) old new failed_old failed_new one tells = inr (fault, second, tells)
 tells_fault (Words text) old new failed_old failed_new one tells = absurd (omega (arith, one))
 tells_fault (Usage usage) old new failed_old failed_new one tells = absurd (omega (arith, one))
+
+-- an ending has another status than success
+pub failed_status : (e : Ending) → status_of e ≡ 0 → ⊥
+failed_status (Fault fault) zero = absurd (omega (arith, zero))
+failed_status (Unsaved fault second) zero = absurd (omega (arith, zero))
+failed_status (Words text) zero = absurd (omega (arith, zero))
+failed_status (Usage usage) zero = absurd (omega (arith, zero))
+
+-- status 2 is that of a refused command line
+pub usage_status : (e : Ending) → status_of e ≡ 2 → is_usage e ≡ true
+usage_status (Fault fault) two = absurd (omega (arith, two))
+usage_status (Unsaved fault second) two = absurd (omega (arith, two))
+usage_status (Words text) two = refl
+usage_status (Usage usage) two = refl

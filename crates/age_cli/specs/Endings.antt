@@ -1,7 +1,11 @@
 -- How runs end.
-use Rattle.std.specs.Prelude.{ℕ, Bool, true, false, if◌then◌else◌}
+use Rattle.std.specs.Prelude.{◌≡◌, ◌⊎◌, ℕ, Bool, true, false, if◌then◌else◌}
 use Rattle.age_cli.specs.declared.ending.Ending.{Ending}
 use Rattle.age_cli.specs.declared.ending.Ending.TheVariants.{Words, Usage, Fault, Unsaved}
+use Rattle.age_cli.specs.declared.ending.Usage.TheVariants as usage
+use Rattle.age_cli.specs.declared.files.CreateFault.{CreateFault}
+use Rattle.age_file.specs.declared.fault.FileFault.TheVariants.{Read, Write, Memory}
+use Rattle.age_cli.specs.declared.files.CreateFault.TheVariants as create
 
 -- the command line was refused
 abbrev pub is_usage : Ending → Bool
@@ -13,3 +17,16 @@ is_usage (Unsaved fault second) = false
 -- the status of the program: 1 on a fault, 2 for a bad command line
 abbrev pub status_of : Ending → ℕ
 status_of e = if is_usage e then 2 else 1
+
+-- how a command ends whose output can't be created
+abbrev pub ending_of : CreateFault → Ending
+ending_of create.SameFile = Usage usage.SameFile
+ending_of (create.Fault fault) = Fault fault
+
+-- how a command ends before its output is written: its arguments are refused, a file can't be read or created, or memory is
+-- refused
+abbrev pub EndsEarly : Ending → Type 0
+EndsEarly (Fault fault) = (fault ≡ Read) ⊎ ((fault ≡ Write) ⊎ (fault ≡ Memory))
+EndsEarly (Usage usage) = Unit {0}
+EndsEarly (Words text) = Unit {0}
+EndsEarly (Unsaved fault second) = ⊥

@@ -17,5 +17,6 @@ pub mod OpenerSteps
 pub mod Encryptions
 pub mod Decryptions
 pub mod Stops
+pub mod Headline
 pub mod Resumptions
 pub mod Randoms

@@ -1,48 +1,38 @@
--- What stands in the files where a decryption stopped.
-use Rattle.std.specs.Prelude.{◌≡◌, ◌⊎◌, ℕ, true, List, [], ◌++◌, is_some, Option, Some, None, codes}
-use Rattle.clap.specs.Words.{Row, Text, first_of}
-use Rattle.age_file.specs.Ports.{Ports}
+-- What stands in the files where a command stopped.
+use Rattle.std.specs.Prelude.{◌≡◌, ◌⊎◌, ℕ, true, List, [], is_some, Option, Some, None, codes}
+use Rattle.clap.specs.Words.{Row, Text, first_of, one_of}
+use Rattle.age_file.specs.Ports.{Ports, ports}
+use Rattle.age_file.specs.Secrets.{SecretView, IsWithinLimits}
+use Rattle.age_file.specs.Encrypts.{EncryptFails}
 use Rattle.age_file.specs.Decrypts.{DecryptFails}
+use Rattle.age_file.specs.Resumes.{ResumePorts}
+use Rattle.age_file.specs.ResumeFaults.{ResumeFails}
 use Rattle.age_file.specs.PositionTexts.{position_text}
 use Rattle.age_file.specs.declared.position.Position.{Position}
+use Rattle.age_file.specs.declared.position.Positions.{Positions}
+use Rattle.age_file.specs.declared.position.Positions.TheVariants.{Kept, Dropped}
 use Rattle.age_file.specs.declared.fault.FileFault.{FileFault}
-use Rattle.age_file.specs.declared.fault.FileFault.TheVariants.{Write}
-use Rattle.age_cli.specs.FileSet.{IsMemoryOr}
-use Rattle.age_cli.specs.Held.{Held}
-use Rattle.age_cli.specs.Openers.{Opener, options_of, allows_by, refuses_by, IsOpener, OpensBy}
-use Rattle.age_cli.specs.Endings.{status_of}
+use Rattle.age_file.specs.declared.fault.FileFault.TheVariants.{Write, Memory, BadPosition}
+use Rattle.age_cli.specs.Encryptions.{IsRandomIn, random_name}
+use Rattle.age_cli.specs.Endings.{EndsEarly, status_of}
 use Rattle.age_cli.specs.FaultLines.{TellsEnding}
-use Rattle.age_cli.specs.Requests.{text_of}
-use Rattle.age_cli.specs.declared.request.Decrypting.{Decrypting}
+use Rattle.age_cli.specs.Held.{Held}
+use Rattle.age_cli.specs.Openers.{Opener, Options, options_of, allows_by, refuses_by, OpensBy, IsPassphraseIn}
+use Rattle.age_cli.specs.Requests.{number_or}
+use Rattle.age_cli.specs.Resumptions.{IsPositionIn}
 use Rattle.age_cli.specs.declared.ending.Ending.{Ending}
 use Rattle.age_cli.specs.declared.ending.Ending.TheVariants.{Fault, Unsaved}
 
--- the engine's promise for the input's bytes and what opens them, of a stop: the output holds what was written then, or
--- nothing, where it could not be closed
-pub record StopsOut (opener : Opener) (input output : Option (List ℕ)) (position : Option Position)
-    (fault : FileFault) : Type 0 where
-  pub before : Ports
-  pub after : Ports
-  pub written : ℕ
-  pub coming : input ≡ before.coming
-  pub empty : before.taken ≡ Some []
-  pub fails : DecryptFails (allows_by opener) (refuses_by opener) before after written position fault
-  pub taken : (output ≡ after.taken) ⊎ (output ≡ Some [])
+-- where the output is left of which so many bytes were written: it holds what its sink took, or, where it could not be
+-- closed, what it held; and that for sure where nothing was written
+pub record Leaves (written : ℕ) (taken old new : Option (List ℕ)) : Type 0 where
+  pub held : (new ≡ taken) ⊎ (new ≡ old)
+  pub spared : written ≡ 0 → new ≡ old
 
--- the output could not be made, and is as it was; or the decryption stopped; or it could not be closed, and holds nothing
-abbrev pub OutStops : Opener → Option (List ℕ) → Option (List ℕ) → Option (List ℕ) → Option Position
-    → FileFault → Type 0
-OutStops opener input old new position fault =
-    ((new ≡ old) × (position ≡ None) × IsMemoryOr Write fault)
-    ⊎ (StopsOut opener input new position fault
-    ⊎ ((new ≡ Some []) × (position ≡ None) × (fault ≡ Write)))
-
--- a file holds a front of these bytes
-pub record HoldsFront (held : Option (List ℕ)) (bytes : List ℕ) : Type 0 where
-  pub front : List ℕ
-  pub rest : List ℕ
-  pub holds : held ≡ Some front
-  pub parts : bytes ≡ front ++ rest
+-- positions are kept where one is to be saved
+abbrev pub kept_for : Option Text → Positions
+kept_for (Some name) = Kept
+kept_for None = Dropped
 
 -- the file of `--save` holds the position; without a position it is as it was
 abbrev pub IsSaved : Option Text → Option Position → Held → Held → Type 0
@@ -50,54 +40,169 @@ IsSaved (Some name) (Some position) old new = new name ≡ Some (position_text p
 IsSaved (Some name) None old new = new name ≡ old name
 IsSaved None position old new = Unit {0}
 
--- it is as it was, or holds a front of the position's text
+-- there is a position to save, and the file of `--save` is as it was
 abbrev pub SaveFails : Option Text → Option Position → Held → Held → Type 0
-SaveFails (Some name) (Some position) old new =
-    (new name ≡ old name) ⊎ HoldsFront (new name) (position_text position)
+SaveFails (Some name) (Some position) old new = new name ≡ old name
 SaveFails name position old new = ⊥
 
--- the fault is told, and the position is saved; or it is told with that of a save that failed
+-- the fault is reported, and the position is saved; or it is reported with that of a save that failed
 abbrev pub EndsOf : FileFault → Option Text → Option Position → Held → Held → Ending → Type 0
 EndsOf fault name position old new (Fault f) = (f ≡ fault) × IsSaved name position old new
 EndsOf fault name position old new (Unsaved f second) = (f ≡ fault) × SaveFails name position old new
 EndsOf fault name position old new e = ⊥
 
--- of what stands under the names that are asked for
-pub record DecryptsStop (d : Decrypting) (old new : Held) (e : Ending) : Type 0 where
-  pub opener : Opener
-  pub opens : IsOpener old (text_of d.unlocking.pass) (text_of d.unlocking.file_key)
-      (text_of d.unlocking.shared) d.unlocking.max_log opener
-  pub there : is_some (old d.from.now) ≡ true
-  pub position : Option Position
-  pub fault : FileFault
-  pub output : OutStops opener (old d.from.now) (old d.to.now) (new d.to.now) position fault
-  pub ends : EndsOf fault (text_of d.save) position old new e
+-- an engine stopped with this position and fault, and the output was left as its promise says of the bytes that were
+-- written and of what the sink took; or it did not stop, and the output could not be closed, and is as it was
+abbrev pub OutStops : (ℕ → Option (List ℕ) → Type 0) → Option (List ℕ) → Option (List ℕ)
+    → Option Position → FileFault → Type 0
+OutStops Engine old new position fault =
+    ((written : ℕ) × (taken : Option (List ℕ)) × Engine written taken × Leaves written taken old new)
+    ⊎ ((new ≡ old) × (position ≡ None) × (fault ≡ Write))
 
--- nothing differs, where it stopped ahead of the output; or it stopped there
-abbrev pub Stops : Decrypting → Held → Held → Ending → Type 0
-Stops d old new e = (new ≡ old) ⊎ DecryptsStop d old new e
+-- the ports of a source and a sink of one set of files: what they tell, and how often they failed
+pub record PortsOf {In Out : Type 0} (remaining : In → Option (List ℕ)) (read_failed : In → ℕ)
+    (taken : Out → Option (List ℕ)) (write_failed : Out → ℕ) (p : Ports) : Type 0 where
+  pub source : In
+  pub sink : Out
+  pub is : p ≡ ports (remaining source) (read_failed source) (taken sink) (write_failed sink)
 
--- of what the words give for each argument
-pub record DecryptsStopRows (rows : List Row) (old new : Held) (e : Ending) : Type 0 where
-  pub opener : Opener
-  pub from : Text
-  pub to : Text
-  pub opens : OpensBy old (options_of rows) opener
-  pub from_is : first_of (codes "IN") rows ≡ Some from
-  pub to_is : first_of (codes "OUT") rows ≡ Some to
-  pub there : is_some (old from) ≡ true
-  pub position : Option Position
-  pub fault : FileFault
-  pub output : OutStops opener (old from) (old to) (new to) position fault
-  pub ends : EndsOf fault (first_of (codes "save") rows) position old new e
+-- what an engine promises where it stops, of the bytes that the names stood for, whose ports are those of files of the set
+module _ (IsPorts : Ports → Type 0) where
+  pub record EncryptionStop (s : SecretView) (input : Option (List ℕ)) (fault : FileFault)
+      (taken : Option (List ℕ)) : Type 0 where
+    pub before : Ports
+    pub after : Ports
+    pub before_is : IsPorts before
+    pub after_is : IsPorts after
+    pub coming : input ≡ before.coming
+    pub empty : before.taken ≡ Some []
+    pub fails : EncryptFails s before after fault
+    pub took : taken ≡ after.taken
 
-abbrev pub StopsRows : List Row → Held → Held → Ending → Type 0
-StopsRows rows old new e = (new ≡ old) ⊎ DecryptsStopRows rows old new e
+  pub record DecryptionStop (keep : Positions) (opener : Opener) (input : Option (List ℕ))
+      (position : Option Position) (fault : FileFault) (written : ℕ) (taken : Option (List ℕ))
+      : Type 0 where
+    pub before : Ports
+    pub after : Ports
+    pub before_is : IsPorts before
+    pub after_is : IsPorts after
+    pub coming : input ≡ before.coming
+    pub empty : before.taken ≡ Some []
+    pub fails : DecryptFails keep (allows_by opener) (refuses_by opener) before after written
+        position fault
+    pub took : taken ≡ after.taken
 
--- a run stopped so with status 1, and the line of its fault was told, or two lines, unless the sink failed
-pub record StopsTold (rows : List Row) (old new : Held) (faults_old faults_new : Option (List ℕ))
+  pub record ResumptionStop (keep : Positions) (opener : Opener) (from : Position)
+      (input old_text : Option (List ℕ)) (position : Option Position) (fault : FileFault)
+      (written : ℕ) (taken : Option (List ℕ)) : Type 0 where
+    pub before : ResumePorts
+    pub after : ResumePorts
+    pub before_is : IsPorts before.main
+    pub after_is : IsPorts after.main
+    pub old_before_is : IsPorts (record before.main {
+      coming = before.old_coming;
+      read_failed = before.old_failed;
+    })
+    pub old_after_is : IsPorts (record after.main {
+      coming = after.old_coming;
+      read_failed = after.old_failed;
+    })
+    pub coming : input ≡ before.main.coming
+    pub old_coming : old_text ≡ before.old_coming
+    pub empty : before.main.taken ≡ Some []
+    pub fails : ResumeFails keep (allows_by opener) from (refuses_by opener) before after written
+        position fault
+    pub took : taken ≡ after.main.taken
+
+  -- `encrypt` stopped with its output created, of what stands under these names; where memory was refused, the output is as
+  -- it was
+  pub record EncryptsStop (pass : Text) (log : ℕ) (random : Option Text) (from to : Text)
+      (old new : Held) (e : Ending) : Type 0 where
+    pub secret : SecretView
+    pub passphrase : IsPassphraseIn (old pass) secret.pass
+    pub log_is : secret.log ≡ log
+    pub within : IsWithinLimits secret.pass secret.log
+    pub random_is : IsRandomIn (old (random_name random)) secret
+    pub there : is_some (old from) ≡ true
+    pub fault : FileFault
+    pub taken : Option (List ℕ)
+    pub output : (EncryptionStop secret (old from) fault taken
+        × ((new to ≡ taken) ⊎ (new to ≡ old to)) × (fault ≡ Memory → new to ≡ old to))
+        ⊎ ((new to ≡ old to) × (fault ≡ Write))
+    pub ends : e ≡ Fault fault
+
+  -- `decrypt` stopped with its output created
+  pub record DecryptsStop (options : Options) (from to : Text) (save : Option Text)
+      (old new : Held) (e : Ending) : Type 0 where
+    pub opener : Opener
+    pub opens : OpensBy old options opener
+    pub there : is_some (old from) ≡ true
+    pub position : Option Position
+    pub fault : FileFault
+    pub output : OutStops (DecryptionStop (kept_for save) opener (old from) position fault)
+        (old to) (new to) position fault
+    pub ends : EndsOf fault save position old new e
+
+  -- `resume` stopped with its output created
+  pub record ResumesStop (options : Options) (position_name old_name from to : Text)
+      (save : Option Text) (old new : Held) (e : Ending) : Type 0 where
+    pub opener : Opener
+    pub opens : OpensBy old options opener
+    pub from_position : Position
+    pub position_is : IsPositionIn (old position_name) from_position
+    pub there : is_some (old from) ≡ true
+    pub old_there : is_some (old old_name) ≡ true
+    pub position : Option Position
+    pub fault : FileFault
+    pub output : OutStops
+        (ResumptionStop (kept_for save) opener from_position (old from) (old old_name) position
+        fault) (old to) (new to) position fault
+    pub ends : EndsOf fault save position old new e
+
+  -- nothing differs, where a command ends before its output is written; or it stopped there. Of what the arguments give
+  pub record EncryptsStopRows (rows : List Row) (old new : Held) (e : Ending) : Type 0 where
+    pub pass : Text
+    pub from : Text
+    pub to : Text
+    pub pass_is : first_of (codes "pass") rows ≡ Some pass
+    pub from_is : first_of (codes "IN") rows ≡ Some from
+    pub to_is : first_of (codes "OUT") rows ≡ Some to
+    pub stops : EncryptsStop pass (number_or 18 (one_of (codes "log") rows))
+        (first_of (codes "random") rows) from to old new e
+
+  pub record DecryptsStopRows (rows : List Row) (old new : Held) (e : Ending) : Type 0 where
+    pub from : Text
+    pub to : Text
+    pub from_is : first_of (codes "IN") rows ≡ Some from
+    pub to_is : first_of (codes "OUT") rows ≡ Some to
+    pub stops : DecryptsStop (options_of rows) from to (first_of (codes "save") rows) old new e
+
+  pub record ResumesStopRows (rows : List Row) (old new : Held) (e : Ending) : Type 0 where
+    pub position_name : Text
+    pub old_name : Text
+    pub from : Text
+    pub to : Text
+    pub position_name_is : first_of (codes "position") rows ≡ Some position_name
+    pub old_name_is : first_of (codes "old") rows ≡ Some old_name
+    pub from_is : first_of (codes "IN") rows ≡ Some from
+    pub to_is : first_of (codes "OUT") rows ≡ Some to
+    pub stops : ResumesStop (options_of rows) position_name old_name from to
+        (first_of (codes "save") rows) old new e
+
+  abbrev pub FailsToEncrypt : List Row → Held → Held → Ending → Type 0
+  FailsToEncrypt rows old new e = ((new ≡ old) × EndsEarly e) ⊎ EncryptsStopRows rows old new e
+
+  abbrev pub FailsToDecrypt : List Row → Held → Held → Ending → Type 0
+  FailsToDecrypt rows old new e = ((new ≡ old) × EndsEarly e) ⊎ DecryptsStopRows rows old new e
+
+  abbrev pub FailsToResume : List Row → Held → Held → Ending → Type 0
+  FailsToResume rows old new e = ((new ≡ old) × (EndsEarly e ⊎ (e ≡ Fault BadPosition)))
+      ⊎ ResumesStopRows rows old new e
+
+-- a run ended so with status 1, and the line of its fault was reported, or two lines, unless the sink failed
+pub record StopsTold (Ends : Ending → Type 0) (faults_old faults_new : Option (List ℕ))
     (failed_old failed_new : ℕ) : Type 0 where
   pub ending : Ending
   pub status : status_of ending ≡ 1
-  pub stops : StopsRows rows old new ending
+  pub ends : Ends ending
   pub told : TellsEnding ending faults_old faults_new failed_old failed_new

@@ -1,55 +1,58 @@
 //! The command that decrypts a file.
 
-ghost use Rattle.age_cli.specs.Stops.{OutStops, Stops};
+ghost use Rattle.age_cli.specs.Stops.{DecryptionStop, DecryptsStop, OutStops, PortsOf, kept_for};
 ghost use Rattle.std.specs.Prelude.{◌≡◌, ◌⊎◌, [], ◌∷◌, ◌++◌, true, false, Some, None, IfErr, OnOk};
-ghost use Rattle.age_cli.specs.Events.{Follows, Created, Closed};
+ghost use Rattle.age_cli.specs.Events.{Follows, Closed};
 ghost use Rattle.age_cli.specs.Asking.{order_asked};
 ghost use Rattle.age_cli.specs.declared.request.Request.TheVariants.{Decrypt};
 ghost use Rattle.age_cli.specs.Requests.{text_of};
 ghost use Rattle.age_cli.specs.OpenerSteps.{opener_of, options_asked};
 ghost use Rattle.age_cli.specs.Decryptions.{DecryptsOut, DecryptsFile};
-ghost use Rattle.age_cli.specs.Endings.{is_usage};
+ghost use Rattle.age_cli.specs.Endings.{EndsEarly, is_usage};
 ghost use Rattle.age_cli.specs.Held.{SparesBut, SparesBoth};
 
 use crate::ending::{Ending, Usage};
-use crate::files::FileSet;
+use crate::files::{Durability, FileSet};
 use crate::opener::{Unlocker, choose, read_material, unlocker_of};
+use crate::output::{create_out, leave};
 use crate::request::Decrypting;
 use crate::stop::{Stop, end_of};
 use age_file::{Positions, decrypt_with};
 use std::alloc::Global;
 
-/// Makes the output, and decrypts the input into it.
+/// Decrypts the input into the output, and ends that. Where it stops before anything is written, the output is as it was.
 fn write_out<F: FileSet>(
     alloc: Global,
     files: &mut F,
     source: &mut F::In,
     positions: Positions,
     unlocker: &Unlocker<'_>,
-    to: &str,
+    mut out: F::Out,
+    durability: Durability,
 ) -> Result<(), Stop>
     ensures told { F.tells files.new ≡ F.tells files.old }
-    ensures done { OnOk result (F.tells files.old ≡ true
+    ensures done { OnOk result (F.tells files.old ≡ true → F.Out.taken out ≡ Some []
         → DecryptsOut (opener_of unlocker.now) (F.In.remaining source.old)
-        (F.entry files.new to.now)) }
-    ensures stops { IfErr result (λ stop. F.tells files.old ≡ true
-        → OutStops (opener_of unlocker.now) (F.In.remaining source.old) (F.entry files.old to.now)
-        (F.entry files.new to.now) stop.position stop.fault) }
-    ensures others { F.tells files.old ≡ true
-        → SparesBut to.now (F.entry files.old) (F.entry files.new) }
-    ensures noted { OnOk result
-        (F.events files.new ≡ F.events files.old ++ Created to.now ∷ Closed ∷ []) }
-    ensures noted_stop { IfErr result
-        (λ stop. (F.events files.new ≡ F.events files.old ++ Created to.now ∷ Closed ∷ [])
-        ⊎ ((F.events files.new ≡ F.events files.old ++ Created to.now ∷ [])
-        × (stop.position ≡ None))) }
+        (F.entry files.new (F.Out.label out))) }
+    ensures stops { IfErr result (λ stop. F.tells files.old ≡ true → F.Out.taken out ≡ Some []
+        → OutStops
+        (DecryptionStop (PortsOf F.In.remaining F.In.failed F.Out.taken F.Out.failed) positions
+        (opener_of unlocker.now) (F.In.remaining source.old) stop.position stop.fault)
+        (F.entry files.old (F.Out.label out)) (F.entry files.new (F.Out.label out)) stop.position
+        stop.fault) }
+    ensures others { SparesBut (F.Out.label out) (F.entry files.old) (F.entry files.new) }
+    ensures noted { F.events files.new ≡ F.events files.old ++ Closed ∷ [] }
 {
-    let mut out = files.create(alloc, to)?;
-    let decrypted = decrypt_with(alloc, positions, unlocker, source, &mut out);
-    let closed = files.close(out);
-    decrypted?;
-    closed?;
-    Ok(())
+    match decrypt_with(alloc, positions, unlocker, source, &mut out) {
+        Ok(_) => {
+            files.close(out, durability)?;
+            Ok(())
+        }
+        Err(stopped) => {
+            leave(files, out, stopped.written, durability);
+            Err(Stop::from(stopped))
+        }
+    }
 }
 
 /// Whether a position is saved to the file of this name.
@@ -73,6 +76,16 @@ pub(crate) fn names_a_file_twice<F: FileSet>(files: &F, asked: &Decrypting<'_>) 
         || saves_to(files, asked, asked.to)
 }
 
+/// Positions are kept where one is to be saved: a decryption without them is faster.
+pub(crate) fn positions_for(save: Option<&str>) -> Positions
+    ensures { result ≡ kept_for (text_of save.entry) }
+{
+    match save {
+        Some(_) => Positions::Kept,
+        None => Positions::Dropped,
+    }
+}
+
 /// Decrypts a file as the words ask. Where it stops, its position is saved.
 pub(crate) fn decrypt_file<F: FileSet>(
     alloc: Global,
@@ -83,7 +96,10 @@ pub(crate) fn decrypt_file<F: FileSet>(
         → DecryptsFile (options_asked asked.now.unlocking) asked.now.from.now asked.now.to.now
         (F.entry files.old) (F.entry files.new)) }
     ensures stops { IfErr result (λ e. F.tells files.old ≡ true
-        → Stops asked.now (F.entry files.old) (F.entry files.new) e) }
+        → ((F.entry files.new ≡ F.entry files.old) × EndsEarly e)
+        ⊎ DecryptsStop (PortsOf F.In.remaining F.In.failed F.Out.taken F.Out.failed)
+        (options_asked asked.now.unlocking) asked.now.from.now asked.now.to.now
+        (text_of asked.now.save) (F.entry files.old) (F.entry files.new) e) }
     ensures usage { IfErr result (λ e. is_usage e ≡ true → F.entry files.new ≡ F.entry files.old) }
     ensures spares { F.tells files.old ≡ true
         → SparesBoth (Some asked.now.to.now) (text_of asked.now.save) (F.entry files.old)
@@ -93,6 +109,8 @@ pub(crate) fn decrypt_file<F: FileSet>(
     ensures order_done { OnOk result
         (F.events files.new ≡ F.events files.old ++ (order_asked (Decrypt asked.now)).done) }
     ensures order_usage { IfErr result (λ e. is_usage e ≡ true → Follows
+        (order_asked (Decrypt asked.now)).done (F.events files.old) (F.events files.new)) }
+    ensures order_told { F.tells files.old ≡ true → IfErr result (λ e. is_usage e ≡ true → Follows
         (order_asked (Decrypt asked.now)).judged (F.events files.old) (F.events files.new)) }
 {
     let chosen = choose(&asked.unlocking)?;
@@ -102,12 +120,17 @@ pub(crate) fn decrypt_file<F: FileSet>(
     let material = read_material(alloc, files, chosen)?;
     let unlocker = unlocker_of(&material, asked.unlocking.max_log)?;
     let mut source = files.open(alloc, asked.from)?;
-    let positions = match asked.save {
-        Some(_) => Positions::Kept,
-        None => Positions::Dropped,
-    };
-    match write_out(alloc, files, &mut source, positions, &unlocker, asked.to) {
+    let out = create_out(alloc, files, asked.to, asked.save, None)?;
+    match write_out(
+        alloc,
+        files,
+        &mut source,
+        positions_for(asked.save),
+        &unlocker,
+        out,
+        Durability::Synced,
+    ) {
         Ok(()) => Ok(()),
-        Err(stop) => Err(end_of(alloc, files, asked.save, stop)),
+        Err(stop) => Err(end_of(alloc, files, asked.save, stop, Durability::Synced)),
     }
 }

@@ -2,16 +2,17 @@
 
 ghost use Rattle.std.specs.Prelude.{◌≡◌, [], ◌∷◌, ◌++◌, ℕ, List, Some, true, IfOk, IfErr, IfSome, OnOk};
 ghost use Rattle.age_cli.specs.Requests.{text_of};
-ghost use Rattle.age_cli.specs.Events.{Follows, Opened, making};
+ghost use Rattle.age_cli.specs.Events.{Follows, Opened, Closed};
 ghost use Rattle.age_cli.specs.Asking.{order_asked};
 ghost use Rattle.age_cli.specs.declared.request.Request.TheVariants.{Encrypt};
 ghost use Rattle.age_cli.specs.Encryptions.{random_name, EncryptsOut, EncryptsFile};
 ghost use Rattle.age_cli.specs.Randoms.{IsRandom};
 ghost use Rattle.age_cli.specs.Endings.{is_usage};
 ghost use Rattle.age_cli.specs.Held.{SparesBut};
+ghost use Rattle.age_file.specs.declared.fault.FileFault.TheVariants.{Memory};
 
 use crate::ending::{Ending, Usage};
-use crate::files::FileSet;
+use crate::files::{Durability, FileSet};
 use crate::front::read_front;
 use crate::opener::{read_pass, trimmed};
 use crate::request::Encrypting;
@@ -60,27 +61,35 @@ fn read_random<F: FileSet>(alloc: Global, files: &mut F, name: &str) -> Result<R
     }
 }
 
-/// Makes the output, and encrypts the input into it.
+/// Encrypts the input into the output, and ends that. Where memory is refused nothing was written, and the output is as it
+/// was.
 fn write_out<F: FileSet>(
     alloc: Global,
     files: &mut F,
     source: &mut F::In,
     secret: &Secret<'_>,
-    to: &str,
+    mut out: F::Out,
+    durability: Durability,
 ) -> Result<(), FileFault>
-    ensures done { OnOk result (F.tells files.old ≡ true
-        → EncryptsOut secret.now (F.In.remaining source.old) (F.entry files.new to.now)) }
-    ensures others { F.tells files.old ≡ true
-        → SparesBut to.now (F.entry files.old) (F.entry files.new) }
-    ensures noted { Follows (making (Some to.now)) (F.events files.old) (F.events files.new) }
-    ensures noted_done { OnOk result
-        (F.events files.new ≡ F.events files.old ++ making (Some to.now)) }
+    ensures done { OnOk result (F.tells files.old ≡ true → F.Out.taken out ≡ Some []
+        → EncryptsOut secret.now (F.In.remaining source.old)
+        (F.entry files.new (F.Out.label out))) }
+    ensures memory { IfErr result (λ fault. fault ≡ Memory → F.tells files.old ≡ true
+        → F.Out.taken out ≡ Some [] → F.entry files.new ≡ F.entry files.old) }
+    ensures others { SparesBut (F.Out.label out) (F.entry files.old) (F.entry files.new) }
+    ensures noted { F.events files.new ≡ F.events files.old ++ Closed ∷ [] }
 {
-    let mut out = files.create(alloc, to)?;
-    let encrypted = encrypt(alloc, secret, source, &mut out);
-    let closed = files.close(out);
-    encrypted?;
-    closed
+    match encrypt(alloc, secret, source, &mut out) {
+        Ok(_) => files.close(out, durability),
+        Err(FileFault::Memory) => {
+            files.discard(out);
+            Err(FileFault::Memory)
+        }
+        Err(fault) => {
+            let _ = files.close(out, durability);
+            Err(fault)
+        }
+    }
 }
 
 /// The name of the file of random bytes.
@@ -110,6 +119,8 @@ pub(crate) fn encrypt_file<F: FileSet>(
     ensures order_done { OnOk result
         (F.events files.new ≡ F.events files.old ++ (order_asked (Encrypt asked.now)).done) }
     ensures order_usage { IfErr result (λ e. is_usage e ≡ true → Follows
+        (order_asked (Encrypt asked.now)).done (F.events files.old) (F.events files.new)) }
+    ensures order_told { F.tells files.old ≡ true → IfErr result (λ e. is_usage e ≡ true → Follows
         (order_asked (Encrypt asked.now)).judged (F.events files.old) (F.events files.new)) }
 {
     if files.is_same(asked.from, asked.to) {
@@ -127,6 +138,7 @@ pub(crate) fn encrypt_file<F: FileSet>(
         return Err(Ending::Usage(Usage::BadPassphraseFile));
     };
     let mut source = files.open(alloc, asked.from)?;
-    write_out(alloc, files, &mut source, &secret, asked.to)?;
+    let out = files.create(alloc, asked.to)?;
+    write_out(alloc, files, &mut source, &secret, out, Durability::Synced)?;
     Ok(())
 }

@@ -1,8 +1,10 @@
 //! Why a run did not do what it was asked.
 
 ghost use Rattle.std.specs.Prelude.{◌≡◌};
+ghost use Rattle.age_cli.specs.Endings.{ending_of};
 ghost use Rattle.age_cli.specs.declared.ending.Ending.TheVariants.{Fault, Usage as UsageEnding};
 
+use crate::files::CreateFault;
 use age_file::FileFault;
 
 /// A command line that asks for nothing that can be done.
@@ -69,6 +71,17 @@ impl From<FileFault> for Ending {
 
     fn from(fault: FileFault) -> Ending {
         Ending::Fault(fault)
+    }
+}
+
+impl From<CreateFault> for Ending {
+    ghost from_gives = { λ f e. e ≡ ending_of f };
+
+    fn from(fault: CreateFault) -> Ending {
+        match fault {
+            CreateFault::SameFile => Ending::Usage(Usage::SameFile),
+            CreateFault::Fault(fault) => Ending::Fault(fault),
+        }
     }
 }
 

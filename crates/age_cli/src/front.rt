@@ -1,6 +1,8 @@
 //! What stands at the front of a source.
 
-ghost use Rattle.std.specs.Prelude.{◌≡◌, ◌^◌, ◌<◌, ◌≤◌, take, [], OnOk, IfOk, IfSome};
+ghost use Rattle.std.specs.Prelude.{◌≡◌, ◌^◌, ◌<◌, ◌≤◌, take, [], OnOk, IfOk, IfErr, IfSome};
+ghost use Rattle.age_cli.specs.FileSet.{IsMemoryOr};
+ghost use Rattle.age_file.specs.declared.fault.FileFault.TheVariants.{Read};
 ghost use Rattle.std.specs.Io.KnownBytes.{Consumes, IsAtEnd};
 ghost use Rattle.age_cli.specs.Fronts.{IsFront};
 
@@ -22,6 +24,7 @@ fn pull_some<S: Source>(
     ensures bytes { IfOk result
         (λ n. Consumes (S.remaining source.old) (S.remaining source.new) (take n buffer.new)) }
     ensures ended { IfOk result (λ n. n ≡ 0 → IsAtEnd (S.remaining source.new)) }
+    ensures fault { IfErr result (λ f. f ≡ Read) }
 {
     match source.pull(&mut buffer[..most]) {
         Ok(n) => Ok(n),
@@ -37,8 +40,9 @@ pub(crate) fn fill_front<S: Source>(
     most: usize,
 ) -> Result<(), FileFault>
     requires { held.old.items ≡ [] }
-    ensures { OnOk result
+    ensures front { OnOk result
         (IsFront (S.remaining source.old) (S.remaining source.new) most held.new.items) }
+    ensures faults { IfErr result (IsMemoryOr Read) }
 {
     let mut buffer = [0; ROOM];
     'pieces: while held.len() < most {
@@ -57,8 +61,9 @@ pub(crate) fn read_front<S: Source>(
     source: &mut S,
     most: usize,
 ) -> Result<Vec<u8>, FileFault>
-    ensures { IfOk result
+    ensures front { IfOk result
         (λ v. IsFront (S.remaining source.old) (S.remaining source.new) most v.items) }
+    ensures faults { IfErr result (IsMemoryOr Read) }
 {
     let mut held = Vec::new(alloc);
     fill_front(source, &mut held, most)?;
@@ -72,9 +77,10 @@ pub(crate) fn read_up_to<S: Source>(
     most: usize,
 ) -> Result<Option<Vec<u8>>, FileFault>
     requires { most < 2 ^ 32 }
-    ensures { IfOk result
+    ensures all { IfOk result
         (λ o. IfSome o (λ v. Consumes (S.remaining source.old) (S.remaining source.new) v.items
         × IsAtEnd (S.remaining source.new))) }
+    ensures faults { IfErr result (IsMemoryOr Read) }
 {
     let front = read_front(alloc, source, most + 1)?;
     if front.len() > most {

@@ -1,9 +1,9 @@
 //! The machine's files.
 
 ghost use Rattle.std.specs.Prelude.{false, None};
-ghost use Rattle.age_cli.specs.FileSet.{IsMemoryOr};
+ghost use Rattle.age_cli.specs.FileSet.{IsMemoryOr, CreateFails};
 
-use crate::files::FileSet;
+use crate::files::{CreateFault, Durability, FileSet};
 use crate::log::Log;
 use crate::print::flush;
 use age_file::{FileFault, Reading, Writing};
@@ -73,17 +73,39 @@ impl<'r, R: Files> FileSet for HostFiles<'r, R> {
         }
     }
 
-    fn create(&mut self, _alloc: Global, name: &str) -> Result<Writing<R::File>, FileFault> {
+    fn create(&mut self, _alloc: Global, name: &str) -> Result<Writing<R::File>, CreateFault> {
         self.log.created(name);
         match File::create(self.rt, name) {
             Ok(file) => Ok(Writing::new(file)),
-            Err(error) => Err(fault_of(error, FileFault::Write)),
+            Err(error) => Err(CreateFault::Fault(fault_of(error, FileFault::Write))),
         }
     }
 
     // The machine's close tells no failure, so the last one that can be told is that of a flush.
-    fn close(&mut self, mut out: Writing<R::File>) -> Result<(), FileFault> {
+    fn close(
+        &mut self,
+        mut out: Writing<R::File>,
+        _durability: Durability,
+    ) -> Result<(), FileFault> {
         self.log.closed();
         flush(&mut out)
+    }
+
+    fn discard(&mut self, _out: Writing<R::File>) {
+        self.log.closed();
+    }
+
+    fn replace(
+        &mut self,
+        _alloc: Global,
+        name: &str,
+        bytes: &[u8],
+        _durability: Durability,
+    ) -> Result<(), FileFault> {
+        self.log.replaced(name);
+        match fs::write(self.rt, name, bytes) {
+            Ok(()) => Ok(()),
+            Err(error) => Err(fault_of(error, FileFault::Write)),
+        }
     }
 }

@@ -19,6 +19,7 @@ mod log;
 mod mem_entry;
 mod mem_files;
 mod opener;
+mod output;
 mod print;
 mod program;
 mod reading;
@@ -28,7 +29,7 @@ mod script;
 mod stop;
 mod tell;
 
-pub use files::FileSet;
+pub use files::{CreateFault, Durability, FileSet};
 pub use host_files::HostFiles;
 pub use log::Log;
 pub use mem_files::{MemFiles, MemOut};

@@ -3,11 +3,11 @@
 ghost use Rattle.std.specs.Prelude.{◌≡◌, [], ◌∷◌, ◌++◌, List};
 ghost use Rattle.std.specs.Borrow.{ftrue};
 ghost use Rattle.std.specs.Coded.{coded_list};
-ghost use Rattle.age_cli.specs.Events.{Event, Opened, Created, Closed, coded_event};
+ghost use Rattle.age_cli.specs.Events.{Event, Opened, Created, Replaced, Closed, coded_event};
 
 use std::marker::Model;
 
-// Events that no code holds: the proofs of `empty` and `note` set them.
+// Events that no code holds: the proofs of its calls set them.
 #[derive(Debug, Drop)]
 struct Cell {
     pub ghost events: { List Event } by { coded_list coded_event },
@@ -30,6 +30,10 @@ impl Cell {
 
     fn created(&mut self, _name: &[u8])
         ensures { self.new.events ≡ self.old.events ++ Created _name.now ∷ [] }
+    {}
+
+    fn replaced(&mut self, _name: &[u8])
+        ensures { self.new.events ≡ self.old.events ++ Replaced _name.now ∷ [] }
     {}
 
     fn closed(&mut self)
@@ -69,14 +73,21 @@ impl Log {
         self.cell.opened(name.as_bytes());
     }
 
-    /// A file was to be made.
+    /// A file was to be created.
     pub fn created(&mut self, name: &str)
         ensures { self.new ≡ self.old ++ Created name.now ∷ [] }
     {
         self.cell.created(name.as_bytes());
     }
 
-    /// A file that was made was closed.
+    /// A file was to be replaced.
+    pub fn replaced(&mut self, name: &str)
+        ensures { self.new ≡ self.old ++ Replaced name.now ∷ [] }
+    {
+        self.cell.replaced(name.as_bytes());
+    }
+
+    /// A file that was created was ended.
     pub fn closed(&mut self)
         ensures { self.new ≡ self.old ++ Closed ∷ [] }
     {

@@ -1,13 +1,14 @@
 //! Files over memory.
 
-ghost use Rattle.std.specs.Prelude.{◌≡◌, ◌≢◌, ◌↔◌, ◌++◌, ◌∷◌, ◌<◌, ◌≤◌, IsTrue, ℕ, List, [], true, Some, None, OnOk, OnErr, IfOk, IsErrOf, IsOk, IfErr, IsOkUnless, Contains, is_some, option_map, length, MatchResult};
+ghost use Rattle.std.specs.Prelude.{◌≡◌, ◌≢◌, ◌↔◌, ◌⊎◌, ◌++◌, ◌∷◌, ◌<◌, ◌≤◌, IsTrue, ℕ, List, [], true, Some, None, OnOk, OnErr, IfOk, IsErrOf, IsOk, IfErr, IsOkUnless, Contains, is_some, option_map, length, MatchResult};
 ghost use Rattle.std.specs.Io.KnownBytes.{WriteAppends, Keeps};
 ghost use Rattle.age_file.specs.Memory.{one_more, Puts, Flushes};
 ghost use Rattle.age_cli.specs.Entries.{entry_of, empty_with};
-ghost use Rattle.age_cli.specs.FileSet.{IsMemoryOr};
-ghost use Rattle.age_cli.specs.Events.{Opened, Created, Closed};
+ghost use Rattle.age_cli.specs.FileSet.{IsMemoryOr, CreateFails};
+ghost use Rattle.age_cli.specs.Events.{Opened, Created, Replaced, Closed};
+ghost use Rattle.age_cli.specs.declared.files.CreateFault.TheVariants.{Fault};
 
-use crate::files::FileSet;
+use crate::files::{CreateFault, Durability, FileSet};
 use crate::log::Log;
 use crate::mem_entry::{MemEntry, Name, bytes_of, put_entry};
 use age_file::{Failed, FileFault, MemSink, MemSource, Memory, Sink};
@@ -158,6 +159,16 @@ fn source_of(alloc: Global, bytes: &[u8]) -> Result<MemSource, FileFault>
     Ok(MemSource::new(bytes.to_vec(alloc)?, usize::MAX, None))
 }
 
+/// An empty sink for a file of this name.
+fn new_out(alloc: Global, name: &str, room: usize) -> Result<MemOut, FileFault>
+    ensures made { IfOk result (λ o. o ≡ (name.now, empty_with room)) }
+    ensures memory { OnErr result (result ≡ Err FileFault.Memory) }
+{
+    let sink = MemSink::new(alloc, room, usize::MAX, None)?;
+    let name = Name::new(alloc, name)?;
+    Ok(MemOut { name, sink })
+}
+
 impl FileSet for MemFiles {
     type In = MemSource;
 
@@ -168,10 +179,6 @@ impl FileSet for MemFiles {
     ghost entry = { λ f. entry_of f.entries };
 
     ghost events = { λ f. f.events };
-
-    fn is_same(&self, one: &str, other: &str) -> bool {
-        one == other
-    }
 
     /// Opens a copy of a file's bytes. Refuses with `Read` (26) exactly where no file has the name.
     fn open(&mut self, alloc: Global, name: &str) -> Result<MemSource, FileFault>
@@ -188,34 +195,23 @@ impl FileSet for MemFiles {
         }
     }
 
-    /// Makes an empty file with the room that was given for it. Refuses with `Write` (27) exactly where the name is one
-    /// that can't be written.
-    fn create(&mut self, alloc: Global, name: &str) -> Result<MemOut, FileFault>
-        ensures made { IfOk result
-            (λ o. (entry_of self.new.entries name.now ≡ Some [])
-            × (o ≡ (name.now, empty_with self.old.room))) }
-        ensures others { (q : List ℕ) → q ≢ name.now
-            → entry_of self.new.entries q ≡ entry_of self.old.entries q }
-        ensures refused { IsErrOf result FileFault.Write ↔ Contains self.old.refused name.now }
-        ensures kept { (self.new.refused ≡ self.old.refused) × (self.new.room ≡ self.old.room) }
-        ensures err { OnErr result
-            (self.new ≡ record self.old { events = self.old.events ++ Created name.now ∷ [] }) }
-        ensures noted { self.new.events ≡ self.old.events ++ Created name.now ∷ [] }
-        ensures faults { IfErr result (IsMemoryOr FileFault.Write) }
+    /// Gives a sink with the room that was given for it; the entry is made when it is closed. Refuses with `Write` (27)
+    /// exactly where the name is one that can't be written.
+    fn create(&mut self, alloc: Global, name: &str) -> Result<MemOut, CreateFault>
+        ensures made { IfOk result (λ o. o ≡ (name.now, empty_with self.old.room)) }
+        ensures refused { IsErrOf result (Fault FileFault.Write) ↔ Contains self.old.refused name.now }
+        ensures kept { self.new ≡ record self.old { events = self.old.events ++ Created name.now ∷ [] } }
+        ensures faults { IfErr result (CreateFails true) }
     {
         self.log.created(name);
         if is_refused(self.refused.as_slice(), name) {
-            return Err(FileFault::Write);
+            return Err(CreateFault::Fault(FileFault::Write));
         }
-        let sink = MemSink::new(alloc, self.room, usize::MAX, None)?;
-        let own = Name::new(alloc, name)?;
-        let name = Name::new(alloc, name)?;
-        put_entry(&mut self.entries, name, Bytes::from_vec(Vec::new(alloc)))?;
-        Ok(MemOut { name: own, sink })
+        Ok(new_out(alloc, name, self.room)?)
     }
 
     /// Puts what the sink took under its name. That takes no memory where a file of the name is there.
-    fn close(&mut self, out: MemOut) -> Result<(), FileFault>
+    fn close(&mut self, out: MemOut, _durability: Durability) -> Result<(), FileFault>
         ensures put { OnOk result (entry_of self.new.entries out.0 ≡ Some out.1.held) }
         ensures others { (q : List ℕ) → q ≢ out.0
             → entry_of self.new.entries q ≡ entry_of self.old.entries q }
@@ -231,5 +227,41 @@ impl FileSet for MemFiles {
             Ok(()) => Ok(()),
             Err(_) => Err(FileFault::Write),
         }
+    }
+
+    /// Drops what the sink took, whatever that is.
+    fn discard(&mut self, _out: MemOut)
+        ensures kept { self.new ≡ record self.old { events = self.old.events ++ Closed ∷ [] } }
+    {
+        self.log.closed();
+    }
+
+    /// Refuses with `Write` (27) exactly where the name is one that can't be written, or where the bytes are more than
+    /// there is room for.
+    fn replace(
+        &mut self,
+        alloc: Global,
+        name: &str,
+        bytes: &[u8],
+        _durability: Durability,
+    ) -> Result<(), FileFault>
+        ensures put { OnOk result (entry_of self.new.entries name.now ≡ Some bytes.now) }
+        ensures others { (q : List ℕ) → q ≢ name.now
+            → entry_of self.new.entries q ≡ entry_of self.old.entries q }
+        ensures err { OnErr result (self.new.entries ≡ self.old.entries) }
+        ensures refused { IsErrOf result FileFault.Write
+            ↔ (Contains self.old.refused name.now ⊎ (self.old.room < length bytes.now)) }
+        ensures faults { IfErr result (IsMemoryOr FileFault.Write) }
+        ensures kept { (self.new.refused ≡ self.old.refused) × (self.new.room ≡ self.old.room) }
+        ensures noted { self.new.events ≡ self.old.events ++ Replaced name.now ∷ [] }
+    {
+        self.log.replaced(name);
+        if is_refused(self.refused.as_slice(), name) || bytes.len() > self.room {
+            return Err(FileFault::Write);
+        }
+        let own = Name::new(alloc, name)?;
+        let copy = bytes.to_vec(alloc)?;
+        put_entry(&mut self.entries, own, Bytes::from_vec(copy))?;
+        Ok(())
     }
 }

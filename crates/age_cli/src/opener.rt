@@ -1,6 +1,7 @@
 //! What opens a file, as the options and the files make it.
 
-ghost use Rattle.std.specs.Prelude.{◌≡◌, [], ◌∷◌, ◌++◌, true, IfOk, IfSome, Some};
+ghost use Rattle.std.specs.Prelude.{◌≡◌, [], ◌∷◌, ◌++◌, true, IfOk, IfErr, IfSome, Some};
+ghost use Rattle.age_cli.specs.Endings.{EndsEarly};
 ghost use Rattle.age_cli.specs.Openers.{without_line_feed, IsSharedIn};
 ghost use Rattle.age_cli.specs.Events.{Opened};
 ghost use Rattle.age_cli.specs.OpenerSteps.{IsChosen, IsMaterial, IsMade, chosen_order, opener_of};
@@ -72,6 +73,7 @@ pub(crate) fn read_pass<F: FileSet>(
     ensures told { F.tells files.new ≡ F.tells files.old }
     ensures kept { F.entry files.new ≡ F.entry files.old }
     ensures noted { F.events files.new ≡ F.events files.old ++ Opened name.now ∷ [] }
+    ensures early { IfErr result EndsEarly }
     ensures read { IfOk result
         (λ v. F.tells files.old ≡ true → F.entry files.old name.now ≡ Some v.items) }
 {
@@ -99,6 +101,7 @@ fn read_shared<F: FileSet>(alloc: Global, files: &mut F, name: &str) -> Result<S
     ensures told { F.tells files.new ≡ F.tells files.old }
     ensures kept { F.entry files.new ≡ F.entry files.old }
     ensures noted { F.events files.new ≡ F.events files.old ++ Opened name.now ∷ [] }
+    ensures early { IfErr result EndsEarly }
     ensures read { IfOk result
         (λ s. F.tells files.old ≡ true → IsSharedIn (F.entry files.old name.now) s) }
 {
@@ -121,6 +124,7 @@ pub(crate) fn read_material<F: FileSet>(
     ensures told { F.tells files.new ≡ F.tells files.old }
     ensures kept { F.entry files.new ≡ F.entry files.old }
     ensures noted { F.events files.new ≡ F.events files.old ++ chosen_order chosen.entry }
+    ensures early { IfErr result EndsEarly }
     ensures read { IfOk result
         (λ m. F.tells files.old ≡ true → IsMaterial (F.entry files.old) chosen.entry m) }
 {

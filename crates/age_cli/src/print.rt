@@ -1,6 +1,6 @@
 //! Text into a sink, and the text of a report.
 
-ghost use Rattle.std.specs.Prelude.{◌≡◌, ◌++◌, ℕ, List, IfOk, IsOkUnless, OnOk, OnErr};
+ghost use Rattle.std.specs.Prelude.{◌≡◌, ◌++◌, IfOk, IsOkUnless, OnOk, OnErr};
 ghost use Rattle.std.specs.String.{string_bytes};
 ghost use Rattle.std.specs.List.{flat_map};
 ghost use Rattle.std.specs.Io.KnownBytes.{Appends, Keeps};
@@ -9,21 +9,6 @@ ghost use Rattle.age_cli.specs.ReportTexts.{stanza_line, plain_line, report_text
 
 use age_file::{Failed, FileFault, Report, Sink, StanzaReport, put_all};
 use std::alloc::{AllocError, Global};
-
-/// Writes all of some bytes. Where it fails, a front of them was taken.
-pub(crate) fn put_front<O: Sink>(sink: &mut O, bytes: &[u8]) -> Result<(), FileFault>
-    ensures ok { OnOk result (Appends (O.taken sink.old) (O.taken sink.new) bytes.now) }
-    ensures front { (out : List ℕ) × (cut : List ℕ) × (bytes.now ≡ out ++ cut)
-        × Appends (O.taken sink.old) (O.taken sink.new) out }
-    ensures named { O.label sink.new ≡ O.label sink.old }
-    ensures fault { IsOkUnless result FileFault.Write }
-{
-    let mut written = 0;
-    match put_all(sink, bytes, &mut written) {
-        Ok(()) => Ok(()),
-        Err(Failed) => Err(FileFault::Write),
-    }
-}
 
 /// Writes all of some bytes.
 pub(crate) fn put_bytes<O: Sink>(sink: &mut O, bytes: &[u8]) -> Result<(), FileFault>

@@ -1,6 +1,6 @@
 //! The program, over words, files, a source and sinks.
 
-ghost use Rattle.std.specs.Prelude.{◌≡◌, ◌⊎◌, ◌≤◌, List, [], ◌++◌, true, OnOk, IfErr, IsOk, codes};
+ghost use Rattle.std.specs.Prelude.{◌≡◌, ◌⊎◌, ◌≤◌, ℕ, List, [], ◌++◌, true, OnOk, IfErr, IsOk, codes};
 ghost use Rattle.clap.specs.Words.{Row, Text, first_of, kind_of};
 ghost use Rattle.clap.specs.Walk.{texts};
 ghost use Rattle.clap.specs.declared.error.kind.ErrorKind.TheVariants.{DisplayHelp, DisplayVersion};
@@ -8,8 +8,9 @@ ghost use Rattle.age_cli.specs.Asked.{Asks, IsServed, refusals};
 ghost use Rattle.age_cli.specs.Encryptions.{EncryptsRows};
 ghost use Rattle.age_cli.specs.Decryptions.{DecryptsRows};
 ghost use Rattle.age_cli.specs.Resumptions.{ResumesRows};
-ghost use Rattle.age_cli.specs.Endings.{is_usage};
-ghost use Rattle.age_cli.specs.Stops.{StopsRows, StopsTold};
+ghost use Rattle.age_cli.specs.Endings.{EndsEarly, is_usage};
+ghost use Rattle.age_cli.specs.Stops.{FailsToDecrypt, FailsToResume, PortsOf, StopsTold};
+ghost use Rattle.age_cli.specs.Headline.{IsWritersInput, KeepsOut};
 ghost use Rattle.age_cli.specs.Events.{Follows};
 ghost use Rattle.age_cli.specs.Orders.{order_of};
 ghost use Rattle.age_cli.specs.FaultLines.{TellsFault};
@@ -22,12 +23,11 @@ use crate::encryption::encrypt_file;
 use crate::ending::{Ending, Usage};
 use crate::files::FileSet;
 use crate::inspection::{report, report_file};
-use crate::print::{flush, put_bytes};
 use crate::reading::read_request;
 use crate::request::Request;
 use crate::resumption::resume_file;
 use crate::tell::tell;
-use age_file::{FileFault, Sink, Source};
+use age_file::{FileFault, Sink, Source, flush_all, write_all};
 use clap::Error;
 use clap::error::ErrorKind;
 use std::alloc::Global;
@@ -35,6 +35,7 @@ use std::alloc::Global;
 /// Help and the version go to the output where they are asked for; other arguments are refused.
 fn answer_refusal<O: Sink>(alloc: Global, error: Error, output: &mut O) -> Result<(), Ending>
     ensures asked { IsOk result → (kind_of error ≡ DisplayHelp) ⊎ (kind_of error ≡ DisplayVersion) }
+    ensures early { IfErr result EndsEarly }
 {
     if error.kind() == ErrorKind::OutOfMemory {
         return Err(Ending::Fault(FileFault::Memory));
@@ -45,8 +46,9 @@ fn answer_refusal<O: Sink>(alloc: Global, error: Error, output: &mut O) -> Resul
     if error.kind() != ErrorKind::DisplayHelp && error.kind() != ErrorKind::DisplayVersion {
         return Err(Ending::Words(text));
     }
-    put_bytes(output, text.as_bytes())?;
-    flush(output)?;
+    let mut written = 0;
+    write_all(output, text.as_bytes(), &mut written)?;
+    flush_all(output)?;
     Ok(())
 }
 
@@ -83,13 +85,21 @@ fn obey<F: FileSet, I: Source, O: Sink>(
         → F.entry files.new ≡ F.entry files.old }
     ensures decrypts_stop { (rows : List Row) → Asks (texts words.now) (codes "decrypt") rows
         → IfErr result (λ e. F.tells files.old ≡ true
-        → StopsRows rows (F.entry files.old) (F.entry files.new) e) }
+        → FailsToDecrypt (PortsOf F.In.remaining F.In.failed F.Out.taken F.Out.failed) rows
+        (F.entry files.old) (F.entry files.new) e) }
+    ensures resumes_stop { (rows : List Row) → Asks (texts words.now) (codes "resume") rows
+        → IfErr result (λ e. F.tells files.old ≡ true
+        → FailsToResume (PortsOf F.In.remaining F.In.failed F.Out.taken F.Out.failed) rows
+        (F.entry files.old) (F.entry files.new) e) }
     ensures touches { (name : Text) (rows : List Row) → Asks (texts words.now) name rows
         → Follows (order_of name rows).whole (F.events files.old) (F.events files.new) }
     ensures finished { (name : Text) (rows : List Row) → Asks (texts words.now) name rows
         → OnOk result (F.events files.new ≡ F.events files.old ++ (order_of name rows).done) }
     ensures judged { (name : Text) (rows : List Row) → Asks (texts words.now) name rows
         → IfErr result (λ e. is_usage e ≡ true
+        → Follows (order_of name rows).done (F.events files.old) (F.events files.new)) }
+    ensures judged_told { (name : Text) (rows : List Row) → Asks (texts words.now) name rows
+        → F.tells files.old ≡ true → IfErr result (λ e. is_usage e ≡ true
         → Follows (order_of name rows).judged (F.events files.old) (F.events files.new)) }
     ensures untouched { (refusals (texts words.now) ≡ [] → ⊥)
         → F.events files.new ≡ F.events files.old }
@@ -167,16 +177,34 @@ pub fn run<F: FileSet, I: Source, O: Sink, E: Sink>(
     // position, and that the line which is told is that stop's.
     ensures decrypts_stop { (rows : List Row) → Asks (texts words.now) (codes "decrypt") rows
         → result ≡ 1 → F.tells files.old ≡ true
-        → StopsTold rows (F.entry files.old) (F.entry files.new) (E.taken faults.old)
-        (E.taken faults.new) (E.failed faults.old) (E.failed faults.new) }
+        → StopsTold
+        (FailsToDecrypt (PortsOf F.In.remaining F.In.failed F.Out.taken F.Out.failed) rows
+        (F.entry files.old) (F.entry files.new))
+        (E.taken faults.old) (E.taken faults.new) (E.failed faults.old) (E.failed faults.new) }
+    ensures resumes_stop { (rows : List Row) → Asks (texts words.now) (codes "resume") rows
+        → result ≡ 1 → F.tells files.old ≡ true
+        → StopsTold
+        (FailsToResume (PortsOf F.In.remaining F.In.failed F.Out.taken F.Out.failed) rows
+        (F.entry files.old) (F.entry files.new))
+        (E.taken faults.old) (E.taken faults.new) (E.failed faults.old) (E.failed faults.new) }
+    // The headline: whatever the status, OUT is as it was or holds a beginning of the plaintext, while no block of IN opens
+    // except as its writer sealed it; and 0 means all of the plaintext.
+    ensures headline { (rows : List Row) (text : List ℕ)
+        → Asks (texts words.now) (codes "decrypt") rows → F.tells files.old ≡ true
+        → IsWritersInput rows (F.entry files.old) text
+        → KeepsOut rows (F.entry files.old) (F.entry files.new) result text }
     // What is opened and made, also of the machine's files: the beginning of the command's order; with 0 all of it but what a
-    // stop adds; with 2 only what the arguments are judged by; and nothing of a command line that is refused.
+    // stop adds; with 2 the beginning of that, and of files that are told only what the arguments are judged by, for a name
+    // may turn out to be another file's only once the output is opened; and nothing of a command line that is refused.
     ensures touches { (name : Text) (rows : List Row) → Asks (texts words.now) name rows
         → Follows (order_of name rows).whole (F.events files.old) (F.events files.new) }
     ensures finished { (name : Text) (rows : List Row) → Asks (texts words.now) name rows
         → result ≡ 0 → F.events files.new ≡ F.events files.old ++ (order_of name rows).done }
     ensures judged { (name : Text) (rows : List Row) → Asks (texts words.now) name rows
         → result ≡ 2
+        → Follows (order_of name rows).done (F.events files.old) (F.events files.new) }
+    ensures judged_told { (name : Text) (rows : List Row) → Asks (texts words.now) name rows
+        → F.tells files.old ≡ true → result ≡ 2
         → Follows (order_of name rows).judged (F.events files.old) (F.events files.new) }
     ensures untouched { (refusals (texts words.now) ≡ [] → ⊥)
         → F.events files.new ≡ F.events files.old }

@@ -1,23 +1,28 @@
 //! The command that goes on with a decryption that stopped.
 
-ghost use Rattle.std.specs.Prelude.{◌≡◌, ◌⊎◌, ◌++◌, ◌∷◌, [], true, Some, None, IfOk, IfErr, OnOk};
-ghost use Rattle.age_cli.specs.Events.{Follows, Opened, Created, Closed};
+ghost use Rattle.std.specs.Prelude.{◌≡◌, ◌⊎◌, [], ◌∷◌, ◌++◌, true, Some, IfOk, IfErr, OnOk};
+ghost use Rattle.age_cli.specs.Events.{Follows, Opened, Closed};
 ghost use Rattle.age_cli.specs.Asking.{order_asked};
+ghost use Rattle.age_cli.specs.FileSet.{IsMemoryOr};
+ghost use Rattle.age_cli.specs.Stops.{ResumptionStop, ResumesStop, OutStops, PortsOf};
 ghost use Rattle.age_cli.specs.declared.request.Request.TheVariants.{Resume};
+ghost use Rattle.age_cli.specs.declared.ending.Ending.TheVariants.{Fault};
+ghost use Rattle.age_file.specs.declared.fault.FileFault.TheVariants.{Read, BadPosition};
 ghost use Rattle.age_cli.specs.Requests.{text_of};
 ghost use Rattle.age_cli.specs.OpenerSteps.{opener_of, options_asked};
 ghost use Rattle.age_cli.specs.Resumptions.{IsPositionIn, ResumesOut, ResumesFile};
-ghost use Rattle.age_cli.specs.Endings.{is_usage};
+ghost use Rattle.age_cli.specs.Endings.{EndsEarly, is_usage};
 ghost use Rattle.age_cli.specs.Held.{SparesBut, SparesBoth};
 
-use crate::decryption::{names_a_file_twice, saves_to};
+use crate::decryption::{names_a_file_twice, positions_for, saves_to};
 use crate::ending::{Ending, Usage};
-use crate::files::FileSet;
+use crate::files::{Durability, FileSet};
 use crate::front::read_up_to;
 use crate::opener::{Unlocker, choose, read_material, unlocker_of};
+use crate::output::{create_out, leave};
 use crate::request::Resuming;
 use crate::stop::{Stop, end_of};
-use age_file::{FileFault, Position, resume};
+use age_file::{FileFault, Position, Positions, resume_with};
 use std::alloc::Global;
 
 /// The position in a file.
@@ -28,9 +33,10 @@ fn read_position<F: FileSet>(
 ) -> Result<Position, FileFault>
     ensures told { F.tells files.new ≡ F.tells files.old }
     ensures kept { F.entry files.new ≡ F.entry files.old }
-    ensures noted { F.events files.new ≡ F.events files.old ++ Opened name.now ∷ [] }
     ensures read { IfOk result
         (λ p. F.tells files.old ≡ true → IsPositionIn (F.entry files.old name.now) p) }
+    ensures noted { F.events files.new ≡ F.events files.old ++ Opened name.now ∷ [] }
+    ensures faults { IfErr result (λ f. IsMemoryOr Read f ⊎ (f ≡ BadPosition)) }
 {
     let mut source = files.open(alloc, name)?;
     match read_up_to(alloc, &mut source, 256)? {
@@ -39,39 +45,50 @@ fn read_position<F: FileSet>(
     }
 }
 
-/// Makes the output, and writes the whole text into it: the old text up to the position, and the input's behind it.
+/// Writes the whole text into the output, and ends that: the old text up to the position, and the input's behind it. Where
+/// it stops before anything is written, the output is as it was.
 fn write_out<F: FileSet>(
     alloc: Global,
     files: &mut F,
     source: &mut F::In,
     old: &mut F::In,
+    positions: Positions,
     unlocker: &Unlocker<'_>,
     position: &Position,
-    to: &str,
+    mut out: F::Out,
+    durability: Durability,
 ) -> Result<(), Stop>
     ensures told { F.tells files.new ≡ F.tells files.old }
-    ensures done { OnOk result (F.tells files.old ≡ true
+    ensures done { OnOk result (F.tells files.old ≡ true → F.Out.taken out ≡ Some []
         → ResumesOut (opener_of unlocker.now) position.now (F.In.remaining source.old)
-        (F.In.remaining old.old) (F.entry files.new to.now)) }
-    ensures others { F.tells files.old ≡ true
-        → SparesBut to.now (F.entry files.old) (F.entry files.new) }
-    ensures noted { OnOk result
-        (F.events files.new ≡ F.events files.old ++ Created to.now ∷ Closed ∷ []) }
-    ensures noted_stop { IfErr result
-        (λ stop. (F.events files.new ≡ F.events files.old ++ Created to.now ∷ Closed ∷ [])
-        ⊎ ((F.events files.new ≡ F.events files.old ++ Created to.now ∷ [])
-        × (stop.position ≡ None))) }
+        (F.In.remaining old.old) (F.entry files.new (F.Out.label out))) }
+    ensures stops { IfErr result (λ stop. F.tells files.old ≡ true → F.Out.taken out ≡ Some []
+        → OutStops
+        (ResumptionStop (PortsOf F.In.remaining F.In.failed F.Out.taken F.Out.failed) positions
+        (opener_of unlocker.now) position.now (F.In.remaining source.old) (F.In.remaining old.old)
+        stop.position stop.fault)
+        (F.entry files.old (F.Out.label out)) (F.entry files.new (F.Out.label out)) stop.position
+        stop.fault) }
+    ensures others { SparesBut (F.Out.label out) (F.entry files.old) (F.entry files.new) }
+    ensures noted { F.events files.new ≡ F.events files.old ++ Closed ∷ [] }
 {
-    let mut out = files.create(alloc, to)?;
-    let resumed = resume(alloc, unlocker, position, source, old, &mut out);
-    let closed = files.close(out);
-    resumed?;
-    closed?;
-    Ok(())
+    match resume_with(alloc, positions, unlocker, position, source, old, &mut out) {
+        Ok(_) => {
+            files.close(out, durability)?;
+            Ok(())
+        }
+        Err(stopped) => {
+            leave(files, out, stopped.written, durability);
+            Err(Stop::from(stopped))
+        }
+    }
 }
 
 /// Whether the old text is a file that has to differ from it, or two of those are one.
-fn names_one_twice<F: FileSet>(files: &F, asked: &Resuming<'_>) -> bool {
+fn names_one_twice<F: FileSet>(files: &F, asked: &Resuming<'_>) -> bool
+    ensures saved_to { text_of asked.now.decrypting.save ≡ Some asked.now.decrypting.to.now
+        → result ≡ true }
+{
     let others = &asked.decrypting;
     names_a_file_twice(files, others)
         || files.is_same(asked.old, others.from)
@@ -89,6 +106,12 @@ pub(crate) fn resume_file<F: FileSet>(
         → ResumesFile (options_asked asked.now.decrypting.unlocking) asked.now.position.now
         asked.now.old.now asked.now.decrypting.from.now asked.now.decrypting.to.now
         (F.entry files.old) (F.entry files.new)) }
+    ensures stops { IfErr result (λ e. F.tells files.old ≡ true
+        → ((F.entry files.new ≡ F.entry files.old) × (EndsEarly e ⊎ (e ≡ Fault BadPosition)))
+        ⊎ ResumesStop (PortsOf F.In.remaining F.In.failed F.Out.taken F.Out.failed)
+        (options_asked asked.now.decrypting.unlocking) asked.now.position.now asked.now.old.now
+        asked.now.decrypting.from.now asked.now.decrypting.to.now
+        (text_of asked.now.decrypting.save) (F.entry files.old) (F.entry files.new) e) }
     ensures usage { IfErr result (λ e. is_usage e ≡ true → F.entry files.new ≡ F.entry files.old) }
     ensures spares { F.tells files.old ≡ true
         → SparesBoth (Some asked.now.decrypting.to.now) (text_of asked.now.decrypting.save)
@@ -98,6 +121,8 @@ pub(crate) fn resume_file<F: FileSet>(
     ensures order_done { OnOk result
         (F.events files.new ≡ F.events files.old ++ (order_asked (Resume asked.now)).done) }
     ensures order_usage { IfErr result (λ e. is_usage e ≡ true → Follows
+        (order_asked (Resume asked.now)).done (F.events files.old) (F.events files.new)) }
+    ensures order_told { F.tells files.old ≡ true → IfErr result (λ e. is_usage e ≡ true → Follows
         (order_asked (Resume asked.now)).judged (F.events files.old) (F.events files.new)) }
 {
     let wanted = &asked.decrypting;
@@ -110,16 +135,19 @@ pub(crate) fn resume_file<F: FileSet>(
     let position = read_position(alloc, files, asked.position)?;
     let mut old = files.open(alloc, asked.old)?;
     let mut source = files.open(alloc, wanted.from)?;
+    let out = create_out(alloc, files, wanted.to, wanted.save, Some(asked.position))?;
     match write_out(
         alloc,
         files,
         &mut source,
         &mut old,
+        positions_for(wanted.save),
         &unlocker,
         &position,
-        wanted.to,
+        out,
+        Durability::Synced,
     ) {
         Ok(()) => Ok(()),
-        Err(stop) => Err(end_of(alloc, files, wanted.save, stop)),
+        Err(stop) => Err(end_of(alloc, files, wanted.save, stop, Durability::Synced)),
     }
 }

@@ -4,12 +4,11 @@ ghost use Rattle.std.specs.Prelude.{◌≡◌, true, false, None, OnOk, OnErr};
 ghost use Rattle.age_cli.specs.Requests.{text_of};
 ghost use Rattle.age_cli.specs.Endings.{is_usage};
 ghost use Rattle.age_cli.specs.Stops.{SaveFails, EndsOf};
-ghost use Rattle.age_cli.specs.Events.{Follows, making};
+ghost use Rattle.age_cli.specs.Events.{Follows, replacing};
 ghost use Rattle.age_cli.specs.Held.{SparesBoth, Saves};
 
 use crate::ending::Ending;
-use crate::files::FileSet;
-use crate::print::put_front;
+use crate::files::{Durability, FileSet};
 use age_file::{FileFault, Position, Stopped};
 use std::alloc::Global;
 
@@ -48,13 +47,14 @@ fn save<F: FileSet>(
     files: &mut F,
     name: Option<&str>,
     position: Option<Position>,
+    durability: Durability,
 ) -> Result<(), FileFault>
     ensures saved { OnOk result (F.tells files.old ≡ true
         → Saves (text_of name.entry) position (F.entry files.old) (F.entry files.new)) }
-    ensures unsaved { OnErr result (F.tells files.old ≡ true
-        → SaveFails (text_of name.entry) position (F.entry files.old) (F.entry files.new)) }
+    ensures unsaved { OnErr result
+        (SaveFails (text_of name.entry) position (F.entry files.old) (F.entry files.new)) }
     ensures alone { position ≡ None → F.entry files.new ≡ F.entry files.old }
-    ensures noted { Follows (making (text_of name.entry)) (F.events files.old)
+    ensures noted { Follows (replacing (text_of name.entry)) (F.events files.old)
         (F.events files.new) }
     ensures idle { position ≡ None → F.events files.new ≡ F.events files.old }
     ensures others { F.tells files.old ≡ true
@@ -64,10 +64,7 @@ fn save<F: FileSet>(
         return Ok(());
     };
     let text = position.text(alloc)?;
-    let mut out = files.create(alloc, name)?;
-    let put = put_front(&mut out, text.as_slice());
-    files.close(out)?;
-    put
+    files.replace(alloc, name, text.as_slice(), durability)
 }
 
 /// How a command ends that stopped, once its position is saved.
@@ -76,19 +73,20 @@ pub(crate) fn end_of<F: FileSet>(
     files: &mut F,
     name: Option<&str>,
     stop: Stop,
+    durability: Durability,
 ) -> Ending
     ensures fault { is_usage result ≡ false }
     ensures ends { F.tells files.old ≡ true
         → EndsOf stop.fault (text_of name.entry) stop.position (F.entry files.old)
         (F.entry files.new) result }
     ensures alone { stop.position ≡ None → F.entry files.new ≡ F.entry files.old }
-    ensures noted { Follows (making (text_of name.entry)) (F.events files.old)
+    ensures noted { Follows (replacing (text_of name.entry)) (F.events files.old)
         (F.events files.new) }
     ensures idle { stop.position ≡ None → F.events files.new ≡ F.events files.old }
     ensures others { F.tells files.old ≡ true
         → SparesBoth None (text_of name.entry) (F.entry files.old) (F.entry files.new) }
 {
-    match save(alloc, files, name, stop.position) {
+    match save(alloc, files, name, stop.position, durability) {
         Ok(()) => Ending::Fault(stop.fault),
         Err(second) => Ending::Unsaved(stop.fault, second),
     }

@@ -1,39 +1,39 @@
-use Rattle.std.proofs.Common.{◌≡◌, ◌∙◌, inl, inr, refl, ap, subst, true, rules, ⊎_elim}
+use Rattle.std.proofs.Common.{◌≡◌, inl, refl, sym, subst, Some, []}
 use Rattle.age_file.specs.Ports.{ports}
-use Rattle.age_cli.specs.Stops.{OutStops}
+use Rattle.age_cli.specs.Stops.{DecryptionStop, Leaves, OutStops, PortsOf}
+use Rattle.age_cli.specs.Openers.{allows_by, refuses_by}
 use Rattle.age_cli.specs.OpenerSteps.{opener_of}
-use Rattle.age_cli.proofs.StopSteps.{either}
-use Rattle.age_cli.proofs.EventSteps.{every_fault, two_events}
+use Rattle.age_cli.specs.declared.stop.Stop.{Stop}
+use Rattle.age_cli.proofs.StopSteps.{stop_wrote, holds_nothing}
 use Rattle.age_cli.proofs.decryption.write_out.Goals as goal
 
-pub returns-in_err-decrypted-clause-stops : goal.returns-in_err-decrypted-clause-stops
-returns-in_err-decrypted-clause-stops g c =
+pub returns-in-Err-clause-stops : goal.returns-in-Err-clause-stops
+returns-in-Err-clause-stops g c = λ told empty.
     let entry = g.F.FileSet.entry in
-    let tells = g.F.FileSet.tells in
     let In = g.F.In.Source in
     let Out = g.F.Out.Sink in
-    let to = c.args.to.now in
-    let stopped = c.in_err-decrypted.field-0.0 in
-    let reader = c.decrypt-decrypted.new.reader in
-    let writer = c.decrypt-decrypted.new.writer in
-    let out : tells c.args.files.now ≡ true → OutStops (opener_of c.args.unlocker.now) (In.remaining c.args.source.now) (entry c.args.files.now to) (entry c.close-closed.new.self to) stopped.position stopped.fault =
-    λ told.
-    let made = c.in_ok-out.ensures.made told in
-    let t1 = c.in_ok-out.ensures.told ∙ told in
-    inr (inl record {
-      before = ports (In.remaining c.args.source.now) (In.failed c.args.source.now) (Out.taken c.in_ok-out.out) (Out.failed c.in_ok-out.out);
-      after = ports (In.remaining reader) (In.failed reader) (Out.taken writer) (Out.failed writer);
-      written = stopped.written;
-      coming = refl;
-      empty = made.1;
-      fails = c.in_err-decrypted.ensures.stopped;
-      taken = ⊎_elim
-          (λ put. inl (subst (λ l. entry c.close-closed.new.self l ≡ Out.taken writer) (c.in_err-decrypted.ensures.named ∙ made.2) (put t1)))
-          (λ err. inr (ap (λ f. f to) err ∙ made.0))
-          (either c.close-closed.result _ _ c.close-closed.ensures.put c.close-closed.ensures.err);
-    }) in
-    search rules
-
-pub returns-in_err-decrypted-clause-noted_stop : goal.returns-in_err-decrypted-clause-noted_stop
-returns-in_err-decrypted-clause-noted_stop g c =
-    every_fault c.from_residual-in_err-decrypted.result _ (λ stop. inl (two_events _ _ _ _ _ c.in_ok-out.ensures.noted c.close-closed.ensures.noted))
+    let stopped = c.in-Err.stopped in
+    let opener = opener_of c.args.unlocker.now in
+    let label = Out.label c.args.out in
+    let new = Out.taken c.decrypt_with.new.writer in
+    let before = ports (In.remaining c.args.source.now) (In.failed c.args.source.now) (Out.taken c.args.out) (Out.failed c.args.out) in
+    let after = ports (In.remaining c.decrypt_with.new.reader) (In.failed c.decrypt_with.new.reader) new (Out.failed c.decrypt_with.new.writer) in
+    let wrote = stop_wrote c.args.positions (allows_by opener) (refuses_by opener) before after stopped.written stopped.position stopped.fault c.in-Err.ensures.stopped in
+    let none : stopped.written ≡ 0 → new ≡ Some [] = λ zero. holds_nothing (Out.taken c.args.out) new stopped.written wrote.0 empty wrote.1 zero in
+    subst (λ (s : Stop). OutStops (DecryptionStop (PortsOf In.remaining In.failed Out.taken Out.failed) c.args.positions opener (In.remaining c.args.source.now) s.position s.fault)
+    (entry c.args.files.now label) (entry c.leave.new.files label) s.position s.fault) (sym c.from.ensures)
+    (inl (
+      stopped.written,
+      new,
+      (record {
+        before = before;
+        after = after;
+        before_is = record { source = c.args.source.now; sink = c.args.out; is = refl };
+        after_is = record { source = c.decrypt_with.new.reader; sink = c.decrypt_with.new.writer; is = refl };
+        coming = refl;
+        empty = empty;
+        fails = c.in-Err.ensures.stopped;
+        took = refl;
+      }),
+      subst (λ l. Leaves stopped.written new (entry c.args.files.now l) (entry c.leave.new.files l)) c.in-Err.ensures.named (c.leave.ensures.held told none),
+    ))

@@ -13,9 +13,11 @@ returns-clause-done g c = λ told.
     let t1 = c.in_ok-pass.ensures.told ∙ told in
     let t2 = c.in_ok-random.ensures.told ∙ t1 in
     let t3 = c.in_ok-source.ensures.told ∙ t2 in
+    let t4 = c.in_ok-out.ensures.told ∙ t3 in
+    let made = c.in_ok-out.ensures.made t3 in
     let k1 = c.in_ok-pass.ensures.kept in
     let k2 = c.in_ok-random.ensures.kept ∙ k1 in
-    let k3 = c.in_ok-source.ensures.kept ∙ k2 in
+    let k4 = c.in_ok-out.ensures.kept ∙ (c.in_ok-source.ensures.kept ∙ k2) in
     let secret = c.in-Some.secret in
     let is = c.in-Some.ensures.1 in
     let random = c.in_ok-random.ensures.read t1 in
@@ -29,6 +31,7 @@ returns-clause-done g c = λ told.
       within = subst (λ (s : SecretView). IsWithinLimits s.pass s.log) (sym is) c.in-Some.ensures.0;
       random_is = random_in _ random.0 random.1 c.in_ok-random.random secret held random.3 (ap (λ s. s.key) is) (ap (λ s. s.salt) is) (ap (λ s. s.nonce) is);
       there = ap (λ f. is_some (f c.args.asked.now.from.now)) (sym k2) ∙ (c.in_ok-source.ensures.found t2).0;
-      output = subst (λ o. EncryptsOut secret o (entry c.write_out.new.files c.args.asked.now.to.now)) (sym input) (c.in_ok-write_out.ensures.done t3);
-      others = λ q other. c.in_ok-write_out.ensures.others t3 q other ∙ ap (λ f. f q) k3;
+      output = subst (λ o. EncryptsOut secret o (entry c.write_out.new.files c.args.asked.now.to.now)) (sym input)
+          (subst (λ l. EncryptsOut secret (g.F.In.Source.remaining c.in_ok-source.source) (entry c.write_out.new.files l)) made.1 (c.in_ok-write_out.ensures.done t4 made.0));
+      others = λ q other. c.in_ok-write_out.ensures.others q (λ e. other (e ∙ made.1)) ∙ ap (λ f. f q) k4;
     }

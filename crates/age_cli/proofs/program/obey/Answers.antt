@@ -1,4 +1,4 @@
-use Rattle.std.proofs.Common.{◌≡◌, ◌∙◌, ◌++◌, ap, sym, subst, length, Option, Some, rules, true≢false}
+use Rattle.std.proofs.Common.{◌≡◌, ◌∙◌, ◌++◌, ap, sym, subst, length, Option, Some, rules, true≢false, inl, refl}
 use Rattle.std.specs.Option.{IfSome}
 use Rattle.std.proofs.lemmas.Result.{on_ok_weaker, IfErr-weaker}
 use Rattle.std.proofs.lemmas.List.{nil_from_length}
@@ -6,7 +6,8 @@ use Rattle.clap.specs.Walk.{texts}
 use Rattle.age_cli.specs.Requests.{Requests}
 use Rattle.age_cli.specs.declared.request.Request.{Request}
 use Rattle.age_cli.specs.declared.request.Request.TheVariants.{Encrypt, Decrypt, Resume, Drill}
-use Rattle.age_cli.proofs.StopSteps.{stops_rows}
+use Rattle.age_cli.specs.Stops.{PortsOf}
+use Rattle.age_cli.proofs.StopSteps.{stops_rows, resumes_stop_rows}
 use Rattle.age_cli.specs.Events.{Follows}
 use Rattle.age_cli.specs.Orders.{Order}
 use Rattle.age_cli.proofs.EventSteps.{every_fault, none_done}
@@ -54,7 +55,14 @@ returns-in-Ok-Some-Decrypt-clause-decrypts_stop g c = λ rows asks.
     let w = texts c.args.words.now in
     let here = c.in-Ok-Some-Decrypt in
     let request = subst (λ (o : Option Request). IfSome o (Requests w)) (here.field-0-is ∙ ap Some here.field-0-0-is) here.ensures.asked in
-    IfErr-weaker c.decrypt_file.result _ _ (λ e did told. stops_rows w rows here.asked _ _ e request asks (did told)) c.decrypt_file.ensures.stops
+    IfErr-weaker c.decrypt_file.result _ _ (λ e did told. stops_rows (PortsOf g.F.In.Source.remaining g.F.In.Source.failed g.F.Out.Sink.taken g.F.Out.Sink.failed) w rows here.asked _ _ e request asks (did told)) c.decrypt_file.ensures.stops
+
+pub returns-in-Ok-Some-Resume-clause-resumes_stop : goal.returns-in-Ok-Some-Resume-clause-resumes_stop
+returns-in-Ok-Some-Resume-clause-resumes_stop g c = λ rows asks.
+    let w = texts c.args.words.now in
+    let here = c.in-Ok-Some-Resume in
+    let request = subst (λ (o : Option Request). IfSome o (Requests w)) (here.field-0-is ∙ ap Some here.field-0-0-is) here.ensures.asked in
+    IfErr-weaker c.resume_file.result _ _ (λ e did told. resumes_stop_rows (PortsOf g.F.In.Source.remaining g.F.In.Source.failed g.F.Out.Sink.taken g.F.Out.Sink.failed) w rows here.asked _ _ e request asks (did told)) c.resume_file.ensures.stops
 
 pub returns-in-Ok-Some-Encrypt-clause-touches : goal.returns-in-Ok-Some-Encrypt-clause-touches
 returns-in-Ok-Some-Encrypt-clause-touches g c = λ name rows asks.
@@ -81,7 +89,16 @@ returns-in-Ok-Some-Encrypt-clause-judged g c = λ name rows asks.
     let request = subst (λ (o : Option Request). IfSome o (Requests w)) (here.field-0-is ∙ ap Some here.field-0-0-is) here.ensures.asked in
     let same = asked_order w name rows (Encrypt here.asked) request asks in
     let events = g.F.FileSet.events in
-    IfErr-weaker c.encrypt_file.result _ _ (λ e did usage. subst (λ (o : Order). Follows o.judged (events c.args.files.now) (events c.encrypt_file.new.files)) (sym same) (did usage)) c.encrypt_file.ensures.order_usage
+    IfErr-weaker c.encrypt_file.result _ _ (λ e did usage. subst (λ (o : Order). Follows o.done (events c.args.files.now) (events c.encrypt_file.new.files)) (sym same) (did usage)) c.encrypt_file.ensures.order_usage
+
+pub returns-in-Ok-Some-Encrypt-clause-judged_told : goal.returns-in-Ok-Some-Encrypt-clause-judged_told
+returns-in-Ok-Some-Encrypt-clause-judged_told g c = λ name rows asks told.
+    let w = texts c.args.words.now in
+    let here = c.in-Ok-Some-Encrypt in
+    let request = subst (λ (o : Option Request). IfSome o (Requests w)) (here.field-0-is ∙ ap Some here.field-0-0-is) here.ensures.asked in
+    let same = asked_order w name rows (Encrypt here.asked) request asks in
+    let events = g.F.FileSet.events in
+    IfErr-weaker c.encrypt_file.result _ _ (λ e did usage. subst (λ (o : Order). Follows o.judged (events c.args.files.now) (events c.encrypt_file.new.files)) (sym same) (did usage)) (c.encrypt_file.ensures.order_told told)
 
 pub returns-in-Ok-Some-Decrypt-clause-touches : goal.returns-in-Ok-Some-Decrypt-clause-touches
 returns-in-Ok-Some-Decrypt-clause-touches g c = λ name rows asks.
@@ -108,7 +125,16 @@ returns-in-Ok-Some-Decrypt-clause-judged g c = λ name rows asks.
     let request = subst (λ (o : Option Request). IfSome o (Requests w)) (here.field-0-is ∙ ap Some here.field-0-0-is) here.ensures.asked in
     let same = asked_order w name rows (Decrypt here.asked) request asks in
     let events = g.F.FileSet.events in
-    IfErr-weaker c.decrypt_file.result _ _ (λ e did usage. subst (λ (o : Order). Follows o.judged (events c.args.files.now) (events c.decrypt_file.new.files)) (sym same) (did usage)) c.decrypt_file.ensures.order_usage
+    IfErr-weaker c.decrypt_file.result _ _ (λ e did usage. subst (λ (o : Order). Follows o.done (events c.args.files.now) (events c.decrypt_file.new.files)) (sym same) (did usage)) c.decrypt_file.ensures.order_usage
+
+pub returns-in-Ok-Some-Decrypt-clause-judged_told : goal.returns-in-Ok-Some-Decrypt-clause-judged_told
+returns-in-Ok-Some-Decrypt-clause-judged_told g c = λ name rows asks told.
+    let w = texts c.args.words.now in
+    let here = c.in-Ok-Some-Decrypt in
+    let request = subst (λ (o : Option Request). IfSome o (Requests w)) (here.field-0-is ∙ ap Some here.field-0-0-is) here.ensures.asked in
+    let same = asked_order w name rows (Decrypt here.asked) request asks in
+    let events = g.F.FileSet.events in
+    IfErr-weaker c.decrypt_file.result _ _ (λ e did usage. subst (λ (o : Order). Follows o.judged (events c.args.files.now) (events c.decrypt_file.new.files)) (sym same) (did usage)) (c.decrypt_file.ensures.order_told told)
 
 pub returns-in-Ok-Some-Resume-clause-touches : goal.returns-in-Ok-Some-Resume-clause-touches
 returns-in-Ok-Some-Resume-clause-touches g c = λ name rows asks.
@@ -135,7 +161,16 @@ returns-in-Ok-Some-Resume-clause-judged g c = λ name rows asks.
     let request = subst (λ (o : Option Request). IfSome o (Requests w)) (here.field-0-is ∙ ap Some here.field-0-0-is) here.ensures.asked in
     let same = asked_order w name rows (Resume here.asked) request asks in
     let events = g.F.FileSet.events in
-    IfErr-weaker c.resume_file.result _ _ (λ e did usage. subst (λ (o : Order). Follows o.judged (events c.args.files.now) (events c.resume_file.new.files)) (sym same) (did usage)) c.resume_file.ensures.order_usage
+    IfErr-weaker c.resume_file.result _ _ (λ e did usage. subst (λ (o : Order). Follows o.done (events c.args.files.now) (events c.resume_file.new.files)) (sym same) (did usage)) c.resume_file.ensures.order_usage
+
+pub returns-in-Ok-Some-Resume-clause-judged_told : goal.returns-in-Ok-Some-Resume-clause-judged_told
+returns-in-Ok-Some-Resume-clause-judged_told g c = λ name rows asks told.
+    let w = texts c.args.words.now in
+    let here = c.in-Ok-Some-Resume in
+    let request = subst (λ (o : Option Request). IfSome o (Requests w)) (here.field-0-is ∙ ap Some here.field-0-0-is) here.ensures.asked in
+    let same = asked_order w name rows (Resume here.asked) request asks in
+    let events = g.F.FileSet.events in
+    IfErr-weaker c.resume_file.result _ _ (λ e did usage. subst (λ (o : Order). Follows o.judged (events c.args.files.now) (events c.resume_file.new.files)) (sym same) (did usage)) (c.resume_file.ensures.order_told told)
 
 pub returns-in-Ok-Some-Drill-clause-touches : goal.returns-in-Ok-Some-Drill-clause-touches
 returns-in-Ok-Some-Drill-clause-touches g c = λ name rows asks.
@@ -162,6 +197,15 @@ returns-in-Ok-Some-Drill-clause-judged g c = λ name rows asks.
     let request = subst (λ (o : Option Request). IfSome o (Requests w)) (here.field-0-is ∙ ap Some here.field-0-0-is) here.ensures.asked in
     let same = asked_order w name rows (Drill here.asked) request asks in
     let events = g.F.FileSet.events in
+    every_fault c.drill_file.result _ (λ e usage. subst (λ (o : Order). Follows o.done (events c.args.files.now) (events c.drill_file.new.files)) (sym same) c.drill_file.ensures.order)
+
+pub returns-in-Ok-Some-Drill-clause-judged_told : goal.returns-in-Ok-Some-Drill-clause-judged_told
+returns-in-Ok-Some-Drill-clause-judged_told g c = λ name rows asks told.
+    let w = texts c.args.words.now in
+    let here = c.in-Ok-Some-Drill in
+    let request = subst (λ (o : Option Request). IfSome o (Requests w)) (here.field-0-is ∙ ap Some here.field-0-0-is) here.ensures.asked in
+    let same = asked_order w name rows (Drill here.asked) request asks in
+    let events = g.F.FileSet.events in
     every_fault c.drill_file.result _ (λ e usage. subst (λ (o : Order). Follows o.judged (events c.args.files.now) (events c.drill_file.new.files)) (sym same) c.drill_file.ensures.order)
 
 pub returns-then-is_empty-clause-touches : goal.returns-then-is_empty-clause-touches
@@ -179,6 +223,11 @@ returns-then-is_empty-clause-judged g c =
     let short : length c.args.words.now ≡ 0 = search rules in
     λ name rows asks. absurd (no_command (texts c.args.words.now) _ rows (ap texts (nil_from_length c.args.words.now short)) asks)
 
+pub returns-then-is_empty-clause-judged_told : goal.returns-then-is_empty-clause-judged_told
+returns-then-is_empty-clause-judged_told g c =
+    let short : length c.args.words.now ≡ 0 = search rules in
+    λ name rows asks told. absurd (no_command (texts c.args.words.now) _ rows (ap texts (nil_from_length c.args.words.now short)) asks)
+
 pub returns-in-Err-clause-touches : goal.returns-in-Err-clause-touches
 returns-in-Err-clause-touches g c = λ name rows asks. none_done _ _
 
@@ -188,8 +237,15 @@ returns-in_err-report-clause-touches g c = λ name rows asks. none_done _ _
 pub returns-in-Err-clause-judged : goal.returns-in-Err-clause-judged
 returns-in-Err-clause-judged g c = λ name rows asks. every_fault c.answer_refusal.result _ (λ e usage. none_done _ _)
 
+pub returns-in-Err-clause-judged_told : goal.returns-in-Err-clause-judged_told
+returns-in-Err-clause-judged_told g c = λ name rows asks told. every_fault c.answer_refusal.result _ (λ e usage. none_done _ _)
+
 pub returns-in-Ok-Some-Inspect-Some-clause-judged : goal.returns-in-Ok-Some-Inspect-Some-clause-judged
 returns-in-Ok-Some-Inspect-Some-clause-judged g c = λ name rows asks.
+    IfErr-weaker c.report_file.result _ _ (λ e no usage. absurd (true≢false (sym usage ∙ no))) c.report_file.ensures.fault
+
+pub returns-in-Ok-Some-Inspect-Some-clause-judged_told : goal.returns-in-Ok-Some-Inspect-Some-clause-judged_told
+returns-in-Ok-Some-Inspect-Some-clause-judged_told g c = λ name rows asks told.
     IfErr-weaker c.report_file.result _ _ (λ e no usage. absurd (true≢false (sym usage ∙ no))) c.report_file.ensures.fault
 
 pub returns-in-Ok-None-clause-touches : goal.returns-in-Ok-None-clause-touches
@@ -197,3 +253,24 @@ returns-in-Ok-None-clause-touches g c = λ name rows asks. none_done _ _
 
 pub returns-in-Ok-None-clause-judged : goal.returns-in-Ok-None-clause-judged
 returns-in-Ok-None-clause-judged g c = λ name rows asks usage. none_done _ _
+
+pub returns-in-Ok-None-clause-judged_told : goal.returns-in-Ok-None-clause-judged_told
+returns-in-Ok-None-clause-judged_told g c = λ name rows asks told usage. none_done _ _
+
+pub returns-in_err-report-clause-decrypts_stop : goal.returns-in_err-report-clause-decrypts_stop
+returns-in_err-report-clause-decrypts_stop g c =
+    let short : length c.args.words.now ≡ 0 = search rules in
+    λ rows asks. absurd (no_command (texts c.args.words.now) _ rows (ap texts (nil_from_length c.args.words.now short)) asks)
+
+pub returns-in-Err-clause-decrypts_stop : goal.returns-in-Err-clause-decrypts_stop
+returns-in-Err-clause-decrypts_stop g c = λ rows asks.
+    IfErr-weaker c.answer_refusal.result _ _ (λ e early told. inl (refl, early)) c.answer_refusal.ensures.early
+
+pub returns-in_err-report-clause-resumes_stop : goal.returns-in_err-report-clause-resumes_stop
+returns-in_err-report-clause-resumes_stop g c =
+    let short : length c.args.words.now ≡ 0 = search rules in
+    λ rows asks. absurd (no_command (texts c.args.words.now) _ rows (ap texts (nil_from_length c.args.words.now short)) asks)
+
+pub returns-in-Err-clause-resumes_stop : goal.returns-in-Err-clause-resumes_stop
+returns-in-Err-clause-resumes_stop g c = λ rows asks.
+    IfErr-weaker c.answer_refusal.result _ _ (λ e early told. inl (refl, inl early)) c.answer_refusal.ensures.early

@@ -1,7 +1,49 @@
-use Rattle.std.proofs.Common.{inl}
-use Rattle.age_cli.proofs.EventSteps.{every_fault, two_events}
+use Rattle.std.proofs.Common.{◌≡◌, inl, refl, sym, subst, Some, []}
+use Rattle.age_file.specs.Ports.{ports}
+use Rattle.age_file.specs.Resumes.{resume_ports}
+use Rattle.age_cli.specs.Stops.{ResumptionStop, Leaves, OutStops, PortsOf}
+use Rattle.age_cli.specs.Openers.{allows_by, refuses_by}
+use Rattle.age_cli.specs.OpenerSteps.{opener_of}
+use Rattle.age_cli.specs.declared.stop.Stop.{Stop}
+use Rattle.age_cli.proofs.StopSteps.{resume_wrote, holds_nothing}
 use Rattle.age_cli.proofs.resumption.write_out.Goals as goal
 
-pub returns-in_err-resumed-clause-noted_stop : goal.returns-in_err-resumed-clause-noted_stop
-returns-in_err-resumed-clause-noted_stop g c =
-    every_fault c.from_residual-in_err-resumed.result _ (λ stop. inl (two_events _ _ _ _ _ c.in_ok-out.ensures.noted c.close-closed.ensures.noted))
+pub returns-in-Err-clause-stops : goal.returns-in-Err-clause-stops
+returns-in-Err-clause-stops g c = λ told empty.
+    let entry = g.F.FileSet.entry in
+    let In = g.F.In.Source in
+    let Out = g.F.Out.Sink in
+    let stopped = c.in-Err.stopped in
+    let opener = opener_of c.args.unlocker.now in
+    let from = c.args.position.now in
+    let label = Out.label c.args.out in
+    let source = c.args.source.now in
+    let old = c.args.old.now in
+    let reader = c.resume_with.new.reader in
+    let old_reader = c.resume_with.new.old_reader in
+    let writer = c.resume_with.new.writer in
+    let before = resume_ports (ports (In.remaining source) (In.failed source) (Out.taken c.args.out) (Out.failed c.args.out)) (In.remaining old) (In.failed old) in
+    let after = resume_ports (ports (In.remaining reader) (In.failed reader) (Out.taken writer) (Out.failed writer)) (In.remaining old_reader) (In.failed old_reader) in
+    let wrote = resume_wrote c.args.positions (allows_by opener) from (refuses_by opener) before after stopped.written stopped.position stopped.fault c.in-Err.ensures.stopped in
+    let none : stopped.written ≡ 0 → Out.taken writer ≡ Some [] = λ zero. holds_nothing (Out.taken c.args.out) (Out.taken writer) stopped.written wrote.0 empty wrote.1 zero in
+    subst (λ (s : Stop). OutStops
+    (ResumptionStop (PortsOf In.remaining In.failed Out.taken Out.failed) c.args.positions opener from (In.remaining source) (In.remaining old) s.position s.fault)
+    (entry c.args.files.now label) (entry c.leave.new.files label) s.position s.fault) (sym c.from.ensures)
+    (inl (
+      stopped.written,
+      Out.taken writer,
+      (record {
+        before = before;
+        after = after;
+        before_is = record { source = source; sink = c.args.out; is = refl };
+        after_is = record { source = reader; sink = writer; is = refl };
+        old_before_is = record { source = old; sink = c.args.out; is = refl };
+        old_after_is = record { source = old_reader; sink = writer; is = refl };
+        coming = refl;
+        old_coming = refl;
+        empty = empty;
+        fails = c.in-Err.ensures.stopped;
+        took = refl;
+      }),
+      subst (λ l. Leaves stopped.written (Out.taken writer) (entry c.args.files.now l) (entry c.leave.new.files l)) c.in-Err.ensures.named (c.leave.ensures.held told none),
+    ))
