@@ -1,7 +1,7 @@
 -- The events of a command, in order.
-use Rattle.std.proofs.Common.{◌≡◌, ◌∙◌, ◌++◌, ◌∷◌, [], ◌⊎◌, inl, inr, refl, ap, ap₂, sym, List, Option, Some, None, Result, Ok, Err, IfErr, append_assoc}
+use Rattle.std.proofs.Common.{◌≡◌, ◌∙◌, ◌++◌, ◌∷◌, [], refl, ap, ap₂, sym, List, Option, Some, Result, Ok, Err, IfErr, append_assoc}
 use Rattle.clap.specs.Words.{Text}
-use Rattle.age_cli.specs.Events.{Event, Follows, Opened, Created, Closed, opening, making, replacing, opener_order}
+use Rattle.age_cli.specs.Events.{Event, Follows, Created, Closed, making, replacing, opener_order}
 use Rattle.age_cli.specs.OpenerSteps.{IsChosen, chosen_order}
 use Rattle.age_cli.specs.Requests.{text_of}
 use Rattle.age_cli.specs.declared.request.Unlocking.{Unlocking}

@@ -1,5 +1,5 @@
 -- The headline for OUT, from what the commands did.
-use Rattle.std.proofs.Common.{◌≡◌, ◌∙◌, ◌++◌, ℕ, inl, inr, refl, ap, sym, subst, true, false, true≢false, codes, List, [], Option, Some, None, append-nil, ⊎_elim, ◌⊎◌}
+use Rattle.std.proofs.Common.{◌≡◌, ◌∙◌, ◌++◌, ℕ, inl, inr, ap, sym, subst, true, true≢false, codes, List, [], Option, Some, None, append-nil, ⊎_elim}
 use Rattle.std.specs.Prelude.{is_some}
 use Rattle.std.specs.Option.{option_map_or}
 use Rattle.std.specs.Io.KnownBytes.{Consumes, Appends, IsAtEnd}

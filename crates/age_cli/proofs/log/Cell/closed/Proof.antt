@@ -1,7 +1,7 @@
 -- A count is closedd: the code does nothing, and the walk gives the borrow back at the next number.
 use Rattle.std.proofs.Common.{◌++◌, [], ◌∷◌, refl}
 use Rattle.std.proofs.raw_atomic.Walks.{proved}
-use Rattle.age_cli.specs.Events.{Opened, Created, Closed}
+use Rattle.age_cli.specs.Events.{Closed}
 use base.Fml.{ftrue, flft}
 use base.Logic.{id⊢}
 use mir.Syntax.{named}
