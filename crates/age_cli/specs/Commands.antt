@@ -30,11 +30,11 @@ has_globals c = (out-Command c).has_globals
 abbrev pub HasApp : App → Command → Type 0
 HasApp a c = (app_of c ≡ a) × (has_globals c ≡ false)
 
--- `[--pass FILE] [--file-key HEX] [--shared FILE] [--max-log N] [--save FILE]`
+-- `[--pass FILE] [--file-key HEX] [--shared FILE] [--max-log N] [--save FILE] [--no-sync]`
 abbrev pub with_unlocking : App → App
-with_unlocking a = with_rule (with_rule (with_rule (with_rule (with_rule a
+with_unlocking a = with_rule (with_rule (with_rule (with_rule (with_rule (with_rule a
     (option_rule (codes "pass"))) (option_rule (codes "file-key"))) (option_rule (codes "shared")))
-    (number_rule (codes "max-log"))) (option_rule (codes "save"))
+    (number_rule (codes "max-log"))) (option_rule (codes "save"))) (flag_rule (codes "no-sync"))
 
 -- `IN OUT`
 abbrev pub with_both_files : App → App
@@ -42,11 +42,15 @@ with_both_files a =
     with_rule (with_rule a (required_rule (new_rule (codes "IN"))))
     (required_rule (new_rule (codes "OUT")))
 
--- `encrypt --pass FILE [--log N] [--random FILE] IN OUT`
+-- `[--log N] [--random FILE] [--no-sync]`
+abbrev pub with_sealing : App → App
+with_sealing a = with_rule (with_rule (with_rule a (number_rule (codes "log")))
+    (option_rule (codes "random"))) (flag_rule (codes "no-sync"))
+
+-- `encrypt --pass FILE [--log N] [--random FILE] [--no-sync] IN OUT`
 unfoldable pub encrypting : App
-encrypting = with_both_files (with_rule (with_rule (with_rule (new_app (codes "encrypt"))
-    (required_rule (option_rule (codes "pass")))) (number_rule (codes "log")))
-    (option_rule (codes "random")))
+encrypting = with_both_files (with_sealing (with_rule (new_app (codes "encrypt"))
+    (required_rule (option_rule (codes "pass")))))
 
 -- `decrypt`, what opens the file, `IN OUT`
 unfoldable pub decrypting : App

@@ -5,6 +5,8 @@ use Rattle.std.specs.Str.Parse.{digits_value, without_leading_plus}
 use Rattle.std.specs.Borrow.{Bor}
 use Rattle.clap.specs.Words.{Row, Text, first_of, one_of}
 use Rattle.age_cli.specs.Asked.{Asks}
+use Rattle.age_cli.specs.declared.files.Durability.{Durability}
+use Rattle.age_cli.specs.declared.files.Durability.TheVariants.{Synced, Buffered}
 use Rattle.age_cli.specs.declared.request.Encrypting.{Encrypting}
 use Rattle.age_cli.specs.declared.request.Unlocking.{Unlocking}
 use Rattle.age_cli.specs.declared.request.Decrypting.{Decrypting}
@@ -20,10 +22,16 @@ number_or default text = option_map_or (λ t. digits_value 10 (without_leading_p
 abbrev pub text_of : Option (Bor Text) → Option Text
 text_of = option_map (λ s. s.now)
 
+-- `--no-sync` says that what is written may reach the disk later
+pub record IsDurability (rows : List Row) (d : Durability) : Type 0 where
+  pub given : one_of (codes "no-sync") rows ≡ Some (codes "true") → d ≡ Buffered
+  pub none : one_of (codes "no-sync") rows ≡ None → d ≡ Synced
+
 pub record IsEncrypting (rows : List Row) (e : Encrypting) : Type 0 where
   pub pass : Some e.pass.now ≡ first_of (codes "pass") rows
   pub log : e.log ≡ number_or 18 (one_of (codes "log") rows)
   pub random : text_of e.random ≡ first_of (codes "random") rows
+  pub durability : IsDurability rows e.durability
   pub from : Some e.from.now ≡ first_of (codes "IN") rows
   pub to : Some e.to.now ≡ first_of (codes "OUT") rows
 
@@ -36,6 +44,7 @@ pub record IsUnlocking (rows : List Row) (u : Unlocking) : Type 0 where
 pub record IsDecrypting (rows : List Row) (d : Decrypting) : Type 0 where
   pub unlocking : IsUnlocking rows d.unlocking
   pub save : text_of d.save ≡ first_of (codes "save") rows
+  pub durability : IsDurability rows d.durability
   pub from : Some d.from.now ≡ first_of (codes "IN") rows
   pub to : Some d.to.now ≡ first_of (codes "OUT") rows
 

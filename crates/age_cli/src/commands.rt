@@ -3,7 +3,7 @@
 ghost use Rattle.std.specs.Prelude.{◌≡◌, false, IfOk};
 ghost use Rattle.clap.specs.Words.{app_of, rule_of, new_rule, with_rule, with_subcommand, new_app, FailsBy, subcommand_rows_of};
 ghost use Rattle.clap.specs.Walk.{texts};
-ghost use Rattle.age_cli.specs.Commands.{HasApp, has_globals, option_rule, number_rule, flag_rule, required_rule, with_unlocking, with_both_files, encrypting, decrypting, resuming, inspecting, drilling, age_tool};
+ghost use Rattle.age_cli.specs.Commands.{HasApp, has_globals, option_rule, number_rule, flag_rule, required_rule, with_unlocking, with_sealing, with_both_files, encrypting, decrypting, resuming, inspecting, drilling, age_tool};
 ghost use Rattle.age_cli.specs.Asked.{refusals, named};
 
 use crate::help;
@@ -60,7 +60,7 @@ fn add<'a>(command: Command<'a>, arg: Arg<'a>) -> Result<Command<'a>, AllocError
     command.arg(arg)
 }
 
-/// The options that say what opens a file, and where a stop's position goes.
+/// The options that say what opens a file, where a stop's position goes, and whether what is written is waited for.
 fn add_unlocking<'a>(alloc: Global, to: Command<'a>) -> Result<Command<'a>, AllocError>
     requires { has_globals to ≡ false }
     ensures { IfOk result (HasApp (with_unlocking (app_of to.entry))) }
@@ -69,7 +69,18 @@ fn add_unlocking<'a>(alloc: Global, to: Command<'a>) -> Result<Command<'a>, Allo
     let with_key = add(with_pass, option(alloc, "file-key", "HEX", help::FILE_KEY))?;
     let with_shared = add(with_key, option(alloc, "shared", "FILE", help::SHARED))?;
     let with_limit = add(with_shared, number(alloc, "max-log", help::MAX_LOG))?;
-    add(with_limit, option(alloc, "save", "FILE", help::SAVE))
+    let with_save = add(with_limit, option(alloc, "save", "FILE", help::SAVE))?;
+    add(with_save, flag(alloc, "no-sync", help::NO_SYNC))
+}
+
+/// The options that say how a file is sealed.
+fn add_sealing<'a>(alloc: Global, to: Command<'a>) -> Result<Command<'a>, AllocError>
+    requires { has_globals to ≡ false }
+    ensures { IfOk result (HasApp (with_sealing (app_of to.entry))) }
+{
+    let with_log = add(to, number(alloc, "log", help::LOG))?;
+    let with_random = add(with_log, option(alloc, "random", "FILE", help::RANDOM))?;
+    add(with_random, flag(alloc, "no-sync", help::NO_SYNC))
 }
 
 fn add_both_files<'a>(
@@ -92,9 +103,8 @@ fn encrypt<'a>(alloc: Global) -> Result<Command<'a>, AllocError>
     let plain = command(alloc, "encrypt", help::ENCRYPT, help::AFTER_ENCRYPT);
     let pass = option(alloc, "pass", "FILE", help::PASS).required(true);
     let with_pass = add(plain, pass)?;
-    let with_log = add(with_pass, number(alloc, "log", help::LOG))?;
-    let with_random = add(with_log, option(alloc, "random", "FILE", help::RANDOM))?;
-    add_both_files(alloc, with_random, help::PLAIN_IN, help::FILE_OUT)
+    let sealing = add_sealing(alloc, with_pass)?;
+    add_both_files(alloc, sealing, help::PLAIN_IN, help::FILE_OUT)
 }
 
 #[tactic(auto, unfolding(crate::specs::Commands::decrypting))]

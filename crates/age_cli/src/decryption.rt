@@ -5,6 +5,7 @@ ghost use Rattle.std.specs.Prelude.{◌≡◌, ◌⊎◌, [], ◌∷◌, ◌++�
 ghost use Rattle.age_cli.specs.Events.{Follows, Closed};
 ghost use Rattle.age_cli.specs.Asking.{order_asked};
 ghost use Rattle.age_cli.specs.declared.request.Request.TheVariants.{Decrypt};
+ghost use Rattle.clap.specs.Words.{Text};
 ghost use Rattle.age_cli.specs.Requests.{text_of};
 ghost use Rattle.age_cli.specs.OpenerSteps.{opener_of, options_asked};
 ghost use Rattle.age_cli.specs.Decryptions.{DecryptsOut, DecryptsFile};
@@ -55,25 +56,48 @@ fn write_out<F: FileSet>(
     }
 }
 
-/// Whether a position is saved to the file of this name.
-pub(crate) fn saves_to<F: FileSet>(files: &F, asked: &Decrypting<'_>, name: &str) -> bool
-    ensures { text_of asked.now.save ≡ Some name.now → result ≡ true }
+/// Whether a name is given, and stands for the same file as another.
+pub(crate) fn is_given_as<F: FileSet>(files: &F, given: Option<&str>, name: &str) -> bool
+    ensures { text_of given.entry ≡ Some name.now → result ≡ true }
 {
-    match asked.save {
-        Some(save) => files.is_same(save, name),
+    match given {
+        Some(given) => files.is_same(given, name),
         None => false,
     }
 }
 
-/// Whether two of the files that have to differ are one: what is read, what is written, and where a position goes.
+/// Whether a name stands for a file that a decryption reads: its input, or the file of what opens that.
+fn is_read<F: FileSet>(files: &F, asked: &Decrypting<'_>, name: &str) -> bool
+    ensures from { asked.now.from.now ≡ name.now → result ≡ true }
+    ensures pass { text_of asked.now.unlocking.pass ≡ Some name.now → result ≡ true }
+    ensures shared { text_of asked.now.unlocking.shared ≡ Some name.now → result ≡ true }
+{
+    files.is_same(asked.from, name)
+        || is_given_as(files, asked.unlocking.pass, name)
+        || is_given_as(files, asked.unlocking.shared, name)
+}
+
+/// Whether two of the files that have to differ are one: the output is none of those that are read, and a position goes
+/// to none of all these.
 pub(crate) fn names_a_file_twice<F: FileSet>(files: &F, asked: &Decrypting<'_>) -> bool
     ensures both { asked.now.from.now ≡ asked.now.to.now → result ≡ true }
-    ensures saved_from { text_of asked.now.save ≡ Some asked.now.from.now → result ≡ true }
+    ensures pass_to { text_of asked.now.unlocking.pass ≡ Some asked.now.to.now → result ≡ true }
+    ensures shared_to { text_of asked.now.unlocking.shared ≡ Some asked.now.to.now
+        → result ≡ true }
     ensures saved_to { text_of asked.now.save ≡ Some asked.now.to.now → result ≡ true }
+    ensures saved_from { text_of asked.now.save ≡ Some asked.now.from.now → result ≡ true }
+    ensures saved_pass { (name : Text) → text_of asked.now.save ≡ Some name
+        → text_of asked.now.unlocking.pass ≡ Some name → result ≡ true }
+    ensures saved_shared { (name : Text) → text_of asked.now.save ≡ Some name
+        → text_of asked.now.unlocking.shared ≡ Some name → result ≡ true }
 {
-    files.is_same(asked.from, asked.to)
-        || saves_to(files, asked, asked.from)
-        || saves_to(files, asked, asked.to)
+    if is_read(files, asked, asked.to) {
+        return true;
+    }
+    match asked.save {
+        Some(save) => files.is_same(save, asked.to) || is_read(files, asked, save),
+        None => false,
+    }
 }
 
 /// Positions are kept where one is to be saved: a decryption without them is faster.
@@ -128,9 +152,9 @@ pub(crate) fn decrypt_file<F: FileSet>(
         positions_for(asked.save),
         &unlocker,
         out,
-        Durability::Synced,
+        asked.durability,
     ) {
         Ok(()) => Ok(()),
-        Err(stop) => Err(end_of(alloc, files, asked.save, stop, Durability::Synced)),
+        Err(stop) => Err(end_of(alloc, files, asked.save, stop, asked.durability)),
     }
 }

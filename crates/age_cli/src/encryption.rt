@@ -102,6 +102,18 @@ fn random_name<'a>(asked: &Encrypting<'a>) -> &'a str
     }
 }
 
+/// Whether the output is one of the files that are read.
+fn names_out_twice<F: FileSet>(files: &F, asked: &Encrypting<'_>) -> bool
+    ensures both { asked.now.from.now ≡ asked.now.to.now → result ≡ true }
+    ensures pass_to { asked.now.pass.now ≡ asked.now.to.now → result ≡ true }
+    ensures random_to { random_name (text_of asked.now.random) ≡ asked.now.to.now
+        → result ≡ true }
+{
+    files.is_same(asked.from, asked.to)
+        || files.is_same(asked.pass, asked.to)
+        || files.is_same(random_name(asked), asked.to)
+}
+
 /// Encrypts a file as the words ask.
 pub(crate) fn encrypt_file<F: FileSet>(
     alloc: Global,
@@ -123,7 +135,7 @@ pub(crate) fn encrypt_file<F: FileSet>(
     ensures order_told { F.tells files.old ≡ true → IfErr result (λ e. is_usage e ≡ true → Follows
         (order_asked (Encrypt asked.now)).judged (F.events files.old) (F.events files.new)) }
 {
-    if files.is_same(asked.from, asked.to) {
+    if names_out_twice(files, asked) {
         return Err(Ending::Usage(Usage::SameFile));
     }
     let pass = read_pass(alloc, files, asked.pass)?;

@@ -11,7 +11,9 @@ pub(crate) const AFTER_PROGRAM: &str =
 Exit status: 0 on success; 1 on a fault, told in one line such as `age_tool: 13 WrongKey`; 2 for a bad command line, and then no file \
 was changed. docs/FAULTS.md says of each fault what it means, what stands afterwards and what to do.
 
-A name is a path: `-` is a file of that name, /dev/stdin and /dev/stdout are the streams.
+A name is a path: `-` is a file of that name. /dev/stdin, /dev/stdout and /dev/stderr are the streams themselves, so OUT can stand among \
+what other commands write to the same file. OUT is none of the files that are read, by whatever name; the file of --save is none of them \
+but that of --position, nor OUT.
 
 `age_tool COMMAND --help` explains a command.";
 
@@ -20,8 +22,8 @@ pub(crate) const ENCRYPT: &str = "Encrypt a file under a passphrase";
 pub(crate) const AFTER_ENCRYPT: &str =
     "Example: age_tool encrypt --pass passphrase.txt notes.txt notes.txt.age
 
-Any age program opens the result with the passphrase. OUT is made anew once all other files could be opened, whatever it held; what an \
-encryption that stops has written stays there.";
+Any age program opens the result with the passphrase. What OUT held is replaced with the first byte that is written, which is after all \
+other files could be opened; what an encryption that stops has written stays there.";
 
 pub(crate) const DECRYPT: &str = "Decrypt an age file";
 
@@ -29,8 +31,8 @@ pub(crate) const AFTER_DECRYPT: &str =
     "Example: age_tool decrypt --pass passphrase.txt notes.txt.age notes.txt
 
 Give one of --pass, --file-key and --shared. Every chunk is checked before it is written. Only status 0 means that OUT is the whole \
-plaintext: after a fault OUT holds a front of it. OUT is made anew once all other files could be opened, whatever it held, also where the \
-passphrase then turns out to be wrong.";
+plaintext: after a fault OUT holds the first part of it, or what it held before, if nothing could be decrypted: what OUT held is replaced \
+with the first chunk that is valid.";
 
 pub(crate) const RESUME: &str = "Go on with a decryption that stopped";
 
@@ -80,6 +82,9 @@ pub(crate) const MAX_LOG: &str = "Greatest work factor that is accepted, 1 to 22
 pub(crate) const SAVE: &str =
     "Where the position goes if the decryption stops, so that it can be resumed; best on a disk that OUT can't fill";
 
+pub(crate) const NO_SYNC: &str =
+    "Don't wait until what is written has reached the disk: faster, but a loss of power soon after status 0 can lose it";
+
 pub(crate) const POSITION: &str = "File with the position that the stopped run saved";
 
 pub(crate) const OLD: &str =
@@ -87,14 +92,15 @@ pub(crate) const OLD: &str =
 
 pub(crate) const PLAIN_IN: &str = "The file to encrypt";
 
-pub(crate) const FILE_OUT: &str = "The age file to write; another file than IN";
+pub(crate) const FILE_OUT: &str = "The age file to write; none of the files that are read";
 
 pub(crate) const FILE_IN: &str = "The age file to decrypt";
 
-pub(crate) const PLAIN_OUT: &str = "The file to write; another than IN and that of --save";
+pub(crate) const PLAIN_OUT: &str =
+    "The file to write; none of those that are read, nor that of --save";
 
 pub(crate) const WHOLE_OUT: &str =
-    "The file to write; another than IN and those of --old and --save";
+    "The file to write; none of those that are read, nor that of --save";
 
 pub(crate) const CLEAR: &str =
     "IN is a payload whose chunks, 4 bytes and 16 of a mark, are in the clear: an example";

@@ -230,10 +230,11 @@ impl FileSet for MemFiles {
     }
 
     /// Drops what the sink took, whatever that is.
-    fn discard(&mut self, _out: MemOut)
+    fn discard(&mut self, out: MemOut)
         ensures kept { self.new ≡ record self.old { events = self.old.events ++ Closed ∷ [] } }
     {
         self.log.closed();
+        let _dropped = out;
     }
 
     /// Refuses with `Write` (27) exactly where the name is one that can't be written, or where the bytes are more than

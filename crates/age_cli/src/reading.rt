@@ -4,9 +4,10 @@ ghost use Rattle.std.specs.Prelude.{◌≡◌, ◌≤◌, [], true, false, Some,
 ghost use Rattle.clap.specs.Words.{subcommand_rows_of, rows_of, found_of, one_of, first_of, FailsBy};
 ghost use Rattle.clap.specs.Walk.{texts};
 ghost use Rattle.age_cli.specs.Asked.{refusals};
-ghost use Rattle.age_cli.specs.Requests.{number_or, text_of, IsEncrypting, IsUnlocking, IsDecrypting, IsResuming, IsDrilling, IsRequest, Requests};
+ghost use Rattle.age_cli.specs.Requests.{number_or, text_of, IsDurability, IsEncrypting, IsUnlocking, IsDecrypting, IsResuming, IsDrilling, IsRequest, Requests};
 
 use crate::commands::matches_of;
+use crate::files::Durability;
 use crate::request::{Decrypting, Drilling, Encrypting, Request, Resuming, Unlocking};
 use clap::{ArgMatches, Error};
 use std::alloc::Global;
@@ -44,6 +45,17 @@ fn flag(matches: &ArgMatches<'_>, id: &str) -> bool
     matches.get_flag(id)
 }
 
+/// Whether what is written has to reach the disk before the program ends.
+fn durability(matches: &ArgMatches<'_>) -> Durability
+    ensures { IsDurability (rows_of (found_of matches.now)) result }
+{
+    if flag(matches, "no-sync") {
+        Durability::Buffered
+    } else {
+        Durability::Synced
+    }
+}
+
 /// The command that the words name, with its own matches.
 fn command_of<'m, 'a>(matches: &'m ArgMatches<'a>) -> Option<(&'a str, &'m ArgMatches<'a>)>
     ensures { IfSome result
@@ -59,6 +71,7 @@ fn encrypting<'a>(matches: &ArgMatches<'a>) -> Option<Encrypting<'a>>
         pass: text(matches, "pass")?,
         log: number(matches, "log", 18)?,
         random: text(matches, "random"),
+        durability: durability(matches),
         from: text(matches, "IN")?,
         to: text(matches, "OUT")?,
     })
@@ -81,6 +94,7 @@ fn decrypting<'a>(matches: &ArgMatches<'a>) -> Option<Decrypting<'a>>
     Some(Decrypting {
         unlocking: unlocking(matches)?,
         save: text(matches, "save"),
+        durability: durability(matches),
         from: text(matches, "IN")?,
         to: text(matches, "OUT")?,
     })

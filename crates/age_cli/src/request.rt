@@ -1,11 +1,14 @@
 //! What the words ask for.
 
+use crate::files::Durability;
+
 /// What `encrypt` is asked.
 #[derive(Clone, Copy, Debug)]
 pub(crate) struct Encrypting<'a> {
     pub(crate) pass: &'a str,
     pub(crate) log: u32,
     pub(crate) random: Option<&'a str>,
+    pub(crate) durability: Durability,
     pub(crate) from: &'a str,
     pub(crate) to: &'a str,
 }
@@ -24,6 +27,7 @@ pub(crate) struct Unlocking<'a> {
 pub(crate) struct Decrypting<'a> {
     pub(crate) unlocking: Unlocking<'a>,
     pub(crate) save: Option<&'a str>,
+    pub(crate) durability: Durability,
     pub(crate) from: &'a str,
     pub(crate) to: &'a str,
 }

@@ -14,7 +14,7 @@ ghost use Rattle.age_cli.specs.Resumptions.{IsPositionIn, ResumesOut, ResumesFil
 ghost use Rattle.age_cli.specs.Endings.{EndsEarly, is_usage};
 ghost use Rattle.age_cli.specs.Held.{SparesBut, SparesBoth};
 
-use crate::decryption::{names_a_file_twice, positions_for, saves_to};
+use crate::decryption::{is_given_as, names_a_file_twice, positions_for};
 use crate::ending::{Ending, Usage};
 use crate::files::{Durability, FileSet};
 use crate::front::read_up_to;
@@ -84,16 +84,23 @@ fn write_out<F: FileSet>(
     }
 }
 
-/// Whether the old text is a file that has to differ from it, or two of those are one.
+/// Whether two of the files that have to differ are one: those of a decryption, the old text from all of these that are
+/// not what opens the input, and the output from the position.
 fn names_one_twice<F: FileSet>(files: &F, asked: &Resuming<'_>) -> bool
+    ensures position_to { asked.now.position.now ≡ asked.now.decrypting.to.now → result ≡ true }
+    ensures old_from { asked.now.old.now ≡ asked.now.decrypting.from.now → result ≡ true }
+    ensures old_to { asked.now.old.now ≡ asked.now.decrypting.to.now → result ≡ true }
+    ensures saved_old { text_of asked.now.decrypting.save ≡ Some asked.now.old.now
+        → result ≡ true }
     ensures saved_to { text_of asked.now.decrypting.save ≡ Some asked.now.decrypting.to.now
         → result ≡ true }
 {
     let others = &asked.decrypting;
     names_a_file_twice(files, others)
+        || files.is_same(asked.position, others.to)
         || files.is_same(asked.old, others.from)
         || files.is_same(asked.old, others.to)
-        || saves_to(files, others, asked.old)
+        || is_given_as(files, others.save, asked.old)
 }
 
 /// Goes on with a decryption as the words ask. Where it stops, its position is saved.
@@ -145,9 +152,9 @@ pub(crate) fn resume_file<F: FileSet>(
         &unlocker,
         &position,
         out,
-        Durability::Synced,
+        wanted.durability,
     ) {
         Ok(()) => Ok(()),
-        Err(stop) => Err(end_of(alloc, files, wanted.save, stop, Durability::Synced)),
+        Err(stop) => Err(end_of(alloc, files, wanted.save, stop, wanted.durability)),
     }
 }

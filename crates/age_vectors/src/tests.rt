@@ -1,6 +1,7 @@
 mod commands;
 mod drill;
 mod inspection;
+mod machine;
 mod memory;
 mod program;
 mod resumption;

@@ -94,7 +94,7 @@ fn refuses_to_decrypt(rt: HostRuntime) -> Result<(), Fail> {
             line.as_str(),
             (1, "", told.as_str()),
         )?;
-        assert!(rt; files.get("BACK") == Some(b"".as_slice()));
+        assert!(rt; files.get("BACK").is_none());
     }
     Ok(())
 }
@@ -116,7 +116,14 @@ fn bad_command_lines(rt: HostRuntime) -> Result<(), Fail> {
         ("decrypt --pass NO IN IN", same),
         ("decrypt --pass NO --save IN IN OUT", same),
         ("decrypt --pass NO --save OUT IN OUT", same),
+        ("decrypt --pass NO IN NO", same),
+        ("decrypt --shared NO IN NO", same),
+        ("decrypt --pass NO --save NO IN OUT", same),
+        ("decrypt --shared NO --save NO IN OUT", same),
+        ("resume --position NO --old IN --pass PASS OUT NO", same),
         ("encrypt --pass PASS IN IN", same),
+        ("encrypt --pass PASS IN PASS", same),
+        ("encrypt --pass PASS --random SHORT IN SHORT", same),
         ("decrypt --pass EMPTY IN OUT", pass),
         ("encrypt --pass EMPTY --random SHORT IN OUT", pass),
         ("decrypt --shared SHORT IN OUT", "bad shared file"),

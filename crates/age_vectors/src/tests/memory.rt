@@ -1,6 +1,6 @@
 //! Sources, sinks and files over memory, by their plans of failures.
 
-use age_cli::{FileSet, MemFiles};
+use age_cli::{CreateFault, Durability, FileSet, MemFiles};
 use age_file::{Failed, FileFault, MemSink, MemSource, Reading, Sink, Source, Writing, put_all};
 use std::test::Fail;
 
@@ -72,11 +72,22 @@ fn files_by_their_names(rt: HostRuntime) -> Result<(), Fail> {
     files.refuse(alloc, "B")?;
     assert!(rt; files.get("A") == Some(b"second".as_slice()));
     assert!(rt; matches!(&files.open(alloc, "C"), Err(FileFault::Read)));
-    assert!(rt; matches!(&files.create(alloc, "B"), Err(FileFault::Write)));
+    let unwritable = CreateFault::Fault(FileFault::Write);
+    assert!(rt; matches!(&files.create(alloc, "B"), Err(fault) if *fault == unwritable));
     let mut out = files.create(alloc, "A")?;
-    assert!(rt; files.get("A") == Some(b"".as_slice()));
     assert_eq!(rt; out.put(b"third"), Ok(4));
-    files.close(out)?;
+    assert!(rt; files.get("A") == Some(b"second".as_slice()));
+    files.close(out, Durability::Synced)?;
     assert!(rt; files.get("A") == Some(b"thir".as_slice()));
+    for name in ["A", "D"] {
+        let out = files.create(alloc, name)?;
+        files.discard(out);
+    }
+    assert!(rt; files.get("A") == Some(b"thir".as_slice()));
+    assert!(rt; files.get("D").is_none());
+    files.replace(alloc, "D", b"four", Durability::Buffered)?;
+    let long = files.replace(alloc, "D", b"fifth", Durability::Buffered);
+    assert!(rt; long == Err(FileFault::Write));
+    assert!(rt; files.get("D") == Some(b"four".as_slice()));
     Ok(())
 }

@@ -4,7 +4,7 @@ ghost use Rattle.std.specs.Prelude.{false, None};
 
 use super::commands::{ENCRYPT, FILE_KEY, files_with};
 use super::see::see;
-use age_cli::{FileSet, MemFiles, MemOut};
+use age_cli::{CreateFault, Durability, FileSet, Log, MemFiles, MemOut};
 use age_file::{FileFault, MemSource};
 use std::alloc::Global;
 use std::process::Abort;
@@ -238,7 +238,7 @@ fn refuses_what_is_no_position(rt: HostRuntime) -> Result<(), Fail> {
     ] {
         stops(&rt, alloc, &given, ("POSITION", text), bad)?;
     }
-    let forged = ("age_tool: 30 PositionForged\n", Some(0), None);
+    let forged = ("age_tool: 30 PositionForged\n", None, None);
     let other_index = with_byte(position.clone()?, 16, b'1');
     stops(&rt, alloc, &given, ("POSITION", other_index), forged)?;
     let other_chain = with_byte(position, 62, b'A');
@@ -252,7 +252,7 @@ fn refuses_other_files_and_old_texts(rt: HostRuntime) -> Result<(), Fail> {
     // Another payload nonce.
     let random = b"the file key...!the scrypt salt!the payload NONC".as_slice();
     let other = sealed(&rt, alloc, Some(random))?;
-    let other_file = ("age_tool: 24 OtherFile\n", Some(0), None);
+    let other_file = ("age_tool: 24 OtherFile\n", None, None);
     stops(&rt, alloc, &given, ("FILE", other), other_file)?;
     let short = ("age_tool: 25 ShortText\n", Some(131_071), None);
     let cut = copied(alloc, &given, "BACK", 131_071)?;
@@ -260,7 +260,7 @@ fn refuses_other_files_and_old_texts(rt: HostRuntime) -> Result<(), Fail> {
     let differs = ("age_tool: 31 OldTextDiffers\n", Some(131_072), None);
     let changed = with_byte(copied(alloc, &given, "BACK", usize::MAX)?, 131_071, 8);
     stops(&rt, alloc, &given, ("BACK", changed), differs)?;
-    let none = ("age_tool: 25 ShortText\n", Some(0), None);
+    let none = ("age_tool: 25 ShortText\n", None, None);
     stops(&rt, alloc, &given, ("BACK", Vec::new(alloc)), none)
 }
 
@@ -292,6 +292,7 @@ fn tells_the_chunk_of_a_damaged_rest(rt: HostRuntime) -> Result<(), Fail> {
 struct Unreadable<'a> {
     files: MemFiles,
     name: &'a str,
+    log: Log,
 }
 
 impl<'a> FileSet for Unreadable<'a> {
@@ -303,44 +304,57 @@ impl<'a> FileSet for Unreadable<'a> {
 
     ghost entry = { λ _ _. None };
 
-    fn is_same(&self, one: &str, other: &str) -> bool {
-        self.files.is_same(one, other)
-    }
+    ghost events = { λ f. f.log };
 
     fn open(&mut self, alloc: Global, name: &str) -> Result<MemSource, FileFault> {
+        self.log.opened(name);
         if name == self.name {
             return Ok(MemSource::new(Vec::new(alloc), 1, Some(0)));
         }
         self.files.open(alloc, name)
     }
 
-    fn create(&mut self, alloc: Global, name: &str) -> Result<MemOut, FileFault> {
+    fn create(&mut self, alloc: Global, name: &str) -> Result<MemOut, CreateFault> {
+        self.log.created(name);
         self.files.create(alloc, name)
     }
 
-    fn close(&mut self, out: MemOut) -> Result<(), FileFault> {
-        self.files.close(out)
+    fn close(&mut self, out: MemOut, durability: Durability) -> Result<(), FileFault> {
+        self.log.closed();
+        self.files.close(out, durability)
+    }
+
+    fn discard(&mut self, out: MemOut) {
+        self.log.closed();
+        self.files.discard(out);
+    }
+
+    fn replace(
+        &mut self,
+        alloc: Global,
+        name: &str,
+        bytes: &[u8],
+        durability: Durability,
+    ) -> Result<(), FileFault> {
+        self.log.replaced(name);
+        self.files.replace(alloc, name, bytes, durability)
     }
 }
 
-// The pass file and the position are read before OUT is made.
+// Nothing is written, so there is no OUT.
 #[test]
 fn tells_that_a_file_cannot_be_read(rt: HostRuntime) -> Result<(), Fail> {
     let alloc = rt.alloc();
     let given = after_a_stop(&rt, alloc, 150_000)?;
-    for (name, written) in [
-        ("PASS", None),
-        ("POSITION", None),
-        ("BACK", Some(0)),
-        ("FILE", Some(0)),
-    ] {
+    for name in ["PASS", "POSITION", "BACK", "FILE"] {
         let mut files = Unreadable {
             files: moved(alloc, &given, 201_000)?,
             name,
+            log: Log::new(),
         };
         let unread = (1, "", "age_tool: 26 Read\n");
         see(&rt, alloc, &mut files, SAVING, unread)?;
-        assert_eq!(rt; size_of(&files.files, "WHOLE"), written);
+        assert!(rt; files.files.get("WHOLE").is_none());
         assert!(rt; files.files.get("NEXT").is_none());
     }
     Ok(())
