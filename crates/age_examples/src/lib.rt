@@ -1,0 +1,14 @@
+//! Examples of the library crates, which `docs/LIBRARY.md` explains: a decryption over memory, an
+//! unlocker, a source and a sink of one's own, and a sealer over a sink.
+#![tactic(auto)]
+
+mod counted;
+mod either;
+mod memory;
+
+pub use counted::Counted;
+pub use either::Either;
+pub use memory::text_of;
+
+#[cfg(test)]
+mod tests;
