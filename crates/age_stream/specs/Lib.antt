@@ -4,9 +4,11 @@ pub mod Nonce
 pub mod Payload
 pub mod Parts
 pub mod Segment
+pub mod SegmentSteps
 pub mod Deliveries
 pub mod Sealing
 pub mod WholeText
+pub mod SealerCalls
 pub mod SealerSteps
 pub mod SealerRow
 pub mod Lent
