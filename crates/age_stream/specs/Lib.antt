@@ -1,5 +1,6 @@
 pub mod Lawful
 pub mod Clear
+pub mod ClearLaw
 pub mod Nonce
 pub mod Payload
 pub mod Parts
