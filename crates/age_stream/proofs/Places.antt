@@ -10,7 +10,7 @@ use Rattle.std.proofs.lemmas.Bool.Decides.{nat_tests}
 use Rattle.age_stream.specs.Lawful.{IsLawful}
 use Rattle.age_stream.specs.Nonce.{nonce_bytes, chunk_limit}
 use Rattle.age_stream.specs.Payload.{chunk_count, sealed}
-use Rattle.age_stream.specs.Segment.{Segment, Outcome, outcome, text_before_last, unless_greatest, text_then, front_texts, after_last, at_block, at_rest, whole_blocks, rest_bytes, failed}
+use Rattle.age_stream.specs.Segment.{Segment, Outcome, outcome, text_before_last, unless_greatest, text_then, front_texts, after_last, at_block, final_block, whole_blocks, rest_bytes, failed}
 use Rattle.age_stream.specs.declared.step.Status.{Status}
 use Rattle.age_stream.specs.declared.step.Status.TheVariants.{Failed}
 use Rattle.age_stream.specs.declared.fault.StreamKind.{StreamKind}
@@ -19,7 +19,7 @@ use Rattle.age_stream.specs.Headline.{IsWriters, IsAuthentic, IsReached}
 use Rattle.age_stream.specs.Places.{block_at, is_writers, compared, IsFirstWrong, IsInPlace}
 use Rattle.age_stream.proofs.Nonces.{nonce_bytes-length, nonce_bytes-flag}
 use Rattle.age_stream.proofs.Chunks.{length-first_chunks, get_or-first_chunks}
-use Rattle.age_stream.proofs.Segments.{by_test, writer_text, next_within, opens_before, front_carries, IsPair-from_Contains}
+use Rattle.age_stream.proofs.Segments.{by_test, tag_left, empty_first, writer_text, next_within, opens_before, front_carries, IsPair-from_Contains}
 use Rattle.age_stream.proofs.Going.{place, at_place, past_place, rest_short}
 
 cond_none : (b : Bool) → cond {A = Option (List ℕ)} b None None ≡ None
@@ -41,13 +41,12 @@ places : (a b : StreamKind) (i j : ℕ) → failed a i ≡ failed b j → i ≡ 
 places a b i j e = ap place_of e
 
 -- a choice of four, of which the last is the same where it is reached
-four : {A : Type 0} (b0 b1 b2 b3 : Bool) (w x y u v : A) → (b0 ≡ false → b1 ≡ false → (b2 ≡ true → b3 ≡ false) → u ≡ v)
-    → cond b0 w (cond b1 x (cond b2 (cond b3 y u) u)) ≡ cond b0 w (cond b1 x (cond b2 (cond b3 y v) v))
-four true b1 b2 b3 w x y u v f = refl
-four false true b2 b3 w x y u v f = refl
-four false false false b3 w x y u v f = f refl refl (λ e. cc)
-four false false true true w x y u v f = refl
-four false false true false w x y u v f = f refl refl (λ e. refl)
+four : {A : Type 0} (b0 b1 b2 : Bool) (w x y u v : A) → (b0 ≡ false → b1 ≡ false → b2 ≡ false → u ≡ v)
+    → cond b0 w (cond b1 x (cond b2 y u)) ≡ cond b0 w (cond b1 x (cond b2 y v))
+four true b1 b2 w x y u v f = refl
+four false true b2 w x y u v f = refl
+four false false true w x y u v f = refl
+four false false false w x y u v f = f refl refl refl
 
 module _ (sealing : List ℕ → List ℕ → List ℕ) (opening : List ℕ → List ℕ → Option (List ℕ)) (lawful : IsLawful sealing opening)
     (n : ℕ) (text : List ℕ) (few : chunk_count n text ≤ chunk_limit) (positive : 0 < n) where
@@ -187,11 +186,11 @@ module _ (sealing : List ℕ → List ℕ → List ℕ) (opening : List ℕ → 
 
   rest_same : (texts : List (List ℕ)) (i : ℕ) (rest : List ℕ) (late ended : Bool)
       → (ended ≡ true → 16 ≤ length rest → (length rest ≡ 16 → i ≡ 0) → Same (nonce_bytes i true) rest)
-      → at_rest opening texts i rest late ended ≡ at_rest other texts i rest late ended
+      → final_block opening texts i rest late ended ≡ final_block other texts i rest late ended
   rest_same texts i rest late false f = refl
   rest_same texts i rest late true f =
-      four (length rest == 0) (nat_lt (length rest) 16) (length rest == 16) (nat_lt 0 i) _ _ _ _ _
-      (λ e0 e1 e2. last_both texts i rest late true (f refl (grind (arith, nat_tests)) (λ h. let t : (length rest == 16) ≡ true = grind (arith, nat_tests) in let u : nat_lt 0 i ≡ false = e2 t in grind (arith, nat_tests))))
+      four (nat_lt 0 (length rest) && nat_lt (length rest) 16) (length rest == 16 && nat_lt 0 i) (length rest == 0) _ _ _ _ _
+      (λ uncut first some. last_both texts i rest late true (f refl (tag_left (length rest) uncut some) (empty_first (length rest) i first)))
 
   module _ (s : Segment) (auth : IsAuthentic sealing opening n text s) where
     abbrev blocks : List (List ℕ)
@@ -241,7 +240,7 @@ module _ (sealing : List ℕ → List ℕ → List ℕ) (opening : List ℕ → 
               ∙ (rest_same texts at rest s.late s.ended
               (λ t h z. same (nonce_bytes at true) rest (subst (λ (k : ℕ). IsWriters sealing opening n text (nonce_bytes (s.start + k) true) rest) (sym eq')
               (auth.rest eq' t h (λ g. omega (arith, eq', z g)))))
-              ∙ (ap (λ (ts : List (List ℕ)). at_rest other ts (s.start + length ts) rest s.late s.ended) front_is
+              ∙ (ap (λ (ts : List (List ℕ)). final_block other ts (s.start + length ts) rest s.late s.ended) front_is
               ∙ sym (past_place other n s eq2))))
         ]
 
@@ -276,15 +275,13 @@ module _ (sealing : List ℕ → List ℕ → List ℕ) (opening : List ℕ → 
     right_last (Some x) false true f = (λ i e. cc, λ i e. cc)
     right_last (Some x) false false f = (λ i e. cc, λ i e. cc)
 
-    right_rest : (rest : List ℕ) (late ended : Bool) → (opening (nonce_bytes at true) rest ≡ None → IsFirstWrong sealing opening n text s at) → Right (at_rest opening texts at rest late ended)
+    right_rest : (rest : List ℕ) (late ended : Bool) → (opening (nonce_bytes at true) rest ≡ None → IsFirstWrong sealing opening n text s at) → Right (final_block opening texts at rest late ended)
     right_rest rest late false f = (λ i e. cc, λ i e. cc)
     right_rest rest late true f =
         let last : Right (after_last opening texts at (opening (nonce_bytes at true) rest) late true) = right_last (opening (nonce_bytes at true) rest) late true f in
-        by_test Right (length rest == 0) _ _ (λ _. right_kind texts Truncated at (λ e. cc) (λ e. cc))
-        (λ _. by_test Right (nat_lt (length rest) 16) _ _ (λ _. right_kind texts ChunkCut at (λ e. cc) (λ e. cc))
-        (λ _. by_test Right (length rest == 16) _ _
-        (λ _. by_test Right (nat_lt 0 at) _ _ (λ _. right_kind texts EmptyLast at (λ e. cc) (λ e. cc)) (λ _. last))
-        (λ _. last)))
+        by_test Right (nat_lt 0 (length rest) && nat_lt (length rest) 16) _ _ (λ _. right_kind texts ChunkCut at (λ e. cc) (λ e. cc))
+        (λ _. by_test Right (length rest == 16 && nat_lt 0 at) _ _ (λ _. right_kind texts EmptyLast at (λ e. cc) (λ e. cc))
+        (λ _. by_test Right (length rest == 0) _ _ (λ _. right_kind texts Truncated at (λ e. cc) (λ e. cc)) (λ _. last)))
 
     module _ (reached : IsReached sealing opening n text s) where
       low : at < chunk_limit
@@ -320,7 +317,7 @@ module _ (sealing : List ℕ → List ℕ → List ℕ) (opening : List ℕ → 
           neither true b none shut = unsure at true b shut
           neither false b none shut = unsure at false b none
 
-      right_left : length texts ≡ length blocks → Right (at_rest opening texts at (rest_bytes n s.bytes) s.late s.ended)
+      right_left : length texts ≡ length blocks → Right (final_block opening texts at (rest_bytes n s.bytes) s.late s.ended)
       right_left eq =
           let rest = rest_bytes n s.bytes in
           let short : length rest < n + 16 = rest_short n s.bytes in

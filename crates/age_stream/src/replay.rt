@@ -2,7 +2,7 @@
 ghost use Rattle.std.specs.Prelude.{◌≡◌, ◌+◌, ◌-◌, ◌*◌, ◌^◌, ◌<◌, ◌≤◌, List, [], ◌∷◌, ◌++◌, length, take, OnOk, OnErr, IfSome, IfNone, vec_len, vec_capacity, nat_lt, nat_le, ◌&&◌};
 ghost use Rattle.std.specs.Bool.{OnTrue};
 ghost use Rattle.age_stream.specs.declared.delivery.Delivery.{Delivery as DeliveryValue};
-ghost use Rattle.age_stream.specs.Lent.{lent_text};
+ghost use Rattle.age_stream.specs.Lent.{chunk_bytes};
 ghost use Rattle.age_stream.specs.Nonce.{chunk_limit};
 ghost use Rattle.age_stream.specs.Headline.{HoldsWritten};
 
@@ -347,8 +347,8 @@ fn push_text(text: &mut Vec<u8>, bytes: &[u8])
 
 // Appends what is lent, if anything is, to a text that has room for it.
 fn push_lent(text: &mut Vec<u8>, chunk: Option<&[u8]>)
-    requires { vec_len text.old + length (lent_text chunk) ≤ vec_capacity text.old }
-    ensures items { text.new.items ≡ text.old.items ++ lent_text chunk.entry }
+    requires { vec_len text.old + length (chunk_bytes chunk) ≤ vec_capacity text.old }
+    ensures items { text.new.items ≡ text.old.items ++ chunk_bytes chunk.entry }
     ensures capacity { vec_capacity text.old ≤ vec_capacity text.new }
 {
     if let Some(bytes) = chunk {

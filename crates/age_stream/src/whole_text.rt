@@ -3,7 +3,7 @@ ghost use Rattle.std.specs.Prelude.{◌≡◌, ◌-◌, ◌≤◌, ◌++◌, IfO
 ghost use Rattle.age_stream.specs.Payload.{payload, chunk_count};
 ghost use Rattle.age_stream.specs.Nonce.{chunk_limit};
 ghost use Rattle.age_stream.specs.Authentic.{GivesBack, IsClosed};
-ghost use Rattle.age_stream.specs.Sealing.{lent, lent_bytes};
+ghost use Rattle.age_stream.specs.Lent.{chunk_bytes};
 ghost use Rattle.age_stream.specs.WholeText.{SealRefuses, number_of, place_of};
 ghost use Rattle.age_stream.specs.declared.whole_text.SealFault.TheVariants.{Stream as StreamRefusal, Memory as MemoryRefusal};
 
@@ -98,7 +98,7 @@ pub fn seal_all<B: ChunkBox, const SEALED: usize>(
 
 // Copies out what is lent, if anything is.
 fn copy_lent(out: &mut Vec<u8>, chunk: Option<&[u8]>) -> Result<(), AllocError>
-    ensures { OnOk result (out.new.items ≡ out.old.items ++ lent_bytes (lent chunk.entry)) }
+    ensures { OnOk result (out.new.items ≡ out.old.items ++ chunk_bytes chunk.entry) }
 {
     match chunk {
         Some(block) => out.extend_from_slice(block),
