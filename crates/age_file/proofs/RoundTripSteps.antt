@@ -19,6 +19,7 @@ use Rattle.age_file.specs.Encrypts.{AgeFile}
 use Rattle.age_file.specs.Decrypts.{segment, IsWhole, IsUndamaged, StopsOutside}
 use Rattle.age_file.specs.Calls.{DecryptAnswers}
 use Rattle.age_file.specs.RoundTrips.{IsSecret, words_of, OpensAsSealed, WasEncrypted}
+use Rattle.age_file.specs.declared.position.Positions.{Positions}
 use Rattle.age_file.specs.declared.decryption.Done.{Done}
 use Rattle.age_file.specs.declared.decryption.Stopped.{Stopped}
 use Rattle.age_file.specs.declared.encryption.Written.{Written}
@@ -90,14 +91,14 @@ undamaged_of opens s max_log text coming is within few sealed f =
       authentic = own_payload s text few sealed;
     }
 
-answered : OneHeader → (w : Words) (text : List ℕ) (now last : Ports) (result : Result Done Stopped) → IsUndamaged (IsPassphraseKey w) (PassphraseRefuses w) now.coming text → now.taken ≡ Some []
-    → DecryptAnswers Words IsPassphraseKey PassphraseRefuses w now last result → MatchResult result (λ done. last.taken ≡ Some text) (λ stopped. StopsOutside stopped.fault)
-answered one w text now last (Ok done) u empty f = took now.taken last.taken text empty (undamaged_done one (IsPassphraseKey w) (PassphraseRefuses w) now last done.written f.0 text u f.1).0
-answered one w text now last (Err s) u empty f = undamaged one (IsPassphraseKey w) (PassphraseRefuses w) now last s.written s.position s.fault text u f
+answered : (keep : Positions) → OneHeader → (w : Words) (text : List ℕ) (now last : Ports) (result : Result Done Stopped) → IsUndamaged (IsPassphraseKey w) (PassphraseRefuses w) now.coming text → now.taken ≡ Some []
+    → DecryptAnswers Words IsPassphraseKey PassphraseRefuses keep w now last result → MatchResult result (λ done. last.taken ≡ Some text) (λ stopped. StopsOutside stopped.fault)
+answered keep one w text now last (Ok done) u empty f = took now.taken last.taken text empty (undamaged_done one (IsPassphraseKey w) (PassphraseRefuses w) now last done.written f.0 text u f.1).0
+answered keep one w text now last (Err s) u empty f = undamaged keep one (IsPassphraseKey w) (PassphraseRefuses w) now last s.written s.position s.fault text u f
 
-pub there_and_back : OneHeader → PassphraseOpens → (s : SecretView) (max_log : ℕ) (text : List ℕ) (was file now last : Ports) (written : Written) (result : Result Done Stopped) → IsSecret s → s.log ≤ max_log
+pub there_and_back : OneHeader → PassphraseOpens → (keep : Positions) (s : SecretView) (max_log : ℕ) (text : List ℕ) (was file now last : Ports) (written : Written) (result : Result Done Stopped) → IsSecret s → s.log ≤ max_log
     → chunk_count 65536 text ≤ 281474976710656 → OpensAsSealed s text → WasEncrypted s text was file written → now.coming ≡ file.taken → now.taken ≡ Some []
-    → DecryptAnswers Words IsPassphraseKey PassphraseRefuses (words_of s max_log) now last result → MatchResult result (λ done. last.taken ≡ Some text) (λ stopped. StopsOutside stopped.fault)
-there_and_back one opens s max_log text was file now last written result is within few sealed e coming empty f =
+    → DecryptAnswers Words IsPassphraseKey PassphraseRefuses keep (words_of s max_log) now last result → MatchResult result (λ done. last.taken ≡ Some text) (λ stopped. StopsOutside stopped.fault)
+there_and_back one opens keep s max_log text was file now last written result is within few sealed e coming empty f =
     let held = subst (TookFile s text) (sym coming) (took_file s text was file written e) in
-    answered one (words_of s max_log) text now last result (undamaged_of opens s max_log text now.coming is within few sealed held) empty f
+    answered keep one (words_of s max_log) text now last result (undamaged_of opens s max_log text now.coming is within few sealed held) empty f

@@ -24,6 +24,7 @@ use Rattle.age_file.specs.AgeFile.{box, unbox}
 use Rattle.age_file.specs.Ports.{Ports}
 use Rattle.age_file.specs.Faults.{IsHeadFault, IsSourcesFault}
 use Rattle.age_file.specs.declared.position.Position.{Position}
+use Rattle.age_file.specs.declared.position.Positions.{Positions}
 use Rattle.age_file.specs.Starts.{StartFails}
 use Rattle.age_file.specs.Decrypts.{segment, Run, DecryptDone, DecryptFails, IsWhole, IsUndamaged, WritesText, StopsOutside}
 use Rattle.age_file.specs.declared.fault.FileFault.{FileFault}
@@ -185,12 +186,12 @@ module _ (one : OneHeader) (Allows : Header → List ℕ → Type 0) (Refused : 
         sym rest_done ∙ (ap (λ (x : List ℕ). (outcome (unbox u.key u.nonce) 65536 (segment k x true)).status) nothing ∙ no_bytes (unbox u.key u.nonce) k) in
         cc
 
-pub undamaged : OneHeader → (Allows : Header → List ℕ → Type 0) (Refused : Header → KeyFault → Type 0) (old new : Ports) (written : ℕ) (position : Option Position) (fault : FileFault) (text : List ℕ)
-    → IsUndamaged Allows Refused old.coming text → DecryptFails Allows Refused old new written position fault → StopsOutside fault
-undamaged one Allows Refused old new written position (Head x) text u f = start_undamaged one Allows Refused old.coming text u.whole new.coming old.read_failed new.read_failed (Head x) f.1
-undamaged one Allows Refused old new written position (Key x) text u f = start_undamaged one Allows Refused old.coming text u.whole new.coming old.read_failed new.read_failed (Key x) f.1
-undamaged one Allows Refused old new written position NonceCut text u f = start_undamaged one Allows Refused old.coming text u.whole new.coming old.read_failed new.read_failed NonceCut f.1
-undamaged one Allows Refused old new written position (Stream x) text u f =
+pub undamaged : (keep : Positions) → OneHeader → (Allows : Header → List ℕ → Type 0) (Refused : Header → KeyFault → Type 0) (old new : Ports) (written : ℕ) (position : Option Position) (fault : FileFault) (text : List ℕ)
+    → IsUndamaged Allows Refused old.coming text → DecryptFails keep Allows Refused old new written position fault → StopsOutside fault
+undamaged keep one Allows Refused old new written position (Head x) text u f = start_undamaged one Allows Refused old.coming text u.whole new.coming old.read_failed new.read_failed (Head x) f.1
+undamaged keep one Allows Refused old new written position (Key x) text u f = start_undamaged one Allows Refused old.coming text u.whole new.coming old.read_failed new.read_failed (Key x) f.1
+undamaged keep one Allows Refused old new written position NonceCut text u f = start_undamaged one Allows Refused old.coming text u.whole new.coming old.read_failed new.read_failed NonceCut f.1
+undamaged keep one Allows Refused old new written position (Stream x) text u f =
     let r = f.0 in
     let is = f.1.is in
     let w = u.whole in
@@ -200,11 +201,11 @@ undamaged one Allows Refused old new written position (Stream x) text u f =
     let o = opened_as one Allows Refused old.coming text w new.coming r.header r.front r.key r.nonce r.bytes is.text is.opens.allowed is.size is.read in
     let none : length {A = ℕ} [] ≡ 0 * 65552 = omega arith in
     absurd (no_stream_fault one Allows Refused old.coming text w 0 below authentic new.coming r.key r.nonce [] r.bytes r.ended x o none is.at_end f.3)
-undamaged one Allows Refused old new written position Read text u f = tt
-undamaged one Allows Refused old new written position Write text u f = tt
-undamaged one Allows Refused old new written position Memory text u f = tt
-undamaged one Allows Refused old new written position ReadNeverEnds text u f = tt
-undamaged one Allows Refused old new written position other text u f = absurd f.1
+undamaged keep one Allows Refused old new written position Read text u f = tt
+undamaged keep one Allows Refused old new written position Write text u f = tt
+undamaged keep one Allows Refused old new written position Memory text u f = tt
+undamaged keep one Allows Refused old new written position ReadNeverEnds text u f = tt
+undamaged keep one Allows Refused old new written position other text u f = absurd f.1
 
 -- blocks that are those of a segment are as authentic
 pub authentic_as : (text : List ℕ) (k : ℕ) (key nonce own_key own_nonce bytes all : List ℕ) (ended : Bool) → key ≡ own_key → nonce ≡ own_nonce → bytes ≡ all → ended ≡ true

@@ -13,6 +13,7 @@ use Rattle.age_file.specs.Calls.{DecryptAnswers}
 use Rattle.age_file.specs.declared.decryption.Done.{Done}
 use Rattle.age_file.specs.declared.decryption.Stopped.{Stopped}
 use Rattle.age_file.specs.declared.encryption.Written.{Written}
+use Rattle.age_file.specs.declared.position.Positions.{Positions}
 
 -- a secret whose parts have their sizes
 pub record IsSecret (s : SecretView) : Type 0 where
@@ -48,9 +49,10 @@ pub record WasEncrypted (s : SecretView) (text : List ℕ) (old new : Ports) (wr
 -- then a decryption of what the sink took, with the same passphrase, gives the text back, or stops as reading, writing or
 -- want of memory may stop it
 abbrev pub RoundTrip : Type 0
-RoundTrip = (s : SecretView) (max_log : ℕ) (text : List ℕ) (was file now last : Ports)
-    (written : Written) (result : Result Done Stopped) → IsSecret s → s.log ≤ max_log
+RoundTrip = (keep : Positions) (s : SecretView) (max_log : ℕ) (text : List ℕ)
+    (was file now last : Ports) (written : Written) (result : Result Done Stopped) → IsSecret s → s.log ≤ max_log
     → chunk_count 65536 text ≤ 281474976710656 → OpensAsSealed s text
     → WasEncrypted s text was file written → now.coming ≡ file.taken → now.taken ≡ Some []
-    → DecryptAnswers Words IsPassphraseKey PassphraseRefuses (words_of s max_log) now last result
+    → DecryptAnswers Words IsPassphraseKey PassphraseRefuses keep (words_of s max_log) now last
+    result
     → MatchResult result (λ done. last.taken ≡ Some text) (λ stopped. StopsOutside stopped.fault)
