@@ -9,7 +9,7 @@ use Rattle.age_stream.specs.Segment.{Segment, outcome, released}
 use Rattle.age_stream.specs.Deliveries.{with_piece}
 use Rattle.age_stream.specs.Opening.{OpenerView, Stands, chunk_texts}
 use Rattle.age_stream.proofs.ReplaySteps.{pieces_join, lent_flat}
-use Rattle.age_stream.specs.Lent.{lent_text}
+use Rattle.age_stream.specs.Lent.{chunk_bytes}
 use Rattle.age_file.specs.Faults.{HasRisen}
 use Rattle.age_file.specs.Releases.{Tally, Releases, FeedGoes, FeedFails}
 use Rattle.age_file.specs.declared.fault.FileFault.{FileFault}
@@ -92,7 +92,7 @@ module _ {B : Type 0} (opening : B → List ℕ → List ℕ → Option (List �
       → IsLawful sealing (opening old.key) → new.key ≡ old.key → index ≡ new.index
       → ((s : Segment) → Stands opening n old s → Stands opening n new (with_piece s fed))
       → ((s : Segment) → Stands opening n old s → (outcome (opening old.key) n (with_piece s fed)).texts ≡ (outcome (opening old.key) n s).texts ++ chunk_texts chunk)
-      → link_is ≡ link_if was.chain (lent_text chunk)
+      → link_is ≡ link_if was.chain (chunk_bytes chunk)
       → Advances was.index was.chain index link_is now → IsMarkedOn old fed was now []
   marks_whole sealing old new was now fed chunk index link_is lawful key is stands texts linked a keep positive s base len h m =
       let a' = subst (λ (l : Option (List ℕ)). Advances was.index was.chain index l now) (linked ∙ ap (link_if was.chain) (sym (lent_flat chunk))) a in
@@ -113,7 +113,7 @@ module _ {B : Type 0} (opening : B → List ℕ → List ℕ → Option (List �
       → IsLawful sealing (opening old.key)
       → ((s : Segment) → Stands opening n old s → Stands opening n new (with_piece s fed))
       → ((s : Segment) → Stands opening n old s → (outcome (opening old.key) n (with_piece s fed)).texts ≡ (outcome (opening old.key) n s).texts ++ chunk_texts chunk)
-      → lent_text chunk ≡ out ++ cut → 0 < length cut → now.index ≡ was.index → now.chain ≡ was.chain → IsMarkedOn old fed was now cut
+      → chunk_bytes chunk ≡ out ++ cut → 0 < length cut → now.index ≡ was.index → now.chain ≡ was.chain → IsMarkedOn old fed was now cut
   marks_cut sealing old new was now fed chunk out cut lawful stands texts lent some index chain_same keep positive s base len h m =
       mark_cut sealing (opening old.key) lawful n positive keep base s fed (chunk_texts chunk) out cut was now len h.timely (stands s h).timely (texts s h) (chunk_few chunk) (lent_flat chunk ∙ lent) some index chain_same m
 
@@ -122,7 +122,7 @@ module _ {B : Type 0} (opening : B → List ℕ → List ℕ → Option (List �
       → new.key ≡ old.key
       → ((s : Segment) → Stands opening n old s → Stands opening n new (with_piece s (take taken piece)))
       → ((s : Segment) → Stands opening n old s → (outcome (opening old.key) n (with_piece s (take taken piece))).texts ≡ (outcome (opening old.key) n s).texts ++ chunk_texts chunk)
-      → lent_text chunk ≡ out ++ cut → Appends was.taken now.taken out → now.label ≡ was.label → now.progress.written ≡ was.progress.written + length out
+      → chunk_bytes chunk ≡ out ++ cut → Appends was.taken now.taken out → now.label ≡ was.label → now.progress.written ≡ was.progress.written + length out
       → IsMarkedOn old (take taken piece) was.progress now.progress cut
       → Releases opening n (λ s. with_piece s (take taken piece)) old new was now cut
   fed_front old new was now piece taken chunk out cut key stands texts lent wrote named count marks =
@@ -139,11 +139,11 @@ module _ {B : Type 0} (opening : B → List ℕ → List ℕ → Option (List �
 
   -- how much it then holds and wrote
   pub goes_front : (old new : OpenerView B) (was now : Tally) (piece : List ℕ) (taken : ℕ) (chunk : Option (Bor (List ℕ))) (out cut : List ℕ)
-      → taken ≤ length piece → length new.held + length (lent_text chunk) ≤ length old.held + taken
-      → lent_text chunk ≡ out ++ cut → now.progress.written ≡ was.progress.written + length out → cut ≡ [] → now.failed ≡ was.failed
+      → taken ≤ length piece → length new.held + length (chunk_bytes chunk) ≤ length old.held + taken
+      → chunk_bytes chunk ≡ out ++ cut → now.progress.written ≡ was.progress.written + length out → cut ≡ [] → now.failed ≡ was.failed
       → (taken ≡ length (take taken piece)) × FeedGoes opening n old new was now (take taken piece) cut
   goes_front old new was now piece taken chunk out cut le room lent count whole failed =
-      let len : length (lent_text chunk) ≡ length out = ap length (lent ∙ (ap (λ (t : List ℕ). out ++ t) whole ∙ append-nil out)) in
+      let len : length (chunk_bytes chunk) ≡ length out = ap length (lent ∙ (ap (λ (t : List ℕ). out ++ t) whole ∙ append-nil out)) in
       (omega (arith, le, length-take taken piece), (omega (arith, le, room, count, len, length-take taken piece), whole, failed))
 
   goes_then : (a b : List ℕ) (old mid new : OpenerView B) (was between now : Tally) → FeedGoes opening n old mid was between a [] → FeedGoes opening n mid new between now b [] → FeedGoes opening n old new was now (a ++ b) []
