@@ -185,8 +185,7 @@ impl<'k, B: ChunkBox, const SEALED: usize> OpenerState<'k, B, SEALED> {
         if len == 16 && self.index > 0 {
             return Err(self.fail(StreamKind::EmptyLast));
         }
-        let index = self.index;
-        if open_in(self.key, index, true, &mut self.buffer) {
+        if open_in(self.key, self.index, true, &mut self.buffer) {
             self.status = Status::Done;
             self.lent = true;
             return Ok(len - 16);
@@ -335,8 +334,16 @@ impl<'k, B: ChunkBox, const SEALED: usize> Opener<'k, B, SEALED> {
         self.state.status
     }
 
-    // How many bytes of the open block are held.
-    pub(crate) fn held_len(&self) -> usize
+    /// Whether a call was refused. Then each call is refused with the same
+    /// fault.
+    pub fn has_failed(&self) -> bool
+        ensures { result ≡ has_failed self.now.status }
+    {
+        matches!(self.state.status, Status::Failed(_))
+    }
+
+    /// How many bytes of the block that is open are held, at most 65,552.
+    pub fn held_len(&self) -> usize
         ensures len { result ≡ length self.now.held }
         ensures fits { result ≤ 65552 }
     {

@@ -16,7 +16,7 @@ use std::alloc::Global;
 use std::marker::Model;
 
 /// What is held after a list of deliveries.
-#[derive(Drop)]
+#[derive(Debug, Drop)]
 pub struct Drill {
     /// The text that is held.
     pub text: Vec<u8>,
@@ -309,8 +309,8 @@ impl<'k, B: ChunkBox, const SEALED: usize> Replay<'k, B, SEALED> {
 
     /// Takes a delivery: all bytes of a piece unless a fault comes, which then
     /// is the status; an end; or a restart at chunk k, which is refused where
-    /// k is [`CHUNK_LIMIT`] or more or fewer than k chunks are held. Where
-    /// memory is refused nothing changes.
+    /// k is [`CHUNK_LIMIT`] or more or fewer than k whole chunks are held.
+    /// Where memory is refused nothing changes.
     pub fn take(&mut self, delivery: &Delivery<'_>) -> Result<(), Memory>
         ensures held { OnOk result ((deliveries : List DeliveryValue)
             → Replays B.opening (SEALED - 16) self.old deliveries

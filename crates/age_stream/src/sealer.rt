@@ -217,6 +217,35 @@ impl<'k, B: ChunkBox, const SEALED: usize> Sealer<'k, B, SEALED> {
         self.state.finished
     }
 
+    /// Whether a byte was refused. Then each call is refused with the same
+    /// fault.
+    pub fn has_failed(&self) -> bool
+        ensures { result ≡ self.now.failed }
+    {
+        self.state.failed
+    }
+
+    /// The number of the chunk that is open: how many blocks were lent before
+    /// it.
+    pub fn index(&self) -> u64
+        ensures index { result ≡ self.now.index }
+        ensures limit { result < chunk_limit }
+    {
+        self.state.index
+    }
+
+    /// How many bytes of the text of the open chunk are held. Once the last
+    /// chunk was sealed, the length of its block.
+    pub fn held_len(&self) -> usize
+        ensures { result ≡ length self.now.held }
+    {
+        if self.state.beside.is_some() {
+            1
+        } else {
+            self.state.buffer.len()
+        }
+    }
+
     /// Takes bytes of the text: what the open chunk has room for, or, behind
     /// a chunk that is full, one. That byte begins the next chunk, and the
     /// full one is sealed as not the last and lent. Takes nothing of an empty
