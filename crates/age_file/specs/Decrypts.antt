@@ -5,9 +5,10 @@ use Rattle.std.specs.Io.KnownBytes.{Consumes, Appends, IsAtEnd}
 use Rattle.age_stanza.specs.declared.header.Header.{Header}
 use Rattle.age_stanza.specs.Grammar.{HeadText}
 use Rattle.age_stream.specs.declared.step.Status.TheVariants.{Failed, Done as StreamDone}
-use Rattle.age_stream.specs.Payload.{payload, chunk_count}
+use Rattle.age_stream.specs.Payload.{chunk_count}
 use Rattle.age_stream.specs.Segment.{Segment, outcome, released}
 use Rattle.age_stream.specs.Headline.{IsPrefixOf, IsAuthentic}
+use Rattle.age_stream.specs.Authentic.{IsClosed}
 use Rattle.age_keys.specs.declared.fault.KeyFault.{KeyFault}
 use Rattle.age_keys.specs.declared.fault.KeyFault.TheVariants.{Memory as KeyMemory}
 use Rattle.age_keys.specs.Keys.{IsScryptBeside, position_key}
@@ -178,12 +179,11 @@ pub record IsWhole (Allows : Header → List ℕ → Type 0) (Refused : Header �
   pub only : (k : List ℕ) → Allows header k → k ≡ key
   pub never : (fault : KeyFault) → Refused header fault → fault ≡ KeyMemory
 
--- and no block of the payload opens except as its writer sealed it
+-- and its last block, where that is full, doesn't open as one before the last
 pub record IsUndamaged (Allows : Header → List ℕ → Type 0) (Refused : Header → KeyFault → Type 0)
     (coming : Option (List ℕ)) (text : List ℕ) : Type 0 where
   pub whole : IsWhole Allows Refused coming text
-  pub authentic : IsAuthentic (box whole.key whole.nonce) (unbox whole.key whole.nonce) 65536 text
-      (segment 0 (payload (box whole.key whole.nonce) 65536 text) true)
+  pub closed : IsClosed (box whole.key whole.nonce) (unbox whole.key whole.nonce) 65536 text
 
 -- what may stop its decryption all the same
 abbrev pub StopsOutside : FileFault → Type 0

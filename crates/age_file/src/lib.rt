@@ -40,7 +40,7 @@ pub use encryption::{Written, encrypt};
 pub use failed::{Failed, Memory};
 pub use fault::FileFault;
 pub use inspection::inspect;
-pub use laws::{age_file_is_whole, calls_in_a_row, round_trip, runs_in_a_row};
+pub use laws::{age_file_is_whole, bound_positions, calls_in_a_row, round_trip, runs_in_a_row};
 pub use mem_sink::MemSink;
 pub use mem_source::MemSource;
 pub use position::{Position, Positions};
