@@ -14,7 +14,7 @@ use crate::files::FileSet;
 use crate::opener::{Unlocker, choose, read_material, unlocker_of};
 use crate::request::Decrypting;
 use crate::stop::{Stop, end_of};
-use age_file::decrypt;
+use age_file::{Positions, decrypt_with};
 use std::alloc::Global;
 
 /// Makes the output, and decrypts the input into it.
@@ -22,6 +22,7 @@ fn write_out<F: FileSet>(
     alloc: Global,
     files: &mut F,
     source: &mut F::In,
+    positions: Positions,
     unlocker: &Unlocker<'_>,
     to: &str,
 ) -> Result<(), Stop>
@@ -42,7 +43,7 @@ fn write_out<F: FileSet>(
         × (stop.position ≡ None))) }
 {
     let mut out = files.create(alloc, to)?;
-    let decrypted = decrypt(alloc, unlocker, source, &mut out);
+    let decrypted = decrypt_with(alloc, positions, unlocker, source, &mut out);
     let closed = files.close(out);
     decrypted?;
     closed?;
@@ -103,7 +104,11 @@ pub(crate) fn decrypt_file<F: FileSet>(
     let material = read_material(alloc, files, chosen)?;
     let unlocker = unlocker_of(&material, asked.unlocking.max_log)?;
     let mut source = files.open(alloc, asked.from)?;
-    match write_out(alloc, files, &mut source, &unlocker, asked.to) {
+    let positions = match asked.save {
+        Some(_) => Positions::Kept,
+        None => Positions::Dropped,
+    };
+    match write_out(alloc, files, &mut source, positions, &unlocker, asked.to) {
         Ok(()) => Ok(()),
         Err(stop) => Err(end_of(alloc, files, asked.save, stop)),
     }

@@ -1,5 +1,5 @@
 -- From what was read and poured to what a decryption did.
-use Rattle.std.proofs.Common.{◌/◌, min, replicate, Some, None, refl, inl, inr, ◌≡◌, ℕ, ◌*◌, ◌<◌, ◌≤◌, List, [], ◌++◌, length, take, Option, sym, ap, subst, ◌∙◌, arith, append_assoc}
+use Rattle.std.proofs.Common.{◌/◌, min, Some, None, refl, inl, inr, ◌≡◌, ℕ, ◌*◌, ◌<◌, ◌≤◌, List, [], ◌++◌, length, take, Option, sym, ap, subst, ◌∙◌, arith, append_assoc}
 use Rattle.std.specs.Prelude.{Result, MatchResult, Ok, Err}
 use Rattle.age_stanza.specs.declared.header.Header.{Header}
 use Rattle.age_stream.specs.declared.step.Status.TheVariants.{Done}
@@ -15,12 +15,13 @@ use Rattle.age_file.specs.Intakes.{Pulled}
 use Rattle.age_file.specs.AgeFile.{box, unbox}
 use Rattle.age_file.specs.Pours.{Stage, Pours, PourFails, PourDone}
 use Rattle.age_file.specs.Starts.{StartsAt, StartFails}
-use Rattle.age_file.specs.Decrypts.{Run, segment_of, text_of, IsRun, IsPositionOf, IsAuthenticRun, WritesOf, WritesAll, DecryptFails, DecryptDone}
+use Rattle.age_file.specs.Decrypts.{Run, segment_of, text_of, IsRun, IsPositionOf, IsPositionAt, PositionAt, Told, IsAuthenticRun, WritesOf, WritesAll, DecryptFails, DecryptDone}
 use Rattle.age_file.specs.Ports.{Ports}
-use Rattle.age_file.specs.Bindings.{file_id, chain, position_tag}
+use Rattle.age_file.specs.Bindings.{file_id, chain, chain_if, position_tag}
+use Rattle.age_file.specs.declared.position.Positions.{Positions}
+use Rattle.age_file.specs.declared.position.Positions.TheVariants.{Kept, Dropped}
 use Rattle.age_file.specs.Marks.{IsMarked}
 use Rattle.age_file.specs.declared.position.Position.{Position}
-use Rattle.age_file.specs.declared.progress.Progress.{Progress}
 use Rattle.std.proofs.lemmas.List.{length-append}
 use Rattle.std.proofs.Math.Nat.{le-div_iff_mul-le}
 use Rattle.age_stream.proofs.Chunks.{first_chunks-append}
@@ -30,7 +31,6 @@ use Rattle.age_file.specs.declared.start.Unlocked.{Unlocked}
 use Rattle.age_file.specs.declared.fault.FileFault.{FileFault}
 use Rattle.age_file.specs.declared.fault.FileFault.TheVariants.{Stream, Read, Write, ReadNeverEnds}
 use Rattle.age_file.proofs.Bytes.{prefix_trans}
-use Rattle.age_file.proofs.MarkSteps.{no_chain}
 
 -- the tag of a position, over its own fields
 pub own_tag : (key tag : List ℕ) (index own_index : ℕ) (id own_id links own_links : List ℕ) → own_index ≡ index → own_id ≡ id → own_links ≡ links
@@ -59,18 +59,17 @@ pub writes_all : (r : Run) → r.out ≡ text_of r → (outcome (unbox r.key r.n
 writes_all r e d text auth = e ∙ (released_run r text auth).1 d
 
 -- the run's progress is that of what it wrote
-position_is : (r : Run) (unlocked : Unlocked) (progress : Progress) (p : Position) → r.key ≡ unlocked.key → r.nonce ≡ unlocked.nonce → unlocked.id ≡ file_id r.front r.nonce
-    → IsPrefixOf r.out (text_of r) → IsMarked (unbox r.key r.nonce) 65536 r.out (segment_of r) progress
-    → p.index ≡ progress.index → p.file_id ≡ unlocked.id → p.chain ≡ progress.chain → p.tag ≡ position_tag (position_key unlocked.key unlocked.nonce) progress.index unlocked.id progress.chain
-    → IsPositionOf r p
-position_is r unlocked progress p key nonce id begins m index file chain_same tag =
-    let over : p.chain ≡ chain (first_chunks 65536 p.index r.out) = chain_same ∙ (m.chain_is ∙ ap (λ (k : ℕ). chain (first_chunks 65536 k r.out)) (sym index)) in
-    let least : p.index ≡ min (length r.out / 65536) (outcome (unbox r.key r.nonce) 65536 (segment_of r)).index = index ∙ m.index in
+position_is : (r : Run) (unlocked : Unlocked) (index : ℕ) (p : Position) → r.key ≡ unlocked.key → r.nonce ≡ unlocked.nonce → unlocked.id ≡ file_id r.front r.nonce
+    → IsPrefixOf r.out (text_of r) → index ≡ min (length r.out / 65536) (outcome (unbox r.key r.nonce) 65536 (segment_of r)).index
+    → IsPositionAt unlocked index (chain (first_chunks 65536 index r.out)) p → IsPositionOf r p
+position_is r unlocked index p key nonce id begins is at =
+    let over : p.chain ≡ chain (first_chunks 65536 p.index r.out) = at.chain_is ∙ ap (λ (k : ℕ). chain (first_chunks 65536 k r.out)) (sym at.index_is) in
+    let least : p.index ≡ min (length r.out / 65536) (outcome (unbox r.key r.nonce) 65536 (segment_of r)).index = at.index_is ∙ is in
     record {
       index = least;
-      file_id_is = file ∙ id;
+      file_id_is = at.file_id_is ∙ id;
       chain_is = over;
-      tag_is = own_tag (position_key unlocked.key unlocked.nonce) p.tag progress.index p.index unlocked.id p.file_id progress.chain p.chain index file chain_same tag
+      tag_is = at.tag_is
           ∙ (ap (λ (k : List ℕ). position_tag (position_key k unlocked.nonce) p.index p.file_id p.chain) (sym key)
           ∙ ap (λ (k : List ℕ). position_tag (position_key r.key k) p.index p.file_id p.chain) (sym nonce));
       carries = λ text auth.
@@ -83,17 +82,25 @@ position_is r unlocked progress p key nonce id begins m index file chain_same ta
           );
     }
 
-module _ (Allows : Header → List ℕ → Type 0) (Refused : Header → KeyFault → Type 0) where
+-- and it is told where it was kept
+told_is : (keep : Positions) (r : Run) (unlocked : Unlocked) (index : ℕ) (position : Option Position) → r.key ≡ unlocked.key → r.nonce ≡ unlocked.nonce → unlocked.id ≡ file_id r.front r.nonce
+    → IsPrefixOf r.out (text_of r) → index ≡ min (length r.out / 65536) (outcome (unbox r.key r.nonce) 65536 (segment_of r)).index
+    → PositionAt unlocked index (chain_if keep (first_chunks 65536 index r.out)) position → Told keep (IsPositionOf r) position
+told_is Kept r unlocked index (Some p) key nonce id begins is at = position_is r unlocked index p key nonce id begins is at
+told_is Kept r unlocked index None key nonce id begins is at = absurd at
+told_is Dropped r unlocked index position key nonce id begins is at = at
+
+module _ (keep : Positions) (Allows : Header → List ℕ → Type 0) (Refused : Header → KeyFault → Type 0) where
   abbrev pub before : Option (List ℕ) → ℕ → Stage → Ports
   before a i old = record { coming = a; read_failed = i; taken = old.tally.taken; write_failed = old.tally.failed }
 
   abbrev pub after : Stage → Ports
   after new = record { coming = new.coming; read_failed = new.read_failed; taken = new.tally.taken; write_failed = new.tally.failed }
 
-  fails : (a : Option (List ℕ)) (i : ℕ) (old new : Stage) (r : Run) (pulled : List ℕ) (p : Position) (fault : FileFault) → old.read_failed ≡ i → Pulled a new.coming new.unread.pulls pulled
-      → IsRun Allows (before a i old) (after new) new.tally.progress.written r → IsPositionOf r p
+  fails : (a : Option (List ℕ)) (i : ℕ) (old new : Stage) (r : Run) (pulled : List ℕ) (p : Option Position) (fault : FileFault) → old.read_failed ≡ i → Pulled a new.coming new.unread.pulls pulled
+      → IsRun Allows (before a i old) (after new) new.tally.progress.written r → Told keep (IsPositionOf r) p
       → PourFails (unbox r.key r.nonce) 65536 old new (segment_of r) r.out fault
-      → DecryptFails Allows Refused (before a i old) (after new) new.tally.progress.written (Some p) fault
+      → DecryptFails keep Allows Refused (before a i old) (after new) new.tally.progress.written p fault
   fails a i old new r pulled p (Stream x) same h is at f = (r, record { is = is; whole = f.1; of = writes_of r is.prefix }, at, f.0, (f.2.1 ∙ same, f.2.0))
   fails a i old new r pulled p Write same h is at f = (r, is, writes_of r is.prefix, at, f)
   fails a i old new r pulled p Read same h is at f = (inr (r, record { is = is; whole = f.0; of = writes_of r is.prefix }, at), subst (λ (m : ℕ). HasRisen m new.read_failed) same f.1)
@@ -108,11 +115,11 @@ module _ (Allows : Header → List ℕ → Type 0) (Refused : Header → KeyFaul
     pub id : unlocked.id ≡ file_id run.front run.nonce
     pub is : IsRun Allows (before a i old) (after new) new.tally.progress.written run
     pub pulled : Pulled a new.coming new.unread.pulls ((run.front ++ run.nonce) ++ run.bytes)
-    pub marks : IsMarked (unbox run.key run.nonce) 65536 run.out (segment_of run) new.tally.progress
+    pub marks : IsMarked keep (unbox run.key run.nonce) 65536 run.out (segment_of run) new.tally.progress
     pub answered : MatchResult result (λ _. PourDone (unbox run.key run.nonce) 65536 old new (segment_of run) run.out) (PourFails (unbox run.key run.nonce) 65536 old new (segment_of run) run.out)
 
   pub poured : (a : Option (List ℕ)) (i : ℕ) (unlocked : Unlocked) (key : List ℕ) (old new : Stage) (result : Result (Unit {0}) FileFault)
-      → old.tally.progress.written ≡ 0 → old.tally.progress.index ≡ 0 → old.tally.progress.chain ≡ replicate 32 0
+      → old.tally.progress.written ≡ 0 → old.tally.progress.index ≡ 0 → old.tally.progress.chain ≡ chain_if keep []
       → key ≡ payload_key unlocked.key unlocked.nonce → StartsAt Allows a old.coming old.unread unlocked
       → Pours (λ nonce block. opening key nonce [] block) 65536 0 old new result → IsPoured a i unlocked old new result
   poured a i unlocked key old new result none index chain_none is s q =
@@ -129,7 +136,7 @@ module _ (Allows : Header → List ℕ → Type 0) (Refused : Header → KeyFaul
         id = s.id;
         is = record { text = s.text; opens = s.opens; size = s.size; read = pulls.consumed; at_end = p.at_end; wrote = p.wrote; count = omega (arith, p.count, none); prefix = p.prefix };
         pulled = pulls;
-        marks = p.marks [] zero_len index (chain_none ∙ no_chain);
+        marks = p.marks keep [] zero_len index chain_none;
         answered = p.answered;
       }
 
@@ -139,17 +146,17 @@ module _ (Allows : Header → List ℕ → Type 0) (Refused : Header → KeyFaul
       let f = p.answered in
       record { wrote = record { is = p.is; whole = f.2; of = writes_of p.run p.is.prefix }; ended = f.0; done = f.1; all = writes_all p.run f.2 f.1; none_failed = (f.3.1 ∙ same, f.3.0) }
 
-  pub decrypt_fails : (a : Option (List ℕ)) (i : ℕ) (unlocked : Unlocked) (old new : Stage) (fault : FileFault) (position : Position) → old.read_failed ≡ i → IsPoured a i unlocked old new (Err fault)
-      → position.index ≡ new.tally.progress.index → position.file_id ≡ unlocked.id → position.chain ≡ new.tally.progress.chain
-      → position.tag ≡ position_tag (position_key unlocked.key unlocked.nonce) new.tally.progress.index unlocked.id new.tally.progress.chain
-      → DecryptFails Allows Refused (before a i old) (after new) new.tally.progress.written (Some position) fault
-  decrypt_fails a i unlocked old new fault position same p index file chain_same tag =
+  pub decrypt_fails : (a : Option (List ℕ)) (i : ℕ) (unlocked : Unlocked) (old new : Stage) (fault : FileFault) (position : Option Position) → old.read_failed ≡ i → IsPoured a i unlocked old new (Err fault)
+      → PositionAt unlocked new.tally.progress.index new.tally.progress.chain position
+      → DecryptFails keep Allows Refused (before a i old) (after new) new.tally.progress.written position fault
+  decrypt_fails a i unlocked old new fault position same p at =
       fails a i old new p.run ((p.run.front ++ p.run.nonce) ++ p.run.bytes) position fault same p.pulled p.is
-      (position_is p.run unlocked new.tally.progress position p.key_is p.nonce_is p.id p.is.prefix p.marks index file chain_same tag) p.answered
+      (told_is keep p.run unlocked new.tally.progress.index position p.key_is p.nonce_is p.id p.is.prefix p.marks.index
+      (subst (λ (c : Option (List ℕ)). PositionAt unlocked new.tally.progress.index c position) p.marks.chain_is at)) p.answered
 
   -- no payload came to be opened
   pub start_fails : (old new : Ports) (fault : FileFault) → Appends old.taken new.taken [] → StartFails Allows Refused old.coming new.coming old.read_failed new.read_failed fault
-      → DecryptFails Allows Refused old new 0 None fault
+      → DecryptFails keep Allows Refused old new 0 None fault
   start_fails old new Read none f = (inl ((none, refl, refl), f.0), f.1)
   start_fails old new ReadNeverEnds none f = (inl ((none, refl, refl), f.0), f.1)
   start_fails old new (Stream x) none f = absurd f

@@ -54,6 +54,7 @@ module _ (s : SecretView) (front : List ℕ) (begins : BeginsFile s front) where
         record {
           text = a.text;
           file = front ++ payload (box s.key s.nonce) 65536 a.text;
+          few = a.few;
           is = file_of a.text;
           read = subst (λ t. Consumes t new.coming a.text) coming a.moved.read;
           at_end = a.at_end;

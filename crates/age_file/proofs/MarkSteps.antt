@@ -1,5 +1,5 @@
 -- Counting the chunks that were written, one step after another. A chunk has n bytes.
-use Rattle.std.proofs.Common.{inl, inr, ◌≡◌, ℕ, ◌+◌, ◌-◌, ◌*◌, ◌/◌, ◌<◌, ◌≤◌, min, List, [], ◌∷◌, ◌++◌, length, take, Option, refl, sym, ap, ◌∙◌, arith, append-nil, append_assoc, false, replicate}
+use Rattle.std.proofs.Common.{inl, inr, ◌≡◌, ℕ, ◌+◌, ◌-◌, ◌*◌, ◌/◌, ◌<◌, ◌≤◌, min, List, [], ◌∷◌, ◌++◌, length, take, Option, Some, refl, sym, ap, ◌∙◌, arith, append-nil, append_assoc, false, replicate}
 use Rattle.std.specs.Prelude.{◌⊎◌, nat_lt, slice_get}
 use Rattle.std.specs.Simd.{first_chunks}
 use Rattle.std.specs.List.{flat_map}
@@ -20,7 +20,9 @@ use Rattle.age_stream.proofs.Fresh.{fresh_outcome}
 use Rattle.age_stream.proofs.ReplaySteps.{with_bytes-nil}
 use Rattle.age_stream.proofs.Growing.{index_stays, index_stop}
 use Rattle.age_stream.proofs.Counting.{is_counted}
-use Rattle.age_file.specs.Bindings.{link, chain}
+use Rattle.age_file.specs.Bindings.{link, chain, link_if, chain_if}
+use Rattle.age_file.specs.declared.position.Positions.{Positions}
+use Rattle.age_file.specs.declared.position.Positions.TheVariants.{Kept, Dropped}
 use Rattle.age_file.specs.Marks.{Advances, Marks, IsMarked}
 use Rattle.age_file.specs.declared.progress.Progress.{Progress}
 
@@ -48,12 +50,16 @@ pub chain_on : (chunks : List (List ℕ)) (chunk : List ℕ) → chain (chunks +
 unfolding chain
 chain_on chunks chunk = fold-append link (replicate 32 0) chunks (chunk ∷ [])
 
+pub chain_if_on : (keep : Positions) (chunks : List (List ℕ)) (chunk : List ℕ) → chain_if keep (chunks ++ chunk ∷ []) ≡ link_if (chain_if keep chunks) chunk
+chain_if_on Kept chunks chunk = ap Some (chain_on chunks chunk)
+chain_if_on Dropped chunks chunk = refl
+
 -- the chain over no chunk
 pub no_chain : replicate 32 0 ≡ chain []
 unfolding chain
 no_chain = refl
 
-module _ (sealing : List ℕ → List ℕ → List ℕ) (opening : List ℕ → List ℕ → Option (List ℕ)) (lawful : IsLawful sealing opening) (n : ℕ) (positive : 0 < n) where
+module _ (sealing : List ℕ → List ℕ → List ℕ) (opening : List ℕ → List ℕ → Option (List ℕ)) (lawful : IsLawful sealing opening) (n : ℕ) (positive : 0 < n) (keep : Positions) where
   abbrev at : Segment → ℕ
   at s = (outcome opening n s).index
 
@@ -90,8 +96,8 @@ module _ (sealing : List ℕ → List ℕ → List ℕ) (opening : List ℕ → 
     by_status other e = inr (λ more. let after = after_piece opening n s more timely (λ o. cc) in (after.index, after.texts))
 
   -- all was written
-  pub mark_all : (base : List ℕ) (s : Segment) (p : Progress) → length base ≡ s.start * n → IsTimely s → p.index ≡ at s → p.chain ≡ chain (first_chunks n p.index (base ++ released opening n s))
-      → Marks opening n base s [] p
+  pub mark_all : (base : List ℕ) (s : Segment) (p : Progress) → length base ≡ s.start * n → IsTimely s → p.index ≡ at s → p.chain ≡ chain_if keep (first_chunks n p.index (base ++ released opening n s))
+      → Marks keep opening n base s [] p
   mark_all base s p len timely index chain_is =
       let text = base ++ released opening n s in
       let c = is_counted sealing opening lawful n base s len in
@@ -108,7 +114,7 @@ module _ (sealing : List ℕ → List ℕ → List ℕ) (opening : List ℕ → 
       }
 
   -- the index is then the segment's
-  pub mark_index : (base : List ℕ) (s : Segment) (p : Progress) → length base ≡ s.start * n → Marks opening n base s [] p → p.index ≡ at s
+  pub mark_index : (base : List ℕ) (s : Segment) (p : Progress) → length base ≡ s.start * n → Marks keep opening n base s [] p → p.index ≡ at s
   mark_index base s p len m =
       let text = base ++ released opening n s in
       let c = is_counted sealing opening lawful n base s len in
@@ -185,8 +191,8 @@ module _ (sealing : List ℕ → List ℕ → List ℕ) (opening : List ℕ → 
   -- a call that took bytes, and what it lent was written whole
   pub mark_step : (base : List ℕ) (s : Segment) (piece : List ℕ) (ts : List (List ℕ)) (index : ℕ) (was now : Progress) → length base ≡ s.start * n → IsTimely s → IsTimely (with_piece s piece)
       → (outcome opening n (with_piece s piece)).texts ≡ (outcome opening n s).texts ++ ts → length ts ≤ 1 → index ≡ at (with_piece s piece)
-      → Advances was.index was.chain index (link was.chain (flat_map (λ (t : List ℕ). t) ts)) now
-      → Marks opening n base s [] was → Marks opening n base (with_piece s piece) [] now
+      → Advances was.index was.chain index (link_if was.chain (flat_map (λ (t : List ℕ). t) ts)) now
+      → Marks keep opening n base s [] was → Marks keep opening n base (with_piece s piece) [] now
   mark_step base s piece ts index was now len timely timely' texts few is a m =
       let next = with_piece s piece in
       let len' : length base ≡ next.start * n = len ∙ ap (λ (k : ℕ). k * n) (sym (piece_start s piece)) in
@@ -201,21 +207,21 @@ module _ (sealing : List ℕ → List ℕ → List ℕ) (opening : List ℕ → 
             let e : first_chunks n (at next) (base ++ released opening n next) ≡ first_chunks n was.index (base ++ released opening n s) ++ chunk ∷ [] =
             r.chunks ∙ (ap (λ (k : ℕ). first_chunks n k (base ++ released opening n s) ++ ts) (sym old) ∙ ap (λ (xs : List (List ℕ)). first_chunks n was.index (base ++ released opening n s) ++ xs) (one_text ts r.one)) in
             mark_all base next now len' timely' (f.0 ∙ is)
-            (f.1 ∙ (ap (λ (l : List ℕ). link l chunk) m.chain_is
-            ∙ (sym (chain_on (first_chunks n was.index (base ++ released opening n s)) chunk)
-            ∙ (ap chain (sym e) ∙ ap (λ (k : ℕ). chain (first_chunks n k (base ++ released opening n next))) (sym (f.0 ∙ is)))))))
+            (f.1 ∙ (ap (λ (l : Option (List ℕ)). link_if l chunk) m.chain_is
+            ∙ (sym (chain_if_on keep (first_chunks n was.index (base ++ released opening n s)) chunk)
+            ∙ (ap (chain_if keep) (sym e) ∙ ap (λ (k : ℕ). chain_if keep (first_chunks n k (base ++ released opening n next))) (sym (f.0 ∙ is)))))))
         | inr le ↦
             (let same : at next ≡ at s = omega (arith, le, grown) in
             let f = a.still (omega (arith, old, is, same)) in
             mark_all base next now len' timely' (f.0 ∙ (old ∙ sym same))
-            (f.1 ∙ (m.chain_is ∙ (ap (λ (k : ℕ). chain (first_chunks n k (base ++ released opening n s))) old
-            ∙ (ap chain (sym (front_stays base s next (flat_map (λ (t : List ℕ). t) ts) len (more_released s piece ts more)))
-            ∙ ap (λ (k : ℕ). chain (first_chunks n k (base ++ released opening n next))) (sym (f.0 ∙ old)))))))
+            (f.1 ∙ (m.chain_is ∙ (ap (λ (k : ℕ). chain_if keep (first_chunks n k (base ++ released opening n s))) old
+            ∙ (ap (chain_if keep) (sym (front_stays base s next (flat_map (λ (t : List ℕ). t) ts) len (more_released s piece ts more)))
+            ∙ ap (λ (k : ℕ). chain_if keep (first_chunks n k (base ++ released opening n next))) (sym (f.0 ∙ old)))))))
       ]
 
   -- a call that lent nothing
   pub mark_none : (base : List ℕ) (s : Segment) (piece : List ℕ) (was : Progress) → length base ≡ s.start * n → IsTimely s → IsTimely (with_piece s piece)
-      → (outcome opening n (with_piece s piece)).texts ≡ (outcome opening n s).texts ++ [] → Marks opening n base s [] was → Marks opening n base (with_piece s piece) [] was
+      → (outcome opening n (with_piece s piece)).texts ≡ (outcome opening n s).texts ++ [] → Marks keep opening n base s [] was → Marks keep opening n base (with_piece s piece) [] was
   mark_none base s piece was len timely timely' texts m =
       let next = with_piece s piece in
       let len' : length base ≡ next.start * n = len ∙ ap (λ (k : ℕ). k * n) (sym (piece_start s piece)) in
@@ -229,9 +235,9 @@ module _ (sealing : List ℕ → List ℕ → List ℕ) (opening : List ℕ → 
         | inr le ↦ omega (arith, le, grown)
       ] in
       mark_all base next was len' timely' (old ∙ sym same)
-      (m.chain_is ∙ (ap (λ (k : ℕ). chain (first_chunks n k (base ++ released opening n s))) old
-      ∙ (ap chain (sym (front_stays base s next [] len (more_released s piece [] more)))
-      ∙ ap (λ (k : ℕ). chain (first_chunks n k (base ++ released opening n next))) (sym old))))
+      (m.chain_is ∙ (ap (λ (k : ℕ). chain_if keep (first_chunks n k (base ++ released opening n s))) old
+      ∙ (ap (chain_if keep) (sym (front_stays base s next [] len (more_released s piece [] more)))
+      ∙ ap (λ (k : ℕ). chain_if keep (first_chunks n k (base ++ released opening n next))) (sym old))))
 
   -- what is known of the text where it was cut off
   cut_len : (base : List ℕ) (s next : Segment) (out cut : List ℕ) → released opening n next ≡ released opening n s ++ (out ++ cut)
@@ -243,7 +249,7 @@ module _ (sealing : List ℕ → List ℕ → List ℕ) (opening : List ℕ → 
   pub mark_cut : (base : List ℕ) (s : Segment) (piece : List ℕ) (ts : List (List ℕ)) (out cut : List ℕ) (was now : Progress) → length base ≡ s.start * n → IsTimely s → IsTimely (with_piece s piece)
       → (outcome opening n (with_piece s piece)).texts ≡ (outcome opening n s).texts ++ ts → length ts ≤ 1 → flat_map (λ (t : List ℕ). t) ts ≡ out ++ cut → 0 < length cut
       → now.index ≡ was.index → now.chain ≡ was.chain
-      → Marks opening n base s [] was → Marks opening n base (with_piece s piece) cut now
+      → Marks keep opening n base s [] was → Marks keep opening n base (with_piece s piece) cut now
   mark_cut base s piece ts out cut was now len timely timely' texts few parts some index chain_same m =
       let next = with_piece s piece in
       let len' : length base ≡ next.start * n = len ∙ ap (λ (k : ℕ). k * n) (sym (piece_start s piece)) in
@@ -288,13 +294,13 @@ module _ (sealing : List ℕ → List ℕ → List ℕ) (opening : List ℕ → 
                   ])
             ] in
             index ∙ (old ∙ min_is (length text' - length cut) n (at s) j positive (omega (arith, left, whole)) grows side);
-        chain_is = chain_same ∙ (m.chain_is ∙ (ap (λ (k : ℕ). chain (first_chunks n k text)) old
-            ∙ (ap chain (sym (front_stays base s next (out ++ cut) len e)) ∙ ap (λ (k : ℕ). chain (first_chunks n k text')) (sym (index ∙ old)))));
+        chain_is = chain_same ∙ (m.chain_is ∙ (ap (λ (k : ℕ). chain_if keep (first_chunks n k text)) old
+            ∙ (ap (chain_if keep) (sym (front_stays base s next (out ++ cut) len e)) ∙ ap (λ (k : ℕ). chain_if keep (first_chunks n k text')) (sym (index ∙ old)))));
       }
 
   -- the end, of whose text so much was written
   pub mark_end : (base : List ℕ) (s : Segment) (out cut : List ℕ) (was now : Progress) → length base ≡ s.start * n → released opening n (with_end s) ≡ released opening n s ++ (out ++ cut)
-      → now.index ≡ was.index → now.chain ≡ was.chain → Marks opening n base s [] was → Marks opening n base (with_end s) cut now
+      → now.index ≡ was.index → now.chain ≡ was.chain → Marks keep opening n base s [] was → Marks keep opening n base (with_end s) cut now
   mark_end base s out cut was now len e index chain_same m =
       let next = with_end s in
       let old = mark_index base s was len m in
@@ -309,21 +315,21 @@ module _ (sealing : List ℕ → List ℕ → List ℕ) (opening : List ℕ → 
             let j = at (with_piece next more) in
             let still : j ≡ at s = (after_piece opening n next more (λ u. cc) closed).index ∙ same in
             index ∙ (old ∙ min_is (length text' - length cut) n (at s) j positive (omega (arith, left, c.within)) (omega (arith, still)) (inr still));
-        chain_is = chain_same ∙ (m.chain_is ∙ (ap (λ (k : ℕ). chain (first_chunks n k text)) old
-            ∙ (ap chain (sym (front_stays base s next (out ++ cut) len e)) ∙ ap (λ (k : ℕ). chain (first_chunks n k text')) (sym (index ∙ old)))));
+        chain_is = chain_same ∙ (m.chain_is ∙ (ap (λ (k : ℕ). chain_if keep (first_chunks n k text)) old
+            ∙ (ap (chain_if keep) (sym (front_stays base s next (out ++ cut) len e)) ∙ ap (λ (k : ℕ). chain_if keep (first_chunks n k text')) (sym (index ∙ old)))));
       }
 
   -- before any byte
-  pub mark_fresh : (base : List ℕ) (k : ℕ) (p : Progress) → length base ≡ k * n → p.index ≡ k → p.chain ≡ chain (first_chunks n k base) → Marks opening n base (fresh k) [] p
+  pub mark_fresh : (base : List ℕ) (k : ℕ) (p : Progress) → length base ≡ k * n → p.index ≡ k → p.chain ≡ chain_if keep (first_chunks n k base) → Marks keep opening n base (fresh k) [] p
   mark_fresh base k p len index chain_is =
       let none : released opening n (fresh k) ≡ [] = ap (λ (o : Outcome). flat_map (λ (t : List ℕ). t) o.texts) (fresh_outcome opening n k) in
       let same : base ≡ base ++ released opening n (fresh k) = sym (ap (λ (t : List ℕ). base ++ t) none ∙ append-nil base) in
       mark_all base (fresh k) p len (λ _. refl) (index ∙ sym (ap (λ (o : Outcome). o.index) (fresh_outcome opening n k)))
-      (chain_is ∙ (ap (λ (t : List ℕ). chain (first_chunks n k t)) same ∙ ap (λ (i : ℕ). chain (first_chunks n i (base ++ released opening n (fresh k)))) (sym index)))
+      (chain_is ∙ (ap (λ (t : List ℕ). chain_if keep (first_chunks n k t)) same ∙ ap (λ (i : ℕ). chain_if keep (first_chunks n i (base ++ released opening n (fresh k)))) (sym index)))
 
   -- and at the end of a run, with bytes behind that were not fed
-  pub marked : (base : List ℕ) (s last : Segment) (more out cut : List ℕ) (p : Progress) → with_piece s more ≡ last → released opening n s ≡ out ++ cut → Marks opening n base s cut p
-      → IsMarked opening n (base ++ out) last p
+  pub marked : (base : List ℕ) (s last : Segment) (more out cut : List ℕ) (p : Progress) → with_piece s more ≡ last → released opening n s ≡ out ++ cut → Marks keep opening n base s cut p
+      → IsMarked keep opening n (base ++ out) last p
   marked base s last more out cut p is parts m =
       let text = base ++ out in
       let left : length (base ++ released opening n s) - length cut ≡ length text =
@@ -333,6 +339,6 @@ module _ (sealing : List ℕ → List ℕ → List ℕ) (opening : List ℕ → 
       let within : p.index * n ≤ length text = (le-div_iff_mul-le positive).0 le in
       record {
         index = e;
-        chain_is = m.chain_is ∙ ap chain (ap (λ (t : List ℕ). first_chunks n p.index (base ++ t)) parts
+        chain_is = m.chain_is ∙ ap (chain_if keep) (ap (λ (t : List ℕ). first_chunks n p.index (base ++ t)) parts
             ∙ (ap (first_chunks n p.index) (sym (append_assoc base out cut)) ∙ first_chunks-append n p.index text cut within));
       }

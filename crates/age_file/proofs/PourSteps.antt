@@ -18,7 +18,8 @@ use Rattle.age_file.specs.declared.fault.FileFault.{FileFault}
 use Rattle.age_file.specs.declared.fault.FileFault.TheVariants.{Stream, Read, Write, ReadNeverEnds}
 use Rattle.age_stream.specs.Lawful.{IsLawful}
 use Rattle.std.specs.Simd.{first_chunks}
-use Rattle.age_file.specs.Bindings.{chain}
+use Rattle.age_file.specs.Bindings.{chain_if}
+use Rattle.age_file.specs.declared.position.Positions.{Positions}
 use Rattle.age_file.specs.Marks.{Marks, IsMarked}
 use Rattle.age_file.proofs.MarkSteps.{no_piece, mark_fresh, marked}
 use Rattle.age_file.proofs.ReleaseSteps.{releases_next}
@@ -54,13 +55,13 @@ module _ {B : Type 0} (sealing : B → List ℕ → List ℕ → List ℕ) (open
 
     -- what the progress then counts, behind a base
     marks_of : (next : Segment → Segment) (old new : OpenerView B) (was now : Tally) (more cut : List ℕ) (last : Segment) → old.key ≡ K → Stands opening n old (fresh k)
-        → with_piece (next (fresh k)) more ≡ last → (o : Releases opening n next old new was now cut) → (base : List ℕ) → length base ≡ k * n → was.progress.index ≡ k
-        → was.progress.chain ≡ chain (first_chunks n k base) → IsMarked (opening K) n (base ++ o.out) last now.progress
-    marks_of next old new was now more cut last key h is o base len index chain_is =
+        → with_piece (next (fresh k)) more ≡ last → (o : Releases opening n next old new was now cut) → (keep : Positions) (base : List ℕ) → length base ≡ k * n → was.progress.index ≡ k
+        → was.progress.chain ≡ chain_if keep (first_chunks n k base) → IsMarked keep (opening K) n (base ++ o.out) last now.progress
+    marks_of next old new was now more cut last key h is o keep base len index chain_is =
         let e = from_start next old new was now cut key h o in
-        let first = mark_fresh (sealing old.key) (opening old.key) (lawful old.key) n positive base k was.progress len index chain_is in
-        let m = subst (λ c. Marks (opening c) n base (next (fresh k)) cut now.progress) key (o.marks positive (fresh k) base len h first) in
-        marked (sealing K) (opening K) (lawful K) n positive base (next (fresh k)) last more o.out cut now.progress is e m
+        let first = mark_fresh (sealing old.key) (opening old.key) (lawful old.key) n positive keep base k was.progress len index chain_is in
+        let m = subst (λ c. Marks keep (opening c) n base (next (fresh k)) cut now.progress) key (o.marks keep positive (fresh k) base len h first) in
+        marked (sealing K) (opening K) (lawful K) n positive keep base (next (fresh k)) last more o.out cut now.progress is e m
 
     stop_fails : (old new : Flow B) (fed left out cut : List ℕ) (fault : FileFault) → released (opening K) n (segment k fed false) ≡ out ++ cut
         → new.opener.status ≡ (outcome (opening K) n (segment k fed false)).status

@@ -9,13 +9,14 @@ use Rattle.age_stream.specs.Segment.{Segment, outcome, released}
 use Rattle.age_stream.specs.Deliveries.{with_piece}
 use Rattle.age_stream.specs.Opening.{OpenerView, Stands, chunk_texts}
 use Rattle.age_stream.proofs.ReplaySteps.{pieces_join, lent_flat}
-use Rattle.age_stream.specs.Lent.{lent_text}
+use Rattle.age_stream.specs.Lent.{chunk_bytes}
 use Rattle.age_file.specs.Faults.{HasRisen}
 use Rattle.age_file.specs.Releases.{Tally, Releases, FeedGoes, FeedFails}
 use Rattle.age_file.specs.declared.fault.FileFault.{FileFault}
 use Rattle.age_file.specs.declared.fault.FileFault.TheVariants.{Stream, Write}
 use Rattle.age_stream.specs.Lawful.{IsLawful}
-use Rattle.age_file.specs.Bindings.{link}
+use Rattle.age_file.specs.Bindings.{link_if}
+use Rattle.age_file.specs.declared.position.Positions.{Positions}
 use Rattle.age_file.specs.declared.progress.Progress.{Progress}
 use Rattle.age_file.specs.Marks.{Advances, Marks}
 use Rattle.age_file.proofs.MarkSteps.{no_piece, piece_start, mark_step, mark_none, mark_cut}
@@ -45,7 +46,7 @@ module _ {B : Type 0} (opening : B → List ℕ → List ℕ → Option (List �
         count = omega arith;
         stands = λ s h. subst (Stands opening n o) (sym (no_piece s)) h;
         text = λ s h. ap (released (opening o.key) n) (no_piece s) ∙ sym (append-nil (released (opening o.key) n s));
-        marks = λ positive s base len h m. subst (λ (t : Segment). Marks (opening o.key) n base t [] was.progress) (sym (no_piece s)) m;
+        marks = λ keep positive s base len h m. subst (λ (t : Segment). Marks keep (opening o.key) n base t [] was.progress) (sym (no_piece s)) m;
       }
 
   -- a step, and then a step to any next segment
@@ -68,11 +69,11 @@ module _ {B : Type 0} (opening : B → List ℕ → List ℕ → Option (List �
             let u : released op n (with_piece s a) ≡ r ++ p.out = p.text s h ∙ ap (λ (x : List ℕ). r ++ x) (append-nil p.out) in
             ap (released op n) (sym (same s)) ∙ (t ∙ (ap (λ (x : List ℕ). x ++ (q.out ++ cut)) u
             ∙ (append_assoc r p.out (q.out ++ cut) ∙ ap (λ (x : List ℕ). r ++ x) (sym (append_assoc p.out q.out cut)))));
-        marks = λ positive s base len h m.
+        marks = λ keep positive s base len h m.
             let len' : length base ≡ (with_piece s a).start * n = len ∙ ap (λ (k : ℕ). k * n) (sym (piece_start s a)) in
-            let first = subst (λ k. Marks (opening k) n base (with_piece s a) [] between.progress) (sym p.key) (p.marks positive s base len h m) in
-            let then = q.marks positive (with_piece s a) base len' (p.stands s h) first in
-            subst (λ (t : Segment). Marks op n base t cut now.progress) (same s) (subst (λ k. Marks (opening k) n base (next (with_piece s a)) cut now.progress) p.key then);
+            let first = subst (λ k. Marks keep (opening k) n base (with_piece s a) [] between.progress) (sym p.key) (p.marks keep positive s base len h m) in
+            let then = q.marks keep positive (with_piece s a) base len' (p.stands s h) first in
+            subst (λ (t : Segment). Marks keep op n base t cut now.progress) (same s) (subst (λ k. Marks keep (opening k) n base (next (with_piece s a)) cut now.progress) p.key then);
       }
 
   pub releases_then : (a b : List ℕ) (old mid new : OpenerView B) (was between now : Tally) (cut : List ℕ)
@@ -83,20 +84,20 @@ module _ {B : Type 0} (opening : B → List ℕ → List ℕ → Option (List �
   -- what `marks` asks of a piece that was fed
   abbrev pub IsMarkedOn : OpenerView B → List ℕ → Progress → Progress → List ℕ → Type 0
   IsMarkedOn old fed was now cut =
-      0 < n → (s : Segment) (base : List ℕ) → length base ≡ s.start * n → Stands opening n old s
-      → Marks (opening old.key) n base s [] was → Marks (opening old.key) n base (with_piece s fed) cut now
+      (keep : Positions) → 0 < n → (s : Segment) (base : List ℕ) → length base ≡ s.start * n → Stands opening n old s
+      → Marks keep (opening old.key) n base s [] was → Marks keep (opening old.key) n base (with_piece s fed) cut now
 
   -- what the opener lent of a piece was written whole, and counted
-  pub marks_whole : (sealing : List ℕ → List ℕ → List ℕ) (old new : OpenerView B) (was now : Progress) (fed : List ℕ) (chunk : Option (Bor (List ℕ))) (index : ℕ) (link_is : List ℕ)
+  pub marks_whole : (sealing : List ℕ → List ℕ → List ℕ) (old new : OpenerView B) (was now : Progress) (fed : List ℕ) (chunk : Option (Bor (List ℕ))) (index : ℕ) (link_is : Option (List ℕ))
       → IsLawful sealing (opening old.key) → new.key ≡ old.key → index ≡ new.index
       → ((s : Segment) → Stands opening n old s → Stands opening n new (with_piece s fed))
       → ((s : Segment) → Stands opening n old s → (outcome (opening old.key) n (with_piece s fed)).texts ≡ (outcome (opening old.key) n s).texts ++ chunk_texts chunk)
-      → link_is ≡ link was.chain (lent_text chunk)
+      → link_is ≡ link_if was.chain (chunk_bytes chunk)
       → Advances was.index was.chain index link_is now → IsMarkedOn old fed was now []
-  marks_whole sealing old new was now fed chunk index link_is lawful key is stands texts linked a positive s base len h m =
-      let a' = subst (λ (l : List ℕ). Advances was.index was.chain index l now) (linked ∙ ap (link was.chain) (sym (lent_flat chunk))) a in
+  marks_whole sealing old new was now fed chunk index link_is lawful key is stands texts linked a keep positive s base len h m =
+      let a' = subst (λ (l : Option (List ℕ)). Advances was.index was.chain index l now) (linked ∙ ap (link_if was.chain) (sym (lent_flat chunk))) a in
       let at : index ≡ (outcome (opening old.key) n (with_piece s fed)).index = is ∙ ((stands s h).index ∙ ap (λ k. (outcome (opening k) n (with_piece s fed)).index) key) in
-      mark_step sealing (opening old.key) lawful n positive base s fed (chunk_texts chunk) index was now len h.timely (stands s h).timely (texts s h) (chunk_few chunk) at a' m
+      mark_step sealing (opening old.key) lawful n positive keep base s fed (chunk_texts chunk) index was now len h.timely (stands s h).timely (texts s h) (chunk_few chunk) at a' m
 
   -- the opener refused it, and lent nothing
   pub marks_refused : (sealing : List ℕ → List ℕ → List ℕ) (old new : OpenerView B) (was : Progress) (fed : List ℕ)
@@ -104,24 +105,24 @@ module _ {B : Type 0} (opening : B → List ℕ → List ℕ → Option (List �
       → ((s : Segment) → Stands opening n old s → Stands opening n new (with_piece s fed))
       → ((s : Segment) → Stands opening n old s → (outcome (opening old.key) n (with_piece s fed)).texts ≡ (outcome (opening old.key) n s).texts ++ [])
       → IsMarkedOn old fed was was []
-  marks_refused sealing old new was fed lawful stands texts positive s base len h m =
-      mark_none sealing (opening old.key) lawful n positive base s fed was len h.timely (stands s h).timely (texts s h) m
+  marks_refused sealing old new was fed lawful stands texts keep positive s base len h m =
+      mark_none sealing (opening old.key) lawful n positive keep base s fed was len h.timely (stands s h).timely (texts s h) m
 
   -- some of what it lent was not written
   pub marks_cut : (sealing : List ℕ → List ℕ → List ℕ) (old new : OpenerView B) (was now : Progress) (fed : List ℕ) (chunk : Option (Bor (List ℕ))) (out cut : List ℕ)
       → IsLawful sealing (opening old.key)
       → ((s : Segment) → Stands opening n old s → Stands opening n new (with_piece s fed))
       → ((s : Segment) → Stands opening n old s → (outcome (opening old.key) n (with_piece s fed)).texts ≡ (outcome (opening old.key) n s).texts ++ chunk_texts chunk)
-      → lent_text chunk ≡ out ++ cut → 0 < length cut → now.index ≡ was.index → now.chain ≡ was.chain → IsMarkedOn old fed was now cut
-  marks_cut sealing old new was now fed chunk out cut lawful stands texts lent some index chain_same positive s base len h m =
-      mark_cut sealing (opening old.key) lawful n positive base s fed (chunk_texts chunk) out cut was now len h.timely (stands s h).timely (texts s h) (chunk_few chunk) (lent_flat chunk ∙ lent) some index chain_same m
+      → chunk_bytes chunk ≡ out ++ cut → 0 < length cut → now.index ≡ was.index → now.chain ≡ was.chain → IsMarkedOn old fed was now cut
+  marks_cut sealing old new was now fed chunk out cut lawful stands texts lent some index chain_same keep positive s base len h m =
+      mark_cut sealing (opening old.key) lawful n positive keep base s fed (chunk_texts chunk) out cut was now len h.timely (stands s h).timely (texts s h) (chunk_few chunk) (lent_flat chunk ∙ lent) some index chain_same m
 
   -- a call that took the front of a piece and lent a chunk, of which so much was written
   pub fed_front : (old new : OpenerView B) (was now : Tally) (piece : List ℕ) (taken : ℕ) (chunk : Option (Bor (List ℕ))) (out cut : List ℕ)
       → new.key ≡ old.key
       → ((s : Segment) → Stands opening n old s → Stands opening n new (with_piece s (take taken piece)))
       → ((s : Segment) → Stands opening n old s → (outcome (opening old.key) n (with_piece s (take taken piece))).texts ≡ (outcome (opening old.key) n s).texts ++ chunk_texts chunk)
-      → lent_text chunk ≡ out ++ cut → Appends was.taken now.taken out → now.label ≡ was.label → now.progress.written ≡ was.progress.written + length out
+      → chunk_bytes chunk ≡ out ++ cut → Appends was.taken now.taken out → now.label ≡ was.label → now.progress.written ≡ was.progress.written + length out
       → IsMarkedOn old (take taken piece) was.progress now.progress cut
       → Releases opening n (λ s. with_piece s (take taken piece)) old new was now cut
   fed_front old new was now piece taken chunk out cut key stands texts lent wrote named count marks =
@@ -138,11 +139,11 @@ module _ {B : Type 0} (opening : B → List ℕ → List ℕ → Option (List �
 
   -- how much it then holds and wrote
   pub goes_front : (old new : OpenerView B) (was now : Tally) (piece : List ℕ) (taken : ℕ) (chunk : Option (Bor (List ℕ))) (out cut : List ℕ)
-      → taken ≤ length piece → length new.held + length (lent_text chunk) ≤ length old.held + taken
-      → lent_text chunk ≡ out ++ cut → now.progress.written ≡ was.progress.written + length out → cut ≡ [] → now.failed ≡ was.failed
+      → taken ≤ length piece → length new.held + length (chunk_bytes chunk) ≤ length old.held + taken
+      → chunk_bytes chunk ≡ out ++ cut → now.progress.written ≡ was.progress.written + length out → cut ≡ [] → now.failed ≡ was.failed
       → (taken ≡ length (take taken piece)) × FeedGoes opening n old new was now (take taken piece) cut
   goes_front old new was now piece taken chunk out cut le room lent count whole failed =
-      let len : length (lent_text chunk) ≡ length out = ap length (lent ∙ (ap (λ (t : List ℕ). out ++ t) whole ∙ append-nil out)) in
+      let len : length (chunk_bytes chunk) ≡ length out = ap length (lent ∙ (ap (λ (t : List ℕ). out ++ t) whole ∙ append-nil out)) in
       (omega (arith, le, length-take taken piece), (omega (arith, le, room, count, len, length-take taken piece), whole, failed))
 
   goes_then : (a b : List ℕ) (old mid new : OpenerView B) (was between now : Tally) → FeedGoes opening n old mid was between a [] → FeedGoes opening n mid new between now b [] → FeedGoes opening n old new was now (a ++ b) []

@@ -17,11 +17,13 @@ use Rattle.age_cipher.specs.Opening.{opening}
 use Rattle.age_keys.specs.Keys.{payload_key, position_key}
 use Rattle.age_keys.specs.PayloadBox.{box_lawful}
 use Rattle.age_file.specs.AgeFile.{box, unbox}
-use Rattle.age_file.specs.Bindings.{file_id, chain, position_tag}
+use Rattle.age_file.specs.Bindings.{file_id, chain, chain_if, position_tag}
+use Rattle.age_file.specs.declared.position.Positions.TheVariants.{Kept, Dropped}
 use Rattle.age_file.specs.Copies.{CopiesText}
 use Rattle.age_file.specs.Faults.{HasRisen}
 use Rattle.age_file.specs.GoingOn.{side_of, GoesOn, PoursBehind}
 use Rattle.age_file.specs.Intakes.{Pulled}
+use Rattle.age_file.specs.Decrypts.{IsPositionAt, PositionAt, Told}
 use Rattle.age_file.specs.Marks.{IsMarked}
 use Rattle.age_file.specs.Passages.{Side, Passes, Dries, PassFails}
 use Rattle.age_file.specs.Pours.{Stage, Pours, PourFails, PourDone}
@@ -35,7 +37,7 @@ use Rattle.age_file.specs.Unread.{Unread}
 use Rattle.age_file.specs.declared.fault.FileFault.{FileFault}
 use Rattle.age_file.specs.declared.fault.FileFault.TheVariants.{Stream, OtherFile, ShortText, Read, Write, ReadNeverEnds, PositionForged, OldTextDiffers}
 use Rattle.age_file.specs.declared.position.Position.{Position}
-use Rattle.age_file.specs.declared.progress.Progress.{Progress}
+use Rattle.age_file.specs.declared.position.Positions.{Positions}
 use Rattle.age_file.specs.declared.start.Unlocked.{Unlocked}
 use Rattle.age_file.proofs.Bytes.{Appends-then, prefix_trans}
 use Rattle.age_file.proofs.DecryptSteps.{own_tag}
@@ -111,7 +113,7 @@ resumes_all p r limit whole done text auth = ap (λ (t : List ℕ). r.copied ++ 
 
 -- ---- a run that stopped in the old text, or before it
 
-module _ (Allows : Header → List ℕ → Type 0) (Refused : Header → KeyFault → Type 0) (p : Position) where
+module _ (keep : Positions) (Allows : Header → List ℕ → Type 0) (Refused : Header → KeyFault → Type 0) (p : Position) where
   abbrev pub before : Option (List ℕ) → ℕ → Tally → Side → ResumePorts
   before a i first x = record { main = record { coming = a; read_failed = i; taken = first.taken; write_failed = first.failed }; old_coming = x.coming; old_failed = x.failed }
 
@@ -127,7 +129,7 @@ module _ (Allows : Header → List ℕ → Type 0) (Refused : Header → KeyFaul
 
   -- no payload came to be opened
   pub start_fails : (old new : ResumePorts) (fault : FileFault) → Appends old.main.taken new.main.taken []
-      → StartFails Allows Refused old.main.coming new.main.coming old.main.read_failed new.main.read_failed fault → ResumeFails Allows p Refused old new 0 None fault
+      → StartFails Allows Refused old.main.coming new.main.coming old.main.read_failed new.main.read_failed fault → ResumeFails keep Allows p Refused old new 0 None fault
   start_fails old new Read none f = inl ((none, refl, refl), f.0, f.1)
   start_fails old new ReadNeverEnds none f = inl ((none, refl, refl), f.0, f.1)
   start_fails old new (Stream x) none f = absurd f
@@ -140,7 +142,7 @@ module _ (Allows : Header → List ℕ → Type 0) (Refused : Header → KeyFaul
 
   -- the position was refused
   pub verdict_fails : (old new : ResumePorts) (u : Unread) (unlocked : Unlocked) (fault : FileFault) → Appends old.main.taken new.main.taken []
-      → StartsAt Allows old.main.coming new.main.coming u unlocked → PositionRefused p unlocked.id unlocked.key unlocked.nonce fault → ResumeFails Allows p Refused old new 0 None fault
+      → StartsAt Allows old.main.coming new.main.coming u unlocked → PositionRefused p unlocked.id unlocked.key unlocked.nonce fault → ResumeFails keep Allows p Refused old new 0 None fault
   verdict_fails old new u unlocked OtherFile none s f =
       ((none, refl, refl), opened old.main.coming new.main.coming u unlocked s, u.bytes, reads_of old.main.coming new.main.coming u unlocked s new.main.coming u.bytes s.pulled.consumed, λ own. f (own ∙ sym s.id))
   verdict_fails old new u unlocked PositionForged none s f =
@@ -183,7 +185,7 @@ module _ (Allows : Header → List ℕ → Type 0) (Refused : Header → KeyFaul
       none = refl;
     }
 
-    pub copy_fails : (fault : FileFault) → CopiesText 65536 p.index p.chain x z first s1.tally (Err fault) → ResumeFails Allows p Refused (before a i first x) (after s1 z) s1.tally.progress.written None fault
+    pub copy_fails : (fault : FileFault) → CopiesText keep 65536 p.index p.chain x z first s1.tally (Err fault) → ResumeFails keep Allows p Refused (before a i first x) (after s1 z) s1.tally.progress.written None fault
     unfolding stops_in_old
     copy_fails ShortText c =
         let f = c.answered in
@@ -219,24 +221,26 @@ module _ (Allows : Header → List ℕ → Type 0) (Refused : Header → KeyFaul
             of = old_of p x.coming z.coming (c.out ++ z.unread.bytes) c.out used.consumed front le;
           },
           f.0.0,
-          λ e. f.1 (f.0.4 ∙ e),
+          λ e. f.1 (f.0.4 ∙ ap Some e),
         )
     copy_fails other c = absurd c.answered.1
 
     -- ---- a run that went on behind the old text
 
     -- the old text was copied, and is the position's
-    module _ (c : CopiesText 65536 p.index p.chain x z first s1.tally (Ok tt)) (limit : p.index < 281474976710656) where
+    module _ (c : CopiesText keep 65536 p.index p.chain x z first s1.tally (Ok tt)) (limit : p.index < 281474976710656) where
       old_text : IsOldText p c.out
-      old_text = (let f = c.answered in old_text_of p c.out f.0.0 (sym f.0.4 ∙ f.1))
+      old_text =
+          let f = c.answered in
+          old_text_of p c.out f.0 f.5
 
       old_used : Pulled x.coming z.coming z.unread.pulls (c.out ++ z.unread.bytes)
-      old_used = used_old x z c.out none pulls c.answered.0.1
+      old_used = used_old x z c.out none pulls c.answered.1
 
       -- the old text, and no more, was written
       writes_old : (s2 : Stage) → s2.tally ≡ s1.tally → WritesOld p (before a i first x) (after s2 z) s2.tally.progress.written c.out
       writes_old s2 still =
-          let le : length c.out ≤ p.index * 65536 = omega (arith, c.answered.0.0) in
+          let le : length c.out ≤ p.index * 65536 = omega (arith, c.answered.0) in
           let front : IsPrefixOf c.out (c.out ++ z.unread.bytes) = (z.unread.bytes, refl) in
           let written : s2.tally.progress.written ≡ s1.tally.progress.written = ap (λ (t : Tally). t.progress.written) still in
           record {
@@ -249,9 +253,9 @@ module _ (Allows : Header → List ℕ → Type 0) (Refused : Header → KeyFaul
           }
 
       -- the run stopped in the blocks that are passed over
-      stops_in_passed : (s2 : Stage) (next : Position) (passed : List ℕ) → s2.tally ≡ s1.tally → IsSame p next → length passed < p.index * 65552
-          → Consumes a s2.coming (head ++ passed) → StopsInPassed Allows p (before a i first x) (after s2 z) s2.tally.progress.written (Some next) passed
-      stops_in_passed s2 next passed still at short read = record {
+      stops_in_passed : (s2 : Stage) (position : Option Position) (passed : List ℕ) → s2.tally ≡ s1.tally → Told keep (IsSame p) position → length passed < p.index * 65552
+          → Consumes a s2.coming (head ++ passed) → StopsInPassed keep Allows p (before a i first x) (after s2 z) s2.tally.progress.written position passed
+      stops_in_passed s2 position passed still at short read = record {
         file = file;
         accepts = accepts_of a s1.coming s1.unread unlocked s v s2.coming passed read;
         short = short;
@@ -265,30 +269,30 @@ module _ (Allows : Header → List ℕ → Type 0) (Refused : Header → KeyFaul
       dried s2 passed fault f =
           subst (λ (t : List ℕ). Pulled a s2.coming s2.unread.pulls (head ++ t)) (ap (λ (t : List ℕ). passed ++ t) f.used ∙ append-nil passed) (f.uses a head s.pulled)
 
-      passed_fails : (s2 : Stage) (next : Position) (fault : FileFault) → s2.tally ≡ s1.tally → IsSame p next → PassFails 65552 p.index (side_of s1) (side_of s2) fault
-          → ResumeFails Allows p Refused (before a i first x) (after s2 z) s2.tally.progress.written (Some next) fault
-      passed_fails s2 next (Stream fault) still at f =
+      passed_fails : (s2 : Stage) (position : Option Position) (fault : FileFault) → s2.tally ≡ s1.tally → Told keep (IsSame p) position → PassFails 65552 p.index (side_of s1) (side_of s2) fault
+          → ResumeFails keep Allows p Refused (before a i first x) (after s2 z) s2.tally.progress.written position fault
+      passed_fails s2 position (Stream fault) still at f =
           let e = f.2 in
           let all : Pulled a s2.coming s2.unread.pulls (head ++ e.bytes) =
           subst (λ (t : List ℕ). Pulled a s2.coming s2.unread.pulls (head ++ t)) (ap (λ (t : List ℕ). e.bytes ++ t) e.used ∙ append-nil e.bytes) (e.passes.uses a head s.pulled) in
           let more : suc fault.chunk * 65552 ≤ p.index * 65552 = mul-le-mul_right 65552 f.1 in
-          let failed : s2.tally.failed ≡ first.failed = ap (λ (t : Tally). t.failed) still ∙ c.answered.0.2 in (
+          let failed : s2.tally.failed ≡ first.failed = ap (λ (t : Tally). t.failed) still ∙ c.answered.2 in (
             inl (record {
               passed = e.bytes;
-              stops = stops_in_passed s2 next e.bytes still at (omega (arith, e.most, more)) all.consumed;
+              stops = stops_in_passed s2 position e.bytes still at (omega (arith, e.most, more)) all.consumed;
               kind = f.0;
               least = e.least;
               most = e.most;
               at_end = e.at_end;
             }),
-            ((e.passes.unfailed ∙ same, failed), c.answered.0.1.unfailed),
+            ((e.passes.unfailed ∙ same, failed), c.answered.1.unfailed),
           )
-      passed_fails s2 next Read still at f =
-          inr (inr (inl (f.0, stops_in_passed s2 next f.0 still at f.1 (dried s2 f.0 Read f.2).consumed, subst (λ (m : ℕ). HasRisen m s2.read_failed) same f.2.why)))
-      passed_fails s2 next ReadNeverEnds still at f =
+      passed_fails s2 position Read still at f =
+          inr (inr (inl (f.0, stops_in_passed s2 position f.0 still at f.1 (dried s2 f.0 Read f.2).consumed, subst (λ (m : ℕ). HasRisen m s2.read_failed) same f.2.why)))
+      passed_fails s2 position ReadNeverEnds still at f =
           let all = dried s2 f.0 ReadNeverEnds f.2 in
-          inr (inr (inl (f.0, stops_in_passed s2 next f.0 still at f.1 all.consumed, (head ++ f.0, all.consumed, omega (arith, all.each_gave, f.2.why)))))
-      passed_fails s2 next other still at f = absurd f
+          inr (inr (inl (f.0, stops_in_passed s2 position f.0 still at f.1 all.consumed, (head ++ f.0, all.consumed, omega (arith, all.each_gave, f.2.why)))))
+      passed_fails s2 position other still at f = absurd f
 
       -- what was read and poured behind the blocks that were passed over
       record IsPoured (s2 : Stage) (result : Result (Unit {0}) FileFault) : Type 0 where
@@ -296,7 +300,7 @@ module _ (Allows : Header → List ℕ → Type 0) (Refused : Header → KeyFaul
         file_is : run.file ≡ file
         is : IsResumption Allows p (before a i first x) (after s2 z) s2.tally.progress.written run
         pulled : Pulled a s2.coming s2.unread.pulls (head ++ (run.passed ++ run.bytes))
-        marks : IsMarked (unbox run.file.key run.file.nonce) 65536 (run.copied ++ run.out) (segment_at p run) s2.tally.progress
+        marks : IsMarked keep (unbox run.file.key run.file.nonce) 65536 (run.copied ++ run.out) (segment_at p run) s2.tally.progress
         mid : Stage
         read_failed : mid.read_failed ≡ i
         write_failed : mid.tally.failed ≡ first.failed
@@ -314,8 +318,8 @@ module _ (Allows : Header → List ℕ → Type 0) (Refused : Header → KeyFaul
           let pulls : Pulled a s2.coming s2.unread.pulls (head ++ (b.passed ++ q.bytes)) = subst (λ (t : List ℕ). Pulled a s2.coming s2.unread.pulls t) parts all in
           let wrote : Appends s1.tally.taken s2.tally.taken q.out = subst (λ (t : Option (List ℕ)). Appends t s2.tally.taken q.out) (ap (λ (t : Tally). t.taken) b.same) q.wrote in
           let written : b.mid.tally.progress.written ≡ s1.tally.progress.written = ap (λ (t : Tally). t.progress.written) b.same in
-          let index : b.mid.tally.progress.index ≡ p.index = ap (λ (t : Tally). t.progress.index) b.same ∙ c.answered.0.3 in
-          let links : b.mid.tally.progress.chain ≡ chain (first_chunks 65536 p.index c.out) = ap (λ (t : Tally). t.progress.chain) b.same ∙ c.answered.0.4 in
+          let index : b.mid.tally.progress.index ≡ p.index = ap (λ (t : Tally). t.progress.index) b.same ∙ c.answered.3 in
+          let links : b.mid.tally.progress.chain ≡ chain_if keep (first_chunks 65536 p.index c.out) = ap (λ (t : Tally). t.progress.chain) b.same ∙ c.answered.4 in
           record {
             run = record { file = file; copied = c.out; passed = b.passed; bytes = q.bytes; ended = q.ended; out = q.out };
             file_is = refl;
@@ -333,10 +337,10 @@ module _ (Allows : Header → List ℕ → Type 0) (Refused : Header → KeyFaul
               prefix = q.prefix;
             };
             pulled = pulls;
-            marks = q.marks c.out c.answered.0.0 index links;
+            marks = q.marks keep c.out c.answered.0 index links;
             mid = b.mid;
             read_failed = b.passes.unfailed ∙ same;
-            write_failed = ap (λ (t : Tally). t.failed) b.same ∙ c.answered.0.2;
+            write_failed = ap (λ (t : Tally). t.failed) b.same ∙ c.answered.2;
             answered = q.answered;
           }
 
@@ -348,27 +352,23 @@ module _ (Allows : Header → List ℕ → Type 0) (Refused : Header → KeyFaul
             ended = f.0;
             done = f.1;
             all = resumes_all p b.run limit f.2 f.1;
-            none_failed = ((f.3.1 ∙ b.read_failed, f.3.0 ∙ b.write_failed), c.answered.0.1.unfailed);
+            none_failed = ((f.3.1 ∙ b.read_failed, f.3.0 ∙ b.write_failed), c.answered.1.unfailed);
           }
 
       -- the position behind what was written
-      record IsHere (now : Progress) (next : Position) : Type 0 where
-        index : next.index ≡ now.index
-        file_id_is : next.file_id ≡ unlocked.id
-        chain_is : next.chain ≡ now.chain
-        tag_is : next.tag ≡ position_tag (position_key unlocked.key unlocked.nonce) now.index unlocked.id now.chain
+      abbrev IsHere : (s2 : Stage) (result : Result (Unit {0}) FileFault) (next : Position) (b : IsPoured s2 result) → Type 0
+      IsHere s2 result next b = IsPositionAt unlocked s2.tally.progress.index (chain (first_chunks 65536 s2.tally.progress.index (b.run.copied ++ b.run.out))) next
 
-      next_position : (s2 : Stage) (result : Result (Unit {0}) FileFault) (next : Position) (b : IsPoured s2 result) → IsHere s2.tally.progress next → IsNextPosition p b.run next
+      next_position : (s2 : Stage) (result : Result (Unit {0}) FileFault) (next : Position) (b : IsPoured s2 result) → IsHere s2 result next b → IsNextPosition p b.run next
       next_position s2 result next b h =
           let text = b.run.copied ++ b.run.out in
-          let over : next.chain ≡ chain (first_chunks 65536 next.index text) = h.chain_is ∙ (b.marks.chain_is ∙ ap (λ (k : ℕ). chain (first_chunks 65536 k text)) (sym h.index)) in
-          let least : next.index ≡ min (length text / 65536) (outcome (unbox b.run.file.key b.run.file.nonce) 65536 (segment_at p b.run)).index = h.index ∙ b.marks.index in
+          let over : next.chain ≡ chain (first_chunks 65536 next.index text) = h.chain_is ∙ ap (λ (k : ℕ). chain (first_chunks 65536 k text)) (sym h.index_is) in
+          let least : next.index ≡ min (length text / 65536) (outcome (unbox b.run.file.key b.run.file.nonce) 65536 (segment_at p b.run)).index = h.index_is ∙ b.marks.index in
           record {
             index = least;
             own = h.file_id_is ∙ (s.id ∙ ap (λ (f : OpenedFile). file_id f.front f.nonce) (sym b.file_is));
             chain_is = over;
-            tagged = own_tag (position_key unlocked.key unlocked.nonce) next.tag s2.tally.progress.index next.index unlocked.id next.file_id s2.tally.progress.chain next.chain h.index h.file_id_is h.chain_is h.tag_is
-                ∙ ap (λ (f : OpenedFile). position_tag (position_key f.key f.nonce) next.index next.file_id next.chain) (sym b.file_is);
+            tagged = h.tag_is ∙ ap (λ (f : OpenedFile). position_tag (position_key f.key f.nonce) next.index next.file_id next.chain) (sym b.file_is);
             carries = λ whole auth.
                 let rest = resumes_of p b.run limit b.is.prefix whole auth in
                 let positive : 0 < 65536 = omega arith in
@@ -379,28 +379,28 @@ module _ (Allows : Header → List ℕ → Type 0) (Refused : Header → KeyFaul
                 );
           }
 
-      poured_fails : (s2 : Stage) (next : Position) (fault : FileFault) (b : IsPoured s2 (Err fault)) → IsHere s2.tally.progress next
+      poured_fails : (s2 : Stage) (position : Option Position) (fault : FileFault) (b : IsPoured s2 (Err fault)) → Told keep (IsNextPosition p b.run) position
           → PourFails (unbox b.run.file.key b.run.file.nonce) 65536 b.mid s2 (segment_at p b.run) b.run.out fault
-          → ResumeFails Allows p Refused (before a i first x) (after s2 z) s2.tally.progress.written (Some next) fault
-      poured_fails s2 next (Stream fault) b h f = (
-        inr (b.run, record { is = b.is; whole = f.1; of = resumes_of p b.run limit b.is.prefix }, next_position s2 (Err (Stream fault)) next b h, f.0),
-        ((f.2.1 ∙ b.read_failed, f.2.0 ∙ b.write_failed), c.answered.0.1.unfailed),
+          → ResumeFails keep Allows p Refused (before a i first x) (after s2 z) s2.tally.progress.written position fault
+      poured_fails s2 position (Stream fault) b h f = (
+        inr (b.run, record { is = b.is; whole = f.1; of = resumes_of p b.run limit b.is.prefix }, h, f.0),
+        ((f.2.1 ∙ b.read_failed, f.2.0 ∙ b.write_failed), c.answered.1.unfailed),
       )
-      poured_fails s2 next Write b h f =
-          (inr (b.run, b.is, resumes_of p b.run limit b.is.prefix, next_position s2 (Err Write) next b h), subst (λ (m : ℕ). HasRisen m s2.tally.failed) b.write_failed f)
-      poured_fails s2 next Read b h f = inr (inr (inr (
+      poured_fails s2 position Write b h f =
+          (inr (b.run, b.is, resumes_of p b.run limit b.is.prefix, h), subst (λ (m : ℕ). HasRisen m s2.tally.failed) b.write_failed f)
+      poured_fails s2 position Read b h f = inr (inr (inr (
         b.run,
         record { is = b.is; whole = f.0; of = resumes_of p b.run limit b.is.prefix },
-        next_position s2 (Err Read) next b h,
+        h,
         subst (λ (m : ℕ). HasRisen m s2.read_failed) b.read_failed f.1,
       )))
-      poured_fails s2 next ReadNeverEnds b h f = inr (inr (inr (
+      poured_fails s2 position ReadNeverEnds b h f = inr (inr (inr (
         b.run,
         record { is = b.is; whole = f.0; of = resumes_of p b.run limit b.is.prefix },
-        next_position s2 (Err ReadNeverEnds) next b h,
+        h,
         (head ++ (b.run.passed ++ b.run.bytes), b.pulled.consumed, omega (arith, b.pulled.each_gave, f.1)),
       )))
-      poured_fails s2 next other b h f = absurd f
+      poured_fails s2 position other b h f = absurd f
 
       -- ---- the whole run
 
@@ -410,29 +410,40 @@ module _ (Allows : Header → List ℕ → Type 0) (Refused : Header → KeyFaul
       resume_done key s2 key_is (inr behind) = (let b = poured key s2 (Ok tt) key_is behind in (b.run, poured_done s2 b))
 
       -- the position is that from which the run began, where nothing was poured
-      same_position : (s2 : Stage) (next : Position) → s2.tally ≡ s1.tally → IsHere s2.tally.progress next → IsSame p next
+      same_position : (s2 : Stage) (next : Position) → s2.tally ≡ s1.tally → IsPositionAt unlocked s2.tally.progress.index (chain (first_chunks 65536 p.index c.out)) next → IsSame p next
       same_position s2 next still h =
-          let index : next.index ≡ p.index = h.index ∙ (ap (λ (t : Tally). t.progress.index) still ∙ c.answered.0.3) in
-          let links : next.chain ≡ p.chain = h.chain_is ∙ (ap (λ (t : Tally). t.progress.chain) still ∙ c.answered.1) in
+          let index : next.index ≡ p.index = h.index_is ∙ (ap (λ (t : Tally). t.progress.index) still ∙ c.answered.3) in
           let id : next.file_id ≡ p.file_id = h.file_id_is ∙ sym v.0 in
+          let links : next.chain ≡ p.chain = h.chain_is ∙ c.answered.5 in
           record {
             index = index;
             file_id_is = id;
             chain_is = links;
-            tag_is = own_tag (position_key unlocked.key unlocked.nonce) next.tag s2.tally.progress.index p.index unlocked.id p.file_id s2.tally.progress.chain p.chain
-                (sym index ∙ h.index) (sym id ∙ h.file_id_is) (sym links ∙ h.chain_is) h.tag_is
-                ∙ sym v.1;
+            tag_is = own_tag (position_key unlocked.key unlocked.nonce) next.tag next.index p.index next.file_id p.file_id next.chain p.chain (sym index) (sym id) (sym links) h.tag_is ∙ sym v.1;
           }
 
-      pub resume_fails : (key : List ℕ) (s2 : Stage) (next : Position) (fault : FileFault) → key ≡ payload_key unlocked.key unlocked.nonce
-          → next.index ≡ s2.tally.progress.index → next.file_id ≡ unlocked.id → next.chain ≡ s2.tally.progress.chain
-          → next.tag ≡ position_tag (position_key unlocked.key unlocked.nonce) s2.tally.progress.index unlocked.id s2.tally.progress.chain
-          → GoesOn (λ nonce block. opening key nonce [] block) p.index s1 s2 (Err fault) → ResumeFails Allows p Refused (before a i first x) (after s2 z) s2.tally.progress.written (Some next) fault
-      resume_fails key s2 next fault key_is index id links tag (inl stopped) =
+      told_same : (how : Positions) (s2 : Stage) (position : Option Position) → s2.tally ≡ s1.tally
+          → PositionAt unlocked s2.tally.progress.index (chain_if how (first_chunks 65536 p.index c.out)) position → Told how (IsSame p) position
+      told_same Kept s2 (Some next) still at = same_position s2 next still at
+      told_same Kept s2 None still at = absurd at
+      told_same Dropped s2 position still at = at
+
+      told_next : (how : Positions) (s2 : Stage) (result : Result (Unit {0}) FileFault) (position : Option Position) (b : IsPoured s2 result)
+          → PositionAt unlocked s2.tally.progress.index (chain_if how (first_chunks 65536 s2.tally.progress.index (b.run.copied ++ b.run.out))) position → Told how (IsNextPosition p b.run) position
+      told_next Kept s2 result (Some next) b at = next_position s2 result next b at
+      told_next Kept s2 result None b at = absurd at
+      told_next Dropped s2 result position b at = at
+
+      pub resume_fails : (key : List ℕ) (s2 : Stage) (position : Option Position) (fault : FileFault) → key ≡ payload_key unlocked.key unlocked.nonce
+          → PositionAt unlocked s2.tally.progress.index s2.tally.progress.chain position
+          → GoesOn (λ nonce block. opening key nonce [] block) p.index s1 s2 (Err fault) → ResumeFails keep Allows p Refused (before a i first x) (after s2 z) s2.tally.progress.written position fault
+      resume_fails key s2 position fault key_is at (inl stopped) =
           let is : Err fault ≡ Err stopped.fault = stopped.is in
           let e : stopped.fault ≡ fault = cc in
-          passed_fails s2 next fault stopped.same (same_position s2 next stopped.same (record { index = index; file_id_is = id; chain_is = links; tag_is = tag }))
+          let links : s2.tally.progress.chain ≡ chain_if keep (first_chunks 65536 p.index c.out) = ap (λ (t : Tally). t.progress.chain) stopped.same ∙ c.answered.4 in
+          passed_fails s2 position fault stopped.same (told_same keep s2 position stopped.same (subst (λ (l : Option (List ℕ)). PositionAt unlocked s2.tally.progress.index l position) links at))
           (subst (λ (f : FileFault). PassFails 65552 p.index (side_of s1) (side_of s2) f) e stopped.fails)
-      resume_fails key s2 next fault key_is index id links tag (inr behind) =
+      resume_fails key s2 position fault key_is at (inr behind) =
           let b = poured key s2 (Err fault) key_is behind in
-          poured_fails s2 next fault b (record { index = index; file_id_is = id; chain_is = links; tag_is = tag }) b.answered
+          let told = told_next keep s2 (Err fault) position b (subst (λ (l : Option (List ℕ)). PositionAt unlocked s2.tally.progress.index l position) b.marks.chain_is at) in
+          poured_fails s2 position fault b told b.answered

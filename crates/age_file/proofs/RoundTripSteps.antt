@@ -1,14 +1,9 @@
 -- What was encrypted under a passphrase, decrypted with it.
-use Rattle.std.proofs.Common.{◌≡◌, ℕ, ◌+◌, ◌<◌, ◌≤◌, length, arith, true, List, [], ◌++◌, Option, Some, refl, sym, ap, subst, ◌∙◌, append-nil}
+use Rattle.std.proofs.Common.{◌≡◌, ℕ, ◌≤◌, List, [], ◌++◌, Option, Some, refl, sym, ap, subst, ◌∙◌, append-nil}
 use Rattle.std.specs.Prelude.{Result, Ok, Err, MatchResult}
 use Rattle.age_stanza.specs.Laws.{OneHeader}
-use Rattle.age_stream.specs.Payload.{payload, chunk_count, last_index, last_chunk}
-use Rattle.age_stream.specs.Nonce.{nonce_bytes}
-use Rattle.age_stream.specs.Headline.{IsAuthentic}
-use Rattle.age_stream.proofs.Nonces.{nonce_bytes-length}
-use Rattle.age_stream.proofs.Undamaged.{rest_payload, rest_authentic}
-use Rattle.age_keys.specs.Keys.{payload_key}
-use Rattle.age_keys.specs.PayloadBox.{box_lawful}
+use Rattle.age_stream.specs.Payload.{chunk_count}
+use Rattle.age_stream.specs.Authentic.{IsClosed}
 use Rattle.age_file.specs.AgeFile.{box, unbox}
 use Rattle.age_keys.specs.Laws.{PassphraseOpens}
 use Rattle.age_keys.specs.Passphrase.{Words, IsPassphraseKey, PassphraseRefuses}
@@ -16,14 +11,15 @@ use Rattle.age_keys.specs.Scrypt.{scrypt_head}
 use Rattle.age_file.specs.Ports.{Ports}
 use Rattle.age_file.specs.Secrets.{SecretView}
 use Rattle.age_file.specs.Encrypts.{AgeFile}
-use Rattle.age_file.specs.Decrypts.{segment, IsWhole, IsUndamaged, StopsOutside}
+use Rattle.age_file.specs.Decrypts.{IsWhole, IsUndamaged, StopsOutside}
 use Rattle.age_file.specs.Calls.{DecryptAnswers}
-use Rattle.age_file.specs.RoundTrips.{IsSecret, words_of, OpensAsSealed, WasEncrypted}
+use Rattle.age_file.specs.RoundTrips.{IsSecret, words_of, WasEncrypted}
+use Rattle.age_file.specs.declared.position.Positions.{Positions}
 use Rattle.age_file.specs.declared.decryption.Done.{Done}
 use Rattle.age_file.specs.declared.decryption.Stopped.{Stopped}
 use Rattle.age_file.specs.declared.encryption.Written.{Written}
 use Rattle.age_file.proofs.CallSteps.{took}
-use Rattle.age_file.proofs.Undamaged.{told, none_left, whole_dropped, undamaged, undamaged_done}
+use Rattle.age_file.proofs.Undamaged.{told, none_left, undamaged, undamaged_done}
 
 pub whole : PassphraseOpens → (s : SecretView) (max_log : ℕ) (text bytes : List ℕ) → IsSecret s → s.log ≤ max_log → chunk_count 65536 text ≤ 281474976710656 → AgeFile s text bytes
     → IsWhole (IsPassphraseKey (words_of s max_log)) (PassphraseRefuses (words_of s max_log)) (Some bytes) text
@@ -46,6 +42,7 @@ whole opens s max_log text bytes is within few file =
 pub record TookFile (s : SecretView) (text : List ℕ) (taken : Option (List ℕ)) : Type 0 where
   pub bytes : List ℕ
   pub told_bytes : taken ≡ Some bytes
+  pub few : chunk_count 65536 text ≤ 281474976710656
   pub is : AgeFile s text bytes
 
 took_file : (s : SecretView) (text : List ℕ) (old new : Ports) (written : Written) → WasEncrypted s text old new written → TookFile s text new.taken
@@ -54,25 +51,11 @@ took_file s text old new written e =
     let t = told old.coming new.coming text d.text e.source d.read in
     let none = none_left new.coming t.0 t.2 d.at_end in
     let same : d.text ≡ text = sym (t.1 ∙ (ap (λ (x : List ℕ). d.text ++ x) none ∙ append-nil d.text)) in
-    record { bytes = d.file; told_bytes = took old.taken new.taken d.file e.sink d.wrote; is = subst (λ (x : List ℕ). AgeFile s x d.file) same d.is }
-
--- then no block of its payload opens except as it was sealed
-own_payload : (s : SecretView) (text : List ℕ) → chunk_count 65536 text ≤ 281474976710656 → OpensAsSealed s text
-    → IsAuthentic (box s.key s.nonce) (unbox s.key s.nonce) 65536 text (segment 0 (payload (box s.key s.nonce) 65536 text) true)
-own_payload s text few sealed =
-    let lawful = box_lawful (payload_key s.key s.nonce) in
-    let positive : 0 < 65536 = omega arith in
-    let below : 0 < chunk_count 65536 text = omega arith in
-    let all = payload (box s.key s.nonce) 65536 text in
-    let e = whole_dropped all ∙ rest_payload (box s.key s.nonce) (unbox s.key s.nonce) lawful 65536 positive text few 0 below in
-    let size : length (box s.key s.nonce (nonce_bytes (last_index 65536 text) true) (last_chunk 65536 text)) ≡ length (last_chunk 65536 text) + 16 =
-    lawful.longer (nonce_bytes (last_index 65536 text) true) (last_chunk 65536 text) (nonce_bytes-length (last_index 65536 text) true) in
-    subst (λ (t : List ℕ). IsAuthentic (box s.key s.nonce) (unbox s.key s.nonce) 65536 text (segment 0 t true)) (sym e)
-    (rest_authentic (box s.key s.nonce) (unbox s.key s.nonce) lawful 65536 positive text few 0 below sealed)
+    record { bytes = d.file; told_bytes = took old.taken new.taken d.file e.sink d.wrote; few = subst (λ (x : List ℕ). chunk_count 65536 x ≤ 281474976710656) same d.few; is = subst (λ (x : List ℕ). AgeFile s x d.file) same d.is }
 
 undamaged_of : PassphraseOpens → (s : SecretView) (max_log : ℕ) (text : List ℕ) (coming : Option (List ℕ)) → IsSecret s → s.log ≤ max_log → chunk_count 65536 text ≤ 281474976710656
-    → OpensAsSealed s text → TookFile s text coming → IsUndamaged (IsPassphraseKey (words_of s max_log)) (PassphraseRefuses (words_of s max_log)) coming text
-undamaged_of opens s max_log text coming is within few sealed f =
+    → IsClosed (box s.key s.nonce) (unbox s.key s.nonce) 65536 text → TookFile s text coming → IsUndamaged (IsPassphraseKey (words_of s max_log)) (PassphraseRefuses (words_of s max_log)) coming text
+undamaged_of opens s max_log text coming is within few closed f =
     let a = opens (words_of s max_log) s.log s.salt s.key is.within.least is.within.most within is.salt_length is.salt_bytes is.key_length in
     record {
       whole = record {
@@ -87,17 +70,18 @@ undamaged_of opens s max_log text coming is within few sealed f =
         only = a.no_other;
         never = a.never;
       };
-      authentic = own_payload s text few sealed;
+      closed = closed;
     }
 
-answered : OneHeader → (w : Words) (text : List ℕ) (now last : Ports) (result : Result Done Stopped) → IsUndamaged (IsPassphraseKey w) (PassphraseRefuses w) now.coming text → now.taken ≡ Some []
-    → DecryptAnswers Words IsPassphraseKey PassphraseRefuses w now last result → MatchResult result (λ done. last.taken ≡ Some text) (λ stopped. StopsOutside stopped.fault)
-answered one w text now last (Ok done) u empty f = took now.taken last.taken text empty (undamaged_done one (IsPassphraseKey w) (PassphraseRefuses w) now last done.written f.0 text u f.1).0
-answered one w text now last (Err s) u empty f = undamaged one (IsPassphraseKey w) (PassphraseRefuses w) now last s.written s.position s.fault text u f
+answered : (keep : Positions) → OneHeader → (w : Words) (text : List ℕ) (now last : Ports) (result : Result Done Stopped) → IsUndamaged (IsPassphraseKey w) (PassphraseRefuses w) now.coming text → now.taken ≡ Some []
+    → DecryptAnswers Words IsPassphraseKey PassphraseRefuses keep w now last result → MatchResult result (λ done. last.taken ≡ Some text) (λ stopped. StopsOutside stopped.fault)
+answered keep one w text now last (Ok done) u empty f = took now.taken last.taken text empty (undamaged_done one (IsPassphraseKey w) (PassphraseRefuses w) now last done.written f.0 text u f.1).0
+answered keep one w text now last (Err s) u empty f = undamaged keep one (IsPassphraseKey w) (PassphraseRefuses w) now last s.written s.position s.fault text u f
 
-pub there_and_back : OneHeader → PassphraseOpens → (s : SecretView) (max_log : ℕ) (text : List ℕ) (was file now last : Ports) (written : Written) (result : Result Done Stopped) → IsSecret s → s.log ≤ max_log
-    → chunk_count 65536 text ≤ 281474976710656 → OpensAsSealed s text → WasEncrypted s text was file written → now.coming ≡ file.taken → now.taken ≡ Some []
-    → DecryptAnswers Words IsPassphraseKey PassphraseRefuses (words_of s max_log) now last result → MatchResult result (λ done. last.taken ≡ Some text) (λ stopped. StopsOutside stopped.fault)
-there_and_back one opens s max_log text was file now last written result is within few sealed e coming empty f =
-    let held = subst (TookFile s text) (sym coming) (took_file s text was file written e) in
-    answered one (words_of s max_log) text now last result (undamaged_of opens s max_log text now.coming is within few sealed held) empty f
+pub there_and_back : OneHeader → PassphraseOpens → (keep : Positions) (s : SecretView) (max_log : ℕ) (text : List ℕ) (was file now last : Ports) (written : Written) (result : Result Done Stopped) → IsSecret s → s.log ≤ max_log
+    → IsClosed (box s.key s.nonce) (unbox s.key s.nonce) 65536 text → WasEncrypted s text was file written → now.coming ≡ file.taken → now.taken ≡ Some []
+    → DecryptAnswers Words IsPassphraseKey PassphraseRefuses keep (words_of s max_log) now last result → MatchResult result (λ done. last.taken ≡ Some text) (λ stopped. StopsOutside stopped.fault)
+there_and_back one opens keep s max_log text was file now last written result is within closed e coming empty f =
+    let took = took_file s text was file written e in
+    let held = subst (TookFile s text) (sym coming) took in
+    answered keep one (words_of s max_log) text now last result (undamaged_of opens s max_log text now.coming is within took.few closed held) empty f

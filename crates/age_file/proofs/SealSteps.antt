@@ -12,7 +12,8 @@ use Rattle.std.proofs.lemmas.List.{length-take, length-append, length-drop, take
 use Rattle.age_stream.specs.Lawful.{IsLawful}
 use Rattle.age_stream.specs.Nonce.{nonce_bytes, chunk_limit}
 use Rattle.age_stream.specs.Payload.{last_index, pair, block_bytes}
-use Rattle.age_stream.specs.Sealing.{SealerView, Holds, step_len, needs_too_many, lent, lent_bytes}
+use Rattle.age_stream.specs.Sealing.{SealerView, Holds, step_len, needs_too_many}
+use Rattle.age_stream.specs.Lent.{chunk_bytes}
 use Rattle.age_stream.proofs.Chunks.{length-first_chunks}
 use Rattle.age_stream.proofs.Nonces.{nonce_bytes-length}
 use Rattle.age_stream.proofs.Sealings.{last_index_le}
@@ -51,8 +52,8 @@ too_long n s piece positive limit text holds =
 
 -- the front of a piece that a sealer took, where what it lent was written but for a part that wasn't
 pub some_sealed : {B : Type 0} (sealing : B → List ℕ → List ℕ → List ℕ) (n : ℕ) (old new : SealerView B) (was now : Tally) (piece : List ℕ) (taken : ℕ) (chunk : Option (Bor (List ℕ))) (out cut : List ℕ)
-    → lent_bytes (lent chunk) ≡ out ++ cut → Wrote was now out
-    → ((text : List ℕ) → Holds n old text → front_of (sealing old.key) n (text ++ take taken piece) ≡ front_of (sealing old.key) n text ++ lent_bytes (lent chunk))
+    → chunk_bytes chunk ≡ out ++ cut → Wrote was now out
+    → ((text : List ℕ) → Holds n old text → front_of (sealing old.key) n (text ++ take taken piece) ≡ front_of (sealing old.key) n text ++ chunk_bytes chunk)
     → SealsSome sealing n old new was now piece (take taken piece) (drop taken piece) cut
 some_sealed sealing n old new was now piece taken chunk out cut is wrote blocks =
     record {

@@ -1,5 +1,5 @@
 -- What can't stop the decryption of an age file that is undamaged.
-use Rattle.std.proofs.Common.{inl, inr, ◌≡◌, ℕ, ◌+◌, ◌*◌, ◌<◌, List, [], ◌++◌, length, take, drop, Option, Some, None, refl, sym, ap, subst, ◌∙◌, arith, append-nil, append_assoc, Bool, true, false}
+use Rattle.std.proofs.Common.{inl, inr, ◌≡◌, ℕ, ◌+◌, ◌*◌, ◌<◌, ◌≤◌, List, [], ◌++◌, length, take, drop, Option, Some, None, refl, sym, ap, subst, ◌∙◌, arith, append-nil, append_assoc, Bool, true, false}
 use Rattle.std.specs.Prelude.{nat_lt}
 use Rattle.std.proofs.lemmas.List.{length-append, drop_at, take_at, drop_all}
 use Rattle.std.specs.Io.KnownBytes.{Appends, Consumes, IsAtEnd}
@@ -11,10 +11,12 @@ use Rattle.age_stream.specs.declared.fault.StreamFault.{StreamFault}
 use Rattle.age_stream.specs.declared.fault.StreamKind.TheVariants.{Truncated}
 use Rattle.age_stream.specs.declared.step.Status.TheVariants.{Open, Failed, Done}
 use Rattle.age_stream.specs.Payload.{payload, chunk_count}
-use Rattle.age_stream.specs.Segment.{outcome, status_after, status_ended}
+use Rattle.age_stream.specs.Segment.{outcome}
+use Rattle.age_stream.specs.SegmentSteps.{status_after, status_ended}
 use Rattle.age_stream.specs.Headline.{IsAuthentic}
+use Rattle.age_stream.specs.Authentic.{IsClosed}
 use Rattle.age_stream.proofs.Going.{after_piece, after_end}
-use Rattle.age_stream.proofs.Undamaged.{rest_payload, rest_is_done}
+use Rattle.age_stream.proofs.Undamaged.{rest_payload, rest_is_done, rest_authentic}
 use Rattle.age_keys.specs.declared.fault.KeyFault.{KeyFault}
 use Rattle.age_keys.specs.declared.fault.KeyFault.TheVariants.{Memory as KeyMemory}
 use Rattle.age_keys.specs.Keys.{IsMacOf, payload_key}
@@ -24,6 +26,7 @@ use Rattle.age_file.specs.AgeFile.{box, unbox}
 use Rattle.age_file.specs.Ports.{Ports}
 use Rattle.age_file.specs.Faults.{IsHeadFault, IsSourcesFault}
 use Rattle.age_file.specs.declared.position.Position.{Position}
+use Rattle.age_file.specs.declared.position.Positions.{Positions}
 use Rattle.age_file.specs.Starts.{StartFails}
 use Rattle.age_file.specs.Decrypts.{segment, Run, DecryptDone, DecryptFails, IsWhole, IsUndamaged, WritesText, StopsOutside}
 use Rattle.age_file.specs.declared.fault.FileFault.{FileFault}
@@ -185,26 +188,35 @@ module _ (one : OneHeader) (Allows : Header → List ℕ → Type 0) (Refused : 
         sym rest_done ∙ (ap (λ (x : List ℕ). (outcome (unbox u.key u.nonce) 65536 (segment k x true)).status) nothing ∙ no_bytes (unbox u.key u.nonce) k) in
         cc
 
-pub undamaged : OneHeader → (Allows : Header → List ℕ → Type 0) (Refused : Header → KeyFault → Type 0) (old new : Ports) (written : ℕ) (position : Option Position) (fault : FileFault) (text : List ℕ)
-    → IsUndamaged Allows Refused old.coming text → DecryptFails Allows Refused old new written position fault → StopsOutside fault
-undamaged one Allows Refused old new written position (Head x) text u f = start_undamaged one Allows Refused old.coming text u.whole new.coming old.read_failed new.read_failed (Head x) f.1
-undamaged one Allows Refused old new written position (Key x) text u f = start_undamaged one Allows Refused old.coming text u.whole new.coming old.read_failed new.read_failed (Key x) f.1
-undamaged one Allows Refused old new written position NonceCut text u f = start_undamaged one Allows Refused old.coming text u.whole new.coming old.read_failed new.read_failed NonceCut f.1
-undamaged one Allows Refused old new written position (Stream x) text u f =
+-- the payload of a text from a chunk on, of which no block opens except as its writer sealed it
+pub own_authentic : (key nonce text : List ℕ) → chunk_count 65536 text ≤ 281474976710656 → IsClosed (box key nonce) (unbox key nonce) 65536 text → (k : ℕ) → k < chunk_count 65536 text
+    → IsAuthentic (box key nonce) (unbox key nonce) 65536 text (segment k (drop (k * 65552) (payload (box key nonce) 65536 text)) true)
+own_authentic key nonce text few closed k below =
+    let lawful = box_lawful (payload_key key nonce) in
+    let positive : 0 < 65536 = omega arith in
+    subst (λ (t : List ℕ). IsAuthentic (box key nonce) (unbox key nonce) 65536 text (segment k t true)) (sym (rest_payload (box key nonce) (unbox key nonce) lawful 65536 positive text few k below))
+    (rest_authentic (box key nonce) (unbox key nonce) lawful 65536 positive text few k below closed)
+
+pub undamaged : (keep : Positions) → OneHeader → (Allows : Header → List ℕ → Type 0) (Refused : Header → KeyFault → Type 0) (old new : Ports) (written : ℕ) (position : Option Position) (fault : FileFault) (text : List ℕ)
+    → IsUndamaged Allows Refused old.coming text → DecryptFails keep Allows Refused old new written position fault → StopsOutside fault
+undamaged keep one Allows Refused old new written position (Head x) text u f = start_undamaged one Allows Refused old.coming text u.whole new.coming old.read_failed new.read_failed (Head x) f.1
+undamaged keep one Allows Refused old new written position (Key x) text u f = start_undamaged one Allows Refused old.coming text u.whole new.coming old.read_failed new.read_failed (Key x) f.1
+undamaged keep one Allows Refused old new written position NonceCut text u f = start_undamaged one Allows Refused old.coming text u.whole new.coming old.read_failed new.read_failed NonceCut f.1
+undamaged keep one Allows Refused old new written position (Stream x) text u f =
     let r = f.0 in
     let is = f.1.is in
     let w = u.whole in
     let all = payload (box w.key w.nonce) 65536 text in
     let below : 0 < chunk_count 65536 text = omega arith in
-    let authentic = subst (λ (t : List ℕ). IsAuthentic (box w.key w.nonce) (unbox w.key w.nonce) 65536 text (segment 0 t true)) (whole_dropped all) u.authentic in
+    let authentic = own_authentic w.key w.nonce text w.few u.closed 0 below in
     let o = opened_as one Allows Refused old.coming text w new.coming r.header r.front r.key r.nonce r.bytes is.text is.opens.allowed is.size is.read in
     let none : length {A = ℕ} [] ≡ 0 * 65552 = omega arith in
     absurd (no_stream_fault one Allows Refused old.coming text w 0 below authentic new.coming r.key r.nonce [] r.bytes r.ended x o none is.at_end f.3)
-undamaged one Allows Refused old new written position Read text u f = tt
-undamaged one Allows Refused old new written position Write text u f = tt
-undamaged one Allows Refused old new written position Memory text u f = tt
-undamaged one Allows Refused old new written position ReadNeverEnds text u f = tt
-undamaged one Allows Refused old new written position other text u f = absurd f.1
+undamaged keep one Allows Refused old new written position Read text u f = tt
+undamaged keep one Allows Refused old new written position Write text u f = tt
+undamaged keep one Allows Refused old new written position Memory text u f = tt
+undamaged keep one Allows Refused old new written position ReadNeverEnds text u f = tt
+undamaged keep one Allows Refused old new written position other text u f = absurd f.1
 
 -- blocks that are those of a segment are as authentic
 pub authentic_as : (text : List ℕ) (k : ℕ) (key nonce own_key own_nonce bytes all : List ℕ) (ended : Bool) → key ≡ own_key → nonce ≡ own_nonce → bytes ≡ all → ended ≡ true
@@ -225,5 +237,7 @@ undamaged_done one Allows Refused old new written r text u d =
     let o = opened_as one Allows Refused old.coming text w new.coming r.header r.front r.key r.nonce r.bytes is.text is.opens.allowed is.size is.read in
     let none = none_left new.coming o.left o.left_is (is.at_end d.ended) in
     let bytes_is : r.bytes ≡ all = sym (append-nil r.bytes) ∙ (ap (λ (t : List ℕ). r.bytes ++ t) (sym none) ∙ o.payload_is) in
-    let whole = d.all text (w.few, authentic_as text 0 r.key r.nonce w.key w.nonce r.bytes all r.ended o.key_is o.nonce_is bytes_is d.ended u.authentic) in
+    let below : 0 < chunk_count 65536 text = omega arith in
+    let authentic = subst (λ (t : List ℕ). IsAuthentic (box w.key w.nonce) (unbox w.key w.nonce) 65536 text (segment 0 t true)) (sym (whole_dropped all)) (own_authentic w.key w.nonce text w.few u.closed 0 below) in
+    let whole = d.all text (w.few, authentic_as text 0 r.key r.nonce w.key w.nonce r.bytes all r.ended o.key_is o.nonce_is bytes_is d.ended authentic) in
     (subst (λ (t : List ℕ). Appends old.taken new.taken t) whole is.wrote, is.count ∙ ap length whole)

@@ -17,9 +17,10 @@ use Rattle.age_file.specs.Verdicts.{OpenedFile, HasId, HasTag}
 use Rattle.age_file.specs.UndamagedRests.{IsUndamagedRest}
 use Rattle.age_file.specs.ResumeFaults.{ResumeFails}
 use Rattle.age_file.specs.declared.position.Position.{Position}
+use Rattle.age_file.specs.declared.position.Positions.{Positions}
 use Rattle.age_file.specs.declared.fault.FileFault.{FileFault}
 use Rattle.age_file.specs.declared.fault.FileFault.TheVariants.{Head, Key, NonceCut, Stream, OtherFile, ShortText, Read, Write, Memory, ReadNeverEnds, PositionForged, OldTextDiffers}
-use Rattle.age_file.proofs.Undamaged.{told, none_left, start_undamaged, front_is, opened_as, no_stream_fault, no_early_end, same_front, authentic_as, IsOpenedAs}
+use Rattle.age_file.proofs.Undamaged.{told, none_left, start_undamaged, front_is, opened_as, no_stream_fault, no_early_end, same_front, authentic_as, own_authentic, IsOpenedAs}
 
 module _ (one : OneHeader) (Allows : Header → List ℕ → Type 0) (Refused : Header → KeyFault → Type 0) (p : Position) (old new : ResumePorts) (text : List ℕ)
     (u : IsUndamagedRest Allows Refused p old.main.coming old.old_coming text) where
@@ -53,31 +54,31 @@ module _ (one : OneHeader) (Allows : Header → List ℕ → Type 0) (Refused : 
       let front = w.of text u.old_text in
       sym (u.carries ∙ (ap (λ (t : List ℕ). chain (first_chunks 65536 p.index t)) (sym front.1) ∙ ap chain (first_chunks-append 65536 p.index copied front.0 (omega (arith, size)))))
 
-  pub undamaged_rest : (written : ℕ) (position : Option Position) (fault : FileFault) → ResumeFails Allows p Refused old new written position fault → StopsOutside fault
-  undamaged_rest written position (Head x) f = start_undamaged one Allows Refused old.main.coming text u.whole new.main.coming old.main.read_failed new.main.read_failed (Head x) f.1
-  undamaged_rest written position (Key x) f = start_undamaged one Allows Refused old.main.coming text u.whole new.main.coming old.main.read_failed new.main.read_failed (Key x) f.1
-  undamaged_rest written position NonceCut f = start_undamaged one Allows Refused old.main.coming text u.whole new.main.coming old.main.read_failed new.main.read_failed NonceCut f.1
-  undamaged_rest written position OtherFile f = absurd (f.4 (own_file f.1 f.2 f.3))
-  undamaged_rest written position PositionForged f = absurd (f.5 (own_tag f.1 f.2 f.3))
-  undamaged_rest written position ShortText f =
+  pub undamaged_rest : (keep : Positions) (written : ℕ) (position : Option Position) (fault : FileFault) → ResumeFails keep Allows p Refused old new written position fault → StopsOutside fault
+  undamaged_rest keep written position (Head x) f = start_undamaged one Allows Refused old.main.coming text u.whole new.main.coming old.main.read_failed new.main.read_failed (Head x) f.1
+  undamaged_rest keep written position (Key x) f = start_undamaged one Allows Refused old.main.coming text u.whole new.main.coming old.main.read_failed new.main.read_failed (Key x) f.1
+  undamaged_rest keep written position NonceCut f = start_undamaged one Allows Refused old.main.coming text u.whole new.main.coming old.main.read_failed new.main.read_failed NonceCut f.1
+  undamaged_rest keep written position OtherFile f = absurd (f.4 (own_file f.1 f.2 f.3))
+  undamaged_rest keep written position PositionForged f = absurd (f.5 (own_tag f.1 f.2 f.3))
+  undamaged_rest keep written position ShortText f =
       let s = f.0 in
       let long = old_is_long written s.copied s.writes f.1 f.2 in
       absurd (omega (arith, long, s.short))
-  undamaged_rest written position OldTextDiffers f = absurd (f.7 (old_is_same written f.4 f.5 f.6))
-  undamaged_rest written position (Stream x) (inl ends, unfailed) =
+  undamaged_rest keep written position OldTextDiffers f = absurd (f.7 (old_is_same written f.4 f.5 f.6))
+  undamaged_rest keep written position (Stream x) (inl ends, unfailed) =
       let a = ends.stops.accepts in
-      absurd (no_early_end one Allows Refused old.main.coming text u.whole p.index u.below u.authentic new.main.coming ends.stops.file.key ends.stops.file.nonce ends.passed
+      absurd (no_early_end one Allows Refused old.main.coming text u.whole p.index u.below (own_authentic u.whole.key u.whole.nonce text u.whole.few u.closed p.index u.below) new.main.coming ends.stops.file.key ends.stops.file.nonce ends.passed
       (opened_of ends.stops.file ends.passed a.reads) ends.stops.short ends.at_end)
-  undamaged_rest written position (Stream x) (inr run, unfailed) =
+  undamaged_rest keep written position (Stream x) (inr run, unfailed) =
       let r = run.0 in
       let is = run.1.is in
-      absurd (no_stream_fault one Allows Refused old.main.coming text u.whole p.index u.below u.authentic new.main.coming r.file.key r.file.nonce r.passed r.bytes r.ended x
+      absurd (no_stream_fault one Allows Refused old.main.coming text u.whole p.index u.below (own_authentic u.whole.key u.whole.nonce text u.whole.few u.closed p.index u.below) new.main.coming r.file.key r.file.nonce r.passed r.bytes r.ended x
       (opened_of r.file (r.passed ++ r.bytes) is.reads) is.passed_size is.at_end run.3)
-  undamaged_rest written position Read f = tt
-  undamaged_rest written position Write f = tt
-  undamaged_rest written position Memory f = tt
-  undamaged_rest written position ReadNeverEnds f = tt
-  undamaged_rest written position other f = absurd f.1
+  undamaged_rest keep written position Read f = tt
+  undamaged_rest keep written position Write f = tt
+  undamaged_rest keep written position Memory f = tt
+  undamaged_rest keep written position ReadNeverEnds f = tt
+  undamaged_rest keep written position other f = absurd f.1
 
   -- an undamaged file that was read to its end gave its text, behind the old text that is the text's beginning
   pub undamaged_rest_done : (written : ℕ) (r : Resumption) → ResumeDone Allows p old new written r → WritesText old.main.taken new.main.taken written text
@@ -98,6 +99,6 @@ module _ (one : OneHeader) (Allows : Header → List ℕ → Type 0) (Refused : 
         few = w.few;
         old_text = old_is.0;
         within = b.within;
-        authentic = authentic_as text p.index r.file.key r.file.nonce w.key w.nonce r.bytes (drop (p.index * 65552) all) r.ended o.key_is o.nonce_is bytes_is d.ended u.authentic;
+        authentic = authentic_as text p.index r.file.key r.file.nonce w.key w.nonce r.bytes (drop (p.index * 65552) all) r.ended o.key_is o.nonce_is bytes_is d.ended (own_authentic w.key w.nonce text w.few u.closed p.index u.below);
       }) in
       (subst (λ (x : List ℕ). Appends old.main.taken new.main.taken x) whole is.wrote, is.count ∙ ap length whole)

@@ -18,6 +18,7 @@ use Rattle.age_file.specs.declared.decryption.Stopped.{Stopped}
 use Rattle.age_file.specs.declared.fault.FileFault.{FileFault}
 use Rattle.age_file.specs.declared.fault.FileFault.TheVariants.{Stream, Read, Write, ReadNeverEnds}
 use Rattle.age_file.specs.declared.position.Position.{Position}
+use Rattle.age_file.specs.declared.position.Positions.{Positions}
 
 -- no block of a run that came and is tried opens, except as the writer of this text sealed it
 abbrev pub IsTexts : List ℕ → Run → Type 0
@@ -49,73 +50,75 @@ WhereRan P (inl early) = Unit {0}
 WhereRan P (inr ran) = P ran
 
 -- the run of a call that stopped is authentic for a text, where the call came to its payload
-abbrev pub StopIsTexts : List ℕ → (A : Header → List ℕ → Type 0) (R : Header → KeyFault → Type 0)
-    (old new : Ports) (written : ℕ) (position : Option Position) (fault : FileFault)
-    → DecryptFails A R old new written position fault → Type 0
-StopIsTexts text A R old new written position (Stream fault) f = IsTexts text f.0
-StopIsTexts text A R old new written position Write f = IsTexts text f.0
-StopIsTexts text A R old new written position Read f = WhereRan (λ ran. IsTexts text ran.0) f.0
-StopIsTexts text A R old new written position ReadNeverEnds f =
+abbrev pub StopIsTexts : List ℕ → (keep : Positions) (A : Header → List ℕ → Type 0)
+    (R : Header → KeyFault → Type 0) (old new : Ports) (written : ℕ) (position : Option Position) (fault : FileFault)
+    → DecryptFails keep A R old new written position fault → Type 0
+StopIsTexts text keep A R old new written position (Stream fault) f = IsTexts text f.0
+StopIsTexts text keep A R old new written position Write f = IsTexts text f.0
+StopIsTexts text keep A R old new written position Read f = WhereRan (λ ran. IsTexts text ran.0) f.0
+StopIsTexts text keep A R old new written position ReadNeverEnds f =
     WhereRan (λ ran. IsTexts text ran.0) f.0
-StopIsTexts text A R old new written position other f = Unit {0}
+StopIsTexts text keep A R old new written position other f = Unit {0}
 
-abbrev pub NextStopIsTexts : List ℕ → (A : Header → List ℕ → Type 0) (p : Position)
-    (R : Header → KeyFault → Type 0) (old new : ResumePorts) (written : ℕ)
+abbrev pub NextStopIsTexts : List ℕ → (keep : Positions) (A : Header → List ℕ → Type 0)
+    (p : Position) (R : Header → KeyFault → Type 0) (old new : ResumePorts) (written : ℕ)
     (position : Option Position) (fault : FileFault)
-    → ResumeFails A p R old new written position fault → Type 0
-NextStopIsTexts text A p R old new written position (Stream fault) f =
+    → ResumeFails keep A p R old new written position fault → Type 0
+NextStopIsTexts text keep A p R old new written position (Stream fault) f =
     WhereRan (λ ran. IsTextsFrom text p ran.0) f.0
-NextStopIsTexts text A p R old new written position Write f =
+NextStopIsTexts text keep A p R old new written position Write f =
     WhereRan (λ ran. IsTextsFrom text p ran.0) f.0
-NextStopIsTexts text A p R old new written position Read f =
+NextStopIsTexts text keep A p R old new written position Read f =
     WhereRan (WhereRan (WhereRan (λ ran. IsTextsFrom text p ran.0))) f
-NextStopIsTexts text A p R old new written position ReadNeverEnds f =
+NextStopIsTexts text keep A p R old new written position ReadNeverEnds f =
     WhereRan (WhereRan (WhereRan (λ ran. IsTextsFrom text p ran.0))) f
-NextStopIsTexts text A p R old new written position other f = Unit {0}
+NextStopIsTexts text keep A p R old new written position other f = Unit {0}
 
 -- who unlocks, and what they allow and refuse
 module _ (Who : Type 0) (Allows : Who → Header → List ℕ → Type 0)
     (Refused : Who → Header → KeyFault → Type 0) where
-  -- what `decrypt` promises of its answer
-  abbrev pub DecryptAnswers : Who → Ports → Ports → Result Done Stopped → Type 0
-  DecryptAnswers who old new result = MatchResult result (DecryptEnds (Allows who) old new)
-      (DecryptStops (Allows who) (Refused who) old new)
+  -- what `decrypt_with` promises of its answer
+  abbrev pub DecryptAnswers : Positions → Who → Ports → Ports → Result Done Stopped → Type 0
+  DecryptAnswers keep who old new result = MatchResult result (DecryptEnds (Allows who) old new)
+      (DecryptStops keep (Allows who) (Refused who) old new)
 
-  -- what `resume` promises of its answer
-  abbrev pub ResumeAnswers : Who → Position → ResumePorts → ResumePorts → Result Done Stopped
-      → Type 0
-  ResumeAnswers who p old new result = MatchResult result (ResumeEnds (Allows who) p old new)
-      (ResumeStops (Allows who) p (Refused who) old new)
+  -- what `resume_with` promises of its answer
+  abbrev pub ResumeAnswers : Positions → Who → Position → ResumePorts → ResumePorts
+      → Result Done Stopped → Type 0
+  ResumeAnswers keep who p old new result = MatchResult result (ResumeEnds (Allows who) p old new)
+      (ResumeStops keep (Allows who) p (Refused who) old new)
 
-  -- a call of `decrypt`, into a sink that had taken nothing
+  -- a call of `decrypt_with`, into a sink that had taken nothing
   pub record FirstCall : Type 0 where
+    pub keep : Positions
     pub who : Who
     pub old : Ports
     pub new : Ports
     pub result : Result Done Stopped
     pub empty : old.taken ≡ Some []
-    pub answers : DecryptAnswers who old new result
+    pub answers : DecryptAnswers keep who old new result
 
-  -- a call of `resume`, into a sink that had taken nothing
+  -- a call of `resume_with`, into a sink that had taken nothing
   pub record NextCall : Type 0 where
+    pub keep : Positions
     pub who : Who
     pub from : Position
     pub old : ResumePorts
     pub new : ResumePorts
     pub result : Result Done Stopped
     pub empty : old.main.taken ≡ Some []
-    pub answers : ResumeAnswers who from old new result
+    pub answers : ResumeAnswers keep who from old new result
 
-  abbrev pub AnswerIsTexts : List ℕ → (who : Who) (old new : Ports) (result : Result Done Stopped)
-      → DecryptAnswers who old new result → Type 0
-  AnswerIsTexts text who old new (Ok done) f = IsTexts text f.0
-  AnswerIsTexts text who old new (Err stopped) f = StopIsTexts text (Allows who) (Refused who) old new
-      stopped.written stopped.position stopped.fault f
+  abbrev pub AnswerIsTexts : List ℕ → (keep : Positions) (who : Who) (old new : Ports)
+      (result : Result Done Stopped) → DecryptAnswers keep who old new result → Type 0
+  AnswerIsTexts text keep who old new (Ok done) f = IsTexts text f.0
+  AnswerIsTexts text keep who old new (Err stopped) f = StopIsTexts text keep (Allows who)
+      (Refused who) old new stopped.written stopped.position stopped.fault f
 
-  abbrev pub NextAnswerIsTexts : List ℕ → (who : Who) (p : Position) (old new : ResumePorts)
-      (result : Result Done Stopped) → ResumeAnswers who p old new result → Type 0
-  NextAnswerIsTexts text who p old new (Ok done) f = IsTextsFrom text p f.0
-  NextAnswerIsTexts text who p old new (Err stopped) f = NextStopIsTexts text (Allows who) p
+  abbrev pub NextAnswerIsTexts : List ℕ → (keep : Positions) (who : Who) (p : Position)
+      (old new : ResumePorts) (result : Result Done Stopped) → ResumeAnswers keep who p old new result → Type 0
+  NextAnswerIsTexts text keep who p old new (Ok done) f = IsTextsFrom text p f.0
+  NextAnswerIsTexts text keep who p old new (Err stopped) f = NextStopIsTexts text keep (Allows who) p
       (Refused who) old new stopped.written stopped.position stopped.fault f
 
   -- the last call comes first in the list
@@ -130,9 +133,11 @@ module _ (Who : Type 0) (Allows : Who → Header → List ℕ → Type 0)
 
   -- and the run of each is authentic for one text
   abbrev pub AreTexts : List ℕ → FirstCall → List NextCall → Type 0
-  AreTexts text first [] = AnswerIsTexts text first.who first.old first.new first.result first.answers
+  AreTexts text first [] = AnswerIsTexts text first.keep first.who first.old first.new
+      first.result first.answers
   AreTexts text first (c ∷ earlier) =
-      NextAnswerIsTexts text c.who c.from c.old c.new c.result c.answers × AreTexts text first earlier
+      NextAnswerIsTexts text c.keep c.who c.from c.old c.new c.result c.answers
+      × AreTexts text first earlier
 
   -- then each of the calls answers right
   abbrev pub AllAnswerRight : List ℕ → FirstCall → List NextCall → Type 0

@@ -1,10 +1,12 @@
 -- What was copied of an old text. Only private functions cite this. A chunk has n bytes.
-use Rattle.std.specs.Prelude.{◌≢◌, ◌≡◌, ℕ, ◌+◌, ◌*◌, ◌<◌, List, [], ◌++◌, length, Result, MatchResult}
+use Rattle.std.specs.Prelude.{◌≢◌, ◌≡◌, ℕ, ◌+◌, ◌*◌, ◌<◌, List, [], ◌++◌, length, Some, Result, MatchResult}
 use Rattle.std.specs.Simd.{first_chunks}
 use Rattle.std.specs.Io.KnownBytes.{Appends, IsAtEnd}
 use Rattle.age_stream.specs.Headline.{IsPrefixOf}
 use Rattle.age_file.specs.Faults.{HasRisen}
-use Rattle.age_file.specs.Bindings.{link, chain}
+use Rattle.age_file.specs.Bindings.{link_if, chain, chain_if}
+use Rattle.age_file.specs.declared.position.Positions.{Positions}
+use Rattle.age_file.specs.declared.position.Positions.TheVariants.{Kept}
 use Rattle.age_file.specs.Releases.{Tally}
 use Rattle.age_file.specs.Passages.{Side, Passes, Dries}
 use Rattle.age_file.specs.declared.fault.FileFault.{FileFault}
@@ -25,13 +27,13 @@ CopyFails old new was now out other = ⊥
 abbrev pub ChunkGoes : ℕ → Side → Side → Tally → Tally → List ℕ → Type 0
 ChunkGoes n old new was now out = (length out ≡ n) × Passes old new out × (now.failed ≡ was.failed)
     × (now.progress.index ≡ was.progress.index + 1)
-    × (now.progress.chain ≡ link was.progress.chain out)
+    × (now.progress.chain ≡ link_if was.progress.chain out)
 
 -- so many chunks were copied, and the chain is over them
 abbrev pub ChunksGo : ℕ → ℕ → Side → Side → Tally → Tally → List ℕ → Type 0
 ChunksGo n chunks old new was now out = (length out ≡ chunks * n) × Passes old new out
     × (now.failed ≡ was.failed)
-    × (now.progress.index ≡ chunks) × (now.progress.chain ≡ chain (first_chunks n chunks out))
+    × (now.progress.index ≡ chunks) × (now.progress.chain ≡ chain_if Kept (first_chunks n chunks out))
 
 pub record Copies (Goes : List ℕ → Type 0) (size : ℕ) (old new : Side) (was now : Tally)
     (result : Result (Unit {0}) FileFault) : Type 0 where
@@ -54,17 +56,23 @@ CopiesAll n chunks old new was now result = Copies (ChunksGo n chunks old new wa
 -- why the old text was not copied, or is not the one whose chain this is
 abbrev pub TextFails : ℕ → ℕ → List ℕ → Side → Side → Tally → Tally → List ℕ → FileFault → Type 0
 TextFails n chunks links old new was now out OldTextDiffers = ChunksGo n chunks old new was now out
-    × (now.progress.chain ≢ links)
+    × (now.progress.chain ≢ Some links)
 TextFails n chunks links old new was now out fault = (length out < chunks * n)
     × CopyFails old new was now out fault
 
+-- so many chunks were copied, which have this chain; it goes on where positions are kept
+abbrev pub TextGoes : Positions → ℕ → ℕ → List ℕ → Side → Side → Tally → Tally → List ℕ → Type 0
+TextGoes keep n chunks links old new was now out = (length out ≡ chunks * n) × Passes old new out
+    × (now.failed ≡ was.failed) × (now.progress.index ≡ chunks)
+    × (now.progress.chain ≡ chain_if keep (first_chunks n chunks out))
+    × (chain (first_chunks n chunks out) ≡ links)
+
 -- the old text was copied, and has this chain
-pub record CopiesText (n chunks : ℕ) (links : List ℕ) (old new : Side) (was now : Tally)
-    (result : Result (Unit {0}) FileFault) : Type 0 where
+pub record CopiesText (keep : Positions) (n chunks : ℕ) (links : List ℕ) (old new : Side)
+    (was now : Tally) (result : Result (Unit {0}) FileFault) : Type 0 where
   pub out : List ℕ
   pub wrote : Appends was.taken now.taken out
   pub named : now.label ≡ was.label
   pub count : now.progress.written ≡ was.progress.written + length out
-  pub answered : MatchResult result
-      (λ _. ChunksGo n chunks old new was now out × (now.progress.chain ≡ links))
+  pub answered : MatchResult result (λ _. TextGoes keep n chunks links old new was now out)
       (TextFails n chunks links old new was now out)

@@ -5,9 +5,10 @@ use Rattle.std.specs.Io.KnownBytes.{Consumes, Appends, IsAtEnd}
 use Rattle.age_stanza.specs.declared.header.Header.{Header}
 use Rattle.age_stanza.specs.Grammar.{HeadText}
 use Rattle.age_stream.specs.declared.step.Status.TheVariants.{Failed, Done as StreamDone}
-use Rattle.age_stream.specs.Payload.{payload, chunk_count}
+use Rattle.age_stream.specs.Payload.{chunk_count}
 use Rattle.age_stream.specs.Segment.{Segment, outcome, released}
 use Rattle.age_stream.specs.Headline.{IsPrefixOf, IsAuthentic}
+use Rattle.age_stream.specs.Authentic.{IsClosed}
 use Rattle.age_keys.specs.declared.fault.KeyFault.{KeyFault}
 use Rattle.age_keys.specs.declared.fault.KeyFault.TheVariants.{Memory as KeyMemory}
 use Rattle.age_keys.specs.Keys.{IsScryptBeside, position_key}
@@ -16,6 +17,9 @@ use Rattle.age_file.specs.Faults.{HasRisen, NeverEnds, IsShort}
 use Rattle.age_file.specs.AgeFile.{box, unbox, FileOf}
 use Rattle.age_file.specs.Bindings.{file_id, chain, position_tag}
 use Rattle.age_file.specs.declared.position.Position.{Position}
+use Rattle.age_file.specs.declared.position.Positions.{Positions}
+use Rattle.age_file.specs.declared.position.Positions.TheVariants.{Kept, Dropped}
+use Rattle.age_file.specs.declared.start.Unlocked.{Unlocked}
 use Rattle.age_file.specs.Ports.{Ports, NoneFailed}
 use Rattle.age_file.specs.Starts.{StartFails}
 use Rattle.age_file.specs.declared.decryption.Done.{Done}
@@ -84,6 +88,25 @@ pub record IsPositionOf (r : Run) (p : Position) : Type 0 where
   pub tag_is : p.tag ≡ position_tag (position_key r.key r.nonce) p.index p.file_id p.chain
   pub carries : CarriesOf r p
 
+-- where it is told: the position of this index and chain, in the file that was unlocked
+pub record IsPositionAt (unlocked : Unlocked) (index : ℕ) (links : List ℕ) (p : Position)
+    : Type 0 where
+  pub index_is : p.index ≡ index
+  pub file_id_is : p.file_id ≡ unlocked.id
+  pub chain_is : p.chain ≡ links
+  pub tag_is : p.tag ≡ position_tag (position_key unlocked.key unlocked.nonce) p.index p.file_id
+      p.chain
+
+abbrev pub PositionAt : Unlocked → ℕ → Option (List ℕ) → Option Position → Type 0
+PositionAt unlocked index (Some links) position =
+    IsSomeAnd position (IsPositionAt unlocked index links)
+PositionAt unlocked index None position = position ≡ None
+
+-- a position is told where positions are kept, and none where they are dropped
+abbrev pub Told : Positions → (Position → Type 0) → Option Position → Type 0
+Told Kept Is position = IsSomeAnd position Is
+Told Dropped Is position = position ≡ None
+
 -- nothing was written, and there is no position
 abbrev pub WritesNone : Ports → Ports → ℕ → Option Position → Type 0
 WritesNone old new written position = Appends old.taken new.taken [] × (written ≡ 0)
@@ -96,12 +119,6 @@ module _ (Allows : Header → List ℕ → Type 0) where
     pub whole : r.out ≡ text_of r
     pub of : WritesOf r
 
-  -- a run of which all text was written, with its position; or none yet: fewer bytes were pulled than a header and a nonce
-  abbrev pub WroteSoFar : Ports → Ports → ℕ → Option Position → Type 0
-  WroteSoFar old new written position =
-      (WritesNone old new written position × IsShort old.coming new.coming)
-      ⊎ ((r : Run) × Wrote old new written r × IsSomeAnd position (IsPositionOf r))
-
   -- the source ended, the end is reported, and all was written
   pub record DecryptDone (old new : Ports) (written : ℕ) (r : Run) : Type 0 where
     pub wrote : Wrote old new written r
@@ -110,15 +127,22 @@ module _ (Allows : Header → List ℕ → Type 0) where
     pub all : WritesAll r
     pub none_failed : NoneFailed old new
 
+module _ (keep : Positions) (Allows : Header → List ℕ → Type 0) where
+  -- a run of which all text was written, with its position; or none yet: fewer bytes were pulled than a header and a nonce
+  abbrev pub WroteSoFar : Ports → Ports → ℕ → Option Position → Type 0
+  WroteSoFar old new written position =
+      (WritesNone old new written position × IsShort old.coming new.coming)
+      ⊎ ((r : Run) × Wrote Allows old new written r × Told keep (IsPositionOf r) position)
+
   -- when each fault comes, and what was written then
   abbrev pub DecryptFails : (Header → KeyFault → Type 0) → Ports → Ports → ℕ → Option Position
       → FileFault → Type 0
   DecryptFails Refused old new written position (Stream fault) =
-      (r : Run) × Wrote old new written r × IsSomeAnd position (IsPositionOf r)
+      (r : Run) × Wrote Allows old new written r × Told keep (IsPositionOf r) position
       × ((outcome (unbox r.key r.nonce) 65536 (segment_of r)).status ≡ Failed fault)
       × NoneFailed old new
   DecryptFails Refused old new written position Write =
-      (r : Run) × IsRun Allows old new written r × WritesOf r × IsSomeAnd position (IsPositionOf r)
+      (r : Run) × IsRun Allows old new written r × WritesOf r × Told keep (IsPositionOf r) position
       × HasRisen old.write_failed new.write_failed
   DecryptFails Refused old new written position Read = WroteSoFar old new written position
       × HasRisen old.read_failed new.read_failed
@@ -132,10 +156,10 @@ module _ (Allows : Header → List ℕ → Type 0) where
 abbrev pub DecryptEnds : (Header → List ℕ → Type 0) → Ports → Ports → Done → Type 0
 DecryptEnds Allows old new done = (r : Run) × DecryptDone Allows old new done.written r
 
-abbrev pub DecryptStops : (Header → List ℕ → Type 0) → (Header → KeyFault → Type 0) → Ports → Ports
-    → Stopped → Type 0
-DecryptStops Allows Refused old new stopped = DecryptFails Allows Refused old new stopped.written
-    stopped.position stopped.fault
+abbrev pub DecryptStops : Positions → (Header → List ℕ → Type 0) → (Header → KeyFault → Type 0)
+    → Ports → Ports → Stopped → Type 0
+DecryptStops keep Allows Refused old new stopped = DecryptFails keep Allows Refused old new
+    stopped.written stopped.position stopped.fault
 
 -- exactly this text was written, of so many bytes
 abbrev pub WritesText : Option (List ℕ) → Option (List ℕ) → ℕ → List ℕ → Type 0
@@ -155,12 +179,11 @@ pub record IsWhole (Allows : Header → List ℕ → Type 0) (Refused : Header �
   pub only : (k : List ℕ) → Allows header k → k ≡ key
   pub never : (fault : KeyFault) → Refused header fault → fault ≡ KeyMemory
 
--- and no block of the payload opens except as its writer sealed it
+-- and its last block, where that is full, doesn't open as one before the last
 pub record IsUndamaged (Allows : Header → List ℕ → Type 0) (Refused : Header → KeyFault → Type 0)
     (coming : Option (List ℕ)) (text : List ℕ) : Type 0 where
   pub whole : IsWhole Allows Refused coming text
-  pub authentic : IsAuthentic (box whole.key whole.nonce) (unbox whole.key whole.nonce) 65536 text
-      (segment 0 (payload (box whole.key whole.nonce) 65536 text) true)
+  pub closed : IsClosed (box whole.key whole.nonce) (unbox whole.key whole.nonce) 65536 text
 
 -- what may stop its decryption all the same
 abbrev pub StopsOutside : FileFault → Type 0

@@ -4,6 +4,7 @@ use Rattle.std.specs.Io.KnownBytes.{Consumes, Appends, IsAtEnd}
 use Rattle.age_stanza.specs.Grammar.{HeadText}
 use Rattle.age_stream.specs.Headline.{IsPrefixOf}
 use Rattle.age_stream.specs.Nonce.{chunk_limit}
+use Rattle.age_stream.specs.Payload.{chunk_count}
 use Rattle.age_stream.specs.Sealing.{too_many}
 use Rattle.age_keys.specs.Scrypt.{scrypt_head}
 use Rattle.age_file.specs.AgeFile.{FileOf}
@@ -25,10 +26,11 @@ pub record BeginsFile (s : SecretView) (bytes : List ℕ) : Type 0 where
   pub parts : bytes ≡ front ++ s.nonce
   pub size : length s.nonce ≡ 16
 
--- the age file of all that the source gave was written, and both are counted
+-- the age file of all that the source gave, of no more than 2^48 chunks, was written, and both are counted
 pub record Encrypts (s : SecretView) (old new : Ports) (written : Written) : Type 0 where
   pub text : List ℕ
   pub file : List ℕ
+  pub few : chunk_count 65536 text ≤ 281474976710656
   pub is : AgeFile s text file
   pub read : Consumes old.coming new.coming text
   pub at_end : IsAtEnd new.coming

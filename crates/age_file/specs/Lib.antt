@@ -28,3 +28,4 @@ pub mod Copies
 pub mod Rows
 pub mod Calls
 pub mod RoundTrips
+pub mod Bound

@@ -9,8 +9,9 @@ use Rattle.age_file.specs.Faults.{HasRisen}
 use Rattle.age_file.specs.Unread.{Unread}
 use Rattle.age_file.specs.Intakes.{Pulled}
 use Rattle.age_file.specs.Releases.{Tally}
-use Rattle.age_file.specs.Bindings.{chain}
+use Rattle.age_file.specs.Bindings.{chain_if}
 use Rattle.age_file.specs.Marks.{IsMarked}
+use Rattle.age_file.specs.declared.position.Positions.{Positions}
 use Rattle.age_file.specs.Decrypts.{segment}
 use Rattle.age_file.specs.declared.fault.FileFault.{FileFault}
 use Rattle.age_file.specs.declared.fault.FileFault.TheVariants.{Stream, Read, Write, ReadNeverEnds}
@@ -69,8 +70,8 @@ module _ (opening : List ℕ → List ℕ → Option (List ℕ)) (n : ℕ) where
     pub named : new.tally.label ≡ old.tally.label
     pub count : new.tally.progress.written ≡ old.tally.progress.written + length out
     pub prefix : IsPrefixOf out (released opening n (segment start bytes ended))
-    pub marks : (base : List ℕ) → length base ≡ start * n → old.tally.progress.index ≡ start
-        → old.tally.progress.chain ≡ chain (first_chunks n start base)
-        → IsMarked opening n (base ++ out) (segment start bytes ended) new.tally.progress
+    pub marks : (keep : Positions) (base : List ℕ) → length base ≡ start * n → old.tally.progress.index ≡ start
+        → old.tally.progress.chain ≡ chain_if keep (first_chunks n start base)
+        → IsMarked keep opening n (base ++ out) (segment start bytes ended) new.tally.progress
     pub answered : MatchResult result (λ _. PourDone old new (segment start bytes ended) out)
         (PourFails old new (segment start bytes ended) out)

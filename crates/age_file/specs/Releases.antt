@@ -7,6 +7,7 @@ use Rattle.age_stream.specs.Deliveries.{with_piece, with_end}
 use Rattle.age_stream.specs.Opening.{OpenerView, Stands}
 use Rattle.age_file.specs.Faults.{HasRisen}
 use Rattle.age_file.specs.Marks.{Marks}
+use Rattle.age_file.specs.declared.position.Positions.{Positions}
 use Rattle.age_file.specs.declared.progress.Progress.{Progress}
 use Rattle.age_file.specs.declared.fault.FileFault.{FileFault}
 use Rattle.age_file.specs.declared.fault.FileFault.TheVariants.{Stream, Write}
@@ -39,10 +40,10 @@ module _ {B : Type 0} (opening : B → List ℕ → List ℕ → Option (List �
     pub stands : (s : Segment) → Stands opening n old s → Stands opening n new (next s)
     pub text : (s : Segment) → Stands opening n old s → released (opening old.key) n (next s)
         ≡ released (opening old.key) n s ++ (out ++ cut)
-    pub marks : 0 < n → (s : Segment) (base : List ℕ) → length base ≡ s.start * n
+    pub marks : (keep : Positions) → 0 < n → (s : Segment) (base : List ℕ) → length base ≡ s.start * n
         → Stands opening n old s
-        → Marks (opening old.key) n base s [] was.progress
-        → Marks (opening old.key) n base (next s) cut now.progress
+        → Marks keep (opening old.key) n base s [] was.progress
+        → Marks keep (opening old.key) n base (next s) cut now.progress
 
   -- a fault of the opener, or of the sink, with what was left of the piece and cut off
   abbrev pub FeedFails : OpenerView B → Tally → Tally → List ℕ → List ℕ → FileFault → Type 0

@@ -1,5 +1,5 @@
 -- Why a resumed decryption stopped, and what it did. A chunk has 65,536 bytes, its block 65,552.
-use Rattle.std.specs.Prelude.{◌≡◌, ◌≢◌, ◌⊎◌, ℕ, ◌*◌, ◌+◌, ◌<◌, ◌≤◌, List, length, Option, None, IsSomeAnd}
+use Rattle.std.specs.Prelude.{◌≡◌, ◌≢◌, ◌⊎◌, ℕ, ◌*◌, ◌+◌, ◌<◌, ◌≤◌, List, length, Option, None}
 use Rattle.std.specs.Simd.{first_chunks}
 use Rattle.std.specs.Io.KnownBytes.{IsAtEnd}
 use Rattle.age_stanza.specs.declared.header.Header.{Header}
@@ -12,8 +12,9 @@ use Rattle.age_file.specs.Faults.{HasRisen, NeverEnds, IsShort}
 use Rattle.age_file.specs.AgeFile.{unbox}
 use Rattle.age_file.specs.Bindings.{chain}
 use Rattle.age_file.specs.Starts.{StartFails}
-use Rattle.age_file.specs.Decrypts.{WritesNone}
+use Rattle.age_file.specs.Decrypts.{WritesNone, Told}
 use Rattle.age_file.specs.declared.position.Position.{Position}
+use Rattle.age_file.specs.declared.position.Positions.{Positions}
 use Rattle.age_file.specs.declared.decryption.Done.{Done}
 use Rattle.age_file.specs.declared.decryption.Stopped.{Stopped}
 use Rattle.age_file.specs.declared.fault.FileFault.{FileFault}
@@ -34,6 +35,11 @@ module _ (Allows : Header → List ℕ → Type 0) (p : Position) where
     pub writes : WritesOld p old new written copied
     pub none : position ≡ None
 
+  -- what a resumed decryption promises where it ended
+  abbrev pub ResumeEnds : ResumePorts → ResumePorts → Done → Type 0
+  ResumeEnds old new done = (r : Resumption) × ResumeDone Allows p old new done.written r
+
+module _ (keep : Positions) (Allows : Header → List ℕ → Type 0) (p : Position) where
   -- a run that stopped in the blocks that are passed over, with the old text written and the position that it began from
   pub record StopsInPassed (old new : ResumePorts) (written : ℕ) (position : Option Position)
       (passed : List ℕ) : Type 0 where
@@ -43,7 +49,7 @@ module _ (Allows : Header → List ℕ → Type 0) (p : Position) where
     pub copied : List ℕ
     pub old_text : IsOldText p copied
     pub writes : WritesOld p old new written copied
-    pub here : IsSomeAnd position (IsSame p)
+    pub here : Told keep (IsSame p) position
 
   -- the source ended within the blocks that are passed over, after so many whole ones
   pub record EndsInPassed (old new : ResumePorts) (written : ℕ) (position : Option Position)
@@ -61,9 +67,9 @@ module _ (Allows : Header → List ℕ → Type 0) (p : Position) where
   FailsAt Main Old old new written position =
       (WritesNone old.main new.main written position × IsShort old.main.coming new.main.coming
       × Main)
-      ⊎ ((s : StopsInOld old new written position) × (s.copied ≡ s.writes.pulled) × Old)
+      ⊎ ((s : StopsInOld Allows p old new written position) × (s.copied ≡ s.writes.pulled) × Old)
       ⊎ ((passed : List ℕ) × StopsInPassed old new written position passed × Main)
-      ⊎ ((r : Resumption) × Resumed Allows p old new written r × IsSomeAnd position (IsNextPosition p r)
+      ⊎ ((r : Resumption) × Resumed Allows p old new written r × Told keep (IsNextPosition p r) position
       × Main)
 
   -- when each fault comes, and what was written then
@@ -76,7 +82,7 @@ module _ (Allows : Header → List ℕ → Type 0) (p : Position) where
       WritesNone old.main new.main written position × (f : OpenedFile) × (rest : List ℕ)
       × Reads Allows old.main.coming new.main.coming f rest × HasId p f × (HasTag p f → ⊥)
   ResumeFails Refused old new written position ShortText =
-      (s : StopsInOld old new written position) × (s.copied ≡ s.writes.pulled)
+      (s : StopsInOld Allows p old new written position) × (s.copied ≡ s.writes.pulled)
       × IsAtEnd new.old_coming
   ResumeFails Refused old new written position OldTextDiffers =
       (position ≡ None) × (f : OpenedFile) × (rest : List ℕ)
@@ -85,13 +91,13 @@ module _ (Allows : Header → List ℕ → Type 0) (p : Position) where
       × (chain (first_chunks 65536 p.index copied) ≢ p.chain)
   ResumeFails Refused old new written position (Stream fault) =
       (EndsInPassed old new written position fault
-      ⊎ ((r : Resumption) × Resumed Allows p old new written r × IsSomeAnd position (IsNextPosition p r)
+      ⊎ ((r : Resumption) × Resumed Allows p old new written r × Told keep (IsNextPosition p r) position
       × ((outcome (unbox r.file.key r.file.nonce) 65536 (segment_at p r)).status ≡ Failed fault)))
       × NoPortFailed old new
   ResumeFails Refused old new written position Write =
-      (StopsInOld old new written position
+      (StopsInOld Allows p old new written position
       ⊎ ((r : Resumption) × IsResumption Allows p old new written r × ResumesOf p r
-      × IsSomeAnd position (IsNextPosition p r)))
+      × Told keep (IsNextPosition p r) position))
       × HasRisen old.main.write_failed new.main.write_failed
   ResumeFails Refused old new written position Read =
       FailsAt (HasRisen old.main.read_failed new.main.read_failed)
@@ -103,10 +109,7 @@ module _ (Allows : Header → List ℕ → Type 0) (p : Position) where
       WritesNone old.main new.main written position × StartFails Allows Refused old.main.coming
       new.main.coming old.main.read_failed new.main.read_failed fault
 
-  -- what a resumed decryption promises of its answers: how it ended, and how it stopped
-  abbrev pub ResumeEnds : ResumePorts → ResumePorts → Done → Type 0
-  ResumeEnds old new done = (r : Resumption) × ResumeDone Allows p old new done.written r
-
+  -- what a resumed decryption promises where it stopped
   abbrev pub ResumeStops : (Header → KeyFault → Type 0) → ResumePorts → ResumePorts → Stopped → Type 0
   ResumeStops Refused old new stopped = ResumeFails Refused old new stopped.written stopped.position
       stopped.fault

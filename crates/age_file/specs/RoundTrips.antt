@@ -1,8 +1,8 @@
 -- What was encrypted under a passphrase, decrypted with it.
-use Rattle.std.specs.Prelude.{◌≡◌, ℕ, ◌≤◌, List, [], length, Some, None, Result, MatchResult, true, false}
+use Rattle.std.specs.Prelude.{◌≡◌, ℕ, ◌≤◌, List, [], length, Some, Result, MatchResult}
 use Rattle.base64.specs.GeneralPurpose.{IsBytes}
-use Rattle.age_stream.specs.Payload.{chunk_count, last_index, last_chunk}
-use Rattle.age_stream.specs.Nonce.{nonce_bytes}
+use Rattle.age_stream.specs.Payload.{chunk_count}
+use Rattle.age_stream.specs.Authentic.{IsClosed}
 use Rattle.age_keys.specs.Passphrase.{Words, IsPassphraseKey, PassphraseRefuses}
 use Rattle.age_file.specs.AgeFile.{box, unbox}
 use Rattle.age_file.specs.Ports.{Ports}
@@ -13,6 +13,7 @@ use Rattle.age_file.specs.Calls.{DecryptAnswers}
 use Rattle.age_file.specs.declared.decryption.Done.{Done}
 use Rattle.age_file.specs.declared.decryption.Stopped.{Stopped}
 use Rattle.age_file.specs.declared.encryption.Written.{Written}
+use Rattle.age_file.specs.declared.position.Positions.{Positions}
 
 -- a secret whose parts have their sizes
 pub record IsSecret (s : SecretView) : Type 0 where
@@ -32,12 +33,6 @@ AgeFileIsWhole = (s : SecretView) (max_log : ℕ) (text bytes : List ℕ) → Is
     → IsWhole (IsPassphraseKey (words_of s max_log)) (PassphraseRefuses (words_of s max_log))
     (Some bytes) text
 
--- the block of a last chunk that is full doesn't open as one before the last
-abbrev pub OpensAsSealed : SecretView → List ℕ → Type 0
-OpensAsSealed s text = length (last_chunk 65536 text) ≡ 65536
-    → unbox s.key s.nonce (nonce_bytes (last_index 65536 text) false)
-    (box s.key s.nonce (nonce_bytes (last_index 65536 text) true) (last_chunk 65536 text)) ≡ None
-
 -- an encryption of a text came to its end, into a sink that had taken nothing
 pub record WasEncrypted (s : SecretView) (text : List ℕ) (old new : Ports) (written : Written)
     : Type 0 where
@@ -48,9 +43,10 @@ pub record WasEncrypted (s : SecretView) (text : List ℕ) (old new : Ports) (wr
 -- then a decryption of what the sink took, with the same passphrase, gives the text back, or stops as reading, writing or
 -- want of memory may stop it
 abbrev pub RoundTrip : Type 0
-RoundTrip = (s : SecretView) (max_log : ℕ) (text : List ℕ) (was file now last : Ports)
-    (written : Written) (result : Result Done Stopped) → IsSecret s → s.log ≤ max_log
-    → chunk_count 65536 text ≤ 281474976710656 → OpensAsSealed s text
+RoundTrip = (keep : Positions) (s : SecretView) (max_log : ℕ) (text : List ℕ)
+    (was file now last : Ports) (written : Written) (result : Result Done Stopped) → IsSecret s → s.log ≤ max_log
+    → IsClosed (box s.key s.nonce) (unbox s.key s.nonce) 65536 text
     → WasEncrypted s text was file written → now.coming ≡ file.taken → now.taken ≡ Some []
-    → DecryptAnswers Words IsPassphraseKey PassphraseRefuses (words_of s max_log) now last result
+    → DecryptAnswers Words IsPassphraseKey PassphraseRefuses keep (words_of s max_log) now last
+    result
     → MatchResult result (λ done. last.taken ≡ Some text) (λ stopped. StopsOutside stopped.fault)

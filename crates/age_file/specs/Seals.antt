@@ -3,7 +3,7 @@ use Rattle.std.specs.Prelude.{◌≡◌, ℕ, ◌+◌, ◌-◌, ◌*◌, ◌^◌
 use Rattle.std.specs.Io.KnownBytes.{Consumes, Appends, IsAtEnd}
 use Rattle.age_stream.specs.Nonce.{chunk_limit}
 use Rattle.age_stream.specs.Sealing.{SealerView, Holds, too_many}
-use Rattle.age_stream.specs.Payload.{sealed_before_last, block_bytes, payload}
+use Rattle.age_stream.specs.Payload.{sealed_before_last, block_bytes, payload, chunk_count}
 use Rattle.age_stream.specs.Headline.{IsPrefixOf}
 use Rattle.age_file.specs.Faults.{HasRisen}
 use Rattle.age_file.specs.Ports.{Ports, NoneFailed}
@@ -95,6 +95,7 @@ module _ {B : Type 0} (sealing : B → List ℕ → List ℕ → List ℕ) (n : 
       : Type 0 where
     pub out : List ℕ
     pub cut : List ℕ
+    pub limit : old.index < chunk_limit
     pub wrote : Wrote was now out
     pub blocks : (text : List ℕ) → Holds n old text → payload (sealing old.key) n text
         ≡ front_of (sealing old.key) n text ++ (out ++ cut)
@@ -138,6 +139,7 @@ module _ (sealing : List ℕ → List ℕ → List ℕ) (n : ℕ) where
   -- all of it was
   pub record SealsAll (old new : Ports) (written_old written_new plain : ℕ) : Type 0 where
     pub text : List ℕ
+    pub few : chunk_count n text ≤ chunk_limit
     pub moved : ReadsWrites old new written_old written_new text (payload sealing n text)
     pub at_end : IsAtEnd new.coming
     pub plain_is : plain ≡ length text

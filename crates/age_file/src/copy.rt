@@ -1,6 +1,8 @@
 //! Copies an old text, chunk by chunk, with the chain over it.
 
-ghost use Rattle.std.specs.Prelude.{◌≡◌, ◌+◌, ◌^◌, ◌<◌, ◌≤◌, replicate};
+ghost use Rattle.std.specs.Prelude.{◌≡◌, ◌+◌, ◌^◌, ◌<◌, ◌≤◌, [], IsSome};
+ghost use Rattle.age_file.specs.declared.position.Positions.TheVariants.{Kept};
+ghost use Rattle.age_file.specs.Bindings.{chain_if};
 ghost use Rattle.age_file.specs.Releases.{tally};
 ghost use Rattle.age_file.specs.Passages.{side};
 ghost use Rattle.age_file.specs.Copies.{CopiesChunk, CopiesAll};
@@ -26,13 +28,17 @@ fn copy_chunk<S: Source, O: Sink>(
 ) -> Result<(), FileFault>
     requires room { progress.old.written ≤ 2 ^ 64 }
     requires limit { progress.old.index + 1 < 281474976710656 }
+    requires kept { IsSome progress.old.chain }
     ensures { CopiesChunk 65536 (side (S.remaining source.old) (S.failed source.old) intake.old)
         (side (S.remaining source.new) (S.failed source.new) intake.new)
         (tally (O.taken sink.old) (O.failed sink.old) (O.label sink.old) progress.old)
         (tally (O.taken sink.new) (O.failed sink.new) (O.label sink.new) progress.new) result }
 {
+    let Some(chain) = progress.chain else {
+        unreachable!();
+    };
     let mut digest = Sha256::new();
-    digest.update(&progress.chain);
+    digest.update(&chain);
     let mut left = CHUNK;
     'parts: while left > 0 {
         if !some_bytes(source, intake)? {
@@ -45,7 +51,7 @@ fn copy_chunk<S: Source, O: Sink>(
         intake.use_front(n);
         left -= n;
     }
-    progress.advance(progress.index + 1, digest.finalize());
+    progress.advance(progress.index + 1, Some(digest.finalize()));
     Ok(())
 }
 
@@ -59,7 +65,7 @@ pub(crate) fn copy_chunks<S: Source, O: Sink>(
 ) -> Result<(), FileFault>
     requires limit { chunks < 281474976710656 }
     requires fresh { (progress.old.written ≡ 0) × (progress.old.index ≡ 0)
-        × (progress.old.chain ≡ replicate 32 0) }
+        × (progress.old.chain ≡ chain_if Kept []) }
     ensures { CopiesAll 65536 chunks (side (S.remaining source.old) (S.failed source.old)
         intake.old)
         (side (S.remaining source.new) (S.failed source.new) intake.new)

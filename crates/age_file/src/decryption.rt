@@ -1,14 +1,13 @@
 //! Decrypts a file.
 
 ghost use Rattle.std.specs.Prelude.{◌≡◌, ℕ, List, None, IfOk, OnOk, IfErr, MatchResult};
-ghost use Rattle.age_keys.specs.Keys.{position_key};
 ghost use Rattle.age_file.specs.Ports.{ports};
-ghost use Rattle.age_file.specs.Bindings.{position_tag};
-ghost use Rattle.age_file.specs.Decrypts.{DecryptEnds, DecryptStops, IsUndamaged, WritesText, StopsOutside};
+ghost use Rattle.age_file.specs.declared.position.Positions.TheVariants.{Kept};
+ghost use Rattle.age_file.specs.Decrypts.{PositionAt, DecryptEnds, DecryptStops, IsUndamaged, WritesText, StopsOutside};
 
 use crate::fault::FileFault;
 use crate::intake::Intake;
-use crate::position::Position;
+use crate::position::{Position, Positions};
 use crate::pour::pour;
 use crate::progress::Progress;
 use crate::sink::Sink;
@@ -71,24 +70,16 @@ impl Stopped {
     }
 }
 
-/// Where a reader of this file may go on.
-pub(crate) fn position_of(unlocked: &Unlocked, progress: &Progress) -> Position
-    ensures index { result.index ≡ progress.now.index }
-    ensures file_id { result.file_id ≡ unlocked.now.id }
-    ensures chain { result.chain ≡ progress.now.chain }
-    ensures tag { result.tag ≡ position_tag (position_key unlocked.now.key unlocked.now.nonce)
-        progress.now.index unlocked.now.id progress.now.chain }
+/// Where a reader of this file may go on, where a chain was kept.
+pub(crate) fn position_of(unlocked: &Unlocked, progress: &Progress) -> Option<Position>
+    ensures { PositionAt unlocked.now progress.now.index progress.now.chain result }
 {
+    let chain = progress.chain?;
     let key = position_key(&unlocked.key, &unlocked.nonce);
-    Position::tagged(&key, progress.index, unlocked.id, progress.chain)
+    Some(Position::tagged(&key, progress.index, unlocked.id, chain))
 }
 
-/// Decrypts a file: opens its header, and writes each chunk of the text once the tag of its block was checked (C2SP
-/// age.md). It reads to the end of the source, and flushes before it answers that it is done.
-///
-/// It stops with the header's fault (1 to 8), the unlocker's or a wrong header MAC (9 to 15), `NonceCut` (16), a fault of
-/// the payload (17 to 22), `Read` (26), `Write` (27), `Memory` (28) and `ReadNeverEnds` (29). All memory is taken before
-/// the payload nonce is read, so that nothing was written where it was refused.
+/// Decrypts a file, and hands out the position of a stop: [`decrypt_with`], with positions kept.
 pub fn decrypt<U: Unlock, S: Source, O: Sink>(
     alloc: Global,
     unlock: &U,
@@ -100,7 +91,43 @@ pub fn decrypt<U: Unlock, S: Source, O: Sink>(
         (O.failed writer.old))
         (ports (S.remaining reader.new) (S.failed reader.new) (O.taken writer.new)
         (O.failed writer.new))) }
-    ensures stopped { IfErr result (DecryptStops (U.allows unlock.now) (U.refuses unlock.now)
+    ensures stopped { IfErr result (DecryptStops Kept (U.allows unlock.now)
+        (U.refuses unlock.now)
+        (ports (S.remaining reader.old) (S.failed reader.old) (O.taken writer.old)
+        (O.failed writer.old))
+        (ports (S.remaining reader.new) (S.failed reader.new) (O.taken writer.new)
+        (O.failed writer.new))) }
+    // The text of an age file that is undamaged is written, unless reading, writing or memory fails.
+    ensures undamaged { (text : List ℕ) → IsUndamaged (U.allows unlock.now) (U.refuses unlock.now)
+        (S.remaining reader.old) text → MatchResult result
+        (λ done. WritesText (O.taken writer.old) (O.taken writer.new) done.written text)
+        (λ stopped. StopsOutside stopped.fault) }
+    ensures settled { OnOk result (O.settled writer.new) }
+    ensures named { O.label writer.new ≡ O.label writer.old }
+{
+    decrypt_with(alloc, Positions::Kept, unlock, reader, writer)
+}
+
+/// Decrypts a file: opens its header, and writes each chunk of the text once the tag of its block was checked (C2SP
+/// age.md). It reads to the end of the source, and flushes before it answers that it is done.
+///
+/// It stops with the header's fault (1 to 8), the unlocker's or a wrong header MAC (9 to 15), `NonceCut` (16), a fault of
+/// the payload (17 to 22), `Read` (26), `Write` (27), `Memory` (28) and `ReadNeverEnds` (29). All memory is taken before
+/// the payload nonce is read, so that nothing was written where it was refused.
+pub fn decrypt_with<U: Unlock, S: Source, O: Sink>(
+    alloc: Global,
+    positions: Positions,
+    unlock: &U,
+    reader: &mut S,
+    writer: &mut O,
+) -> Result<Done, Stopped>
+    ensures done { IfOk result (DecryptEnds (U.allows unlock.now)
+        (ports (S.remaining reader.old) (S.failed reader.old) (O.taken writer.old)
+        (O.failed writer.old))
+        (ports (S.remaining reader.new) (S.failed reader.new) (O.taken writer.new)
+        (O.failed writer.new))) }
+    ensures stopped { IfErr result (DecryptStops positions (U.allows unlock.now)
+        (U.refuses unlock.now)
         (ports (S.remaining reader.old) (S.failed reader.old) (O.taken writer.old)
         (O.failed writer.old))
         (ports (S.remaining reader.new) (S.failed reader.new) (O.taken writer.new)
@@ -122,14 +149,14 @@ pub fn decrypt<U: Unlock, S: Source, O: Sink>(
         Err(fault) => return Err(Stopped::early(fault)),
     };
     let key = payload_key(&unlocked.key, &unlocked.nonce);
-    let mut progress = Progress::new();
+    let mut progress = Progress::new(positions);
     match pour::<PayloadKey, 65552, S, O>(&key, 0, reader, &mut intake, writer, &mut progress) {
         Ok(()) => Ok(Done {
             written: progress.written,
         }),
         Err(fault) => {
             let next = position_of(&unlocked, &progress);
-            Err(Stopped::behind(fault, &progress, Some(next)))
+            Err(Stopped::behind(fault, &progress, next))
         }
     }
 }

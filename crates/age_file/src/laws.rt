@@ -1,6 +1,7 @@
 //! Laws over the definitions.
 ghost use Rattle.age_file.specs.Rows.{RunsInARow};
 ghost use Rattle.age_file.specs.Calls.{CallsInARow};
+ghost use Rattle.age_file.specs.Bound.{RunsAreBound, DoneIsBound};
 ghost use Rattle.age_file.specs.RoundTrips.{AgeFileIsWhole, RoundTrip};
 
 use age_keys::{Unlock, passphrase_opens};
@@ -21,6 +22,14 @@ pub fn runs_in_a_row()
 /// its sink had taken nothing before.
 pub fn calls_in_a_row<U: Unlock>()
     ensures { CallsInARow U U.allows U.refuses }
+{}
+
+/// Bound positions: where a position carries the chain over a text's first chunks, the bytes that were copied of the old text
+/// have that chain only if they are these chunks, and no block opens except as the writer of that text sealed it, then the
+/// copied bytes are the text's, what a resumed run wrote begins the text, and it is all of the text where the call is done.
+pub fn bound_positions<U: Unlock>()
+    ensures runs { RunsAreBound U U.allows }
+    ensures done { DoneIsBound U U.allows }
 {}
 
 /// The age file of a secret and a text is one that the secret's passphrase opens, and nothing but want of memory may be

@@ -28,6 +28,16 @@ pub struct Position {
     ghost within: { index < 281474976710656 },
 }
 
+/// Whether a decryption keeps the position at which a reader can go on after a stop. Keeping it takes a SHA-256 over the
+/// text.
+#[derive(Clone, Copy, Debug, PartialEq, Eq)]
+pub enum Positions {
+    /// A stop hands out its position.
+    Kept,
+    /// A stop hands out none.
+    Dropped,
+}
+
 /// The base64 text of 32 bytes, without padding.
 #[tactic(auto, unfolding(age_stanza::specs::Text::text))]
 pub(crate) fn spelled(bytes: &[u8; 32]) -> [u8; 43]

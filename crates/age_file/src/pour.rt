@@ -1,29 +1,17 @@
 //! Opens what a source gives, and writes each chunk once its tag was checked.
 
 ghost use Rattle.std.specs.Prelude.{◌≡◌, ◌+◌, ◌-◌, ◌^◌, ◌<◌, ◌≤◌, length, IfOk, OnOk};
-ghost use Rattle.age_stream.specs.Lent.{lent_text};
 ghost use Rattle.age_file.specs.Releases.{tally, FeedsOnce, FeedsPiece, Closes};
 ghost use Rattle.age_file.specs.Flows.{flow, HasRoom, Turns, OpensAll};
 ghost use Rattle.age_file.specs.Pours.{stage, HasPlace, Pours};
 
 use crate::fault::FileFault;
 use crate::intake::Intake;
-use crate::position::next_link;
 use crate::progress::Progress;
 use crate::put::{flush_all, write_all};
 use crate::sink::Sink;
 use crate::source::Source;
 use age_stream::{ChunkBox, Opener};
-
-/// The bytes of a chunk that was lent, or none.
-fn lent_bytes(chunk: Option<&[u8]>) -> &[u8]
-    ensures { result.now ≡ lent_text chunk.entry }
-{
-    match chunk {
-        Some(chunk) => chunk,
-        None => &[],
-    }
-}
 
 /// Feeds the front of a piece, and writes the chunk that comes out.
 fn feed_once<B: ChunkBox, const SEALED: usize, O: Sink>(
@@ -41,10 +29,12 @@ fn feed_once<B: ChunkBox, const SEALED: usize, O: Sink>(
 {
     let step = opener.feed(piece)?;
     let taken = step.taken;
-    let chunk = lent_bytes(step.chunk);
+    let Some(chunk) = step.chunk else {
+        return Ok(taken);
+    };
     write_all(sink, chunk, &mut progress.written)?;
-    let link = next_link(&progress.chain, chunk);
-    progress.advance(opener.index(), link);
+    let chain = progress.chain_over(chunk);
+    progress.advance(opener.index(), chain);
     Ok(taken)
 }
 

@@ -1,14 +1,18 @@
 //! How far a run has come.
 
-ghost use Rattle.std.specs.Prelude.{◌≡◌, ◌<◌, replicate};
+ghost use Rattle.std.specs.Prelude.{◌≡◌, ◌<◌, ℕ, List, []};
+ghost use Rattle.age_file.specs.Bindings.{chain_if, link_if};
+ghost use Rattle.age_file.specs.declared.position.Positions.TheVariants.{Kept};
+
+use crate::position::{Positions, next_link};
 
 /// How far a run has come: how many bytes it wrote, how many whole chunks before the last these make from the start of
-/// the text, and the chain over those.
+/// the text, and the chain over those, where positions are kept.
 #[derive(Clone, Copy, Debug, PartialEq, Eq)]
 pub(crate) struct Progress {
     pub(crate) written: u128,
     pub(crate) index: u64,
-    pub(crate) chain: [u8; 32],
+    pub(crate) chain: Option<[u8; 32]>,
     ghost within: { index < 281474976710656 },
 }
 
@@ -16,27 +20,55 @@ impl Progress {
     ghost use Rattle.age_file.specs.Marks.{Advances};
 
     /// Nothing was written.
-    pub(crate) fn new() -> Progress
+    #[tactic(auto, unfolding(crate::specs::Bindings::chain))]
+    pub(crate) fn new(positions: Positions) -> Progress
         ensures written { result.written ≡ 0 }
         ensures index { result.index ≡ 0 }
-        ensures chain { result.chain ≡ replicate 32 0 }
+        ensures chain { result.chain ≡ chain_if positions [] }
     {
+        let chain = match positions {
+            Positions::Kept => Some([0; 32]),
+            Positions::Dropped => None,
+        };
         Progress {
             written: 0,
             index: 0,
-            chain: [0; 32],
+            chain,
+        }
+    }
+
+    /// The chain over one chunk more, where it is kept.
+    pub(crate) fn chain_over(&self, chunk: &[u8]) -> Option<[u8; 32]>
+        ensures { result ≡ link_if self.now.chain chunk.now }
+    {
+        match &self.chain {
+            Some(chain) => Some(next_link(chain, chunk)),
+            None => None,
+        }
+    }
+
+    /// Drops the chain where positions aren't kept.
+    pub(crate) fn keep(&mut self, positions: Positions)
+        ensures written { self.new.written ≡ self.old.written }
+        ensures index { self.new.index ≡ self.old.index }
+        ensures chain { (chunks : List (List ℕ)) → self.old.chain ≡ chain_if Kept chunks
+            → self.new.chain ≡ chain_if positions chunks }
+    {
+        match positions {
+            Positions::Kept => {}
+            Positions::Dropped => self.chain = None,
         }
     }
 
     /// Counts the chunk that was written last, unless it was the last of its text: that leaves the index of the opener.
-    pub(crate) fn advance(&mut self, index: u64, link: [u8; 32])
+    pub(crate) fn advance(&mut self, index: u64, chain: Option<[u8; 32]>)
         requires { index < 281474976710656 }
         ensures same { self.new.written ≡ self.old.written }
-        ensures counted { Advances self.old.index self.old.chain index link self.new }
+        ensures counted { Advances self.old.index self.old.chain index chain self.new }
     {
         if index > self.index {
             self.index = index;
-            self.chain = link;
+            self.chain = chain;
         }
     }
 }

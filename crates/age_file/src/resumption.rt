@@ -1,6 +1,6 @@
 //! Goes on with a decryption that stopped.
 
-ghost use Rattle.std.specs.Prelude.{◌≡◌, ℕ, List, ◌^◌, ◌<◌, ◌≤◌, [], replicate, IfOk, OnOk, IfErr, MatchResult};
+ghost use Rattle.std.specs.Prelude.{◌≡◌, ℕ, List, ◌^◌, ◌<◌, ◌≤◌, [], IfOk, OnOk, IfErr, MatchResult};
 ghost use Rattle.age_file.specs.Releases.{tally};
 ghost use Rattle.age_file.specs.Passages.{side};
 ghost use Rattle.age_file.specs.Copies.{CopiesText};
@@ -8,6 +8,8 @@ ghost use Rattle.age_file.specs.Pours.{stage};
 ghost use Rattle.age_file.specs.GoingOn.{HasPulled, GoesOn};
 ghost use Rattle.age_file.specs.Ports.{ports};
 ghost use Rattle.age_file.specs.Decrypts.{WritesText, StopsOutside};
+ghost use Rattle.age_file.specs.declared.position.Positions.TheVariants.{Kept};
+ghost use Rattle.age_file.specs.Bindings.{chain_if};
 ghost use Rattle.age_file.specs.Verdicts.{VerdictOn};
 ghost use Rattle.age_file.specs.Resumes.{resume_ports};
 ghost use Rattle.age_file.specs.ResumeFaults.{ResumeEnds, ResumeStops};
@@ -19,7 +21,7 @@ use crate::decryption::{Done, Stopped, position_of};
 use crate::fault::FileFault;
 use crate::intake::Intake;
 use crate::passage::pass_over;
-use crate::position::{Position, tag_of};
+use crate::position::{Position, Positions, tag_of};
 use crate::pour::pour;
 use crate::progress::Progress;
 use crate::sink::Sink;
@@ -46,6 +48,7 @@ fn verify(unlocked: &Unlocked, position: &Position) -> Result<(), FileFault>
 
 /// Copies the old text that a position was made for.
 fn copy_old<L: Source, O: Sink>(
+    positions: Positions,
     position: &Position,
     old_reader: &mut L,
     intake: &mut Intake,
@@ -53,8 +56,8 @@ fn copy_old<L: Source, O: Sink>(
     progress: &mut Progress,
 ) -> Result<(), FileFault>
     requires fresh { (progress.old.written ≡ 0) × (progress.old.index ≡ 0)
-        × (progress.old.chain ≡ replicate 32 0) }
-    ensures { CopiesText 65536 position.now.index position.now.chain
+        × (progress.old.chain ≡ chain_if Kept []) }
+    ensures { CopiesText positions 65536 position.now.index position.now.chain
         (side (L.remaining old_reader.old) (L.failed old_reader.old) intake.old)
         (side (L.remaining old_reader.new) (L.failed old_reader.new) intake.new)
         (tally (O.taken writer.old) (O.failed writer.old) (O.label writer.old) progress.old)
@@ -62,9 +65,10 @@ fn copy_old<L: Source, O: Sink>(
         result }
 {
     copy_chunks(old_reader, intake, position.index, writer, progress)?;
-    if progress.chain != position.chain {
+    if progress.chain != Some(position.chain) {
         return Err(FileFault::OldTextDiffers);
     }
+    progress.keep(positions);
     Ok(())
 }
 
@@ -93,16 +97,7 @@ fn open_rest<S: Source, O: Sink>(
     pour::<PayloadKey, 65552, S, O>(key, index, reader, intake, writer, progress)
 }
 
-/// Goes on with a decryption that stopped, from its position: opens the file's header, copies the old text up to the
-/// position, passes over the blocks of that text, and writes each chunk behind them once the tag of its block was checked.
-/// What was written at the end is the whole text, not its rest alone.
-///
-/// Up to the payload nonce it stops as [`decrypt`](crate::decrypt) does. Then it stops with `OtherFile` (24) where the
-/// position is of another file, and with `PositionForged` (30) where its tag isn't that of the file's key; nothing was
-/// written. `ShortText` (25) comes where the old text ended before the position, and `OldTextDiffers` (31) where its chunks
-/// aren't those that the position was made for; what was copied stands. `Truncated` (20) with its chunk comes where the
-/// source ends in the blocks that are passed over. Else it stops as `decrypt` does. A position is handed out once the
-/// old text was found to be the position's. All memory is taken before the payload nonce is read.
+/// Goes on with a decryption that stopped, and hands out the position of a stop: [`resume_with`], with positions kept.
 pub fn resume<U: Unlock, S: Source, L: Source, O: Sink>(
     alloc: Global,
     unlock: &U,
@@ -121,7 +116,66 @@ pub fn resume<U: Unlock, S: Source, L: Source, O: Sink>(
         (O.failed writer.new))
         (L.remaining old_reader.new) (L.failed old_reader.new))) }
     ensures stopped { IfErr result
-        (ResumeStops (U.allows unlock.now) position.now (U.refuses unlock.now)
+        (ResumeStops Kept (U.allows unlock.now) position.now (U.refuses unlock.now)
+        (resume_ports
+        (ports (S.remaining reader.old) (S.failed reader.old) (O.taken writer.old)
+        (O.failed writer.old))
+        (L.remaining old_reader.old) (L.failed old_reader.old))
+        (resume_ports
+        (ports (S.remaining reader.new) (S.failed reader.new) (O.taken writer.new)
+        (O.failed writer.new))
+        (L.remaining old_reader.new) (L.failed old_reader.new))) }
+    // The text of an age file that is undamaged, from a position of it, is written whole, unless reading, writing or memory
+    // fails.
+    ensures undamaged { (text : List ℕ) → IsUndamagedRest (U.allows unlock.now)
+        (U.refuses unlock.now) position.now (S.remaining reader.old)
+        (L.remaining old_reader.old) text → MatchResult result
+        (λ done. WritesText (O.taken writer.old) (O.taken writer.new) done.written text)
+        (λ stopped. StopsOutside stopped.fault) }
+    ensures settled { OnOk result (O.settled writer.new) }
+    ensures named { O.label writer.new ≡ O.label writer.old }
+{
+    resume_with(
+        alloc,
+        Positions::Kept,
+        unlock,
+        position,
+        reader,
+        old_reader,
+        writer,
+    )
+}
+
+/// Goes on with a decryption that stopped, from its position: opens the file's header, copies the old text up to the
+/// position, passes over the blocks of that text, and writes each chunk behind them once the tag of its block was checked.
+/// What was written at the end is the whole text, not its rest alone.
+///
+/// Up to the payload nonce it stops as [`decrypt_with`](crate::decrypt_with) does. Then it stops with `OtherFile` (24) where the
+/// position is of another file, and with `PositionForged` (30) where its tag isn't that of the file's key; nothing was
+/// written. `ShortText` (25) comes where the old text ended before the position, and `OldTextDiffers` (31) where its chunks
+/// aren't those that the position was made for; what was copied stands. `Truncated` (20) with its chunk comes where the
+/// source ends in the blocks that are passed over. Else it stops as `decrypt_with` does. A position is handed out once
+/// the old text was found to be the position's, where positions are kept. All memory is taken before the payload nonce is read.
+pub fn resume_with<U: Unlock, S: Source, L: Source, O: Sink>(
+    alloc: Global,
+    positions: Positions,
+    unlock: &U,
+    position: &Position,
+    reader: &mut S,
+    old_reader: &mut L,
+    writer: &mut O,
+) -> Result<Done, Stopped>
+    ensures done { IfOk result (ResumeEnds (U.allows unlock.now) position.now
+        (resume_ports
+        (ports (S.remaining reader.old) (S.failed reader.old) (O.taken writer.old)
+        (O.failed writer.old))
+        (L.remaining old_reader.old) (L.failed old_reader.old))
+        (resume_ports
+        (ports (S.remaining reader.new) (S.failed reader.new) (O.taken writer.new)
+        (O.failed writer.new))
+        (L.remaining old_reader.new) (L.failed old_reader.new))) }
+    ensures stopped { IfErr result
+        (ResumeStops positions (U.allows unlock.now) position.now (U.refuses unlock.now)
         (resume_ports
         (ports (S.remaining reader.old) (S.failed reader.old) (O.taken writer.old)
         (O.failed writer.old))
@@ -152,8 +206,15 @@ pub fn resume<U: Unlock, S: Source, L: Source, O: Sink>(
         Ok(()) => {}
         Err(fault) => return Err(Stopped::early(fault)),
     }
-    let mut progress = Progress::new();
-    match copy_old(position, old_reader, &mut old_intake, writer, &mut progress) {
+    let mut progress = Progress::new(Positions::Kept);
+    match copy_old(
+        positions,
+        position,
+        old_reader,
+        &mut old_intake,
+        writer,
+        &mut progress,
+    ) {
         Ok(()) => {}
         Err(fault) => return Err(Stopped::behind(fault, &progress, None)),
     }
@@ -171,7 +232,7 @@ pub fn resume<U: Unlock, S: Source, L: Source, O: Sink>(
         }),
         Err(fault) => {
             let next = position_of(&unlocked, &progress);
-            Err(Stopped::behind(fault, &progress, Some(next)))
+            Err(Stopped::behind(fault, &progress, next))
         }
     }
 }

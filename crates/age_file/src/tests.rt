@@ -229,6 +229,19 @@ fn each_pull_fails_in_turn(rt: HostRuntime) -> Result<(), Fail> {
     Ok(())
 }
 
+// A stop hands out no position where positions are dropped.
+#[test]
+fn dropped_positions(rt: HostRuntime) -> Result<(), Fail> {
+    let alloc = rt.alloc();
+    let mut source = MemSource::new(hello_file(alloc)?, 50, None);
+    let mut sink = MemSink::new(alloc, 2, 5, None)?;
+    let unlock = KnownKey::new(KEY);
+    let answer = decrypt_with(alloc, Positions::Dropped, &unlock, &mut source, &mut sink);
+    let position = see_stop(&rt, &answer, sink.bytes(), b"hello", 27);
+    assert!(rt; position.is_none());
+    Ok(())
+}
+
 // Three puts of two bytes at most, and a flush.
 #[test]
 fn each_put_and_the_flush_fail_in_turn(rt: HostRuntime) -> Result<(), Fail> {

@@ -15,6 +15,13 @@ abbrev pub NoncesDiffer : Type 0
 NoncesDiffer = (i j : ℕ) (a b : Bool) → i < chunk_limit → j < chunk_limit
     → nonce_bytes i a ≡ nonce_bytes j b → (i ≡ j) × (a ≡ b)
 
+-- different texts seal to different blocks
+abbrev pub SealingsDiffer : Type 0
+SealingsDiffer = (sealing : List ℕ → List ℕ → List ℕ) (opening : List ℕ → List ℕ → Option (List ℕ))
+    → IsLawful sealing opening
+    → (nonce text other : List ℕ) → length nonce ≡ 12
+    → sealing nonce text ≡ sealing nonce other → text ≡ other
+
 -- two pieces are one
 abbrev pub PiecesJoin : Type 0
 PiecesJoin = (s : Segment) (piece more : List ℕ)

@@ -4,7 +4,8 @@ use Rattle.std.specs.Prelude.{◌≢◌, ◌≡◌, ℕ, ◌+◌, ◌-◌, ◌�
 use Rattle.age_stream.specs.declared.step.Status.TheVariants.{Open, Failed}
 use Rattle.age_stream.specs.declared.fault.StreamFault.{StreamFault}
 use Rattle.age_stream.specs.declared.opener.OpenerState.{OpenerState}
-use Rattle.age_stream.specs.Segment.{Outcome, status_after}
+use Rattle.age_stream.specs.Segment.{Outcome}
+use Rattle.age_stream.specs.SegmentSteps.{status_after}
 use Rattle.age_stream.specs.Opening.{OpenerView}
 
 -- so many bytes in front of the buffer

@@ -8,6 +8,11 @@ abbrev pub text_beside : Option ℕ → List ℕ → List ℕ
 text_beside None text = text
 text_beside (Some byte) text = byte ∷ []
 
+-- the bytes of a block, or none
+abbrev pub bytes_of : Option (List ℕ) → List ℕ
+bytes_of None = []
+bytes_of (Some block) = block
+
 module _ {B : Type 0} {n : ℕ} {g : _} where
   abbrev pub held_text : SealerState B n g → List ℕ
   held_text s = text_beside s.beside s.buffer.items
@@ -48,11 +53,3 @@ module _ {B : Type 0} (sealing : B → List ℕ → List ℕ → List ℕ) (n : 
     pub count : taken ≡ step_len n old.held piece
     pub cases : MatchOption block (Grows old piece taken new)
         (λ block. Closes old piece taken block new)
-
--- it holds what it held, and was refused
-pub record IsRefused {B : Type 0} (old new : SealerView B) : Type 0 where
-  pub key : new.key ≡ old.key
-  pub held : new.held ≡ old.held
-  pub index : new.index ≡ old.index
-  pub finished : new.finished ≡ old.finished
-  pub failed : new.failed ≡ true

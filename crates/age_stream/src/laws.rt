@@ -1,11 +1,16 @@
 //! Laws over the definitions, for the layers above.
-ghost use Rattle.age_stream.specs.Laws.{ChunksAreCounted, NoncesDiffer, PiecesJoin, ReleasedGrows, SealedGrows};
-ghost use Rattle.age_stream.specs.Authentic.{ClearIsAuthentic, ClearRoundTrip, RestIsAuthentic, RoundTrip, UndamagedIsAuthentic};
+ghost use Rattle.age_stream.specs.Laws.{ChunksAreCounted, NoncesDiffer, PiecesJoin, ReleasedGrows, SealedGrows, SealingsDiffer};
+ghost use Rattle.age_stream.specs.Authentic.{ClearIsAuthentic, ClearRoundTrip, RestIsAuthentic, RoundTrip, UndamagedIsAuthentic, WholeIsAuthentic};
 ghost use Rattle.age_stream.specs.Parts.{ChunksAreOne, SealsChunks};
 
 /// No two chunks of a payload have the same nonce.
 pub fn nonces_differ()
     ensures { NoncesDiffer }
+{}
+
+/// Different texts are sealed to different blocks at a nonce.
+pub fn sealings_differ()
+    ensures { SealingsDiffer }
 {}
 
 /// Two pieces of a payload are one.
@@ -33,11 +38,13 @@ pub fn chunks_are_counted()
 {}
 
 /// The payload of a text, delivered in any pieces and then an end, meets the
-/// premise of the headline, and so does its rest from a chunk on, if the last
-/// chunk is short or its block doesn't open as one before the last.
+/// premise of the headline, if the last chunk is short or its block doesn't
+/// open as one before the last. So does its rest from a chunk on, and that
+/// rest after a restart, if each segment that was given up before met it.
 pub fn undamaged_is_authentic()
-    ensures whole { UndamagedIsAuthentic }
+    ensures whole { WholeIsAuthentic }
     ensures rest { RestIsAuthentic }
+    ensures behind { UndamagedIsAuthentic }
 {}
 
 /// With [`ClearBox`](crate::ClearBox) every payload meets it.

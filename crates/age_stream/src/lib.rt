@@ -35,7 +35,7 @@ pub use fault::{Memory, StreamFault, StreamKind};
 pub use headline::held_is_written;
 pub use laws::{
     chunks_are_counted, chunks_are_one, clear_is_authentic, nonces_differ, pieces_join,
-    released_grows, round_trip, sealed_grows, undamaged_is_authentic,
+    released_grows, round_trip, sealed_grows, sealings_differ, undamaged_is_authentic,
 };
 pub use nonce::{CHUNK_LIMIT, nonce_of};
 pub use opener::Opener;

@@ -17,7 +17,7 @@ pub enum Status {
 
 /// How many bytes of a piece a call took, and what it lends until the next
 /// call: a sealer's block or an opener's text, if one came.
-#[derive(Drop)]
+#[derive(Debug, Drop)]
 pub struct Step<'a> {
     /// How many bytes of the piece were taken, from its front on.
     pub taken: usize,

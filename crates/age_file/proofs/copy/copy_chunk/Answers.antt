@@ -1,4 +1,4 @@
-use Rattle.std.proofs.Common.{◌≡◌, ◌++◌, ◌∙◌, ℕ, List, [], refl, sym, ap, subst, take, length, arith, append-nil, append_assoc}
+use Rattle.std.proofs.Common.{◌≡◌, ◌++◌, ◌+◌, ◌<◌, ◌∙◌, ℕ, List, Option, Some, [], refl, sym, ap, subst, take, length, arith, append-nil, append_assoc}
 use Rattle.std.proofs.lemmas.Result.{err_from_is_err_and}
 use Rattle.std.proofs.lemmas.List.{length-append, length-take}
 use Rattle.std.proofs.KnownBytes.{Appends-nil}
@@ -6,6 +6,7 @@ use Rattle.std.specs.Io.KnownBytes.{Appends}
 use Rattle.sha2.specs.Hashers.{Holds256}
 use Rattle.age_stream.specs.Headline.{IsPrefixOf}
 use Rattle.age_file.specs.Faults.{HasRisen}
+use Rattle.age_file.specs.Bindings.{link_if}
 use Rattle.age_file.specs.Passages.{side}
 use Rattle.age_file.specs.Releases.{tally}
 use Rattle.age_file.proofs.Bytes.{Appends-then}
@@ -16,7 +17,6 @@ use Rattle.age_file.proofs.copy.copy_chunk.Goals as goal
 
 pub parts-init : goal.parts-init
 parts-init g c =
-    let chain = c.args.progress.now.chain in
     record {
       copied = [];
       size = omega arith;
@@ -27,7 +27,11 @@ parts-init g c =
       count = omega arith;
       index = refl;
       chain = refl;
-      hashed = subst (λ (t : List ℕ). Holds256 c.update.new.self t) (sym (append-nil chain)) (c.update.ensures [] c.new-digest.ensures);
+      hashed = λ links kept_is.
+          let start : Holds256 c.update.new.self c.in-Some.chain = c.update.ensures [] c.new-digest.ensures in
+          let both : Some c.in-Some.chain ≡ Some links = sym c.in-Some.is ∙ kept_is in
+          let same : c.in-Some.chain ≡ links = cc in
+          subst (λ (t : List ℕ). Holds256 c.update.new.self t) (same ∙ sym (append-nil links)) start;
     }
 
 pub returns-then-not-branch : goal.returns-then-not-branch
@@ -112,5 +116,25 @@ parts-preserved g c =
       count = omega (arith, kept.count, put.count, ap length whole, length-append kept.copied (take n bytes));
       index = kept.index;
       chain = kept.chain;
-      hashed = subst (λ (t : List ℕ). Holds256 c.update-in-parts.new.self t) (append_assoc c.args.progress.now.chain kept.copied (take n bytes)) (c.update-in-parts.ensures (c.args.progress.now.chain ++ kept.copied) kept.hashed);
+      hashed = λ links kept_is. subst (λ (t : List ℕ). Holds256 c.update-in-parts.new.self t) (append_assoc links kept.copied (take n bytes)) (c.update-in-parts.ensures (links ++ kept.copied) (kept.hashed links kept_is));
+    }
+
+pub returns : goal.returns
+returns g c =
+    let kept = c.parts.invariant in
+    let risen : c.parts.progress.index < c.parts.progress.index + 1 = omega arith in
+    let further = c.advance.ensures.counted.further risen in
+    record {
+      out = kept.copied;
+      wrote = kept.wrote;
+      named = kept.named;
+      count = c.advance.ensures.same ∙ kept.count;
+      answered = (
+        omega (arith, kept.size, c.parts-test.false),
+        kept.passes,
+        kept.failures,
+        omega (arith, further.0, kept.index),
+        further.1 ∙ (ap Some (c.finalize.ensures (c.in-Some.chain ++ kept.copied) (kept.hashed c.in-Some.chain c.in-Some.is))
+            ∙ ap (λ (l : Option (List ℕ)). link_if l kept.copied) (sym c.in-Some.is)),
+      );
     }

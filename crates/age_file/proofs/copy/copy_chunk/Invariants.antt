@@ -1,4 +1,4 @@
-use Rattle.std.proofs.Common.{◌≡◌, ◌+◌, ◌++◌, ℕ, List, length}
+use Rattle.std.proofs.Common.{◌≡◌, ◌+◌, ◌++◌, ℕ, List, Some, length}
 use Rattle.std.specs.Io.KnownBytes.{Appends}
 use Rattle.sha2.specs.Hashers.{Holds256}
 use Rattle.age_file.specs.Passages.{side, Passes}
@@ -16,7 +16,7 @@ invariant-parts g l = record {
   count : l.progress.written ≡ l.fn.progress.written + length copied;
   index : l.progress.index ≡ l.fn.progress.index;
   chain : l.progress.chain ≡ l.fn.progress.chain;
-  hashed : Holds256 l.digest (l.fn.progress.chain ++ copied);
+  hashed : (links : List ℕ) → l.fn.progress.chain ≡ Some links → Holds256 l.digest (links ++ copied);
 }
 
 abbrev pub decreases-parts : goal.decreases-parts

@@ -1,14 +1,14 @@
-use Rattle.std.proofs.Common.{◌≡◌, ◌++◌, ◌∙◌, ◌+◌, ℕ, List, [], refl, sym, ap, suc, arith}
+use Rattle.std.proofs.Common.{◌≡◌, ◌++◌, ◌∙◌, ◌+◌, ℕ, List, Option, Some, [], refl, sym, ap, suc, arith}
 use Rattle.std.proofs.lemmas.Result.{err_from_is_err_and}
 use Rattle.std.proofs.lemmas.List.{length-append}
 use Rattle.std.specs.Simd.{first_chunks}
-use Rattle.age_file.specs.Bindings.{chain, link}
+use Rattle.age_file.specs.Bindings.{chain_if, link_if}
+use Rattle.age_file.specs.declared.position.Positions.TheVariants.{Kept}
 use Rattle.age_file.specs.Passages.{side}
 use Rattle.age_file.specs.Releases.{tally}
 use Rattle.age_file.proofs.Bytes.{Appends-then}
 use Rattle.age_file.proofs.PassageSteps.{passes_then}
 use Rattle.age_file.proofs.CopySteps.{chain_more, chunk_failed}
-use Rattle.age_file.proofs.MarkSteps.{no_chain}
 use Rattle.std.proofs.KnownBytes.{Appends-nil}
 use Rattle.age_file.proofs.copy.copy_chunks.Goals as goal
 
@@ -40,7 +40,7 @@ loop-copied-init g c = record {
   named = refl;
   count = c.requires.fresh.0;
   index = c.requires.fresh.1;
-  chain_is = c.requires.fresh.2 ∙ no_chain;
+  chain_is = c.requires.fresh.2;
 }
 
 pub loop-copied-preserved : goal.loop-copied-preserved
@@ -53,8 +53,8 @@ loop-copied-preserved g c =
     let mid = side (g.S.Source.remaining c.loop-copied.source) (g.S.Source.failed c.loop-copied.source) c.loop-copied.intake in
     let new = side (g.S.Source.remaining c.copy_chunk.new.source) (g.S.Source.failed c.copy_chunk.new.source) c.copy_chunk.new.intake in
     let next : suc i ≡ i + 1 = omega arith in
-    let links : c.copy_chunk.new.progress.chain ≡ chain (first_chunks 65536 (i + 1) (kept.out ++ step.out)) =
-    goes.4 ∙ ap (λ (xs : List ℕ). link xs step.out) kept.chain_is ∙ sym (chain_more 65536 i kept.out step.out kept.size goes.0) ∙ ap (λ (k : ℕ). chain (first_chunks 65536 k (kept.out ++ step.out))) next in
+    let links : c.copy_chunk.new.progress.chain ≡ chain_if Kept (first_chunks 65536 (i + 1) (kept.out ++ step.out)) =
+    goes.4 ∙ ap (λ (xs : Option (List ℕ)). link_if xs step.out) kept.chain_is ∙ ap Some (sym (chain_more 65536 i kept.out step.out kept.size goes.0)) ∙ ap (λ (k : ℕ). chain_if Kept (first_chunks 65536 k (kept.out ++ step.out))) next in
     record {
       out = kept.out ++ step.out;
       size = omega (arith, kept.size, goes.0, length-append kept.out step.out);

@@ -1,7 +1,8 @@
 use Rattle.std.proofs.Common.{◌≡◌, ◌*◌, ℕ, List, length}
 use Rattle.std.specs.Io.KnownBytes.{Appends}
 use Rattle.std.specs.Simd.{first_chunks}
-use Rattle.age_file.specs.Bindings.{chain}
+use Rattle.age_file.specs.Bindings.{chain_if}
+use Rattle.age_file.specs.declared.position.Positions.TheVariants.{Kept}
 use Rattle.age_file.specs.Passages.{side, Passes}
 use Rattle.age_file.proofs.copy.copy_chunks.Given as goal
 
@@ -16,5 +17,5 @@ invariant-loop-copied g l = record {
   named : g.O.Sink.label l.sink ≡ g.O.Sink.label l.fn.sink;
   count : l.progress.written ≡ length out;
   index : l.progress.index ≡ l._copied;
-  chain_is : l.progress.chain ≡ chain (first_chunks 65536 l._copied out);
+  chain_is : l.progress.chain ≡ chain_if Kept (first_chunks 65536 l._copied out);
 }

@@ -20,7 +20,7 @@ returns-in_err-text g c =
         count = omega arith;
         stands = after.stands;
         text = c.in_err-text.ensures.text;
-        marks = λ positive s base len h m. mark_end (g.B.ChunkBox.sealing c.args.opener.now.key) (g.B.ChunkBox.opening c.args.opener.now.key) (g.met.B.ChunkBox.lawful c.args.opener.now.key) (g.row.SEALED - 16) positive base s [] [] _ _ len (c.in_err-text.ensures.text s h) refl refl m;
+        marks = λ keep positive s base len h m. mark_end (g.B.ChunkBox.sealing c.args.opener.now.key) (g.B.ChunkBox.opening c.args.opener.now.key) (g.met.B.ChunkBox.lawful c.args.opener.now.key) (g.row.SEALED - 16) positive keep base s [] [] _ _ len (c.in_err-text.ensures.text s h) refl refl m;
       };
       answered = rw (p.1, p.2) (after.fault, refl, refl, refl);
     }
@@ -39,9 +39,9 @@ returns g c =
         count = put.count;
         stands = after.stands;
         text = λ s h. c.in_ok-text.ensures.text s h ∙ ap (λ (t : List ℕ). released (g.B.ChunkBox.opening c.args.opener.now.key) (g.row.SEALED - 16) s ++ t) put.parts;
-        marks = λ positive s base len h m.
+        marks = λ keep positive s base len h m.
             let more = c.in_ok-text.ensures.text s h ∙ ap (λ (t : List ℕ). released (g.B.ChunkBox.opening c.args.opener.now.key) (g.row.SEALED - 16) s ++ t) put.parts in
-            mark_end (g.B.ChunkBox.sealing c.args.opener.now.key) (g.B.ChunkBox.opening c.args.opener.now.key) (g.met.B.ChunkBox.lawful c.args.opener.now.key) (g.row.SEALED - 16) positive base s put.out put.cut _ _ len more refl refl m;
+            mark_end (g.B.ChunkBox.sealing c.args.opener.now.key) (g.B.ChunkBox.opening c.args.opener.now.key) (g.met.B.ChunkBox.lawful c.args.opener.now.key) (g.row.SEALED - 16) positive keep base s put.out put.cut _ _ len more refl refl m;
       };
       answered = answer_as c.write_all.result put.answered c.write_all.ensures.fault (λ _ all. (after.done, all.0, all.1)) (λ _ is risen. rw is risen);
     }

@@ -9,6 +9,7 @@ returns-clause-sealed g c =
     record {
       out = last.out;
       cut = last.cut;
+      limit = last.limit;
       wrote = record { bytes = Appends-Keeps _ _ _ _ last.wrote.bytes flushed.bytes; count = last.wrote.count };
       blocks = last.blocks;
       answered = answer_as c.flush_all.result flushed.counted flushed.fault (λ _ same. (last.answered.0, same ∙ last.answered.1))

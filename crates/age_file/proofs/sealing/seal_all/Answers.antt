@@ -61,6 +61,7 @@ returns-clause-sealed g c =
     let out = last_whole sealing n a b was mid now s.text s.key s.holds wrote l.out l.cut l.wrote l.blocks l.answered.0 in
     subst (λ k. SealsAll (sealing k) n old new c.args.written.now c.finish.new.written c.in_ok-plain.plain) (ap (λ v. v.key) c.new-sealer.ensures) (record {
       text = s.text;
+      few = omega (arith, l.limit, s.holds.index);
       moved = record { read = s.moved.read; wrote = out.bytes; count = out.count; small = s.moved.small };
       at_end = s.at_end;
       plain_is = s.plain_is;

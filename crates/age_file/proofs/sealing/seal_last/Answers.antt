@@ -9,6 +9,7 @@ returns-clause-sealed g c =
     record {
       out = put.out;
       cut = put.cut;
+      limit = c.in_ok-block.ensures.limit;
       wrote = record { bytes = put.wrote; count = put.count };
       blocks = λ text h. c.in_ok-block.ensures.chunk text h ∙ ap (λ (t : List ℕ). front_of (g.B.ChunkBox.sealing c.args.sealer.now.key) (g.row.SEALED - 16) text ++ t) put.parts;
       answered = answer_as c.write_all.result put.answered c.write_all.ensures.fault (λ _ all. all) (λ _ is risen. (is, risen));

@@ -1,0 +1,8 @@
+use Rattle.age_file.proofs.BoundSteps.{bound, bound_done}
+use Rattle.age_file.proofs.laws.bound_positions.Goals as goal
+
+pub returns-clause-runs : goal.returns-clause-runs
+returns-clause-runs g c = λ who text p old new written r b is. bound (g.U.Unlock.allows who) text p old new written r b is
+
+pub returns-clause-done : goal.returns-clause-done
+returns-clause-done g c = λ who text p old new written r b d. bound_done (g.U.Unlock.allows who) text p old new written r b d
