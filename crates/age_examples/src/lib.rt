@@ -4,11 +4,15 @@
 
 mod counted;
 mod either;
+mod measure;
 mod memory;
+mod sealing;
 
 pub use counted::Counted;
 pub use either::Either;
+pub use measure::Measure;
 pub use memory::text_of;
+pub use sealing::seal_to;
 
 #[cfg(test)]
 mod tests;
