@@ -1,4 +1,4 @@
--- The box that hides nothing is lawful. Its code cites this proof, so that it can't stand in `proofs/`.
+-- The box that hides nothing is lawful. The code cites this proof, so it can't stand in `proofs/`.
 use Rattle.std.specs.Prelude.{◌≡◌, ◌≤◌, ℕ, ◌+◌, ◌-◌, List, [], ◌∷◌, ◌++◌, length, take, drop, Option, Some, None, nat_le, ◌&&◌, Bool, true, cond}
 use Rattle.std.specs.Str.{bytes_eq}
 use Rattle.std.proofs.Common.{sym, ap, subst, ◌∙◌}
