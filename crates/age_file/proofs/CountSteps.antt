@@ -23,7 +23,7 @@ use Rattle.age_stream.proofs.Counting.{is_counted}
 use Rattle.age_file.specs.Bindings.{link, chain, link_if, chain_if}
 use Rattle.age_file.specs.declared.position.Positions.{Positions}
 use Rattle.age_file.specs.declared.position.Positions.TheVariants.{Kept, Dropped}
-use Rattle.age_file.specs.Marks.{Advances, Marks, IsMarked}
+use Rattle.age_file.specs.Counts.{Advances, CountsChunks, HasCounted}
 use Rattle.age_file.specs.declared.progress.Progress.{Progress}
 
 -- a quotient that is met from below, or is the lesser of the two
@@ -97,7 +97,7 @@ module _ (sealing : List ℕ → List ℕ → List ℕ) (opening : List ℕ → 
 
   -- all was written
   pub mark_all : (base : List ℕ) (s : Segment) (p : Progress) → length base ≡ s.start * n → IsTimely s → p.index ≡ at s → p.chain ≡ chain_if keep (first_chunks n p.index (base ++ released opening n s))
-      → Marks keep opening n base s [] p
+      → CountsChunks keep opening n base s [] p
   mark_all base s p len timely index chain_is =
       let text = base ++ released opening n s in
       let c = is_counted sealing opening lawful n base s len in
@@ -114,7 +114,7 @@ module _ (sealing : List ℕ → List ℕ → List ℕ) (opening : List ℕ → 
       }
 
   -- the index is then the segment's
-  pub mark_index : (base : List ℕ) (s : Segment) (p : Progress) → length base ≡ s.start * n → Marks keep opening n base s [] p → p.index ≡ at s
+  pub mark_index : (base : List ℕ) (s : Segment) (p : Progress) → length base ≡ s.start * n → CountsChunks keep opening n base s [] p → p.index ≡ at s
   mark_index base s p len m =
       let text = base ++ released opening n s in
       let c = is_counted sealing opening lawful n base s len in
@@ -192,7 +192,7 @@ module _ (sealing : List ℕ → List ℕ → List ℕ) (opening : List ℕ → 
   pub mark_step : (base : List ℕ) (s : Segment) (piece : List ℕ) (ts : List (List ℕ)) (index : ℕ) (was now : Progress) → length base ≡ s.start * n → IsTimely s → IsTimely (with_piece s piece)
       → (outcome opening n (with_piece s piece)).texts ≡ (outcome opening n s).texts ++ ts → length ts ≤ 1 → index ≡ at (with_piece s piece)
       → Advances was.index was.chain index (link_if was.chain (flat_map (λ (t : List ℕ). t) ts)) now
-      → Marks keep opening n base s [] was → Marks keep opening n base (with_piece s piece) [] now
+      → CountsChunks keep opening n base s [] was → CountsChunks keep opening n base (with_piece s piece) [] now
   mark_step base s piece ts index was now len timely timely' texts few is a m =
       let next = with_piece s piece in
       let len' : length base ≡ next.start * n = len ∙ ap (λ (k : ℕ). k * n) (sym (piece_start s piece)) in
@@ -221,7 +221,7 @@ module _ (sealing : List ℕ → List ℕ → List ℕ) (opening : List ℕ → 
 
   -- a call that lent nothing
   pub mark_none : (base : List ℕ) (s : Segment) (piece : List ℕ) (was : Progress) → length base ≡ s.start * n → IsTimely s → IsTimely (with_piece s piece)
-      → (outcome opening n (with_piece s piece)).texts ≡ (outcome opening n s).texts ++ [] → Marks keep opening n base s [] was → Marks keep opening n base (with_piece s piece) [] was
+      → (outcome opening n (with_piece s piece)).texts ≡ (outcome opening n s).texts ++ [] → CountsChunks keep opening n base s [] was → CountsChunks keep opening n base (with_piece s piece) [] was
   mark_none base s piece was len timely timely' texts m =
       let next = with_piece s piece in
       let len' : length base ≡ next.start * n = len ∙ ap (λ (k : ℕ). k * n) (sym (piece_start s piece)) in
@@ -239,18 +239,18 @@ module _ (sealing : List ℕ → List ℕ → List ℕ) (opening : List ℕ → 
       ∙ (ap (chain_if keep) (sym (front_stays base s next [] len (more_released s piece [] more)))
       ∙ ap (λ (k : ℕ). chain_if keep (first_chunks n k (base ++ released opening n next))) (sym old))))
 
-  -- what is known of the text where it was cut off
-  cut_len : (base : List ℕ) (s next : Segment) (out cut : List ℕ) → released opening n next ≡ released opening n s ++ (out ++ cut)
-      → length (base ++ released opening n next) - length cut ≡ length (base ++ released opening n s) + length out
-  cut_len base s next out cut e =
-      omega (arith, length-append base (released opening n next), ap length e, length-append (released opening n s) (out ++ cut), length-append out cut, length-append base (released opening n s))
+  -- what is known of the text where it was not written
+  cut_len : (base : List ℕ) (s next : Segment) (out unwritten : List ℕ) → released opening n next ≡ released opening n s ++ (out ++ unwritten)
+      → length (base ++ released opening n next) - length unwritten ≡ length (base ++ released opening n s) + length out
+  cut_len base s next out unwritten e =
+      omega (arith, length-append base (released opening n next), ap length e, length-append (released opening n s) (out ++ unwritten), length-append out unwritten, length-append base (released opening n s))
 
   -- the same, and some of what it lent was not written
-  pub mark_cut : (base : List ℕ) (s : Segment) (piece : List ℕ) (ts : List (List ℕ)) (out cut : List ℕ) (was now : Progress) → length base ≡ s.start * n → IsTimely s → IsTimely (with_piece s piece)
-      → (outcome opening n (with_piece s piece)).texts ≡ (outcome opening n s).texts ++ ts → length ts ≤ 1 → flat_map (λ (t : List ℕ). t) ts ≡ out ++ cut → 0 < length cut
+  pub mark_cut : (base : List ℕ) (s : Segment) (piece : List ℕ) (ts : List (List ℕ)) (out unwritten : List ℕ) (was now : Progress) → length base ≡ s.start * n → IsTimely s → IsTimely (with_piece s piece)
+      → (outcome opening n (with_piece s piece)).texts ≡ (outcome opening n s).texts ++ ts → length ts ≤ 1 → flat_map (λ (t : List ℕ). t) ts ≡ out ++ unwritten → 0 < length unwritten
       → now.index ≡ was.index → now.chain ≡ was.chain
-      → Marks keep opening n base s [] was → Marks keep opening n base (with_piece s piece) cut now
-  mark_cut base s piece ts out cut was now len timely timely' texts few parts some index chain_same m =
+      → CountsChunks keep opening n base s [] was → CountsChunks keep opening n base (with_piece s piece) unwritten now
+  mark_cut base s piece ts out unwritten was now len timely timely' texts few parts some index chain_same m =
       let next = with_piece s piece in
       let len' : length base ≡ next.start * n = len ∙ ap (λ (k : ℕ). k * n) (sym (piece_start s piece)) in
       let more_is : IsMore s piece ts = record { texts = texts; few = few } in
@@ -260,8 +260,8 @@ module _ (sealing : List ℕ → List ℕ → List ℕ) (opening : List ℕ → 
       let text = base ++ released opening n s in
       let text' = base ++ released opening n next in
       let e = more_released s piece ts more_is ∙ ap (λ (t : List ℕ). released opening n s ++ t) parts in
-      let left = cut_len base s next out cut e in
-      let lent : 0 < length (flat_map (λ (t : List ℕ). t) ts) = omega (arith, ap length parts, length-append out cut, some) in
+      let left = cut_len base s next out unwritten e in
+      let lent : 0 < length (flat_map (λ (t : List ℕ). t) ts) = omega (arith, ap length parts, length-append out unwritten, some) in
       let size : length (outcome opening n next).texts ≡ length (outcome opening n s).texts + length ts = ap length texts ∙ length-append (outcome opening n s).texts ts in
       -- it lent something, so it was open
       let o : (outcome opening n s).status ≡ Open =
@@ -278,12 +278,12 @@ module _ (sealing : List ℕ → List ℕ → List ℕ) (opening : List ℕ → 
         index = λ more.
             let j = at (with_piece next more) in
             let grows : at s ≤ j = omega (arith, index_stays opening n s piece timely, index_stays opening n next more timely') in
-            let side : (length text' - length cut < (at s + 1) * n) ⊎ (j ≡ at s) =
+            let side : (length text' - length unwritten < (at s + 1) * n) ⊎ (j ≡ at s) =
             elim (cases_lt (at s) (at next)) [
               | inl lt ↦
                   (let r = raised base s piece ts len timely more_is lt in
                   let all : length text' ≡ at s * n + n = r.whole ∙ (ap (λ (k : ℕ). k * n) r.by_one ∙ step) in
-                  inl (omega (arith, all, some, step, left, ap length e, length-append base (released opening n next), length-append (released opening n s) (out ++ cut), length-append out cut, length-append base (released opening n s))))
+                  inl (omega (arith, all, some, step, left, ap length e, length-append base (released opening n next), length-append (released opening n s) (out ++ unwritten), length-append out unwritten, length-append base (released opening n s))))
               | inr le ↦
                   (let same : at next ≡ at s = omega (arith, le, index_stays opening n s piece timely) in
                   elim (stays next timely') [
@@ -293,34 +293,34 @@ module _ (sealing : List ℕ → List ℕ → List ℕ) (opening : List ℕ → 
                     | inr still ↦ inr ((still more).0 ∙ same)
                   ])
             ] in
-            index ∙ (old ∙ min_is (length text' - length cut) n (at s) j positive (omega (arith, left, whole)) grows side);
+            index ∙ (old ∙ min_is (length text' - length unwritten) n (at s) j positive (omega (arith, left, whole)) grows side);
         chain_is = chain_same ∙ (m.chain_is ∙ (ap (λ (k : ℕ). chain_if keep (first_chunks n k text)) old
-            ∙ (ap (chain_if keep) (sym (front_stays base s next (out ++ cut) len e)) ∙ ap (λ (k : ℕ). chain_if keep (first_chunks n k text')) (sym (index ∙ old)))));
+            ∙ (ap (chain_if keep) (sym (front_stays base s next (out ++ unwritten) len e)) ∙ ap (λ (k : ℕ). chain_if keep (first_chunks n k text')) (sym (index ∙ old)))));
       }
 
   -- the end, of whose text so much was written
-  pub mark_end : (base : List ℕ) (s : Segment) (out cut : List ℕ) (was now : Progress) → length base ≡ s.start * n → released opening n (with_end s) ≡ released opening n s ++ (out ++ cut)
-      → now.index ≡ was.index → now.chain ≡ was.chain → Marks keep opening n base s [] was → Marks keep opening n base (with_end s) cut now
-  mark_end base s out cut was now len e index chain_same m =
+  pub mark_end : (base : List ℕ) (s : Segment) (out unwritten : List ℕ) (was now : Progress) → length base ≡ s.start * n → released opening n (with_end s) ≡ released opening n s ++ (out ++ unwritten)
+      → now.index ≡ was.index → now.chain ≡ was.chain → CountsChunks keep opening n base s [] was → CountsChunks keep opening n base (with_end s) unwritten now
+  mark_end base s out unwritten was now len e index chain_same m =
       let next = with_end s in
       let old = mark_index base s was len m in
       let c = is_counted sealing opening lawful n base s len in
       let text = base ++ released opening n s in
       let text' = base ++ released opening n next in
       let same : at next ≡ at s = index_of next ∙ sym (index_of s) in
-      let left = cut_len base s next out cut e in
+      let left = cut_len base s next out unwritten e in
       let closed : (outcome opening n next).status ≡ Open → ⊥ = λ o. let u = (going opening n next o).unended in cc in
       record {
         index = λ more.
             let j = at (with_piece next more) in
             let still : j ≡ at s = (after_piece opening n next more (λ u. cc) closed).index ∙ same in
-            index ∙ (old ∙ min_is (length text' - length cut) n (at s) j positive (omega (arith, left, c.within)) (omega (arith, still)) (inr still));
+            index ∙ (old ∙ min_is (length text' - length unwritten) n (at s) j positive (omega (arith, left, c.within)) (omega (arith, still)) (inr still));
         chain_is = chain_same ∙ (m.chain_is ∙ (ap (λ (k : ℕ). chain_if keep (first_chunks n k text)) old
-            ∙ (ap (chain_if keep) (sym (front_stays base s next (out ++ cut) len e)) ∙ ap (λ (k : ℕ). chain_if keep (first_chunks n k text')) (sym (index ∙ old)))));
+            ∙ (ap (chain_if keep) (sym (front_stays base s next (out ++ unwritten) len e)) ∙ ap (λ (k : ℕ). chain_if keep (first_chunks n k text')) (sym (index ∙ old)))));
       }
 
   -- before any byte
-  pub mark_fresh : (base : List ℕ) (k : ℕ) (p : Progress) → length base ≡ k * n → p.index ≡ k → p.chain ≡ chain_if keep (first_chunks n k base) → Marks keep opening n base (fresh k) [] p
+  pub mark_fresh : (base : List ℕ) (k : ℕ) (p : Progress) → length base ≡ k * n → p.index ≡ k → p.chain ≡ chain_if keep (first_chunks n k base) → CountsChunks keep opening n base (fresh k) [] p
   mark_fresh base k p len index chain_is =
       let none : released opening n (fresh k) ≡ [] = ap (λ (o : Outcome). flat_map (λ (t : List ℕ). t) o.texts) (fresh_outcome opening n k) in
       let same : base ≡ base ++ released opening n (fresh k) = sym (ap (λ (t : List ℕ). base ++ t) none ∙ append-nil base) in
@@ -328,17 +328,17 @@ module _ (sealing : List ℕ → List ℕ → List ℕ) (opening : List ℕ → 
       (chain_is ∙ (ap (λ (t : List ℕ). chain_if keep (first_chunks n k t)) same ∙ ap (λ (i : ℕ). chain_if keep (first_chunks n i (base ++ released opening n (fresh k)))) (sym index)))
 
   -- and at the end of a run, with bytes behind that were not fed
-  pub marked : (base : List ℕ) (s last : Segment) (more out cut : List ℕ) (p : Progress) → with_piece s more ≡ last → released opening n s ≡ out ++ cut → Marks keep opening n base s cut p
-      → IsMarked keep opening n (base ++ out) last p
-  marked base s last more out cut p is parts m =
+  pub marked : (base : List ℕ) (s last : Segment) (more out unwritten : List ℕ) (p : Progress) → with_piece s more ≡ last → released opening n s ≡ out ++ unwritten → CountsChunks keep opening n base s unwritten p
+      → HasCounted keep opening n (base ++ out) last p
+  marked base s last more out unwritten p is parts m =
       let text = base ++ out in
-      let left : length (base ++ released opening n s) - length cut ≡ length text =
-      omega (arith, length-append base (released opening n s), ap length parts, length-append out cut, length-append base out) in
-      let e : p.index ≡ min (length text / n) (at last) = m.index more ∙ (ap (λ (t : Segment). min ((length (base ++ released opening n s) - length cut) / n) (at t)) is ∙ ap (λ (k : ℕ). min (k / n) (at last)) left) in
+      let left : length (base ++ released opening n s) - length unwritten ≡ length text =
+      omega (arith, length-append base (released opening n s), ap length parts, length-append out unwritten, length-append base out) in
+      let e : p.index ≡ min (length text / n) (at last) = m.index more ∙ (ap (λ (t : Segment). min ((length (base ++ released opening n s) - length unwritten) / n) (at t)) is ∙ ap (λ (k : ℕ). min (k / n) (at last)) left) in
       let le : p.index ≤ length text / n = omega (arith, e) in
       let within : p.index * n ≤ length text = (le-div_iff_mul-le positive).0 le in
       record {
         index = e;
         chain_is = m.chain_is ∙ ap (chain_if keep) (ap (λ (t : List ℕ). first_chunks n p.index (base ++ t)) parts
-            ∙ (ap (first_chunks n p.index) (sym (append_assoc base out cut)) ∙ first_chunks-append n p.index text cut within));
+            ∙ (ap (first_chunks n p.index) (sym (append_assoc base out unwritten)) ∙ first_chunks-append n p.index text unwritten within));
       }

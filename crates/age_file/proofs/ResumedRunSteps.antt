@@ -9,18 +9,18 @@ use Rattle.age_file.specs.Bindings.{chain}
 use Rattle.age_file.specs.Decrypts.{Run}
 use Rattle.age_file.specs.Resumes.{IsAuthenticResumption, IsSame}
 use Rattle.age_file.specs.OldTexts.{IsOldText}
-use Rattle.age_file.specs.Rows.{Rerun, output, FollowsOn, AreInARow, WritesRight}
+use Rattle.age_file.specs.ResumedRuns.{ResumedRun, output, FollowsOn, AreInARow, WritesRight}
 use Rattle.age_file.specs.declared.position.Position.{Position}
 use Rattle.age_file.proofs.Bytes.{prefix_trans}
 use Rattle.age_file.proofs.DecryptSteps.{writes_of, writes_all}
 use Rattle.age_file.proofs.ResumeSteps.{resumes_of, resumes_all}
 
-few_chunks : (text : List ℕ) (first : Run) (runs : List Rerun) → AreInARow text first runs → chunk_count 65536 text ≤ 281474976710656
+few_chunks : (text : List ℕ) (first : Run) (runs : List ResumedRun) → AreInARow text first runs → chunk_count 65536 text ≤ 281474976710656
 few_chunks text first [] a = a.0.0
 few_chunks text first (r ∷ earlier) a = few_chunks text first earlier a.1
 
 -- what was copied of a text's beginning is the text's beginning
-authentic_of : (text : List ℕ) (first : Run) (earlier : List Rerun) (r : Rerun) → chunk_count 65536 text ≤ 281474976710656 → FollowsOn text first earlier r → IsPrefixOf r.run.copied text
+authentic_of : (text : List ℕ) (first : Run) (earlier : List ResumedRun) (r : ResumedRun) → chunk_count 65536 text ≤ 281474976710656 → FollowsOn text first earlier r → IsPrefixOf r.run.copied text
     → IsAuthenticResumption r.position r.run text
 authentic_of text first earlier r few f c = record {
   few = few;
@@ -39,7 +39,7 @@ same_carries p q copied text o c s =
       s.chain_is ∙ (sym o.same ∙ (over ∙ ap (λ (k : ℕ). chain (first_chunks 65536 k text)) (sym s.index))),
     )
 
-pub in_a_row : (text : List ℕ) (first : Run) (runs : List Rerun) → AreInARow text first runs → WritesRight text first runs
+pub in_a_row : (text : List ℕ) (first : Run) (runs : List ResumedRun) → AreInARow text first runs → WritesRight text first runs
 in_a_row text first [] a =
     let begins = writes_of first a.1 text a.0 in
     record {

@@ -4,7 +4,7 @@ use Rattle.std.proofs.lemmas.List.{length-append}
 use Rattle.std.proofs.Math.Nat.{mul-le-mul_right}
 use Rattle.age_file.specs.Intakes.{PullFails}
 use Rattle.age_file.specs.Faults.{HasRisen}
-use Rattle.age_file.specs.Passages.{Side, Passes, Dries, PassesBlock, PassFails, EndsAfter}
+use Rattle.age_file.specs.Skips.{Side, Passes, Dries, SkipsBlock, SkipFails, EndsAfter}
 use Rattle.age_file.specs.declared.fault.FileFault.{FileFault}
 use Rattle.age_file.specs.declared.fault.FileFault.TheVariants.{Stream, Read, ReadNeverEnds}
 use Rattle.age_file.proofs.StartSteps.{uses_then}
@@ -42,13 +42,13 @@ within n blocks j p q size lt short =
     omega (arith, more, size, short, length-append p q)
 
 -- whole blocks, and then one that was not whole
-pub pass_fails : (n blocks j : ℕ) (x y z : Side) (p : List ℕ) (fault : FileFault) → length p ≡ j * n → j < blocks → Passes x y p → PassesBlock n y z (Err fault) → PassFails n blocks x z fault
+pub pass_fails : (n blocks j : ℕ) (x y z : Side) (p : List ℕ) (fault : FileFault) → length p ≡ j * n → j < blocks → Passes x y p → SkipsBlock n y z (Err fault) → SkipFails n blocks x z fault
 pass_fails n blocks j x y z p Read size lt f g = (p ++ g.0, within n blocks j p g.0 size lt g.1, dries_then x y z p g.0 Read f g.2)
 pass_fails n blocks j x y z p ReadNeverEnds size lt f g = (p ++ g.0, within n blocks j p g.0 size lt g.1, dries_then x y z p g.0 ReadNeverEnds f g.2)
 pass_fails n blocks j x y z p (Stream fault) size lt f g = absurd g.2.why
 pass_fails n blocks j x y z p other size lt f g = absurd g.2.why
 
-pub ends_after : (n j : ℕ) (x y z : Side) (p : List ℕ) → length p ≡ j * n → Passes x y p → PassesBlock n y z (Ok false) → EndsAfter n j x z
+pub ends_after : (n j : ℕ) (x y z : Side) (p : List ℕ) → length p ≡ j * n → Passes x y p → SkipsBlock n y z (Ok false) → EndsAfter n j x z
 ends_after n j x y z p size f g = record {
   bytes = p ++ g.0;
   least = omega (arith, size, length-append p g.0);

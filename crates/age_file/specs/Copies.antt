@@ -8,7 +8,7 @@ use Rattle.age_file.specs.Bindings.{link_if, chain, chain_if}
 use Rattle.age_file.specs.declared.position.Positions.{Positions}
 use Rattle.age_file.specs.declared.position.Positions.TheVariants.{Kept}
 use Rattle.age_file.specs.Releases.{Tally}
-use Rattle.age_file.specs.Passages.{Side, Passes, Dries}
+use Rattle.age_file.specs.Skips.{Side, Passes, Dries}
 use Rattle.age_file.specs.declared.fault.FileFault.{FileFault}
 use Rattle.age_file.specs.declared.fault.FileFault.TheVariants.{ShortText, Read, Write, ReadNeverEnds, OldTextDiffers}
 

@@ -10,7 +10,7 @@ use Rattle.age_file.specs.Unread.{Unread}
 use Rattle.age_file.specs.Intakes.{Pulled}
 use Rattle.age_file.specs.Releases.{Tally}
 use Rattle.age_file.specs.Bindings.{chain_if}
-use Rattle.age_file.specs.Marks.{IsMarked}
+use Rattle.age_file.specs.Counts.{HasCounted}
 use Rattle.age_file.specs.declared.position.Positions.{Positions}
 use Rattle.age_file.specs.Decrypts.{segment}
 use Rattle.age_file.specs.declared.fault.FileFault.{FileFault}
@@ -40,22 +40,22 @@ NoneFailed old new = (new.tally.failed ≡ old.tally.failed) × (new.read_failed
 
 module _ (opening : List ℕ → List ℕ → Option (List ℕ)) (n : ℕ) where
   -- all of the text was written, and the fault is where the segment stands; unless the sink failed
-  abbrev pub PourFails : Stage → Stage → Segment → List ℕ → FileFault → Type 0
-  PourFails old new s out (Stream fault) = ((outcome opening n s).status ≡ Failed fault)
+  abbrev pub PayloadFails : Stage → Stage → Segment → List ℕ → FileFault → Type 0
+  PayloadFails old new s out (Stream fault) = ((outcome opening n s).status ≡ Failed fault)
       × (out ≡ released opening n s) × NoneFailed old new
-  PourFails old new s out Write = HasRisen old.tally.failed new.tally.failed
-  PourFails old new s out Read = (out ≡ released opening n s)
+  PayloadFails old new s out Write = HasRisen old.tally.failed new.tally.failed
+  PayloadFails old new s out Read = (out ≡ released opening n s)
       × HasRisen old.read_failed new.read_failed
-  PourFails old new s out ReadNeverEnds = (out ≡ released opening n s) × (new.unread.pulls ≡ 2 ^ 63)
+  PayloadFails old new s out ReadNeverEnds = (out ≡ released opening n s) × (new.unread.pulls ≡ 2 ^ 63)
       × NoneFailed old new
-  PourFails old new s out other = ⊥
+  PayloadFails old new s out other = ⊥
 
-  abbrev pub PourDone : Stage → Stage → Segment → List ℕ → Type 0
-  PourDone old new s out = (s.ended ≡ true) × ((outcome opening n s).status ≡ Done)
+  abbrev pub PayloadDone : Stage → Stage → Segment → List ℕ → Type 0
+  PayloadDone old new s out = (s.ended ≡ true) × ((outcome opening n s).status ≡ Done)
       × (out ≡ released opening n s) × NoneFailed old new
 
   -- the bytes that were pulled are a segment, and the beginning of its text was written
-  pub record Pours (start : ℕ) (old new : Stage) (result : Result (Unit {0}) FileFault)
+  pub record DecryptsPayload (start : ℕ) (old new : Stage) (result : Result (Unit {0}) FileFault)
       : Type 0 where
     pub bytes : List ℕ
     pub ended : Bool
@@ -70,8 +70,8 @@ module _ (opening : List ℕ → List ℕ → Option (List ℕ)) (n : ℕ) where
     pub named : new.tally.label ≡ old.tally.label
     pub count : new.tally.progress.written ≡ old.tally.progress.written + length out
     pub prefix : IsPrefixOf out (released opening n (segment start bytes ended))
-    pub marks : (keep : Positions) (base : List ℕ) → length base ≡ start * n → old.tally.progress.index ≡ start
+    pub counts : (keep : Positions) (base : List ℕ) → length base ≡ start * n → old.tally.progress.index ≡ start
         → old.tally.progress.chain ≡ chain_if keep (first_chunks n start base)
-        → IsMarked keep opening n (base ++ out) (segment start bytes ended) new.tally.progress
-    pub answered : MatchResult result (λ _. PourDone old new (segment start bytes ended) out)
-        (PourFails old new (segment start bytes ended) out)
+        → HasCounted keep opening n (base ++ out) (segment start bytes ended) new.tally.progress
+    pub answered : MatchResult result (λ _. PayloadDone old new (segment start bytes ended) out)
+        (PayloadFails old new (segment start bytes ended) out)

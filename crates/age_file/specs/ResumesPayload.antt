@@ -1,8 +1,8 @@
 -- What was made of the bytes behind a nonce from a later chunk on. Only private functions cite this.
 use Rattle.std.specs.Prelude.{◌≡◌, ◌⊎◌, ℕ, ◌*◌, List, ◌++◌, length, Option, Result, Err}
 use Rattle.age_file.specs.Intakes.{Pulled}
-use Rattle.age_file.specs.Passages.{Side, side, Passes, PassFails}
-use Rattle.age_file.specs.Pours.{Stage, Pours}
+use Rattle.age_file.specs.Skips.{Side, side, Passes, SkipFails}
+use Rattle.age_file.specs.Payloads.{Stage, DecryptsPayload}
 use Rattle.age_file.specs.declared.fault.FileFault.{FileFault}
 
 abbrev pub side_of : Stage → Side
@@ -18,20 +18,20 @@ pub record StopsBefore (index : ℕ) (old new : Stage) (result : Result (Unit {0
     : Type 0 where
   pub fault : FileFault
   pub is : result ≡ Err fault
-  pub fails : PassFails 65552 index (side_of old) (side_of new) fault
+  pub fails : SkipFails 65552 index (side_of old) (side_of new) fault
   pub same : new.tally ≡ old.tally
 
--- they were, and the bytes behind them were poured
-pub record PoursBehind (opening : List ℕ → List ℕ → Option (List ℕ)) (index : ℕ) (old new : Stage)
+-- they were, and the bytes behind them were decrypted
+pub record DecryptsBehind (opening : List ℕ → List ℕ → Option (List ℕ)) (index : ℕ) (old new : Stage)
     (result : Result (Unit {0}) FileFault) : Type 0 where
   pub mid : Stage
   pub passed : List ℕ
   pub size : length passed ≡ index * 65552
   pub passes : Passes (side_of old) (side_of mid) passed
   pub same : mid.tally ≡ old.tally
-  pub pours : Pours opening 65536 index mid new result
+  pub decrypts : DecryptsPayload opening 65536 index mid new result
 
-abbrev pub GoesOn : (List ℕ → List ℕ → Option (List ℕ)) → ℕ → Stage → Stage
+abbrev pub ResumesPayload : (List ℕ → List ℕ → Option (List ℕ)) → ℕ → Stage → Stage
     → Result (Unit {0}) FileFault → Type 0
-GoesOn opening index old new result = StopsBefore index old new result
-    ⊎ PoursBehind opening index old new result
+ResumesPayload opening index old new result = StopsBefore index old new result
+    ⊎ DecryptsBehind opening index old new result

@@ -29,11 +29,11 @@ pub record Dries (old new : Side) (bytes : List ℕ) (fault : FileFault) : Type 
   pub why : PullFails new.unread.pulls old.failed new.failed fault
 
 -- so many bytes were passed over, or the source ended before, or failed
-abbrev pub PassesBlock : ℕ → Side → Side → Result Bool FileFault → Type 0
-PassesBlock n old new (Ok true) = (bytes : List ℕ) × (length bytes ≡ n) × Passes old new bytes
-PassesBlock n old new (Ok false) = (bytes : List ℕ) × (length bytes < n) × Passes old new bytes
+abbrev pub SkipsBlock : ℕ → Side → Side → Result Bool FileFault → Type 0
+SkipsBlock n old new (Ok true) = (bytes : List ℕ) × (length bytes ≡ n) × Passes old new bytes
+SkipsBlock n old new (Ok false) = (bytes : List ℕ) × (length bytes < n) × Passes old new bytes
     × (new.unread.bytes ≡ []) × IsAtEnd new.coming
-PassesBlock n old new (Err fault) = (bytes : List ℕ) × (length bytes < n)
+SkipsBlock n old new (Err fault) = (bytes : List ℕ) × (length bytes < n)
     × Dries old new bytes fault
 
 -- the source ended after j whole blocks of n bytes
@@ -45,17 +45,17 @@ pub record EndsAfter (n j : ℕ) (old new : Side) : Type 0 where
   pub used : new.unread.bytes ≡ []
   pub at_end : IsAtEnd new.coming
 
-abbrev pub PassFails : ℕ → ℕ → Side → Side → FileFault → Type 0
-PassFails n blocks old new (Stream fault) = (fault.kind ≡ Truncated) × (fault.chunk < blocks)
+abbrev pub SkipFails : ℕ → ℕ → Side → Side → FileFault → Type 0
+SkipFails n blocks old new (Stream fault) = (fault.kind ≡ Truncated) × (fault.chunk < blocks)
     × EndsAfter n fault.chunk old new
-PassFails n blocks old new Read = (bytes : List ℕ) × (length bytes < blocks * n)
+SkipFails n blocks old new Read = (bytes : List ℕ) × (length bytes < blocks * n)
     × Dries old new bytes Read
-PassFails n blocks old new ReadNeverEnds = (bytes : List ℕ) × (length bytes < blocks * n)
+SkipFails n blocks old new ReadNeverEnds = (bytes : List ℕ) × (length bytes < blocks * n)
     × Dries old new bytes ReadNeverEnds
-PassFails n blocks old new other = ⊥
+SkipFails n blocks old new other = ⊥
 
 -- so many blocks of n bytes were passed over
-abbrev pub PassesOver : ℕ → ℕ → Side → Side → Result (Unit {0}) FileFault → Type 0
-PassesOver n blocks old new (Ok done) = (bytes : List ℕ) × (length bytes ≡ blocks * n)
+abbrev pub SkipsBlocks : ℕ → ℕ → Side → Side → Result (Unit {0}) FileFault → Type 0
+SkipsBlocks n blocks old new (Ok done) = (bytes : List ℕ) × (length bytes ≡ blocks * n)
     × Passes old new bytes
-PassesOver n blocks old new (Err fault) = PassFails n blocks old new fault
+SkipsBlocks n blocks old new (Err fault) = SkipFails n blocks old new fault

@@ -3,7 +3,7 @@
 ghost use Rattle.std.specs.Prelude.{◌≡◌, ◌+◌, ◌-◌, ◌^◌, ◌<◌, ◌≤◌, length, IfOk, OnOk};
 ghost use Rattle.age_file.specs.Releases.{tally, FeedsOnce, FeedsPiece, Closes};
 ghost use Rattle.age_file.specs.Flows.{flow, HasRoom, Turns, OpensAll};
-ghost use Rattle.age_file.specs.Pours.{stage, HasPlace, Pours};
+ghost use Rattle.age_file.specs.Payloads.{stage, HasPlace, DecryptsPayload};
 
 use crate::fault::FileFault;
 use crate::intake::Intake;
@@ -137,7 +137,7 @@ fn finish<B: ChunkBox, const SEALED: usize, O: Sink>(
 }
 
 /// Opens what a source gives from a chunk on, up to its end, and writes each chunk once its tag was checked.
-pub(crate) fn pour<B: ChunkBox, const SEALED: usize, S: Source, O: Sink>(
+pub(crate) fn decrypt_payload<B: ChunkBox, const SEALED: usize, S: Source, O: Sink>(
     key: &B,
     index: u64,
     source: &mut S,
@@ -151,7 +151,7 @@ pub(crate) fn pour<B: ChunkBox, const SEALED: usize, S: Source, O: Sink>(
     requires room { HasPlace (stage (tally (O.taken sink.old) (O.failed sink.old) (O.label sink.old)
         progress.old)
         (S.remaining source.old) (S.failed source.old) intake.old) }
-    ensures pours { Pours (B.opening key.now) (SEALED - 16) index
+    ensures decrypts { DecryptsPayload (B.opening key.now) (SEALED - 16) index
         (stage (tally (O.taken sink.old) (O.failed sink.old) (O.label sink.old) progress.old)
         (S.remaining source.old) (S.failed source.old) intake.old)
         (stage (tally (O.taken sink.new) (O.failed sink.new) (O.label sink.new) progress.new)

@@ -1,6 +1,6 @@
 //! Passes over the blocks of a payload that were opened before.
 
-ghost use Rattle.age_file.specs.Passages.{side, PassesBlock, PassesOver};
+ghost use Rattle.age_file.specs.Skips.{side, SkipsBlock, SkipsBlocks};
 
 use crate::fault::FileFault;
 use crate::intake::Intake;
@@ -12,8 +12,8 @@ use age_stream::{StreamFault, StreamKind};
 const BLOCK: usize = 65_552;
 
 /// Passes over a block. False: the source ended within it.
-fn pass_block<S: Source>(source: &mut S, intake: &mut Intake) -> Result<bool, FileFault>
-    ensures { PassesBlock 65552 (side (S.remaining source.old) (S.failed source.old) intake.old)
+fn skip_block<S: Source>(source: &mut S, intake: &mut Intake) -> Result<bool, FileFault>
+    ensures { SkipsBlock 65552 (side (S.remaining source.old) (S.failed source.old) intake.old)
         (side (S.remaining source.new) (S.failed source.new) intake.new) result }
 {
     let mut left = BLOCK;
@@ -29,17 +29,17 @@ fn pass_block<S: Source>(source: &mut S, intake: &mut Intake) -> Result<bool, Fi
 }
 
 /// Passes over so many blocks, unopened.
-pub(crate) fn pass_over<S: Source>(
+pub(crate) fn skip_blocks<S: Source>(
     source: &mut S,
     intake: &mut Intake,
     blocks: u64,
 ) -> Result<(), FileFault>
-    ensures { PassesOver 65552 blocks (side (S.remaining source.old) (S.failed source.old)
+    ensures { SkipsBlocks 65552 blocks (side (S.remaining source.old) (S.failed source.old)
         intake.old)
         (side (S.remaining source.new) (S.failed source.new) intake.new) result }
 {
     for block in 0..blocks {
-        if !pass_block(source, intake)? {
+        if !skip_block(source, intake)? {
             return Err(FileFault::Stream(StreamFault {
                 kind: StreamKind::Truncated,
                 chunk: block,

@@ -3,15 +3,15 @@ use Rattle.std.proofs.lemmas.Result.{err_from_is_err_and}
 use Rattle.std.proofs.KnownBytes.{Appends-nil}
 use Rattle.age_stream.specs.Segment.{released}
 use Rattle.age_file.proofs.Bytes.{answer_as}
-use Rattle.age_file.proofs.MarkSteps.{mark_end}
-use Rattle.age_file.proofs.pour.close.Goals as goal
+use Rattle.age_file.proofs.CountSteps.{mark_end}
+use Rattle.age_file.proofs.payload.close.Goals as goal
 
 pub returns-in_err-text : goal.returns-in_err-text
 returns-in_err-text g c =
     let p = err_from_is_err_and c.from_residual.result c.from_residual.ensures.1 in
     let after = rw c.in_err-text.was at c.end.follows.holds-at-none in
     record {
-      cut = [];
+      unwritten = [];
       releases = record {
         out = [];
         key = after.key;
@@ -20,7 +20,7 @@ returns-in_err-text g c =
         count = omega arith;
         stands = after.stands;
         text = c.in_err-text.ensures.text;
-        marks = λ keep positive s base len h m. mark_end (g.B.ChunkBox.sealing c.args.opener.now.key) (g.B.ChunkBox.opening c.args.opener.now.key) (g.met.B.ChunkBox.lawful c.args.opener.now.key) (g.row.SEALED - 16) positive keep base s [] [] _ _ len (c.in_err-text.ensures.text s h) refl refl m;
+        counts = λ keep positive s base len h m. mark_end (g.B.ChunkBox.sealing c.args.opener.now.key) (g.B.ChunkBox.opening c.args.opener.now.key) (g.met.B.ChunkBox.lawful c.args.opener.now.key) (g.row.SEALED - 16) positive keep base s [] [] _ _ len (c.in_err-text.ensures.text s h) refl refl m;
       };
       answered = rw (p.1, p.2) (after.fault, refl, refl, refl);
     }
@@ -30,7 +30,7 @@ returns g c =
     let after = rw c.in_ok-text.was at c.end.follows.holds-at-none in
     let put = c.write_all.ensures.writes in
     record {
-      cut = put.cut;
+      unwritten = put.unwritten;
       releases = record {
         out = put.out;
         key = after.key;
@@ -39,9 +39,9 @@ returns g c =
         count = put.count;
         stands = after.stands;
         text = λ s h. c.in_ok-text.ensures.text s h ∙ ap (λ (t : List ℕ). released (g.B.ChunkBox.opening c.args.opener.now.key) (g.row.SEALED - 16) s ++ t) put.parts;
-        marks = λ keep positive s base len h m.
+        counts = λ keep positive s base len h m.
             let more = c.in_ok-text.ensures.text s h ∙ ap (λ (t : List ℕ). released (g.B.ChunkBox.opening c.args.opener.now.key) (g.row.SEALED - 16) s ++ t) put.parts in
-            mark_end (g.B.ChunkBox.sealing c.args.opener.now.key) (g.B.ChunkBox.opening c.args.opener.now.key) (g.met.B.ChunkBox.lawful c.args.opener.now.key) (g.row.SEALED - 16) positive keep base s put.out put.cut _ _ len more refl refl m;
+            mark_end (g.B.ChunkBox.sealing c.args.opener.now.key) (g.B.ChunkBox.opening c.args.opener.now.key) (g.met.B.ChunkBox.lawful c.args.opener.now.key) (g.row.SEALED - 16) positive keep base s put.out put.unwritten _ _ len more refl refl m;
       };
       answered = answer_as c.write_all.result put.answered c.write_all.ensures.fault (λ _ all. (after.done, all.0, all.1)) (λ _ is risen. rw is risen);
     }

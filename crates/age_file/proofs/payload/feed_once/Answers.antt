@@ -4,8 +4,8 @@ use Rattle.std.proofs.lemmas.List.{take-append-drop}
 use Rattle.std.proofs.KnownBytes.{Appends-nil}
 use Rattle.age_stream.specs.Deliveries.{with_piece}
 use Rattle.age_file.specs.Releases.{tally}
-use Rattle.age_file.proofs.ReleaseSteps.{more_text, fed_front, goes_front, marks_whole, marks_refused, marks_cut}
-use Rattle.age_file.proofs.pour.feed_once.Goals as goal
+use Rattle.age_file.proofs.ReleaseSteps.{more_text, fed_front, goes_front, counts_whole, counts_refused, counts_cut}
+use Rattle.age_file.proofs.payload.feed_once.Goals as goal
 
 -- the opener refused the piece
 pub returns-in_err-step-clause-fed : goal.returns-in_err-step-clause-fed
@@ -17,7 +17,7 @@ returns-in_err-step-clause-fed g c =
     record {
       fed = piece;
       left = [];
-      cut = [];
+      unwritten = [];
       parts = sym (append-nil piece);
       releases = record {
         out = [];
@@ -27,7 +27,7 @@ returns-in_err-step-clause-fed g c =
         count = omega arith;
         stands = after.stands;
         text = λ s h. more_text (g.B.ChunkBox.opening key) (g.row.SEALED - 16) s (with_piece s piece) [] [] (c.in_err-step.ensures.texts s h) refl;
-        marks = marks_refused g.B.ChunkBox.opening (g.row.SEALED - 16) (g.B.ChunkBox.sealing key) c.args.opener.now c.feed.follows.lender-at-none c.args.progress.now piece (g.met.B.ChunkBox.lawful key) after.stands c.in_err-step.ensures.texts;
+        counts = counts_refused g.B.ChunkBox.opening (g.row.SEALED - 16) (g.B.ChunkBox.sealing key) c.args.opener.now c.feed.follows.lender-at-none c.args.progress.now piece (g.met.B.ChunkBox.lawful key) after.stands c.in_err-step.ensures.texts;
       };
       answered = rw (p.1, p.2) (after.fault, refl, refl, refl);
     }
@@ -47,10 +47,10 @@ returns-in_default-clause-fed g c =
     record {
       fed = take step.taken piece;
       left = drop step.taken piece;
-      cut = [];
+      unwritten = [];
       parts = sym (take-append-drop step.taken piece);
       releases = fed_front g.B.ChunkBox.opening (g.row.SEALED - 16) c.args.opener.now new was was piece step.taken None [] [] after.key after.stands texts refl (Appends-nil _) refl (omega arith)
-          (marks_refused g.B.ChunkBox.opening (g.row.SEALED - 16) (g.B.ChunkBox.sealing key) c.args.opener.now new c.args.progress.now (take step.taken piece) (g.met.B.ChunkBox.lawful key) after.stands texts);
+          (counts_refused g.B.ChunkBox.opening (g.row.SEALED - 16) (g.B.ChunkBox.sealing key) c.args.opener.now new c.args.progress.now (take step.taken piece) (g.met.B.ChunkBox.lawful key) after.stands texts);
       answered = goes_front g.B.ChunkBox.opening (g.row.SEALED - 16) c.args.opener.now new was was piece step.taken None [] [] (omega (arith, ok.taken)) room refl (omega arith) refl refl;
     }
 
@@ -70,10 +70,10 @@ returns-in_err-write_all-clause-fed g c =
     record {
       fed = take step.taken piece;
       left = drop step.taken piece;
-      cut = put.cut;
+      unwritten = put.unwritten;
       parts = sym (take-append-drop step.taken piece);
-      releases = fed_front g.B.ChunkBox.opening (g.row.SEALED - 16) c.args.opener.now c.feed.follows.lender-at-none was _ piece step.taken chunk put.out put.cut after.key after.stands texts put.parts put.wrote c.in_err-write_all.ensures.named put.count
-          (marks_cut g.B.ChunkBox.opening (g.row.SEALED - 16) (g.B.ChunkBox.sealing key) c.args.opener.now c.feed.follows.lender-at-none c.args.progress.now _ (take step.taken piece) chunk put.out put.cut (g.met.B.ChunkBox.lawful key) after.stands texts put.parts put.stopped refl refl);
+      releases = fed_front g.B.ChunkBox.opening (g.row.SEALED - 16) c.args.opener.now c.feed.follows.lender-at-none was _ piece step.taken chunk put.out put.unwritten after.key after.stands texts put.parts put.wrote c.in_err-write_all.ensures.named put.count
+          (counts_cut g.B.ChunkBox.opening (g.row.SEALED - 16) (g.B.ChunkBox.sealing key) c.args.opener.now c.feed.follows.lender-at-none c.args.progress.now _ (take step.taken piece) chunk put.out put.unwritten (g.met.B.ChunkBox.lawful key) after.stands texts put.parts put.stopped refl refl);
       answered = rw (p.1, p.2, c.in_err-write_all.ensures.fault) put.answered;
     }
 
@@ -96,9 +96,9 @@ returns-clause-fed g c =
     record {
       fed = take step.taken piece;
       left = drop step.taken piece;
-      cut = [];
+      unwritten = [];
       parts = sym (take-append-drop step.taken piece);
       releases = fed_front g.B.ChunkBox.opening (g.row.SEALED - 16) c.args.opener.now c.feed.follows.lender-at-none was now piece step.taken chunk put.out [] after.key after.stands texts whole put.wrote c.in_ok-write_all.ensures.named count
-          (marks_whole g.B.ChunkBox.opening (g.row.SEALED - 16) (g.B.ChunkBox.sealing key) c.args.opener.now c.feed.follows.lender-at-none c.args.progress.now c.advance.new.self (take step.taken piece) chunk c.index.result c.chain_over-chain.result (g.met.B.ChunkBox.lawful key) after.key c.index.ensures.index after.stands texts c.chain_over-chain.ensures c.advance.ensures.counted);
+          (counts_whole g.B.ChunkBox.opening (g.row.SEALED - 16) (g.B.ChunkBox.sealing key) c.args.opener.now c.feed.follows.lender-at-none c.args.progress.now c.advance.new.self (take step.taken piece) chunk c.index.result c.chain_over-chain.result (g.met.B.ChunkBox.lawful key) after.key c.index.ensures.index after.stands texts c.chain_over-chain.ensures c.advance.ensures.counted);
       answered = goes_front g.B.ChunkBox.opening (g.row.SEALED - 16) c.args.opener.now c.feed.follows.lender-at-none was now piece step.taken chunk put.out [] (omega (arith, ok.taken)) room whole count none put.answered.1;
     }

@@ -3,7 +3,7 @@ use Rattle.std.proofs.lemmas.Result.{err_from_is_err_and}
 use Rattle.std.proofs.lemmas.List.{take_rest, take-append-drop, length-append, length-drop, append_assoc, take_at, take_all}
 use Rattle.age_file.proofs.ReleaseSteps.{both_then, releases_none, releases_then, fails_then}
 use Rattle.age_file.specs.Releases.{tally}
-use Rattle.age_file.proofs.pour.feed_piece.Goals as goal
+use Rattle.age_file.proofs.payload.feed_piece.Goals as goal
 
 -- the front of what is left of a piece
 on : (piece fed left : List ℕ) (at n : ℕ) → take (length piece - at) (drop at piece) ≡ fed ++ left → n ≡ length fed → take at piece ++ fed ≡ take (at + n) piece
@@ -34,7 +34,7 @@ loop-at-preserved g c =
     let both = both_then g.B.ChunkBox.opening (g.row.SEALED - 16) (take at piece) fed.fed (take (at + c.in_ok-at.field-0) piece) c.args.opener.now c.loop-at.opener c.feed_once.new.opener
     (tally (g.O.Sink.taken c.args.sink.now) (g.O.Sink.failed c.args.sink.now) (g.O.Sink.label c.args.sink.now) c.args.progress.now)
     (tally (g.O.Sink.taken c.loop-at.sink) (g.O.Sink.failed c.loop-at.sink) (g.O.Sink.label c.loop-at.sink) c.loop-at.progress)
-    (tally (g.O.Sink.taken c.feed_once.new.sink) (g.O.Sink.failed c.feed_once.new.sink) (g.O.Sink.label c.feed_once.new.sink) c.feed_once.new.progress) fed.cut
+    (tally (g.O.Sink.taken c.feed_once.new.sink) (g.O.Sink.failed c.feed_once.new.sink) (g.O.Sink.label c.feed_once.new.sink) c.feed_once.new.progress) fed.unwritten
     (on piece fed.fed fed.left at c.in_ok-at.field-0 fed.parts fed.answered.0) kept.releases kept.goes fed.releases fed.answered.1 in
     record {
       within = omega (arith, ap length fed.parts, length-append fed.fed fed.left, fed.answered.0, length-drop at piece, ap length (take_rest piece at), kept.within);
@@ -56,10 +56,10 @@ returns-in_err-at g c =
       fed = record {
         fed = take at piece ++ fed.fed;
         left = fed.left;
-        cut = fed.cut;
+        unwritten = fed.unwritten;
         parts = all_of piece fed.fed fed.left at fed.parts;
-        releases = releases_then g.B.ChunkBox.opening (g.row.SEALED - 16) (take at piece) fed.fed c.args.opener.now c.loop-at.opener c.feed_once.new.opener was mid now fed.cut kept.releases fed.releases;
-        answered = rw (p.1, p.2) (fails_then g.B.ChunkBox.opening (g.row.SEALED - 16) (take at piece) c.args.opener.now c.loop-at.opener c.feed_once.new.opener was mid now fed.left fed.cut c.in_err-at.field-0.0 kept.goes fed.answered);
+        releases = releases_then g.B.ChunkBox.opening (g.row.SEALED - 16) (take at piece) fed.fed c.args.opener.now c.loop-at.opener c.feed_once.new.opener was mid now fed.unwritten kept.releases fed.releases;
+        answered = rw (p.1, p.2) (fails_then g.B.ChunkBox.opening (g.row.SEALED - 16) (take at piece) c.args.opener.now c.loop-at.opener c.feed_once.new.opener was mid now fed.left fed.unwritten c.in_err-at.field-0.0 kept.goes fed.answered);
       };
     }
 
@@ -72,7 +72,7 @@ returns g c =
       fed = record {
         fed = take at piece;
         left = [];
-        cut = [];
+        unwritten = [];
         parts = sym (append-nil (take at piece) ∙ take_all at piece (omega arith));
         releases = kept.releases;
         answered = (refl, kept.goes);

@@ -1,7 +1,7 @@
 use Rattle.std.proofs.Common.{length, ◌-◌, ◌≤◌, take, []}
 use Rattle.age_stream.specs.Deliveries.{with_piece}
 use Rattle.age_file.specs.Releases.{tally, Releases, FeedGoes}
-use Rattle.age_file.proofs.pour.feed_piece.Given as goal
+use Rattle.age_file.proofs.payload.feed_piece.Given as goal
 
 abbrev pub invariant-loop-at : goal.invariant-loop-at
 invariant-loop-at g l =

@@ -1,7 +1,7 @@
 use Rattle.std.proofs.Common.{◌-◌, ◌^◌, []}
 use Rattle.age_file.specs.Releases.{tally}
 use Rattle.age_file.specs.Flows.{flow, Flows, HasRoom, SameFailures}
-use Rattle.age_file.proofs.pour.open_all.Given as goal
+use Rattle.age_file.proofs.payload.open_all.Given as goal
 
 abbrev pub invariant-turns : goal.invariant-turns
 invariant-turns g l =

@@ -1,6 +1,6 @@
 use Rattle.std.proofs.Common.{◌≡◌, ◌+◌, ℕ, List, length}
-use Rattle.age_file.specs.Passages.{side, Passes}
-use Rattle.age_file.proofs.passage.pass_block.Given as goal
+use Rattle.age_file.specs.Skips.{side, Passes}
+use Rattle.age_file.proofs.skip.skip_block.Given as goal
 
 abbrev pub invariant-parts : goal.invariant-parts
 invariant-parts g l = record {

@@ -1,6 +1,6 @@
 use Rattle.std.proofs.Common.{◌≡◌, ◌*◌, ℕ, List, length}
-use Rattle.age_file.specs.Passages.{side, Passes}
-use Rattle.age_file.proofs.passage.pass_over.Given as goal
+use Rattle.age_file.specs.Skips.{side, Passes}
+use Rattle.age_file.proofs.skip.skip_blocks.Given as goal
 
 abbrev pub invariant-loop-block : goal.invariant-loop-block
 invariant-loop-block g l = record {
