@@ -45,12 +45,14 @@ module _ {B : Type 0} where
   FlowFails old new left unwritten Write = HasRisen old.tally.failed new.tally.failed
   FlowFails old new left unwritten Read = (left ≡ []) × (unwritten ≡ [])
       × HasRisen old.read_failed new.read_failed
-  FlowFails old new left unwritten ReadNeverEnds = (left ≡ []) × (unwritten ≡ []) × (new.unread.pulls ≡ 2 ^ 63)
+  FlowFails old new left unwritten ReadNeverEnds = (left ≡ []) × (unwritten ≡ [])
+      × (new.unread.pulls ≡ 2 ^ 63)
       × SameFailures old new
   FlowFails old new left unwritten other = ⊥
 
   abbrev pub TurnGoes : Flow B → Flow B → List ℕ → List ℕ → Bool → Type 0
-  TurnGoes old new left unwritten true = (left ≡ new.unread.bytes) × (unwritten ≡ []) × SameFailures old new
+  TurnGoes old new left unwritten true = (left ≡ new.unread.bytes) × (unwritten ≡ [])
+      × SameFailures old new
       × HasRoom new × (new.unread.pulls ≡ old.unread.pulls + 1)
   TurnGoes old new left unwritten false = (left ≡ []) × (unwritten ≡ []) × SameFailures old new
       × IsAtEnd new.coming × (length new.opener.held + new.tally.progress.written < 2 ^ 128)
@@ -72,7 +74,8 @@ module _ {B : Type 0} where
       pub left : List ℕ
       pub unwritten : List ℕ
       pub flows : Flows old new left unwritten
-      pub answered : MatchResult result (TurnGoes old new left unwritten) (FlowFails old new left unwritten)
+      pub answered : MatchResult result (TurnGoes old new left unwritten)
+          (FlowFails old new left unwritten)
 
     -- all that the source gave was fed, up to its end
     pub record OpensAll (old new : Flow B) (result : Result (Unit {0}) FileFault) : Type 0 where

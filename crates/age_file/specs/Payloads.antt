@@ -46,7 +46,8 @@ module _ (opening : List ℕ → List ℕ → Option (List ℕ)) (n : ℕ) where
   PayloadFails old new s out Write = HasRisen old.tally.failed new.tally.failed
   PayloadFails old new s out Read = (out ≡ released opening n s)
       × HasRisen old.read_failed new.read_failed
-  PayloadFails old new s out ReadNeverEnds = (out ≡ released opening n s) × (new.unread.pulls ≡ 2 ^ 63)
+  PayloadFails old new s out ReadNeverEnds = (out ≡ released opening n s)
+      × (new.unread.pulls ≡ 2 ^ 63)
       × NoneFailed old new
   PayloadFails old new s out other = ⊥
 
@@ -70,7 +71,8 @@ module _ (opening : List ℕ → List ℕ → Option (List ℕ)) (n : ℕ) where
     pub named : new.tally.label ≡ old.tally.label
     pub count : new.tally.progress.written ≡ old.tally.progress.written + length out
     pub prefix : IsPrefixOf out (released opening n (segment start bytes ended))
-    pub counts : (keep : Positions) (base : List ℕ) → length base ≡ start * n → old.tally.progress.index ≡ start
+    pub counts : (keep : Positions) (base : List ℕ) → length base ≡ start * n
+        → old.tally.progress.index ≡ start
         → old.tally.progress.chain ≡ chain_if keep (first_chunks n start base)
         → HasCounted keep opening n (base ++ out) (segment start bytes ended) new.tally.progress
     pub answered : MatchResult result (λ _. PayloadDone old new (segment start bytes ended) out)

@@ -28,7 +28,8 @@ tally taken failed label progress = record {
 }
 
 module _ {B : Type 0} (opening : B → List ℕ → List ℕ → Option (List ℕ)) (n : ℕ) where
-  -- for each segment that the opener stood for, it stands for the next, whose text is more by what was written and what was not written;
+  -- for each segment that the opener stood for, it stands for the next, whose text is more by what was
+  -- written and what wasn't;
   -- behind any base, the progress goes on counting the chunks that were written
   pub record Releases (next : Segment → Segment) (old new : OpenerView B) (was now : Tally)
       (unwritten : List ℕ) : Type 0 where
@@ -40,7 +41,8 @@ module _ {B : Type 0} (opening : B → List ℕ → List ℕ → Option (List �
     pub stands : (s : Segment) → Stands opening n old s → Stands opening n new (next s)
     pub text : (s : Segment) → Stands opening n old s → released (opening old.key) n (next s)
         ≡ released (opening old.key) n s ++ (out ++ unwritten)
-    pub counts : (keep : Positions) → 0 < n → (s : Segment) (base : List ℕ) → length base ≡ s.start * n
+    pub counts : (keep : Positions) → 0 < n → (s : Segment) (base : List ℕ)
+        → length base ≡ s.start * n
         → Stands opening n old s
         → CountsChunks keep (opening old.key) n base s [] was.progress
         → CountsChunks keep (opening old.key) n base (next s) unwritten now.progress
@@ -56,7 +58,8 @@ module _ {B : Type 0} (opening : B → List ℕ → List ℕ → Option (List �
   abbrev pub FeedGoes : OpenerView B → OpenerView B → Tally → Tally → List ℕ → List ℕ → Type 0
   FeedGoes old new was now fed unwritten =
       (length new.held + now.progress.written
-      ≤ length old.held + was.progress.written + length fed) × (unwritten ≡ []) × (now.failed ≡ was.failed)
+      ≤ length old.held + was.progress.written + length fed) × (unwritten ≡ [])
+      × (now.failed ≡ was.failed)
 
   -- one call: the opener took the front of the piece
   pub record FeedsOnce (old new : OpenerView B) (was now : Tally) (piece : List ℕ)

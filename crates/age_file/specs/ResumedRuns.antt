@@ -38,7 +38,8 @@ HasEnded first (r ∷ earlier) =
 
 -- a run copied the beginning of what was written before, and wrote the beginning of its text behind it; no block that came
 -- and is tried opens, except as the writer of this text sealed it
-pub record FollowsOn (text : List ℕ) (first : Run) (earlier : List ResumedRun) (r : ResumedRun) : Type 0 where
+pub record FollowsOn (text : List ℕ) (first : Run) (earlier : List ResumedRun) (r : ResumedRun)
+    : Type 0 where
   pub old : IsPrefixOf r.run.copied (output first earlier)
   pub old_text : IsOldText r.position r.run.copied
   pub prefix : IsPrefixOf r.run.out (fresh_text r.position r.run)

@@ -22,8 +22,8 @@ pub record StopsBefore (index : ℕ) (old new : Stage) (result : Result (Unit {0
   pub same : new.tally ≡ old.tally
 
 -- they were, and the bytes behind them were decrypted
-pub record DecryptsBehind (opening : List ℕ → List ℕ → Option (List ℕ)) (index : ℕ) (old new : Stage)
-    (result : Result (Unit {0}) FileFault) : Type 0 where
+pub record DecryptsBehind (opening : List ℕ → List ℕ → Option (List ℕ)) (index : ℕ)
+    (old new : Stage) (result : Result (Unit {0}) FileFault) : Type 0 where
   pub mid : Stage
   pub passed : List ℕ
   pub size : length passed ≡ index * 65552

@@ -53,13 +53,14 @@ module _ {B : Type 0} (sealing : B → List ℕ → List ℕ → List ℕ) (n : 
     pub holds : (text : List ℕ) → Holds n old text → Holds n new (text ++ fed)
 
   abbrev pub SealFails : SealerView B → Tally → Tally → List ℕ → FileFault → Type 0
-  SealFails old was now piece (Stream fault) = IsTooLong n old piece × (fault ≡ too_many (chunk_limit - 1))
+  SealFails old was now piece (Stream fault) = IsTooLong n old piece
+      × (fault ≡ too_many (chunk_limit - 1))
   SealFails old was now piece Write = HasRisen was.failures now.failures
   SealFails old was now piece other = ⊥
 
   -- of a piece the sealer was fed the front; its blocks grew by what was written, and by what wasn't where the sink failed
-  pub record SealsSome (old new : SealerView B) (was now : Tally) (piece fed left unwritten : List ℕ)
-      : Type 0 where
+  pub record SealsSome (old new : SealerView B) (was now : Tally)
+      (piece fed left unwritten : List ℕ) : Type 0 where
     pub out : List ℕ
     pub parts : piece ≡ fed ++ left
     pub wrote : Wrote was now out
