@@ -1,4 +1,5 @@
--- Where the headline's premise is met: the payload of a writer, delivered as it is. A chunk has n bytes.
+-- Where the headline's premise is met: the payload of a writer, delivered as it is. A chunk has n
+-- bytes.
 use Rattle.std.specs.Prelude.{◌≡◌, ℕ, ◌<◌, ◌≤◌, true, false, List, [], ◌∷◌, ◌++◌, length, Option, None, map}
 use Rattle.std.specs.List.{AllByRecursion, flat_map}
 use Rattle.std.specs.Borrow.{Bor}
@@ -37,7 +38,8 @@ RestIsAuthentic = (sealing : List ℕ → List ℕ → List ℕ)
     → IsClosed sealing opening n text
     → (s : Segment) → IsRest sealing opening n text s → IsAuthentic sealing opening n text s
 
--- so is the rest of a payload and an end, behind any deliveries of which each segment that was given up is authentic
+-- so are an undamaged payload, or its rest, and an end, after any deliveries of which each segment
+-- that was given up is authentic
 abbrev pub UndamagedIsAuthentic : Type 0
 UndamagedIsAuthentic = (sealing : List ℕ → List ℕ → List ℕ)
     (opening : List ℕ → List ℕ → Option (List ℕ))

@@ -1,5 +1,5 @@
--- The box that hides nothing is lawful. Its code cites this proof, so that it can't stand in `proofs/`.
-use Rattle.std.specs.Prelude.{◌≡◌, ◌≤◌, ℕ, ◌+◌, ◌-◌, List, [], ◌∷◌, ◌++◌, length, take, drop, Option, Some, None, nat_le, ◌&&◌, Bool, true, cond}
+-- The box that hides nothing is lawful. The code cites this proof, so it can't stand in `proofs/`.
+use Rattle.std.specs.Prelude.{◌≡◌, ◌≤◌, ℕ, ◌+◌, ◌-◌, List, [], ◌∷◌, ◌++◌, length, take, drop, Some, None, nat_le, ◌&&◌, Bool, true, cond}
 use Rattle.std.specs.Str.{bytes_eq}
 use Rattle.std.proofs.Common.{sym, ap, subst, ◌∙◌}
 use Rattle.std.proofs.Math.Nat.{eq-sub_of_add-eq, le-add_left}

@@ -33,7 +33,8 @@ module _ {B : Type 0} (sealing : B → List ℕ → List ℕ → List ℕ)
     pub fits : IfOk answer (λ step. length new.held + length (chunk_bytes step.chunk)
         ≤ length old.held + step.taken)
     pub unchanged : length piece ≡ 0 → new ≡ old
-    -- at last the headline: while what opens is the writer's, what was released is the beginning of the text
+    -- at last the headline: while what opens is the writer's, what was released is the beginning of
+    -- the text
     pub written : (s : Segment) → Stands opening n old s
         → ReleasesWritten (sealing old.key) (opening old.key) n (fed s piece answer)
         (released (opening old.key) n s

@@ -22,7 +22,7 @@ SealingsDiffer = (sealing : List ℕ → List ℕ → List ℕ) (opening : List 
     → (nonce text other : List ℕ) → length nonce ≡ 12
     → sealing nonce text ≡ sealing nonce other → text ≡ other
 
--- two pieces are one
+-- feeding two pieces equals feeding their concatenation
 abbrev pub PiecesJoin : Type 0
 PiecesJoin = (s : Segment) (piece more : List ℕ)
     → with_piece (with_piece s piece) more ≡ with_piece s (piece ++ more)
@@ -44,8 +44,8 @@ SealedGrows = (sealing : List ℕ → List ℕ → List ℕ) (n : ℕ) (text mor
 abbrev pub counted : (List ℕ → List ℕ → Option (List ℕ)) → ℕ → Segment → List (List ℕ)
 counted opening n s = take ((outcome opening n s).index - s.start) (outcome opening n s).texts
 
--- behind a base of so many whole chunks as stand before the segment, the chunks that it counts are those in front of all
--- text so far; while it is open they are all that it released
+-- after a base of so many whole chunks as stand before the segment, the chunks that it counts are
+-- the first of all text so far; while it is open they are all that it released
 pub record IsCounted (opening : List ℕ → List ℕ → Option (List ℕ)) (n : ℕ) (base : List ℕ)
     (s : Segment) : Type 0 where
   pub count : s.start + length (counted opening n s) ≡ (outcome opening n s).index

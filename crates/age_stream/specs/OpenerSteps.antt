@@ -22,7 +22,8 @@ module _ {B : Type 0} {n : ℕ} {g : _} where
   opener_view o =
       record { key = o.key.now; held = held_bytes o; index = o.index; status = o.status }
 
-  -- the opener stands where the outcome says; it has its text in front of the buffer, or none, and the answer says which
+  -- the opener stands where the outcome says; it has its text in front of the buffer, or none, and
+  -- the answer says which
   pub record IsTried (outcome : Outcome) (old : OpenerState B n g)
       (answer : Result (Unit {0}) StreamFault) (new : OpenerState B n g) : Type 0 where
     pub key : new.key ≡ old.key

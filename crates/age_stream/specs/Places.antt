@@ -1,4 +1,5 @@
--- Each block in its place: what a segment gives where its blocks are compared with the writer's. A chunk has n bytes.
+-- Each block in its place: what a segment gives where its blocks are compared with the writer's. A
+-- chunk has n bytes.
 use Rattle.std.specs.Prelude.{◌≡◌, ◌≢◌, ℕ, ◌+◌, ◌-◌, ◌*◌, ◌<◌, Bool, true, false, ◌&&◌, List, [], ◌∷◌, take, drop, Option, Some, None, if◌then◌else◌}
 use Rattle.std.specs.List.{list_any}
 use Rattle.std.specs.Str.{bytes_eq}
@@ -12,7 +13,8 @@ use Rattle.age_stream.specs.declared.fault.StreamKind.TheVariants.{ChunkDamaged,
 abbrev pub block_at : ℕ → List ℕ → ℕ → List ℕ
 block_at n bytes j = take (n + 16) (drop (j * (n + 16)) bytes)
 
--- the chunk that was sealed as this block at this nonce, if any: blocks are compared, and none is opened
+-- the chunk that was sealed as this block at this nonce, if any: blocks are compared, and none is
+-- opened
 abbrev pub sealed_as : List (List ℕ × List ℕ) → List (List ℕ) → List ℕ → List ℕ → Option (List ℕ)
 sealed_as [] chunks nonce block = None
 sealed_as (pair ∷ pairs) [] nonce block = None
@@ -31,7 +33,8 @@ module _ (sealing : List ℕ → List ℕ → List ℕ) (n : ℕ) (text : List �
   abbrev pub compared : List ℕ → List ℕ → Option (List ℕ)
   compared = sealed_as (sealed sealing n text) (chunks n text)
 
-  -- block number i is none of the writer's, and those before it are the writer's, each at its number
+  -- block number i is none of the writer's, and those before it are the writer's, each at its
+  -- number
   pub record IsFirstWrong (s : Segment) (i : ℕ) : Type 0 where
     pub before : (j : ℕ) → s.start + j < i
         → is_writers (nonce_bytes (s.start + j) false) (block_at n s.bytes j) ≡ true
@@ -40,8 +43,8 @@ module _ (sealing : List ℕ → List ℕ → List ℕ) (n : ℕ) (text : List �
 
 module _ (sealing : List ℕ → List ℕ → List ℕ) (opening : List ℕ → List ℕ → Option (List ℕ)) (n : ℕ)
     (text : List ℕ) where
-  -- the outcome is that of comparing blocks with the writer's; one is refused as damaged where it is the first that is
-  -- none, and there are never too many
+  -- the outcome is that of comparing blocks with the writer's; one is refused as damaged where it
+  -- is the first that is none, and there are never too many
   pub record IsInPlace (s : Segment) (status : Status) : Type 0 where
     pub compares : outcome opening n s ≡ outcome (compared sealing n text) n s
     pub damaged : (i : ℕ) → status ≡ failed ChunkDamaged i

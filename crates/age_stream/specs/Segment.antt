@@ -1,4 +1,5 @@
--- What an opener makes of a segment: the bytes that came from one start up to the next. A chunk has n bytes, its block n + 16.
+-- What an opener makes of a segment: the bytes that came from one start up to the next. A chunk has
+-- n bytes, its block n + 16.
 use Rattle.std.specs.Prelude.{ℕ, ◌+◌, ◌*◌, ◌/◌, Bool, true, false, ◌||◌, ◌&&◌, ◌==◌, nat_lt, List, [], ◌∷◌, ◌++◌, length, drop, Option, Some, None, if◌then◌else◌, slice_get}
 use Rattle.std.specs.List.{flat_map}
 use Rattle.std.specs.Simd.{first_chunks}
@@ -8,7 +9,8 @@ use Rattle.age_stream.specs.declared.step.Status.TheVariants.{Open, LastSeen, Do
 use Rattle.age_stream.specs.declared.fault.StreamKind.{StreamKind}
 use Rattle.age_stream.specs.declared.fault.StreamKind.TheVariants.{ChunkDamaged, ChunkCut, EmptyLast, Truncated, Trailing, TooManyChunks}
 
--- the number of its first block, the bytes before its first end, whether an end came, and whether bytes came after that
+-- the number of its first block, the bytes before its first end, whether an end came, and whether
+-- bytes came after that
 pub record Segment : Type 0 where
   pub start : ℕ
   pub bytes : List ℕ
@@ -30,7 +32,7 @@ whole_blocks n bytes = first_chunks (n + 16) (length bytes / (n + 16)) bytes
 abbrev pub rest_bytes : ℕ → List ℕ → List ℕ
 rest_bytes n bytes = drop (length bytes / (n + 16) * (n + 16)) bytes
 
--- the first line that holds, or else what stands behind all lines
+-- the first line that holds, or else what comes after all lines
 abbrev pub first_line : {A : Type 0} → List (Bool × A) → A → A
 first_line [] other = other
 first_line (line ∷ lines) other = if line.0 then line.1 else first_line lines other
@@ -54,7 +56,8 @@ module _ (opening : List ℕ → List ℕ → Option (List ℕ)) where
   front_texts i [] = []
   front_texts i (block ∷ blocks) = text_then (text_before_last i block) (front_texts (i + 1) blocks)
 
-  -- tried as the last block, of which this is the text, if it opened; with bytes behind it or not, and ended or not
+  -- tried as the last block, with its text if it opened, whether bytes followed it, and whether the
+  -- input ended
   abbrev pub after_last : List (List ℕ) → ℕ → Option (List ℕ) → Bool → Bool → Outcome
   after_last texts i None followed ended =
       record { texts = texts; index = i; status = failed ChunkDamaged i }
@@ -65,14 +68,15 @@ module _ (opening : List ℕ → List ℕ → Option (List ℕ)) where
         status = first_line ((followed, failed Trailing i) ∷ (ended, Done) ∷ []) LastSeen;
       }
 
-  -- a whole block that doesn't open as one before the last: it's the last, or its number is the greatest
+  -- a whole block, with its text if it opened as one before the last: then its number is the
+  -- greatest; else it is tried as the last
   abbrev pub at_block : List (List ℕ) → ℕ → List ℕ → Bool → Bool → Option (List ℕ) → Outcome
   at_block texts i block followed ended (Some text) =
       record { texts = texts; index = i; status = failed TooManyChunks i }
   at_block texts i block followed ended None =
       after_last texts i (opening (nonce_bytes i true) block) followed ended
 
-  -- less than a whole block: at the end of the input it's the last
+  -- less than a whole block: once the input ended it is the last
   abbrev pub final_block : List (List ℕ) → ℕ → List ℕ → Bool → Bool → Outcome
   final_block texts i rest late false = record { texts = texts; index = i; status = Open }
   final_block texts i rest late true =
@@ -85,14 +89,15 @@ module _ (opening : List ℕ → List ℕ → Option (List ℕ)) where
       ∷ (len == 0, refused Truncated) ∷ [])
       (after_last texts i (opening (nonce_bytes i true) rest) late true)
 
-  -- at the block that didn't open as one before the last, if one is there, or at what is left behind all whole blocks
+  -- at the whole block that stopped the texts in front, or, if all opened, at what is left after
+  -- them
   abbrev pub verdict_at : List (List ℕ) → ℕ → Option (List ℕ) → Bool → List ℕ → Bool → Bool
       → Outcome
   verdict_at texts i None followed rest late ended = final_block texts i rest late ended
   verdict_at texts i (Some block) followed rest late ended =
       at_block texts i block (followed || late) ended (opening (nonce_bytes i false) block)
 
-  -- the outcome, from the bytes split into whole blocks and what is left behind them
+  -- the outcome, from the bytes split into whole blocks and what is left after them
   abbrev pub outcome_of : ℕ → ℕ → List (List ℕ) → ℕ → List ℕ → Bool → Bool → Outcome
   outcome_of n start blocks len rest late ended =
       let texts = front_texts start blocks in

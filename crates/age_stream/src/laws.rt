@@ -13,7 +13,7 @@ pub fn sealings_differ()
     ensures { SealingsDiffer }
 {}
 
-/// Two pieces of a payload are one.
+/// Feeding two pieces equals feeding their concatenation.
 pub fn pieces_join()
     ensures { PiecesJoin }
 {}
@@ -30,7 +30,7 @@ pub fn sealed_grows()
     ensures { SealedGrows }
 {}
 
-/// The index of a segment counts the whole chunks in front of the text: behind
+/// The index of a segment counts the whole chunks before the text: after
 /// a base of `start` whole chunks, what was released of the blocks before the
 /// last joins to the first `index` chunks of all text so far.
 pub fn chunks_are_counted()

@@ -20,7 +20,8 @@ use std::marker::Model;
 #[derive(Drop)]
 struct OpenerState<'k, B: ChunkBox, const SEALED: usize> {
     key: &'k B,
-    // the bytes of the block that is open; or the text and the tag of one that was opened, until the next call
+    // the bytes of the block that is open; or the text and the tag of one that was opened, until
+    // the next call
     buffer: ArrayVec<u8, SEALED>,
     lent: bool,
     index: u64,
@@ -212,7 +213,7 @@ impl<'k, B: ChunkBox, const SEALED: usize> OpenerState<'k, B, SEALED> {
         Ok(0)
     }
 
-    // Ends, and says how many bytes in front of the buffer are the last text.
+    // Ends, and says how many bytes at the beginning of the buffer are the last text.
     fn close(&mut self) -> Result<usize, StreamFault>
         ensures stands { (s : Segment) → Stands B.opening (SEALED - 16) (opener_view self.old) s
             → Stands B.opening (SEALED - 16) (opener_view self.new) (with_end s) }
@@ -370,7 +371,7 @@ impl<'k, B: ChunkBox, const SEALED: usize> Opener<'k, B, SEALED> {
     /// piece. A full block that opens neither as its chunk nor as the last is
     /// [`ChunkDamaged`](StreamKind::ChunkDamaged), one that opens as chunk
     /// number [`CHUNK_LIMIT`] less one and not the last is
-    /// [`TooManyChunks`](StreamKind::TooManyChunks), and bytes behind the last
+    /// [`TooManyChunks`](StreamKind::TooManyChunks), and bytes after the last
     /// chunk are [`Trailing`](StreamKind::Trailing). After a refusal each call
     /// is refused with the same fault.
     pub fn feed(&mut self, piece: &[u8]) -> Result<Step<'_>, StreamFault>
@@ -406,7 +407,7 @@ impl<'k, B: ChunkBox, const SEALED: usize> Opener<'k, B, SEALED> {
     /// The input ended: what is held is tried as the last chunk, and its text
     /// is lent. Answers no text where the last chunk came before. Nothing held
     /// is [`Truncated`](StreamKind::Truncated), fewer than 16 bytes are
-    /// [`ChunkCut`](StreamKind::ChunkCut), and 16 behind other chunks are
+    /// [`ChunkCut`](StreamKind::ChunkCut), and 16 after other chunks are
     /// [`EmptyLast`](StreamKind::EmptyLast): a writer makes no empty chunk but
     /// for the empty text. What doesn't open is
     /// [`ChunkDamaged`](StreamKind::ChunkDamaged). After a refusal each call is

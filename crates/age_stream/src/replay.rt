@@ -317,14 +317,14 @@ impl<'k, B: ChunkBox, const SEALED: usize> Replay<'k, B, SEALED> {
             → Replays B.opening (SEALED - 16) self.new (deliveries ++ delivery.now ∷ [])) }
         ensures err { OnErr result (self.new ≡ self.old) }
 
-        // Memory is refused only where the delivery could release more text than there is room for: never at a restart, nor
-        // behind the last chunk or a fault. What room there is stays.
+        // Memory is refused only where the delivery could release more text than there is room for:
+        // never at a restart, nor after the last chunk or a fault. What room there is stays.
         ensures memory { OnErr result (IsCramped (SEALED - 16) self.old delivery.now) }
         ensures capacity { self.old.capacity ≤ self.new.capacity }
 
-        // While no block opens except as the writer of a text sealed it, what is held is the beginning of that text, the
-        // end is reported only with all of it, an undamaged payload, or its rest, gives all of it, and each block stands in
-        // its place.
+        // While no block opens except as the writer of a text sealed it, what is held is the
+        // beginning of that text, the end is reported only with all of it, an undamaged payload, or
+        // its rest, gives all of it, and each block stands in its place.
         ensures written { OnOk result ((deliveries : List DeliveryValue)
             → Replays B.opening (SEALED - 16) self.old deliveries
             → HoldsWritten (B.sealing self.old.key) (B.opening self.old.key) (SEALED - 16)

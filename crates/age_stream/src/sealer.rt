@@ -33,7 +33,7 @@ impl<'k, B: ChunkBox, const SEALED: usize> SealerState<'k, B, SEALED> {
     ghost use Rattle.age_stream.specs.Sealing.{Holds, step_len, needs_too_many, too_many};
     ghost use Rattle.age_stream.specs.Payload.{sealed_before_last, block_bytes, payload};
 
-    // Empties the buffer of a block that was lent, and puts the byte beside it in front.
+    // Empties the buffer of a block that was lent, and puts the byte beside it first.
     fn settle(&mut self)
         ensures held { held_text self.new ≡ held_text self.old }
         ensures buffer { self.new.buffer.items ≡ held_text self.old }
@@ -165,7 +165,7 @@ impl<'k, B: ChunkBox, const SEALED: usize> SealerState<'k, B, SEALED> {
 }
 
 /// Seals a text that comes in pieces, however they are cut (C2SP age.md,
-/// "Payload"). A whole chunk is sealed once a byte behind it came, since only
+/// "Payload"). A whole chunk is sealed once a byte after it came, since only
 /// then it isn't the last.
 ///
 /// A contract sees the key, the text of the chunk that is open, its number,
@@ -246,7 +246,7 @@ impl<'k, B: ChunkBox, const SEALED: usize> Sealer<'k, B, SEALED> {
         }
     }
 
-    /// Takes bytes of the text: what the open chunk has room for, or, behind
+    /// Takes bytes of the text: what the open chunk has room for, or, after
     /// a chunk that is full, one. That byte begins the next chunk, and the
     /// full one is sealed as not the last and lent. Takes nothing of an empty
     /// piece. [`TooManyChunks`](StreamKind::TooManyChunks) where a byte would
@@ -298,7 +298,7 @@ impl<'k, B: ChunkBox, const SEALED: usize> Sealer<'k, B, SEALED> {
     }
 }
 
-// Puts the tag behind the text in the buffer, and seals both in place.
+// Puts the tag after the text in the buffer, and seals both in place.
 fn seal_in<B: ChunkBox, const SEALED: usize>(
     key: &B,
     index: u64,

@@ -64,7 +64,7 @@ impl From<StreamFault> for SealFault {
     }
 }
 
-/// The payload of a text: its chunks, each sealed at its nonce, one behind the
+/// The payload of a text: its chunks, each sealed at its nonce, one after the
 /// other (C2SP age.md, "Payload"), in chunks of `SEALED - 16` bytes. Memory is
 /// asked for once, before anything is sealed; that aside, only a text of more
 /// than 2^48 chunks is refused.
@@ -98,7 +98,8 @@ pub fn seal_all<B: ChunkBox, const SEALED: usize>(
     Ok(out)
 }
 
-// How many bytes the payload of a text has, in chunks of so many bytes, or the greatest number if that is smaller.
+// How many bytes the payload of a text has, in chunks of so many bytes; at most the greatest
+// number.
 fn payload_len(text_len: usize, chunk_len: usize) -> usize
     requires { 0 < chunk_len }
     ensures { result ≡ min (text_len + ((text_len - 1) / chunk_len + 1) * 16)

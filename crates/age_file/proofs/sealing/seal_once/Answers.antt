@@ -18,7 +18,7 @@ returns-in_err-step-clause-sealed g c =
     record {
       fed = [];
       left = c.args.piece.now;
-      cut = [];
+      unwritten = [];
       some = record {
         out = [];
         parts = refl;
@@ -37,12 +37,12 @@ returns-in_ok-write_all-clause-sealed g c =
     let piece = c.args.piece.now in
     let held = c.args.sealer.now.held in
     let n = g.row.SEALED - 16 in
-    let is : chunk_bytes step.chunk ≡ put.out ++ put.cut = ap (λ o. chunk_bytes o) c.in-Some.is ∙ put.parts in
+    let is : chunk_bytes step.chunk ≡ put.out ++ put.unwritten = ap (λ o. chunk_bytes o) c.in-Some.is ∙ put.parts in
     record {
       fed = take step.taken piece;
       left = drop step.taken piece;
-      cut = put.cut;
-      some = some_sealed g.B.ChunkBox.sealing n c.args.sealer.now _ _ _ piece step.taken step.chunk put.out put.cut is (record { bytes = put.wrote; count = put.count }) ok.chunk;
+      unwritten = put.unwritten;
+      some = some_sealed g.B.ChunkBox.sealing n c.args.sealer.now _ _ _ piece step.taken step.chunk put.out put.unwritten is (record { bytes = put.wrote; count = put.count }) ok.chunk;
       answered = (
         omega (arith, ok.taken, step_len_le n held piece, length-take c.in_ok-step.step.taken c.args.piece.now),
         λ more. omega (arith, ok.taken, step_len_some n held piece more),
@@ -64,7 +64,7 @@ returns-in_default-clause-sealed g c =
     record {
       fed = take step.taken piece;
       left = drop step.taken piece;
-      cut = [];
+      unwritten = [];
       some = some_sealed g.B.ChunkBox.sealing n c.args.sealer.now _ _ _ piece step.taken step.chunk [] [] is (record { bytes = Appends-nil _; count = omega arith }) ok.chunk;
       answered = (
         omega (arith, ok.taken, step_len_le n held piece, length-take c.in_ok-step.step.taken c.args.piece.now),
@@ -83,11 +83,11 @@ returns-in_err-write_all-clause-sealed g c =
     let step = c.in_ok-step.step in
     let piece = c.args.piece.now in
     let n = g.row.SEALED - 16 in
-    let is : chunk_bytes step.chunk ≡ put.out ++ put.cut = ap (λ o. chunk_bytes o) c.in-Some.is ∙ put.parts in
+    let is : chunk_bytes step.chunk ≡ put.out ++ put.unwritten = ap (λ o. chunk_bytes o) c.in-Some.is ∙ put.parts in
     record {
       fed = take step.taken piece;
       left = drop step.taken piece;
-      cut = put.cut;
-      some = some_sealed g.B.ChunkBox.sealing n c.args.sealer.now _ _ _ piece step.taken step.chunk put.out put.cut is (record { bytes = put.wrote; count = put.count }) ok.chunk;
+      unwritten = put.unwritten;
+      some = some_sealed g.B.ChunkBox.sealing n c.args.sealer.now _ _ _ piece step.taken step.chunk put.out put.unwritten is (record { bytes = put.wrote; count = put.count }) ok.chunk;
       answered = rw (p.1, p.2, c.in_err-write_all.ensures.fault) put.answered;
     }
