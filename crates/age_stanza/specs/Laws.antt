@@ -1,10 +1,10 @@
 -- Laws over the definitions alone.
-use Rattle.std.specs.Prelude.{◌≡◌, ◌++◌, ℕ, List, length, codes}
+use Rattle.std.specs.Prelude.{◌≡◌, ◌<◌, ◌++◌, ℕ, List, length, codes}
 use Rattle.base64.specs.GeneralPurpose.{IsBytes, engine_symbols}
 use Rattle.base64.specs.Engines.{standard_no_pad}
 use Rattle.age_stanza.specs.declared.header.Header.{Header}
 use Rattle.age_stanza.specs.declared.fault.HeadFault.{HeadFault}
-use Rattle.age_stanza.specs.Grammar.{Spells, HeadText}
+use Rattle.age_stanza.specs.Grammar.{line, in_lines, Spells, HeadText}
 use Rattle.age_stanza.specs.Encoding.{mac_text}
 use Rattle.age_stanza.specs.Faults.{HasHeader, IsFault}
 
@@ -33,3 +33,10 @@ FaultsStay = (front rest : List ℕ) (fault : HeadFault) → (HasHeader front �
 abbrev pub MacTextIsFront : Type 0
 MacTextIsFront = (h : Header) (bytes : List ℕ) → HeadText h bytes
     → (last : List ℕ) × (length last ≡ 45) × (bytes ≡ mac_text h ++ last)
+
+-- a text in lines is lines of 64 characters, one for each 64 of the text, and a last one with the fewer than 64 that are left
+abbrev pub LinesOf64 : Type 0
+LinesOf64 =
+    ((characters rest : List ℕ) → length characters ≡ 64
+    → in_lines 0 (characters ++ rest) ≡ line characters ++ in_lines 0 rest)
+    × ((characters : List ℕ) → length characters < 64 → in_lines 0 characters ≡ line characters)
