@@ -34,7 +34,10 @@ pub use encode::{encode_head, mac_text};
 pub use fault::{HeadFault, HeadKind};
 pub use header::{HeadStep, Header, Stanza, Stanzas};
 pub use lawful::{is_argument, is_header};
-pub use laws::{alphabet, any_pieces, faults_stay, mac_text_is_front, one_fault, one_header};
+pub use laws::{
+    alphabet, any_pieces, faults_stay, lines_of_64, mac_text_is_front, one_fault, one_header,
+    text_is_base64,
+};
 pub use parser::HeadParser;
 pub use text::read_base64;
 
