@@ -1,6 +1,15 @@
 """What the benchmarks measure."""
+import os
 import pathlib
 import time
+import typing
+
+
+class Cost(typing.NamedTuple):
+    """Seconds that a process took: of a processor (user and system), and on the wall."""
+
+    processor: float
+    wall: float
 
 
 def least(call, turns):
@@ -12,6 +21,13 @@ def least(call, turns):
         took = time.perf_counter_ns() - start
         best = took if best is None else min(best, took)
     return best
+
+
+def cost(child, start):
+    """Waits until a process ends that began at `start`, and returns its status and what it took."""
+    _, status, usage = os.wait4(child, 0)
+    wall = time.perf_counter() - start
+    return os.waitstatus_to_exitcode(status), Cost(usage.ru_utime + usage.ru_stime, wall)
 
 
 def most_resident(child):

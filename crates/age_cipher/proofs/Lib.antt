@@ -7,3 +7,4 @@ pub mod LaneLemmas
 pub mod KeystreamLemmas
 pub mod SealingLemmas
 pub mod AeadLemmas
+pub mod StandardLemmas

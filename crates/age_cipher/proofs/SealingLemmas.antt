@@ -92,7 +92,7 @@ sealing_of_opening key nonce aad block text e =
     let t = cond_some (bytes_eq (sealing key nonce aad d) block) d text e in
     sym ((bytes_eq-Decides (sealing key nonce aad d) block).0 t.0) ∙ ap (sealing key nonce aad) t.1
 
-opens_to : (key nonce aad block text : List ℕ) → block ≡ sealing key nonce aad text → opening key nonce aad block ≡ Some text
+pub opens_to : (key nonce aad block text : List ℕ) → block ≡ sealing key nonce aad text → opening key nonce aad block ≡ Some text
 opens_to key nonce aad block text e = ap (opening key nonce aad) e ∙ opening_of_sealing key nonce aad text
 
 none_of : (o : Option (List ℕ)) → ((text : List ℕ) → o ≡ Some text → ⊥) → o ≡ None

@@ -6,3 +6,4 @@ pub mod Keystream
 pub mod Places
 pub mod Aead
 pub mod Opening
+pub mod Laws

@@ -1,8 +1,21 @@
 // Laws of the definitions.
 ghost use Rattle.age_cipher.specs.Aead.{DistinctSealings};
+ghost use Rattle.age_cipher.specs.Laws.{KeystreamIsBlocks, OpensSealings};
 
 /// Under one key, nonce and associated data different texts seal to different blocks. This is a
 /// law over the definitions: the call does nothing.
 pub fn sealings_are_distinct()
     ensures { DistinctSealings }
+{}
+
+/// The keystream is the blocks of RFC 8439 (2.3 and 2.4), one after the other. This is a law over
+/// the definitions: the call does nothing.
+pub fn keystream_is_blocks()
+    ensures { KeystreamIsBlocks }
+{}
+
+/// A block opens to a text exactly where it is that text's sealing. This is a law over the
+/// definitions: the call does nothing.
+pub fn opens_sealings()
+    ensures { OpensSealings }
 {}

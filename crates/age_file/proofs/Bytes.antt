@@ -66,16 +66,16 @@ whole_fault (Some all) (Some rest) bytes fault consumed none told =
     subst (λ (t : List ℕ). IsHeadFault t fault) (sym consumed) (more.0, inl more.1)
 
 whole_cut : (old new : Option (List ℕ)) (bytes : List ℕ) (fault : HeadFault) → Consumes old new bytes → IsAtEnd new → (HasHeader bytes → ⊥) → IsCut bytes fault → IsSourcesFault old fault
-whole_cut None new bytes fault consumed ended none cut = tt
-whole_cut (Some all) None bytes fault consumed ended none cut = absurd consumed
-whole_cut (Some all) (Some rest) bytes fault consumed ended none cut =
+whole_cut None new bytes fault consumed ended none unwritten = tt
+whole_cut (Some all) None bytes fault consumed ended none unwritten = absurd consumed
+whole_cut (Some all) (Some rest) bytes fault consumed ended none unwritten =
     let same : all ≡ bytes = consumed ∙ ap (λ (t : List ℕ). bytes ++ t) ended ∙ append-nil bytes in
-    subst (λ (t : List ℕ). IsHeadFault t fault) (sym same) (none, inr cut)
+    subst (λ (t : List ℕ). IsHeadFault t fault) (sym same) (none, inr unwritten)
 
 -- the input ended inside the header
 pub end_fails : (old new : Option (List ℕ)) (i j : ℕ) (bytes : List ℕ) (fault : HeadFault) → Consumes old new bytes → IsAtEnd new → (HasHeader bytes → ⊥) → IsCut bytes fault → HeadFails old new i j (fault_of fault)
-end_fails old new i j bytes fault consumed ended none cut =
-    fails_by_kind old new i j fault.kind fault (record { bytes = bytes; consumed = consumed; no_header = none; told = inr (ended, cut); of_all = whole_cut old new bytes fault consumed ended none cut })
+end_fails old new i j bytes fault consumed ended none unwritten =
+    fails_by_kind old new i j fault.kind fault (record { bytes = bytes; consumed = consumed; no_header = none; told = inr (ended, unwritten); of_all = whole_cut old new bytes fault consumed ended none unwritten })
 
 -- a piece that was refused
 pub piece_fails : (old new : Option (List ℕ)) (i j : ℕ) (held piece : List ℕ) (fault : HeadFault) → Consumes old new (held ++ piece)

@@ -21,7 +21,7 @@ use Rattle.age_file.specs.declared.position.Position.{Position}
 use Rattle.age_file.specs.declared.position.Positions.{Positions}
 use Rattle.age_file.specs.declared.position.Positions.TheVariants.{Kept, Dropped}
 use Rattle.age_file.proofs.Bytes.{prefix_trans}
-use Rattle.age_file.proofs.RowSteps.{same_carries}
+use Rattle.age_file.proofs.ResumedRunSteps.{same_carries}
 
 -- ---- sinks and old texts that are told
 

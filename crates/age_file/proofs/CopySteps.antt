@@ -9,13 +9,13 @@ use Rattle.age_stream.specs.Headline.{IsPrefixOf}
 use Rattle.age_file.specs.Faults.{HasRisen}
 use Rattle.age_file.specs.Bindings.{link, chain}
 use Rattle.age_file.specs.Releases.{Tally}
-use Rattle.age_file.specs.Passages.{Side, Passes, Dries}
+use Rattle.age_file.specs.Skips.{Side, Passes, Dries}
 use Rattle.age_file.specs.Copies.{CopyFails, CopiesChunk, CopiesAll}
 use Rattle.age_file.specs.declared.fault.FileFault.{FileFault}
 use Rattle.age_file.specs.declared.fault.FileFault.TheVariants.{ShortText, Read, Write, ReadNeverEnds}
 use Rattle.age_file.proofs.Bytes.{Appends-then}
-use Rattle.age_file.proofs.MarkSteps.{chain_on}
-use Rattle.age_file.proofs.PassageSteps.{passes_then, dries_then, within}
+use Rattle.age_file.proofs.CountSteps.{chain_on}
+use Rattle.age_file.proofs.SkipSteps.{passes_then, dries_then, within}
 
 -- the chain over one chunk more
 pub chain_more : (n i : ℕ) (out chunk : List ℕ) → length out ≡ i * n → length chunk ≡ n
@@ -50,11 +50,11 @@ chunk_failed n chunks i x y z a b c p fault size lt f wrote named same count g =
 }
 
 -- the front of a piece was written behind what was used
-pub front_written : (used out cut bytes : List ℕ) (n : ℕ) → take n bytes ≡ out ++ cut → IsPrefixOf (used ++ out) (used ++ bytes)
-front_written used out cut bytes n parts = (
-  cut ++ drop n bytes,
-  append_assoc used out (cut ++ drop n bytes)
-      ∙ ap (λ (t : List ℕ). used ++ t) (sym (append_assoc out cut (drop n bytes)) ∙ ap (λ (t : List ℕ). t ++ drop n bytes) (sym parts) ∙ take-append-drop n bytes),
+pub front_written : (used out unwritten bytes : List ℕ) (n : ℕ) → take n bytes ≡ out ++ unwritten → IsPrefixOf (used ++ out) (used ++ bytes)
+front_written used out unwritten bytes n parts = (
+  unwritten ++ drop n bytes,
+  append_assoc used out (unwritten ++ drop n bytes)
+      ∙ ap (λ (t : List ℕ). used ++ t) (sym (append_assoc out unwritten (drop n bytes)) ∙ ap (λ (t : List ℕ). t ++ drop n bytes) (sym parts) ∙ take-append-drop n bytes),
 )
 
 -- a pull gave no more
@@ -64,5 +64,5 @@ copy_dry x z a b p ReadNeverEnds g same = (g, same)
 copy_dry x z a b p other g same = absurd g.why
 
 -- what was written whole
-pub all_out : (piece out cut : List ℕ) → piece ≡ out ++ cut → cut ≡ [] → out ≡ piece
-all_out piece out cut parts none = sym (parts ∙ ap (λ (xs : List ℕ). out ++ xs) none ∙ append-nil out)
+pub all_out : (piece out unwritten : List ℕ) → piece ≡ out ++ unwritten → unwritten ≡ [] → out ≡ piece
+all_out piece out unwritten parts none = sym (parts ∙ ap (λ (xs : List ℕ). out ++ xs) none ∙ append-nil out)

@@ -1,4 +1,4 @@
--- From what was read and poured to what a decryption did.
+-- From what was read and decrypted to what a decryption did.
 use Rattle.std.proofs.Common.{◌/◌, min, Some, None, refl, inl, inr, ◌≡◌, ℕ, ◌*◌, ◌<◌, ◌≤◌, List, [], ◌++◌, length, take, Option, sym, ap, subst, ◌∙◌, arith, append_assoc}
 use Rattle.std.specs.Prelude.{Result, MatchResult, Ok, Err}
 use Rattle.age_stanza.specs.declared.header.Header.{Header}
@@ -13,14 +13,14 @@ use Rattle.age_keys.specs.PayloadBox.{box_lawful}
 use Rattle.age_file.specs.Faults.{HasRisen}
 use Rattle.age_file.specs.Intakes.{Pulled}
 use Rattle.age_file.specs.AgeFile.{box, unbox}
-use Rattle.age_file.specs.Pours.{Stage, Pours, PourFails, PourDone}
+use Rattle.age_file.specs.Payloads.{Stage, DecryptsPayload, PayloadFails, PayloadDone}
 use Rattle.age_file.specs.Starts.{StartsAt, StartFails}
 use Rattle.age_file.specs.Decrypts.{Run, segment_of, text_of, IsRun, IsPositionOf, IsPositionAt, PositionAt, Told, IsAuthenticRun, WritesOf, WritesAll, DecryptFails, DecryptDone}
 use Rattle.age_file.specs.Ports.{Ports}
 use Rattle.age_file.specs.Bindings.{file_id, chain, chain_if, position_tag}
 use Rattle.age_file.specs.declared.position.Positions.{Positions}
 use Rattle.age_file.specs.declared.position.Positions.TheVariants.{Kept, Dropped}
-use Rattle.age_file.specs.Marks.{IsMarked}
+use Rattle.age_file.specs.Counts.{HasCounted}
 use Rattle.age_file.specs.declared.position.Position.{Position}
 use Rattle.std.proofs.lemmas.List.{length-append}
 use Rattle.std.proofs.Math.Nat.{le-div_iff_mul-le}
@@ -99,7 +99,7 @@ module _ (keep : Positions) (Allows : Header → List ℕ → Type 0) (Refused :
 
   fails : (a : Option (List ℕ)) (i : ℕ) (old new : Stage) (r : Run) (pulled : List ℕ) (p : Option Position) (fault : FileFault) → old.read_failed ≡ i → Pulled a new.coming new.unread.pulls pulled
       → IsRun Allows (before a i old) (after new) new.tally.progress.written r → Told keep (IsPositionOf r) p
-      → PourFails (unbox r.key r.nonce) 65536 old new (segment_of r) r.out fault
+      → PayloadFails (unbox r.key r.nonce) 65536 old new (segment_of r) r.out fault
       → DecryptFails keep Allows Refused (before a i old) (after new) new.tally.progress.written p fault
   fails a i old new r pulled p (Stream x) same h is at f = (r, record { is = is; whole = f.1; of = writes_of r is.prefix }, at, f.0, (f.2.1 ∙ same, f.2.0))
   fails a i old new r pulled p Write same h is at f = (r, is, writes_of r is.prefix, at, f)
@@ -107,23 +107,23 @@ module _ (keep : Positions) (Allows : Header → List ℕ → Type 0) (Refused :
   fails a i old new r pulled p ReadNeverEnds same h is at f = (inr (r, record { is = is; whole = f.0; of = writes_of r is.prefix }, at), (pulled, h.consumed, omega (arith, h.each_gave, f.1)))
   fails a i old new r pulled p other same h is at f = absurd f
 
-  -- what was read and poured
-  pub record IsPoured (a : Option (List ℕ)) (i : ℕ) (unlocked : Unlocked) (old new : Stage) (result : Result (Unit {0}) FileFault) : Type 0 where
+  -- what was read and decrypted
+  pub record IsDecrypted (a : Option (List ℕ)) (i : ℕ) (unlocked : Unlocked) (old new : Stage) (result : Result (Unit {0}) FileFault) : Type 0 where
     pub run : Run
     pub key_is : run.key ≡ unlocked.key
     pub nonce_is : run.nonce ≡ unlocked.nonce
     pub id : unlocked.id ≡ file_id run.front run.nonce
     pub is : IsRun Allows (before a i old) (after new) new.tally.progress.written run
     pub pulled : Pulled a new.coming new.unread.pulls ((run.front ++ run.nonce) ++ run.bytes)
-    pub marks : IsMarked keep (unbox run.key run.nonce) 65536 run.out (segment_of run) new.tally.progress
-    pub answered : MatchResult result (λ _. PourDone (unbox run.key run.nonce) 65536 old new (segment_of run) run.out) (PourFails (unbox run.key run.nonce) 65536 old new (segment_of run) run.out)
+    pub counts : HasCounted keep (unbox run.key run.nonce) 65536 run.out (segment_of run) new.tally.progress
+    pub answered : MatchResult result (λ _. PayloadDone (unbox run.key run.nonce) 65536 old new (segment_of run) run.out) (PayloadFails (unbox run.key run.nonce) 65536 old new (segment_of run) run.out)
 
-  pub poured : (a : Option (List ℕ)) (i : ℕ) (unlocked : Unlocked) (key : List ℕ) (old new : Stage) (result : Result (Unit {0}) FileFault)
+  pub decrypted : (a : Option (List ℕ)) (i : ℕ) (unlocked : Unlocked) (key : List ℕ) (old new : Stage) (result : Result (Unit {0}) FileFault)
       → old.tally.progress.written ≡ 0 → old.tally.progress.index ≡ 0 → old.tally.progress.chain ≡ chain_if keep []
       → key ≡ payload_key unlocked.key unlocked.nonce → StartsAt Allows a old.coming old.unread unlocked
-      → Pours (λ nonce block. opening key nonce [] block) 65536 0 old new result → IsPoured a i unlocked old new result
-  poured a i unlocked key old new result none index chain_none is s q =
-      let p = subst (λ (t : List ℕ). Pours (λ nonce block. opening t nonce [] block) 65536 0 old new result) is q in
+      → DecryptsPayload (λ nonce block. opening key nonce [] block) 65536 0 old new result → IsDecrypted a i unlocked old new result
+  decrypted a i unlocked key old new result none index chain_none is s q =
+      let p = subst (λ (t : List ℕ). DecryptsPayload (λ nonce block. opening t nonce [] block) 65536 0 old new result) is q in
       let head = s.front ++ unlocked.nonce in
       let all : Pulled a new.coming new.unread.pulls ((head ++ old.unread.bytes) ++ p.fresh) = p.pulled a (head ++ old.unread.bytes) s.pulled in
       let parts : (head ++ old.unread.bytes) ++ p.fresh ≡ head ++ p.bytes = append_assoc head old.unread.bytes p.fresh ∙ ap (λ (t : List ℕ). head ++ t) p.parts in
@@ -136,23 +136,23 @@ module _ (keep : Positions) (Allows : Header → List ℕ → Type 0) (Refused :
         id = s.id;
         is = record { text = s.text; opens = s.opens; size = s.size; read = pulls.consumed; at_end = p.at_end; wrote = p.wrote; count = omega (arith, p.count, none); prefix = p.prefix };
         pulled = pulls;
-        marks = p.marks keep [] zero_len index chain_none;
+        counts = p.counts keep [] zero_len index chain_none;
         answered = p.answered;
       }
 
-  pub decrypt_done : (a : Option (List ℕ)) (i : ℕ) (unlocked : Unlocked) (old new : Stage) → old.read_failed ≡ i → (p : IsPoured a i unlocked old new (Ok tt))
+  pub decrypt_done : (a : Option (List ℕ)) (i : ℕ) (unlocked : Unlocked) (old new : Stage) → old.read_failed ≡ i → (p : IsDecrypted a i unlocked old new (Ok tt))
       → DecryptDone Allows (before a i old) (after new) new.tally.progress.written p.run
   decrypt_done a i unlocked old new same p =
       let f = p.answered in
       record { wrote = record { is = p.is; whole = f.2; of = writes_of p.run p.is.prefix }; ended = f.0; done = f.1; all = writes_all p.run f.2 f.1; none_failed = (f.3.1 ∙ same, f.3.0) }
 
-  pub decrypt_fails : (a : Option (List ℕ)) (i : ℕ) (unlocked : Unlocked) (old new : Stage) (fault : FileFault) (position : Option Position) → old.read_failed ≡ i → IsPoured a i unlocked old new (Err fault)
+  pub decrypt_fails : (a : Option (List ℕ)) (i : ℕ) (unlocked : Unlocked) (old new : Stage) (fault : FileFault) (position : Option Position) → old.read_failed ≡ i → IsDecrypted a i unlocked old new (Err fault)
       → PositionAt unlocked new.tally.progress.index new.tally.progress.chain position
       → DecryptFails keep Allows Refused (before a i old) (after new) new.tally.progress.written position fault
   decrypt_fails a i unlocked old new fault position same p at =
       fails a i old new p.run ((p.run.front ++ p.run.nonce) ++ p.run.bytes) position fault same p.pulled p.is
-      (told_is keep p.run unlocked new.tally.progress.index position p.key_is p.nonce_is p.id p.is.prefix p.marks.index
-      (subst (λ (c : Option (List ℕ)). PositionAt unlocked new.tally.progress.index c position) p.marks.chain_is at)) p.answered
+      (told_is keep p.run unlocked new.tally.progress.index position p.key_is p.nonce_is p.id p.is.prefix p.counts.index
+      (subst (λ (c : Option (List ℕ)). PositionAt unlocked new.tally.progress.index c position) p.counts.chain_is at)) p.answered
 
   -- no payload came to be opened
   pub start_fails : (old new : Ports) (fault : FileFault) → Appends old.taken new.taken [] → StartFails Allows Refused old.coming new.coming old.read_failed new.read_failed fault

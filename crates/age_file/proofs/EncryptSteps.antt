@@ -32,9 +32,9 @@ module _ (s : SecretView) (front : List ℕ) (begins : BeginsFile s front) where
       }
 
   -- the sink failed in the front
-  pub front_cut : (old new : Ports) (coming : new.coming ≡ old.coming) (failed : HasRisen old.write_failed new.write_failed) (out cut : List ℕ) → front ≡ out ++ cut → Appends old.taken new.taken out
+  pub front_cut : (old new : Ports) (coming : new.coming ≡ old.coming) (failed : HasRisen old.write_failed new.write_failed) (out unwritten : List ℕ) → front ≡ out ++ unwritten → Appends old.taken new.taken out
       → EncryptsFront s old new Write
-  front_cut old new coming failed out cut parts wrote =
+  front_cut old new coming failed out unwritten parts wrote =
       record {
         text = [];
         file = front ++ payload (box s.key s.nonce) 65536 [];
@@ -42,7 +42,7 @@ module _ (s : SecretView) (front : List ℕ) (begins : BeginsFile s front) where
         is = file_of [];
         read = subst (λ t. Consumes old.coming t []) (sym coming) (Consumes-nil old.coming);
         wrote = wrote;
-        prefix = (cut ++ payload (box s.key s.nonce) 65536 [], sym (append_assoc out cut (payload (box s.key s.nonce) 65536 [])) ∙ ap (λ (t : List ℕ). t ++ payload (box s.key s.nonce) 65536 []) (sym parts));
+        prefix = (unwritten ++ payload (box s.key s.nonce) 65536 [], sym (append_assoc out unwritten (payload (box s.key s.nonce) 65536 [])) ∙ ap (λ (t : List ℕ). t ++ payload (box s.key s.nonce) 65536 []) (sym parts));
         why = failed;
       }
 

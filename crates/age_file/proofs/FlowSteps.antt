@@ -26,13 +26,13 @@ module _ {B : Type 0} (opening : B → List ℕ → List ℕ → Option (List �
         pulled = λ start bytes h. subst (λ (t : List ℕ). Pulled start f.coming f.unread.pulls t) (sym (append-nil bytes)) h;
       }
 
-  pub flows_then : (old mid new : Flow B) (left cut : List ℕ) → Flows opening n old mid mid.unread.bytes [] → Flows opening n mid new left cut → Flows opening n old new left cut
-  flows_then old mid new left cut p q =
+  pub flows_then : (old mid new : Flow B) (left unwritten : List ℕ) → Flows opening n old mid mid.unread.bytes [] → Flows opening n mid new left unwritten → Flows opening n old new left unwritten
+  flows_then old mid new left unwritten p q =
       record {
         fed = p.fed ++ q.fed;
         fresh = p.fresh ++ q.fresh;
         parts = joined_parts old.unread.bytes p.fresh q.fresh p.fed q.fed mid.unread.bytes left p.parts q.parts;
-        releases = releases_then opening n p.fed q.fed old.opener mid.opener new.opener old.tally mid.tally new.tally cut p.releases q.releases;
+        releases = releases_then opening n p.fed q.fed old.opener mid.opener new.opener old.tally mid.tally new.tally unwritten p.releases q.releases;
         pulled = λ start bytes h. subst (λ (t : List ℕ). Pulled start new.coming new.unread.pulls t) (append_assoc bytes p.fresh q.fresh) (q.pulled start (bytes ++ p.fresh) (p.pulled start bytes h));
       }
 
@@ -61,7 +61,7 @@ module _ {B : Type 0} (opening : B → List ℕ → List ℕ → Option (List �
       let all : f.fed ≡ old.unread.bytes = sym (append-nil f.fed) ∙ (ap (λ (t : List ℕ). f.fed ++ t) (sym f.answered.0) ∙ (sym f.parts ∙ is)) in
       record {
         left = new.unread.bytes;
-        cut = [];
+        unwritten = [];
         flows = record {
           fed = f.fed;
           fresh = new.unread.bytes;
@@ -72,10 +72,10 @@ module _ {B : Type 0} (opening : B → List ℕ → List ℕ → Option (List �
         answered = turn_answers old new mid result count room (omega (arith, goes.0, ap length all)) goes.2 r.answered;
       }
 
-  feed_fails : (old new : Flow B) (left cut : List ℕ) (fault : FileFault) → new.read_failed ≡ old.read_failed → FeedFails opening n new.opener old.tally new.tally left cut fault → FlowFails old new left cut fault
-  feed_fails old new left cut (Stream f) same h = (h.0, h.1, h.2, (h.3, same))
-  feed_fails old new left cut Write same h = h
-  feed_fails old new left cut other same h = absurd h
+  feed_fails : (old new : Flow B) (left unwritten : List ℕ) (fault : FileFault) → new.read_failed ≡ old.read_failed → FeedFails opening n new.opener old.tally new.tally left unwritten fault → FlowFails old new left unwritten fault
+  feed_fails old new left unwritten (Stream f) same h = (h.0, h.1, h.2, (h.3, same))
+  feed_fails old new left unwritten Write same h = h
+  feed_fails old new left unwritten other same h = absurd h
 
   -- a piece was refused, or the sink failed
   pub stopped : (old new : Flow B) (piece : List ℕ) (fault : FileFault) → piece ≡ old.unread.bytes → new.coming ≡ old.coming → new.read_failed ≡ old.read_failed → new.unread ≡ old.unread
@@ -84,7 +84,7 @@ module _ {B : Type 0} (opening : B → List ℕ → List ℕ → Option (List �
   stopped old new piece fault is coming same unread f =
       record {
         left = f.left;
-        cut = f.cut;
+        unwritten = f.unwritten;
         flows = record {
           fed = f.fed;
           fresh = [];
@@ -92,26 +92,26 @@ module _ {B : Type 0} (opening : B → List ℕ → List ℕ → Option (List �
           releases = f.releases;
           pulled = λ start bytes h. subst (λ (t : List ℕ). Pulled start new.coming new.unread.pulls t) (sym (append-nil bytes)) (subst (λ (c : Option (List ℕ)). Pulled start c new.unread.pulls bytes) (sym coming) (subst (λ (u : Unread). Pulled start old.coming u.pulls bytes) (sym unread) h));
         };
-        answered = feed_fails old new f.left f.cut fault same f.answered;
+        answered = feed_fails old new f.left f.unwritten fault same f.answered;
       }
 
-  flow_fails_then : (old mid new : Flow B) (left cut : List ℕ) (fault : FileFault) → SameFailures old mid → FlowFails mid new left cut fault → FlowFails old new left cut fault
-  flow_fails_then old mid new left cut (Stream f) p h = (h.0, h.1, h.2, (h.3.0 ∙ p.0, h.3.1 ∙ p.1))
-  flow_fails_then old mid new left cut Write p h = subst (λ (k : ℕ). HasRisen k new.tally.failed) p.0 h
-  flow_fails_then old mid new left cut Read p h = (h.0, h.1, subst (λ (k : ℕ). HasRisen k new.read_failed) p.1 h.2)
-  flow_fails_then old mid new left cut ReadNeverEnds p h = (h.0, h.1, h.2, (h.3.0 ∙ p.0, h.3.1 ∙ p.1))
-  flow_fails_then old mid new left cut other p h = absurd h
+  flow_fails_then : (old mid new : Flow B) (left unwritten : List ℕ) (fault : FileFault) → SameFailures old mid → FlowFails mid new left unwritten fault → FlowFails old new left unwritten fault
+  flow_fails_then old mid new left unwritten (Stream f) p h = (h.0, h.1, h.2, (h.3.0 ∙ p.0, h.3.1 ∙ p.1))
+  flow_fails_then old mid new left unwritten Write p h = subst (λ (k : ℕ). HasRisen k new.tally.failed) p.0 h
+  flow_fails_then old mid new left unwritten Read p h = (h.0, h.1, subst (λ (k : ℕ). HasRisen k new.read_failed) p.1 h.2)
+  flow_fails_then old mid new left unwritten ReadNeverEnds p h = (h.0, h.1, h.2, (h.3.0 ∙ p.0, h.3.1 ∙ p.1))
+  flow_fails_then old mid new left unwritten other p h = absurd h
 
   pub all_stopped : (old mid new : Flow B) (fault : FileFault) → Flows opening n old mid mid.unread.bytes [] → SameFailures old mid → Turns opening n mid new (Err fault) → OpensAll opening n old new (Err fault)
   all_stopped old mid new fault p same t =
-      record { left = t.left; cut = t.cut; flows = flows_then old mid new t.left t.cut p t.flows; answered = flow_fails_then old mid new t.left t.cut fault same t.answered }
+      record { left = t.left; unwritten = t.unwritten; flows = flows_then old mid new t.left t.unwritten p t.flows; answered = flow_fails_then old mid new t.left t.unwritten fault same t.answered }
 
   pub all_done : (old mid new : Flow B) → Flows opening n old mid mid.unread.bytes [] → SameFailures old mid → Turns opening n mid new (Ok false) → OpensAll opening n old new (Ok tt)
   all_done old mid new p same t =
       record {
         left = t.left;
-        cut = t.cut;
-        flows = flows_then old mid new t.left t.cut p t.flows;
+        unwritten = t.unwritten;
+        flows = flows_then old mid new t.left t.unwritten p t.flows;
         answered = (t.answered.0, t.answered.1, (t.answered.2.0 ∙ same.0, t.answered.2.1 ∙ same.1), t.answered.3, t.answered.4);
       }
 
@@ -124,7 +124,7 @@ module _ {B : Type 0} (opening : B → List ℕ → List ℕ → Option (List �
   on old mid new p same t =
       let a = t.answered in
       record {
-        flows = flows_then old mid new new.unread.bytes [] p (subst (λ (c : List ℕ). Flows opening n mid new new.unread.bytes c) a.1 (subst (λ (l : List ℕ). Flows opening n mid new l t.cut) a.0 t.flows));
+        flows = flows_then old mid new new.unread.bytes [] p (subst (λ (c : List ℕ). Flows opening n mid new new.unread.bytes c) a.1 (subst (λ (l : List ℕ). Flows opening n mid new l t.unwritten) a.0 t.flows));
         same = (a.2.0 ∙ same.0, a.2.1 ∙ same.1);
         room = a.3;
       }

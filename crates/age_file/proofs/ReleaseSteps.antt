@@ -9,7 +9,7 @@ use Rattle.age_stream.specs.Segment.{Segment, outcome, released}
 use Rattle.age_stream.specs.Deliveries.{with_piece}
 use Rattle.age_stream.specs.Opening.{OpenerView, Stands, chunk_texts}
 use Rattle.age_stream.proofs.ReplaySteps.{pieces_join, lent_flat}
-use Rattle.age_stream.specs.Lent.{lent_text}
+use Rattle.age_stream.specs.Lent.{chunk_bytes}
 use Rattle.age_file.specs.Faults.{HasRisen}
 use Rattle.age_file.specs.Releases.{Tally, Releases, FeedGoes, FeedFails}
 use Rattle.age_file.specs.declared.fault.FileFault.{FileFault}
@@ -18,8 +18,8 @@ use Rattle.age_stream.specs.Lawful.{IsLawful}
 use Rattle.age_file.specs.Bindings.{link_if}
 use Rattle.age_file.specs.declared.position.Positions.{Positions}
 use Rattle.age_file.specs.declared.progress.Progress.{Progress}
-use Rattle.age_file.specs.Marks.{Advances, Marks}
-use Rattle.age_file.proofs.MarkSteps.{no_piece, piece_start, mark_step, mark_none, mark_cut}
+use Rattle.age_file.specs.Counts.{Advances, CountsChunks}
+use Rattle.age_file.proofs.CountSteps.{no_piece, piece_start, mark_step, mark_none, mark_cut}
 use Rattle.age_file.proofs.Bytes.{Appends-then}
 use Rattle.std.proofs.KnownBytes.{Appends-nil}
 
@@ -46,14 +46,14 @@ module _ {B : Type 0} (opening : B → List ℕ → List ℕ → Option (List �
         count = omega arith;
         stands = λ s h. subst (Stands opening n o) (sym (no_piece s)) h;
         text = λ s h. ap (released (opening o.key) n) (no_piece s) ∙ sym (append-nil (released (opening o.key) n s));
-        marks = λ keep positive s base len h m. subst (λ (t : Segment). Marks keep (opening o.key) n base t [] was.progress) (sym (no_piece s)) m;
+        counts = λ keep positive s base len h m. subst (λ (t : Segment). CountsChunks keep (opening o.key) n base t [] was.progress) (sym (no_piece s)) m;
       }
 
   -- a step, and then a step to any next segment
-  pub releases_next : (a : List ℕ) (next next' : Segment → Segment) (old mid new : OpenerView B) (was between now : Tally) (cut : List ℕ)
+  pub releases_next : (a : List ℕ) (next next' : Segment → Segment) (old mid new : OpenerView B) (was between now : Tally) (unwritten : List ℕ)
       → ((s : Segment) → next (with_piece s a) ≡ next' s)
-      → Releases opening n (λ s. with_piece s a) old mid was between [] → Releases opening n next mid new between now cut → Releases opening n next' old new was now cut
-  releases_next a next next' old mid new was between now cut same p q =
+      → Releases opening n (λ s. with_piece s a) old mid was between [] → Releases opening n next mid new between now unwritten → Releases opening n next' old new was now unwritten
+  releases_next a next next' old mid new was between now unwritten same p q =
       let op = opening old.key in
       record {
         out = p.out ++ q.out;
@@ -64,68 +64,68 @@ module _ {B : Type 0} (opening : B → List ℕ → List ℕ → Option (List �
         stands = λ s h. subst (Stands opening n new) (same s) (q.stands (with_piece s a) (p.stands s h));
         text = λ s h.
             let r = released op n s in
-            let t : released op n (next (with_piece s a)) ≡ released op n (with_piece s a) ++ (q.out ++ cut) =
-            subst (λ k. released (opening k) n (next (with_piece s a)) ≡ released (opening k) n (with_piece s a) ++ (q.out ++ cut)) p.key (q.text (with_piece s a) (p.stands s h)) in
+            let t : released op n (next (with_piece s a)) ≡ released op n (with_piece s a) ++ (q.out ++ unwritten) =
+            subst (λ k. released (opening k) n (next (with_piece s a)) ≡ released (opening k) n (with_piece s a) ++ (q.out ++ unwritten)) p.key (q.text (with_piece s a) (p.stands s h)) in
             let u : released op n (with_piece s a) ≡ r ++ p.out = p.text s h ∙ ap (λ (x : List ℕ). r ++ x) (append-nil p.out) in
-            ap (released op n) (sym (same s)) ∙ (t ∙ (ap (λ (x : List ℕ). x ++ (q.out ++ cut)) u
-            ∙ (append_assoc r p.out (q.out ++ cut) ∙ ap (λ (x : List ℕ). r ++ x) (sym (append_assoc p.out q.out cut)))));
-        marks = λ keep positive s base len h m.
+            ap (released op n) (sym (same s)) ∙ (t ∙ (ap (λ (x : List ℕ). x ++ (q.out ++ unwritten)) u
+            ∙ (append_assoc r p.out (q.out ++ unwritten) ∙ ap (λ (x : List ℕ). r ++ x) (sym (append_assoc p.out q.out unwritten)))));
+        counts = λ keep positive s base len h m.
             let len' : length base ≡ (with_piece s a).start * n = len ∙ ap (λ (k : ℕ). k * n) (sym (piece_start s a)) in
-            let first = subst (λ k. Marks keep (opening k) n base (with_piece s a) [] between.progress) (sym p.key) (p.marks keep positive s base len h m) in
-            let then = q.marks keep positive (with_piece s a) base len' (p.stands s h) first in
-            subst (λ (t : Segment). Marks keep op n base t cut now.progress) (same s) (subst (λ k. Marks keep (opening k) n base (next (with_piece s a)) cut now.progress) p.key then);
+            let first = subst (λ k. CountsChunks keep (opening k) n base (with_piece s a) [] between.progress) (sym p.key) (p.counts keep positive s base len h m) in
+            let then = q.counts keep positive (with_piece s a) base len' (p.stands s h) first in
+            subst (λ (t : Segment). CountsChunks keep op n base t unwritten now.progress) (same s) (subst (λ k. CountsChunks keep (opening k) n base (next (with_piece s a)) unwritten now.progress) p.key then);
       }
 
-  pub releases_then : (a b : List ℕ) (old mid new : OpenerView B) (was between now : Tally) (cut : List ℕ)
-      → Releases opening n (λ s. with_piece s a) old mid was between [] → Releases opening n (λ s. with_piece s b) mid new between now cut
-      → Releases opening n (λ s. with_piece s (a ++ b)) old new was now cut
-  releases_then a b old mid new was between now cut p q = releases_next a (λ s. with_piece s b) (λ s. with_piece s (a ++ b)) old mid new was between now cut (λ s. pieces_join s a b) p q
+  pub releases_then : (a b : List ℕ) (old mid new : OpenerView B) (was between now : Tally) (unwritten : List ℕ)
+      → Releases opening n (λ s. with_piece s a) old mid was between [] → Releases opening n (λ s. with_piece s b) mid new between now unwritten
+      → Releases opening n (λ s. with_piece s (a ++ b)) old new was now unwritten
+  releases_then a b old mid new was between now unwritten p q = releases_next a (λ s. with_piece s b) (λ s. with_piece s (a ++ b)) old mid new was between now unwritten (λ s. pieces_join s a b) p q
 
-  -- what `marks` asks of a piece that was fed
+  -- what `counts` asks of a piece that was fed
   abbrev pub IsMarkedOn : OpenerView B → List ℕ → Progress → Progress → List ℕ → Type 0
-  IsMarkedOn old fed was now cut =
+  IsMarkedOn old fed was now unwritten =
       (keep : Positions) → 0 < n → (s : Segment) (base : List ℕ) → length base ≡ s.start * n → Stands opening n old s
-      → Marks keep (opening old.key) n base s [] was → Marks keep (opening old.key) n base (with_piece s fed) cut now
+      → CountsChunks keep (opening old.key) n base s [] was → CountsChunks keep (opening old.key) n base (with_piece s fed) unwritten now
 
   -- what the opener lent of a piece was written whole, and counted
-  pub marks_whole : (sealing : List ℕ → List ℕ → List ℕ) (old new : OpenerView B) (was now : Progress) (fed : List ℕ) (chunk : Option (Bor (List ℕ))) (index : ℕ) (link_is : Option (List ℕ))
+  pub counts_whole : (sealing : List ℕ → List ℕ → List ℕ) (old new : OpenerView B) (was now : Progress) (fed : List ℕ) (chunk : Option (Bor (List ℕ))) (index : ℕ) (link_is : Option (List ℕ))
       → IsLawful sealing (opening old.key) → new.key ≡ old.key → index ≡ new.index
       → ((s : Segment) → Stands opening n old s → Stands opening n new (with_piece s fed))
       → ((s : Segment) → Stands opening n old s → (outcome (opening old.key) n (with_piece s fed)).texts ≡ (outcome (opening old.key) n s).texts ++ chunk_texts chunk)
-      → link_is ≡ link_if was.chain (lent_text chunk)
+      → link_is ≡ link_if was.chain (chunk_bytes chunk)
       → Advances was.index was.chain index link_is now → IsMarkedOn old fed was now []
-  marks_whole sealing old new was now fed chunk index link_is lawful key is stands texts linked a keep positive s base len h m =
+  counts_whole sealing old new was now fed chunk index link_is lawful key is stands texts linked a keep positive s base len h m =
       let a' = subst (λ (l : Option (List ℕ)). Advances was.index was.chain index l now) (linked ∙ ap (link_if was.chain) (sym (lent_flat chunk))) a in
       let at : index ≡ (outcome (opening old.key) n (with_piece s fed)).index = is ∙ ((stands s h).index ∙ ap (λ k. (outcome (opening k) n (with_piece s fed)).index) key) in
       mark_step sealing (opening old.key) lawful n positive keep base s fed (chunk_texts chunk) index was now len h.timely (stands s h).timely (texts s h) (chunk_few chunk) at a' m
 
   -- the opener refused it, and lent nothing
-  pub marks_refused : (sealing : List ℕ → List ℕ → List ℕ) (old new : OpenerView B) (was : Progress) (fed : List ℕ)
+  pub counts_refused : (sealing : List ℕ → List ℕ → List ℕ) (old new : OpenerView B) (was : Progress) (fed : List ℕ)
       → IsLawful sealing (opening old.key)
       → ((s : Segment) → Stands opening n old s → Stands opening n new (with_piece s fed))
       → ((s : Segment) → Stands opening n old s → (outcome (opening old.key) n (with_piece s fed)).texts ≡ (outcome (opening old.key) n s).texts ++ [])
       → IsMarkedOn old fed was was []
-  marks_refused sealing old new was fed lawful stands texts keep positive s base len h m =
+  counts_refused sealing old new was fed lawful stands texts keep positive s base len h m =
       mark_none sealing (opening old.key) lawful n positive keep base s fed was len h.timely (stands s h).timely (texts s h) m
 
   -- some of what it lent was not written
-  pub marks_cut : (sealing : List ℕ → List ℕ → List ℕ) (old new : OpenerView B) (was now : Progress) (fed : List ℕ) (chunk : Option (Bor (List ℕ))) (out cut : List ℕ)
+  pub counts_cut : (sealing : List ℕ → List ℕ → List ℕ) (old new : OpenerView B) (was now : Progress) (fed : List ℕ) (chunk : Option (Bor (List ℕ))) (out unwritten : List ℕ)
       → IsLawful sealing (opening old.key)
       → ((s : Segment) → Stands opening n old s → Stands opening n new (with_piece s fed))
       → ((s : Segment) → Stands opening n old s → (outcome (opening old.key) n (with_piece s fed)).texts ≡ (outcome (opening old.key) n s).texts ++ chunk_texts chunk)
-      → lent_text chunk ≡ out ++ cut → 0 < length cut → now.index ≡ was.index → now.chain ≡ was.chain → IsMarkedOn old fed was now cut
-  marks_cut sealing old new was now fed chunk out cut lawful stands texts lent some index chain_same keep positive s base len h m =
-      mark_cut sealing (opening old.key) lawful n positive keep base s fed (chunk_texts chunk) out cut was now len h.timely (stands s h).timely (texts s h) (chunk_few chunk) (lent_flat chunk ∙ lent) some index chain_same m
+      → chunk_bytes chunk ≡ out ++ unwritten → 0 < length unwritten → now.index ≡ was.index → now.chain ≡ was.chain → IsMarkedOn old fed was now unwritten
+  counts_cut sealing old new was now fed chunk out unwritten lawful stands texts lent some index chain_same keep positive s base len h m =
+      mark_cut sealing (opening old.key) lawful n positive keep base s fed (chunk_texts chunk) out unwritten was now len h.timely (stands s h).timely (texts s h) (chunk_few chunk) (lent_flat chunk ∙ lent) some index chain_same m
 
   -- a call that took the front of a piece and lent a chunk, of which so much was written
-  pub fed_front : (old new : OpenerView B) (was now : Tally) (piece : List ℕ) (taken : ℕ) (chunk : Option (Bor (List ℕ))) (out cut : List ℕ)
+  pub fed_front : (old new : OpenerView B) (was now : Tally) (piece : List ℕ) (taken : ℕ) (chunk : Option (Bor (List ℕ))) (out unwritten : List ℕ)
       → new.key ≡ old.key
       → ((s : Segment) → Stands opening n old s → Stands opening n new (with_piece s (take taken piece)))
       → ((s : Segment) → Stands opening n old s → (outcome (opening old.key) n (with_piece s (take taken piece))).texts ≡ (outcome (opening old.key) n s).texts ++ chunk_texts chunk)
-      → lent_text chunk ≡ out ++ cut → Appends was.taken now.taken out → now.label ≡ was.label → now.progress.written ≡ was.progress.written + length out
-      → IsMarkedOn old (take taken piece) was.progress now.progress cut
-      → Releases opening n (λ s. with_piece s (take taken piece)) old new was now cut
-  fed_front old new was now piece taken chunk out cut key stands texts lent wrote named count marks =
+      → chunk_bytes chunk ≡ out ++ unwritten → Appends was.taken now.taken out → now.label ≡ was.label → now.progress.written ≡ was.progress.written + length out
+      → IsMarkedOn old (take taken piece) was.progress now.progress unwritten
+      → Releases opening n (λ s. with_piece s (take taken piece)) old new was now unwritten
+  fed_front old new was now piece taken chunk out unwritten key stands texts lent wrote named count counts =
       record {
         out = out;
         key = key;
@@ -133,17 +133,17 @@ module _ {B : Type 0} (opening : B → List ℕ → List ℕ → Option (List �
         named = named;
         count = count;
         stands = stands;
-        text = λ s h. more_text (opening old.key) n s (with_piece s (take taken piece)) (chunk_texts chunk) (out ++ cut) (texts s h) (lent_flat chunk ∙ lent);
-        marks = marks;
+        text = λ s h. more_text (opening old.key) n s (with_piece s (take taken piece)) (chunk_texts chunk) (out ++ unwritten) (texts s h) (lent_flat chunk ∙ lent);
+        counts = counts;
       }
 
   -- how much it then holds and wrote
-  pub goes_front : (old new : OpenerView B) (was now : Tally) (piece : List ℕ) (taken : ℕ) (chunk : Option (Bor (List ℕ))) (out cut : List ℕ)
-      → taken ≤ length piece → length new.held + length (lent_text chunk) ≤ length old.held + taken
-      → lent_text chunk ≡ out ++ cut → now.progress.written ≡ was.progress.written + length out → cut ≡ [] → now.failed ≡ was.failed
-      → (taken ≡ length (take taken piece)) × FeedGoes opening n old new was now (take taken piece) cut
-  goes_front old new was now piece taken chunk out cut le room lent count whole failed =
-      let len : length (lent_text chunk) ≡ length out = ap length (lent ∙ (ap (λ (t : List ℕ). out ++ t) whole ∙ append-nil out)) in
+  pub goes_front : (old new : OpenerView B) (was now : Tally) (piece : List ℕ) (taken : ℕ) (chunk : Option (Bor (List ℕ))) (out unwritten : List ℕ)
+      → taken ≤ length piece → length new.held + length (chunk_bytes chunk) ≤ length old.held + taken
+      → chunk_bytes chunk ≡ out ++ unwritten → now.progress.written ≡ was.progress.written + length out → unwritten ≡ [] → now.failed ≡ was.failed
+      → (taken ≡ length (take taken piece)) × FeedGoes opening n old new was now (take taken piece) unwritten
+  goes_front old new was now piece taken chunk out unwritten le room lent count whole failed =
+      let len : length (chunk_bytes chunk) ≡ length out = ap length (lent ∙ (ap (λ (t : List ℕ). out ++ t) whole ∙ append-nil out)) in
       (omega (arith, le, length-take taken piece), (omega (arith, le, room, count, len, length-take taken piece), whole, failed))
 
   goes_then : (a b : List ℕ) (old mid new : OpenerView B) (was between now : Tally) → FeedGoes opening n old mid was between a [] → FeedGoes opening n mid new between now b [] → FeedGoes opening n old new was now (a ++ b) []
@@ -154,19 +154,19 @@ module _ {B : Type 0} (opening : B → List ℕ → List ℕ → Option (List �
     pub releases : Releases opening n (λ s. with_piece s fed) old new was now []
     pub goes : FeedGoes opening n old new was now fed []
 
-  pub both_then : (a b c : List ℕ) (old mid new : OpenerView B) (was between now : Tally) (cut : List ℕ) → a ++ b ≡ c
+  pub both_then : (a b c : List ℕ) (old mid new : OpenerView B) (was between now : Tally) (unwritten : List ℕ) → a ++ b ≡ c
       → Releases opening n (λ s. with_piece s a) old mid was between [] → FeedGoes opening n old mid was between a []
-      → Releases opening n (λ s. with_piece s b) mid new between now cut → FeedGoes opening n mid new between now b cut
+      → Releases opening n (λ s. with_piece s b) mid new between now unwritten → FeedGoes opening n mid new between now b unwritten
       → Both old new was now c
-  both_then a b c old mid new was between now cut e p pg q qg =
+  both_then a b c old mid new was between now unwritten e p pg q qg =
       let q' = subst (λ (t : List ℕ). Releases opening n (λ s. with_piece s b) mid new between now t) qg.1 q in
       let qg' : FeedGoes opening n mid new between now b [] = (qg.0, refl, qg.2) in
       subst (λ (t : List ℕ). Both old new was now t) e
       (record { releases = releases_then a b old mid new was between now [] p q'; goes = goes_then a b old mid new was between now pg qg' })
 
   -- a fault after steps that went on
-  pub fails_then : (a : List ℕ) (old mid new : OpenerView B) (was between now : Tally) (left cut : List ℕ) (fault : FileFault)
-      → FeedGoes opening n old mid was between a [] → FeedFails opening n new between now left cut fault → FeedFails opening n new was now left cut fault
-  fails_then a old mid new was between now left cut (Stream f) p h = (h.0, h.1, h.2, h.3 ∙ p.2)
-  fails_then a old mid new was between now left cut Write p h = subst (λ (k : ℕ). HasRisen k now.failed) p.2 h
-  fails_then a old mid new was between now left cut other p h = h
+  pub fails_then : (a : List ℕ) (old mid new : OpenerView B) (was between now : Tally) (left unwritten : List ℕ) (fault : FileFault)
+      → FeedGoes opening n old mid was between a [] → FeedFails opening n new between now left unwritten fault → FeedFails opening n new was now left unwritten fault
+  fails_then a old mid new was between now left unwritten (Stream f) p h = (h.0, h.1, h.2, h.3 ∙ p.2)
+  fails_then a old mid new was between now left unwritten Write p h = subst (λ (k : ℕ). HasRisen k now.failed) p.2 h
+  fails_then a old mid new was between now left unwritten other p h = h

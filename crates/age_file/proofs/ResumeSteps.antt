@@ -1,4 +1,4 @@
--- From what was read, copied, passed over and poured to what a resumed decryption did.
+-- From what was read, copied, passed over and decrypted to what a resumed decryption did.
 use Rattle.std.proofs.Common.{◌≡◌, ℕ, ◌+◌, ◌*◌, ◌<◌, ◌≤◌, ◌/◌, min, List, [], ◌++◌, length, take, drop, Option, Some, None, refl, inl, inr, sym, ap, subst, ◌∙◌, suc, arith, append-nil, append_assoc}
 use Rattle.std.specs.Prelude.{Result, MatchResult, Ok, Err}
 use Rattle.std.specs.Simd.{first_chunks}
@@ -21,12 +21,12 @@ use Rattle.age_file.specs.Bindings.{file_id, chain, chain_if, position_tag}
 use Rattle.age_file.specs.declared.position.Positions.TheVariants.{Kept, Dropped}
 use Rattle.age_file.specs.Copies.{CopiesText}
 use Rattle.age_file.specs.Faults.{HasRisen}
-use Rattle.age_file.specs.GoingOn.{side_of, GoesOn, PoursBehind}
+use Rattle.age_file.specs.ResumesPayload.{side_of, ResumesPayload, DecryptsBehind}
 use Rattle.age_file.specs.Intakes.{Pulled}
 use Rattle.age_file.specs.Decrypts.{IsPositionAt, PositionAt, Told}
-use Rattle.age_file.specs.Marks.{IsMarked}
-use Rattle.age_file.specs.Passages.{Side, Passes, Dries, PassFails}
-use Rattle.age_file.specs.Pours.{Stage, Pours, PourFails, PourDone}
+use Rattle.age_file.specs.Counts.{HasCounted}
+use Rattle.age_file.specs.Skips.{Side, Passes, Dries, SkipFails}
+use Rattle.age_file.specs.Payloads.{Stage, DecryptsPayload, PayloadFails, PayloadDone}
 use Rattle.age_file.specs.Releases.{Tally}
 use Rattle.age_file.specs.Resumes.{ResumePorts, Reads, WritesOld, Resumption, segment_at, fresh_text, IsResumption, IsAuthenticResumption, ResumesOf, ResumesAll, IsNextPosition, IsSame, Accepts, ResumeDone}
 use Rattle.age_file.specs.Verdicts.{OpenedFile, PositionRefused}
@@ -269,7 +269,7 @@ module _ (keep : Positions) (Allows : Header → List ℕ → Type 0) (Refused :
       dried s2 passed fault f =
           subst (λ (t : List ℕ). Pulled a s2.coming s2.unread.pulls (head ++ t)) (ap (λ (t : List ℕ). passed ++ t) f.used ∙ append-nil passed) (f.uses a head s.pulled)
 
-      passed_fails : (s2 : Stage) (position : Option Position) (fault : FileFault) → s2.tally ≡ s1.tally → Told keep (IsSame p) position → PassFails 65552 p.index (side_of s1) (side_of s2) fault
+      passed_fails : (s2 : Stage) (position : Option Position) (fault : FileFault) → s2.tally ≡ s1.tally → Told keep (IsSame p) position → SkipFails 65552 p.index (side_of s1) (side_of s2) fault
           → ResumeFails keep Allows p Refused (before a i first x) (after s2 z) s2.tally.progress.written position fault
       passed_fails s2 position (Stream fault) still at f =
           let e = f.2 in
@@ -294,22 +294,22 @@ module _ (keep : Positions) (Allows : Header → List ℕ → Type 0) (Refused :
           inr (inr (inl (f.0, stops_in_passed s2 position f.0 still at f.1 all.consumed, (head ++ f.0, all.consumed, omega (arith, all.each_gave, f.2.why)))))
       passed_fails s2 position other still at f = absurd f
 
-      -- what was read and poured behind the blocks that were passed over
-      record IsPoured (s2 : Stage) (result : Result (Unit {0}) FileFault) : Type 0 where
+      -- what was read and decrypted behind the blocks that were passed over
+      record IsDecrypted (s2 : Stage) (result : Result (Unit {0}) FileFault) : Type 0 where
         run : Resumption
         file_is : run.file ≡ file
         is : IsResumption Allows p (before a i first x) (after s2 z) s2.tally.progress.written run
         pulled : Pulled a s2.coming s2.unread.pulls (head ++ (run.passed ++ run.bytes))
-        marks : IsMarked keep (unbox run.file.key run.file.nonce) 65536 (run.copied ++ run.out) (segment_at p run) s2.tally.progress
+        counts : HasCounted keep (unbox run.file.key run.file.nonce) 65536 (run.copied ++ run.out) (segment_at p run) s2.tally.progress
         mid : Stage
         read_failed : mid.read_failed ≡ i
         write_failed : mid.tally.failed ≡ first.failed
-        answered : MatchResult result (λ _. PourDone (unbox run.file.key run.file.nonce) 65536 mid s2 (segment_at p run) run.out) (PourFails (unbox run.file.key run.file.nonce) 65536 mid s2 (segment_at p run) run.out)
+        answered : MatchResult result (λ _. PayloadDone (unbox run.file.key run.file.nonce) 65536 mid s2 (segment_at p run) run.out) (PayloadFails (unbox run.file.key run.file.nonce) 65536 mid s2 (segment_at p run) run.out)
 
-      poured : (key : List ℕ) (s2 : Stage) (result : Result (Unit {0}) FileFault) → key ≡ payload_key unlocked.key unlocked.nonce
-          → PoursBehind (λ nonce block. opening key nonce [] block) p.index s1 s2 result → IsPoured s2 result
-      poured key s2 result key_is b =
-          let q = subst (λ (t : List ℕ). Pours (λ nonce block. opening t nonce [] block) 65536 p.index b.mid s2 result) key_is b.pours in
+      decrypted : (key : List ℕ) (s2 : Stage) (result : Result (Unit {0}) FileFault) → key ≡ payload_key unlocked.key unlocked.nonce
+          → DecryptsBehind (λ nonce block. opening key nonce [] block) p.index s1 s2 result → IsDecrypted s2 result
+      decrypted key s2 result key_is b =
+          let q = subst (λ (t : List ℕ). DecryptsPayload (λ nonce block. opening t nonce [] block) 65536 p.index b.mid s2 result) key_is b.decrypts in
           let behind : Pulled a b.mid.coming b.mid.unread.pulls (head ++ (b.passed ++ b.mid.unread.bytes)) = b.passes.uses a head s.pulled in
           let all : Pulled a s2.coming s2.unread.pulls ((head ++ (b.passed ++ b.mid.unread.bytes)) ++ q.fresh) = q.pulled a (head ++ (b.passed ++ b.mid.unread.bytes)) behind in
           let parts : (head ++ (b.passed ++ b.mid.unread.bytes)) ++ q.fresh ≡ head ++ (b.passed ++ q.bytes) =
@@ -337,15 +337,15 @@ module _ (keep : Positions) (Allows : Header → List ℕ → Type 0) (Refused :
               prefix = q.prefix;
             };
             pulled = pulls;
-            marks = q.marks keep c.out c.answered.0 index links;
+            counts = q.counts keep c.out c.answered.0 index links;
             mid = b.mid;
             read_failed = b.passes.unfailed ∙ same;
             write_failed = ap (λ (t : Tally). t.failed) b.same ∙ c.answered.2;
             answered = q.answered;
           }
 
-      poured_done : (s2 : Stage) (b : IsPoured s2 (Ok tt)) → ResumeDone Allows p (before a i first x) (after s2 z) s2.tally.progress.written b.run
-      poured_done s2 b =
+      decrypted_done : (s2 : Stage) (b : IsDecrypted s2 (Ok tt)) → ResumeDone Allows p (before a i first x) (after s2 z) s2.tally.progress.written b.run
+      decrypted_done s2 b =
           let f = b.answered in
           record {
             resumed = record { is = b.is; whole = f.2; of = resumes_of p b.run limit b.is.prefix };
@@ -356,14 +356,14 @@ module _ (keep : Positions) (Allows : Header → List ℕ → Type 0) (Refused :
           }
 
       -- the position behind what was written
-      abbrev IsHere : (s2 : Stage) (result : Result (Unit {0}) FileFault) (next : Position) (b : IsPoured s2 result) → Type 0
+      abbrev IsHere : (s2 : Stage) (result : Result (Unit {0}) FileFault) (next : Position) (b : IsDecrypted s2 result) → Type 0
       IsHere s2 result next b = IsPositionAt unlocked s2.tally.progress.index (chain (first_chunks 65536 s2.tally.progress.index (b.run.copied ++ b.run.out))) next
 
-      next_position : (s2 : Stage) (result : Result (Unit {0}) FileFault) (next : Position) (b : IsPoured s2 result) → IsHere s2 result next b → IsNextPosition p b.run next
+      next_position : (s2 : Stage) (result : Result (Unit {0}) FileFault) (next : Position) (b : IsDecrypted s2 result) → IsHere s2 result next b → IsNextPosition p b.run next
       next_position s2 result next b h =
           let text = b.run.copied ++ b.run.out in
           let over : next.chain ≡ chain (first_chunks 65536 next.index text) = h.chain_is ∙ ap (λ (k : ℕ). chain (first_chunks 65536 k text)) (sym h.index_is) in
-          let least : next.index ≡ min (length text / 65536) (outcome (unbox b.run.file.key b.run.file.nonce) 65536 (segment_at p b.run)).index = h.index_is ∙ b.marks.index in
+          let least : next.index ≡ min (length text / 65536) (outcome (unbox b.run.file.key b.run.file.nonce) 65536 (segment_at p b.run)).index = h.index_is ∙ b.counts.index in
           record {
             index = least;
             own = h.file_id_is ∙ (s.id ∙ ap (λ (f : OpenedFile). file_id f.front f.nonce) (sym b.file_is));
@@ -379,37 +379,37 @@ module _ (keep : Positions) (Allows : Header → List ℕ → Type 0) (Refused :
                 );
           }
 
-      poured_fails : (s2 : Stage) (position : Option Position) (fault : FileFault) (b : IsPoured s2 (Err fault)) → Told keep (IsNextPosition p b.run) position
-          → PourFails (unbox b.run.file.key b.run.file.nonce) 65536 b.mid s2 (segment_at p b.run) b.run.out fault
+      decrypted_fails : (s2 : Stage) (position : Option Position) (fault : FileFault) (b : IsDecrypted s2 (Err fault)) → Told keep (IsNextPosition p b.run) position
+          → PayloadFails (unbox b.run.file.key b.run.file.nonce) 65536 b.mid s2 (segment_at p b.run) b.run.out fault
           → ResumeFails keep Allows p Refused (before a i first x) (after s2 z) s2.tally.progress.written position fault
-      poured_fails s2 position (Stream fault) b h f = (
+      decrypted_fails s2 position (Stream fault) b h f = (
         inr (b.run, record { is = b.is; whole = f.1; of = resumes_of p b.run limit b.is.prefix }, h, f.0),
         ((f.2.1 ∙ b.read_failed, f.2.0 ∙ b.write_failed), c.answered.1.unfailed),
       )
-      poured_fails s2 position Write b h f =
+      decrypted_fails s2 position Write b h f =
           (inr (b.run, b.is, resumes_of p b.run limit b.is.prefix, h), subst (λ (m : ℕ). HasRisen m s2.tally.failed) b.write_failed f)
-      poured_fails s2 position Read b h f = inr (inr (inr (
+      decrypted_fails s2 position Read b h f = inr (inr (inr (
         b.run,
         record { is = b.is; whole = f.0; of = resumes_of p b.run limit b.is.prefix },
         h,
         subst (λ (m : ℕ). HasRisen m s2.read_failed) b.read_failed f.1,
       )))
-      poured_fails s2 position ReadNeverEnds b h f = inr (inr (inr (
+      decrypted_fails s2 position ReadNeverEnds b h f = inr (inr (inr (
         b.run,
         record { is = b.is; whole = f.0; of = resumes_of p b.run limit b.is.prefix },
         h,
         (head ++ (b.run.passed ++ b.run.bytes), b.pulled.consumed, omega (arith, b.pulled.each_gave, f.1)),
       )))
-      poured_fails s2 position other b h f = absurd f
+      decrypted_fails s2 position other b h f = absurd f
 
       -- ---- the whole run
 
-      pub resume_done : (key : List ℕ) (s2 : Stage) → key ≡ payload_key unlocked.key unlocked.nonce → GoesOn (λ nonce block. opening key nonce [] block) p.index s1 s2 (Ok tt)
+      pub resume_done : (key : List ℕ) (s2 : Stage) → key ≡ payload_key unlocked.key unlocked.nonce → ResumesPayload (λ nonce block. opening key nonce [] block) p.index s1 s2 (Ok tt)
           → (r : Resumption) × ResumeDone Allows p (before a i first x) (after s2 z) s2.tally.progress.written r
       resume_done key s2 key_is (inl stopped) = (let clash : Ok tt ≡ Err stopped.fault = stopped.is in absurd cc)
-      resume_done key s2 key_is (inr behind) = (let b = poured key s2 (Ok tt) key_is behind in (b.run, poured_done s2 b))
+      resume_done key s2 key_is (inr behind) = (let b = decrypted key s2 (Ok tt) key_is behind in (b.run, decrypted_done s2 b))
 
-      -- the position is that from which the run began, where nothing was poured
+      -- the position is that from which the run began, where nothing was decrypted
       same_position : (s2 : Stage) (next : Position) → s2.tally ≡ s1.tally → IsPositionAt unlocked s2.tally.progress.index (chain (first_chunks 65536 p.index c.out)) next → IsSame p next
       same_position s2 next still h =
           let index : next.index ≡ p.index = h.index_is ∙ (ap (λ (t : Tally). t.progress.index) still ∙ c.answered.3) in
@@ -428,7 +428,7 @@ module _ (keep : Positions) (Allows : Header → List ℕ → Type 0) (Refused :
       told_same Kept s2 None still at = absurd at
       told_same Dropped s2 position still at = at
 
-      told_next : (how : Positions) (s2 : Stage) (result : Result (Unit {0}) FileFault) (position : Option Position) (b : IsPoured s2 result)
+      told_next : (how : Positions) (s2 : Stage) (result : Result (Unit {0}) FileFault) (position : Option Position) (b : IsDecrypted s2 result)
           → PositionAt unlocked s2.tally.progress.index (chain_if how (first_chunks 65536 s2.tally.progress.index (b.run.copied ++ b.run.out))) position → Told how (IsNextPosition p b.run) position
       told_next Kept s2 result (Some next) b at = next_position s2 result next b at
       told_next Kept s2 result None b at = absurd at
@@ -436,14 +436,14 @@ module _ (keep : Positions) (Allows : Header → List ℕ → Type 0) (Refused :
 
       pub resume_fails : (key : List ℕ) (s2 : Stage) (position : Option Position) (fault : FileFault) → key ≡ payload_key unlocked.key unlocked.nonce
           → PositionAt unlocked s2.tally.progress.index s2.tally.progress.chain position
-          → GoesOn (λ nonce block. opening key nonce [] block) p.index s1 s2 (Err fault) → ResumeFails keep Allows p Refused (before a i first x) (after s2 z) s2.tally.progress.written position fault
+          → ResumesPayload (λ nonce block. opening key nonce [] block) p.index s1 s2 (Err fault) → ResumeFails keep Allows p Refused (before a i first x) (after s2 z) s2.tally.progress.written position fault
       resume_fails key s2 position fault key_is at (inl stopped) =
           let is : Err fault ≡ Err stopped.fault = stopped.is in
           let e : stopped.fault ≡ fault = cc in
           let links : s2.tally.progress.chain ≡ chain_if keep (first_chunks 65536 p.index c.out) = ap (λ (t : Tally). t.progress.chain) stopped.same ∙ c.answered.4 in
           passed_fails s2 position fault stopped.same (told_same keep s2 position stopped.same (subst (λ (l : Option (List ℕ)). PositionAt unlocked s2.tally.progress.index l position) links at))
-          (subst (λ (f : FileFault). PassFails 65552 p.index (side_of s1) (side_of s2) f) e stopped.fails)
+          (subst (λ (f : FileFault). SkipFails 65552 p.index (side_of s1) (side_of s2) f) e stopped.fails)
       resume_fails key s2 position fault key_is at (inr behind) =
-          let b = poured key s2 (Err fault) key_is behind in
-          let told = told_next keep s2 (Err fault) position b (subst (λ (l : Option (List ℕ)). PositionAt unlocked s2.tally.progress.index l position) b.marks.chain_is at) in
-          poured_fails s2 position fault b told b.answered
+          let b = decrypted key s2 (Err fault) key_is behind in
+          let told = told_next keep s2 (Err fault) position b (subst (λ (l : Option (List ℕ)). PositionAt unlocked s2.tally.progress.index l position) b.counts.chain_is at) in
+          decrypted_fails s2 position fault b told b.answered

@@ -12,7 +12,8 @@ use Rattle.std.proofs.lemmas.List.{length-take, length-append, length-drop, take
 use Rattle.age_stream.specs.Lawful.{IsLawful}
 use Rattle.age_stream.specs.Nonce.{nonce_bytes, chunk_limit}
 use Rattle.age_stream.specs.Payload.{last_index, pair, block_bytes}
-use Rattle.age_stream.specs.Sealing.{SealerView, Holds, step_len, needs_too_many, lent, lent_bytes}
+use Rattle.age_stream.specs.Sealing.{SealerView, Holds, step_len, needs_too_many}
+use Rattle.age_stream.specs.Lent.{chunk_bytes}
 use Rattle.age_stream.proofs.Chunks.{length-first_chunks}
 use Rattle.age_stream.proofs.Nonces.{nonce_bytes-length}
 use Rattle.age_stream.proofs.Sealings.{last_index_le}
@@ -50,11 +51,11 @@ too_long n s piece positive limit text holds =
     omega (arith, limit.more, before, exact, positive, length-append text piece)
 
 -- the front of a piece that a sealer took, where what it lent was written but for a part that wasn't
-pub some_sealed : {B : Type 0} (sealing : B → List ℕ → List ℕ → List ℕ) (n : ℕ) (old new : SealerView B) (was now : Tally) (piece : List ℕ) (taken : ℕ) (chunk : Option (Bor (List ℕ))) (out cut : List ℕ)
-    → lent_bytes (lent chunk) ≡ out ++ cut → Wrote was now out
-    → ((text : List ℕ) → Holds n old text → front_of (sealing old.key) n (text ++ take taken piece) ≡ front_of (sealing old.key) n text ++ lent_bytes (lent chunk))
-    → SealsSome sealing n old new was now piece (take taken piece) (drop taken piece) cut
-some_sealed sealing n old new was now piece taken chunk out cut is wrote blocks =
+pub some_sealed : {B : Type 0} (sealing : B → List ℕ → List ℕ → List ℕ) (n : ℕ) (old new : SealerView B) (was now : Tally) (piece : List ℕ) (taken : ℕ) (chunk : Option (Bor (List ℕ))) (out unwritten : List ℕ)
+    → chunk_bytes chunk ≡ out ++ unwritten → Wrote was now out
+    → ((text : List ℕ) → Holds n old text → front_of (sealing old.key) n (text ++ take taken piece) ≡ front_of (sealing old.key) n text ++ chunk_bytes chunk)
+    → SealsSome sealing n old new was now piece (take taken piece) (drop taken piece) unwritten
+some_sealed sealing n old new was now piece taken chunk out unwritten is wrote blocks =
     record {
       out = out;
       parts = sym (take-append-drop taken piece);
@@ -74,10 +75,10 @@ module _ {B : Type 0} (sealing : B → List ℕ → List ℕ → List ℕ) (n : 
       }
 
   -- what a piece's front gave, and then what of the rest
-  pub some_then : (a b c : SealerView B) (was mid now : Tally) (front rest fed left cut : List ℕ)
-      → SealsSome sealing n a b was mid front front [] [] → GoesOn sealing n a b front → SealsSome sealing n b c mid now rest fed left cut
-      → SealsSome sealing n a c was now (front ++ rest) (front ++ fed) left cut
-  some_then a b c was mid now front rest fed left cut p goes q =
+  pub some_then : (a b c : SealerView B) (was mid now : Tally) (front rest fed left unwritten : List ℕ)
+      → SealsSome sealing n a b was mid front front [] [] → GoesOn sealing n a b front → SealsSome sealing n b c mid now rest fed left unwritten
+      → SealsSome sealing n a c was now (front ++ rest) (front ++ fed) left unwritten
+  some_then a b c was mid now front rest fed left unwritten p goes q =
       record {
         out = p.out ++ q.out;
         parts = ap (λ (t : List ℕ). front ++ t) q.parts ∙ sym (append_assoc front fed left);
@@ -92,22 +93,22 @@ module _ {B : Type 0} (sealing : B → List ℕ → List ℕ → List ℕ) (n : 
             ap (front_of key n) (sym (append_assoc text front fed))
             ∙ (ap (λ (k : B). front_of (sealing k) n ((text ++ front) ++ fed)) (sym goes.key)
             ∙ (two
-            ∙ (ap (λ (k : B). front_of (sealing k) n (text ++ front) ++ (q.out ++ cut)) goes.key
-            ∙ (ap (λ (t : List ℕ). t ++ (q.out ++ cut)) (one ∙ ap (λ (t : List ℕ). front_of key n text ++ t) (append-nil p.out))
-            ∙ (append_assoc (front_of key n text) p.out (q.out ++ cut) ∙ ap (λ (t : List ℕ). front_of key n text ++ t) (sym (append_assoc p.out q.out cut)))))));
+            ∙ (ap (λ (k : B). front_of (sealing k) n (text ++ front) ++ (q.out ++ unwritten)) goes.key
+            ∙ (ap (λ (t : List ℕ). t ++ (q.out ++ unwritten)) (one ∙ ap (λ (t : List ℕ). front_of key n text ++ t) (append-nil p.out))
+            ∙ (append_assoc (front_of key n text) p.out (q.out ++ unwritten) ∙ ap (λ (t : List ℕ). front_of key n text ++ t) (sym (append_assoc p.out q.out unwritten)))))));
       }
 
   -- only the part that was fed
-  pub fed_alone : (a b : SealerView B) (was now : Tally) (piece fed left cut : List ℕ) → SealsSome sealing n a b was now piece fed left cut → SealsSome sealing n a b was now fed fed [] cut
-  fed_alone a b was now piece fed left cut p = record { out = p.out; parts = sym (append-nil fed); wrote = p.wrote; blocks = p.blocks }
+  pub fed_alone : (a b : SealerView B) (was now : Tally) (piece fed left unwritten : List ℕ) → SealsSome sealing n a b was now piece fed left unwritten → SealsSome sealing n a b was now fed fed [] unwritten
+  fed_alone a b was now piece fed left unwritten p = record { out = p.out; parts = sym (append-nil fed); wrote = p.wrote; blocks = p.blocks }
 
   -- the rest of a piece, as a slice has it
-  pub next_some : (a b c : SealerView B) (was mid now : Tally) (piece : List ℕ) (at : ℕ) (fed left cut : List ℕ)
+  pub next_some : (a b c : SealerView B) (was mid now : Tally) (piece : List ℕ) (at : ℕ) (fed left unwritten : List ℕ)
       → SealsSome sealing n a b was mid (take at piece) (take at piece) [] [] → GoesOn sealing n a b (take at piece)
-      → SealsSome sealing n b c mid now (take (length piece - at) (drop at piece)) fed left cut → SealsSome sealing n a c was now piece (take at piece ++ fed) left cut
-  next_some a b c was mid now piece at fed left cut p goes q =
-      subst (λ (t : List ℕ). SealsSome sealing n a c was now t (take at piece ++ fed) left cut) (ap (λ (t : List ℕ). take at piece ++ t) (take_rest piece at) ∙ take-append-drop at piece)
-      (some_then a b c was mid now (take at piece) (take (length piece - at) (drop at piece)) fed left cut p goes q)
+      → SealsSome sealing n b c mid now (take (length piece - at) (drop at piece)) fed left unwritten → SealsSome sealing n a c was now piece (take at piece ++ fed) left unwritten
+  next_some a b c was mid now piece at fed left unwritten p goes q =
+      subst (λ (t : List ℕ). SealsSome sealing n a c was now t (take at piece ++ fed) left unwritten) (ap (λ (t : List ℕ). take at piece ++ t) (take_rest piece at) ∙ take-append-drop at piece)
+      (some_then a b c was mid now (take at piece) (take (length piece - at) (drop at piece)) fed left unwritten p goes q)
 
   -- what was fed up to the next place
   pub fed_is : (piece : List ℕ) (at taken : ℕ) (fed left : List ℕ) → take (length piece - at) (drop at piece) ≡ fed ++ left → taken ≡ length fed → take at piece ++ fed ≡ take (at + taken) piece

@@ -32,13 +32,13 @@ zero_div n positive = omega arith
 pub no_front : (sealing : List ℕ → List ℕ → List ℕ) (n : ℕ) → 0 < n → front_of sealing n [] ≡ []
 no_front sealing n positive = ap (λ (q : ℕ). block_bytes (map (pair sealing false) (enumerate_from 0 (first_chunks n q [])))) (zero_div n positive)
 
-module _ {B : Type 0} (sealing : B → List ℕ → List ℕ → List ℕ) (n : ℕ) (a b d : SealerView B) (was mid now : Tally) (text piece fed left cut : List ℕ)
-    (goes : GoesOn sealing n a b text) (fresh : Holds n a []) (wrote : Wrote was mid (front_of (sealing a.key) n text)) (some : SealsSome sealing n b d mid now piece fed left cut) (positive : 0 < n) where
+module _ {B : Type 0} (sealing : B → List ℕ → List ℕ → List ℕ) (n : ℕ) (a b d : SealerView B) (was mid now : Tally) (text piece fed left unwritten : List ℕ)
+    (goes : GoesOn sealing n a b text) (fresh : Holds n a []) (wrote : Wrote was mid (front_of (sealing a.key) n text)) (some : SealsSome sealing n b d mid now piece fed left unwritten) (positive : 0 < n) where
   -- the blocks that the piece brought
-  brought : front_of (sealing a.key) n (text ++ fed) ≡ front_of (sealing a.key) n text ++ (some.out ++ cut)
+  brought : front_of (sealing a.key) n (text ++ fed) ≡ front_of (sealing a.key) n text ++ (some.out ++ unwritten)
   brought =
       ap (λ (k : B). front_of (sealing k) n (text ++ fed)) (sym goes.key)
-      ∙ (some.blocks text (goes.holds [] fresh) ∙ ap (λ (k : B). front_of (sealing k) n text ++ (some.out ++ cut)) goes.key)
+      ∙ (some.blocks text (goes.holds [] fresh) ∙ ap (λ (k : B). front_of (sealing k) n text ++ (some.out ++ unwritten)) goes.key)
 
   both : Wrote was now (front_of (sealing a.key) n text ++ some.out)
   both =
@@ -48,7 +48,7 @@ module _ {B : Type 0} (sealing : B → List ℕ → List ℕ → List ℕ) (n : 
       }
 
   -- a whole piece
-  pub piece_done : left ≡ [] → cut ≡ [] → GoesOn sealing n b d fed → GoesOn sealing n a d (text ++ piece) × Wrote was now (front_of (sealing a.key) n (text ++ piece))
+  pub piece_done : left ≡ [] → unwritten ≡ [] → GoesOn sealing n b d fed → GoesOn sealing n a d (text ++ piece) × Wrote was now (front_of (sealing a.key) n (text ++ piece))
   piece_done none whole more =
       let same : fed ≡ piece = sym (some.parts ∙ ap (λ (t : List ℕ). fed ++ t) none ∙ append-nil fed) in
       let blocks : front_of (sealing a.key) n text ++ some.out ≡ front_of (sealing a.key) n (text ++ piece) =
@@ -62,7 +62,7 @@ module _ {B : Type 0} (sealing : B → List ℕ → List ℕ → List ℕ) (n : 
   pub piece_cut : (out : List ℕ) × Wrote was now out × IsPrefixOf out (payload (sealing a.key) n (text ++ piece))
   piece_cut =
       let key = sealing a.key in
-      let first : IsPrefixOf (front_of key n text ++ some.out) (front_of key n (text ++ fed)) = (cut, append_assoc (front_of key n text) some.out cut ∙ sym brought) in
+      let first : IsPrefixOf (front_of key n text ++ some.out) (front_of key n (text ++ fed)) = (unwritten, append_assoc (front_of key n text) some.out unwritten ∙ sym brought) in
       let grown = payload_begins n positive key (text ++ fed) left in
       let whole : (text ++ fed) ++ left ≡ text ++ piece = append_assoc text fed left ∙ ap (λ (t : List ℕ). text ++ t) (sym some.parts) in
       let second : IsPrefixOf (front_of key n (text ++ fed)) (payload key n (text ++ piece)) =
@@ -106,12 +106,12 @@ seal_fails sealing n a b old new was now text piece OldTextDiffers same is goes 
 -- ---- the last block
 
 module _ {B : Type 0} (sealing : B → List ℕ → List ℕ → List ℕ) (n : ℕ) (a b : SealerView B) (was mid now : Tally) (text : List ℕ)
-    (key : b.key ≡ a.key) (holds : Holds n b text) (wrote : Wrote was mid (front_of (sealing a.key) n text)) (out cut : List ℕ) (last : Wrote mid now out)
-    (blocks : (t : List ℕ) → Holds n b t → payload (sealing b.key) n t ≡ front_of (sealing b.key) n t ++ (out ++ cut)) where
-  whole : payload (sealing a.key) n text ≡ (front_of (sealing a.key) n text ++ out) ++ cut
+    (key : b.key ≡ a.key) (holds : Holds n b text) (wrote : Wrote was mid (front_of (sealing a.key) n text)) (out unwritten : List ℕ) (last : Wrote mid now out)
+    (blocks : (t : List ℕ) → Holds n b t → payload (sealing b.key) n t ≡ front_of (sealing b.key) n t ++ (out ++ unwritten)) where
+  whole : payload (sealing a.key) n text ≡ (front_of (sealing a.key) n text ++ out) ++ unwritten
   whole =
       ap (λ (k : B). payload (sealing k) n text) (sym key)
-      ∙ (blocks text holds ∙ (ap (λ (k : B). front_of (sealing k) n text ++ (out ++ cut)) key ∙ sym (append_assoc (front_of (sealing a.key) n text) out cut)))
+      ∙ (blocks text holds ∙ (ap (λ (k : B). front_of (sealing k) n text ++ (out ++ unwritten)) key ∙ sym (append_assoc (front_of (sealing a.key) n text) out unwritten)))
 
   pub last_written : Wrote was now (front_of (sealing a.key) n text ++ out)
   last_written =
@@ -121,7 +121,7 @@ module _ {B : Type 0} (sealing : B → List ℕ → List ℕ → List ℕ) (n : 
       }
 
   pub last_begins : IsPrefixOf (front_of (sealing a.key) n text ++ out) (payload (sealing a.key) n text)
-  last_begins = (cut, sym whole)
+  last_begins = (unwritten, sym whole)
 
-  pub last_whole : cut ≡ [] → Wrote was now (payload (sealing a.key) n text)
+  pub last_whole : unwritten ≡ [] → Wrote was now (payload (sealing a.key) n text)
   last_whole none = subst (λ (t : List ℕ). Wrote was now t) (sym (whole ∙ ap (λ (t : List ℕ). (front_of (sealing a.key) n text ++ out) ++ t) none ∙ append-nil (front_of (sealing a.key) n text ++ out))) last_written

@@ -11,7 +11,8 @@ use Rattle.age_stream.specs.declared.fault.StreamFault.{StreamFault}
 use Rattle.age_stream.specs.declared.fault.StreamKind.TheVariants.{Truncated}
 use Rattle.age_stream.specs.declared.step.Status.TheVariants.{Open, Failed, Done}
 use Rattle.age_stream.specs.Payload.{payload, chunk_count}
-use Rattle.age_stream.specs.Segment.{outcome, status_after, status_ended}
+use Rattle.age_stream.specs.Segment.{outcome}
+use Rattle.age_stream.specs.SegmentSteps.{status_after, status_ended}
 use Rattle.age_stream.specs.Headline.{IsAuthentic}
 use Rattle.age_stream.specs.Authentic.{IsClosed}
 use Rattle.age_stream.proofs.Going.{after_piece, after_end}

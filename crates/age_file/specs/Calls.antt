@@ -25,8 +25,8 @@ abbrev pub IsTexts : List ℕ → Run → Type 0
 IsTexts text r = IsAuthentic (box r.key r.nonce) (unbox r.key r.nonce) 65536 text (segment_of r)
 
 abbrev pub IsTextsFrom : List ℕ → Position → Resumption → Type 0
-IsTextsFrom text p r = IsAuthentic (box r.file.key r.file.nonce) (unbox r.file.key r.file.nonce) 65536
-    text (segment_at p r)
+IsTextsFrom text p r = IsAuthentic (box r.file.key r.file.nonce) (unbox r.file.key r.file.nonce)
+    65536 text (segment_at p r)
 
 -- a sink took the beginning of a text
 pub record TookBeginning (text : List ℕ) (taken : Option (List ℕ)) : Type 0 where
@@ -51,7 +51,8 @@ WhereRan P (inr ran) = P ran
 
 -- the run of a call that stopped is authentic for a text, where the call came to its payload
 abbrev pub StopIsTexts : List ℕ → (keep : Positions) (A : Header → List ℕ → Type 0)
-    (R : Header → KeyFault → Type 0) (old new : Ports) (written : ℕ) (position : Option Position) (fault : FileFault)
+    (R : Header → KeyFault → Type 0) (old new : Ports) (written : ℕ) (position : Option Position)
+    (fault : FileFault)
     → DecryptFails keep A R old new written position fault → Type 0
 StopIsTexts text keep A R old new written position (Stream fault) f = IsTexts text f.0
 StopIsTexts text keep A R old new written position Write f = IsTexts text f.0
@@ -116,10 +117,11 @@ module _ (Who : Type 0) (Allows : Who → Header → List ℕ → Type 0)
       (Refused who) old new stopped.written stopped.position stopped.fault f
 
   abbrev pub NextAnswerIsTexts : List ℕ → (keep : Positions) (who : Who) (p : Position)
-      (old new : ResumePorts) (result : Result Done Stopped) → ResumeAnswers keep who p old new result → Type 0
+      (old new : ResumePorts) (result : Result Done Stopped)
+      → ResumeAnswers keep who p old new result → Type 0
   NextAnswerIsTexts text keep who p old new (Ok done) f = IsTextsFrom text p f.0
-  NextAnswerIsTexts text keep who p old new (Err stopped) f = NextStopIsTexts text keep (Allows who) p
-      (Refused who) old new stopped.written stopped.position stopped.fault f
+  NextAnswerIsTexts text keep who p old new (Err stopped) f = NextStopIsTexts text keep
+      (Allows who) p (Refused who) old new stopped.written stopped.position stopped.fault f
 
   -- the last call comes first in the list
   abbrev pub taken : FirstCall → List NextCall → Option (List ℕ)

@@ -8,7 +8,7 @@ use Rattle.age_file.specs.Bindings.{link_if, chain, chain_if}
 use Rattle.age_file.specs.declared.position.Positions.{Positions}
 use Rattle.age_file.specs.declared.position.Positions.TheVariants.{Kept}
 use Rattle.age_file.specs.Releases.{Tally}
-use Rattle.age_file.specs.Passages.{Side, Passes, Dries}
+use Rattle.age_file.specs.Skips.{Side, Passes, Dries}
 use Rattle.age_file.specs.declared.fault.FileFault.{FileFault}
 use Rattle.age_file.specs.declared.fault.FileFault.TheVariants.{ShortText, Read, Write, ReadNeverEnds, OldTextDiffers}
 
@@ -33,7 +33,8 @@ ChunkGoes n old new was now out = (length out ≡ n) × Passes old new out × (n
 abbrev pub ChunksGo : ℕ → ℕ → Side → Side → Tally → Tally → List ℕ → Type 0
 ChunksGo n chunks old new was now out = (length out ≡ chunks * n) × Passes old new out
     × (now.failed ≡ was.failed)
-    × (now.progress.index ≡ chunks) × (now.progress.chain ≡ chain_if Kept (first_chunks n chunks out))
+    × (now.progress.index ≡ chunks)
+    × (now.progress.chain ≡ chain_if Kept (first_chunks n chunks out))
 
 pub record Copies (Goes : List ℕ → Type 0) (size : ℕ) (old new : Side) (was now : Tally)
     (result : Result (Unit {0}) FileFault) : Type 0 where

@@ -26,7 +26,8 @@ pub record BeginsFile (s : SecretView) (bytes : List ℕ) : Type 0 where
   pub parts : bytes ≡ front ++ s.nonce
   pub size : length s.nonce ≡ 16
 
--- the age file of all that the source gave, of no more than 2^48 chunks, was written, and both are counted
+-- the age file of all that the source gave, of no more than 2^48 chunks, was written, and both are
+-- counted
 pub record Encrypts (s : SecretView) (old new : Ports) (written : Written) : Type 0 where
   pub text : List ℕ
   pub file : List ℕ

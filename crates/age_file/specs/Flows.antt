@@ -38,31 +38,33 @@ module _ {B : Type 0} where
   abbrev pub SameFailures : Flow B → Flow B → Type 0
   SameFailures old new = (new.tally.failed ≡ old.tally.failed) × (new.read_failed ≡ old.read_failed)
 
-  -- why it stopped, with what was left and cut off
+  -- why it stopped, with what was left and not written
   abbrev pub FlowFails : Flow B → Flow B → List ℕ → List ℕ → FileFault → Type 0
-  FlowFails old new left cut (Stream fault) = (new.opener.status ≡ Failed fault) × (left ≡ [])
-      × (cut ≡ []) × SameFailures old new
-  FlowFails old new left cut Write = HasRisen old.tally.failed new.tally.failed
-  FlowFails old new left cut Read = (left ≡ []) × (cut ≡ [])
+  FlowFails old new left unwritten (Stream fault) = (new.opener.status ≡ Failed fault) × (left ≡ [])
+      × (unwritten ≡ []) × SameFailures old new
+  FlowFails old new left unwritten Write = HasRisen old.tally.failed new.tally.failed
+  FlowFails old new left unwritten Read = (left ≡ []) × (unwritten ≡ [])
       × HasRisen old.read_failed new.read_failed
-  FlowFails old new left cut ReadNeverEnds = (left ≡ []) × (cut ≡ []) × (new.unread.pulls ≡ 2 ^ 63)
+  FlowFails old new left unwritten ReadNeverEnds = (left ≡ []) × (unwritten ≡ [])
+      × (new.unread.pulls ≡ 2 ^ 63)
       × SameFailures old new
-  FlowFails old new left cut other = ⊥
+  FlowFails old new left unwritten other = ⊥
 
   abbrev pub TurnGoes : Flow B → Flow B → List ℕ → List ℕ → Bool → Type 0
-  TurnGoes old new left cut true = (left ≡ new.unread.bytes) × (cut ≡ []) × SameFailures old new
+  TurnGoes old new left unwritten true = (left ≡ new.unread.bytes) × (unwritten ≡ [])
+      × SameFailures old new
       × HasRoom new × (new.unread.pulls ≡ old.unread.pulls + 1)
-  TurnGoes old new left cut false = (left ≡ []) × (cut ≡ []) × SameFailures old new
+  TurnGoes old new left unwritten false = (left ≡ []) × (unwritten ≡ []) × SameFailures old new
       × IsAtEnd new.coming × (length new.opener.held + new.tally.progress.written < 2 ^ 128)
 
   module _ (opening : B → List ℕ → List ℕ → Option (List ℕ)) (n : ℕ) where
     -- of what was unread and what was pulled, so much was fed, and the rest was left
-    pub record Flows (old new : Flow B) (left cut : List ℕ) : Type 0 where
+    pub record Flows (old new : Flow B) (left unwritten : List ℕ) : Type 0 where
       pub fed : List ℕ
       pub fresh : List ℕ
       pub parts : old.unread.bytes ++ fresh ≡ fed ++ left
       pub releases : Releases opening n (λ s. with_piece s fed) old.opener new.opener old.tally
-          new.tally cut
+          new.tally unwritten
       pub pulled : (start : Option (List ℕ)) (bytes : List ℕ)
           → Pulled start old.coming old.unread.pulls bytes
           → Pulled start new.coming new.unread.pulls (bytes ++ fresh)
@@ -70,14 +72,15 @@ module _ {B : Type 0} where
     -- a piece was fed and the next was pulled; false where the source is at its end
     pub record Turns (old new : Flow B) (result : Result Bool FileFault) : Type 0 where
       pub left : List ℕ
-      pub cut : List ℕ
-      pub flows : Flows old new left cut
-      pub answered : MatchResult result (TurnGoes old new left cut) (FlowFails old new left cut)
+      pub unwritten : List ℕ
+      pub flows : Flows old new left unwritten
+      pub answered : MatchResult result (TurnGoes old new left unwritten)
+          (FlowFails old new left unwritten)
 
     -- all that the source gave was fed, up to its end
     pub record OpensAll (old new : Flow B) (result : Result (Unit {0}) FileFault) : Type 0 where
       pub left : List ℕ
-      pub cut : List ℕ
-      pub flows : Flows old new left cut
-      pub answered : MatchResult result (λ _. TurnGoes old new left cut false)
-          (FlowFails old new left cut)
+      pub unwritten : List ℕ
+      pub flows : Flows old new left unwritten
+      pub answered : MatchResult result (λ _. TurnGoes old new left unwritten false)
+          (FlowFails old new left unwritten)

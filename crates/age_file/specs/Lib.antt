@@ -9,7 +9,7 @@ pub mod Bindings
 pub mod PositionTexts
 pub mod Ports
 pub mod Starts
-pub mod Marks
+pub mod Counts
 pub mod Releases
 pub mod Flows
 pub mod Decrypts
@@ -18,14 +18,14 @@ pub mod OldTexts
 pub mod Resumes
 pub mod ResumeFaults
 pub mod UndamagedRests
-pub mod Pours
-pub mod GoingOn
+pub mod Payloads
+pub mod ResumesPayload
 pub mod Seals
 pub mod Secrets
 pub mod Encrypts
-pub mod Passages
+pub mod Skips
 pub mod Copies
-pub mod Rows
+pub mod ResumedRuns
 pub mod Calls
 pub mod RoundTrips
 pub mod Bound

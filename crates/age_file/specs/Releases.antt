@@ -6,7 +6,7 @@ use Rattle.age_stream.specs.Segment.{Segment, released}
 use Rattle.age_stream.specs.Deliveries.{with_piece, with_end}
 use Rattle.age_stream.specs.Opening.{OpenerView, Stands}
 use Rattle.age_file.specs.Faults.{HasRisen}
-use Rattle.age_file.specs.Marks.{Marks}
+use Rattle.age_file.specs.Counts.{CountsChunks}
 use Rattle.age_file.specs.declared.position.Positions.{Positions}
 use Rattle.age_file.specs.declared.progress.Progress.{Progress}
 use Rattle.age_file.specs.declared.fault.FileFault.{FileFault}
@@ -28,10 +28,11 @@ tally taken failed label progress = record {
 }
 
 module _ {B : Type 0} (opening : B → List ℕ → List ℕ → Option (List ℕ)) (n : ℕ) where
-  -- for each segment that the opener stood for, it stands for the next, whose text is more by what was written and what was cut off;
+  -- for each segment that the opener stood for, it stands for the next, whose text is more by what was
+  -- written and what wasn't;
   -- behind any base, the progress goes on counting the chunks that were written
   pub record Releases (next : Segment → Segment) (old new : OpenerView B) (was now : Tally)
-      (cut : List ℕ) : Type 0 where
+      (unwritten : List ℕ) : Type 0 where
     pub out : List ℕ
     pub key : new.key ≡ old.key
     pub wrote : Appends was.taken now.taken out
@@ -39,53 +40,55 @@ module _ {B : Type 0} (opening : B → List ℕ → List ℕ → Option (List �
     pub count : now.progress.written ≡ was.progress.written + length out
     pub stands : (s : Segment) → Stands opening n old s → Stands opening n new (next s)
     pub text : (s : Segment) → Stands opening n old s → released (opening old.key) n (next s)
-        ≡ released (opening old.key) n s ++ (out ++ cut)
-    pub marks : (keep : Positions) → 0 < n → (s : Segment) (base : List ℕ) → length base ≡ s.start * n
+        ≡ released (opening old.key) n s ++ (out ++ unwritten)
+    pub counts : (keep : Positions) → 0 < n → (s : Segment) (base : List ℕ)
+        → length base ≡ s.start * n
         → Stands opening n old s
-        → Marks keep (opening old.key) n base s [] was.progress
-        → Marks keep (opening old.key) n base (next s) cut now.progress
+        → CountsChunks keep (opening old.key) n base s [] was.progress
+        → CountsChunks keep (opening old.key) n base (next s) unwritten now.progress
 
-  -- a fault of the opener, or of the sink, with what was left of the piece and cut off
+  -- a fault of the opener, or of the sink, with what was left of the piece and not written
   abbrev pub FeedFails : OpenerView B → Tally → Tally → List ℕ → List ℕ → FileFault → Type 0
-  FeedFails new was now left cut (Stream fault) = (new.status ≡ Failed fault) × (left ≡ [])
-      × (cut ≡ []) × (now.failed ≡ was.failed)
-  FeedFails new was now left cut Write = HasRisen was.failed now.failed
-  FeedFails new was now left cut other = ⊥
+  FeedFails new was now left unwritten (Stream fault) = (new.status ≡ Failed fault) × (left ≡ [])
+      × (unwritten ≡ []) × (now.failed ≡ was.failed)
+  FeedFails new was now left unwritten Write = HasRisen was.failed now.failed
+  FeedFails new was now left unwritten other = ⊥
 
   -- what the opener holds and what was written is no more than what it held, and was fed
   abbrev pub FeedGoes : OpenerView B → OpenerView B → Tally → Tally → List ℕ → List ℕ → Type 0
-  FeedGoes old new was now fed cut =
+  FeedGoes old new was now fed unwritten =
       (length new.held + now.progress.written
-      ≤ length old.held + was.progress.written + length fed) × (cut ≡ []) × (now.failed ≡ was.failed)
+      ≤ length old.held + was.progress.written + length fed) × (unwritten ≡ [])
+      × (now.failed ≡ was.failed)
 
   -- one call: the opener took the front of the piece
   pub record FeedsOnce (old new : OpenerView B) (was now : Tally) (piece : List ℕ)
       (result : Result ℕ FileFault) : Type 0 where
     pub fed : List ℕ
     pub left : List ℕ
-    pub cut : List ℕ
+    pub unwritten : List ℕ
     pub parts : piece ≡ fed ++ left
-    pub releases : Releases (λ s. with_piece s fed) old new was now cut
+    pub releases : Releases (λ s. with_piece s fed) old new was now unwritten
     pub answered : MatchResult result
-        (λ taken. (taken ≡ length fed) × FeedGoes old new was now fed cut)
-        (FeedFails new was now left cut)
+        (λ taken. (taken ≡ length fed) × FeedGoes old new was now fed unwritten)
+        (FeedFails new was now left unwritten)
 
   -- calls for a whole piece
   pub record FeedsPiece (old new : OpenerView B) (was now : Tally) (piece : List ℕ)
       (result : Result (Unit {0}) FileFault) : Type 0 where
     pub fed : List ℕ
     pub left : List ℕ
-    pub cut : List ℕ
+    pub unwritten : List ℕ
     pub parts : piece ≡ fed ++ left
-    pub releases : Releases (λ s. with_piece s fed) old new was now cut
-    pub answered : MatchResult result (λ _. (left ≡ []) × FeedGoes old new was now fed cut)
-        (FeedFails new was now left cut)
+    pub releases : Releases (λ s. with_piece s fed) old new was now unwritten
+    pub answered : MatchResult result (λ _. (left ≡ []) × FeedGoes old new was now fed unwritten)
+        (FeedFails new was now left unwritten)
 
   -- the end, for each segment that the opener stood for
   pub record Closes (old new : OpenerView B) (was now : Tally)
       (result : Result (Unit {0}) FileFault) : Type 0 where
-    pub cut : List ℕ
-    pub releases : Releases with_end old new was now cut
+    pub unwritten : List ℕ
+    pub releases : Releases with_end old new was now unwritten
     pub answered : MatchResult result
-        (λ _. (new.status ≡ Done) × (cut ≡ []) × (now.failed ≡ was.failed))
-        (FeedFails new was now [] cut)
+        (λ _. (new.status ≡ Done) × (unwritten ≡ []) × (now.failed ≡ was.failed))
+        (FeedFails new was now [] unwritten)

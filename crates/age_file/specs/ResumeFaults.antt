@@ -69,7 +69,8 @@ module _ (keep : Positions) (Allows : Header → List ℕ → Type 0) (p : Posit
       × Main)
       ⊎ ((s : StopsInOld Allows p old new written position) × (s.copied ≡ s.writes.pulled) × Old)
       ⊎ ((passed : List ℕ) × StopsInPassed old new written position passed × Main)
-      ⊎ ((r : Resumption) × Resumed Allows p old new written r × Told keep (IsNextPosition p r) position
+      ⊎ ((r : Resumption) × Resumed Allows p old new written r
+      × Told keep (IsNextPosition p r) position
       × Main)
 
   -- when each fault comes, and what was written then
@@ -91,7 +92,8 @@ module _ (keep : Positions) (Allows : Header → List ℕ → Type 0) (p : Posit
       × (chain (first_chunks 65536 p.index copied) ≢ p.chain)
   ResumeFails Refused old new written position (Stream fault) =
       (EndsInPassed old new written position fault
-      ⊎ ((r : Resumption) × Resumed Allows p old new written r × Told keep (IsNextPosition p r) position
+      ⊎ ((r : Resumption) × Resumed Allows p old new written r
+      × Told keep (IsNextPosition p r) position
       × ((outcome (unbox r.file.key r.file.nonce) 65536 (segment_at p r)).status ≡ Failed fault)))
       × NoPortFailed old new
   ResumeFails Refused old new written position Write =
@@ -110,6 +112,7 @@ module _ (keep : Positions) (Allows : Header → List ℕ → Type 0) (p : Posit
       new.main.coming old.main.read_failed new.main.read_failed fault
 
   -- what a resumed decryption promises where it stopped
-  abbrev pub ResumeStops : (Header → KeyFault → Type 0) → ResumePorts → ResumePorts → Stopped → Type 0
+  abbrev pub ResumeStops : (Header → KeyFault → Type 0) → ResumePorts → ResumePorts → Stopped
+      → Type 0
   ResumeStops Refused old new stopped = ResumeFails Refused old new stopped.written stopped.position
       stopped.fault

@@ -44,7 +44,8 @@ pub record WasEncrypted (s : SecretView) (text : List ℕ) (old new : Ports) (wr
 -- want of memory may stop it
 abbrev pub RoundTrip : Type 0
 RoundTrip = (keep : Positions) (s : SecretView) (max_log : ℕ) (text : List ℕ)
-    (was file now last : Ports) (written : Written) (result : Result Done Stopped) → IsSecret s → s.log ≤ max_log
+    (was file now last : Ports) (written : Written) (result : Result Done Stopped) → IsSecret s
+    → s.log ≤ max_log
     → IsClosed (box s.key s.nonce) (unbox s.key s.nonce) 65536 text
     → WasEncrypted s text was file written → now.coming ≡ file.taken → now.taken ≡ Some []
     → DecryptAnswers Words IsPassphraseKey PassphraseRefuses keep (words_of s max_log) now last

@@ -53,28 +53,29 @@ module _ {B : Type 0} (sealing : B → List ℕ → List ℕ → List ℕ) (n : 
     pub holds : (text : List ℕ) → Holds n old text → Holds n new (text ++ fed)
 
   abbrev pub SealFails : SealerView B → Tally → Tally → List ℕ → FileFault → Type 0
-  SealFails old was now piece (Stream fault) = IsTooLong n old piece × (fault ≡ too_many (chunk_limit - 1))
+  SealFails old was now piece (Stream fault) = IsTooLong n old piece
+      × (fault ≡ too_many (chunk_limit - 1))
   SealFails old was now piece Write = HasRisen was.failures now.failures
   SealFails old was now piece other = ⊥
 
   -- of a piece the sealer was fed the front; its blocks grew by what was written, and by what wasn't where the sink failed
-  pub record SealsSome (old new : SealerView B) (was now : Tally) (piece fed left cut : List ℕ)
-      : Type 0 where
+  pub record SealsSome (old new : SealerView B) (was now : Tally)
+      (piece fed left unwritten : List ℕ) : Type 0 where
     pub out : List ℕ
     pub parts : piece ≡ fed ++ left
     pub wrote : Wrote was now out
     pub blocks : (text : List ℕ) → Holds n old text → front_of (sealing old.key) n (text ++ fed)
-        ≡ front_of (sealing old.key) n text ++ (out ++ cut)
+        ≡ front_of (sealing old.key) n text ++ (out ++ unwritten)
 
   -- one feed
   pub record SealsOnce (old new : SealerView B) (was now : Tally) (piece : List ℕ)
       (result : Result ℕ FileFault) : Type 0 where
     pub fed : List ℕ
     pub left : List ℕ
-    pub cut : List ℕ
-    pub some : SealsSome old new was now piece fed left cut
+    pub unwritten : List ℕ
+    pub some : SealsSome old new was now piece fed left unwritten
     pub answered : MatchResult result
-        (λ taken. (taken ≡ length fed) × (0 < length piece → 0 < taken) × (cut ≡ [])
+        (λ taken. (taken ≡ length fed) × (0 < length piece → 0 < taken) × (unwritten ≡ [])
         × (now.failures ≡ was.failures) × GoesOn old new fed)
         (SealFails old was now piece)
 
@@ -83,10 +84,10 @@ module _ {B : Type 0} (sealing : B → List ℕ → List ℕ → List ℕ) (n : 
       (result : Result (Unit {0}) FileFault) : Type 0 where
     pub fed : List ℕ
     pub left : List ℕ
-    pub cut : List ℕ
-    pub some : SealsSome old new was now piece fed left cut
+    pub unwritten : List ℕ
+    pub some : SealsSome old new was now piece fed left unwritten
     pub answered : MatchResult result
-        (λ _. (left ≡ []) × (cut ≡ []) × (now.failures ≡ was.failures) × GoesOn old new fed)
+        (λ _. (left ≡ []) × (unwritten ≡ []) × (now.failures ≡ was.failures) × GoesOn old new fed)
         (SealFails old was now piece)
 
 -- the last block of what the sealer holds: what of it was written, and what wasn't where the sink failed
@@ -94,12 +95,12 @@ module _ {B : Type 0} (sealing : B → List ℕ → List ℕ → List ℕ) (n : 
   pub record SealsLast (old : SealerView B) (was now : Tally) (result : Result (Unit {0}) FileFault)
       : Type 0 where
     pub out : List ℕ
-    pub cut : List ℕ
+    pub unwritten : List ℕ
     pub limit : old.index < chunk_limit
     pub wrote : Wrote was now out
     pub blocks : (text : List ℕ) → Holds n old text → payload (sealing old.key) n text
-        ≡ front_of (sealing old.key) n text ++ (out ++ cut)
-    pub answered : MatchResult result (λ _. (cut ≡ []) × (now.failures ≡ was.failures))
+        ≡ front_of (sealing old.key) n text ++ (out ++ unwritten)
+    pub answered : MatchResult result (λ _. (unwritten ≡ []) × (now.failures ≡ was.failures))
         (λ fault. (fault ≡ Write) × HasRisen was.failures now.failures)
 
 -- ---- a whole source

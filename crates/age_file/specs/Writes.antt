@@ -8,10 +8,10 @@ pub record Writes {E : Type 0} (taken_old taken_new : Option (List ℕ))
     (failed_old failed_new written_old written_new : ℕ) (bytes : List ℕ)
     (result : Result (Unit {0}) E) : Type 0 where
   pub out : List ℕ
-  pub cut : List ℕ
-  pub parts : bytes ≡ out ++ cut
+  pub unwritten : List ℕ
+  pub parts : bytes ≡ out ++ unwritten
   pub wrote : Appends taken_old taken_new out
   pub count : written_new ≡ written_old + length out
-  pub answered : MatchResult result (λ _. (cut ≡ []) × (failed_new ≡ failed_old))
+  pub answered : MatchResult result (λ _. (unwritten ≡ []) × (failed_new ≡ failed_old))
       (λ _. HasRisen failed_old failed_new)
-  pub stopped : OnErr result (0 < length cut)
+  pub stopped : OnErr result (0 < length unwritten)

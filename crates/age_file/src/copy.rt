@@ -4,7 +4,7 @@ ghost use Rattle.std.specs.Prelude.{◌≡◌, ◌+◌, ◌^◌, ◌<◌, ◌≤
 ghost use Rattle.age_file.specs.declared.position.Positions.TheVariants.{Kept};
 ghost use Rattle.age_file.specs.Bindings.{chain_if};
 ghost use Rattle.age_file.specs.Releases.{tally};
-ghost use Rattle.age_file.specs.Passages.{side};
+ghost use Rattle.age_file.specs.Skips.{side};
 ghost use Rattle.age_file.specs.Copies.{CopiesChunk, CopiesAll};
 
 use crate::fault::FileFault;

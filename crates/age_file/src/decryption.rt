@@ -7,8 +7,8 @@ ghost use Rattle.age_file.specs.Decrypts.{PositionAt, DecryptEnds, DecryptStops,
 
 use crate::fault::FileFault;
 use crate::intake::Intake;
+use crate::payload::decrypt_payload;
 use crate::position::{Position, Positions};
-use crate::pour::pour;
 use crate::progress::Progress;
 use crate::sink::Sink;
 use crate::source::Source;
@@ -150,7 +150,14 @@ pub fn decrypt_with<U: Unlock, S: Source, O: Sink>(
     };
     let key = payload_key(&unlocked.key, &unlocked.nonce);
     let mut progress = Progress::new(positions);
-    match pour::<PayloadKey, 65552, S, O>(&key, 0, reader, &mut intake, writer, &mut progress) {
+    match decrypt_payload::<PayloadKey, 65552, S, O>(
+        &key,
+        0,
+        reader,
+        &mut intake,
+        writer,
+        &mut progress,
+    ) {
         Ok(()) => Ok(Done {
             written: progress.written,
         }),

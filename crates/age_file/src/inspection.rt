@@ -92,10 +92,12 @@ pub fn inspect<S: Source>(alloc: Global, source: &mut S) -> Result<Report, FileF
 {
     let mut intake = Intake::new(alloc)?;
     let head = read_head(alloc, source, &mut intake)?;
+    // all memory is taken before the rest is read
+    let stanzas = reports_of(alloc, head.header.stanzas.as_slice())?;
     let rest = count_rest(source, &mut intake)?;
     Ok(Report {
         header: head.len,
-        stanzas: reports_of(alloc, head.header.stanzas.as_slice())?,
+        stanzas,
         rest,
         plain: plain_of(rest),
     })

@@ -1,5 +1,5 @@
 //! Laws over the definitions.
-ghost use Rattle.age_file.specs.Rows.{RunsInARow};
+ghost use Rattle.age_file.specs.ResumedRuns.{RunsInARow};
 ghost use Rattle.age_file.specs.Calls.{CallsInARow};
 ghost use Rattle.age_file.specs.Bound.{RunsAreBound, DoneIsBound};
 ghost use Rattle.age_file.specs.RoundTrips.{AgeFileIsWhole, RoundTrip};

@@ -17,7 +17,7 @@ pub(crate) struct Progress {
 }
 
 impl Progress {
-    ghost use Rattle.age_file.specs.Marks.{Advances};
+    ghost use Rattle.age_file.specs.Counts.{Advances};
 
     /// Nothing was written.
     #[tactic(auto, unfolding(crate::specs::Bindings::chain))]

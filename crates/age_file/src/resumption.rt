@@ -2,10 +2,10 @@
 
 ghost use Rattle.std.specs.Prelude.{◌≡◌, ℕ, List, ◌^◌, ◌<◌, ◌≤◌, [], IfOk, OnOk, IfErr, MatchResult};
 ghost use Rattle.age_file.specs.Releases.{tally};
-ghost use Rattle.age_file.specs.Passages.{side};
+ghost use Rattle.age_file.specs.Skips.{side};
 ghost use Rattle.age_file.specs.Copies.{CopiesText};
-ghost use Rattle.age_file.specs.Pours.{stage};
-ghost use Rattle.age_file.specs.GoingOn.{HasPulled, GoesOn};
+ghost use Rattle.age_file.specs.Payloads.{stage};
+ghost use Rattle.age_file.specs.ResumesPayload.{HasPulled, ResumesPayload};
 ghost use Rattle.age_file.specs.Ports.{ports};
 ghost use Rattle.age_file.specs.Decrypts.{WritesText, StopsOutside};
 ghost use Rattle.age_file.specs.declared.position.Positions.TheVariants.{Kept};
@@ -20,11 +20,11 @@ use crate::copy::copy_chunks;
 use crate::decryption::{Done, Stopped, position_of};
 use crate::fault::FileFault;
 use crate::intake::Intake;
-use crate::passage::pass_over;
+use crate::payload::decrypt_payload;
 use crate::position::{Position, Positions, tag_of};
-use crate::pour::pour;
 use crate::progress::Progress;
 use crate::sink::Sink;
+use crate::skip::skip_blocks;
 use crate::source::Source;
 use crate::start::{Unlocked, start};
 use age_keys::{PayloadKey, Unlock, payload_key, position_key};
@@ -86,15 +86,15 @@ fn open_rest<S: Source, O: Sink>(
     requires pulled { HasPulled (stage (tally (O.taken writer.old) (O.failed writer.old)
         (O.label writer.old) progress.old)
         (S.remaining reader.old) (S.failed reader.old) intake.old) }
-    ensures goes_on { GoesOn (λ nonce block. opening key.now nonce [] block) index
+    ensures resumes { ResumesPayload (λ nonce block. opening key.now nonce [] block) index
         (stage (tally (O.taken writer.old) (O.failed writer.old) (O.label writer.old) progress.old)
         (S.remaining reader.old) (S.failed reader.old) intake.old)
         (stage (tally (O.taken writer.new) (O.failed writer.new) (O.label writer.new) progress.new)
         (S.remaining reader.new) (S.failed reader.new) intake.new) result }
     ensures settled { OnOk result (O.settled writer.new) }
 {
-    pass_over(reader, intake, index)?;
-    pour::<PayloadKey, 65552, S, O>(key, index, reader, intake, writer, progress)
+    skip_blocks(reader, intake, index)?;
+    decrypt_payload::<PayloadKey, 65552, S, O>(key, index, reader, intake, writer, progress)
 }
 
 /// Goes on with a decryption that stopped, and hands out the position of a stop: [`resume_with`], with positions kept.

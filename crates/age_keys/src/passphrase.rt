@@ -14,7 +14,7 @@ use crate::open::{has_scrypt, is_scrypt};
 use crate::scrypt::wrap_key;
 use crate::unlock::Unlock;
 use crate::wrap::unwrapped;
-use age_stanza::{Header, Stanza, read_text};
+use age_stanza::{Header, Stanza, read_base64};
 use std::alloc::Global;
 use std::marker::Model;
 
@@ -71,7 +71,7 @@ impl ScryptStanza {
         };
         let mut bytes = [0; 16];
         if !is_scrypt(stanza)
-            || !read_text(salt.as_slice(), &mut bytes)
+            || !read_base64(salt.as_slice(), &mut bytes)
             || !is_work_factor(log.as_slice())
         {
             return None;

@@ -89,22 +89,6 @@ impl SharedSecret {
         }
     }
 
-    /// The file key of a header, or the refusal. It takes no memory and never answers
-    /// [`KeyFault::Memory`].
-    pub fn find(&self, header: &Header) -> Result<FileKey, KeyFault>
-        ensures { MatchResult result (IsSharedKey self.now header.now)
-            (SharedRefuses self.now header.now) }
-    {
-        let stanzas = header.stanzas.as_slice();
-        if !has_x25519(stanzas) {
-            return Err(KeyFault::NoMatch);
-        }
-        if self.secret == [0; 32] || has_bad(stanzas) {
-            return Err(KeyFault::BadX25519);
-        }
-        self.first_key(stanzas).ok_or(KeyFault::WrongKey)
-    }
-
     /// The key that the file key is wrapped under in the stanza of a share.
     fn wrap_key(&self, share: &[u8; 32]) -> [u8; 32]
         ensures { result ≡ shared_wrap_key self.now share.now }
@@ -144,6 +128,13 @@ impl Unlock for SharedSecret {
     ghost refuses = { SharedRefuses };
 
     fn unlock(&self, _alloc: Global, header: &Header) -> Result<FileKey, KeyFault> {
-        self.find(header)
+        let stanzas = header.stanzas.as_slice();
+        if !has_x25519(stanzas) {
+            return Err(KeyFault::NoMatch);
+        }
+        if self.secret == [0; 32] || has_bad(stanzas) {
+            return Err(KeyFault::BadX25519);
+        }
+        self.first_key(stanzas).ok_or(KeyFault::WrongKey)
     }
 }

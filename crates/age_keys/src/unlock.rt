@@ -32,16 +32,14 @@ pub trait Unlock {
 /// A file key that is known: it is answered for every header. A contract sees the list of its
 /// bytes.
 #[derive(Drop)]
-pub struct KnownKey {
-    bytes: [u8; 16],
-}
+pub struct KnownKey(pub [u8; 16]);
 
 impl Model for KnownKey {
     ghost use Rattle.std.specs.Prelude.{List, ℕ};
 
     ghost Value = { List ℕ };
 
-    ghost view = { λ k. k.bytes };
+    ghost view = { λ k. k.0 };
 }
 
 impl KnownKey {
@@ -49,7 +47,7 @@ impl KnownKey {
     pub fn new(bytes: [u8; 16]) -> KnownKey
         ensures { result ≡ bytes }
     {
-        KnownKey { bytes }
+        KnownKey(bytes)
     }
 
     /// The key that 32 hexadecimal digits of either case spell, two for each byte; `None` for
@@ -71,6 +69,6 @@ impl Unlock for KnownKey {
     ghost refuses = { λ _ _ _. ⊥ };
 
     fn unlock(&self, _alloc: Global, _header: &Header) -> Result<FileKey, KeyFault> {
-        Ok(FileKey::new(self.bytes))
+        Ok(FileKey::new(self.0))
     }
 }

@@ -4,7 +4,7 @@ ghost use Rattle.std.specs.Prelude.{◌≡◌, IfOk, IfErr};
 ghost use Rattle.age_keys.specs.X25519.{is_x25519, IsX25519Stanza, ReadRefuses};
 
 use crate::fault::KeyFault;
-use age_stanza::{Stanza, read_text};
+use age_stanza::{Stanza, read_base64};
 
 /// An X25519 stanza (C2SP age.md, "The X25519 recipient type"): `-> X25519 SHARE` and a body.
 #[derive(Clone, Copy, Debug, PartialEq, Eq)]
@@ -40,7 +40,7 @@ impl X25519Stanza {
             return Err(KeyFault::BadX25519);
         };
         let mut bytes = [0; 32];
-        if !read_text(share.as_slice(), &mut bytes) {
+        if !read_base64(share.as_slice(), &mut bytes) {
             return Err(KeyFault::BadX25519);
         }
         let Some(body) = stanza.body.as_slice().as_array::<32>() else {

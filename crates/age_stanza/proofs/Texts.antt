@@ -12,6 +12,7 @@ use Rattle.base64.specs.declared.decode.DecodeError.{DecodeError}
 use Rattle.base64.proofs.EngineFacts.{decode_of-encode_of, decode_of_strict, encode_of-append, front_bytes}
 use Rattle.base64.proofs.RoundTrip.{length-encode_symbols}
 use Rattle.age_stanza.specs.Text.{text}
+use Rattle.age_stanza.specs.Laws.{character}
 use Rattle.age_stanza.specs.LineMachine.{decoded, only_bytes}
 
 pub bytes_pass : (b : List ℕ) → IsBytes b → list_all (λ x. ltb x 256) b ≡ true
@@ -53,6 +54,25 @@ the_symbols = engine_symbols standard_no_pad
 pub text-symbols : (m : List ℕ) → text m ≡ encode_symbols the_symbols m
 unfolding text
 text-symbols m = append-nil (encode_symbols the_symbols m)
+
+pub text-none : text [] ≡ []
+unfolding encode_symbols
+text-none = text-symbols []
+
+pub text-one : (a : ℕ) → text (a ∷ []) ≡ character (a / 4) ∷ character (a % 4 * 16) ∷ []
+unfolding encode_symbols
+text-one a = text-symbols (a ∷ [])
+
+pub text-two : (a b : ℕ) → text (a ∷ b ∷ []) ≡ character (a / 4) ∷ character (a % 4 * 16 + b / 16) ∷ character (b % 16 * 4) ∷ []
+unfolding encode_symbols
+text-two a b = text-symbols (a ∷ b ∷ [])
+
+pub text-three : (a b c : ℕ) (rest : List ℕ)
+    → text (a ∷ b ∷ c ∷ rest) ≡ character (a / 4) ∷ character (a % 4 * 16 + b / 16) ∷ character (b % 16 * 4 + c / 64) ∷ character (c % 64) ∷ text rest
+unfolding encode_symbols
+text-three a b c rest =
+    text-symbols (a ∷ b ∷ c ∷ rest)
+    ∙ ap (λ (more : List ℕ). character (a / 4) ∷ character (a % 4 * 16 + b / 16) ∷ character (b % 16 * 4 + c / 64) ∷ character (c % 64) ∷ more) (sym (text-symbols rest))
 
 pub length-text : (m : List ℕ) → length (text m) ≡ (4 * length m + 2) / 3
 length-text m = ap length (text-symbols m) ∙ length-encode_symbols the_symbols m

@@ -1,10 +1,11 @@
 -- Laws over the definitions alone.
-use Rattle.std.specs.Prelude.{◌≡◌, ◌++◌, ℕ, List, length, codes}
+use Rattle.std.specs.Prelude.{◌≡◌, ◌<◌, ◌+◌, ◌*◌, ◌/◌, ◌%◌, ◌++◌, ◌∷◌, [], ℕ, List, length, codes, slice_index}
 use Rattle.base64.specs.GeneralPurpose.{IsBytes, engine_symbols}
 use Rattle.base64.specs.Engines.{standard_no_pad}
 use Rattle.age_stanza.specs.declared.header.Header.{Header}
 use Rattle.age_stanza.specs.declared.fault.HeadFault.{HeadFault}
-use Rattle.age_stanza.specs.Grammar.{Spells, HeadText}
+use Rattle.age_stanza.specs.Text.{text}
+use Rattle.age_stanza.specs.Grammar.{line, in_lines, Spells, HeadText}
 use Rattle.age_stanza.specs.Encoding.{mac_text}
 use Rattle.age_stanza.specs.Faults.{HasHeader, IsFault}
 
@@ -33,3 +34,25 @@ FaultsStay = (front rest : List ℕ) (fault : HeadFault) → (HasHeader front �
 abbrev pub MacTextIsFront : Type 0
 MacTextIsFront = (h : Header) (bytes : List ℕ) → HeadText h bytes
     → (last : List ℕ) × (length last ≡ 45) × (bytes ≡ mac_text h ++ last)
+
+-- a text in lines is lines of 64 characters, one for each 64 of the text, and a last one with the fewer than 64 that are left
+abbrev pub LinesOf64 : Type 0
+LinesOf64 =
+    ((characters rest : List ℕ) → length characters ≡ 64
+    → in_lines 0 (characters ++ rest) ≡ line characters ++ in_lines 0 rest)
+    × ((characters : List ℕ) → length characters < 64 → in_lines 0 characters ≡ line characters)
+
+-- the character of six bits; `Alphabet` says which it is
+abbrev pub character : ℕ → ℕ
+character bits = slice_index (engine_symbols standard_no_pad) bits
+
+-- base64 (RFC 4648, section 4): three bytes are four characters of six bits. Two bytes at the end are three characters, and one is two, with zeros for the bits
+-- that the last character has left: so the text is canonical (section 3.5). No padding follows
+pub record IsBase64 : Type 0 where
+  pub none : text [] ≡ []
+  pub one : (a : ℕ) → text (a ∷ []) ≡ character (a / 4) ∷ character (a % 4 * 16) ∷ []
+  pub two : (a b : ℕ) → text (a ∷ b ∷ [])
+      ≡ character (a / 4) ∷ character (a % 4 * 16 + b / 16) ∷ character (b % 16 * 4) ∷ []
+  pub three : (a b c : ℕ) (rest : List ℕ) → text (a ∷ b ∷ c ∷ rest)
+      ≡ character (a / 4) ∷ character (a % 4 * 16 + b / 16) ∷ character (b % 16 * 4 + c / 64)
+      ∷ character (c % 64) ∷ text rest

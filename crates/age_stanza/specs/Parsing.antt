@@ -1,5 +1,6 @@
 -- What a parser of headers has come to, and what a call does to it.
 use Rattle.std.specs.Prelude.{◌≡◌, ◌≢◌, ◌⊎◌, ℕ, ◌<◌, ◌≤◌, List, ◌++◌, length, take, Result, Ok, Err}
+use Rattle.base64.specs.GeneralPurpose.{IsBytes}
 use Rattle.age_stanza.specs.declared.header.HeadStep.{HeadStep}
 use Rattle.age_stanza.specs.declared.header.HeadStep.TheVariants.{More, Ready}
 use Rattle.age_stanza.specs.declared.fault.HeadKind.TheVariants.{HeadCut}
@@ -12,6 +13,12 @@ pub data Parsing : Type 0 where
   reading : List ℕ → Parsing
   complete : Parsing
   refused : HeadFault → Parsing
+
+-- what is true of every parser: the bytes so far of one that reads on are fewer than the limit, no header stands in front of them, and none of their lines is faulty
+abbrev pub IsParsing : Parsing → Type 0
+IsParsing (reading held) = (length held < 1048576) × IsBytes held × (¬ HasHeader held) × NoFault held
+IsParsing complete = Unit {0}
+IsParsing (refused fault) = Unit {0}
 
 abbrev pub IsOpen : Parsing → Type 0
 IsOpen parsing = parsing ≢ complete

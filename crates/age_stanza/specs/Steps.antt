@@ -45,9 +45,3 @@ abbrev pub parsing_of : State → Parsing
 parsing_of (Open held) = reading held
 parsing_of Done = complete
 parsing_of (Failed fault) = refused fault
-
--- what is kept of a parser
-abbrev pub IsParsing : Parsing → Type 0
-IsParsing (reading held) = (length held < 1048576) × IsUnderWay held
-IsParsing complete = Unit {0}
-IsParsing (refused fault) = Unit {0}

@@ -12,15 +12,16 @@ use std::alloc::{AllocError, Global};
 fn arguments_in(alloc: Global, letters: &[u8]) -> Result<Option<Arguments>, AllocError>
     ensures { IfOk result (λ r. r ≡ arguments_from [] [] letters.now) }
 {
-    let mut args = Arguments::new(alloc);
-    let mut word = Vec::new(alloc);
+    let spaces = letters.iter().filter(|c| **c == b' ').count();
+    let mut args = Arguments::with_capacity(alloc, spaces + 1)?;
+    let mut word = Bytes::new(alloc);
     for c in letters {
         if *c == b' ' {
             if word.is_empty() {
                 return Ok(None);
             }
-            args.push(Bytes::from_vec(word))?;
-            word = Vec::new(alloc);
+            args.push(word)?;
+            word = Bytes::new(alloc);
         } else if b'!' <= *c && *c <= b'~' {
             word.push(*c)?;
         } else {
@@ -30,7 +31,7 @@ fn arguments_in(alloc: Global, letters: &[u8]) -> Result<Option<Arguments>, Allo
     if word.is_empty() {
         return Ok(None);
     }
-    args.push(Bytes::from_vec(word))?;
+    args.push(word)?;
     Ok(Some(args))
 }
 

@@ -4,6 +4,7 @@ ghost use Rattle.std.specs.Prelude.{◌≡◌};
 ghost use Rattle.age_stanza.specs.FaultNumbers.{number_of, place_of};
 
 use std::alloc::AllocError;
+use std::{error, fmt};
 use thiserror::Error;
 
 /// Why a header was refused.
@@ -72,8 +73,7 @@ impl From<AllocError> for HeadKind {
 
 /// A refusal, and the number of the line that it came at, from 1 (0 where
 /// memory was refused).
-#[derive(Clone, Copy, Debug, PartialEq, Eq, Error)]
-#[error("{kind} line {line}")]
+#[derive(Clone, Copy, Debug, PartialEq, Eq)]
 pub struct HeadFault {
     /// What is wrong.
     pub kind: HeadKind,
@@ -100,6 +100,19 @@ impl HeadFault {
         }
     }
 }
+
+/// The kind's text and the line, as `bad stanza line at line 3`; of a refusal of
+/// memory the kind's text alone.
+impl fmt::Display for HeadFault {
+    fn fmt<W: fmt::Write>(&self, f: &mut fmt::Formatter<W>) -> fmt::Result {
+        match self.place() {
+            Some(line) => write!(f, "{} at line {line}", self.kind),
+            None => write!(f, "{}", self.kind),
+        }
+    }
+}
+
+impl error::Error for HeadFault {}
 
 impl From<AllocError> for HeadFault {
     ghost use Rattle.age_stanza.specs.Faults.{memory_fault};

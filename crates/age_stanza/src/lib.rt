@@ -12,7 +12,7 @@
 //! answers the header as soon as its last byte came, or the first fault with
 //! its line. It accepts exactly the texts of the grammar and takes no byte of
 //! the payload. [`encode_head`] writes the one text of a header, and
-//! [`mac_text`] the part of it that the MAC covers. [`read_text`] reads the
+//! [`mac_text`] the part of it that the MAC covers. [`read_base64`] reads the
 //! bytes of an argument out of its base64.
 #![tactic(auto)]
 
@@ -34,9 +34,12 @@ pub use encode::{encode_head, mac_text};
 pub use fault::{HeadFault, HeadKind};
 pub use header::{HeadStep, Header, Stanza, Stanzas};
 pub use lawful::{is_argument, is_header};
-pub use laws::{alphabet, any_pieces, faults_stay, mac_text_is_front, one_fault, one_header};
+pub use laws::{
+    alphabet, any_pieces, faults_stay, lines_of_64, mac_text_is_front, one_fault, one_header,
+    text_is_base64,
+};
 pub use parser::HeadParser;
-pub use text::read_text;
+pub use text::read_base64;
 
 /// The greatest length of a header in bytes, from the version line to the end
 /// line's LF.

@@ -26,13 +26,14 @@ pub(crate) fn decode(alloc: Global, text: &[u8]) -> Result<Option<Vec<u8>>, Allo
 
 /// Reads as many bytes as there is room for, at most 32, out of a text in
 /// canonical base64 without padding (RFC 4648, sections 3.5 and 4). False means
-/// that the text isn't that of so many bytes.
-pub fn read_text(characters: &[u8], bytes: &mut [u8]) -> bool
+/// that the text isn't that of so many bytes, and leaves `bytes` as they were.
+pub fn read_base64(characters: &[u8], bytes: &mut [u8]) -> bool
     requires { length bytes.old ≤ 32 }
     ensures read { OnTrue result (characters.now ≡ text bytes.new) }
     ensures bytes { IsBytes bytes.new }
     ensures refused { OnFalse result ((other : List ℕ) → IsBytes other
         → length other ≡ length bytes.old → characters.now ≢ text other) }
+    ensures kept { OnFalse result (bytes.new ≡ bytes.old) }
 {
     if characters.len() != (4 * bytes.len()).div_ceil(3) {
         return false;
@@ -56,7 +57,7 @@ pub(crate) fn mac_of(line: &[u8]) -> Option<[u8; 32]>
         return None;
     }
     let mut mac = [0; 32];
-    if !read_text(&line[4..], &mut mac) {
+    if !read_base64(&line[4..], &mut mac) {
         return None;
     }
     Some(mac)

@@ -7,15 +7,16 @@ use Rattle.age_stream.specs.Lawful.{IsLawful}
 use Rattle.age_stream.specs.Nonce.{nonce_bytes, chunk_limit}
 use Rattle.age_stream.specs.Payload.{payload, chunk_count, last_index, last_chunk}
 use Rattle.age_stream.specs.Segment.{Segment}
-use Rattle.age_stream.specs.Deliveries.{Standing, standing, begin, after_delivery}
+use Rattle.age_stream.specs.Deliveries.{Standing, standing, standing_from, begin, fresh, after_delivery}
 use Rattle.age_stream.specs.Headline.{IsAuthentic, AreAuthentic, IsRest, IsUndamaged}
-use Rattle.age_stream.specs.Clear.{clear_sealing, clear_opening, clear_mark, clear_lawful}
+use Rattle.age_stream.specs.Clear.{clear_sealing, clear_opening, clear_mark}
+use Rattle.age_stream.specs.ClearLaw.{clear_lawful}
 use Rattle.age_stream.specs.Authentic.{AreWhole, IsClosed, GivesBack}
 use Rattle.age_stream.specs.declared.delivery.Delivery.{Delivery}
 use Rattle.age_stream.specs.declared.delivery.Delivery.TheVariants.{Piece, End}
 use Rattle.age_stream.proofs.Nonces.{nonce_bytes-length, nonce_bytes-flag}
 use Rattle.age_stream.proofs.Undamaged.{rest_segment, rest_payload, rest_authentic}
-use Rattle.age_stream.proofs.Held.{held_right, on_from, pieces_from}
+use Rattle.age_stream.proofs.Held.{held_right, starts_fresh, on_from, pieces_from}
 
 module _ (sealing : List ℕ → List ℕ → List ℕ) (opening : List ℕ → List ℕ → Option (List ℕ)) (lawful : IsLawful sealing opening)
     (n : ℕ) (positive : 0 < n) (text : List ℕ) (few : chunk_count n text ≤ chunk_limit) where
@@ -47,6 +48,23 @@ module _ (sealing : List ℕ → List ℕ → List ℕ) (opening : List ℕ → 
       let all : AllByRecursion (IsAuthentic sealing opening n text) (standing opening n deliveries).given_up =
       subst (λ (s : Standing). AllByRecursion (IsAuthentic sealing opening n text) s.given_up) (sym is) tt in
       (all, subst (λ (s : Standing). IsAuthentic sealing opening n text s.segment) (sym is) (rest_right closed last rest))
+
+  -- behind a restart too
+  pub undamaged_right : IsClosed sealing opening n text → (k : ℕ) (deliveries : List Delivery) (u : IsUndamaged sealing opening n text k deliveries)
+      → AllByRecursion (IsAuthentic sealing opening n text) (standing opening n u.front).given_up → AreAuthentic sealing opening n text deliveries
+  undamaged_right closed k deliveries u given =
+      let s = standing opening n u.front in
+      let F : Segment → Standing = λ x. record { given_up = s.given_up; base = s.base; segment = x; refused = s.refused } in
+      let G : List ℕ → Segment = λ bs. record { start = k; bytes = bs; ended = true; late = false } in
+      let last = G (drop (k * (n + 16)) (payload sealing n text)) in
+      let is : standing opening n deliveries ≡ F last =
+      ap (standing opening n) u.is
+      ∙ (on_from opening n u.front (map Piece u.pieces ++ End ∷ []) begin
+      ∙ (ap (λ (x : Segment). standing_from opening n (F x) (map Piece u.pieces ++ End ∷ [])) (starts_fresh sealing opening lawful n text few positive u.front k u.starts)
+      ∙ (on_from opening n (map Piece u.pieces) (End ∷ []) (F (fresh k))
+      ∙ (ap (λ (x : Standing). after_delivery opening n x End) (pieces_from opening n u.pieces s.given_up k s.base [] s.refused) ∙ ap (λ (bs : List ℕ). F (G bs)) u.rest)))) in
+      let rest : IsRest sealing opening n text last = record { below = u.below; bytes = refl; ended = refl; timely = refl } in
+      (subst (λ (x : Standing). AllByRecursion (IsAuthentic sealing opening n text) x.given_up) (sym is) given, subst (λ (x : Standing). IsAuthentic sealing opening n text x.segment) (sym is) (rest_right closed last rest))
 
   pub comes_back : IsClosed sealing opening n text → GivesBack opening n (payload sealing n text) text
   comes_back closed deliveries w =

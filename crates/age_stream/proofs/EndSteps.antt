@@ -4,7 +4,8 @@ use Rattle.std.specs.Prelude.{Option, Result, Ok, Err, MatchResult}
 use Rattle.std.specs.List.{flat_map}
 use Rattle.std.proofs.lemmas.List.{append-nil}
 use Rattle.std.proofs.lemmas.Grind.{flat_map-append}
-use Rattle.age_stream.specs.Segment.{Segment, Outcome, outcome, released, at_rest, front_texts, whole_blocks, rest_bytes, status_ended}
+use Rattle.age_stream.specs.Segment.{Segment, Outcome, outcome, released, final_block, front_texts, whole_blocks, rest_bytes}
+use Rattle.age_stream.specs.SegmentSteps.{status_ended}
 use Rattle.age_stream.specs.Deliveries.{with_end}
 use Rattle.age_stream.specs.declared.opener.OpenerState.{OpenerState}
 use Rattle.age_stream.specs.declared.fault.StreamFault.{StreamFault}
@@ -45,7 +46,7 @@ module _ {B : Type 0} {n : ℕ} {g : _} (opening : B → List ℕ → List ℕ �
       }
 
   pub end_open : (s : Segment) (answer : Result ℕ StreamFault) → Stands opening (n - 16) (opener_view old) s → old.status ≡ Open
-      → Ends (at_rest (opening old.key.now) [] old.index (held_bytes old) false true) old answer new → Finishes s (front_bytes answer new.buffer.items)
+      → Ends (final_block (opening old.key.now) [] old.index (held_bytes old) false true) old answer new → Finishes s (front_bytes answer new.buffer.items)
   end_open s answer h open_ e =
       let op = opening old.key.now in
       let m = n - 16 in
@@ -56,9 +57,9 @@ module _ {B : Type 0} {n : ℕ} {g : _} (opening : B → List ℕ → List ℕ �
       let i : s.start + length texts ≡ old.index = sym at ∙ sym h.index in
       let rest : rest_bytes m s.bytes ≡ held_bytes old = sym (h.held open_) in
       let all = past_place op m (with_end s) g.all
-      ∙ (ap (λ (l : Bool). at_rest op texts (s.start + length texts) (rest_bytes m s.bytes) l true) (h.timely g.unended)
+      ∙ (ap (λ (l : Bool). final_block op texts (s.start + length texts) (rest_bytes m s.bytes) l true) (h.timely g.unended)
       ∙ (prepend_rest op m texts (s.start + length texts) (rest_bytes m s.bytes))) in
-      let F : ℕ → List ℕ → Outcome = λ k bs. at_rest op [] k bs false true in
+      let F : ℕ → List ℕ → Outcome = λ k bs. final_block op [] k bs false true in
       let same : F (s.start + length texts) (rest_bytes m s.bytes) ≡ F old.index (held_bytes old) =
       ap (λ (k : ℕ). F k (rest_bytes m s.bytes)) i ∙ ap (F old.index) rest in
       finishes s (F old.index (held_bytes old)) answer e

@@ -1,13 +1,14 @@
 -- How an outcome goes on when more bytes come.
 use Rattle.std.proofs.Common.{inl, inr, ◌≡◌, ℕ, zero, suc, ◌<◌, ◌≤◌, ◌+◌, ◌*◌, ◌-◌, ◌/◌, refl, ap, sym, subst, ◌∙◌, List, [], ◌∷◌, ◌++◌, length, take, drop, get_or, Bool, true, false, arith}
-use Rattle.std.specs.Prelude.{Option, Some, None, cond, nat_lt, ◌||◌, ◌==◌, slice_get, ◌⊎◌}
+use Rattle.std.specs.Prelude.{Option, Some, None, cond, nat_lt, ◌||◌, ◌&&◌, ◌==◌, slice_get, ◌⊎◌}
 use Rattle.std.specs.Simd.{first_chunks}
 use Rattle.std.proofs.lemmas.List.{length-append, length-drop, drop-append-le, drop-drop, drop_all, take_all, append-nil}
 use Rattle.std.proofs.lemmas.Bool.{cases_lt, lt-ltb, le-ltb}
 use Rattle.std.proofs.lemmas.Nat.{div-mul-add}
 use Rattle.std.proofs.Math.Nat.{div-mul-le_self, le-div_iff_mul-le}
 use Rattle.age_stream.specs.Nonce.{nonce_bytes}
-use Rattle.age_stream.specs.Segment.{Segment, Outcome, outcome, outcome_of, stop, at_block, at_rest, after_last, after_front, one_block, front_texts, text_then, text_before_last, whole_blocks, rest_bytes, failed, status_after, status_ended}
+use Rattle.age_stream.specs.Segment.{Segment, Outcome, outcome, outcome_of, verdict_at, at_block, final_block, after_last, front_texts, text_then, text_before_last, whole_blocks, rest_bytes, failed}
+use Rattle.age_stream.specs.SegmentSteps.{after_front, one_block, status_after, status_ended}
 use Rattle.std.proofs.Math.Bool.{or-true, or-false}
 use Rattle.age_stream.specs.Deliveries.{with_piece, with_end}
 use Rattle.age_stream.specs.declared.step.Status.{Status}
@@ -190,14 +191,13 @@ module _ (opening : List ℕ → List ℕ → Option (List ℕ)) (n : ℕ) where
   same_failed : (texts : List (List ℕ)) (i : ℕ) (some : Bool) (s : Status) → s ≡ status_after some i s → IsAfterBytes some (record { texts = texts; index = i; status = s }) (record { texts = texts; index = i; status = s })
   same_failed texts i some s e = record { texts = refl; index = refl; status = e }
 
-  rest_bytes_after : (texts : List (List ℕ)) (i : ℕ) (rest : List ℕ) (late some : Bool) → IsAfterBytes some (at_rest opening texts i rest late true) (at_rest opening texts i rest (late || some) true)
+  rest_bytes_after : (texts : List (List ℕ)) (i : ℕ) (rest : List ℕ) (late some : Bool) → IsAfterBytes some (final_block opening texts i rest late true) (final_block opening texts i rest (late || some) true)
   rest_bytes_after texts i rest late some =
       let R : Outcome → Outcome → Type 0 = IsAfterBytes some in
       let last = last_bytes texts i (opening (nonce_bytes i true) rest) late (late || some) some true refl in
-      by_test2 R (length rest == 0) _ _ _ _ (same_failed texts i some (failed Truncated i) refl)
-      (by_test2 R (nat_lt (length rest) 16) _ _ _ _ (same_failed texts i some (failed ChunkCut i) refl)
-      (by_test2 R (length rest == 16) _ _ _ _
-      (by_test2 R (nat_lt 0 i) _ _ _ _ (same_failed texts i some (failed EmptyLast i) refl) last) last))
+      by_test2 R (nat_lt 0 (length rest) && nat_lt (length rest) 16) _ _ _ _ (same_failed texts i some (failed ChunkCut i) refl)
+      (by_test2 R (length rest == 16 && nat_lt 0 i) _ _ _ _ (same_failed texts i some (failed EmptyLast i) refl)
+      (by_test2 R (length rest == 0) _ _ _ _ (same_failed texts i some (failed Truncated i) refl) last))
 
   last_end : (texts : List (List ℕ)) (i : ℕ) (o : Option (List ℕ)) (x ended : Bool) → IsAfterEnd (after_last opening texts i o x ended) (after_last opening texts i o x true)
   last_end texts i None x ended = record { texts = refl; index = refl; status = refl }
@@ -219,13 +219,12 @@ module _ (opening : List ℕ → List ℕ → Option (List ℕ)) (n : ℕ) where
   block_closed texts i b (Some t) x ended e = cc
   block_closed texts i b None x ended e = last_closed texts i (opening (nonce_bytes i true) b) x ended e
 
-  rest_closed : (texts : List (List ℕ)) (i : ℕ) (rest : List ℕ) (late : Bool) → (at_rest opening texts i rest late true).status ≡ Open → ⊥
+  rest_closed : (texts : List (List ℕ)) (i : ℕ) (rest : List ℕ) (late : Bool) → (final_block opening texts i rest late true).status ≡ Open → ⊥
   rest_closed texts i rest late =
       let P : Outcome → Type 0 = λ o. o.status ≡ Open → ⊥ in
       let last : P (after_last opening texts i (opening (nonce_bytes i true) rest) late true) = λ e. last_closed texts i (opening (nonce_bytes i true) rest) late true e in
-      by_test P (length rest == 0) _ _ (λ _ e. cc)
-      (λ _. by_test P (nat_lt (length rest) 16) _ _ (λ _ e. cc)
-      (λ _. by_test P (length rest == 16) _ _ (λ _. by_test P (nat_lt 0 i) _ _ (λ _ e. cc) (λ _. last)) (λ _. last)))
+      by_test P (nat_lt 0 (length rest) && nat_lt (length rest) 16) _ _ (λ _ e. cc)
+      (λ _. by_test P (length rest == 16 && nat_lt 0 i) _ _ (λ _ e. cc) (λ _. by_test P (length rest == 0) _ _ (λ _ e. cc) (λ _. last)))
 
   -- the segment is open: it had no end, and each whole block opened as one before the last
   pub record IsGoing (s : Segment) : Type 0 where
@@ -247,24 +246,24 @@ module _ (opening : List ℕ → List ℕ → Option (List ℕ)) (n : ℕ) where
   at_place s lt =
       let blocks = whole_blocks n s.bytes in
       let texts = front_texts opening s.start blocks in
-      ap (λ (o : Option (List ℕ)). stop opening texts (s.start + length texts) o (nat_lt ((length texts + 1) * (n + 16)) (length s.bytes)) (rest_bytes n s.bytes) s.late s.ended)
+      ap (λ (o : Option (List ℕ)). verdict_at opening texts (s.start + length texts) o (nat_lt ((length texts + 1) * (n + 16)) (length s.bytes)) (rest_bytes n s.bytes) s.late s.ended)
       (slice_get-within blocks (length texts) [] lt)
 
   -- and behind them
   pub past_place : (s : Segment) → length (front_texts opening s.start (whole_blocks n s.bytes)) ≡ length (whole_blocks n s.bytes)
       → let texts = front_texts opening s.start (whole_blocks n s.bytes) in
-      outcome opening n s ≡ at_rest opening texts (s.start + length texts) (rest_bytes n s.bytes) s.late s.ended
+      outcome opening n s ≡ final_block opening texts (s.start + length texts) (rest_bytes n s.bytes) s.late s.ended
   past_place s e =
       let blocks = whole_blocks n s.bytes in
       let texts = front_texts opening s.start blocks in
-      ap (λ (o : Option (List ℕ)). stop opening texts (s.start + length texts) o (nat_lt ((length texts + 1) * (n + 16)) (length s.bytes)) (rest_bytes n s.bytes) s.late s.ended)
+      ap (λ (o : Option (List ℕ)). verdict_at opening texts (s.start + length texts) o (nat_lt ((length texts + 1) * (n + 16)) (length s.bytes)) (rest_bytes n s.bytes) s.late s.ended)
       (slice_get-past blocks (length texts) (omega (arith, e)))
 
   ended_closed : (s : Segment) (ended : Bool) → s.ended ≡ ended → length (front_texts opening s.start (whole_blocks n s.bytes)) ≡ length (whole_blocks n s.bytes) → (outcome opening n s).status ≡ Open → IsGoing s
   ended_closed s false is e h = record { unended = is; all = e }
   ended_closed s true is e h =
       let texts = front_texts opening s.start (whole_blocks n s.bytes) in
-      let p = past_place s e ∙ ap (λ (b : Bool). at_rest opening texts (s.start + length texts) (rest_bytes n s.bytes) s.late b) is in
+      let p = past_place s e ∙ ap (λ (b : Bool). final_block opening texts (s.start + length texts) (rest_bytes n s.bytes) s.late b) is in
       absurd (rest_closed texts (s.start + length texts) (rest_bytes n s.bytes) s.late (sym (ap (λ (o : Outcome). o.status) p) ∙ h))
 
   pub going : (s : Segment) → (outcome opening n s).status ≡ Open → IsGoing s
@@ -312,7 +311,7 @@ module _ (opening : List ℕ → List ℕ → Option (List ℕ)) (n : ℕ) where
       let rest = rest_bytes n bytes in
       let late = s.late in
       let o = opening (nonce_bytes i false) b in
-      let F : List (List ℕ) → Outcome = λ ts. stop opening ts (s.start + length ts) (slice_get (blocks ++ more.0) (length ts)) (nat_lt ((length ts + 1) * (n + 16)) (length bytes)) rest late false in
+      let F : List (List ℕ) → Outcome = λ ts. verdict_at opening ts (s.start + length ts) (slice_get (blocks ++ more.0) (length ts)) (nat_lt ((length ts + 1) * (n + 16)) (length bytes)) rest late false in
       let e0 : outcome opening n (with_piece s p) ≡ outcome opening n (record { start = s.start; bytes = bytes; ended = false; late = late }) =
       ap (λ (t : Bool). outcome opening n (cond t (record { start = s.start; bytes = s.bytes; ended = true; late = s.late || nat_lt 0 (length p) }) (record { start = s.start; bytes = s.bytes ++ p; ended = false; late = s.late }))) is in
       let e1 : outcome opening n (record { start = s.start; bytes = bytes; ended = false; late = late }) ≡ F (front_texts opening s.start (blocks ++ more.0)) =
@@ -320,7 +319,7 @@ module _ (opening : List ℕ → List ℕ → Option (List ℕ)) (n : ℕ) where
       let e2 : F (front_texts opening s.start (blocks ++ more.0)) ≡ F texts = ap F (front_stays opening blocks more.0 s.start lt) in
       let g : slice_get (blocks ++ more.0) (length texts) ≡ Some b = slice_get-append_left blocks more.0 (length texts) lt ∙ slice_get-within blocks (length texts) [] lt in
       let e3 : F texts ≡ at_block opening texts i b (nat_lt a (length bytes) || late) false o =
-      ap (λ (x : Option (List ℕ)). stop opening texts i x (nat_lt a (length bytes)) rest late false) g in
+      ap (λ (x : Option (List ℕ)). verdict_at opening texts i x (nat_lt a (length bytes)) rest late false) g in
       let count = length-first_chunks (n + 16) (length s.bytes / (n + 16)) s.bytes in
       let pos : 0 < n + 16 = omega arith in
       let low : a ≤ length s.bytes = (le-div_iff_mul-le pos).0 (omega (arith, lt, count)) in
@@ -348,7 +347,7 @@ module _ (opening : List ℕ → List ℕ → Option (List ℕ)) (n : ℕ) where
       → IsAfterBytes (nat_lt 0 (length p)) (outcome opening n s) (outcome opening n (with_piece s p))
   piece_past_place s false p is shut e =
       let texts = front_texts opening s.start (whole_blocks n s.bytes) in
-      let h = past_place s e ∙ ap (λ (t : Bool). at_rest opening texts (s.start + length texts) (rest_bytes n s.bytes) s.late t) is in
+      let h = past_place s e ∙ ap (λ (t : Bool). final_block opening texts (s.start + length texts) (rest_bytes n s.bytes) s.late t) is in
       absurd (shut (ap (λ (o : Outcome). o.status) h))
   piece_past_place s true p is shut e =
       let texts = front_texts opening s.start (whole_blocks n s.bytes) in
@@ -357,7 +356,7 @@ module _ (opening : List ℕ → List ℕ → Option (List ℕ)) (n : ℕ) where
       let next : Segment = record { start = s.start; bytes = s.bytes; ended = true; late = s.late || some } in
       let e0 : outcome opening n (with_piece s p) ≡ outcome opening n next =
       ap (λ (t : Bool). outcome opening n (cond t next (record { start = s.start; bytes = s.bytes ++ p; ended = false; late = s.late }))) is in
-      let here = past_place s e ∙ ap (λ (t : Bool). at_rest opening texts i (rest_bytes n s.bytes) s.late t) is in
+      let here = past_place s e ∙ ap (λ (t : Bool). final_block opening texts i (rest_bytes n s.bytes) s.late t) is in
       carry_bytes here (e0 ∙ past_place next e) (rest_bytes_after texts i (rest_bytes n s.bytes) s.late some)
 
   -- a piece, where the segment is open no more
@@ -371,20 +370,20 @@ module _ (opening : List ℕ → List ℕ → Option (List ℕ)) (n : ℕ) where
       → IsAfterEnd (outcome opening n s) (outcome opening n (with_end s))
   end_past_place s false is shut e =
       let texts = front_texts opening s.start (whole_blocks n s.bytes) in
-      let h = past_place s e ∙ ap (λ (t : Bool). at_rest opening texts (s.start + length texts) (rest_bytes n s.bytes) s.late t) is in
+      let h = past_place s e ∙ ap (λ (t : Bool). final_block opening texts (s.start + length texts) (rest_bytes n s.bytes) s.late t) is in
       absurd (shut (ap (λ (o : Outcome). o.status) h))
   end_past_place s true is shut e =
       let texts = front_texts opening s.start (whole_blocks n s.bytes) in
       let i = s.start + length texts in
-      let here = past_place s e ∙ ap (λ (t : Bool). at_rest opening texts i (rest_bytes n s.bytes) s.late t) is in
+      let here = past_place s e ∙ ap (λ (t : Bool). final_block opening texts i (rest_bytes n s.bytes) s.late t) is in
       let P : Outcome → Type 0 = λ o. IsAfterEnd o o in
       let same : (x : Outcome) → x.status ≡ status_ended x.status → P x = λ x h. record { texts = refl; index = refl; status = h } in
       let last = last_end texts i (opening (nonce_bytes i true) (rest_bytes n s.bytes)) s.late true in
       let rest = rest_bytes n s.bytes in
-      let core : P (at_rest opening texts i rest s.late true) =
-      by_test P (length rest == 0) _ _ (λ _. same (record { texts = texts; index = i; status = failed Truncated i }) refl)
-      (λ _. by_test P (nat_lt (length rest) 16) _ _ (λ _. same (record { texts = texts; index = i; status = failed ChunkCut i }) refl)
-      (λ _. by_test P (length rest == 16) _ _ (λ _. by_test P (nat_lt 0 i) _ _ (λ _. same (record { texts = texts; index = i; status = failed EmptyLast i }) refl) (λ _. last)) (λ _. last))) in
+      let core : P (final_block opening texts i rest s.late true) =
+      by_test P (nat_lt 0 (length rest) && nat_lt (length rest) 16) _ _ (λ _. same (record { texts = texts; index = i; status = failed ChunkCut i }) refl)
+      (λ _. by_test P (length rest == 16 && nat_lt 0 i) _ _ (λ _. same (record { texts = texts; index = i; status = failed EmptyLast i }) refl)
+      (λ _. by_test P (length rest == 0) _ _ (λ _. same (record { texts = texts; index = i; status = failed Truncated i }) refl) (λ _. last))) in
       carry_end here (past_place (with_end s) e) core
 
   -- an end, likewise
@@ -404,7 +403,7 @@ module _ (opening : List ℕ → List ℕ → Option (List ℕ)) (n : ℕ) where
       → outcome opening n s ≡ record { texts = front_texts opening s.start (whole_blocks n s.bytes); index = s.start + length (front_texts opening s.start (whole_blocks n s.bytes)); status = Open }
   going_outcome s g =
       let texts = front_texts opening s.start (whole_blocks n s.bytes) in
-      past_place s g.all ∙ ap (λ (t : Bool). at_rest opening texts (s.start + length texts) (rest_bytes n s.bytes) s.late t) g.unended
+      past_place s g.all ∙ ap (λ (t : Bool). final_block opening texts (s.start + length texts) (rest_bytes n s.bytes) s.late t) g.unended
 
   -- bytes that make no whole block
   pub record IsPart (s : Segment) (p : List ℕ) : Type 0 where
@@ -441,23 +440,23 @@ module _ (opening : List ℕ → List ℕ → Option (List ℕ)) (n : ℕ) where
   -- one more block behind blocks that all opened
   one_more : (o : Option (List ℕ)) (blocks : List (List ℕ)) (b : List ℕ) (start len : ℕ) (rest : List ℕ) → length (front_texts opening start blocks) ≡ length blocks → len ≡ (length blocks + 1) * (n + 16)
       → let texts = front_texts opening start blocks in let ts = texts ++ text_then opening o [] in
-      stop opening ts (start + length ts) (slice_get (blocks ++ b ∷ []) (length ts)) (nat_lt ((length ts + 1) * (n + 16)) len) rest false false
+      verdict_at opening ts (start + length ts) (slice_get (blocks ++ b ∷ []) (length ts)) (nat_lt ((length ts + 1) * (n + 16)) len) rest false false
       ≡ prepend opening texts (after_front opening o (start + length texts) b)
   one_more (Some t) blocks b start len rest all is =
       let texts = front_texts opening start blocks in
       let count : length (texts ++ t ∷ []) ≡ length texts + 1 = length-append texts (t ∷ []) in
       let past : length (blocks ++ b ∷ []) ≤ length (texts ++ t ∷ []) = omega (arith, count, all, length-append blocks (b ∷ [])) in
       let i : start + length (texts ++ t ∷ []) ≡ start + length texts + 1 = omega (arith, count) in
-      ap (λ (o : Option (List ℕ)). stop opening (texts ++ t ∷ []) (start + length (texts ++ t ∷ [])) o (nat_lt ((length (texts ++ t ∷ []) + 1) * (n + 16)) len) rest false false)
+      ap (λ (o : Option (List ℕ)). verdict_at opening (texts ++ t ∷ []) (start + length (texts ++ t ∷ [])) o (nat_lt ((length (texts ++ t ∷ []) + 1) * (n + 16)) len) rest false false)
       (slice_get-past (blocks ++ b ∷ []) (length (texts ++ t ∷ [])) past)
       ∙ ap (λ (k : ℕ). record { texts = texts ++ t ∷ []; index = k; status = Open }) i
   one_more None blocks b start len rest all is =
       let texts = front_texts opening start blocks in
       let i = start + length texts in
-      let F : List (List ℕ) → Outcome = λ ts. stop opening ts (start + length ts) (slice_get (blocks ++ b ∷ []) (length ts)) (nat_lt ((length ts + 1) * (n + 16)) len) rest false false in
+      let F : List (List ℕ) → Outcome = λ ts. verdict_at opening ts (start + length ts) (slice_get (blocks ++ b ∷ []) (length ts)) (nat_lt ((length ts + 1) * (n + 16)) len) rest false false in
       let no : nat_lt ((length texts + 1) * (n + 16)) len ≡ false = le-ltb ((length texts + 1) * (n + 16)) len (omega (arith, is, ap (λ (k : ℕ). (k + 1) * (n + 16)) all)) in
       ap F (append-nil texts)
-      ∙ (ap (λ (o : Option (List ℕ)). stop opening texts i o (nat_lt ((length texts + 1) * (n + 16)) len) rest false false) (slice_get_end blocks b (length texts) all)
+      ∙ (ap (λ (o : Option (List ℕ)). verdict_at opening texts i o (nat_lt ((length texts + 1) * (n + 16)) len) rest false false) (slice_get_end blocks b (length texts) all)
       ∙ (ap (λ (x : Bool). at_block opening texts i b (x || false) false (opening (nonce_bytes i false) b)) no
       ∙ prepend_block texts i b (opening (nonce_bytes i false) b)))
 
@@ -472,7 +471,7 @@ module _ (opening : List ℕ → List ℕ → Option (List ℕ)) (n : ℕ) where
       let i = start + length texts in
       let F : List (List ℕ) → Bool → Outcome = λ bs late. outcome_of opening n start bs (length bytes) (rest_bytes n bytes) late false in
       let count : length bytes ≡ (length blocks + 1) * (n + 16) = whole_len n s.bytes p h ∙ ap (λ (k : ℕ). (k + 1) * (n + 16)) (sym (length-first_chunks (n + 16) (length s.bytes / (n + 16)) s.bytes)) in
-      let G : List (List ℕ) → Outcome = λ ts. stop opening ts (start + length ts) (slice_get (blocks ++ b ∷ []) (length ts)) (nat_lt ((length ts + 1) * (n + 16)) (length bytes)) (rest_bytes n bytes) false false in
+      let G : List (List ℕ) → Outcome = λ ts. verdict_at opening ts (start + length ts) (slice_get (blocks ++ b ∷ []) (length ts)) (nat_lt ((length ts + 1) * (n + 16)) (length bytes)) (rest_bytes n bytes) false false in
       let front : front_texts opening start (blocks ++ b ∷ []) ≡ texts ++ text_then opening (text_before_last opening i b) [] =
       front_on opening blocks (b ∷ []) start g.all ∙ ap (λ (k : ℕ). texts ++ front_texts opening (start + k) (b ∷ [])) (sym g.all) in
       let all : outcome opening n (with_piece s p) ≡ prepend opening texts (one_block opening i b) =
@@ -495,12 +494,11 @@ module _ (opening : List ℕ → List ℕ → Option (List ℕ)) (n : ℕ) where
   end_last texts i (Some t) = refl
 
   -- the rest at an end, behind texts
-  pub prepend_rest : (texts : List (List ℕ)) (i : ℕ) (rest : List ℕ) → at_rest opening texts i rest false true ≡ prepend opening texts (at_rest opening [] i rest false true)
+  pub prepend_rest : (texts : List (List ℕ)) (i : ℕ) (rest : List ℕ) → final_block opening texts i rest false true ≡ prepend opening texts (final_block opening [] i rest false true)
   prepend_rest texts i rest =
       let R : Outcome → Outcome → Type 0 = λ x y. x ≡ prepend opening texts y in
       let fault : (s : Status) → R (record { texts = texts; index = i; status = s }) (record { texts = []; index = i; status = s }) =
       λ s. ap (λ (ts : List (List ℕ)). record { texts = ts; index = i; status = s }) (sym (append-nil texts)) in
       let last = end_last texts i (opening (nonce_bytes i true) rest) in
-      by_test2 R (length rest == 0) _ _ _ _ (fault (failed Truncated i))
-      (by_test2 R (nat_lt (length rest) 16) _ _ _ _ (fault (failed ChunkCut i))
-      (by_test2 R (length rest == 16) _ _ _ _ (by_test2 R (nat_lt 0 i) _ _ _ _ (fault (failed EmptyLast i)) last) last))
+      by_test2 R (nat_lt 0 (length rest) && nat_lt (length rest) 16) _ _ _ _ (fault (failed ChunkCut i))
+      (by_test2 R (length rest == 16 && nat_lt 0 i) _ _ _ _ (fault (failed EmptyLast i)) (by_test2 R (length rest == 0) _ _ _ _ (fault (failed Truncated i)) last))

@@ -1,11 +1,11 @@
 -- More bytes never take back what was released.
 use Rattle.std.proofs.Common.{◌≡◌, ℕ, ◌≤◌, ◌+◌, ◌*◌, refl, ap, sym, ◌∙◌, List, [], ◌∷◌, ◌++◌, length, Bool, true, false, arith}
-use Rattle.std.specs.Prelude.{Option, Some, None, nat_lt, ◌==◌, ◌||◌, slice_get}
+use Rattle.std.specs.Prelude.{Option, Some, None, nat_lt, ◌==◌, ◌||◌, ◌&&◌, slice_get}
 use Rattle.std.specs.List.{flat_map}
 use Rattle.std.proofs.lemmas.Grind.{flat_map-append}
 use Rattle.std.proofs.lemmas.List.{append-nil, append_assoc, length-append}
 use Rattle.age_stream.specs.Nonce.{nonce_bytes}
-use Rattle.age_stream.specs.Segment.{Segment, Outcome, outcome, front_texts, after_last, at_block, at_rest, stop, whole_blocks, rest_bytes, released}
+use Rattle.age_stream.specs.Segment.{Segment, Outcome, outcome, front_texts, after_last, at_block, final_block, verdict_at, whole_blocks, rest_bytes, released}
 use Rattle.age_stream.specs.Deliveries.{with_piece}
 use Rattle.age_stream.specs.Headline.{IsPrefixOf}
 use Rattle.age_stream.specs.declared.step.Status.{Status}
@@ -22,21 +22,20 @@ module _ (opening : List ℕ → List ℕ → Option (List ℕ)) (n : ℕ) where
   begins_last texts i None x ended = ([], sym (append-nil texts))
   begins_last texts i (Some t) x ended = (t ∷ [], refl)
 
-  begins_rest : (texts : List (List ℕ)) (i : ℕ) (rest : List ℕ) (late ended : Bool) → Begins texts (at_rest opening texts i rest late ended)
+  begins_rest : (texts : List (List ℕ)) (i : ℕ) (rest : List ℕ) (late ended : Bool) → Begins texts (final_block opening texts i rest late ended)
   begins_rest texts i rest late false = ([], sym (append-nil texts))
   begins_rest texts i rest late true =
       let P : Outcome → Type 0 = Begins texts in
       let none : texts ≡ texts ++ [] = sym (append-nil texts) in
       let last : P (after_last opening texts i (opening (nonce_bytes i true) rest) late true) = begins_last texts i (opening (nonce_bytes i true) rest) late true in
-      by_test P (length rest == 0) _ _ (λ _. ([], none))
-      (λ _. by_test P (nat_lt (length rest) 16) _ _ (λ _. ([], none))
-      (λ _. by_test P (length rest == 16) _ _ (λ _. by_test P (nat_lt 0 i) _ _ (λ _. ([], none)) (λ _. last)) (λ _. last)))
+      by_test P (nat_lt 0 (length rest) && nat_lt (length rest) 16) _ _ (λ _. ([], none))
+      (λ _. by_test P (length rest == 16 && nat_lt 0 i) _ _ (λ _. ([], none)) (λ _. by_test P (length rest == 0) _ _ (λ _. ([], none)) (λ _. last)))
 
   begins_block : (texts : List (List ℕ)) (i : ℕ) (b : List ℕ) (o : Option (List ℕ)) (x ended : Bool) → Begins texts (at_block opening texts i b x ended o)
   begins_block texts i b (Some t) x ended = ([], sym (append-nil texts))
   begins_block texts i b None x ended = begins_last texts i (opening (nonce_bytes i true) b) x ended
 
-  pub begins_stop : (texts : List (List ℕ)) (i : ℕ) (b : Option (List ℕ)) (behind : Bool) (rest : List ℕ) (late ended : Bool) → Begins texts (stop opening texts i b behind rest late ended)
+  pub begins_stop : (texts : List (List ℕ)) (i : ℕ) (b : Option (List ℕ)) (behind : Bool) (rest : List ℕ) (late ended : Bool) → Begins texts (verdict_at opening texts i b behind rest late ended)
   begins_stop texts i None behind rest late ended = begins_rest texts i rest late ended
   begins_stop texts i (Some b) behind rest late ended = begins_block texts i b (opening (nonce_bytes i false) b) (behind || late) ended
 
@@ -74,20 +73,19 @@ module _ (opening : List ℕ → List ℕ → Option (List ℕ)) (n : ℕ) where
   index_last texts i None x ended = refl
   index_last texts i (Some t) x ended = refl
 
-  index_rest : (texts : List (List ℕ)) (i : ℕ) (rest : List ℕ) (late ended : Bool) → (at_rest opening texts i rest late ended).index ≡ i
+  index_rest : (texts : List (List ℕ)) (i : ℕ) (rest : List ℕ) (late ended : Bool) → (final_block opening texts i rest late ended).index ≡ i
   index_rest texts i rest late false = refl
   index_rest texts i rest late true =
       let P : Outcome → Type 0 = λ o. o.index ≡ i in
       let last : P (after_last opening texts i (opening (nonce_bytes i true) rest) late true) = index_last texts i (opening (nonce_bytes i true) rest) late true in
-      by_test P (length rest == 0) _ _ (λ _. refl)
-      (λ _. by_test P (nat_lt (length rest) 16) _ _ (λ _. refl)
-      (λ _. by_test P (length rest == 16) _ _ (λ _. by_test P (nat_lt 0 i) _ _ (λ _. refl) (λ _. last)) (λ _. last)))
+      by_test P (nat_lt 0 (length rest) && nat_lt (length rest) 16) _ _ (λ _. refl)
+      (λ _. by_test P (length rest == 16 && nat_lt 0 i) _ _ (λ _. refl) (λ _. by_test P (length rest == 0) _ _ (λ _. refl) (λ _. last)))
 
   index_block : (texts : List (List ℕ)) (i : ℕ) (b : List ℕ) (o : Option (List ℕ)) (x ended : Bool) → (at_block opening texts i b x ended o).index ≡ i
   index_block texts i b (Some t) x ended = refl
   index_block texts i b None x ended = index_last texts i (opening (nonce_bytes i true) b) x ended
 
-  pub index_stop : (texts : List (List ℕ)) (i : ℕ) (b : Option (List ℕ)) (behind : Bool) (rest : List ℕ) (late ended : Bool) → (stop opening texts i b behind rest late ended).index ≡ i
+  pub index_stop : (texts : List (List ℕ)) (i : ℕ) (b : Option (List ℕ)) (behind : Bool) (rest : List ℕ) (late ended : Bool) → (verdict_at opening texts i b behind rest late ended).index ≡ i
   index_stop texts i None behind rest late ended = index_rest texts i rest late ended
   index_stop texts i (Some b) behind rest late ended = index_block texts i b (opening (nonce_bytes i false) b) (behind || late) ended
 

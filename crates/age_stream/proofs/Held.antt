@@ -99,7 +99,7 @@ module _ (sealing : List ℕ → List ℕ → List ℕ) (opening : List ℕ → 
       ap (λ (b : Bool). (cond {A = Standing} b (record { given_up = s.given_up ++ s.segment ∷ []; base = take (k * n) (text_held opening n s); segment = fresh k; refused = s.refused })
       (record { given_up = s.given_up; base = s.base; segment = s.segment; refused = min (s.refused + 1) 18446744073709551615 })).segment) sure
 
-  starts_fresh : (front : List Delivery) (k : ℕ) → IsStart sealing opening n text k front → (standing opening n front).segment ≡ fresh k
+  pub starts_fresh : (front : List Delivery) (k : ℕ) → IsStart sealing opening n text k front → (standing opening n front).segment ≡ fresh k
   starts_fresh front k h =
       elim h [
         | inl first ↦ ap (λ (ds : List Delivery). (standing opening n ds).segment) first.0 ∙ ap fresh (sym first.1)

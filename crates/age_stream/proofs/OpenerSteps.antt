@@ -3,7 +3,8 @@ use Rattle.std.proofs.Common.{inl, inr, ◌≡◌, ℕ, ◌<◌, ◌≤◌, ◌+
 use Rattle.std.specs.Prelude.{Option, Result, Ok, Err, MatchResult, nat_lt, cond, ◌||◌, if◌then◌else◌}
 use Rattle.std.proofs.lemmas.List.{append-nil, append_assoc, length-take, take-append-drop, take_all}
 use Rattle.std.proofs.lemmas.Bool.{cases_lt}
-use Rattle.age_stream.specs.Segment.{Segment, Outcome, outcome, one_block, rest_bytes, status_after}
+use Rattle.age_stream.specs.Segment.{Segment, Outcome, outcome, rest_bytes}
+use Rattle.age_stream.specs.SegmentSteps.{one_block, status_after}
 use Rattle.age_stream.specs.Deliveries.{with_piece}
 use Rattle.age_stream.specs.declared.opener.OpenerState.{OpenerState}
 use Rattle.age_stream.specs.declared.fault.StreamFault.{StreamFault}

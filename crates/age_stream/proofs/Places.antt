@@ -1,7 +1,9 @@
 -- Each block in its place, where what opens is the writer's.
 use Rattle.std.proofs.Common.{inl, inr, ◌≡◌, ℕ, zero, suc, ◌<◌, ◌≤◌, ◌+◌, ◌*◌, ◌-◌, ◌/◌, refl, ap, sym, subst, ◌∙◌, List, [], ◌∷◌, ◌++◌, length, take, drop, get_or, Bool, true, false, arith, rules}
-use Rattle.std.specs.Prelude.{Option, Some, None, IsSome, Contains, ◌==◌, ◌&&◌, ◌||◌, nat_lt, cond}
+use Rattle.std.specs.Prelude.{Option, Some, None, IsSome, Contains, ◌==◌, ◌&&◌, ◌||◌, nat_lt, cond, map}
 use Rattle.std.specs.Str.{bytes_eq}
+use Rattle.std.specs.List.{list_any, enumerate_from}
+use Rattle.std.specs.Simd.{first_chunks}
 use Rattle.std.proofs.lemmas.Slice.Eq.{bytes_eq-Decides}
 use Rattle.std.proofs.lemmas.List.{length-take, length-drop, take_all}
 use Rattle.std.proofs.lemmas.List.Folds.{list_any_at, Any-from_list_any}
@@ -9,22 +11,66 @@ use Rattle.std.proofs.lemmas.Bool.{cases_lt, lt-ltb, and_parts}
 use Rattle.std.proofs.lemmas.Bool.Decides.{nat_tests}
 use Rattle.age_stream.specs.Lawful.{IsLawful}
 use Rattle.age_stream.specs.Nonce.{nonce_bytes, chunk_limit}
-use Rattle.age_stream.specs.Payload.{chunk_count, sealed}
-use Rattle.age_stream.specs.Segment.{Segment, Outcome, outcome, text_before_last, unless_greatest, text_then, front_texts, after_last, at_block, at_rest, whole_blocks, rest_bytes, failed}
+use Rattle.age_stream.specs.Payload.{chunks, chunk_count, last_index, last_chunk, pair, sealed}
+use Rattle.age_stream.specs.Segment.{Segment, Outcome, outcome, text_before_last, unless_greatest, text_then, front_texts, after_last, at_block, final_block, whole_blocks, rest_bytes, failed}
 use Rattle.age_stream.specs.declared.step.Status.{Status}
 use Rattle.age_stream.specs.declared.step.Status.TheVariants.{Failed}
 use Rattle.age_stream.specs.declared.fault.StreamKind.{StreamKind}
 use Rattle.age_stream.specs.declared.fault.StreamKind.TheVariants.{ChunkDamaged, ChunkCut, EmptyLast, Truncated, Trailing, TooManyChunks}
 use Rattle.age_stream.specs.Headline.{IsWriters, IsAuthentic, IsReached}
-use Rattle.age_stream.specs.Places.{block_at, is_writers, compared, IsFirstWrong, IsInPlace}
+use Rattle.age_stream.specs.Places.{block_at, sealed_as, is_writers, compared, IsFirstWrong, IsInPlace}
 use Rattle.age_stream.proofs.Nonces.{nonce_bytes-length, nonce_bytes-flag}
 use Rattle.age_stream.proofs.Chunks.{length-first_chunks, get_or-first_chunks}
-use Rattle.age_stream.proofs.Segments.{by_test, writer_text, next_within, opens_before, front_carries, IsPair-from_Contains}
+use Rattle.age_stream.proofs.Segments.{by_test, tag_left, empty_first, writer_text, next_within, opens_before, front_carries, IsPair-from_Contains}
 use Rattle.age_stream.proofs.Going.{place, at_place, past_place, rest_short}
 
-cond_none : (b : Bool) → cond {A = Option (List ℕ)} b None None ≡ None
-cond_none true = refl
-cond_none false = refl
+-- each pair is the sealing of its chunk
+abbrev Seals : (List ℕ → List ℕ → List ℕ) → List (List ℕ × List ℕ) → List (List ℕ) → Type 0
+Seals sealing [] chunks = Unit {0}
+Seals sealing (pair ∷ pairs) [] = ⊥
+Seals sealing (pair ∷ pairs) (chunk ∷ chunks) =
+    (pair.1 ≡ sealing pair.0 chunk) × ((length pair.0 ≡ 12) × Seals sealing pairs chunks)
+
+seals_from : (sealing : List ℕ → List ℕ → List ℕ) (q i : ℕ) (last : List ℕ) (cs : List (List ℕ))
+    → Seals sealing (map (pair sealing false) (enumerate_from i cs) ++ pair sealing true (q, last) ∷ []) (cs ++ last ∷ [])
+seals_from sealing q i last [] = (refl, (nonce_bytes-length q true, tt))
+seals_from sealing q i last (c ∷ cs) = (refl, (nonce_bytes-length i false, seals_from sealing q (i + 1) last cs))
+
+seals_all : (sealing : List ℕ → List ℕ → List ℕ) (n : ℕ) (text : List ℕ) → Seals sealing (sealed sealing n text) (chunks n text)
+seals_all sealing n text = seals_from sealing (last_index n text) 0 (last_chunk n text) (first_chunks n (last_index n text) text)
+
+abbrev is_pair : List ℕ → List ℕ → List ℕ × List ℕ → Bool
+is_pair nonce block pair = bytes_eq pair.0 nonce && bytes_eq pair.1 block
+
+-- by the test of the first pair
+found_none_by : (b more : Bool) (chunk : List ℕ) (rest : Option (List ℕ)) → (more ≡ false → rest ≡ None) → (b || more) ≡ false → cond b (Some chunk) rest ≡ None
+found_none_by true more chunk rest f e = cc
+found_none_by false more chunk rest f e = f e
+
+found_none : (pairs : List (List ℕ × List ℕ)) (chunks : List (List ℕ)) (nonce block : List ℕ) → list_any (is_pair nonce block) pairs ≡ false → sealed_as pairs chunks nonce block ≡ None
+found_none [] chunks nonce block e = refl
+found_none (p ∷ pairs) [] nonce block e = refl
+found_none (p ∷ pairs) (chunk ∷ chunks) nonce block e =
+    found_none_by (is_pair nonce block p) (list_any (is_pair nonce block) pairs) chunk (sealed_as pairs chunks nonce block) (λ more. found_none pairs chunks nonce block more) e
+
+module _ (sealing : List ℕ → List ℕ → List ℕ) (opening : List ℕ → List ℕ → Option (List ℕ)) (lawful : IsLawful sealing opening) where
+  found_by : (b more : Bool) (p : List ℕ × List ℕ) (chunk nonce block : List ℕ) (rest : Option (List ℕ)) → is_pair nonce block p ≡ b → p.1 ≡ sealing p.0 chunk → length p.0 ≡ 12
+      → (more ≡ true → opening nonce block ≡ rest) → (b || more) ≡ true → opening nonce block ≡ cond b (Some chunk) rest
+  found_by true more p chunk nonce block rest is seals len f e =
+      let t = and_parts (bytes_eq p.0 nonce) (bytes_eq p.1 block) is in
+      let first : p.0 ≡ nonce = (bytes_eq-Decides p.0 nonce).0 t.0 in
+      let second : p.1 ≡ block = (bytes_eq-Decides p.1 block).0 t.1 in
+      sym (ap (λ (x : List ℕ). opening x p.1) first ∙ ap (opening nonce) second)
+      ∙ (ap (opening p.0) seals ∙ lawful.opens p.0 chunk len)
+  found_by false more p chunk nonce block rest is seals len f e = f e
+
+  found_opens : (pairs : List (List ℕ × List ℕ)) (chunks : List (List ℕ)) (nonce block : List ℕ) → Seals sealing pairs chunks → list_any (is_pair nonce block) pairs ≡ true
+      → opening nonce block ≡ sealed_as pairs chunks nonce block
+  found_opens [] chunks nonce block h e = cc
+  found_opens (p ∷ pairs) [] nonce block h e = absurd h
+  found_opens (p ∷ pairs) (chunk ∷ chunks) nonce block h e =
+      found_by (is_pair nonce block p) (list_any (is_pair nonce block) pairs) p chunk nonce block (sealed_as pairs chunks nonce block) refl h.0 h.1.0
+      (λ more. found_opens pairs chunks nonce block h.1.1 more) e
 
 abbrev kind_of : Status → StreamKind → StreamKind
 kind_of (Failed f) none = f.kind
@@ -41,21 +87,20 @@ places : (a b : StreamKind) (i j : ℕ) → failed a i ≡ failed b j → i ≡ 
 places a b i j e = ap place_of e
 
 -- a choice of four, of which the last is the same where it is reached
-four : {A : Type 0} (b0 b1 b2 b3 : Bool) (w x y u v : A) → (b0 ≡ false → b1 ≡ false → (b2 ≡ true → b3 ≡ false) → u ≡ v)
-    → cond b0 w (cond b1 x (cond b2 (cond b3 y u) u)) ≡ cond b0 w (cond b1 x (cond b2 (cond b3 y v) v))
-four true b1 b2 b3 w x y u v f = refl
-four false true b2 b3 w x y u v f = refl
-four false false false b3 w x y u v f = f refl refl (λ e. cc)
-four false false true true w x y u v f = refl
-four false false true false w x y u v f = f refl refl (λ e. refl)
+four : {A : Type 0} (b0 b1 b2 : Bool) (w x y u v : A) → (b0 ≡ false → b1 ≡ false → b2 ≡ false → u ≡ v)
+    → cond b0 w (cond b1 x (cond b2 y u)) ≡ cond b0 w (cond b1 x (cond b2 y v))
+four true b1 b2 w x y u v f = refl
+four false true b2 w x y u v f = refl
+four false false true w x y u v f = refl
+four false false false w x y u v f = f refl refl refl
 
 module _ (sealing : List ℕ → List ℕ → List ℕ) (opening : List ℕ → List ℕ → Option (List ℕ)) (lawful : IsLawful sealing opening)
     (n : ℕ) (text : List ℕ) (few : chunk_count n text ≤ chunk_limit) (positive : 0 < n) where
   abbrev other : List ℕ → List ℕ → Option (List ℕ)
-  other = compared sealing opening n text
+  other = compared sealing n text
 
   abbrev sure : List ℕ → List ℕ → Bool
-  sure = is_writers sealing opening n text
+  sure = is_writers sealing n text
 
   abbrev Same : List ℕ → List ℕ → Type 0
   Same nonce block = opening nonce block ≡ other nonce block
@@ -78,14 +123,21 @@ module _ (sealing : List ℕ → List ℕ → List ℕ) (opening : List ℕ → 
       let is : a.1 ≡ (nonce, block) = ap (λ (x : List ℕ). (x, a.1.1)) first ∙ ap (λ (x : List ℕ). (nonce, x)) second in
       subst (Contains (sealed sealing n text)) is (a.0, a.2, a.3)
 
-  same_by : (nonce block : List ℕ) (o : Option (List ℕ)) → opening nonce block ≡ o → IsWriters sealing opening n text nonce block → Same nonce block
-  same_by nonce block None e w = e ∙ sym (ap (λ (o : Option (List ℕ)). cond (sure nonce block) o None) e ∙ cond_none (sure nonce block))
-  same_by nonce block (Some x) e w =
+  -- a block that the writer sealed opens to its chunk; others open to nothing
+  opens_none : (nonce block : List ℕ) (o : Option (List ℕ)) → opening nonce block ≡ o → IsWriters sealing opening n text nonce block → sure nonce block ≡ false → o ≡ None
+  opens_none nonce block None e w f = refl
+  opens_none nonce block (Some x) e w f =
       let some : IsSome (opening nonce block) = rw e (search rules) in
-      sym (ap (λ (b : Bool). cond b (opening nonce block) None) (sure_from_Contains nonce block (w some)))
+      let yes : true ≡ false = sym (sure_from_Contains nonce block (w some)) ∙ f in
+      cc
+
+  same_by : (nonce block : List ℕ) (b : Bool) → sure nonce block ≡ b → IsWriters sealing opening n text nonce block → Same nonce block
+  same_by nonce block true e w = found_opens sealing opening lawful (sealed sealing n text) (chunks n text) nonce block (seals_all sealing n text) e
+  same_by nonce block false e w =
+      opens_none nonce block (opening nonce block) refl w e ∙ sym (found_none (sealed sealing n text) (chunks n text) nonce block e)
 
   same : (nonce block : List ℕ) → IsWriters sealing opening n text nonce block → Same nonce block
-  same nonce block w = same_by nonce block (opening nonce block) refl w
+  same nonce block w = same_by nonce block (sure nonce block) refl w
 
   -- what doesn't open is none of the writer's
   unsure_by : (nonce block : List ℕ) (b : Bool) → length nonce ≡ 12 → sure nonce block ≡ b → opening nonce block ≡ None → sure nonce block ≡ false
@@ -187,11 +239,11 @@ module _ (sealing : List ℕ → List ℕ → List ℕ) (opening : List ℕ → 
 
   rest_same : (texts : List (List ℕ)) (i : ℕ) (rest : List ℕ) (late ended : Bool)
       → (ended ≡ true → 16 ≤ length rest → (length rest ≡ 16 → i ≡ 0) → Same (nonce_bytes i true) rest)
-      → at_rest opening texts i rest late ended ≡ at_rest other texts i rest late ended
+      → final_block opening texts i rest late ended ≡ final_block other texts i rest late ended
   rest_same texts i rest late false f = refl
   rest_same texts i rest late true f =
-      four (length rest == 0) (nat_lt (length rest) 16) (length rest == 16) (nat_lt 0 i) _ _ _ _ _
-      (λ e0 e1 e2. last_both texts i rest late true (f refl (grind (arith, nat_tests)) (λ h. let t : (length rest == 16) ≡ true = grind (arith, nat_tests) in let u : nat_lt 0 i ≡ false = e2 t in grind (arith, nat_tests))))
+      four (nat_lt 0 (length rest) && nat_lt (length rest) 16) (length rest == 16 && nat_lt 0 i) (length rest == 0) _ _ _ _ _
+      (λ uncut first some. last_both texts i rest late true (f refl (tag_left (length rest) uncut some) (empty_first (length rest) i first)))
 
   module _ (s : Segment) (auth : IsAuthentic sealing opening n text s) where
     abbrev blocks : List (List ℕ)
@@ -241,7 +293,7 @@ module _ (sealing : List ℕ → List ℕ → List ℕ) (opening : List ℕ → 
               ∙ (rest_same texts at rest s.late s.ended
               (λ t h z. same (nonce_bytes at true) rest (subst (λ (k : ℕ). IsWriters sealing opening n text (nonce_bytes (s.start + k) true) rest) (sym eq')
               (auth.rest eq' t h (λ g. omega (arith, eq', z g)))))
-              ∙ (ap (λ (ts : List (List ℕ)). at_rest other ts (s.start + length ts) rest s.late s.ended) front_is
+              ∙ (ap (λ (ts : List (List ℕ)). final_block other ts (s.start + length ts) rest s.late s.ended) front_is
               ∙ sym (past_place other n s eq2))))
         ]
 
@@ -249,7 +301,7 @@ module _ (sealing : List ℕ → List ℕ → List ℕ) (opening : List ℕ → 
     block_is j lt = sym (get_or-first_chunks (n + 16) (length s.bytes / (n + 16)) s.bytes j [] (omega (arith, lt, count)))
 
     first_wrong : ((last : Bool) → sure (nonce_bytes at last) (block_at n s.bytes (length texts)) ≡ false) → length texts ≤ length blocks
-        → IsFirstWrong sealing opening n text s at
+        → IsFirstWrong sealing n text s at
     first_wrong none fits =
         let m : length texts ≡ at - s.start = omega arith in
         record {
@@ -264,27 +316,25 @@ module _ (sealing : List ℕ → List ℕ → List ℕ) (opening : List ℕ → 
 
     -- what an outcome's status may say
     abbrev Right : Outcome → Type 0
-    Right o = ((i : ℕ) → o.status ≡ failed ChunkDamaged i → IsFirstWrong sealing opening n text s i) × ((i : ℕ) → o.status ≡ failed TooManyChunks i → ⊥)
+    Right o = ((i : ℕ) → o.status ≡ failed ChunkDamaged i → IsFirstWrong sealing n text s i) × ((i : ℕ) → o.status ≡ failed TooManyChunks i → ⊥)
 
     right_kind : (ts : List (List ℕ)) (kind : StreamKind) (i : ℕ) → (kind ≡ ChunkDamaged → ⊥) → (kind ≡ TooManyChunks → ⊥) → Right (record { texts = ts; index = i; status = failed kind i })
     right_kind ts kind i a b = (λ j e. absurd (a (kinds kind ChunkDamaged i j e)), λ j e. b (kinds kind TooManyChunks i j e))
 
-    right_last : (o : Option (List ℕ)) (behind ended : Bool) → (o ≡ None → IsFirstWrong sealing opening n text s at) → Right (after_last opening texts at o behind ended)
+    right_last : (o : Option (List ℕ)) (behind ended : Bool) → (o ≡ None → IsFirstWrong sealing n text s at) → Right (after_last opening texts at o behind ended)
     right_last None behind ended f =
-        (λ i e. subst (IsFirstWrong sealing opening n text s) (places ChunkDamaged ChunkDamaged at i e) (f refl), λ i e. let k = kinds ChunkDamaged TooManyChunks at i e in cc)
+        (λ i e. subst (IsFirstWrong sealing n text s) (places ChunkDamaged ChunkDamaged at i e) (f refl), λ i e. let k = kinds ChunkDamaged TooManyChunks at i e in cc)
     right_last (Some x) true ended f = right_kind (texts ++ x ∷ []) Trailing at (λ e. cc) (λ e. cc)
     right_last (Some x) false true f = (λ i e. cc, λ i e. cc)
     right_last (Some x) false false f = (λ i e. cc, λ i e. cc)
 
-    right_rest : (rest : List ℕ) (late ended : Bool) → (opening (nonce_bytes at true) rest ≡ None → IsFirstWrong sealing opening n text s at) → Right (at_rest opening texts at rest late ended)
+    right_rest : (rest : List ℕ) (late ended : Bool) → (opening (nonce_bytes at true) rest ≡ None → IsFirstWrong sealing n text s at) → Right (final_block opening texts at rest late ended)
     right_rest rest late false f = (λ i e. cc, λ i e. cc)
     right_rest rest late true f =
         let last : Right (after_last opening texts at (opening (nonce_bytes at true) rest) late true) = right_last (opening (nonce_bytes at true) rest) late true f in
-        by_test Right (length rest == 0) _ _ (λ _. right_kind texts Truncated at (λ e. cc) (λ e. cc))
-        (λ _. by_test Right (nat_lt (length rest) 16) _ _ (λ _. right_kind texts ChunkCut at (λ e. cc) (λ e. cc))
-        (λ _. by_test Right (length rest == 16) _ _
-        (λ _. by_test Right (nat_lt 0 at) _ _ (λ _. right_kind texts EmptyLast at (λ e. cc) (λ e. cc)) (λ _. last))
-        (λ _. last)))
+        by_test Right (nat_lt 0 (length rest) && nat_lt (length rest) 16) _ _ (λ _. right_kind texts ChunkCut at (λ e. cc) (λ e. cc))
+        (λ _. by_test Right (length rest == 16 && nat_lt 0 at) _ _ (λ _. right_kind texts EmptyLast at (λ e. cc) (λ e. cc))
+        (λ _. by_test Right (length rest == 0) _ _ (λ _. right_kind texts Truncated at (λ e. cc) (λ e. cc)) (λ _. last)))
 
     module _ (reached : IsReached sealing opening n text s) where
       low : at < chunk_limit
@@ -320,7 +370,7 @@ module _ (sealing : List ℕ → List ℕ → List ℕ) (opening : List ℕ → 
           neither true b none shut = unsure at true b shut
           neither false b none shut = unsure at false b none
 
-      right_left : length texts ≡ length blocks → Right (at_rest opening texts at (rest_bytes n s.bytes) s.late s.ended)
+      right_left : length texts ≡ length blocks → Right (final_block opening texts at (rest_bytes n s.bytes) s.late s.ended)
       right_left eq =
           let rest = rest_bytes n s.bytes in
           let short : length rest < n + 16 = rest_short n s.bytes in

@@ -13,7 +13,7 @@ use Rattle.age_stream.specs.Deliveries.{Standing, with_piece, with_end, text_hel
 use Rattle.age_stream.specs.declared.delivery.Delivery.TheVariants.{End, Restart}
 use Rattle.age_stream.proofs.Fresh.{fresh_outcome}
 use Rattle.age_stream.specs.Opening.{Stands, chunk_texts}
-use Rattle.age_stream.specs.Lent.{lent_text}
+use Rattle.age_stream.specs.Lent.{chunk_bytes}
 use Rattle.age_stream.specs.Replaying.{ReplayView, IsAt, Replays, with_bytes}
 use Rattle.age_stream.specs.Lawful.{IsLawful}
 use Rattle.age_stream.specs.Headline.{HoldsWritten, IsHeldRight}
@@ -21,7 +21,7 @@ use Rattle.age_stream.specs.declared.delivery.Delivery.{Delivery}
 use Rattle.age_stream.specs.declared.step.Status.{Status}
 use Rattle.age_stream.proofs.Held.{held_right, standing_more}
 
-pub lent_flat : (chunk : Option (Bor (List ℕ))) → flat_map (λ (t : List ℕ). t) (chunk_texts chunk) ≡ lent_text chunk
+pub lent_flat : (chunk : Option (Bor (List ℕ))) → flat_map (λ (t : List ℕ). t) (chunk_texts chunk) ≡ chunk_bytes chunk
 lent_flat None = refl
 lent_flat (Some chunk) = append-nil chunk.now
 

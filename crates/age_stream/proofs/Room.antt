@@ -5,7 +5,7 @@ use Rattle.std.specs.Borrow.{Bor}
 use Rattle.std.proofs.Math.Nat.{add-mul-div_left}
 use Rattle.age_stream.specs.declared.step.Status.{Status}
 use Rattle.age_stream.specs.declared.step.Status.TheVariants.{Open, LastSeen, Done, Failed}
-use Rattle.age_stream.specs.Lent.{lent_text}
+use Rattle.age_stream.specs.Lent.{chunk_bytes}
 use Rattle.age_stream.specs.Opening.{while_open, whole_text}
 
 pub open_number : (s : Status) (k : ℕ) → s ≡ Open → while_open s k ≡ k
@@ -21,7 +21,7 @@ shut_number (Failed f) k h = refl
 pub room_left : (n h t p : ℕ) (held : List ℕ) (chunk : Option (Bor (List ℕ)))
     → IfSome chunk (λ chunk. (length chunk.now ≡ n) × (h + t ≡ n + 16) × (held ≡ []))
     → IfNone chunk (length held ≡ h + t) → t ≤ p
-    → length (lent_text chunk) + whole_text n (length held + (p - t)) ≤ whole_text n (h + p)
+    → length (chunk_bytes chunk) + whole_text n (length held + (p - t)) ≤ whole_text n (h + p)
 room_left n h t p held None some none le =
     let e : length held + (p - t) ≡ h + p = omega (arith, none, le) in
     omega (arith, ap (λ (k : ℕ). k / (n + 16) * n) e)

@@ -6,8 +6,8 @@ use Rattle.std.proofs.lemmas.List.{append-nil, length-take}
 use Rattle.std.proofs.lemmas.Grind.{flat_map-append}
 use Rattle.age_stream.specs.Nonce.{nonce_bytes}
 use Rattle.age_stream.specs.Payload.{last_index, last_chunk, sealed_before_last, block_bytes, pair, payload}
-use Rattle.age_stream.specs.Sealing.{SealerView, Holds, lent_bytes, step_len}
-use Rattle.age_stream.specs.SealerSteps.{IsStep, Grows, Closes}
+use Rattle.age_stream.specs.Sealing.{SealerView, Holds, step_len}
+use Rattle.age_stream.specs.SealerSteps.{bytes_of, IsStep, Grows, Closes}
 use Rattle.age_stream.proofs.Sealings.{grown_index, grown_chunk, grown_blocks, closed_index, closed_chunk, closed_blocks}
 
 -- no more is taken than came
@@ -19,7 +19,7 @@ module _ {B : Type 0} (sealing : B → List ℕ → List ℕ → List ℕ) (n : 
   pub record Follows (text : List ℕ) (block : Option (List ℕ)) : Type 0 where
     pub holds : Holds n new (text ++ take taken piece)
     pub blocks : block_bytes (sealed_before_last (sealing old.key) n (text ++ take taken piece))
-        ≡ block_bytes (sealed_before_last (sealing old.key) n text) ++ lent_bytes block
+        ≡ block_bytes (sealed_before_last (sealing old.key) n text) ++ bytes_of block
 
   grows : (text : List ℕ) → Holds n old text → Grows sealing n old piece taken new → Follows text None
   grows text h s =

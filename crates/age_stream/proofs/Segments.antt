@@ -1,10 +1,10 @@
 -- What a segment releases, where what opens is the writer's.
 use Rattle.std.proofs.Common.{take-add, inl, inr, ◌≡◌, ℕ, suc, ◌<◌, ◌≤◌, ◌+◌, ◌*◌, ◌-◌, ◌/◌, ◌^◌, refl, ap, sym, subst, ◌∙◌, List, [], ◌∷◌, ◌++◌, length, take, drop, get_or, Bool, true, false, arith, rules}
-use Rattle.std.specs.Prelude.{Option, Some, None, IsSome, Contains, ◌==◌, nat_lt, cond, ◌||◌, slice_get}
+use Rattle.std.specs.Prelude.{Option, Some, None, IsSome, Contains, ◌==◌, nat_lt, cond, ◌||◌, ◌&&◌, slice_get}
 use Rattle.std.specs.List.{enumerate_from, flat_map}
 use Rattle.std.specs.Simd.{first_chunks}
 use Rattle.std.proofs.lemmas.List.{get_or-map, length-map, append_assoc, append-nil, take_all, take-append-drop, get_or_append_left, length_push, get_or_push, flat_map_more}
-use Rattle.std.proofs.lemmas.Bool.{ltb-true, cases_lt, eq-eqb, ne_eqb}
+use Rattle.std.proofs.lemmas.Bool.{ltb-true, lt-ltb, cases_lt, eq-eqb, ne_eqb}
 use Rattle.std.proofs.lemmas.Bool.Decides.{nat_tests}
 use Rattle.std.proofs.Math.Nat.{le-div_iff_mul-le}
 use Rattle.std.proofs.lemmas.List.FromFn.{length-enumerate_from, get_or-enumerate_from}
@@ -12,7 +12,7 @@ use Rattle.std.proofs.lemmas.Option.{cond_some}
 use Rattle.age_stream.specs.Lawful.{IsLawful}
 use Rattle.age_stream.specs.Nonce.{nonce_bytes, chunk_limit}
 use Rattle.age_stream.specs.Payload.{chunk_count, last_index, last_chunk, pair, sealed_before_last, sealed}
-use Rattle.age_stream.specs.Segment.{Segment, Outcome, outcome, text_before_last, unless_greatest, text_then, front_texts, after_last, at_block, at_rest, stop, whole_blocks, rest_bytes, failed}
+use Rattle.age_stream.specs.Segment.{Segment, Outcome, outcome, text_before_last, unless_greatest, text_then, front_texts, after_last, at_block, final_block, verdict_at, whole_blocks, rest_bytes, failed}
 use Rattle.age_stream.specs.declared.step.Status.{Status}
 use Rattle.age_stream.specs.declared.step.Status.TheVariants.{Open, Done}
 use Rattle.age_stream.specs.declared.fault.StreamKind.TheVariants.{ChunkDamaged, ChunkCut, EmptyLast, Truncated, TooManyChunks}
@@ -70,6 +70,28 @@ IsPair-from_Contains sealing n text nonce block positive h =
 pub by_test : {A : Type 0} (P : A → Type 0) (b : Bool) (x y : A) → (b ≡ true → P x) → (b ≡ false → P y) → P (cond b x y)
 by_test P true x y f g = f refl
 by_test P false x y f g = g refl
+
+-- what is left at the end has a tag, and is only a tag at number 0
+pub tag_left : (len : ℕ) → (nat_lt 0 len && nat_lt len 16) ≡ false → (len == 0) ≡ false → 16 ≤ len
+tag_left len uncut some =
+    elim (cases_lt len 16) [
+      | inl lt ↦
+          (let pos : 0 < len = grind (arith, nat_tests) in
+          let cut : (nat_lt 0 len && nat_lt len 16) ≡ true = ap (λ (b : Bool). b && nat_lt len 16) (lt-ltb 0 len pos) ∙ lt-ltb len 16 lt in
+          let no : true ≡ false = sym cut ∙ uncut in
+          cc)
+      | inr le ↦ le
+    ]
+
+pub empty_first : (len i : ℕ) → (len == 16 && nat_lt 0 i) ≡ false → len ≡ 16 → i ≡ 0
+empty_first len i first is =
+    elim (cases_lt 0 i) [
+      | inl lt ↦
+          (let later : (len == 16 && nat_lt 0 i) ≡ true = ap (λ (b : Bool). b && nat_lt 0 i) (eq-eqb len 16 is) ∙ lt-ltb 0 i lt in
+          let no : true ≡ false = sym later ∙ first in
+          cc)
+      | inr le ↦ omega (arith, le)
+    ]
 
 -- x is the chunk at i, and last says whether no other follows
 pub record IsChunk (n : ℕ) (text : List ℕ) (i : ℕ) (last : Bool) (x : List ℕ) : Type 0 where
@@ -218,17 +240,15 @@ module _ (sealing : List ℕ → List ℕ → List ℕ) (opening : List ℕ → 
 
   released_rest : (i : ℕ) (start : List ℕ) (texts : List (List ℕ)) (rest : List ℕ) (late ended : Bool) → i < chunk_limit
       → (ended ≡ true → 16 ≤ length rest → (length rest ≡ 16 → i ≡ 0) → IsWriters sealing opening n text (nonce_bytes i true) rest)
-      → start ++ flat_map (λ (t : List ℕ). t) texts ≡ take (i * n) text → IsReleased i start (at_rest opening texts i rest late ended)
+      → start ++ flat_map (λ (t : List ℕ). t) texts ≡ take (i * n) text → IsReleased i start (final_block opening texts i rest late ended)
   released_rest i start texts rest late false small w e = at_carried i start texts Open e (λ d. cc)
   released_rest i start texts rest late true small w e =
       let P : Outcome → Type 0 = IsReleased i start in
       let last = λ (h : 16 ≤ length rest) (z : length rest ≡ 16 → i ≡ 0). released_last i start texts rest late true (opening (nonce_bytes i true) rest) small refl (w refl h z) e in
-      by_test P (length rest == 0) _ _ (λ t. at_carried i start texts (failed Truncated i) e (λ d. cc))
-      (λ f0. by_test P (nat_lt (length rest) 16) _ _ (λ t. at_carried i start texts (failed ChunkCut i) e (λ d. cc))
-      (λ f1. by_test P (length rest == 16) _ _
-      (λ t2. by_test P (nat_lt 0 i) _ _ (λ t3. at_carried i start texts (failed EmptyLast i) e (λ d. cc))
-      (λ f3. last (grind (arith, nat_tests)) (λ _. grind (arith, nat_tests))))
-      (λ f2. last (grind (arith, nat_tests)) (λ h. absurd (grind (arith, nat_tests))))))
+      by_test P (nat_lt 0 (length rest) && nat_lt (length rest) 16) _ _ (λ t. at_carried i start texts (failed ChunkCut i) e (λ d. cc))
+      (λ uncut. by_test P (length rest == 16 && nat_lt 0 i) _ _ (λ t. at_carried i start texts (failed EmptyLast i) e (λ d. cc))
+      (λ first. by_test P (length rest == 0) _ _ (λ t. at_carried i start texts (failed Truncated i) e (λ d. cc))
+      (λ some. last (tag_left (length rest) uncut some) (empty_first (length rest) i first))))
 
   pub released_segment : (s : Segment) (base : List ℕ) → s.start < chunk_limit → s.start * n ≤ length text → base ≡ take (s.start * n) text
       → IsAuthentic sealing opening n text s → IsReleased (s.start + length (front_texts opening s.start (whole_blocks n s.bytes))) base (outcome opening n s)
@@ -248,13 +268,13 @@ module _ (sealing : List ℕ → List ℕ → List ℕ) (opening : List ℕ → 
         | inl lt ↦
             (let is : slice_get blocks m ≡ Some (get_or blocks m []) = slice_get-within blocks m [] lt in
             let lt' : m < length s.bytes / size = omega (arith, lt, count) in
-            subst (λ (b : Option (List ℕ)). IsReleased i base (stop opening texts i b behind rest s.late s.ended)) (sym is)
+            subst (λ (b : Option (List ℕ)). IsReleased i base (verdict_at opening texts i b behind rest s.late s.ended)) (sym is)
             (released_block i base texts (get_or blocks m []) (behind || s.late) s.ended
             (opening (nonce_bytes i false) (get_or blocks m [])) low (auth.next lt' true) here))
         | inr le ↦
             (let is : slice_get blocks m ≡ None = slice_get-past blocks m le in
             let eq : m ≡ length s.bytes / size = omega (arith, le, count, length-front_texts opening blocks s.start) in
-            subst (λ (b : Option (List ℕ)). IsReleased i base (stop opening texts i b behind rest s.late s.ended)) (sym is)
+            subst (λ (b : Option (List ℕ)). IsReleased i base (verdict_at opening texts i b behind rest s.late s.ended)) (sym is)
             (released_rest i base texts rest s.late s.ended low
             (λ t h z. subst (λ (k : ℕ). IsWriters sealing opening n text (nonce_bytes (s.start + k) true) rest) (sym eq)
             (auth.rest eq t h (λ g. omega (arith, eq, z g)))) here))

@@ -1,18 +1,18 @@
 -- The writer's own payload, from any chunk on, opens to the end.
 use Rattle.std.proofs.Common.{inl, inr, ◌≡◌, ℕ, zero, suc, ◌<◌, ◌≤◌, ◌+◌, ◌*◌, ◌/◌, refl, ap, sym, subst, ◌∙◌, List, [], ◌∷◌, ◌++◌, length, take, drop, get_or, Bool, true, false, arith}
-use Rattle.std.specs.Prelude.{Option, Some, None, cond, nat_lt, ◌||◌, ◌==◌, slice_get, map, Contains, IsSome}
+use Rattle.std.specs.Prelude.{Option, Some, None, cond, nat_lt, ◌||◌, ◌&&◌, ◌==◌, slice_get, map, Contains, IsSome}
 use Rattle.std.specs.List.{enumerate_from, AllByRecursion}
 use Rattle.std.specs.Simd.{first_chunks}
 use Rattle.std.proofs.lemmas.Grind.{flat_map-append}
 use Rattle.std.proofs.lemmas.List.{length-append, length-drop, length-take, append-nil, append_assoc, get_or_at, drop_all, take_at, drop_at, drop-drop, take_all, get_or-map, length-map, get_or_append_left, length_push, get_or_push, get_or-drop}
 use Rattle.std.proofs.lemmas.List.FromFn.{length-enumerate_from, get_or-enumerate_from}
-use Rattle.std.proofs.lemmas.Bool.{cases_lt, lt-ltb, le-ltb, eq-eqb, eqb-true, ltb-true}
+use Rattle.std.proofs.lemmas.Bool.{cases_lt, lt-ltb, le-ltb, eq-eqb, eqb-true, ltb-true, and_parts}
 use Rattle.std.proofs.lemmas.Nat.{div-mul-add, mul-le}
 use Rattle.std.proofs.Math.Nat.{add-mul-div_left}
 use Rattle.age_stream.specs.Lawful.{IsLawful}
 use Rattle.age_stream.specs.Nonce.{nonce_bytes, chunk_limit}
 use Rattle.age_stream.specs.Payload.{last_index, last_chunk, chunk_count, pair, sealed_before_last, sealed, block_bytes, payload}
-use Rattle.age_stream.specs.Segment.{Segment, Outcome, outcome, outcome_of, stop, at_block, at_rest, after_last, front_texts, text_then, unless_greatest, whole_blocks, rest_bytes}
+use Rattle.age_stream.specs.Segment.{Segment, Outcome, outcome, outcome_of, verdict_at, at_block, final_block, after_last, front_texts, text_then, unless_greatest, whole_blocks, rest_bytes}
 use Rattle.age_stream.specs.Headline.{IsAuthentic, IsWriters}
 use Rattle.age_stream.specs.declared.step.Status.TheVariants.{Done}
 use Rattle.age_stream.proofs.Nonces.{nonce_bytes-length}
@@ -216,7 +216,7 @@ module _ (sealing : List ℕ → List ℕ → List ℕ) (opening : List ℕ → 
           let z : 0 * (n + 16) ≡ 0 = omega arith in
           ap (λ (c : ℕ). drop (c * (n + 16)) tail) (ap (λ (x : ℕ). x / (n + 16)) e ∙ div-mul-add 0 (n + 16) (length tail) short) ∙ ap (λ (c : ℕ). drop c tail) z
 
-      rest_done : (at_rest opening ds (k + length ds) tail false true).status ≡ Done
+      rest_done : (final_block opening ds (k + length ds) tail false true).status ≡ Done
       rest_done =
           let i = k + length ds in
           let P : Outcome → Type 0 = λ o. o.status ≡ Done in
@@ -229,22 +229,26 @@ module _ (sealing : List ℕ → List ℕ → List ℕ) (opening : List ℕ → 
             | inl lt ↦ (let m : 1 * n ≤ q * n = mul-le 1 n q n (omega (arith, lt)) (omega arith) in absurd (omega (arith, m, last_index_le n text, zero_len, positive)))
             | inr le ↦ omega (arith, le, ds_len)
           ] in
-          by_test P (length tail == 0) _ _ (λ t. let h : length tail ≡ 0 = eqb-true (length tail) 0 t in absurd (omega (arith, h, tail_len)))
-          (λ _. by_test P (nat_lt (length tail) 16) _ _ (λ t. let h : length tail < 16 = ltb-true (length tail) 16 t in absurd (omega (arith, h, tail_len)))
-          (λ _. by_test P (length tail == 16) _ _
-          (λ t. by_test P (nat_lt 0 i) _ _ (λ u. let h : 0 < i = ltb-true 0 i u in let g : i ≡ 0 = empty (eqb-true (length tail) 16 t) in absurd (omega (arith, h, g))) (λ _. last))
-          (λ _. last)))
+          by_test P (nat_lt 0 (length tail) && nat_lt (length tail) 16) _ _
+          (λ t. let h : length tail < 16 = ltb-true (length tail) 16 (and_parts (nat_lt 0 (length tail)) (nat_lt (length tail) 16) t).1 in absurd (omega (arith, h, tail_len)))
+          (λ _. by_test P (length tail == 16 && nat_lt 0 i) _ _
+          (λ t.
+          let both = and_parts (length tail == 16) (nat_lt 0 i) t in
+          let h : 0 < i = ltb-true 0 i both.1 in
+          let g : i ≡ 0 = empty (eqb-true (length tail) 16 both.0) in
+          absurd (omega (arith, h, g)))
+          (λ _. by_test P (length tail == 0) _ _ (λ t. let h : length tail ≡ 0 = eqb-true (length tail) 0 t in absurd (omega (arith, h, tail_len))) (λ _. last)))
 
       short_done : (outcome opening n rest_segment).status ≡ Done
       short_done =
           let blocks = blocks_of k ds in
-          let G : List (List ℕ) → Outcome = λ ts. stop opening ts (k + length ts) (slice_get (blocks ++ []) (length ts)) (nat_lt ((length ts + 1) * (n + 16)) (length bytes)) tail false true in
+          let G : List (List ℕ) → Outcome = λ ts. verdict_at opening ts (k + length ts) (slice_get (blocks ++ []) (length ts)) (nat_lt ((length ts + 1) * (n + 16)) (length bytes)) tail false true in
           let e1 = outcome_is
           ∙ (ap (λ (ys : List (List ℕ)). outcome_of opening n k (blocks ++ ys) (length bytes) (rest_bytes n tail) false true) none_whole
           ∙ (ap (λ (r : List ℕ). outcome_of opening n k (blocks ++ []) (length bytes) r false true) all_left
           ∙ ap G (front_behind [] ∙ append-nil ds))) in
           let past : slice_get (blocks ++ []) (length ds) ≡ None = slice_get-past (blocks ++ []) (length ds) (omega (arith, ap length (append-nil blocks), length-blocks_of k ds)) in
-          let e2 = e1 ∙ ap (λ (o : Option (List ℕ)). stop opening ds (k + length ds) o (nat_lt ((length ds + 1) * (n + 16)) (length bytes)) tail false true) past in
+          let e2 = e1 ∙ ap (λ (o : Option (List ℕ)). verdict_at opening ds (k + length ds) o (nat_lt ((length ds + 1) * (n + 16)) (length bytes)) tail false true) past in
           ap (λ (o : Outcome). o.status) e2 ∙ rest_done
 
     -- the last chunk is full: its block is the last whole one
@@ -295,7 +299,7 @@ module _ (sealing : List ℕ → List ℕ → List ℕ) (opening : List ℕ → 
       full_done auth =
           let shut = not_before_last auth (opening (nonce_bytes q false) tail) refl in
           let blocks = blocks_of k ds in
-          let G : List (List ℕ) → Outcome = λ ts. stop opening ts (k + length ts) (slice_get (blocks ++ tail ∷ []) (length ts)) (nat_lt ((length ts + 1) * (n + 16)) (length bytes)) (rest_bytes n tail) false true in
+          let G : List (List ℕ) → Outcome = λ ts. verdict_at opening ts (k + length ts) (slice_get (blocks ++ tail ∷ []) (length ts)) (nat_lt ((length ts + 1) * (n + 16)) (length bytes)) (rest_bytes n tail) false true in
           let front : front_texts opening k (blocks ++ tail ∷ []) ≡ ds =
           front_behind (tail ∷ []) ∙ (ap (λ (o : Option (List ℕ)). ds ++ text_then opening (unless_greatest q o) []) shut ∙ append-nil ds) in
           let at : slice_get (blocks ++ tail ∷ []) (length ds) ≡ Some tail = slice_get_end blocks tail (length ds) (sym (length-blocks_of k ds)) in
@@ -307,7 +311,7 @@ module _ (sealing : List ℕ → List ℕ → List ℕ) (opening : List ℕ → 
           let e = outcome_is
           ∙ (ap (λ (ys : List (List ℕ)). outcome_of opening n k (blocks ++ ys) (length bytes) (rest_bytes n tail) false true) one_whole
           ∙ (ap G front
-          ∙ (ap (λ (o : Option (List ℕ)). stop opening ds i o behind (rest_bytes n tail) false true) at
+          ∙ (ap (λ (o : Option (List ℕ)). verdict_at opening ds i o behind (rest_bytes n tail) false true) at
           ∙ (ap (λ (x : Bool). at_block opening ds i tail (x || false) true (opening (nonce_bytes i false) tail)) no
           ∙ (ap (λ (o : Option (List ℕ)). at_block opening ds i tail false true o) (ap (λ (j : ℕ). opening (nonce_bytes j false) tail) ds_len ∙ shut)
           ∙ ap (λ (o : Option (List ℕ)). after_last opening ds i o false true) (ap (λ (j : ℕ). opening (nonce_bytes j true) tail) ds_len ∙ tail_opens)))))) in

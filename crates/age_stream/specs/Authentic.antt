@@ -1,13 +1,14 @@
--- Where the headline's premise is met: the payload of a writer, delivered as it is. A chunk has n bytes.
+-- Where the headline's premise is met: the payload of a writer, delivered as it is. A chunk has n
+-- bytes.
 use Rattle.std.specs.Prelude.{◌≡◌, ℕ, ◌<◌, ◌≤◌, true, false, List, [], ◌∷◌, ◌++◌, length, Option, None, map}
-use Rattle.std.specs.List.{flat_map}
+use Rattle.std.specs.List.{AllByRecursion, flat_map}
 use Rattle.std.specs.Borrow.{Bor}
 use Rattle.age_stream.specs.Lawful.{IsLawful}
 use Rattle.age_stream.specs.Nonce.{nonce_bytes, chunk_limit}
 use Rattle.age_stream.specs.Payload.{payload, chunk_count, last_index, last_chunk}
 use Rattle.age_stream.specs.Segment.{Segment, outcome}
 use Rattle.age_stream.specs.Deliveries.{standing, text_held}
-use Rattle.age_stream.specs.Headline.{IsAuthentic, AreAuthentic, IsRest}
+use Rattle.age_stream.specs.Headline.{IsAuthentic, AreAuthentic, IsRest, IsUndamaged}
 use Rattle.age_stream.specs.Clear.{clear_sealing, clear_opening}
 use Rattle.age_stream.specs.declared.step.Status.TheVariants.{Done}
 use Rattle.age_stream.specs.declared.delivery.Delivery.{Delivery}
@@ -37,9 +38,22 @@ RestIsAuthentic = (sealing : List ℕ → List ℕ → List ℕ)
     → IsClosed sealing opening n text
     → (s : Segment) → IsRest sealing opening n text s → IsAuthentic sealing opening n text s
 
--- so are deliveries of a whole payload
+-- so are an undamaged payload, or its rest, and an end, after any deliveries of which each segment
+-- that was given up is authentic
 abbrev pub UndamagedIsAuthentic : Type 0
 UndamagedIsAuthentic = (sealing : List ℕ → List ℕ → List ℕ)
+    (opening : List ℕ → List ℕ → Option (List ℕ))
+    → IsLawful sealing opening
+    → (n : ℕ) → 0 < n
+    → (text : List ℕ) → chunk_count n text ≤ chunk_limit
+    → IsClosed sealing opening n text
+    → (k : ℕ) (deliveries : List Delivery) (rest : IsUndamaged sealing opening n text k deliveries)
+    → AllByRecursion (IsAuthentic sealing opening n text) (standing opening n rest.front).given_up
+    → AreAuthentic sealing opening n text deliveries
+
+-- so are deliveries of a whole payload
+abbrev pub WholeIsAuthentic : Type 0
+WholeIsAuthentic = (sealing : List ℕ → List ℕ → List ℕ)
     (opening : List ℕ → List ℕ → Option (List ℕ))
     → IsLawful sealing opening
     → (n : ℕ) → 0 < n

@@ -6,7 +6,8 @@ use Rattle.age_stream.specs.Segment.{Segment, outcome}
 use Rattle.age_stream.specs.declared.delivery.Delivery.{Delivery}
 use Rattle.age_stream.specs.declared.delivery.Delivery.TheVariants.{Piece, End, Restart}
 
--- the segments that were given up, the text before the current one, that one, and how many restarts were refused
+-- the segments that were given up, the text before the current one, that one, and how many restarts
+-- were refused
 pub record Standing : Type 0 where
   pub given_up : List Segment
   pub base : List ℕ

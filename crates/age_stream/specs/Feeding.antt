@@ -8,7 +8,7 @@ use Rattle.age_stream.specs.declared.fault.StreamFault.{StreamFault}
 use Rattle.age_stream.specs.Segment.{Segment, released}
 use Rattle.age_stream.specs.Deliveries.{with_piece, with_end}
 use Rattle.age_stream.specs.Opening.{OpenerView, Stands, given, handed, handed_bytes, chunk_texts, has_failed}
-use Rattle.age_stream.specs.Lent.{lent_text}
+use Rattle.age_stream.specs.Lent.{chunk_bytes}
 use Rattle.age_stream.specs.Headline.{ReleasesWritten}
 
 module _ {B : Type 0} (sealing : B → List ℕ → List ℕ → List ℕ)
@@ -30,10 +30,11 @@ module _ {B : Type 0} (sealing : B → List ℕ → List ℕ → List ℕ)
         × (length old.held + step.taken ≡ n + 16) × (new.held ≡ [])))
     pub unlent : IfOk answer (λ step. IfNone step.chunk
         (length new.held ≡ length old.held + step.taken))
-    pub fits : IfOk answer (λ step. length new.held + length (lent_text step.chunk)
+    pub fits : IfOk answer (λ step. length new.held + length (chunk_bytes step.chunk)
         ≤ length old.held + step.taken)
     pub unchanged : length piece ≡ 0 → new ≡ old
-    -- at last the headline: while what opens is the writer's, what was released is the beginning of the text
+    -- at last the headline: while what opens is the writer's, what was released is the beginning of
+    -- the text
     pub written : (s : Segment) → Stands opening n old s
         → ReleasesWritten (sealing old.key) (opening old.key) n (fed s piece answer)
         (released (opening old.key) n s

@@ -63,8 +63,9 @@ module _ (sealing : List ℕ → List ℕ → List ℕ) (opening : List ℕ → 
         ≡ drop (k * (n + 16)) (payload sealing n text)
     pub below : k < chunk_count n text
 
-  -- what is held is the beginning of the text, its end is reported only with all of it, an undamaged payload, or the rest
-  -- of one, gives all of it and its end, and each block of the current segment stands in its place
+  -- what is held is the beginning of the text, its end is reported only with all of it, an
+  -- undamaged payload, or the rest of one, gives all of it and its end, and each block of the
+  -- current segment stands in its place
   pub record IsHeldRight (deliveries : List Delivery) (held : List ℕ)
       (status : Status) : Type 0 where
     pub prefix : IsPrefixOf held text
@@ -84,7 +85,7 @@ module _ (sealing : List ℕ → List ℕ → List ℕ) (opening : List ℕ → 
     pub ended : s.ended ≡ true
     pub timely : s.late ≡ false
 
-  -- the same of one segment, behind the text before its start
+  -- the same of one segment, after the text before its start
   pub record IsReleasedRight (s : Segment) (released : List ℕ) (status : Status) : Type 0 where
     pub prefix : IsPrefixOf (take (s.start * n) text ++ released) text
     pub done : status ≡ Done → take (s.start * n) text ++ released ≡ text
@@ -93,7 +94,8 @@ module _ (sealing : List ℕ → List ℕ → List ℕ) (opening : List ℕ → 
 
 module _ (sealing : List ℕ → List ℕ → List ℕ)
     (opening : List ℕ → List ℕ → Option (List ℕ)) (n : ℕ) where
-  -- the headline: for every text of at most 2^48 chunks, while no delivered block opens except as its writer sealed it
+  -- the headline: for every text of at most 2^48 chunks, while no delivered block opens except as
+  -- its writer sealed it
   abbrev pub HoldsWritten : List Delivery → List ℕ → Status → Type 0
   HoldsWritten deliveries held status = (text : List ℕ) → chunk_count n text ≤ chunk_limit
       → AreAuthentic sealing opening n text deliveries

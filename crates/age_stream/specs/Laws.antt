@@ -15,7 +15,14 @@ abbrev pub NoncesDiffer : Type 0
 NoncesDiffer = (i j : ℕ) (a b : Bool) → i < chunk_limit → j < chunk_limit
     → nonce_bytes i a ≡ nonce_bytes j b → (i ≡ j) × (a ≡ b)
 
--- two pieces are one
+-- different texts seal to different blocks
+abbrev pub SealingsDiffer : Type 0
+SealingsDiffer = (sealing : List ℕ → List ℕ → List ℕ) (opening : List ℕ → List ℕ → Option (List ℕ))
+    → IsLawful sealing opening
+    → (nonce text other : List ℕ) → length nonce ≡ 12
+    → sealing nonce text ≡ sealing nonce other → text ≡ other
+
+-- feeding two pieces equals feeding their concatenation
 abbrev pub PiecesJoin : Type 0
 PiecesJoin = (s : Segment) (piece more : List ℕ)
     → with_piece (with_piece s piece) more ≡ with_piece s (piece ++ more)
@@ -37,8 +44,8 @@ SealedGrows = (sealing : List ℕ → List ℕ → List ℕ) (n : ℕ) (text mor
 abbrev pub counted : (List ℕ → List ℕ → Option (List ℕ)) → ℕ → Segment → List (List ℕ)
 counted opening n s = take ((outcome opening n s).index - s.start) (outcome opening n s).texts
 
--- behind a base of so many whole chunks as stand before the segment, the chunks that it counts are those in front of all
--- text so far; while it is open they are all that it released
+-- after a base of so many whole chunks as stand before the segment, the chunks that it counts are
+-- the first of all text so far; while it is open they are all that it released
 pub record IsCounted (opening : List ℕ → List ℕ → Option (List ℕ)) (n : ℕ) (base : List ℕ)
     (s : Segment) : Type 0 where
   pub count : s.start + length (counted opening n s) ≡ (outcome opening n s).index

@@ -1,12 +1,15 @@
 pub mod Lawful
 pub mod Clear
+pub mod ClearLaw
 pub mod Nonce
 pub mod Payload
 pub mod Parts
 pub mod Segment
+pub mod SegmentSteps
 pub mod Deliveries
 pub mod Sealing
 pub mod WholeText
+pub mod SealerCalls
 pub mod SealerSteps
 pub mod SealerRow
 pub mod Lent

@@ -4,7 +4,8 @@ use Rattle.std.specs.Prelude.{◌≢◌, ◌≡◌, ℕ, ◌+◌, ◌-◌, ◌�
 use Rattle.age_stream.specs.declared.step.Status.TheVariants.{Open, Failed}
 use Rattle.age_stream.specs.declared.fault.StreamFault.{StreamFault}
 use Rattle.age_stream.specs.declared.opener.OpenerState.{OpenerState}
-use Rattle.age_stream.specs.Segment.{Outcome, status_after}
+use Rattle.age_stream.specs.Segment.{Outcome}
+use Rattle.age_stream.specs.SegmentSteps.{status_after}
 use Rattle.age_stream.specs.Opening.{OpenerView}
 
 -- so many bytes in front of the buffer
@@ -21,7 +22,8 @@ module _ {B : Type 0} {n : ℕ} {g : _} where
   opener_view o =
       record { key = o.key.now; held = held_bytes o; index = o.index; status = o.status }
 
-  -- the opener stands where the outcome says; it has its text in front of the buffer, or none, and the answer says which
+  -- the opener stands where the outcome says; it has its text in front of the buffer, or none, and
+  -- the answer says which
   pub record IsTried (outcome : Outcome) (old : OpenerState B n g)
       (answer : Result (Unit {0}) StreamFault) (new : OpenerState B n g) : Type 0 where
     pub key : new.key ≡ old.key

@@ -17,7 +17,8 @@ abbrev pub has_failed : Status → Bool
 has_failed (Failed fault) = true
 has_failed other = false
 
--- it was given this segment: it stands where the outcome says, and holds what is left behind all whole blocks
+-- it was given this segment: it stands where the outcome says, and holds what is left after all
+-- whole blocks
 pub record Stands {B : Type 0} (opening : B → List ℕ → List ℕ → Option (List ℕ)) (n : ℕ)
     (o : OpenerView B) (s : Segment) : Type 0 where
   pub index : o.index ≡ (outcome (opening o.key) n s).index

@@ -4,8 +4,8 @@ use Rattle.std.specs.List.{AllByRecursion, flat_map}
 use Rattle.age_stream.specs.Nonce.{nonce_bytes}
 use Rattle.age_stream.specs.Payload.{chunks, sealed}
 
--- the parts join to the text; all but the last have n bytes; the last has 1 to n, or the text is empty and there is one
--- empty part
+-- the parts join to the text; all but the last have n bytes; the last has 1 to n, or the text is
+-- empty and there is one empty part
 pub record AreChunks (n : ℕ) (text : List ℕ) (parts : List (List ℕ)) : Type 0 where
   pub front : List (List ℕ)
   pub last : List ℕ

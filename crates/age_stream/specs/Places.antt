@@ -1,9 +1,10 @@
--- Each block in its place: what a segment gives where its blocks are compared with the writer's. A chunk has n bytes.
-use Rattle.std.specs.Prelude.{◌≡◌, ◌≢◌, ℕ, ◌+◌, ◌-◌, ◌*◌, ◌<◌, Bool, true, false, ◌&&◌, List, take, drop, Option, None, if◌then◌else◌}
+-- Each block in its place: what a segment gives where its blocks are compared with the writer's. A
+-- chunk has n bytes.
+use Rattle.std.specs.Prelude.{◌≡◌, ◌≢◌, ℕ, ◌+◌, ◌-◌, ◌*◌, ◌<◌, Bool, true, false, ◌&&◌, List, [], ◌∷◌, take, drop, Option, Some, None, if◌then◌else◌}
 use Rattle.std.specs.List.{list_any}
 use Rattle.std.specs.Str.{bytes_eq}
 use Rattle.age_stream.specs.Nonce.{nonce_bytes}
-use Rattle.age_stream.specs.Payload.{sealed}
+use Rattle.age_stream.specs.Payload.{chunks, sealed}
 use Rattle.age_stream.specs.Segment.{Segment, outcome, failed}
 use Rattle.age_stream.specs.declared.step.Status.{Status}
 use Rattle.age_stream.specs.declared.fault.StreamKind.TheVariants.{ChunkDamaged, TooManyChunks}
@@ -12,28 +13,40 @@ use Rattle.age_stream.specs.declared.fault.StreamKind.TheVariants.{ChunkDamaged,
 abbrev pub block_at : ℕ → List ℕ → ℕ → List ℕ
 block_at n bytes j = take (n + 16) (drop (j * (n + 16)) bytes)
 
-module _ (sealing : List ℕ → List ℕ → List ℕ) (opening : List ℕ → List ℕ → Option (List ℕ)) (n : ℕ)
-    (text : List ℕ) where
+-- the chunk that was sealed as this block at this nonce, if any: blocks are compared, and none is
+-- opened
+abbrev pub sealed_as : List (List ℕ × List ℕ) → List (List ℕ) → List ℕ → List ℕ → Option (List ℕ)
+sealed_as [] chunks nonce block = None
+sealed_as (pair ∷ pairs) [] nonce block = None
+sealed_as (pair ∷ pairs) (chunk ∷ chunks) nonce block =
+    if bytes_eq pair.0 nonce && bytes_eq pair.1 block then Some chunk
+    else sealed_as pairs chunks nonce block
+
+module _ (sealing : List ℕ → List ℕ → List ℕ) (n : ℕ) (text : List ℕ) where
   -- whether the writer of the text sealed a chunk as this block at this nonce
   abbrev pub is_writers : List ℕ → List ℕ → Bool
   is_writers nonce block =
       list_any (λ (pair : List ℕ × List ℕ). bytes_eq pair.0 nonce && bytes_eq pair.1 block)
       (sealed sealing n text)
 
-  -- opening that compares the block with the writer's
+  -- in place of opening, comparing with the writer's blocks
   abbrev pub compared : List ℕ → List ℕ → Option (List ℕ)
-  compared nonce block = if is_writers nonce block then opening nonce block else None
+  compared = sealed_as (sealed sealing n text) (chunks n text)
 
-  -- block number i is none of the writer's, and those before it are the writer's, each at its number
+  -- block number i is none of the writer's, and those before it are the writer's, each at its
+  -- number
   pub record IsFirstWrong (s : Segment) (i : ℕ) : Type 0 where
     pub before : (j : ℕ) → s.start + j < i
         → is_writers (nonce_bytes (s.start + j) false) (block_at n s.bytes j) ≡ true
     pub there : (last : Bool)
         → is_writers (nonce_bytes i last) (block_at n s.bytes (i - s.start)) ≡ false
 
-  -- the outcome is that of comparing blocks with the writer's; one is refused as damaged where it is the first that is
-  -- none, and there are never too many
+module _ (sealing : List ℕ → List ℕ → List ℕ) (opening : List ℕ → List ℕ → Option (List ℕ)) (n : ℕ)
+    (text : List ℕ) where
+  -- the outcome is that of comparing blocks with the writer's; one is refused as damaged where it
+  -- is the first that is none, and there are never too many
   pub record IsInPlace (s : Segment) (status : Status) : Type 0 where
-    pub compares : outcome opening n s ≡ outcome compared n s
-    pub damaged : (i : ℕ) → status ≡ failed ChunkDamaged i → IsFirstWrong s i
+    pub compares : outcome opening n s ≡ outcome (compared sealing n text) n s
+    pub damaged : (i : ℕ) → status ≡ failed ChunkDamaged i
+        → IsFirstWrong sealing n text s i
     pub few : (i : ℕ) → status ≢ failed TooManyChunks i

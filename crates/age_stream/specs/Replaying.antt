@@ -5,8 +5,8 @@ use Rattle.age_stream.specs.Opening.{OpenerView, Stands, text_of_piece, text_at_
 use Rattle.age_stream.specs.declared.delivery.Delivery.{Delivery}
 use Rattle.age_stream.specs.declared.delivery.Delivery.TheVariants.{Piece, End, Restart}
 
--- its key, the opener of the current segment, the text that is held, how many bytes there is room for with no more memory,
--- and how many restarts were refused
+-- its key, the opener of the current segment, the text that is held, how many bytes there is room
+-- for with no more memory, and how many restarts were refused
 pub record ReplayView (B : Type 0) : Type 0 where
   pub key : B
   pub opener : OpenerView B
@@ -41,7 +41,8 @@ could_release n o (Piece piece) = text_of_piece n o (length piece.now)
 could_release n o End = text_at_end o
 could_release n o (Restart k) = 0
 
--- the delivery could release some text, and there is no room for as much of it as it could: so it is never a restart
+-- the delivery could release some text, and there is no room for as much of it as it could: so it
+-- is never a restart
 pub record IsCramped {B : Type 0} (n : ℕ) (r : ReplayView B) (delivery : Delivery) : Type 0 where
   pub some : 0 < could_release n r.opener delivery
   pub full : r.capacity < length r.text + could_release n r.opener delivery

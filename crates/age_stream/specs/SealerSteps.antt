@@ -1,5 +1,5 @@
 -- The steps of a sealer on its buffer. Only private functions cite this.
-use Rattle.std.specs.Prelude.{◌≡◌, ℕ, ◌+◌, ◌≤◌, ◌<◌, List, [], ◌∷◌, ◌++◌, length, take, true, false, Option, Some, None, MatchOption}
+use Rattle.std.specs.Prelude.{◌≡◌, ℕ, ◌+◌, ◌≤◌, ◌<◌, List, [], ◌∷◌, ◌++◌, length, take, false, Option, Some, None, MatchOption}
 use Rattle.age_stream.specs.Nonce.{nonce_bytes}
 use Rattle.age_stream.specs.Sealing.{SealerView, step_len}
 use Rattle.age_stream.specs.declared.sealer.SealerState.{SealerState}
@@ -7,6 +7,11 @@ use Rattle.age_stream.specs.declared.sealer.SealerState.{SealerState}
 abbrev pub text_beside : Option ℕ → List ℕ → List ℕ
 text_beside None text = text
 text_beside (Some byte) text = byte ∷ []
+
+-- the bytes of a block, or none
+abbrev pub bytes_of : Option (List ℕ) → List ℕ
+bytes_of None = []
+bytes_of (Some block) = block
 
 module _ {B : Type 0} {n : ℕ} {g : _} where
   abbrev pub held_text : SealerState B n g → List ℕ
@@ -48,11 +53,3 @@ module _ {B : Type 0} (sealing : B → List ℕ → List ℕ → List ℕ) (n : 
     pub count : taken ≡ step_len n old.held piece
     pub cases : MatchOption block (Grows old piece taken new)
         (λ block. Closes old piece taken block new)
-
--- it holds what it held, and was refused
-pub record IsRefused {B : Type 0} (old new : SealerView B) : Type 0 where
-  pub key : new.key ≡ old.key
-  pub held : new.held ≡ old.held
-  pub index : new.index ≡ old.index
-  pub finished : new.finished ≡ old.finished
-  pub failed : new.failed ≡ true

@@ -1,5 +1,6 @@
--- What an opener makes of a segment: the bytes that came from one start up to the next. A chunk has n bytes, its block n + 16.
-use Rattle.std.specs.Prelude.{ℕ, ◌+◌, ◌*◌, ◌/◌, Bool, true, false, ◌||◌, ◌==◌, nat_lt, List, [], ◌∷◌, ◌++◌, length, drop, Option, Some, None, if◌then◌else◌, slice_get}
+-- What an opener makes of a segment: the bytes that came from one start up to the next. A chunk has
+-- n bytes, its block n + 16.
+use Rattle.std.specs.Prelude.{ℕ, ◌+◌, ◌*◌, ◌/◌, Bool, true, false, ◌||◌, ◌&&◌, ◌==◌, nat_lt, List, [], ◌∷◌, ◌++◌, length, drop, Option, Some, None, if◌then◌else◌, slice_get}
 use Rattle.std.specs.List.{flat_map}
 use Rattle.std.specs.Simd.{first_chunks}
 use Rattle.age_stream.specs.Nonce.{nonce_bytes, chunk_limit}
@@ -8,7 +9,8 @@ use Rattle.age_stream.specs.declared.step.Status.TheVariants.{Open, LastSeen, Do
 use Rattle.age_stream.specs.declared.fault.StreamKind.{StreamKind}
 use Rattle.age_stream.specs.declared.fault.StreamKind.TheVariants.{ChunkDamaged, ChunkCut, EmptyLast, Truncated, Trailing, TooManyChunks}
 
--- the number of its first block, the bytes before its first end, whether an end came, and whether bytes came after that
+-- the number of its first block, the bytes before its first end, whether an end came, and whether
+-- bytes came after that
 pub record Segment : Type 0 where
   pub start : ℕ
   pub bytes : List ℕ
@@ -30,22 +32,10 @@ whole_blocks n bytes = first_chunks (n + 16) (length bytes / (n + 16)) bytes
 abbrev pub rest_bytes : ℕ → List ℕ → List ℕ
 rest_bytes n bytes = drop (length bytes / (n + 16) * (n + 16)) bytes
 
--- the status once bytes came, or none
-abbrev pub status_after : Bool → ℕ → Status → Status
-status_after some i (Failed f) = Failed f
-status_after true i LastSeen = failed Trailing i
-status_after true i Done = failed Trailing i
-status_after true i Open = Open
-status_after false i LastSeen = LastSeen
-status_after false i Done = Done
-status_after false i Open = Open
-
--- the status once an end came
-abbrev pub status_ended : Status → Status
-status_ended (Failed f) = Failed f
-status_ended LastSeen = Done
-status_ended Done = Done
-status_ended Open = Open
+-- the first line that holds, or else what comes after all lines
+abbrev pub first_line : {A : Type 0} → List (Bool × A) → A → A
+first_line [] other = other
+first_line (line ∷ lines) other = if line.0 then line.1 else first_line lines other
 
 -- the greatest number has no block before the last
 abbrev pub unless_greatest : ℕ → Option (List ℕ) → Option (List ℕ)
@@ -66,51 +56,53 @@ module _ (opening : List ℕ → List ℕ → Option (List ℕ)) where
   front_texts i [] = []
   front_texts i (block ∷ blocks) = text_then (text_before_last i block) (front_texts (i + 1) blocks)
 
-  -- opened as the last block, of which this is the text, with bytes behind it or not, and ended or not
+  -- tried as the last block, with its text if it opened, whether bytes followed it, and whether the
+  -- input ended
   abbrev pub after_last : List (List ℕ) → ℕ → Option (List ℕ) → Bool → Bool → Outcome
-  after_last texts i None behind ended =
+  after_last texts i None followed ended =
       record { texts = texts; index = i; status = failed ChunkDamaged i }
-  after_last texts i (Some text) behind ended =
+  after_last texts i (Some text) followed ended =
       record {
         texts = texts ++ text ∷ [];
         index = i;
-        status = if behind then failed Trailing i else (if ended then Done else LastSeen);
+        status = first_line ((followed, failed Trailing i) ∷ (ended, Done) ∷ []) LastSeen;
       }
 
-  -- a whole block that doesn't open as one before the last
+  -- a whole block, with its text if it opened as one before the last: then its number is the
+  -- greatest; else it is tried as the last
   abbrev pub at_block : List (List ℕ) → ℕ → List ℕ → Bool → Bool → Option (List ℕ) → Outcome
-  at_block texts i block behind ended (Some text) =
+  at_block texts i block followed ended (Some text) =
       record { texts = texts; index = i; status = failed TooManyChunks i }
-  at_block texts i block behind ended None =
-      after_last texts i (opening (nonce_bytes i true) block) behind ended
+  at_block texts i block followed ended None =
+      after_last texts i (opening (nonce_bytes i true) block) followed ended
 
-  -- all whole blocks opened; what is left is shorter
-  abbrev pub at_rest : List (List ℕ) → ℕ → List ℕ → Bool → Bool → Outcome
-  at_rest texts i rest late false = record { texts = texts; index = i; status = Open }
-  at_rest texts i rest late true =
-      if length rest == 0 then record { texts = texts; index = i; status = failed Truncated i } else
-      (if nat_lt (length rest) 16 then record {
-        texts = texts;
-        index = i;
-        status = failed ChunkCut i;
-      } else
-      (if (length rest == 16) then
-      (if nat_lt 0 i then record { texts = texts; index = i; status = failed EmptyLast i }
-      else after_last texts i (opening (nonce_bytes i true) rest) late true)
-      else after_last texts i (opening (nonce_bytes i true) rest) late true))
+  -- less than a whole block: once the input ended it is the last
+  abbrev pub final_block : List (List ℕ) → ℕ → List ℕ → Bool → Bool → Outcome
+  final_block texts i rest late false = record { texts = texts; index = i; status = Open }
+  final_block texts i rest late true =
+      let refused : StreamKind → Outcome = λ kind.
+      record { texts = texts; index = i; status = failed kind i } in
+      let len = length rest in
+      first_line (
+      (nat_lt 0 len && nat_lt len 16, refused ChunkCut)
+      ∷ (len == 16 && nat_lt 0 i, refused EmptyLast)
+      ∷ (len == 0, refused Truncated) ∷ [])
+      (after_last texts i (opening (nonce_bytes i true) rest) late true)
 
-  -- from the block that didn't open as one before the last, if one is there, or from what is left behind all whole blocks
-  abbrev pub stop : List (List ℕ) → ℕ → Option (List ℕ) → Bool → List ℕ → Bool → Bool → Outcome
-  stop texts i None behind rest late ended = at_rest texts i rest late ended
-  stop texts i (Some block) behind rest late ended =
-      at_block texts i block (behind || late) ended (opening (nonce_bytes i false) block)
+  -- at the whole block that stopped the texts in front, or, if all opened, at what is left after
+  -- them
+  abbrev pub verdict_at : List (List ℕ) → ℕ → Option (List ℕ) → Bool → List ℕ → Bool → Bool
+      → Outcome
+  verdict_at texts i None followed rest late ended = final_block texts i rest late ended
+  verdict_at texts i (Some block) followed rest late ended =
+      at_block texts i block (followed || late) ended (opening (nonce_bytes i false) block)
 
-  -- the same for these whole blocks of so many bytes with what is left behind them
+  -- the outcome, from the bytes split into whole blocks and what is left after them
   abbrev pub outcome_of : ℕ → ℕ → List (List ℕ) → ℕ → List ℕ → Bool → Bool → Outcome
   outcome_of n start blocks len rest late ended =
       let texts = front_texts start blocks in
       let m = length texts in
-      stop texts (start + m) (slice_get blocks m) (nat_lt ((m + 1) * (n + 16)) len) rest late ended
+      verdict_at texts (start + m) (slice_get blocks m) (nat_lt ((m + 1) * (n + 16)) len) rest late ended
 
   abbrev pub outcome : ℕ → Segment → Outcome
   outcome n s =
@@ -120,11 +112,3 @@ module _ (opening : List ℕ → List ℕ → Option (List ℕ)) where
   -- the bytes that were released
   abbrev pub released : ℕ → Segment → List ℕ
   released n s = flat_map (λ (text : List ℕ). text) (outcome n s).texts
-
-  -- what one whole block alone gives, at number i
-  abbrev pub after_front : Option (List ℕ) → ℕ → List ℕ → Outcome
-  after_front (Some text) i block = record { texts = text ∷ []; index = i + 1; status = Open }
-  after_front None i block = at_block [] i block false false (opening (nonce_bytes i false) block)
-
-  abbrev pub one_block : ℕ → List ℕ → Outcome
-  one_block i block = after_front (text_before_last i block) i block

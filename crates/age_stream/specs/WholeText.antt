@@ -6,7 +6,8 @@ use Rattle.age_stream.specs.Sealing.{too_many}
 use Rattle.age_stream.specs.declared.whole_text.SealFault.{SealFault}
 use Rattle.age_stream.specs.declared.whole_text.SealFault.TheVariants.{Stream, Memory}
 
--- it has more than 2^48 chunks, which is told of the last that a payload may have; or memory was refused
+-- it has more than 2^48 chunks, which is reported at the last that a payload may have; or memory
+-- was refused
 abbrev pub SealRefuses : ℕ → List ℕ → SealFault → Type 0
 SealRefuses n text (Stream fault) = (chunk_limit * n < length text)
     × (fault ≡ too_many (chunk_limit - 1))

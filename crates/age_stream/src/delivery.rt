@@ -1,7 +1,7 @@
 //! What may come to a reader.
 
 /// A step of a transfer.
-#[derive(Clone, Copy)]
+#[derive(Clone, Copy, Debug)]
 pub enum Delivery<'a> {
     /// Bytes of the payload, or what stands in their place.
     Piece(&'a [u8]),

@@ -22,8 +22,9 @@ pub fn drill<B: ChunkBox, const SEALED: usize>(
     ensures held { IfOk result
         (λ drill. IsHeldAfter (B.opening key.now) (SEALED - 16) events.now drill) }
 
-    // While no block opens except as the writer of a text sealed it, what is held is the beginning of that text, the end is
-    // reported only with all of it, an undamaged payload, or its rest, gives all of it, and each block stands in its place.
+    // While no block opens except as the writer of a text sealed it, what is held is the beginning
+    // of that text, the end is reported only with all of it, an undamaged payload, or its rest,
+    // gives all of it, and each block stands in its place.
     ensures written { IfOk result (λ drill. HoldsWritten (B.sealing key.now) (B.opening key.now)
         (SEALED - 16) events.now drill.text.items drill.status) }
 

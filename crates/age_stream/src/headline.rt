@@ -14,7 +14,7 @@ use crate::chunk_box::ChunkBox;
 /// outcome is that of comparing blocks with the writer's, so that
 /// [`ChunkDamaged`](crate::StreamKind::ChunkDamaged) stands at the first that
 /// is none, and [`TooManyChunks`](crate::StreamKind::TooManyChunks) never
-/// comes. The same of one segment, behind the text before its start.
+/// comes. The same of one segment, after the text before its start.
 pub fn held_is_written<B: ChunkBox, const SEALED: usize>()
     requires least { 17 ≤ SEALED }
     ensures held { (key : B) (deliveries : List Delivery)

@@ -1,6 +1,6 @@
 //! Laws over the definitions, for the layers above.
-ghost use Rattle.age_stream.specs.Laws.{ChunksAreCounted, NoncesDiffer, PiecesJoin, ReleasedGrows, SealedGrows};
-ghost use Rattle.age_stream.specs.Authentic.{ClearIsAuthentic, ClearRoundTrip, RestIsAuthentic, RoundTrip, UndamagedIsAuthentic};
+ghost use Rattle.age_stream.specs.Laws.{ChunksAreCounted, NoncesDiffer, PiecesJoin, ReleasedGrows, SealedGrows, SealingsDiffer};
+ghost use Rattle.age_stream.specs.Authentic.{ClearIsAuthentic, ClearRoundTrip, RestIsAuthentic, RoundTrip, UndamagedIsAuthentic, WholeIsAuthentic};
 ghost use Rattle.age_stream.specs.Parts.{ChunksAreOne, SealsChunks};
 
 /// No two chunks of a payload have the same nonce.
@@ -8,7 +8,12 @@ pub fn nonces_differ()
     ensures { NoncesDiffer }
 {}
 
-/// Two pieces of a payload are one.
+/// Different texts are sealed to different blocks at a nonce.
+pub fn sealings_differ()
+    ensures { SealingsDiffer }
+{}
+
+/// Feeding two pieces equals feeding their concatenation.
 pub fn pieces_join()
     ensures { PiecesJoin }
 {}
@@ -25,7 +30,7 @@ pub fn sealed_grows()
     ensures { SealedGrows }
 {}
 
-/// The index of a segment counts the whole chunks in front of the text: behind
+/// The index of a segment counts the whole chunks before the text: after
 /// a base of `start` whole chunks, what was released of the blocks before the
 /// last joins to the first `index` chunks of all text so far.
 pub fn chunks_are_counted()
@@ -33,11 +38,13 @@ pub fn chunks_are_counted()
 {}
 
 /// The payload of a text, delivered in any pieces and then an end, meets the
-/// premise of the headline, and so does its rest from a chunk on, if the last
-/// chunk is short or its block doesn't open as one before the last.
+/// premise of the headline, if the last chunk is short or its block doesn't
+/// open as one before the last. So does its rest from a chunk on, and that
+/// rest after a restart, if each segment that was given up before met it.
 pub fn undamaged_is_authentic()
-    ensures whole { UndamagedIsAuthentic }
+    ensures whole { WholeIsAuthentic }
     ensures rest { RestIsAuthentic }
+    ensures behind { UndamagedIsAuthentic }
 {}
 
 /// With [`ClearBox`](crate::ClearBox) every payload meets it.

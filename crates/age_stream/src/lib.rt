@@ -4,7 +4,7 @@
 //! none where the whole text is empty. Each chunk is sealed with 16 bytes more
 //! at a nonce of its own: eleven bytes of its number from 0, the highest
 //! first, and one byte that is 1 for the last chunk and 0 for the others. The
-//! blocks follow one another, and nothing comes behind the last.
+//! blocks follow one another, and nothing comes after the last.
 //!
 //! A [`Sealer`] takes a text in pieces and lends the blocks, and an [`Opener`]
 //! takes the blocks in pieces and lends the text, each out of one buffer of
@@ -35,7 +35,7 @@ pub use fault::{Memory, StreamFault, StreamKind};
 pub use headline::held_is_written;
 pub use laws::{
     chunks_are_counted, chunks_are_one, clear_is_authentic, nonces_differ, pieces_join,
-    released_grows, round_trip, sealed_grows, undamaged_is_authentic,
+    released_grows, round_trip, sealed_grows, sealings_differ, undamaged_is_authentic,
 };
 pub use nonce::{CHUNK_LIMIT, nonce_of};
 pub use opener::Opener;

@@ -1,5 +1,5 @@
 //! The reader's side: sealed chunks in, text out.
-ghost use Rattle.std.specs.Prelude.{◌≡◌, ◌≢◌, ◌+◌, ◌-◌, ◌<◌, ◌≤◌, [], ◌∷◌, ◌++◌, length, take, min, IfOk, OnOk, IfErr, None, Some, true, false, if◌then◌else◌};
+ghost use Rattle.std.specs.Prelude.{◌≡◌, ◌≢◌, ◌+◌, ◌-◌, ◌<◌, ◌≤◌, [], ◌∷◌, ◌++◌, length, take, min, IfOk, OnOk, IfErr, IfSome, None, Some, true, false, if◌then◌else◌};
 ghost use Rattle.std.specs.Bool.{OnTrue, OnFalse};
 ghost use Rattle.std.specs.List.{flat_map};
 ghost use Rattle.std.specs.Borrow.{sem};
@@ -20,7 +20,8 @@ use std::marker::Model;
 #[derive(Drop)]
 struct OpenerState<'k, B: ChunkBox, const SEALED: usize> {
     key: &'k B,
-    // the bytes of the block that is open; or the text and the tag of one that was opened, until the next call
+    // the bytes of the block that is open; or the text and the tag of one that was opened, until
+    // the next call
     buffer: ArrayVec<u8, SEALED>,
     lent: bool,
     index: u64,
@@ -31,7 +32,8 @@ struct OpenerState<'k, B: ChunkBox, const SEALED: usize> {
 }
 
 impl<'k, B: ChunkBox, const SEALED: usize> OpenerState<'k, B, SEALED> {
-    ghost use Rattle.age_stream.specs.Segment.{Segment, outcome, released, one_block, at_rest, status_ended, failed};
+    ghost use Rattle.age_stream.specs.Segment.{Segment, outcome, released, final_block, failed};
+    ghost use Rattle.age_stream.specs.SegmentSteps.{one_block, status_ended};
     ghost use Rattle.age_stream.specs.Deliveries.{with_piece, with_end};
     ghost use Rattle.age_stream.specs.Opening.{Stands, given, handed, has_failed, text_at_end};
     ghost use Rattle.age_stream.specs.OpenerSteps.{held_bytes, opener_view, IsTried, TakesPart, TakesWhole, TakesNone, Ends, front_bytes};
@@ -168,7 +170,7 @@ impl<'k, B: ChunkBox, const SEALED: usize> OpenerState<'k, B, SEALED> {
     // Tries what is held as the last block.
     fn end_open(&mut self) -> Result<usize, StreamFault>
         requires { self.old.status ≡ Status.Open }
-        ensures ends { Ends (at_rest (B.opening self.old.key.now) [] self.old.index
+        ensures ends { Ends (final_block (B.opening self.old.key.now) [] self.old.index
             (held_bytes self.old) false true) self.old result self.new }
         ensures done { OnOk result (self.new.status ≡ Status.Done) }
         ensures len { IfOk result (λ len. len ≡ length (held_bytes self.old) - 16) }
@@ -184,8 +186,7 @@ impl<'k, B: ChunkBox, const SEALED: usize> OpenerState<'k, B, SEALED> {
         if len == 16 && self.index > 0 {
             return Err(self.fail(StreamKind::EmptyLast));
         }
-        let index = self.index;
-        if open_in(self.key, index, true, &mut self.buffer) {
+        if open_in(self.key, self.index, true, &mut self.buffer) {
             self.status = Status::Done;
             self.lent = true;
             return Ok(len - 16);
@@ -212,7 +213,7 @@ impl<'k, B: ChunkBox, const SEALED: usize> OpenerState<'k, B, SEALED> {
         Ok(0)
     }
 
-    // Ends, and says how many bytes in front of the buffer are the last text.
+    // Ends, and says how many bytes at the beginning of the buffer are the last text.
     fn close(&mut self) -> Result<usize, StreamFault>
         ensures stands { (s : Segment) → Stands B.opening (SEALED - 16) (opener_view self.old) s
             → Stands B.opening (SEALED - 16) (opener_view self.new) (with_end s) }
@@ -334,8 +335,16 @@ impl<'k, B: ChunkBox, const SEALED: usize> Opener<'k, B, SEALED> {
         self.state.status
     }
 
-    // How many bytes of the open block are held.
-    pub(crate) fn held_len(&self) -> usize
+    /// Whether a call was refused. Then each call is refused with the same
+    /// fault.
+    pub fn has_failed(&self) -> bool
+        ensures { result ≡ has_failed self.now.status }
+    {
+        matches!(self.state.status, Status::Failed(_))
+    }
+
+    /// How many bytes of the block that is open are held, at most 65,552.
+    pub fn held_len(&self) -> usize
         ensures len { result ≡ length self.now.held }
         ensures fits { result ≤ 65552 }
     {
@@ -362,7 +371,7 @@ impl<'k, B: ChunkBox, const SEALED: usize> Opener<'k, B, SEALED> {
     /// piece. A full block that opens neither as its chunk nor as the last is
     /// [`ChunkDamaged`](StreamKind::ChunkDamaged), one that opens as chunk
     /// number [`CHUNK_LIMIT`] less one and not the last is
-    /// [`TooManyChunks`](StreamKind::TooManyChunks), and bytes behind the last
+    /// [`TooManyChunks`](StreamKind::TooManyChunks), and bytes after the last
     /// chunk are [`Trailing`](StreamKind::Trailing). After a refusal each call
     /// is refused with the same fault.
     pub fn feed(&mut self, piece: &[u8]) -> Result<Step<'_>, StreamFault>
@@ -376,6 +385,8 @@ impl<'k, B: ChunkBox, const SEALED: usize> Opener<'k, B, SEALED> {
         ensures taken { IfOk result
             (λ step. step.taken ≡ min (SEALED - length self.old.held) (length piece.now)) }
         ensures some { IfOk result (λ step. 0 < length piece.now → 0 < step.taken) }
+        ensures whole { IfOk result
+            (λ step. IfSome step.chunk (λ text. length text.now ≡ SEALED - 16)) }
         ensures nothing { length piece.now ≡ 0 → IfOk result (λ step. chunk_texts step.chunk ≡ []) }
         ensures again { IfErr result (λ fault. (earlier : StreamFaultValue)
             → self.old.status ≡ Status.Failed earlier → fault ≡ earlier) }
@@ -396,7 +407,7 @@ impl<'k, B: ChunkBox, const SEALED: usize> Opener<'k, B, SEALED> {
     /// The input ended: what is held is tried as the last chunk, and its text
     /// is lent. Answers no text where the last chunk came before. Nothing held
     /// is [`Truncated`](StreamKind::Truncated), fewer than 16 bytes are
-    /// [`ChunkCut`](StreamKind::ChunkCut), and 16 behind other chunks are
+    /// [`ChunkCut`](StreamKind::ChunkCut), and 16 after other chunks are
     /// [`EmptyLast`](StreamKind::EmptyLast): a writer makes no empty chunk but
     /// for the empty text. What doesn't open is
     /// [`ChunkDamaged`](StreamKind::ChunkDamaged). After a refusal each call is

@@ -2,7 +2,7 @@
 ghost use Rattle.std.specs.Prelude.{◌≡◌, ◌+◌, ◌-◌, ◌*◌, ◌^◌, ◌<◌, ◌≤◌, List, [], ◌∷◌, ◌++◌, length, take, OnOk, OnErr, IfSome, IfNone, vec_len, vec_capacity, nat_lt, nat_le, ◌&&◌};
 ghost use Rattle.std.specs.Bool.{OnTrue};
 ghost use Rattle.age_stream.specs.declared.delivery.Delivery.{Delivery as DeliveryValue};
-ghost use Rattle.age_stream.specs.Lent.{lent_text};
+ghost use Rattle.age_stream.specs.Lent.{chunk_bytes};
 ghost use Rattle.age_stream.specs.Nonce.{chunk_limit};
 ghost use Rattle.age_stream.specs.Headline.{HoldsWritten};
 
@@ -16,7 +16,7 @@ use std::alloc::Global;
 use std::marker::Model;
 
 /// What is held after a list of deliveries.
-#[derive(Drop)]
+#[derive(Debug, Drop)]
 pub struct Drill {
     /// The text that is held.
     pub text: Vec<u8>,
@@ -309,22 +309,22 @@ impl<'k, B: ChunkBox, const SEALED: usize> Replay<'k, B, SEALED> {
 
     /// Takes a delivery: all bytes of a piece unless a fault comes, which then
     /// is the status; an end; or a restart at chunk k, which is refused where
-    /// k is [`CHUNK_LIMIT`] or more or fewer than k chunks are held. Where
-    /// memory is refused nothing changes.
+    /// k is [`CHUNK_LIMIT`] or more or fewer than k whole chunks are held.
+    /// Where memory is refused nothing changes.
     pub fn take(&mut self, delivery: &Delivery<'_>) -> Result<(), Memory>
         ensures held { OnOk result ((deliveries : List DeliveryValue)
             → Replays B.opening (SEALED - 16) self.old deliveries
             → Replays B.opening (SEALED - 16) self.new (deliveries ++ delivery.now ∷ [])) }
         ensures err { OnErr result (self.new ≡ self.old) }
 
-        // Memory is refused only where the delivery could release more text than there is room for: never at a restart, nor
-        // behind the last chunk or a fault. What room there is stays.
+        // Memory is refused only where the delivery could release more text than there is room for:
+        // never at a restart, nor after the last chunk or a fault. What room there is stays.
         ensures memory { OnErr result (IsCramped (SEALED - 16) self.old delivery.now) }
         ensures capacity { self.old.capacity ≤ self.new.capacity }
 
-        // While no block opens except as the writer of a text sealed it, what is held is the beginning of that text, the
-        // end is reported only with all of it, an undamaged payload, or its rest, gives all of it, and each block stands in
-        // its place.
+        // While no block opens except as the writer of a text sealed it, what is held is the
+        // beginning of that text, the end is reported only with all of it, an undamaged payload, or
+        // its rest, gives all of it, and each block stands in its place.
         ensures written { OnOk result ((deliveries : List DeliveryValue)
             → Replays B.opening (SEALED - 16) self.old deliveries
             → HoldsWritten (B.sealing self.old.key) (B.opening self.old.key) (SEALED - 16)
@@ -347,8 +347,8 @@ fn push_text(text: &mut Vec<u8>, bytes: &[u8])
 
 // Appends what is lent, if anything is, to a text that has room for it.
 fn push_lent(text: &mut Vec<u8>, chunk: Option<&[u8]>)
-    requires { vec_len text.old + length (lent_text chunk) ≤ vec_capacity text.old }
-    ensures items { text.new.items ≡ text.old.items ++ lent_text chunk.entry }
+    requires { vec_len text.old + length (chunk_bytes chunk) ≤ vec_capacity text.old }
+    ensures items { text.new.items ≡ text.old.items ++ chunk_bytes chunk.entry }
     ensures capacity { vec_capacity text.old ≤ vec_capacity text.new }
 {
     if let Some(bytes) = chunk {

@@ -28,11 +28,12 @@ struct SealerState<'k, B: ChunkBox, const SEALED: usize> {
 }
 
 impl<'k, B: ChunkBox, const SEALED: usize> SealerState<'k, B, SEALED> {
-    ghost use Rattle.age_stream.specs.SealerSteps.{held_text, sealer_view, IsStep, IsRefused};
-    ghost use Rattle.age_stream.specs.Sealing.{Holds, lent_bytes, step_len, needs_too_many, too_many};
+    ghost use Rattle.age_stream.specs.SealerSteps.{held_text, sealer_view, bytes_of, IsStep};
+    ghost use Rattle.age_stream.specs.SealerCalls.{IsRefused};
+    ghost use Rattle.age_stream.specs.Sealing.{Holds, step_len, needs_too_many, too_many};
     ghost use Rattle.age_stream.specs.Payload.{sealed_before_last, block_bytes, payload};
 
-    // Empties the buffer of a block that was lent, and puts the byte beside it in front.
+    // Empties the buffer of a block that was lent, and puts the byte beside it first.
     fn settle(&mut self)
         ensures held { held_text self.new ≡ held_text self.old }
         ensures buffer { self.new.buffer.items ≡ held_text self.old }
@@ -70,6 +71,7 @@ impl<'k, B: ChunkBox, const SEALED: usize> SealerState<'k, B, SEALED> {
             (needs_too_many (SEALED - 16) (sealer_view self.old) piece.now ≡ true) }
         ensures fault { IfErr result (λ fault. fault ≡ too_many self.old.index) }
         ensures err { OnErr result (IsRefused (sealer_view self.old) (sealer_view self.new)) }
+        ensures still { length piece.now ≡ 0 → sealer_view self.new ≡ sealer_view self.old }
     {
         if self.failed {
             return Err(self.refusal());
@@ -108,7 +110,7 @@ impl<'k, B: ChunkBox, const SEALED: usize> SealerState<'k, B, SEALED> {
             → block_bytes (sealed_before_last (B.sealing self.old.key.now) (SEALED - 16)
             (text ++ take s.0 piece.now))
             ≡ block_bytes (sealed_before_last (B.sealing self.old.key.now) (SEALED - 16) text)
-            ++ lent_bytes (if s.1 then Some self.new.buffer.items else None)) }
+            ++ bytes_of (if s.1 then Some self.new.buffer.items else None)) }
         ensures whole { IfOk result (λ s. s.1 ≡ true → length self.new.buffer.items ≡ SEALED) }
         ensures fits { IfOk result
             (λ _. needs_too_many (SEALED - 16) (sealer_view self.old) piece.now ≡ false) }
@@ -119,6 +121,7 @@ impl<'k, B: ChunkBox, const SEALED: usize> SealerState<'k, B, SEALED> {
         ensures err { OnErr result (IsRefused (sealer_view self.old) (sealer_view self.new)) }
         ensures same { (self.new.key.now ≡ self.old.key.now)
             × (self.new.finished ≡ self.old.finished) }
+        ensures still { length piece.now ≡ 0 → sealer_view self.new ≡ sealer_view self.old }
     {
         self.step(piece)
     }
@@ -162,7 +165,7 @@ impl<'k, B: ChunkBox, const SEALED: usize> SealerState<'k, B, SEALED> {
 }
 
 /// Seals a text that comes in pieces, however they are cut (C2SP age.md,
-/// "Payload"). A whole chunk is sealed once a byte behind it came, since only
+/// "Payload"). A whole chunk is sealed once a byte after it came, since only
 /// then it isn't the last.
 ///
 /// A contract sees the key, the text of the chunk that is open, its number,
@@ -182,7 +185,9 @@ impl<'k, B: ChunkBox, const SEALED: usize> Model for Sealer<'k, B, SEALED> {
 }
 
 impl<'k, B: ChunkBox, const SEALED: usize> Sealer<'k, B, SEALED> {
-    ghost use Rattle.age_stream.specs.Sealing.{Holds, lent, lent_bytes, step_len, needs_too_many, too_many};
+    ghost use Rattle.age_stream.specs.Sealing.{Holds, step_len, needs_too_many, too_many};
+    ghost use Rattle.age_stream.specs.SealerCalls.{IsTaken, IsFinished};
+    ghost use Rattle.age_stream.specs.Lent.{chunk_bytes};
     ghost use Rattle.age_stream.specs.SealerRow.{sealer_row};
     ghost use Rattle.age_stream.specs.Payload.{sealed_before_last, block_bytes, payload};
 
@@ -212,27 +217,51 @@ impl<'k, B: ChunkBox, const SEALED: usize> Sealer<'k, B, SEALED> {
         self.state.finished
     }
 
-    /// Takes bytes of the text: what the open chunk has room for, or, behind
+    /// Whether a byte was refused. Then each call is refused with the same
+    /// fault.
+    pub fn has_failed(&self) -> bool
+        ensures { result ≡ self.now.failed }
+    {
+        self.state.failed
+    }
+
+    /// The number of the chunk that is open: how many blocks were lent before
+    /// it.
+    pub fn index(&self) -> u64
+        ensures index { result ≡ self.now.index }
+        ensures limit { result < chunk_limit }
+    {
+        self.state.index
+    }
+
+    /// How many bytes of the text of the open chunk are held. Once the last
+    /// chunk was sealed, the length of its block.
+    pub fn held_len(&self) -> usize
+        ensures { result ≡ length self.now.held }
+    {
+        if self.state.beside.is_some() {
+            1
+        } else {
+            self.state.buffer.len()
+        }
+    }
+
+    /// Takes bytes of the text: what the open chunk has room for, or, after
     /// a chunk that is full, one. That byte begins the next chunk, and the
     /// full one is sealed as not the last and lent. Takes nothing of an empty
     /// piece. [`TooManyChunks`](StreamKind::TooManyChunks) where a byte would
     /// need chunk number [`CHUNK_LIMIT`]; then each call is refused so.
     pub fn feed(&mut self, piece: &[u8]) -> Result<Step<'_>, StreamFault>
         requires { self.old.finished ≡ false }
-        ensures* after { sem 𝓛 (Rests (sealer_row B.row SEALED.row B.ChunkBox) self.entry (λ new.
-            (new.key ≡ self.old.key) × (new.finished ≡ false)
-            × IfOk result (λ s. (new.failed ≡ false)
-            × ((text : List ℕ) → Holds (SEALED - 16) self.old text
-            → Holds (SEALED - 16) new (text ++ take s.taken piece.now)))
-            × OnErr result ((new.held ≡ self.old.held) × (new.index ≡ self.old.index)
-            × (new.failed ≡ true)))) }
+        ensures* after { sem 𝓛 (Rests (sealer_row B.row SEALED.row B.ChunkBox) self.entry
+            (IsTaken (SEALED - 16) self.old piece.now result)) }
         ensures taken { IfOk result
             (λ s. s.taken ≡ step_len (SEALED - 16) self.old.held piece.now) }
         ensures chunk { IfOk result (λ s. (text : List ℕ) → Holds (SEALED - 16) self.old text
             → block_bytes (sealed_before_last (B.sealing self.old.key) (SEALED - 16)
             (text ++ take s.taken piece.now))
             ≡ block_bytes (sealed_before_last (B.sealing self.old.key) (SEALED - 16) text)
-            ++ lent_bytes (lent s.chunk)) }
+            ++ chunk_bytes s.chunk) }
         ensures whole { IfOk result (λ s. IfSome s.chunk (λ block. length block.now ≡ SEALED)) }
         ensures fits { IfOk result (λ _. needs_too_many (SEALED - 16) self.old piece.now ≡ false) }
         ensures refused { IfErr result
@@ -253,11 +282,8 @@ impl<'k, B: ChunkBox, const SEALED: usize> Sealer<'k, B, SEALED> {
     /// only where a feed was, with the same fault.
     pub fn finish(&mut self) -> Result<&[u8], StreamFault>
         requires { self.old.finished ≡ false }
-        ensures* after { sem 𝓛 (Rests (sealer_row B.row SEALED.row B.ChunkBox) self.entry (λ new.
-            (new.key ≡ self.old.key)
-            × OnOk result (new.finished ≡ true)
-            × OnErr result ((new.held ≡ self.old.held) × (new.index ≡ self.old.index)
-            × (new.failed ≡ true) × (new.finished ≡ false)))) }
+        ensures* after { sem 𝓛 (Rests (sealer_row B.row SEALED.row B.ChunkBox) self.entry
+            (IsFinished (SEALED - 16) self.old result)) }
         ensures chunk { IfOk result (λ block. (text : List ℕ) → Holds (SEALED - 16) self.old text
             → payload (B.sealing self.old.key) (SEALED - 16) text
             ≡ block_bytes (sealed_before_last (B.sealing self.old.key) (SEALED - 16) text)
@@ -272,7 +298,7 @@ impl<'k, B: ChunkBox, const SEALED: usize> Sealer<'k, B, SEALED> {
     }
 }
 
-// Puts the tag behind the text in the buffer, and seals both in place.
+// Puts the tag after the text in the buffer, and seals both in place.
 fn seal_in<B: ChunkBox, const SEALED: usize>(
     key: &B,
     index: u64,

@@ -9,7 +9,7 @@ pub enum Status {
     Open,
     /// A whole block was the last one, and nothing may follow it.
     LastSeen,
-    /// The input ended behind the last chunk.
+    /// The input ended after the last chunk.
     Done,
     /// It was refused, and each further call is refused with the same fault.
     Failed(StreamFault),
@@ -17,9 +17,9 @@ pub enum Status {
 
 /// How many bytes of a piece a call took, and what it lends until the next
 /// call: a sealer's block or an opener's text, if one came.
-#[derive(Drop)]
+#[derive(Debug, Drop)]
 pub struct Step<'a> {
-    /// How many bytes of the piece were taken, from its front on.
+    /// How many bytes of the piece were taken, from its beginning.
     pub taken: usize,
     /// The block of a sealer, tag included, or the text of an opener; `None`
     /// where no chunk was finished.

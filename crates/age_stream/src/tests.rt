@@ -99,8 +99,8 @@ fn why_a_text_is_not_sealed(rt: HostRuntime) -> Result<(), Fail> {
     Ok(())
 }
 
-// Run it with each allocation refused in turn (rt try --test --fail-alloc N): a refused growth is told and changes
-// nothing, and the next call takes the same delivery.
+// Run it with each allocation refused in turn (rt try --test --fail-alloc N): a refused growth is
+// reported and changes nothing, and the next call takes the same delivery.
 #[test]
 fn a_refused_growth_changes_nothing(rt: HostRuntime) -> Result<(), Fail> {
     let key = ClearBox;

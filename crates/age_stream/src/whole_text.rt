@@ -1,9 +1,9 @@
 //! A caller of the sealer: it feeds a text, and copies out the blocks that are lent.
-ghost use Rattle.std.specs.Prelude.{◌≡◌, ◌-◌, ◌≤◌, ◌++◌, IfOk, IfErr, OnOk};
+ghost use Rattle.std.specs.Prelude.{◌≡◌, ◌-◌, ◌≤◌, ◌<◌, ◌+◌, ◌*◌, ◌/◌, ◌++◌, min, IfOk, IfErr, OnOk};
 ghost use Rattle.age_stream.specs.Payload.{payload, chunk_count};
 ghost use Rattle.age_stream.specs.Nonce.{chunk_limit};
 ghost use Rattle.age_stream.specs.Authentic.{GivesBack, IsClosed};
-ghost use Rattle.age_stream.specs.Sealing.{lent, lent_bytes};
+ghost use Rattle.age_stream.specs.Lent.{chunk_bytes};
 ghost use Rattle.age_stream.specs.WholeText.{SealRefuses, number_of, place_of};
 ghost use Rattle.age_stream.specs.declared.whole_text.SealFault.TheVariants.{Stream as StreamRefusal, Memory as MemoryRefusal};
 
@@ -64,9 +64,10 @@ impl From<StreamFault> for SealFault {
     }
 }
 
-/// The payload of a text: its chunks, each sealed at its nonce, one behind the
-/// other (C2SP age.md, "Payload"), in chunks of `SEALED - 16` bytes. Want of
-/// memory aside, only a text of more than 2^48 chunks is refused.
+/// The payload of a text: its chunks, each sealed at its nonce, one after the
+/// other (C2SP age.md, "Payload"), in chunks of `SEALED - 16` bytes. Memory is
+/// asked for once, before anything is sealed; that aside, only a text of more
+/// than 2^48 chunks is refused.
 pub fn seal_all<B: ChunkBox, const SEALED: usize>(
     alloc: Global,
     key: &B,
@@ -85,6 +86,7 @@ pub fn seal_all<B: ChunkBox, const SEALED: usize>(
     ensures refused { IfErr result (SealRefuses (SEALED - 16) text.now) }
 {
     let mut out = Vec::new(alloc);
+    out.reserve(payload_len(text.len(), SEALED - 16))?;
     let mut sealer = Sealer::<B, SEALED>::new(key);
     let mut at = 0;
     while at < text.len() {
@@ -96,9 +98,23 @@ pub fn seal_all<B: ChunkBox, const SEALED: usize>(
     Ok(out)
 }
 
+// How many bytes the payload of a text has, in chunks of so many bytes; at most the greatest
+// number.
+fn payload_len(text_len: usize, chunk_len: usize) -> usize
+    requires { 0 < chunk_len }
+    ensures { result ≡ min (text_len + ((text_len - 1) / chunk_len + 1) * 16)
+        18446744073709551615 }
+{
+    let count = text_len.saturating_sub(1) / chunk_len;
+    count
+        .saturating_add(1)
+        .saturating_mul(16)
+        .saturating_add(text_len)
+}
+
 // Copies out what is lent, if anything is.
 fn copy_lent(out: &mut Vec<u8>, chunk: Option<&[u8]>) -> Result<(), AllocError>
-    ensures { OnOk result (out.new.items ≡ out.old.items ++ lent_bytes (lent chunk.entry)) }
+    ensures { OnOk result (out.new.items ≡ out.old.items ++ chunk_bytes chunk.entry) }
 {
     match chunk {
         Some(block) => out.extend_from_slice(block),

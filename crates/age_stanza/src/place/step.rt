@@ -39,7 +39,7 @@ fn begin(alloc: Global, stanzas: Stanzas, line: &[u8]) -> Result<Next, HeadKind>
     let Some(args) = arguments_of(alloc, line)? else {
         return Err(HeadKind::BadStanzaLine);
     };
-    Ok(Next::Go(Place::InBody(stanzas, args, Bytes::from_vec(Vec::new(alloc)))))
+    Ok(Next::Go(Place::InBody(stanzas, args, Bytes::new(alloc))))
 }
 
 #[tactic(auto, unfolding(crate::specs::LineMachine::step))]
@@ -58,7 +58,7 @@ fn body_line(
     let Some(more) = decode(alloc, line)? else {
         return Err(HeadKind::BadBody);
     };
-    body.extend(more.as_slice())?;
+    body.extend_from_slice(more.as_slice())?;
     if line.len() == 64 {
         return Ok(Next::Go(Place::InBody(stanzas, args, body)));
     }

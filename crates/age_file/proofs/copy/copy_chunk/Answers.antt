@@ -7,11 +7,11 @@ use Rattle.sha2.specs.Hashers.{Holds256}
 use Rattle.age_stream.specs.Headline.{IsPrefixOf}
 use Rattle.age_file.specs.Faults.{HasRisen}
 use Rattle.age_file.specs.Bindings.{link_if}
-use Rattle.age_file.specs.Passages.{side}
+use Rattle.age_file.specs.Skips.{side}
 use Rattle.age_file.specs.Releases.{tally}
 use Rattle.age_file.proofs.Bytes.{Appends-then}
 use Rattle.age_file.proofs.StartSteps.{uses_front}
-use Rattle.age_file.proofs.PassageSteps.{passes_then, passes_same, dries_same}
+use Rattle.age_file.proofs.SkipSteps.{passes_then, passes_same, dries_same}
 use Rattle.age_file.proofs.CopySteps.{copy_dry, all_out, front_written}
 use Rattle.age_file.proofs.copy.copy_chunk.Goals as goal
 
@@ -87,8 +87,8 @@ returns-in_err-write_all g c =
       named = c.in_err-write_all.ensures.named ∙ kept.named;
       count = omega (arith, kept.count, put.count, length-append kept.copied put.out);
       answered = rw (p.1, p.2, c.in_err-write_all.ensures.fault) (
-        omega (arith, kept.size, put.stopped, ap length put.parts, length-append put.out put.cut, length-take n bytes, c.min-n.ensures, length-append kept.copied put.out),
-        (kept.copied, used, subst (λ (t : List ℕ). IsPrefixOf (kept.copied ++ put.out) (kept.copied ++ t)) c.bytes-in-parts.ensures.bytes (front_written kept.copied put.out put.cut bytes n put.parts), subst (λ (m : ℕ). HasRisen m (g.O.Sink.failed c.write_all.new.sink)) kept.failures put.answered),
+        omega (arith, kept.size, put.stopped, ap length put.parts, length-append put.out put.unwritten, length-take n bytes, c.min-n.ensures, length-append kept.copied put.out),
+        (kept.copied, used, subst (λ (t : List ℕ). IsPrefixOf (kept.copied ++ put.out) (kept.copied ++ t)) c.bytes-in-parts.ensures.bytes (front_written kept.copied put.out put.unwritten bytes n put.parts), subst (λ (m : ℕ). HasRisen m (g.O.Sink.failed c.write_all.new.sink)) kept.failures put.answered),
       );
     }
 
@@ -103,7 +103,7 @@ parts-preserved g c =
     let n = c.min-n.result in
     let bytes = c.bytes-in-parts.result.now in
     let put = c.in_ok-write_all.ensures.writes in
-    let whole : put.out ≡ take n bytes = all_out (take n bytes) put.out put.cut put.parts put.answered.0 in
+    let whole : put.out ≡ take n bytes = all_out (take n bytes) put.out put.unwritten put.parts put.answered.0 in
     let wrote = subst (λ (t : List ℕ). Appends (g.O.Sink.taken c.parts.sink) (g.O.Sink.taken c.write_all.new.sink) t) whole put.wrote in
     let front = uses_front (g.S.Source.remaining c.some_bytes.new.source) c.some_bytes.new.intake c.use_front.new.self bytes n c.use_front.ensures.pulls c.bytes-in-parts.ensures.bytes c.use_front.ensures.bytes in
     record {

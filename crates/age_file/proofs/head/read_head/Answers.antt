@@ -1,4 +1,4 @@
-use Rattle.std.proofs.Common.{◌++◌, take, arith}
+use Rattle.std.proofs.Common.{◌≡◌, ◌∙◌, sym, ap, ◌++◌, length, take, arith, rules}
 use Rattle.std.proofs.lemmas.Result.{err_from_is_err_and}
 use Rattle.std.proofs.lemmas.List.{length-append, length-take}
 use Rattle.age_file.proofs.Bytes.{piece_fails, piece_early, end_fails, cut_pulled, head_pulled}
@@ -46,3 +46,21 @@ returns-in_err-feed-clause-early g c =
     let feeds = rw kept.parser_is at c.in_err-feed.ensures in
     let all = rw (← c.bytes.ensures.bytes) at (c.refill.ensures.pulled _ kept.held kept.pulled) in
     rw p.1 (piece_early _ _ kept.held c.bytes.result.now c.in_err-feed.field-0.0 p.0 p.2 all.consumed feeds.1)
+
+pub pieces-preserved : goal.pieces-preserved
+pieces-preserved g c =
+    let kept = c.pieces.invariant in
+    let feeds = rw (kept.parser_is, c.in-More.is) at c.in_ok-feed.ensures in
+    let piece = c.bytes.result.now in
+    let all = rw (← c.bytes.ensures.bytes) at (c.refill.ensures.pulled _ kept.held kept.pulled) in
+    let same : c.bytes-in-More.result.now ≡ piece = c.bytes-in-More.ensures.bytes ∙ sym c.bytes.ensures.bytes in
+    record {
+      held = kept.held ++ piece;
+      parser_is = feeds.0;
+      len_is = omega (arith, kept.len_is, ap length same, length-append kept.held piece);
+      short = feeds.1;
+      none = feeds.2;
+      pulled = rw c.use_all.ensures.pulls all;
+      unread = c.use_all.ensures.bytes;
+      unfailed = search rules;
+    }

@@ -12,7 +12,7 @@ returns-in_err-n-clause-writes g c =
     let at = c.loop-at.at in
     record {
       out = take at c.args.bytes.now;
-      cut = drop at c.args.bytes.now;
+      unwritten = drop at c.args.bytes.now;
       parts = sym (take-append-drop at c.args.bytes.now);
       wrote = Appends-Keeps _ _ _ _ kept.wrote c.in_err-n.ensures.bytes;
       count = omega (arith, kept.count, kept.within, length-take c.loop-at.at c.args.bytes.now);

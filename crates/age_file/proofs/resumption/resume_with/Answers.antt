@@ -1,8 +1,8 @@
 use Rattle.std.proofs.Common.{None}
 use Rattle.std.proofs.KnownBytes.{Appends-nil}
 use Rattle.age_file.specs.Releases.{tally}
-use Rattle.age_file.specs.Passages.{side}
-use Rattle.age_file.specs.Pours.{stage}
+use Rattle.age_file.specs.Skips.{side}
+use Rattle.age_file.specs.Payloads.{stage}
 use Rattle.age_file.specs.Ports.{ports}
 use Rattle.age_file.specs.Resumes.{resume_ports}
 use Rattle.age_file.proofs.ResumeSteps.{start_fails, verdict_fails, copy_fails, resume_done, resume_fails}
@@ -36,7 +36,7 @@ returns-in-Ok-open_rest-clause-done g c =
     let s2 = stage (tally (g.O.Sink.taken c.open_rest.new.writer) (g.O.Sink.failed c.open_rest.new.writer) (g.O.Sink.label c.open_rest.new.writer) c.open_rest.new.progress) (g.S.Source.remaining c.open_rest.new.reader) (g.S.Source.failed c.open_rest.new.reader) c.open_rest.new.intake in
     resume_done c.args.positions (g.U.Unlock.allows c.args.unlock.now) (g.U.Unlock.refuses c.args.unlock.now) c.args.position.now (g.S.Source.remaining c.args.reader.now) (g.S.Source.failed c.args.reader.now) c.in-Ok.unlocked
     s1 c.in-Ok.ensures.found c.in-Ok-verify.ensures c.in-Ok.ensures.unfailed first c.new-progress.ensures.written x z c.in-Ok-Ok.ensures'.0 c.in-Ok-Ok.ensures'.1
-    c.in-Ok-copy_old.ensures c.args.position.now.within c.payload_key-key.result s2 c.payload_key-key.ensures c.in-Ok-open_rest.ensures.goes_on
+    c.in-Ok-copy_old.ensures c.args.position.now.within c.payload_key-key.result s2 c.payload_key-key.ensures c.in-Ok-open_rest.ensures.resumes
 
 pub returns-clause-stopped : goal.returns-clause-stopped
 returns-clause-stopped g c =
@@ -49,7 +49,7 @@ returns-clause-stopped g c =
     (resume_fails c.args.positions (g.U.Unlock.allows c.args.unlock.now) (g.U.Unlock.refuses c.args.unlock.now) c.args.position.now (g.S.Source.remaining c.args.reader.now) (g.S.Source.failed c.args.reader.now) c.in-Ok.unlocked
     s1 c.in-Ok.ensures.found c.in-Ok-verify.ensures c.in-Ok.ensures.unfailed first c.new-progress.ensures.written x z c.in-Ok-Ok.ensures'.0 c.in-Ok-Ok.ensures'.1
     c.in-Ok-copy_old.ensures c.args.position.now.within c.payload_key-key.result s2 c.position_of-next.result c.in-Err-open_rest.fault c.payload_key-key.ensures
-    c.position_of-next.ensures c.in-Err-open_rest.ensures.goes_on)
+    c.position_of-next.ensures c.in-Err-open_rest.ensures.resumes)
 
 pub returns-in-Err-clause-undamaged : goal.returns-in-Err-clause-undamaged
 returns-in-Err-clause-undamaged g c = λ text whole.

@@ -8,7 +8,7 @@ returns-clause-sealed g c =
     let flushed = c.flush_all.ensures in
     record {
       out = last.out;
-      cut = last.cut;
+      unwritten = last.unwritten;
       limit = last.limit;
       wrote = record { bytes = Appends-Keeps _ _ _ _ last.wrote.bytes flushed.bytes; count = last.wrote.count };
       blocks = last.blocks;

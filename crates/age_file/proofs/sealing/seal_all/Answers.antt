@@ -35,12 +35,12 @@ returns-in_err-finish-clause-fails g c =
     let old = ports (g.S.Source.remaining c.args.source.now) (g.S.Source.failed c.args.source.now) (g.O.Sink.taken c.args.sink.now) (g.O.Sink.failed c.args.sink.now) in
     let new = ports (g.S.Source.remaining c.seal_source.new.source) (g.S.Source.failed c.seal_source.new.source) (g.O.Sink.taken c.finish.new.sink) (g.O.Sink.failed c.finish.new.sink) in
     let wrote : Wrote was mid (front_of (sealing a.key) n s.text) = record { bytes = s.moved.wrote; count = s.moved.count } in
-    let out = last_written sealing n a b was mid now s.text s.key s.holds wrote l.out l.cut l.wrote l.blocks in
+    let out = last_written sealing n a b was mid now s.text s.key s.holds wrote l.out l.unwritten l.wrote l.blocks in
     rw (p.1, p.2) (subst (λ k. SealsFront (sealing k) n old new c.args.written.now c.finish.new.written c.in_err-finish.field-0.0) (ap (λ v. v.key) c.new-sealer.ensures) (record {
       text = s.text;
       out = front_of (sealing a.key) n s.text ++ l.out;
       moved = record { read = s.moved.read; wrote = out.bytes; count = out.count; small = s.moved.small };
-      prefix = last_begins sealing n a b was mid now s.text s.key s.holds wrote l.out l.cut l.wrote l.blocks;
+      prefix = last_begins sealing n a b was mid now s.text s.key s.holds wrote l.out l.unwritten l.wrote l.blocks;
       fails = subst (λ (f : FileFault). SealingFails n old new s.text f) (sym l.answered.0) (subst (λ (k : ℕ). HasRisen k new.write_failed) s.none_failed.1 l.answered.1);
     }))
 
@@ -58,7 +58,7 @@ returns-clause-sealed g c =
     let old = ports (g.S.Source.remaining c.args.source.now) (g.S.Source.failed c.args.source.now) (g.O.Sink.taken c.args.sink.now) (g.O.Sink.failed c.args.sink.now) in
     let new = ports (g.S.Source.remaining c.seal_source.new.source) (g.S.Source.failed c.seal_source.new.source) (g.O.Sink.taken c.finish.new.sink) (g.O.Sink.failed c.finish.new.sink) in
     let wrote : Wrote was mid (front_of (sealing a.key) n s.text) = record { bytes = s.moved.wrote; count = s.moved.count } in
-    let out = last_whole sealing n a b was mid now s.text s.key s.holds wrote l.out l.cut l.wrote l.blocks l.answered.0 in
+    let out = last_whole sealing n a b was mid now s.text s.key s.holds wrote l.out l.unwritten l.wrote l.blocks l.answered.0 in
     subst (λ k. SealsAll (sealing k) n old new c.args.written.now c.finish.new.written c.in_ok-plain.plain) (ap (λ v. v.key) c.new-sealer.ensures) (record {
       text = s.text;
       few = omega (arith, l.limit, s.holds.index);

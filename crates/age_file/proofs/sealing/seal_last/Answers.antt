@@ -8,7 +8,7 @@ returns-clause-sealed g c =
     let put = c.write_all.ensures.writes in
     record {
       out = put.out;
-      cut = put.cut;
+      unwritten = put.unwritten;
       limit = c.in_ok-block.ensures.limit;
       wrote = record { bytes = put.wrote; count = put.count };
       blocks = λ text h. c.in_ok-block.ensures.chunk text h ∙ ap (λ (t : List ℕ). front_of (g.B.ChunkBox.sealing c.args.sealer.now.key) (g.row.SEALED - 16) text ++ t) put.parts;

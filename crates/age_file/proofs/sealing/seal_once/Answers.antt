@@ -2,7 +2,8 @@ use Rattle.std.proofs.Common.{◌≡◌, ◌-◌, take, drop, sym, ap, ◌∙◌
 use Rattle.std.proofs.lemmas.Result.{err_from_is_err_and}
 use Rattle.std.proofs.lemmas.List.{length-take}
 use Rattle.std.proofs.KnownBytes.{Appends-nil}
-use Rattle.age_stream.specs.Sealing.{lent, lent_bytes, too_many}
+use Rattle.age_stream.specs.Sealing.{too_many}
+use Rattle.age_stream.specs.Lent.{chunk_bytes}
 use Rattle.age_file.specs.Seals.{front_of}
 use Rattle.age_file.proofs.SealSteps.{step_len_le, step_len_some, at_limit, too_long, some_sealed}
 use Rattle.age_file.proofs.sealing.seal_once.Goals as goal
@@ -17,7 +18,7 @@ returns-in_err-step-clause-sealed g c =
     record {
       fed = [];
       left = c.args.piece.now;
-      cut = [];
+      unwritten = [];
       some = record {
         out = [];
         parts = refl;
@@ -36,18 +37,18 @@ returns-in_ok-write_all-clause-sealed g c =
     let piece = c.args.piece.now in
     let held = c.args.sealer.now.held in
     let n = g.row.SEALED - 16 in
-    let is : lent_bytes (lent step.chunk) ≡ put.out ++ put.cut = ap (λ o. lent_bytes (lent o)) c.in-Some.is ∙ put.parts in
+    let is : chunk_bytes step.chunk ≡ put.out ++ put.unwritten = ap (λ o. chunk_bytes o) c.in-Some.is ∙ put.parts in
     record {
       fed = take step.taken piece;
       left = drop step.taken piece;
-      cut = put.cut;
-      some = some_sealed g.B.ChunkBox.sealing n c.args.sealer.now _ _ _ piece step.taken step.chunk put.out put.cut is (record { bytes = put.wrote; count = put.count }) ok.chunk;
+      unwritten = put.unwritten;
+      some = some_sealed g.B.ChunkBox.sealing n c.args.sealer.now _ _ _ piece step.taken step.chunk put.out put.unwritten is (record { bytes = put.wrote; count = put.count }) ok.chunk;
       answered = (
         omega (arith, ok.taken, step_len_le n held piece, length-take c.in_ok-step.step.taken c.args.piece.now),
         λ more. omega (arith, ok.taken, step_len_some n held piece more),
         put.answered.0,
         put.answered.1,
-        record { key = after.0; feeding = record { unfinished = after.1; sound = after.2.0 }; holds = after.2.1 },
+        record { key = after.key; feeding = record { unfinished = after.unfinished; sound = after.unfailed }; holds = after.holds },
       );
     }
 
@@ -59,18 +60,18 @@ returns-in_default-clause-sealed g c =
     let piece = c.args.piece.now in
     let held = c.args.sealer.now.held in
     let n = g.row.SEALED - 16 in
-    let is : lent_bytes (lent step.chunk) ≡ [] ++ [] = ap (λ o. lent_bytes (lent o)) c.in_default.is in
+    let is : chunk_bytes step.chunk ≡ [] ++ [] = ap (λ o. chunk_bytes o) c.in_default.is in
     record {
       fed = take step.taken piece;
       left = drop step.taken piece;
-      cut = [];
+      unwritten = [];
       some = some_sealed g.B.ChunkBox.sealing n c.args.sealer.now _ _ _ piece step.taken step.chunk [] [] is (record { bytes = Appends-nil _; count = omega arith }) ok.chunk;
       answered = (
         omega (arith, ok.taken, step_len_le n held piece, length-take c.in_ok-step.step.taken c.args.piece.now),
         λ more. omega (arith, ok.taken, step_len_some n held piece more),
         refl,
         refl,
-        record { key = after.0; feeding = record { unfinished = after.1; sound = after.2.0 }; holds = after.2.1 },
+        record { key = after.key; feeding = record { unfinished = after.unfinished; sound = after.unfailed }; holds = after.holds },
       );
     }
 
@@ -82,11 +83,11 @@ returns-in_err-write_all-clause-sealed g c =
     let step = c.in_ok-step.step in
     let piece = c.args.piece.now in
     let n = g.row.SEALED - 16 in
-    let is : lent_bytes (lent step.chunk) ≡ put.out ++ put.cut = ap (λ o. lent_bytes (lent o)) c.in-Some.is ∙ put.parts in
+    let is : chunk_bytes step.chunk ≡ put.out ++ put.unwritten = ap (λ o. chunk_bytes o) c.in-Some.is ∙ put.parts in
     record {
       fed = take step.taken piece;
       left = drop step.taken piece;
-      cut = put.cut;
-      some = some_sealed g.B.ChunkBox.sealing n c.args.sealer.now _ _ _ piece step.taken step.chunk put.out put.cut is (record { bytes = put.wrote; count = put.count }) ok.chunk;
+      unwritten = put.unwritten;
+      some = some_sealed g.B.ChunkBox.sealing n c.args.sealer.now _ _ _ piece step.taken step.chunk put.out put.unwritten is (record { bytes = put.wrote; count = put.count }) ok.chunk;
       answered = rw (p.1, p.2, c.in_err-write_all.ensures.fault) put.answered;
     }

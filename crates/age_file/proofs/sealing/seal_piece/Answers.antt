@@ -47,7 +47,7 @@ loop-at-preserved g c =
     let d = c.seal_once.new.sealer in
     let same : take at piece ++ s.fed ≡ take (at + c.in_ok-at.field-0) piece = fed_is sealing n piece at c.in_ok-at.field-0 s.fed s.left s.some.parts s.answered.0 in
     let whole : SealsSome sealing n a d was now piece (take at piece ++ s.fed) s.left [] =
-    subst (λ (t : List ℕ). SealsSome sealing n a d was now piece (take at piece ++ s.fed) s.left t) s.answered.2 (next_some sealing n a b d was mid now piece at s.fed s.left s.cut kept.some kept.goes s.some) in
+    subst (λ (t : List ℕ). SealsSome sealing n a d was now piece (take at piece ++ s.fed) s.left t) s.answered.2 (next_some sealing n a b d was mid now piece at s.fed s.left s.unwritten kept.some kept.goes s.some) in
     record {
       within = omega (arith, ap length s.some.parts, length-append s.fed s.left, s.answered.0, length-drop c.loop-at.at c.args.piece.now, ap length (take_rest c.args.piece.now c.loop-at.at), kept.within);
       some = subst (λ (t : List ℕ). SealsSome sealing n a d was now t t [] []) same (fed_alone sealing n a d was now piece (take at piece ++ s.fed) s.left [] whole);
@@ -75,7 +75,7 @@ returns-in_err-at-clause-sealed g c =
     record {
       fed = take at piece ++ s.fed;
       left = s.left;
-      cut = s.cut;
-      some = next_some sealing n a b d was mid now piece at s.fed s.left s.cut kept.some kept.goes s.some;
+      unwritten = s.unwritten;
+      some = next_some sealing n a b d was mid now piece at s.fed s.left s.unwritten kept.some kept.goes s.some;
       answered = rw (p.1, p.2) (subst (λ (t : List ℕ). SealFails sealing n a was now t c.in_err-at.field-0.0) whole (fails_then sealing n a b was mid now (take at piece) (take (length piece - at) (drop at piece)) c.in_err-at.field-0.0 kept.failures kept.goes s.answered));
     }

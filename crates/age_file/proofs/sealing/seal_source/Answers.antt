@@ -101,12 +101,12 @@ returns-in_err-seal_piece-clause-fails g c =
     let old = ports (g.S.Source.remaining c.args.source.now) (g.S.Source.failed c.args.source.now) (g.O.Sink.taken c.args.sink.now) (g.O.Sink.failed c.args.sink.now) in
     let new = ports (g.S.Source.remaining c.refill.new.source) (g.S.Source.failed c.refill.new.source) (g.O.Sink.taken c.seal_piece.new.sink) (g.O.Sink.failed c.seal_piece.new.sink) in
     let all = rw (← c.bytes.ensures.bytes) at (r.pulled old.coming kept.text kept.pulled) in
-    let cut = piece_cut g.B.ChunkBox.sealing n c.args.sealer.now c.pulls.sealer c.seal_piece.new.sealer was mid now kept.text piece s.fed s.left s.cut kept.goes c.requires.fresh.1 kept.wrote s.some positive in
+    let unwritten = piece_cut g.B.ChunkBox.sealing n c.args.sealer.now c.pulls.sealer c.seal_piece.new.sealer was mid now kept.text piece s.fed s.left s.unwritten kept.goes c.requires.fresh.1 kept.wrote s.some positive in
     rw (p.1, p.2) (record {
       text = kept.text ++ piece;
-      out = cut.0;
-      moved = record { read = all.consumed; wrote = cut.1.bytes; count = cut.1.count; small = omega (arith, all.small, all.most) };
-      prefix = cut.2;
+      out = unwritten.0;
+      moved = record { read = all.consumed; wrote = unwritten.1.bytes; count = unwritten.1.count; small = omega (arith, all.small, all.most) };
+      prefix = unwritten.2;
       fails = seal_fails g.B.ChunkBox.sealing n c.args.sealer.now c.pulls.sealer old new mid now kept.text piece c.in_err-seal_piece.field-0.0 kept.write_failed refl kept.goes c.requires.fresh.1 s.answered;
     })
 
@@ -122,7 +122,7 @@ pulls-preserved g c =
     let mid = tally (g.O.Sink.taken c.pulls.sink) (g.O.Sink.failed c.pulls.sink) c.pulls.written in
     let now = tally (g.O.Sink.taken c.seal_piece.new.sink) (g.O.Sink.failed c.seal_piece.new.sink) c.seal_piece.new.written in
     let all = rw (← c.bytes.ensures.bytes) at (r.pulled (g.S.Source.remaining c.args.source.now) kept.text kept.pulled) in
-    let done = piece_done g.B.ChunkBox.sealing n c.args.sealer.now c.pulls.sealer c.seal_piece.new.sealer was mid now kept.text piece s.fed s.left s.cut kept.goes c.requires.fresh.1 kept.wrote s.some positive s.answered.0 s.answered.1 s.answered.3 in
+    let done = piece_done g.B.ChunkBox.sealing n c.args.sealer.now c.pulls.sealer c.seal_piece.new.sealer was mid now kept.text piece s.fed s.left s.unwritten kept.goes c.requires.fresh.1 kept.wrote s.some positive s.answered.0 s.answered.1 s.answered.3 in
     record {
       text = kept.text ++ piece;
       pulled = subst (λ (k : ℕ). Pulled (g.S.Source.remaining c.args.source.now) (g.S.Source.remaining c.refill.new.source) k (kept.text ++ piece)) (sym c.use_all.ensures.pulls) all;

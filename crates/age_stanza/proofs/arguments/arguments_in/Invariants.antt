@@ -4,4 +4,4 @@ use Rattle.age_stanza.proofs.arguments.arguments_in.Given as goal
 
 -- what is left gives the answer
 abbrev pub invariant-loop-c : goal.invariant-loop-c
-invariant-loop-c l = arguments_from l.args l.word.items (drop l.c-index l.letters) ≡ arguments_from [] [] l.letters
+invariant-loop-c l = arguments_from l.args l.word (drop l.c-index l.letters) ≡ arguments_from [] [] l.letters

@@ -1,6 +1,7 @@
 use Rattle.std.proofs.Common.{◌<◌, ◌≡◌, ◌-◌, ◌≤◌, ℕ, ◌+◌, length, take, drop, List, ◌++◌, ap, sym, subst, ◌∙◌, arith, take-add, min}
 use Rattle.std.proofs.lemmas.List.{take_all, take_rest, length-take, length-drop}
-use Rattle.age_stream.specs.Sealing.{Holds, lent, lent_bytes}
+use Rattle.age_stream.specs.Sealing.{Holds}
+use Rattle.age_stream.specs.Lent.{chunk_bytes}
 use Rattle.age_stream.specs.Authentic.{GivesBack}
 use Rattle.age_stream.proofs.Authentic.{comes_back}
 use Rattle.age_stream.specs.Payload.{last_index, sealed_before_last, block_bytes, payload}
@@ -26,16 +27,16 @@ loop-at-preserved g c =
     let ekey : c.loop-at.sealer.key ≡ c.args.key.now = inv.key in
     let front : List ℕ → List ℕ = λ t. block_bytes (sealed_before_last (key c.args.key.now) m t) in
     let chunk0 = c.in_ok-step.ensures.chunk (take c.loop-at.at text) inv.holds in
-    let chunk : front (take c.loop-at.at text ++ take taken piece) ≡ front (take c.loop-at.at text) ++ lent_bytes (lent c.in_ok-step.step.chunk) =
+    let chunk : front (take c.loop-at.at text ++ take taken piece) ≡ front (take c.loop-at.at text) ++ chunk_bytes c.in_ok-step.step.chunk =
     rw ekey at chunk0 in
-    let now : front (take (c.loop-at.at + taken) text) ≡ front (take c.loop-at.at text) ++ lent_bytes (lent c.in_ok-step.step.chunk) = sym (ap front on) ∙ chunk in
+    let now : front (take (c.loop-at.at + taken) text) ≡ front (take c.loop-at.at text) ++ chunk_bytes c.in_ok-step.step.chunk = sym (ap front on) ∙ chunk in
     record {
       within = omega (arith, short, len, len2, c.loop-at-test.true);
-      open_ = after.1;
-      sound = after.2.0;
-      key = after.0 ∙ ekey;
-      holds = subst (λ (t : List ℕ). Holds m c.feed.follows.lender-at-none t) on (after.2.1 (take c.loop-at.at text) inv.holds);
-      blocks = c.in_ok-copy_lent.ensures ∙ (ap (λ (t : List ℕ). t ++ lent_bytes (lent c.in_ok-step.step.chunk)) inv.blocks ∙ sym now);
+      open_ = after.unfinished;
+      sound = after.unfailed;
+      key = after.key ∙ ekey;
+      holds = subst (λ (t : List ℕ). Holds m c.feed.follows.lender-at-none t) on (after.holds (take c.loop-at.at text) inv.holds);
+      blocks = c.in_ok-copy_lent.ensures ∙ (ap (λ (t : List ℕ). t ++ chunk_bytes c.in_ok-step.step.chunk) inv.blocks ∙ sym now);
     }
 
 pub returns-clause-sealed : goal.returns-clause-sealed

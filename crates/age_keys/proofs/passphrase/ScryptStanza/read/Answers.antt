@@ -15,11 +15,11 @@ returns-clause-read c =
       c.number_of.ensures ∙ ap (λ (cs : List ℕ). min (digits_value 10 cs) 4294967295) c.as_slice-2.ensures,
       record {
         characters = log;
-        args = three ∙ ap (λ (t : List ℕ). codes "scrypt" ∷ t ∷ log ∷ []) (sym c.as_slice-else-not-is_scrypt.ensures ∙ c.if-not-read_text.ensures.read);
+        args = three ∙ ap (λ (t : List ℕ). codes "scrypt" ∷ t ∷ log ∷ []) (sym c.as_slice-else-not-is_scrypt.ensures ∙ c.if-not-read_base64.ensures.read);
         body_is = sym (c.in_ok-as_array.ensures.cases.same ∙ c.as_slice-3.ensures);
-        work_factor = rw (c.as_slice-else-not-read_text.ensures) at (c.if-not-is_work_factor.ensures.0 refl);
+        work_factor = rw (c.as_slice-else-not-read_base64.ensures) at (c.if-not-is_work_factor.ensures.0 refl);
         log_is = refl;
-        salt_bytes = c.read_text.ensures.bytes;
+        salt_bytes = c.read_base64.ensures.bytes;
         salt_length = omega arith;
         body_length = ap length c.in_ok-as_array.ensures.cases.same ∙ c.in_ok-as_array.ensures.cases.long;
       },

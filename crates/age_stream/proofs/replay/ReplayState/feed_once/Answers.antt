@@ -2,7 +2,7 @@ use Rattle.std.proofs.Common.{◌-◌, refl, ap, sym, ◌∙◌, ◌≤◌, arit
 use Rattle.std.proofs.lemmas.List.{length-append}
 use Rattle.age_stream.specs.ReplaySteps.{replay_view}
 use Rattle.age_stream.specs.Opening.{chunk_texts}
-use Rattle.age_stream.specs.Lent.{lent_text}
+use Rattle.age_stream.specs.Lent.{chunk_bytes}
 use Rattle.age_stream.proofs.Room.{room_left}
 use Rattle.age_stream.proofs.ReplaySteps.{replay_step, lent_flat}
 use Rattle.age_stream.proofs.replay.ReplayState.feed_once.Goals as goal
@@ -13,7 +13,7 @@ returns-in-Ok-clause-taken g c =
     let ok = c.in-Ok.ensures in
     let step = c.in-Ok.step in
     let some = ok.some c.requires.some in
-    let len = ap length c.push_lent.ensures.items ∙ length-append c.args.self.now.text.items (lent_text step.chunk) in
+    let len = ap length c.push_lent.ensures.items ∙ length-append c.args.self.now.text.items (chunk_bytes step.chunk) in
     let items = c.push_lent.ensures.items ∙ ap (λ (t : List ℕ). c.args.self.now.text.items ++ t) (sym (lent_flat step.chunk)) in
     let long = c.push_lent.new.text.ok.0 in
     let was = c.args.self.now.text.ok.0 in

@@ -1,0 +1,52 @@
+use Rattle.std.proofs.Common.{◌<◌, ◌≡◌, ◌-◌, ◌≤◌, ℕ, ◌+◌, length, take, drop, List, ◌++◌, ap, sym, subst, ◌∙◌, arith, take-add, min}
+use Rattle.std.proofs.lemmas.List.{take_all, take_rest, length-take, length-drop}
+use Rattle.std.specs.Io.KnownBytes.{Appends}
+use Rattle.age_stream.specs.Sealing.{Holds}
+use Rattle.age_stream.specs.Lent.{chunk_bytes}
+use Rattle.age_stream.specs.Payload.{sealed_before_last, block_bytes, payload}
+use Rattle.age_stream.proofs.SealerSteps.{step_len_le}
+use Rattle.age_file.proofs.Bytes.{Appends-then}
+use Rattle.age_examples.proofs.sealing.seal_to.Goals as goal
+
+take_on : (k t : ℕ) (xs : List ℕ) → take k xs ++ take t (take (length xs - k) (drop k xs)) ≡ take (k + t) xs
+take_on k t xs = ap (λ (ys : List ℕ). take k xs ++ take t ys) (take_rest xs k) ∙ sym (take-add k t xs)
+
+pub loop-at-preserved : goal.loop-at-preserved
+loop-at-preserved g c =
+    let after = rw c.in_ok-step.was at c.feed.follows.holds-at-none in
+    let text = c.args.text.now in
+    let at = c.loop-at.at in
+    let taken = c.in_ok-step.step.taken in
+    let piece = take (length text - at) (drop at text) in
+    let on : take at text ++ take taken piece ≡ take (at + taken) text = take_on at taken text in
+    let short : taken ≤ length piece = omega (arith, c.in_ok-step.ensures.taken, step_len_le 65536 c.loop-at.sealer.held piece) in
+    let len : length piece ≡ min (length text - at) (length (drop at text)) = length-take (length text - at) (drop at text) in
+    let len2 : length (drop at text) ≡ length text - at = length-drop at text in
+    let inv = c.loop-at.invariant in
+    let blocks : List ℕ → List ℕ = λ t. block_bytes (sealed_before_last (g.B.ChunkBox.sealing c.args.key.now) 65536 t) in
+    let ekey : c.loop-at.sealer.key ≡ c.args.key.now = inv.key in
+    let chunk0 = c.in_ok-step.ensures.chunk (take at text) inv.holds in
+    let chunk : blocks (take at text ++ take taken piece) ≡ blocks (take at text) ++ chunk_bytes c.in_ok-step.step.chunk = rw ekey at chunk0 in
+    let grown : blocks (take at text) ++ chunk_bytes c.in_ok-step.step.chunk ≡ blocks (take (at + taken) text) = sym chunk ∙ ap blocks on in
+    let lent = c.bytes_of.ensures in
+    let put : Appends (g.O.Sink.taken c.loop-at.sink) (g.O.Sink.taken c.put.new.sink) (chunk_bytes c.in_ok-step.step.chunk) =
+    subst (λ (t : List ℕ). Appends (g.O.Sink.taken c.loop-at.sink) (g.O.Sink.taken c.put.new.sink) t) lent c.in_ok-put.ensures in
+    record {
+      within = omega (arith, short, len, len2, c.loop-at-test.true);
+      unfinished = after.unfinished;
+      unfailed = after.unfailed;
+      key = after.key ∙ ekey;
+      holds = subst (λ (t : List ℕ). Holds 65536 c.feed.follows.lender-at-none t) on (after.holds (take at text) inv.holds);
+      wrote = subst (λ (t : List ℕ). Appends (g.O.Sink.taken c.args.sink.now) (g.O.Sink.taken c.put.new.sink) t) grown (Appends-then _ _ _ _ _ inv.wrote put);
+    }
+
+pub returns : goal.returns
+returns g c =
+    let text = c.args.text.now in
+    let inv = c.loop-at.invariant in
+    let here : List ℕ = take c.loop-at.at text in
+    let all : here ≡ text = take_all c.loop-at.at text (omega (arith, c.loop-at-test.false)) in
+    let whole = payload (g.B.ChunkBox.sealing c.args.key.now) 65536 in
+    let last0 = c.in_ok-finish.ensures.chunk here inv.holds in
+    let last = rw inv.key at last0 in
+    record { sealed = subst (λ (t : List ℕ). Appends (g.O.Sink.taken c.args.sink.now) (g.O.Sink.taken c.put-2.new.sink) t) (sym last ∙ ap whole all) (Appends-then _ _ _ _ _ inv.wrote c.in_ok-put-2.ensures) }

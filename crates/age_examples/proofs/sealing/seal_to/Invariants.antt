@@ -1,0 +1,19 @@
+use Rattle.std.proofs.Common.{length, ◌-◌, ◌≡◌, ◌≤◌, take, false}
+use Rattle.std.specs.Io.KnownBytes.{Appends}
+use Rattle.age_stream.specs.Sealing.{Holds}
+use Rattle.age_stream.specs.Payload.{sealed_before_last, block_bytes}
+use Rattle.age_examples.proofs.sealing.seal_to.Given as goal
+
+abbrev pub invariant-loop-at : goal.invariant-loop-at
+invariant-loop-at g l =
+    record {
+      within : l.at ≤ length l.text;
+      unfinished : l.sealer.finished ≡ false;
+      unfailed : l.sealer.failed ≡ false;
+      key : l.sealer.key ≡ l.key;
+      holds : Holds 65536 l.sealer (take l.at l.text);
+      wrote : Appends (g.O.Sink.taken l.initial.sink) (g.O.Sink.taken l.sink) (block_bytes (sealed_before_last (g.B.ChunkBox.sealing l.key) 65536 (take l.at l.text)));
+    }
+
+abbrev pub decreases-loop-at : goal.decreases-loop-at
+decreases-loop-at g l = length l.text - l.at

@@ -1,0 +1,28 @@
+//! A sink of one's own.
+
+ghost use Rattle.std.specs.Prelude.{◌≡◌, ℕ};
+
+use age_file::{Failed, Sink};
+
+/// A sink that counts what it takes and keeps none of it, to learn how long something will be.
+#[derive(Debug, Drop)]
+pub struct Measure {
+    pub count: u64,
+}
+
+impl Sink for Measure {
+    ghost failed = { λ _. 0 };
+
+    fn put(&mut self, from: &[u8]) -> Result<usize, Failed> {
+        self.count = self.count.saturating_add(from.len() as u64);
+        Ok(from.len())
+    }
+
+    fn flush(&mut self) -> Result<(), Failed> {
+        Ok(())
+    }
+
+    fn failures(&self) -> u64 {
+        0
+    }
+}

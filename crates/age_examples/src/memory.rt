@@ -1,0 +1,30 @@
+//! A decryption over memory.
+
+ghost use Rattle.std.specs.Prelude.{◌≡◌, ℕ, List, Some, MatchResult};
+ghost use Rattle.age_file.specs.Decrypts.{IsUndamaged, StopsOutside};
+
+use age_file::{FileFault, MemSink, MemSource, decrypt};
+use age_keys::Unlock;
+use std::alloc::Global;
+
+/// How many bytes a pull or a put moves at most.
+const STEP: usize = 65_536;
+
+/// The plaintext of an age file in memory. A plaintext is shorter than its file, so the file's length
+/// is room enough.
+///
+/// Where it is the file of some plaintext, which the unlocker opens, and undamaged, that plaintext is
+/// returned, or one of the faults that have nothing to do with the file. A fault of the file returns
+/// no bytes at all, so nobody takes a cut plaintext for a whole one.
+pub fn text_of<U: Unlock>(alloc: Global, unlock: &U, file: Vec<u8>) -> Result<Vec<u8>, FileFault>
+    ensures undamaged { (text : List ℕ)
+        → IsUndamaged (U.allows unlock.now) (U.refuses unlock.now) (Some file.items) text
+        → MatchResult result (λ v. v.items ≡ text) StopsOutside }
+{
+    let mut sink = MemSink::new(alloc, file.len(), STEP, None)?;
+    let mut source = MemSource::new(file, STEP, None);
+    match decrypt(alloc, unlock, &mut source, &mut sink) {
+        Ok(_) => Ok(sink.into_bytes()),
+        Err(stopped) => Err(stopped.fault),
+    }
+}

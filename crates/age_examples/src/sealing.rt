@@ -1,0 +1,43 @@
+//! A sealer over a sink.
+
+ghost use Rattle.std.specs.Prelude.{◌≡◌, OnOk};
+ghost use Rattle.std.specs.Io.KnownBytes.{Appends};
+ghost use Rattle.age_stream.specs.Lent.{chunk_bytes};
+ghost use Rattle.age_stream.specs.Payload.{payload};
+
+use age_file::{FileFault, Sink, write_all};
+use age_stream::{ChunkBox, Sealer};
+
+/// The bytes that are lent, if any are.
+fn bytes_of(chunk: Option<&[u8]>) -> &[u8]
+    ensures { result.now ≡ chunk_bytes chunk.entry }
+{
+    match chunk {
+        Some(block) => block,
+        None => &[],
+    }
+}
+
+/// Writes all of some bytes.
+fn put<O: Sink>(sink: &mut O, bytes: &[u8]) -> Result<(), FileFault>
+    ensures { OnOk result (Appends (O.taken sink.old) (O.taken sink.new) bytes.now) }
+{
+    let mut written = 0;
+    write_all(sink, bytes, &mut written)
+}
+
+/// Writes the payload of a text (C2SP age.md, "Payload"), block by block.
+pub fn seal_to<B: ChunkBox, O: Sink>(key: &B, text: &[u8], sink: &mut O) -> Result<(), FileFault>
+    ensures sealed { OnOk result (Appends (O.taken sink.old) (O.taken sink.new)
+        (payload (B.sealing key.now) 65536 text.now)) }
+{
+    let mut sealer = Sealer::<B, 65552>::new(key);
+    let mut at = 0;
+    while at < text.len() {
+        let step = sealer.feed(&text[at..])?;
+        put(sink, bytes_of(step.chunk))?;
+        at += step.taken;
+    }
+    put(sink, sealer.finish()?)?;
+    Ok(())
+}

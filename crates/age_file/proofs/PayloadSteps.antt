@@ -1,0 +1,137 @@
+-- From what an opener did to the segment that it was given.
+use Rattle.std.proofs.Common.{◌<◌, ◌*◌, length, ◌≡◌, ℕ, List, [], ◌++◌, Option, refl, sym, ap, subst, ◌∙◌, append-nil, append_assoc, true, false}
+use Rattle.std.specs.Prelude.{Result, MatchResult, Ok, Err}
+use Rattle.std.specs.List.{flat_map}
+use Rattle.age_stream.specs.declared.step.Status.TheVariants.{Done}
+use Rattle.age_stream.specs.Segment.{Segment, Outcome, outcome, released}
+use Rattle.age_stream.specs.Deliveries.{with_piece, with_end, fresh}
+use Rattle.age_stream.specs.Opening.{OpenerView, Stands}
+use Rattle.age_stream.specs.Headline.{IsPrefixOf}
+use Rattle.age_stream.proofs.Fresh.{fresh_outcome}
+use Rattle.age_stream.proofs.Growing.{released_grows}
+use Rattle.age_file.specs.Faults.{HasRisen}
+use Rattle.age_file.specs.Releases.{Tally, Releases, Closes, FeedFails}
+use Rattle.age_file.specs.Flows.{Flow, SameFailures, FlowFails, OpensAll}
+use Rattle.age_file.specs.Decrypts.{segment}
+use Rattle.age_file.specs.Payloads.{Stage, DecryptsPayload, PayloadFails, PayloadDone}
+use Rattle.age_file.specs.declared.fault.FileFault.{FileFault}
+use Rattle.age_file.specs.declared.fault.FileFault.TheVariants.{Stream, Read, Write, ReadNeverEnds}
+use Rattle.age_stream.specs.Lawful.{IsLawful}
+use Rattle.std.specs.Simd.{first_chunks}
+use Rattle.age_file.specs.Bindings.{chain_if}
+use Rattle.age_file.specs.declared.position.Positions.{Positions}
+use Rattle.age_file.specs.Counts.{CountsChunks, HasCounted}
+use Rattle.age_file.proofs.CountSteps.{no_piece, mark_fresh, marked}
+use Rattle.age_file.proofs.ReleaseSteps.{releases_next}
+
+module _ (op : List ℕ → List ℕ → Option (List ℕ)) (n k : ℕ) where
+  -- what was written is a beginning of the text of all bytes
+  prefix_of : (fed left out unwritten : List ℕ) → released op n (segment k fed false) ≡ out ++ unwritten → IsPrefixOf out (released op n (segment k (fed ++ left) false))
+  prefix_of fed left out unwritten e =
+      let r = released_grows op n (segment k fed false) left (λ _. refl) in
+      (unwritten ++ r.0, sym (append_assoc out unwritten r.0) ∙ (ap (λ (t : List ℕ). t ++ r.0) (sym e) ∙ r.1))
+
+  exact : (fed left out unwritten : List ℕ) → released op n (segment k fed false) ≡ out ++ unwritten → left ≡ [] → unwritten ≡ [] → out ≡ released op n (segment k (fed ++ left) false)
+  exact fed left out unwritten e none whole =
+      sym (append-nil out) ∙ (ap (λ (t : List ℕ). out ++ t) (sym whole) ∙ (sym e ∙ ap (λ (t : List ℕ). released op n (segment k t false)) (sym (append-nil fed) ∙ ap (λ (t : List ℕ). fed ++ t) (sym none))))
+
+module _ {B : Type 0} (sealing : B → List ℕ → List ℕ → List ℕ) (opening : B → List ℕ → List ℕ → Option (List ℕ)) (lawful : (key : B) → IsLawful (sealing key) (opening key)) (n : ℕ) (positive : 0 < n) where
+  abbrev pub stage_of : Flow B → Stage
+  stage_of f = record { tally = f.tally; coming = f.coming; read_failed = f.read_failed; unread = f.unread }
+
+  module _ (K : B) (k : ℕ) where
+    -- the text of a segment that an opener was given from its start
+    from_start : (next : Segment → Segment) (old new : OpenerView B) (was now : Tally) (unwritten : List ℕ) → old.key ≡ K → Stands opening n old (fresh k)
+        → (o : Releases opening n next old new was now unwritten) → released (opening K) n (next (fresh k)) ≡ o.out ++ unwritten
+    from_start next old new was now unwritten key h o =
+        let t = subst (λ c. released (opening c) n (next (fresh k)) ≡ released (opening c) n (fresh k) ++ (o.out ++ unwritten)) key (o.text (fresh k) h) in
+        t ∙ ap (λ (x : Outcome). flat_map (λ (y : List ℕ). y) x.texts ++ (o.out ++ unwritten)) (fresh_outcome (opening K) n k)
+
+    -- where the opener then stands
+    status_of : (next : Segment → Segment) (old new : OpenerView B) (was now : Tally) (unwritten : List ℕ) → old.key ≡ K → Stands opening n old (fresh k)
+        → (o : Releases opening n next old new was now unwritten) → new.status ≡ (outcome (opening K) n (next (fresh k))).status
+    status_of next old new was now unwritten key h o =
+        (o.stands (fresh k) h).status ∙ ap (λ c. (outcome (opening c) n (next (fresh k))).status) (o.key ∙ key)
+
+    -- what the progress then counts, behind a base
+    counts_of : (next : Segment → Segment) (old new : OpenerView B) (was now : Tally) (more unwritten : List ℕ) (last : Segment) → old.key ≡ K → Stands opening n old (fresh k)
+        → with_piece (next (fresh k)) more ≡ last → (o : Releases opening n next old new was now unwritten) → (keep : Positions) (base : List ℕ) → length base ≡ k * n → was.progress.index ≡ k
+        → was.progress.chain ≡ chain_if keep (first_chunks n k base) → HasCounted keep (opening K) n (base ++ o.out) last now.progress
+    counts_of next old new was now more unwritten last key h is o keep base len index chain_is =
+        let e = from_start next old new was now unwritten key h o in
+        let first = mark_fresh (sealing old.key) (opening old.key) (lawful old.key) n positive keep base k was.progress len index chain_is in
+        let m = subst (λ c. CountsChunks keep (opening c) n base (next (fresh k)) unwritten now.progress) key (o.counts keep positive (fresh k) base len h first) in
+        marked (sealing K) (opening K) (lawful K) n positive keep base (next (fresh k)) last more o.out unwritten now.progress is e m
+
+    stop_fails : (old new : Flow B) (fed left out unwritten : List ℕ) (fault : FileFault) → released (opening K) n (segment k fed false) ≡ out ++ unwritten
+        → new.opener.status ≡ (outcome (opening K) n (segment k fed false)).status
+        → FlowFails old new left unwritten fault → PayloadFails (opening K) n (stage_of old) (stage_of new) (segment k (fed ++ left) false) out fault
+    stop_fails old new fed left out unwritten (Stream f) e s h =
+        let same : fed ≡ fed ++ left = sym (append-nil fed) ∙ ap (λ (t : List ℕ). fed ++ t) (sym h.1) in
+        (ap (λ (t : List ℕ). (outcome (opening K) n (segment k t false)).status) (sym same) ∙ (sym s ∙ h.0), exact (opening K) n k fed left out unwritten e h.1 h.2, h.3)
+    stop_fails old new fed left out unwritten Write e s h = h
+    stop_fails old new fed left out unwritten Read e s h = (exact (opening K) n k fed left out unwritten e h.0 h.1, h.2)
+    stop_fails old new fed left out unwritten ReadNeverEnds e s h = (exact (opening K) n k fed left out unwritten e h.0 h.1, h.2, h.3)
+    stop_fails old new fed left out unwritten other e s h = absurd h
+
+    pub pour_stopped : (old new : Flow B) (fault : FileFault) → old.opener.key ≡ K → Stands opening n old.opener (fresh k) → OpensAll opening n old new (Err fault)
+        → DecryptsPayload (opening K) n k (stage_of old) (stage_of new) (Err fault)
+    pour_stopped old new fault key h a =
+        let f = a.flows in
+        let next : Segment → Segment = λ s. with_piece s f.fed in
+        let e = from_start next old.opener new.opener old.tally new.tally a.unwritten key h f.releases in
+        let s = status_of next old.opener new.opener old.tally new.tally a.unwritten key h f.releases in
+        record {
+          bytes = f.fed ++ a.left;
+          ended = false;
+          out = f.releases.out;
+          fresh = f.fresh;
+          parts = f.parts;
+          pulled = f.pulled;
+          at_end = λ x. cc;
+          wrote = f.releases.wrote;
+          named = f.releases.named;
+          count = f.releases.count;
+          counts = counts_of next old.opener new.opener old.tally new.tally a.left a.unwritten (segment k (f.fed ++ a.left) false) key h refl f.releases;
+          prefix = prefix_of (opening K) n k f.fed a.left f.releases.out a.unwritten e;
+          answered = stop_fails old new f.fed a.left f.releases.out a.unwritten fault e s a.answered;
+        }
+
+    done_or_fails : (old mid : Flow B) (new : OpenerView B) (now : Tally) (bytes out unwritten : List ℕ) (result : Result (Unit {0}) FileFault) → SameFailures old mid
+        → released (opening K) n (segment k bytes true) ≡ out ++ unwritten → new.status ≡ (outcome (opening K) n (segment k bytes true)).status
+        → MatchResult result (λ _. (new.status ≡ Done) × (unwritten ≡ []) × (now.failed ≡ mid.tally.failed)) (FeedFails opening n new mid.tally now [] unwritten)
+        → MatchResult result (λ _. PayloadDone (opening K) n (stage_of old) (record { tally = now; coming = mid.coming; read_failed = mid.read_failed; unread = mid.unread }) (segment k bytes true) out)
+        (PayloadFails (opening K) n (stage_of old) (record { tally = now; coming = mid.coming; read_failed = mid.read_failed; unread = mid.unread }) (segment k bytes true) out)
+    done_or_fails old mid new now bytes out unwritten (Ok u) same e s h =
+        (refl, sym s ∙ h.0, sym (append-nil out) ∙ (ap (λ (t : List ℕ). out ++ t) (sym h.1) ∙ sym e), (h.2 ∙ same.0, same.1))
+    done_or_fails old mid new now bytes out unwritten (Err (Stream f)) same e s h =
+        (sym s ∙ h.0, sym (append-nil out) ∙ (ap (λ (t : List ℕ). out ++ t) (sym h.2) ∙ sym e), (h.3 ∙ same.0, same.1))
+    done_or_fails old mid new now bytes out unwritten (Err Write) same e s h = subst (λ (x : ℕ). HasRisen x now.failed) same.0 h
+    done_or_fails old mid new now bytes out unwritten (Err other) same e s h = absurd h
+
+    pub pour_ended : (old mid : Flow B) (new : OpenerView B) (now : Tally) (result : Result (Unit {0}) FileFault) → old.opener.key ≡ K → Stands opening n old.opener (fresh k)
+        → OpensAll opening n old mid (Ok tt) → Closes opening n mid.opener new mid.tally now result
+        → DecryptsPayload (opening K) n k (stage_of old) (record { tally = now; coming = mid.coming; read_failed = mid.read_failed; unread = mid.unread }) result
+    pour_ended old mid new now result key h a c =
+        let f = a.flows in
+        let go = a.answered in
+        let first = subst (λ (t : List ℕ). Releases opening n (λ s. with_piece s f.fed) old.opener mid.opener old.tally mid.tally t) go.1 f.releases in
+        let next : Segment → Segment = λ s. with_end (with_piece s f.fed) in
+        let all = releases_next opening n f.fed with_end next old.opener mid.opener new old.tally mid.tally now c.unwritten (λ s. refl) first c.releases in
+        let e = from_start next old.opener new old.tally now c.unwritten key h all in
+        let s = status_of next old.opener new old.tally now c.unwritten key h all in
+        record {
+          bytes = f.fed;
+          ended = true;
+          out = all.out;
+          fresh = f.fresh;
+          parts = f.parts ∙ (ap (λ (t : List ℕ). f.fed ++ t) go.0 ∙ append-nil f.fed);
+          pulled = f.pulled;
+          at_end = λ x. go.3;
+          wrote = all.wrote;
+          named = all.named;
+          count = all.count;
+          counts = counts_of next old.opener new old.tally now [] c.unwritten (segment k f.fed true) key h (no_piece (segment k f.fed true)) all;
+          prefix = (c.unwritten, sym e);
+          answered = done_or_fails old mid new now f.fed all.out c.unwritten result go.2 e s c.answered;
+        }

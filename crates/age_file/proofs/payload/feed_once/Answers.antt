@@ -1,0 +1,104 @@
+use Rattle.std.proofs.Common.{◌∙◌, ◌++◌, Some, None, List, ℕ, ap, ◌≡◌, ◌-◌, take, drop, sym, arith, [], append-nil, refl}
+use Rattle.std.proofs.lemmas.Result.{err_from_is_err_and}
+use Rattle.std.proofs.lemmas.List.{take-append-drop}
+use Rattle.std.proofs.KnownBytes.{Appends-nil}
+use Rattle.age_stream.specs.Deliveries.{with_piece}
+use Rattle.age_file.specs.Releases.{tally}
+use Rattle.age_file.proofs.ReleaseSteps.{more_text, fed_front, goes_front, counts_whole, counts_refused, counts_cut}
+use Rattle.age_file.proofs.payload.feed_once.Goals as goal
+
+-- the opener refused the piece
+pub returns-in_err-step-clause-fed : goal.returns-in_err-step-clause-fed
+returns-in_err-step-clause-fed g c =
+    let p = err_from_is_err_and c.from_residual.result c.from_residual.ensures.1 in
+    let after = rw c.in_err-step.was at c.feed.follows.holds-at-none in
+    let piece = c.args.piece.now in
+    let key = c.args.opener.now.key in
+    record {
+      fed = piece;
+      left = [];
+      unwritten = [];
+      parts = sym (append-nil piece);
+      releases = record {
+        out = [];
+        key = after.key;
+        wrote = Appends-nil _;
+        named = refl;
+        count = omega arith;
+        stands = after.stands;
+        text = λ s h. more_text (g.B.ChunkBox.opening key) (g.row.SEALED - 16) s (with_piece s piece) [] [] (c.in_err-step.ensures.texts s h) refl;
+        counts = counts_refused g.B.ChunkBox.opening (g.row.SEALED - 16) (g.B.ChunkBox.sealing key) c.args.opener.now c.feed.follows.lender-at-none c.args.progress.now piece (g.met.B.ChunkBox.lawful key) after.stands c.in_err-step.ensures.texts;
+      };
+      answered = rw (p.1, p.2) (after.fault, refl, refl, refl);
+    }
+
+-- no chunk came out
+pub returns-in_default-clause-fed : goal.returns-in_default-clause-fed
+returns-in_default-clause-fed g c =
+    let after = rw c.in_ok-step.was at c.feed.follows.holds-at-none in
+    let ok = c.in_ok-step.ensures in
+    let step = c.in_ok-step.step in
+    let piece = c.args.piece.now in
+    let key = c.args.opener.now.key in
+    let new = c.feed.follows.lender-at-none in
+    let was = tally (g.O.Sink.taken c.args.sink.now) (g.O.Sink.failed c.args.sink.now) (g.O.Sink.label c.args.sink.now) c.args.progress.now in
+    let texts = rw c.in_default.is at ok.texts in
+    let room = rw c.in_default.is at after.fits in
+    record {
+      fed = take step.taken piece;
+      left = drop step.taken piece;
+      unwritten = [];
+      parts = sym (take-append-drop step.taken piece);
+      releases = fed_front g.B.ChunkBox.opening (g.row.SEALED - 16) c.args.opener.now new was was piece step.taken None [] [] after.key after.stands texts refl (Appends-nil _) refl (omega arith)
+          (counts_refused g.B.ChunkBox.opening (g.row.SEALED - 16) (g.B.ChunkBox.sealing key) c.args.opener.now new c.args.progress.now (take step.taken piece) (g.met.B.ChunkBox.lawful key) after.stands texts);
+      answered = goes_front g.B.ChunkBox.opening (g.row.SEALED - 16) c.args.opener.now new was was piece step.taken None [] [] (omega (arith, ok.taken)) room refl (omega arith) refl refl;
+    }
+
+-- the sink failed
+pub returns-in_err-write_all-clause-fed : goal.returns-in_err-write_all-clause-fed
+returns-in_err-write_all-clause-fed g c =
+    let p = err_from_is_err_and c.from_residual-in_err-write_all.result c.from_residual-in_err-write_all.ensures.1 in
+    let after = rw c.in_ok-step.was at c.feed.follows.holds-at-none in
+    let ok = c.in_ok-step.ensures in
+    let put = c.in_err-write_all.ensures.writes in
+    let step = c.in_ok-step.step in
+    let piece = c.args.piece.now in
+    let key = c.args.opener.now.key in
+    let texts = rw c.in-Some.is at ok.texts in
+    let chunk = Some c.in-Some.chunk in
+    let was = tally (g.O.Sink.taken c.args.sink.now) (g.O.Sink.failed c.args.sink.now) (g.O.Sink.label c.args.sink.now) c.args.progress.now in
+    record {
+      fed = take step.taken piece;
+      left = drop step.taken piece;
+      unwritten = put.unwritten;
+      parts = sym (take-append-drop step.taken piece);
+      releases = fed_front g.B.ChunkBox.opening (g.row.SEALED - 16) c.args.opener.now c.feed.follows.lender-at-none was _ piece step.taken chunk put.out put.unwritten after.key after.stands texts put.parts put.wrote c.in_err-write_all.ensures.named put.count
+          (counts_cut g.B.ChunkBox.opening (g.row.SEALED - 16) (g.B.ChunkBox.sealing key) c.args.opener.now c.feed.follows.lender-at-none c.args.progress.now _ (take step.taken piece) chunk put.out put.unwritten (g.met.B.ChunkBox.lawful key) after.stands texts put.parts put.stopped refl refl);
+      answered = rw (p.1, p.2, c.in_err-write_all.ensures.fault) put.answered;
+    }
+
+pub returns-clause-fed : goal.returns-clause-fed
+returns-clause-fed g c =
+    let after = rw c.in_ok-step.was at c.feed.follows.holds-at-none in
+    let ok = c.in_ok-step.ensures in
+    let put = c.in_ok-write_all.ensures.writes in
+    let step = c.in_ok-step.step in
+    let piece = c.args.piece.now in
+    let key = c.args.opener.now.key in
+    let texts = rw c.in-Some.is at ok.texts in
+    let chunk = Some c.in-Some.chunk in
+    let whole = put.parts ∙ ap (λ (t : List ℕ). put.out ++ t) put.answered.0 in
+    let room = rw c.in-Some.is at after.fits in
+    let none : [] ≡ [] = refl in
+    let count = c.advance.ensures.same ∙ put.count in
+    let was = tally (g.O.Sink.taken c.args.sink.now) (g.O.Sink.failed c.args.sink.now) (g.O.Sink.label c.args.sink.now) c.args.progress.now in
+    let now = tally (g.O.Sink.taken c.write_all.new.sink) (g.O.Sink.failed c.write_all.new.sink) (g.O.Sink.label c.write_all.new.sink) c.advance.new.self in
+    record {
+      fed = take step.taken piece;
+      left = drop step.taken piece;
+      unwritten = [];
+      parts = sym (take-append-drop step.taken piece);
+      releases = fed_front g.B.ChunkBox.opening (g.row.SEALED - 16) c.args.opener.now c.feed.follows.lender-at-none was now piece step.taken chunk put.out [] after.key after.stands texts whole put.wrote c.in_ok-write_all.ensures.named count
+          (counts_whole g.B.ChunkBox.opening (g.row.SEALED - 16) (g.B.ChunkBox.sealing key) c.args.opener.now c.feed.follows.lender-at-none c.args.progress.now c.advance.new.self (take step.taken piece) chunk c.index.result c.chain_over-chain.result (g.met.B.ChunkBox.lawful key) after.key c.index.ensures.index after.stands texts c.chain_over-chain.ensures c.advance.ensures.counted);
+      answered = goes_front g.B.ChunkBox.opening (g.row.SEALED - 16) c.args.opener.now c.feed.follows.lender-at-none was now piece step.taken chunk put.out [] (omega (arith, ok.taken)) room whole count none put.answered.1;
+    }

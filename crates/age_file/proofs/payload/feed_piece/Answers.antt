@@ -1,0 +1,80 @@
+use Rattle.std.proofs.Common.{◌≡◌, ◌+◌, ◌-◌, length, take, drop, sym, ap, ◌∙◌, arith, List, ℕ, [], ◌++◌, append-nil, refl, take-add}
+use Rattle.std.proofs.lemmas.Result.{err_from_is_err_and}
+use Rattle.std.proofs.lemmas.List.{take_rest, take-append-drop, length-append, length-drop, append_assoc, take_at, take_all}
+use Rattle.age_file.proofs.ReleaseSteps.{both_then, releases_none, releases_then, fails_then}
+use Rattle.age_file.specs.Releases.{tally}
+use Rattle.age_file.proofs.payload.feed_piece.Goals as goal
+
+-- the front of what is left of a piece
+on : (piece fed left : List ℕ) (at n : ℕ) → take (length piece - at) (drop at piece) ≡ fed ++ left → n ≡ length fed → take at piece ++ fed ≡ take (at + n) piece
+on piece fed left at n parts count =
+    let rest : drop at piece ≡ fed ++ left = sym (take_rest piece at) ∙ parts in
+    let front : take n (drop at piece) ≡ fed = ap (take n) rest ∙ take_at fed left n (sym count) in
+    ap (λ (t : List ℕ). take at piece ++ t) (sym front) ∙ sym (take-add at n piece)
+
+all_of : (piece fed left : List ℕ) (at : ℕ) → take (length piece - at) (drop at piece) ≡ fed ++ left → piece ≡ (take at piece ++ fed) ++ left
+all_of piece fed left at parts =
+    sym (take-append-drop at piece) ∙ (ap (λ (t : List ℕ). take at piece ++ t) (sym (take_rest piece at) ∙ parts) ∙ sym (append_assoc (take at piece) fed left))
+
+pub loop-at-init : goal.loop-at-init
+loop-at-init g c =
+    let was = tally (g.O.Sink.taken c.args.sink.now) (g.O.Sink.failed c.args.sink.now) (g.O.Sink.label c.args.sink.now) c.args.progress.now in
+    record {
+      within = omega arith;
+      releases = releases_none g.B.ChunkBox.opening (g.row.SEALED - 16) c.args.opener.now was;
+      goes = (omega arith, refl, refl);
+    }
+
+pub loop-at-preserved : goal.loop-at-preserved
+loop-at-preserved g c =
+    let kept = c.loop-at.invariant in
+    let fed = c.in_ok-at.ensures.fed in
+    let piece = c.args.piece.now in
+    let at = c.loop-at.at in
+    let both = both_then g.B.ChunkBox.opening (g.row.SEALED - 16) (take at piece) fed.fed (take (at + c.in_ok-at.field-0) piece) c.args.opener.now c.loop-at.opener c.feed_once.new.opener
+    (tally (g.O.Sink.taken c.args.sink.now) (g.O.Sink.failed c.args.sink.now) (g.O.Sink.label c.args.sink.now) c.args.progress.now)
+    (tally (g.O.Sink.taken c.loop-at.sink) (g.O.Sink.failed c.loop-at.sink) (g.O.Sink.label c.loop-at.sink) c.loop-at.progress)
+    (tally (g.O.Sink.taken c.feed_once.new.sink) (g.O.Sink.failed c.feed_once.new.sink) (g.O.Sink.label c.feed_once.new.sink) c.feed_once.new.progress) fed.unwritten
+    (on piece fed.fed fed.left at c.in_ok-at.field-0 fed.parts fed.answered.0) kept.releases kept.goes fed.releases fed.answered.1 in
+    record {
+      within = omega (arith, ap length fed.parts, length-append fed.fed fed.left, fed.answered.0, length-drop at piece, ap length (take_rest piece at), kept.within);
+      releases = both.releases;
+      goes = both.goes;
+    }
+
+pub returns-in_err-at : goal.returns-in_err-at
+returns-in_err-at g c =
+    let p = err_from_is_err_and c.from_residual.result c.from_residual.ensures.1 in
+    let kept = c.loop-at.invariant in
+    let fed = c.in_err-at.ensures.fed in
+    let piece = c.args.piece.now in
+    let at = c.loop-at.at in
+    let was = tally (g.O.Sink.taken c.args.sink.now) (g.O.Sink.failed c.args.sink.now) (g.O.Sink.label c.args.sink.now) c.args.progress.now in
+    let mid = tally (g.O.Sink.taken c.loop-at.sink) (g.O.Sink.failed c.loop-at.sink) (g.O.Sink.label c.loop-at.sink) c.loop-at.progress in
+    let now = tally (g.O.Sink.taken c.feed_once.new.sink) (g.O.Sink.failed c.feed_once.new.sink) (g.O.Sink.label c.feed_once.new.sink) c.feed_once.new.progress in
+    record {
+      fed = record {
+        fed = take at piece ++ fed.fed;
+        left = fed.left;
+        unwritten = fed.unwritten;
+        parts = all_of piece fed.fed fed.left at fed.parts;
+        releases = releases_then g.B.ChunkBox.opening (g.row.SEALED - 16) (take at piece) fed.fed c.args.opener.now c.loop-at.opener c.feed_once.new.opener was mid now fed.unwritten kept.releases fed.releases;
+        answered = rw (p.1, p.2) (fails_then g.B.ChunkBox.opening (g.row.SEALED - 16) (take at piece) c.args.opener.now c.loop-at.opener c.feed_once.new.opener was mid now fed.left fed.unwritten c.in_err-at.field-0.0 kept.goes fed.answered);
+      };
+    }
+
+pub returns : goal.returns
+returns g c =
+    let kept = c.loop-at.invariant in
+    let piece = c.args.piece.now in
+    let at = c.loop-at.at in
+    record {
+      fed = record {
+        fed = take at piece;
+        left = [];
+        unwritten = [];
+        parts = sym (append-nil (take at piece) ∙ take_all at piece (omega arith));
+        releases = kept.releases;
+        answered = (refl, kept.goes);
+      };
+    }

@@ -1,0 +1,52 @@
+use Rattle.std.proofs.Common.{◌++◌, refl, take, arith}
+use Rattle.std.proofs.lemmas.Result.{err_from_is_err_and}
+use Rattle.std.proofs.lemmas.List.{length-append, length-take}
+use Rattle.age_file.specs.Skips.{side}
+use Rattle.age_file.proofs.StartSteps.{uses_front}
+use Rattle.age_file.proofs.SkipSteps.{passes_then, passes_same, dries_same}
+use Rattle.age_file.proofs.skip.skip_block.Goals as goal
+
+pub returns-then-not-branch : goal.returns-then-not-branch
+returns-then-not-branch g c =
+    let kept = c.parts.invariant in
+    let r = rw c.if-not-branch.true at c.in_ok-some_bytes.ensures.answers in
+    let old = side (g.S.Source.remaining c.args.source.now) (g.S.Source.failed c.args.source.now) c.args.intake.now in
+    let mid = side (g.S.Source.remaining c.parts.source) (g.S.Source.failed c.parts.source) c.parts.intake in
+    let new = side (g.S.Source.remaining c.some_bytes.new.source) (g.S.Source.failed c.some_bytes.new.source) c.some_bytes.new.intake in (
+      kept.passed,
+      omega (arith, kept.size, c.parts-test.true),
+      passes_same old mid new kept.passed kept.passes (record { uses = c.some_bytes.ensures.uses; unfailed = r.2 }),
+      r.0,
+      r.1,
+    )
+
+pub returns-in_err-some_bytes : goal.returns-in_err-some_bytes
+returns-in_err-some_bytes g c =
+    let p = err_from_is_err_and c.from_residual.result c.from_residual.ensures.1 in
+    let kept = c.parts.invariant in
+    let a = c.in_err-some_bytes.ensures.answers in
+    let old = side (g.S.Source.remaining c.args.source.now) (g.S.Source.failed c.args.source.now) c.args.intake.now in
+    let mid = side (g.S.Source.remaining c.parts.source) (g.S.Source.failed c.parts.source) c.parts.intake in
+    let new = side (g.S.Source.remaining c.some_bytes.new.source) (g.S.Source.failed c.some_bytes.new.source) c.some_bytes.new.intake in
+    rw (p.1, p.2) (
+      kept.passed,
+      omega (arith, kept.size, c.parts-test.true),
+      dries_same old mid new kept.passed c.in_err-some_bytes.field-0.0 kept.passes (record { uses = c.some_bytes.ensures.uses; used = a.0; why = a.1 }),
+    )
+
+pub parts-preserved : goal.parts-preserved
+parts-preserved g c =
+    let kept = c.parts.invariant in
+    let r = rw c.if-not-branch.false at c.in_ok-some_bytes.ensures.answers in
+    let old = side (g.S.Source.remaining c.args.source.now) (g.S.Source.failed c.args.source.now) c.args.intake.now in
+    let mid = side (g.S.Source.remaining c.parts.source) (g.S.Source.failed c.parts.source) c.parts.intake in
+    let there = side (g.S.Source.remaining c.some_bytes.new.source) (g.S.Source.failed c.some_bytes.new.source) c.some_bytes.new.intake in
+    let new = side (g.S.Source.remaining c.some_bytes.new.source) (g.S.Source.failed c.some_bytes.new.source) c.use_front.new.self in
+    let n = c.min-n.result in
+    let piece = c.bytes.result.now in
+    let front = uses_front (g.S.Source.remaining c.some_bytes.new.source) c.some_bytes.new.intake c.use_front.new.self piece n c.use_front.ensures.pulls c.bytes.ensures.bytes c.use_front.ensures.bytes in
+    record {
+      passed = kept.passed ++ take n piece;
+      size = omega (arith, kept.size, c.min-n.ensures, length-append kept.passed (take n piece), length-take n piece);
+      passes = passes_then old there new kept.passed (take n piece) (passes_same old mid there kept.passed kept.passes (record { uses = c.some_bytes.ensures.uses; unfailed = r.1 })) (record { uses = front; unfailed = refl });
+    }

@@ -1,0 +1,79 @@
+-- What was made of the bytes behind a nonce. Only private functions cite this. A chunk has n bytes.
+use Rattle.std.specs.Prelude.{◌≡◌, ℕ, ◌+◌, ◌*◌, ◌^◌, ◌≤◌, List, ◌++◌, length, Option, Result, MatchResult, Bool, true}
+use Rattle.std.specs.Simd.{first_chunks}
+use Rattle.std.specs.Io.KnownBytes.{Appends, IsAtEnd}
+use Rattle.age_stream.specs.declared.step.Status.TheVariants.{Failed, Done}
+use Rattle.age_stream.specs.Segment.{Segment, outcome, released}
+use Rattle.age_stream.specs.Headline.{IsPrefixOf}
+use Rattle.age_file.specs.Faults.{HasRisen}
+use Rattle.age_file.specs.Unread.{Unread}
+use Rattle.age_file.specs.Intakes.{Pulled}
+use Rattle.age_file.specs.Releases.{Tally}
+use Rattle.age_file.specs.Bindings.{chain_if}
+use Rattle.age_file.specs.Counts.{HasCounted}
+use Rattle.age_file.specs.declared.position.Positions.{Positions}
+use Rattle.age_file.specs.Decrypts.{segment}
+use Rattle.age_file.specs.declared.fault.FileFault.{FileFault}
+use Rattle.age_file.specs.declared.fault.FileFault.TheVariants.{Stream, Read, Write, ReadNeverEnds}
+
+-- where a run stands: what was written, what is still to come, what was pulled and not used
+pub record Stage : Type 0 where
+  pub tally : Tally
+  pub coming : Option (List ℕ)
+  pub read_failed : ℕ
+  pub unread : Unread
+
+abbrev pub stage : Tally → Option (List ℕ) → ℕ → Unread → Stage
+stage tally coming read_failed unread = record {
+  tally = tally;
+  coming = coming;
+  read_failed = read_failed;
+  unread = unread;
+}
+
+abbrev pub HasPlace : Stage → Type 0
+HasPlace s = (s.tally.progress.written + length s.unread.bytes ≤ 2 ^ 64 + 65536 * s.unread.pulls)
+    × (s.unread.pulls ≤ 2 ^ 63)
+
+abbrev pub NoneFailed : Stage → Stage → Type 0
+NoneFailed old new = (new.tally.failed ≡ old.tally.failed) × (new.read_failed ≡ old.read_failed)
+
+module _ (opening : List ℕ → List ℕ → Option (List ℕ)) (n : ℕ) where
+  -- all of the text was written, and the fault is where the segment stands; unless the sink failed
+  abbrev pub PayloadFails : Stage → Stage → Segment → List ℕ → FileFault → Type 0
+  PayloadFails old new s out (Stream fault) = ((outcome opening n s).status ≡ Failed fault)
+      × (out ≡ released opening n s) × NoneFailed old new
+  PayloadFails old new s out Write = HasRisen old.tally.failed new.tally.failed
+  PayloadFails old new s out Read = (out ≡ released opening n s)
+      × HasRisen old.read_failed new.read_failed
+  PayloadFails old new s out ReadNeverEnds = (out ≡ released opening n s)
+      × (new.unread.pulls ≡ 2 ^ 63)
+      × NoneFailed old new
+  PayloadFails old new s out other = ⊥
+
+  abbrev pub PayloadDone : Stage → Stage → Segment → List ℕ → Type 0
+  PayloadDone old new s out = (s.ended ≡ true) × ((outcome opening n s).status ≡ Done)
+      × (out ≡ released opening n s) × NoneFailed old new
+
+  -- the bytes that were pulled are a segment, and the beginning of its text was written
+  pub record DecryptsPayload (start : ℕ) (old new : Stage) (result : Result (Unit {0}) FileFault)
+      : Type 0 where
+    pub bytes : List ℕ
+    pub ended : Bool
+    pub out : List ℕ
+    pub fresh : List ℕ
+    pub parts : old.unread.bytes ++ fresh ≡ bytes
+    pub pulled : (from : Option (List ℕ)) (all : List ℕ)
+        → Pulled from old.coming old.unread.pulls all
+        → Pulled from new.coming new.unread.pulls (all ++ fresh)
+    pub at_end : ended ≡ true → IsAtEnd new.coming
+    pub wrote : Appends old.tally.taken new.tally.taken out
+    pub named : new.tally.label ≡ old.tally.label
+    pub count : new.tally.progress.written ≡ old.tally.progress.written + length out
+    pub prefix : IsPrefixOf out (released opening n (segment start bytes ended))
+    pub counts : (keep : Positions) (base : List ℕ) → length base ≡ start * n
+        → old.tally.progress.index ≡ start
+        → old.tally.progress.chain ≡ chain_if keep (first_chunks n start base)
+        → HasCounted keep opening n (base ++ out) (segment start bytes ended) new.tally.progress
+    pub answered : MatchResult result (λ _. PayloadDone old new (segment start bytes ended) out)
+        (PayloadFails old new (segment start bytes ended) out)

@@ -1,0 +1,37 @@
+-- What was made of the bytes behind a nonce from a later chunk on. Only private functions cite this.
+use Rattle.std.specs.Prelude.{◌≡◌, ◌⊎◌, ℕ, ◌*◌, List, ◌++◌, length, Option, Result, Err}
+use Rattle.age_file.specs.Intakes.{Pulled}
+use Rattle.age_file.specs.Skips.{Side, side, Passes, SkipFails}
+use Rattle.age_file.specs.Payloads.{Stage, DecryptsPayload}
+use Rattle.age_file.specs.declared.fault.FileFault.{FileFault}
+
+abbrev pub side_of : Stage → Side
+side_of s = side s.coming s.read_failed s.unread
+
+-- what was pulled of a source, all told
+abbrev pub HasPulled : Stage → Type 0
+HasPulled s = (start : Option (List ℕ)) × (used : List ℕ)
+    × Pulled start s.coming s.unread.pulls (used ++ s.unread.bytes)
+
+-- the blocks before were not all passed over, and nothing more was written
+pub record StopsBefore (index : ℕ) (old new : Stage) (result : Result (Unit {0}) FileFault)
+    : Type 0 where
+  pub fault : FileFault
+  pub is : result ≡ Err fault
+  pub fails : SkipFails 65552 index (side_of old) (side_of new) fault
+  pub same : new.tally ≡ old.tally
+
+-- they were, and the bytes behind them were decrypted
+pub record DecryptsBehind (opening : List ℕ → List ℕ → Option (List ℕ)) (index : ℕ)
+    (old new : Stage) (result : Result (Unit {0}) FileFault) : Type 0 where
+  pub mid : Stage
+  pub passed : List ℕ
+  pub size : length passed ≡ index * 65552
+  pub passes : Passes (side_of old) (side_of mid) passed
+  pub same : mid.tally ≡ old.tally
+  pub decrypts : DecryptsPayload opening 65536 index mid new result
+
+abbrev pub ResumesPayload : (List ℕ → List ℕ → Option (List ℕ)) → ℕ → Stage → Stage
+    → Result (Unit {0}) FileFault → Type 0
+ResumesPayload opening index old new result = StopsBefore index old new result
+    ⊎ DecryptsBehind opening index old new result

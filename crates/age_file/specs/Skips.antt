@@ -1,0 +1,61 @@
+-- What of a source was passed over, and what of an old text was copied. Only private functions cite this.
+use Rattle.std.specs.Prelude.{◌≡◌, ℕ, ◌+◌, ◌*◌, ◌<◌, ◌≤◌, List, [], length, Option, Result, Ok, Err, Bool, true, false}
+use Rattle.std.specs.Io.KnownBytes.{IsAtEnd}
+use Rattle.age_stream.specs.declared.fault.StreamKind.TheVariants.{Truncated}
+use Rattle.age_file.specs.Unread.{Unread}
+use Rattle.age_file.specs.Intakes.{PullFails}
+use Rattle.age_file.specs.Starts.{Uses}
+use Rattle.age_file.specs.declared.fault.FileFault.{FileFault}
+use Rattle.age_file.specs.declared.fault.FileFault.TheVariants.{Stream, Read, ReadNeverEnds}
+
+-- a source, how often it failed, and what was pulled and not used
+pub record Side : Type 0 where
+  pub coming : Option (List ℕ)
+  pub failed : ℕ
+  pub unread : Unread
+
+abbrev pub side : Option (List ℕ) → ℕ → Unread → Side
+side coming failed unread = record { coming = coming; failed = failed; unread = unread }
+
+-- these bytes of a source were used, and no pull failed
+pub record Passes (old new : Side) (bytes : List ℕ) : Type 0 where
+  pub uses : Uses old.coming new.coming old.unread new.unread bytes
+  pub unfailed : new.failed ≡ old.failed
+
+-- a pull gave no more, and all that was pulled was used
+pub record Dries (old new : Side) (bytes : List ℕ) (fault : FileFault) : Type 0 where
+  pub uses : Uses old.coming new.coming old.unread new.unread bytes
+  pub used : new.unread.bytes ≡ []
+  pub why : PullFails new.unread.pulls old.failed new.failed fault
+
+-- so many bytes were passed over, or the source ended before, or failed
+abbrev pub SkipsBlock : ℕ → Side → Side → Result Bool FileFault → Type 0
+SkipsBlock n old new (Ok true) = (bytes : List ℕ) × (length bytes ≡ n) × Passes old new bytes
+SkipsBlock n old new (Ok false) = (bytes : List ℕ) × (length bytes < n) × Passes old new bytes
+    × (new.unread.bytes ≡ []) × IsAtEnd new.coming
+SkipsBlock n old new (Err fault) = (bytes : List ℕ) × (length bytes < n)
+    × Dries old new bytes fault
+
+-- the source ended after j whole blocks of n bytes
+pub record EndsAfter (n j : ℕ) (old new : Side) : Type 0 where
+  pub bytes : List ℕ
+  pub least : j * n ≤ length bytes
+  pub most : length bytes < j * n + n
+  pub passes : Passes old new bytes
+  pub used : new.unread.bytes ≡ []
+  pub at_end : IsAtEnd new.coming
+
+abbrev pub SkipFails : ℕ → ℕ → Side → Side → FileFault → Type 0
+SkipFails n blocks old new (Stream fault) = (fault.kind ≡ Truncated) × (fault.chunk < blocks)
+    × EndsAfter n fault.chunk old new
+SkipFails n blocks old new Read = (bytes : List ℕ) × (length bytes < blocks * n)
+    × Dries old new bytes Read
+SkipFails n blocks old new ReadNeverEnds = (bytes : List ℕ) × (length bytes < blocks * n)
+    × Dries old new bytes ReadNeverEnds
+SkipFails n blocks old new other = ⊥
+
+-- so many blocks of n bytes were passed over
+abbrev pub SkipsBlocks : ℕ → ℕ → Side → Side → Result (Unit {0}) FileFault → Type 0
+SkipsBlocks n blocks old new (Ok done) = (bytes : List ℕ) × (length bytes ≡ blocks * n)
+    × Passes old new bytes
+SkipsBlocks n blocks old new (Err fault) = SkipFails n blocks old new fault

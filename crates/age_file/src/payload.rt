@@ -1,0 +1,164 @@
+//! Opens what a source gives, and writes each chunk once its tag was checked.
+
+ghost use Rattle.std.specs.Prelude.{◌≡◌, ◌+◌, ◌-◌, ◌^◌, ◌<◌, ◌≤◌, length, IfOk, OnOk};
+ghost use Rattle.age_file.specs.Releases.{tally, FeedsOnce, FeedsPiece, Closes};
+ghost use Rattle.age_file.specs.Flows.{flow, HasRoom, Turns, OpensAll};
+ghost use Rattle.age_file.specs.Payloads.{stage, HasPlace, DecryptsPayload};
+
+use crate::fault::FileFault;
+use crate::intake::Intake;
+use crate::progress::Progress;
+use crate::put::{flush_all, write_all};
+use crate::sink::Sink;
+use crate::source::Source;
+use age_stream::{ChunkBox, Opener};
+
+/// Feeds the front of a piece, and writes the chunk that comes out.
+fn feed_once<B: ChunkBox, const SEALED: usize, O: Sink>(
+    opener: &mut Opener<'_, B, SEALED>,
+    piece: &[u8],
+    sink: &mut O,
+    progress: &mut Progress,
+) -> Result<usize, FileFault>
+    requires small { length opener.old.held + progress.old.written + length piece.now < 2 ^ 128 }
+    ensures fed { FeedsOnce B.opening (SEALED - 16) opener.old opener.new
+        (tally (O.taken sink.old) (O.failed sink.old) (O.label sink.old) progress.old)
+        (tally (O.taken sink.new) (O.failed sink.new) (O.label sink.new) progress.new) piece.now
+        result }
+    ensures some { IfOk result (λ n. 0 < length piece.now → 0 < n) }
+{
+    let step = opener.feed(piece)?;
+    let taken = step.taken;
+    let Some(chunk) = step.chunk else {
+        return Ok(taken);
+    };
+    write_all(sink, chunk, &mut progress.written)?;
+    let chain = progress.chain_over(chunk);
+    progress.advance(opener.index(), chain);
+    Ok(taken)
+}
+
+/// Feeds a whole piece, and writes the chunks that come out.
+fn feed_piece<B: ChunkBox, const SEALED: usize, O: Sink>(
+    opener: &mut Opener<'_, B, SEALED>,
+    piece: &[u8],
+    sink: &mut O,
+    progress: &mut Progress,
+) -> Result<(), FileFault>
+    requires small { length opener.old.held + progress.old.written + length piece.now < 2 ^ 128 }
+    ensures fed { FeedsPiece B.opening (SEALED - 16) opener.old opener.new
+        (tally (O.taken sink.old) (O.failed sink.old) (O.label sink.old) progress.old)
+        (tally (O.taken sink.new) (O.failed sink.new) (O.label sink.new) progress.new) piece.now
+        result }
+{
+    let mut at = 0;
+    while at < piece.len() {
+        at += feed_once(opener, &piece[at..], sink, progress)?;
+    }
+    Ok(())
+}
+
+/// Feeds what was pulled, and pulls again. False: the source is at its end.
+fn turn<B: ChunkBox, const SEALED: usize, S: Source, O: Sink>(
+    opener: &mut Opener<'_, B, SEALED>,
+    source: &mut S,
+    intake: &mut Intake,
+    sink: &mut O,
+    progress: &mut Progress,
+) -> Result<bool, FileFault>
+    requires { HasRoom (flow opener.old (tally (O.taken sink.old) (O.failed sink.old)
+        (O.label sink.old) progress.old)
+        (S.remaining source.old) (S.failed source.old) intake.old) }
+    ensures { Turns B.opening (SEALED - 16)
+        (flow opener.old (tally (O.taken sink.old) (O.failed sink.old) (O.label sink.old)
+        progress.old)
+        (S.remaining source.old) (S.failed source.old) intake.old)
+        (flow opener.new (tally (O.taken sink.new) (O.failed sink.new) (O.label sink.new)
+        progress.new)
+        (S.remaining source.new) (S.failed source.new) intake.new) result }
+{
+    feed_piece(opener, intake.bytes(), sink, progress)?;
+    intake.use_all();
+    intake.refill(source)
+}
+
+/// Opens what a source gives, up to its end.
+fn open_all<B: ChunkBox, const SEALED: usize, S: Source, O: Sink>(
+    opener: &mut Opener<'_, B, SEALED>,
+    source: &mut S,
+    intake: &mut Intake,
+    sink: &mut O,
+    progress: &mut Progress,
+) -> Result<(), FileFault>
+    requires { HasRoom (flow opener.old (tally (O.taken sink.old) (O.failed sink.old)
+        (O.label sink.old) progress.old)
+        (S.remaining source.old) (S.failed source.old) intake.old) }
+    ensures { OpensAll B.opening (SEALED - 16)
+        (flow opener.old (tally (O.taken sink.old) (O.failed sink.old) (O.label sink.old)
+        progress.old)
+        (S.remaining source.old) (S.failed source.old) intake.old)
+        (flow opener.new (tally (O.taken sink.new) (O.failed sink.new) (O.label sink.new)
+        progress.new)
+        (S.remaining source.new) (S.failed source.new) intake.new) result }
+{
+    'turns: while turn(opener, source, intake, sink, progress)? {}
+    Ok(())
+}
+
+/// Ends the opener, and writes the chunk that comes out.
+fn close<B: ChunkBox, const SEALED: usize, O: Sink>(
+    opener: &mut Opener<'_, B, SEALED>,
+    sink: &mut O,
+    progress: &mut Progress,
+) -> Result<(), FileFault>
+    requires { length opener.old.held + progress.old.written < 2 ^ 128 }
+    ensures { Closes B.opening (SEALED - 16) opener.old opener.new
+        (tally (O.taken sink.old) (O.failed sink.old) (O.label sink.old) progress.old)
+        (tally (O.taken sink.new) (O.failed sink.new) (O.label sink.new) progress.new) result }
+{
+    let text = opener.end()?;
+    write_all(sink, text, &mut progress.written)
+}
+
+/// The same, and then flushes.
+fn finish<B: ChunkBox, const SEALED: usize, O: Sink>(
+    opener: &mut Opener<'_, B, SEALED>,
+    sink: &mut O,
+    progress: &mut Progress,
+) -> Result<(), FileFault>
+    requires { length opener.old.held + progress.old.written < 2 ^ 128 }
+    ensures closes { Closes B.opening (SEALED - 16) opener.old opener.new
+        (tally (O.taken sink.old) (O.failed sink.old) (O.label sink.old) progress.old)
+        (tally (O.taken sink.new) (O.failed sink.new) (O.label sink.new) progress.new) result }
+    ensures settled { OnOk result (O.settled sink.new) }
+{
+    close(opener, sink, progress)?;
+    flush_all(sink)
+}
+
+/// Opens what a source gives from a chunk on, up to its end, and writes each chunk once its tag was checked.
+pub(crate) fn decrypt_payload<B: ChunkBox, const SEALED: usize, S: Source, O: Sink>(
+    key: &B,
+    index: u64,
+    source: &mut S,
+    intake: &mut Intake,
+    sink: &mut O,
+    progress: &mut Progress,
+) -> Result<(), FileFault>
+    requires least { 17 ≤ SEALED }
+    requires most { SEALED ≤ 65552 }
+    requires limit { index < 281474976710656 }
+    requires room { HasPlace (stage (tally (O.taken sink.old) (O.failed sink.old) (O.label sink.old)
+        progress.old)
+        (S.remaining source.old) (S.failed source.old) intake.old) }
+    ensures decrypts { DecryptsPayload (B.opening key.now) (SEALED - 16) index
+        (stage (tally (O.taken sink.old) (O.failed sink.old) (O.label sink.old) progress.old)
+        (S.remaining source.old) (S.failed source.old) intake.old)
+        (stage (tally (O.taken sink.new) (O.failed sink.new) (O.label sink.new) progress.new)
+        (S.remaining source.new) (S.failed source.new) intake.new) result }
+    ensures settled { OnOk result (O.settled sink.new) }
+{
+    let mut opener = Opener::<B, SEALED>::at(key, index);
+    open_all(&mut opener, source, intake, sink, progress)?;
+    finish(&mut opener, sink, progress)
+}

@@ -1,0 +1,7 @@
+use Rattle.std.proofs.Common.{◌≡◌, ap, sym, ◌∙◌, Some}
+use Rattle.age_stream.proofs.laws.sealings_differ.Goals as goal
+
+pub returns : goal.returns
+returns c = λ sealing opening lawful nonce text other len same.
+    let e : Some text ≡ Some other = sym (lawful.opens nonce text len) ∙ (ap (opening nonce) same ∙ lawful.opens nonce other len) in
+    cc
