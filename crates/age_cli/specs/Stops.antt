@@ -1,9 +1,7 @@
 -- What stands in the files where a command stopped.
 use Rattle.std.specs.Prelude.{◌≡◌, ◌⊎◌, ℕ, true, List, [], is_some, Option, Some, None, codes}
-use Rattle.clap.specs.Words.{Row, Text, first_of, one_of}
+use Rattle.clap.specs.Words.{Row, Text, first_of}
 use Rattle.age_file.specs.Ports.{Ports, ports}
-use Rattle.age_file.specs.Secrets.{SecretView, IsWithinLimits}
-use Rattle.age_file.specs.Encrypts.{EncryptFails}
 use Rattle.age_file.specs.Decrypts.{DecryptFails}
 use Rattle.age_file.specs.Resumes.{ResumePorts}
 use Rattle.age_file.specs.ResumeFaults.{ResumeFails}
@@ -13,12 +11,10 @@ use Rattle.age_file.specs.declared.position.Positions.{Positions}
 use Rattle.age_file.specs.declared.position.Positions.TheVariants.{Kept, Dropped}
 use Rattle.age_file.specs.declared.fault.FileFault.{FileFault}
 use Rattle.age_file.specs.declared.fault.FileFault.TheVariants.{Write, Memory, BadPosition}
-use Rattle.age_cli.specs.Encryptions.{IsRandomIn, random_name}
 use Rattle.age_cli.specs.Endings.{EndsEarly, status_of}
 use Rattle.age_cli.specs.FaultLines.{TellsEnding}
 use Rattle.age_cli.specs.Held.{Held}
-use Rattle.age_cli.specs.Openers.{Opener, Options, options_of, allows_by, refuses_by, OpensBy, IsPassphraseIn}
-use Rattle.age_cli.specs.Requests.{number_or}
+use Rattle.age_cli.specs.Openers.{Opener, Options, options_of, allows_by, refuses_by, OpensBy}
 use Rattle.age_cli.specs.Resumptions.{IsPositionIn}
 use Rattle.age_cli.specs.declared.ending.Ending.{Ending}
 use Rattle.age_cli.specs.declared.ending.Ending.TheVariants.{Fault, Unsaved}
@@ -68,17 +64,6 @@ pub record PortsOf {In Out : Type 0} (remaining : In → Option (List ℕ)) (rea
 
 -- what an engine promises where it stops, of the bytes that the names stood for, whose ports are those of files of the set
 module _ (IsPorts : Ports → Type 0) where
-  pub record EncryptionStop (s : SecretView) (input : Option (List ℕ)) (fault : FileFault)
-      (taken : Option (List ℕ)) : Type 0 where
-    pub before : Ports
-    pub after : Ports
-    pub before_is : IsPorts before
-    pub after_is : IsPorts after
-    pub coming : input ≡ before.coming
-    pub empty : before.taken ≡ Some []
-    pub fails : EncryptFails s before after fault
-    pub took : taken ≡ after.taken
-
   pub record DecryptionStop (keep : Positions) (opener : Opener) (input : Option (List ℕ))
       (position : Option Position) (fault : FileFault) (written : ℕ) (taken : Option (List ℕ))
       : Type 0 where
@@ -114,23 +99,6 @@ module _ (IsPorts : Ports → Type 0) where
         position fault
     pub took : taken ≡ after.main.taken
 
-  -- `encrypt` stopped with its output created, of what stands under these names; where memory was refused, the output is as
-  -- it was
-  pub record EncryptsStop (pass : Text) (log : ℕ) (random : Option Text) (from to : Text)
-      (old new : Held) (e : Ending) : Type 0 where
-    pub secret : SecretView
-    pub passphrase : IsPassphraseIn (old pass) secret.pass
-    pub log_is : secret.log ≡ log
-    pub within : IsWithinLimits secret.pass secret.log
-    pub random_is : IsRandomIn (old (random_name random)) secret
-    pub there : is_some (old from) ≡ true
-    pub fault : FileFault
-    pub taken : Option (List ℕ)
-    pub output : (EncryptionStop secret (old from) fault taken
-        × ((new to ≡ taken) ⊎ (new to ≡ old to)) × (fault ≡ Memory → new to ≡ old to))
-        ⊎ ((new to ≡ old to) × (fault ≡ Write))
-    pub ends : e ≡ Fault fault
-
   -- `decrypt` stopped with its output created
   pub record DecryptsStop (options : Options) (from to : Text) (save : Option Text)
       (old new : Held) (e : Ending) : Type 0 where
@@ -160,16 +128,6 @@ module _ (IsPorts : Ports → Type 0) where
     pub ends : EndsOf fault save position old new e
 
   -- nothing differs, where a command ends before its output is written; or it stopped there. Of what the arguments give
-  pub record EncryptsStopRows (rows : List Row) (old new : Held) (e : Ending) : Type 0 where
-    pub pass : Text
-    pub from : Text
-    pub to : Text
-    pub pass_is : first_of (codes "pass") rows ≡ Some pass
-    pub from_is : first_of (codes "IN") rows ≡ Some from
-    pub to_is : first_of (codes "OUT") rows ≡ Some to
-    pub stops : EncryptsStop pass (number_or 18 (one_of (codes "log") rows))
-        (first_of (codes "random") rows) from to old new e
-
   pub record DecryptsStopRows (rows : List Row) (old new : Held) (e : Ending) : Type 0 where
     pub from : Text
     pub to : Text
@@ -188,9 +146,6 @@ module _ (IsPorts : Ports → Type 0) where
     pub to_is : first_of (codes "OUT") rows ≡ Some to
     pub stops : ResumesStop (options_of rows) position_name old_name from to
         (first_of (codes "save") rows) old new e
-
-  abbrev pub FailsToEncrypt : List Row → Held → Held → Ending → Type 0
-  FailsToEncrypt rows old new e = ((new ≡ old) × EndsEarly e) ⊎ EncryptsStopRows rows old new e
 
   abbrev pub FailsToDecrypt : List Row → Held → Held → Ending → Type 0
   FailsToDecrypt rows old new e = ((new ≡ old) × EndsEarly e) ⊎ DecryptsStopRows rows old new e
