@@ -4,7 +4,7 @@ use Rattle.std.proofs.lemmas.List.FromFn.{fill_by_all}
 use Rattle.rand_core.specs.Steps.{u32_at}
 use Rattle.rand_chacha.specs.ChaCha.{ChaCha, word_at, key_of, next_word}
 use Rattle.age_cipher.specs.Keystream.{stream_number, block_place, keystream_byte, ciphertext}
-use Rattle.age_cipher.specs.Places.{word_byte, IsXored}
+use Rattle.age_cipher.specs.inner.Places.{word_byte, IsXored}
 
 -- the generator k words on, and its word there
 unfoldable pub generator_on : ChaCha → ℕ → ChaCha

@@ -5,7 +5,7 @@ use Rattle.std.proofs.Math.Nat.{pow-zero}
 use Rattle.std.proofs.lemmas.List.{get_or-take, take_all}
 use Rattle.std.proofs.lemmas.Simd.{put_chunk_whole, length-zip2, get_or-zip2, get_or_narrower, chunk-fits, below_from_Fits}
 use lib.Lanes.{zip2, put_chunk, digits_l, number_l, Each1}
-use Rattle.age_cipher.specs.Places.{word_byte, IsXored}
+use Rattle.age_cipher.specs.inner.Places.{word_byte, IsXored}
 
 byte_at-is : (i n : ℕ) → byte_at i n ≡ n / 256 ^ i % 256
 byte_at-is zero n = rw (pow-zero 256) (omega arith)

@@ -4,7 +4,7 @@ use Rattle.std.proofs.lemmas.Bool.{cases_lt}
 use Rattle.std.proofs.lemmas.List.{get_or_append_left, get_or-append_right, get_or-take, get_or-drop}
 use Rattle.std.specs.Int.{byte_at}
 use borrow.Rule.Slice.PartMut.{put_mid, post_of}
-use Rattle.age_cipher.specs.Places.{word_byte, IsXored}
+use Rattle.age_cipher.specs.inner.Places.{word_byte, IsXored}
 
 -- the places below i are changed, and the others are as they were
 pub record IsXoredBelow (stream : ℕ → ℕ) (i : ℕ) (old text : List ℕ) : Type 0 where

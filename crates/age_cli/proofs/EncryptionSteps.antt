@@ -2,7 +2,7 @@
 use Rattle.std.proofs.Common.{◌≡◌, ◌∙◌, ◌++◌, ap, sym, List, ℕ, length, Option, Some, append_assoc}
 use Rattle.age_file.specs.Secrets.{SecretView}
 use Rattle.age_cli.specs.Encryptions.{IsRandomIn}
-use Rattle.age_cli.specs.Randoms.{IsRandom}
+use Rattle.age_cli.specs.inner.Randoms.{IsRandom}
 use Rattle.age_cli.specs.declared.encryption.Random.{Random}
 
 pub random_in : (held : Option (List ℕ)) (bytes rest : List ℕ) (r : Random) (s : SecretView) → held ≡ Some (bytes ++ rest) → IsRandom bytes r

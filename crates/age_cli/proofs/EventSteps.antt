@@ -2,8 +2,8 @@
 use Rattle.std.proofs.Common.{◌≡◌, ◌∙◌, ◌++◌, ◌∷◌, [], refl, ap, ap₂, sym, List, Option, Some, Result, Ok, Err, IfErr, append_assoc}
 use Rattle.clap.specs.Words.{Text}
 use Rattle.age_cli.specs.Events.{Event, Follows, Created, Closed, making, replacing, opener_order}
-use Rattle.age_cli.specs.OpenerSteps.{IsChosen, chosen_order}
-use Rattle.age_cli.specs.Requests.{text_of}
+use Rattle.age_cli.specs.inner.OpenerSteps.{IsChosen, chosen_order}
+use Rattle.age_cli.specs.inner.Requests.{text_of}
 use Rattle.age_cli.specs.declared.request.Unlocking.{Unlocking}
 use Rattle.age_cli.specs.declared.opener.Chosen.{Chosen}
 use Rattle.age_cli.specs.declared.opener.Chosen.TheVariants as chosen

@@ -2,9 +2,9 @@
 use Rattle.std.proofs.Common.{◌∙◌, sym, subst, ℕ}
 use Rattle.age_keys.specs.Keys.{SpellsKey}
 use Rattle.age_cli.specs.Held.{Held}
-use Rattle.age_cli.specs.Requests.{text_of}
+use Rattle.age_cli.specs.inner.Requests.{text_of}
 use Rattle.age_cli.specs.Openers.{Opener, ByWords, ByKey, ByShared, IsOpener, IsSharedIn}
-use Rattle.age_cli.specs.OpenerSteps.{IsChosen, IsMaterial, IsMade}
+use Rattle.age_cli.specs.inner.OpenerSteps.{IsChosen, IsMaterial, IsMade}
 use Rattle.age_cli.specs.declared.request.Unlocking.{Unlocking}
 use Rattle.age_cli.specs.declared.opener.Chosen.{Chosen}
 use Rattle.age_cli.specs.declared.opener.Chosen.TheVariants as chosen

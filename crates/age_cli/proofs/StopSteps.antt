@@ -16,13 +16,13 @@ use Rattle.age_file.specs.declared.position.Positions.{Positions}
 use Rattle.age_file.specs.declared.fault.FileFault.{FileFault}
 use Rattle.age_file.specs.declared.fault.FileFault.TheVariants as fault
 use Rattle.age_cli.specs.Asked.{Asks}
-use Rattle.age_cli.specs.Requests.{IsDecrypting, IsResuming, Requests, text_of}
+use Rattle.age_cli.specs.inner.Requests.{IsDecrypting, IsResuming, Requests, text_of}
 use Rattle.age_cli.specs.declared.request.Request.TheVariants.{Decrypt, Resume}
 use Rattle.age_cli.specs.declared.request.Decrypting.{Decrypting}
 use Rattle.age_cli.specs.declared.request.Resuming.{Resuming}
 use Rattle.age_cli.specs.Held.{Held}
 use Rattle.age_cli.specs.Openers.{Options}
-use Rattle.age_cli.specs.OpenerSteps.{options_asked}
+use Rattle.age_cli.specs.inner.OpenerSteps.{options_asked}
 use Rattle.age_cli.specs.Endings.{EndsEarly}
 use Rattle.age_cli.specs.Stops.{EndsOf, DecryptsStop, ResumesStop, FailsToDecrypt, FailsToResume}
 use Rattle.age_cli.specs.declared.ending.Ending.{Ending}

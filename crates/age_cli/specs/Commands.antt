@@ -1,9 +1,7 @@
 -- The commands of the program, as its parser of command lines sees them.
-use Rattle.std.specs.Prelude.{◌≡◌, Bool, pos, true, false, Some, codes}
-use Rattle.clap.specs.Words.{App, Rule, Text, app_of, new_app, new_rule, with_rule, with_subcommand}
+use Rattle.std.specs.Prelude.{pos, true, Some, codes}
+use Rattle.clap.specs.Words.{App, Rule, Text, new_app, new_rule, with_rule, with_subcommand}
 use Rattle.clap.specs.Simple.{on_top}
-use Rattle.clap.specs.declared.builder.command.Command.TheViews.{out-Command}
-use Rattle.clap.specs.declared.builder.command.Command.{Command}
 use Rattle.clap.specs.declared.builder.ArgAction.TheVariants.{SetTrue}
 use Rattle.clap.specs.declared.builder.value_parser.ValueParser.TheVariants as vp
 
@@ -21,14 +19,6 @@ number_rule id = record (option_rule id) { parser = Some (vp.Signed (pos 1) (pos
 -- `--ID`
 abbrev pub flag_rule : Text → Rule
 flag_rule id = record (new_rule id) { long = Some id; action = Some SetTrue }
-
--- some option of the command reaches its subcommands
-abbrev pub has_globals : Command → Bool
-has_globals c = (out-Command c).has_globals
-
--- a command with no option that reaches its subcommands
-abbrev pub HasApp : App → Command → Type 0
-HasApp a c = (app_of c ≡ a) × (has_globals c ≡ false)
 
 -- `[--pass FILE] [--file-key HEX] [--shared FILE] [--max-log N] [--save FILE] [--no-sync]`
 abbrev pub with_unlocking : App → App

@@ -3,7 +3,6 @@ use Rattle.std.specs.Prelude.{◌≡◌, ◌⊎◌, ℕ, Bool, true, false, if�
 use Rattle.age_cli.specs.declared.ending.Ending.{Ending}
 use Rattle.age_cli.specs.declared.ending.Ending.TheVariants.{Words, Usage, Fault, Unsaved}
 use Rattle.age_cli.specs.declared.ending.Usage.TheVariants as usage
-use Rattle.age_cli.specs.declared.files.CreateFault.{CreateFault}
 use Rattle.age_file.specs.declared.fault.FileFault.TheVariants.{Read, Write, Memory}
 use Rattle.age_cli.specs.declared.files.CreateFault.TheVariants as create
 
@@ -17,11 +16,6 @@ is_usage (Unsaved fault second) = false
 -- the status of the program: 1 on a fault, 2 for a bad command line
 abbrev pub status_of : Ending → ℕ
 status_of e = if is_usage e then 2 else 1
-
--- how a command ends whose output can't be created
-abbrev pub ending_of : CreateFault → Ending
-ending_of create.SameFile = Usage usage.SameFile
-ending_of (create.Fault fault) = Fault fault
 
 -- how a command ends before its output is written: its arguments are refused, a file can't be read or created, or memory is
 -- refused

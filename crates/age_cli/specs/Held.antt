@@ -1,8 +1,6 @@
 -- The bytes under each name, and what a command changes.
-use Rattle.std.specs.Prelude.{◌≡◌, ℕ, List, Option, Some, None, codes}
+use Rattle.std.specs.Prelude.{◌≡◌, ℕ, List, Option, Some, codes}
 use Rattle.clap.specs.Words.{Row, Text, first_of}
-use Rattle.age_file.specs.declared.position.Position.{Position}
-use Rattle.age_file.specs.PositionTexts.{position_text}
 
 abbrev pub Held : Type 0
 Held = Text → Option (List ℕ)
@@ -19,9 +17,3 @@ SparesBoth to save old new = (q : Text) → (to ≡ Some q → ⊥) → (save �
 abbrev pub Spares : List Row → Held → Held → Type 0
 Spares rows old new =
     SparesBoth (first_of (codes "OUT") rows) (first_of (codes "save") rows) old new
-
--- the position stands in the file of this name, where both are there, and nothing differs where one isn't
-abbrev pub Saves : Option Text → Option Position → Held → Held → Type 0
-Saves (Some name) (Some position) old new = new name ≡ Some (position_text position)
-Saves None position old new = new ≡ old
-Saves (Some name) None old new = new ≡ old

@@ -1,7 +1,6 @@
 pub mod Entries
 pub mod Events
 pub mod Orders
-pub mod Asking
 pub mod FileSet
 pub mod Commands
 pub mod Asked
@@ -11,12 +10,10 @@ pub mod FaultLines
 pub mod ReportTexts
 pub mod Runs
 pub mod Held
-pub mod Fronts
 pub mod Openers
-pub mod OpenerSteps
 pub mod Encryptions
 pub mod Decryptions
 pub mod Stops
 pub mod Headline
 pub mod Resumptions
-pub mod Randoms
+pub mod inner

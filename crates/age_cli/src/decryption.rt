@@ -3,11 +3,11 @@
 ghost use Rattle.age_cli.specs.Stops.{DecryptionStop, DecryptsStop, OutStops, PortsOf, kept_for};
 ghost use Rattle.std.specs.Prelude.{◌≡◌, ◌⊎◌, [], ◌∷◌, ◌++◌, true, false, Some, None, IfErr, OnOk};
 ghost use Rattle.age_cli.specs.Events.{Follows, Closed};
-ghost use Rattle.age_cli.specs.Asking.{order_asked};
+ghost use Rattle.age_cli.specs.inner.Asking.{order_asked};
 ghost use Rattle.age_cli.specs.declared.request.Request.TheVariants.{Decrypt};
 ghost use Rattle.clap.specs.Words.{Text};
-ghost use Rattle.age_cli.specs.Requests.{text_of};
-ghost use Rattle.age_cli.specs.OpenerSteps.{opener_of, options_asked};
+ghost use Rattle.age_cli.specs.inner.Requests.{text_of};
+ghost use Rattle.age_cli.specs.inner.OpenerSteps.{opener_of, options_asked};
 ghost use Rattle.age_cli.specs.Decryptions.{DecryptsOut, DecryptsFile};
 ghost use Rattle.age_cli.specs.Endings.{EndsEarly, is_usage};
 ghost use Rattle.age_cli.specs.Held.{SparesBut, SparesBoth};

@@ -1,12 +1,12 @@
 //! The command that encrypts a file.
 
 ghost use Rattle.std.specs.Prelude.{◌≡◌, [], ◌∷◌, ◌++◌, ℕ, List, Some, true, IfOk, IfErr, IfSome, OnOk};
-ghost use Rattle.age_cli.specs.Requests.{text_of};
+ghost use Rattle.age_cli.specs.inner.Requests.{text_of};
 ghost use Rattle.age_cli.specs.Events.{Follows, Opened, Closed};
-ghost use Rattle.age_cli.specs.Asking.{order_asked};
+ghost use Rattle.age_cli.specs.inner.Asking.{order_asked};
 ghost use Rattle.age_cli.specs.declared.request.Request.TheVariants.{Encrypt};
 ghost use Rattle.age_cli.specs.Encryptions.{random_name, EncryptsOut, EncryptsFile};
-ghost use Rattle.age_cli.specs.Randoms.{IsRandom};
+ghost use Rattle.age_cli.specs.inner.Randoms.{IsRandom};
 ghost use Rattle.age_cli.specs.Endings.{is_usage};
 ghost use Rattle.age_cli.specs.Held.{SparesBut};
 ghost use Rattle.age_file.specs.declared.fault.FileFault.TheVariants.{Memory};

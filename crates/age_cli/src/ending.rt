@@ -1,7 +1,7 @@
 //! Why a run did not do what it was asked.
 
 ghost use Rattle.std.specs.Prelude.{◌≡◌};
-ghost use Rattle.age_cli.specs.Endings.{ending_of};
+ghost use Rattle.age_cli.specs.inner.Endings.{ending_of};
 ghost use Rattle.age_cli.specs.declared.ending.Ending.TheVariants.{Fault, Usage as UsageEnding};
 
 use crate::files::CreateFault;

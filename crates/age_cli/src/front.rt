@@ -4,7 +4,7 @@ ghost use Rattle.std.specs.Prelude.{◌≡◌, ◌^◌, ◌<◌, ◌≤◌, take
 ghost use Rattle.age_cli.specs.FileSet.{IsMemoryOr};
 ghost use Rattle.age_file.specs.declared.fault.FileFault.TheVariants.{Read};
 ghost use Rattle.std.specs.Io.KnownBytes.{Consumes, IsAtEnd};
-ghost use Rattle.age_cli.specs.Fronts.{IsFront};
+ghost use Rattle.age_cli.specs.inner.Fronts.{IsFront};
 
 use age_file::{FileFault, Source};
 use std::alloc::Global;

@@ -3,7 +3,8 @@
 ghost use Rattle.std.specs.Prelude.{◌≡◌, [], ◌∷◌, ◌++◌, List};
 ghost use Rattle.std.specs.Borrow.{ftrue};
 ghost use Rattle.std.specs.Coded.{coded_list};
-ghost use Rattle.age_cli.specs.Events.{Event, Opened, Created, Replaced, Closed, coded_event};
+ghost use Rattle.age_cli.specs.Events.{Event, Opened, Created, Replaced, Closed};
+ghost use Rattle.age_cli.specs.inner.Events.{coded_event};
 
 use std::marker::Model;
 

@@ -4,7 +4,7 @@ ghost use Rattle.std.specs.Prelude.{◌≡◌, [], ◌∷◌, ◌++◌, true, If
 ghost use Rattle.age_cli.specs.Endings.{EndsEarly};
 ghost use Rattle.age_cli.specs.Openers.{without_line_feed, IsSharedIn};
 ghost use Rattle.age_cli.specs.Events.{Opened};
-ghost use Rattle.age_cli.specs.OpenerSteps.{IsChosen, IsMaterial, IsMade, chosen_order, opener_of};
+ghost use Rattle.age_cli.specs.inner.OpenerSteps.{IsChosen, IsMaterial, IsMade, chosen_order, opener_of};
 
 use crate::ending::{Ending, Usage};
 use crate::files::FileSet;
@@ -148,7 +148,7 @@ pub(crate) enum Unlocker<'a> {
 
 impl<'a> Unlock for Unlocker<'a> {
     ghost use Rattle.age_cli.specs.Openers.{allows_by, refuses_by};
-    ghost use Rattle.age_cli.specs.OpenerSteps.{opener_of};
+    ghost use Rattle.age_cli.specs.inner.OpenerSteps.{opener_of};
 
     ghost allows = { λ u. allows_by (opener_of u) };
 

@@ -4,7 +4,8 @@ ghost use Rattle.std.specs.Prelude.{◌≡◌, ◌≤◌, [], true, false, Some,
 ghost use Rattle.clap.specs.Words.{subcommand_rows_of, rows_of, found_of, one_of, first_of, FailsBy};
 ghost use Rattle.clap.specs.Walk.{texts};
 ghost use Rattle.age_cli.specs.Asked.{refusals};
-ghost use Rattle.age_cli.specs.Requests.{number_or, text_of, IsDurability, IsEncrypting, IsUnlocking, IsDecrypting, IsResuming, IsDrilling, IsRequest, Requests};
+ghost use Rattle.age_cli.specs.Requests.{number_or};
+ghost use Rattle.age_cli.specs.inner.Requests.{text_of, IsDurability, IsEncrypting, IsUnlocking, IsDecrypting, IsResuming, IsDrilling, IsRequest, Requests};
 
 use crate::commands::matches_of;
 use crate::files::Durability;

@@ -2,14 +2,14 @@
 
 ghost use Rattle.std.specs.Prelude.{◌≡◌, ◌⊎◌, [], ◌∷◌, ◌++◌, true, Some, IfOk, IfErr, OnOk};
 ghost use Rattle.age_cli.specs.Events.{Follows, Opened, Closed};
-ghost use Rattle.age_cli.specs.Asking.{order_asked};
+ghost use Rattle.age_cli.specs.inner.Asking.{order_asked};
 ghost use Rattle.age_cli.specs.FileSet.{IsMemoryOr};
 ghost use Rattle.age_cli.specs.Stops.{ResumptionStop, ResumesStop, OutStops, PortsOf};
 ghost use Rattle.age_cli.specs.declared.request.Request.TheVariants.{Resume};
 ghost use Rattle.age_cli.specs.declared.ending.Ending.TheVariants.{Fault};
 ghost use Rattle.age_file.specs.declared.fault.FileFault.TheVariants.{Read, BadPosition};
-ghost use Rattle.age_cli.specs.Requests.{text_of};
-ghost use Rattle.age_cli.specs.OpenerSteps.{opener_of, options_asked};
+ghost use Rattle.age_cli.specs.inner.Requests.{text_of};
+ghost use Rattle.age_cli.specs.inner.OpenerSteps.{opener_of, options_asked};
 ghost use Rattle.age_cli.specs.Resumptions.{IsPositionIn, ResumesOut, ResumesFile};
 ghost use Rattle.age_cli.specs.Endings.{EndsEarly, is_usage};
 ghost use Rattle.age_cli.specs.Held.{SparesBut, SparesBoth};

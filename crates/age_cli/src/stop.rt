@@ -1,11 +1,12 @@
 //! How a command that writes a text stops, and where its position goes.
 
 ghost use Rattle.std.specs.Prelude.{◌≡◌, true, false, None, OnOk, OnErr};
-ghost use Rattle.age_cli.specs.Requests.{text_of};
+ghost use Rattle.age_cli.specs.inner.Requests.{text_of};
 ghost use Rattle.age_cli.specs.Endings.{is_usage};
 ghost use Rattle.age_cli.specs.Stops.{SaveFails, EndsOf};
 ghost use Rattle.age_cli.specs.Events.{Follows, replacing};
-ghost use Rattle.age_cli.specs.Held.{SparesBoth, Saves};
+ghost use Rattle.age_cli.specs.Held.{SparesBoth};
+ghost use Rattle.age_cli.specs.inner.Held.{Saves};
 
 use crate::ending::Ending;
 use crate::files::{Durability, FileSet};

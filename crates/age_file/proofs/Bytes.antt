@@ -10,11 +10,12 @@ use Rattle.age_stanza.specs.declared.fault.HeadKind.TheVariants.{NotAge, Armored
 use Rattle.age_stanza.specs.Faults.{HasHeader, IsFault, memory_fault}
 use Rattle.age_stanza.proofs.AnyPieces.{more_fault}
 use Rattle.age_stream.specs.Headline.{IsPrefixOf}
-use Rattle.age_file.specs.Faults.{HasRisen, IsCut, IsHeadFault, IsSourcesFault, TellsFault, HeadFails, IsInHeader, fault_of, fault_by_kind}
+use Rattle.age_file.specs.Faults.{HasRisen, IsCut, IsHeadFault, IsSourcesFault, TellsFault, HeadFails}
+use Rattle.age_file.specs.inner.Faults.{IsInHeader, fault_of, fault_by_kind}
 use Rattle.age_file.specs.declared.fault.FileFault.{FileFault}
 use Rattle.age_file.specs.declared.fault.FileFault.TheVariants.{Memory as FileMemory}
-use Rattle.age_file.specs.Intakes.{Pulled}
-use Rattle.age_file.specs.Unread.{Unread}
+use Rattle.age_file.specs.inner.Intakes.{Pulled}
+use Rattle.age_file.specs.inner.Unread.{Unread}
 
 pub Consumes-then : (a b c : Option (List ℕ)) (x y : List ℕ) → Consumes a b x → Consumes b c y → Consumes a c (x ++ y)
 Consumes-then None b c x y p q = tt

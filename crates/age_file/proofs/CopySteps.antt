@@ -8,9 +8,9 @@ use Rattle.age_stream.proofs.Chunks.{first_chunks-append, first_chunks_more}
 use Rattle.age_stream.specs.Headline.{IsPrefixOf}
 use Rattle.age_file.specs.Faults.{HasRisen}
 use Rattle.age_file.specs.Bindings.{link, chain}
-use Rattle.age_file.specs.Releases.{Tally}
-use Rattle.age_file.specs.Skips.{Side, Passes, Dries}
-use Rattle.age_file.specs.Copies.{CopyFails, CopiesChunk, CopiesAll}
+use Rattle.age_file.specs.inner.Releases.{Tally}
+use Rattle.age_file.specs.inner.Skips.{Side, Passes, Dries}
+use Rattle.age_file.specs.inner.Copies.{CopyFails, CopiesChunk, CopiesAll}
 use Rattle.age_file.specs.declared.fault.FileFault.{FileFault}
 use Rattle.age_file.specs.declared.fault.FileFault.TheVariants.{ShortText, Read, Write, ReadNeverEnds}
 use Rattle.age_file.proofs.Bytes.{Appends-then}

@@ -20,10 +20,11 @@ use Rattle.age_stream.proofs.Fresh.{fresh_outcome}
 use Rattle.age_stream.proofs.ReplaySteps.{with_bytes-nil}
 use Rattle.age_stream.proofs.Growing.{index_stays, index_stop}
 use Rattle.age_stream.proofs.Counting.{is_counted}
-use Rattle.age_file.specs.Bindings.{link, chain, link_if, chain_if}
+use Rattle.age_file.specs.Bindings.{link, chain}
+use Rattle.age_file.specs.inner.Bindings.{link_if, chain_if}
 use Rattle.age_file.specs.declared.position.Positions.{Positions}
 use Rattle.age_file.specs.declared.position.Positions.TheVariants.{Kept, Dropped}
-use Rattle.age_file.specs.Counts.{Advances, CountsChunks, HasCounted}
+use Rattle.age_file.specs.inner.Counts.{Advances, CountsChunks, HasCounted}
 use Rattle.age_file.specs.declared.progress.Progress.{Progress}
 
 -- a quotient that is met from below, or is the lesser of the two

@@ -9,18 +9,21 @@ use Rattle.age_stream.proofs.Segments.{released_segment}
 use Rattle.age_keys.specs.declared.fault.KeyFault.{KeyFault}
 use Rattle.age_cipher.specs.Opening.{opening}
 use Rattle.age_keys.specs.Keys.{payload_key, position_key}
-use Rattle.age_keys.specs.PayloadBox.{box_lawful}
+use Rattle.age_keys.specs.inner.PayloadBox.{box_lawful}
 use Rattle.age_file.specs.Faults.{HasRisen}
-use Rattle.age_file.specs.Intakes.{Pulled}
+use Rattle.age_file.specs.inner.Intakes.{Pulled}
 use Rattle.age_file.specs.AgeFile.{box, unbox}
-use Rattle.age_file.specs.Payloads.{Stage, DecryptsPayload, PayloadFails, PayloadDone}
-use Rattle.age_file.specs.Starts.{StartsAt, StartFails}
-use Rattle.age_file.specs.Decrypts.{Run, segment_of, text_of, IsRun, IsPositionOf, IsPositionAt, PositionAt, Told, IsAuthenticRun, WritesOf, WritesAll, DecryptFails, DecryptDone}
+use Rattle.age_file.specs.inner.Payloads.{Stage, DecryptsPayload, PayloadFails, PayloadDone}
+use Rattle.age_file.specs.Starts.{StartFails}
+use Rattle.age_file.specs.inner.Starts.{StartsAt}
+use Rattle.age_file.specs.Decrypts.{Run, segment_of, text_of, IsRun, IsPositionOf, Told, IsAuthenticRun, WritesOf, WritesAll, DecryptFails, DecryptDone}
+use Rattle.age_file.specs.inner.Decrypts.{IsPositionAt, PositionAt}
 use Rattle.age_file.specs.Ports.{Ports}
-use Rattle.age_file.specs.Bindings.{file_id, chain, chain_if, position_tag}
+use Rattle.age_file.specs.Bindings.{file_id, chain, position_tag}
+use Rattle.age_file.specs.inner.Bindings.{chain_if}
 use Rattle.age_file.specs.declared.position.Positions.{Positions}
 use Rattle.age_file.specs.declared.position.Positions.TheVariants.{Kept, Dropped}
-use Rattle.age_file.specs.Counts.{HasCounted}
+use Rattle.age_file.specs.inner.Counts.{HasCounted}
 use Rattle.age_file.specs.declared.position.Position.{Position}
 use Rattle.std.proofs.lemmas.List.{length-append}
 use Rattle.std.proofs.Math.Nat.{le-div_iff_mul-le}

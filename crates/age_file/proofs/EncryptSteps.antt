@@ -7,10 +7,11 @@ use Rattle.age_stream.specs.Payload.{payload}
 use Rattle.age_keys.specs.Keys.{header_mac, IsMacOf}
 use Rattle.age_keys.specs.Scrypt.{scrypt_head}
 use Rattle.age_file.specs.AgeFile.{box}
-use Rattle.age_file.specs.Encrypts.{AgeFile, BeginsFile, Encrypts, EncryptsFront, EncryptFails, WhyStopped}
+use Rattle.age_file.specs.Encrypts.{AgeFile, Encrypts, EncryptsFront, EncryptFails, WhyStopped}
+use Rattle.age_file.specs.inner.Encrypts.{BeginsFile}
 use Rattle.age_file.specs.Faults.{HasRisen}
 use Rattle.age_file.specs.Ports.{Ports}
-use Rattle.age_file.specs.Seals.{SealingFails, SealsAll, SealsFront}
+use Rattle.age_file.specs.inner.Seals.{SealingFails, SealsAll, SealsFront}
 use Rattle.age_file.specs.Secrets.{SecretView}
 use Rattle.age_file.specs.declared.fault.FileFault.{FileFault}
 use Rattle.age_file.specs.declared.fault.FileFault.TheVariants.{Head, Key, NonceCut, Stream, BadPosition, OtherFile, ShortText, Read, Write, Memory, ReadNeverEnds, PositionForged, OldTextDiffers}

@@ -3,10 +3,10 @@ use Rattle.std.proofs.Common.{◌≡◌, ℕ, ◌+◌, ◌≤◌, List, [], ◌+
 use Rattle.std.specs.Prelude.{Result, MatchResult, Ok, Err}
 use Rattle.age_stream.specs.Deliveries.{with_piece}
 use Rattle.age_file.specs.Faults.{HasRisen}
-use Rattle.age_file.specs.Unread.{Unread}
-use Rattle.age_file.specs.Intakes.{Pulled, Refills, Refilled, PullFails}
-use Rattle.age_file.specs.Releases.{Releases, FeedsPiece, FeedFails}
-use Rattle.age_file.specs.Flows.{Flow, HasRoom, SameFailures, FlowFails, TurnGoes, Flows, Turns, OpensAll}
+use Rattle.age_file.specs.inner.Unread.{Unread}
+use Rattle.age_file.specs.inner.Intakes.{Pulled, Refills, Refilled, PullFails}
+use Rattle.age_file.specs.inner.Releases.{Releases, FeedsPiece, FeedFails}
+use Rattle.age_file.specs.inner.Flows.{Flow, HasRoom, SameFailures, FlowFails, TurnGoes, Flows, Turns, OpensAll}
 use Rattle.age_file.specs.declared.fault.FileFault.{FileFault}
 use Rattle.age_file.specs.declared.fault.FileFault.TheVariants.{Stream, Read, Write, ReadNeverEnds}
 use Rattle.age_file.proofs.ReleaseSteps.{releases_none, releases_then}

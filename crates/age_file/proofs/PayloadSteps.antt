@@ -10,17 +10,17 @@ use Rattle.age_stream.specs.Headline.{IsPrefixOf}
 use Rattle.age_stream.proofs.Fresh.{fresh_outcome}
 use Rattle.age_stream.proofs.Growing.{released_grows}
 use Rattle.age_file.specs.Faults.{HasRisen}
-use Rattle.age_file.specs.Releases.{Tally, Releases, Closes, FeedFails}
-use Rattle.age_file.specs.Flows.{Flow, SameFailures, FlowFails, OpensAll}
+use Rattle.age_file.specs.inner.Releases.{Tally, Releases, Closes, FeedFails}
+use Rattle.age_file.specs.inner.Flows.{Flow, SameFailures, FlowFails, OpensAll}
 use Rattle.age_file.specs.Decrypts.{segment}
-use Rattle.age_file.specs.Payloads.{Stage, DecryptsPayload, PayloadFails, PayloadDone}
+use Rattle.age_file.specs.inner.Payloads.{Stage, DecryptsPayload, PayloadFails, PayloadDone}
 use Rattle.age_file.specs.declared.fault.FileFault.{FileFault}
 use Rattle.age_file.specs.declared.fault.FileFault.TheVariants.{Stream, Read, Write, ReadNeverEnds}
 use Rattle.age_stream.specs.Lawful.{IsLawful}
 use Rattle.std.specs.Simd.{first_chunks}
-use Rattle.age_file.specs.Bindings.{chain_if}
+use Rattle.age_file.specs.inner.Bindings.{chain_if}
 use Rattle.age_file.specs.declared.position.Positions.{Positions}
-use Rattle.age_file.specs.Counts.{CountsChunks, HasCounted}
+use Rattle.age_file.specs.inner.Counts.{CountsChunks, HasCounted}
 use Rattle.age_file.proofs.CountSteps.{no_piece, mark_fresh, marked}
 use Rattle.age_file.proofs.ReleaseSteps.{releases_next}
 

@@ -19,7 +19,8 @@ use Rattle.age_stanza.proofs.Texts.{length-text, IsBytes-drop}
 use Rattle.age_keys.proofs.Base64Lemmas.{text_of_decoded, decoded_size, never_decodes}
 use Rattle.age_file.specs.declared.position.Position.{Position}
 use Rattle.age_file.specs.Bindings.{position_front}
-use Rattle.age_file.specs.PositionTexts.{position_text, IsDigest, index_text, field_text, fields_text}
+use Rattle.age_file.specs.PositionTexts.{position_text, IsDigest}
+use Rattle.age_file.specs.inner.PositionTexts.{index_text, field_text, fields_text}
 
 -- a list that is cut where its second part begins
 front_is : (a b x : List ℕ) (n : ℕ) → length a ≡ n → x ≡ a ++ b → take n x ≡ a

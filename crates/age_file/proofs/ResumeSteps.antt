@@ -15,25 +15,29 @@ use Rattle.age_stream.proofs.Segments.{released_segment}
 use Rattle.age_keys.specs.declared.fault.KeyFault.{KeyFault}
 use Rattle.age_cipher.specs.Opening.{opening}
 use Rattle.age_keys.specs.Keys.{payload_key, position_key}
-use Rattle.age_keys.specs.PayloadBox.{box_lawful}
+use Rattle.age_keys.specs.inner.PayloadBox.{box_lawful}
 use Rattle.age_file.specs.AgeFile.{box, unbox}
-use Rattle.age_file.specs.Bindings.{file_id, chain, chain_if, position_tag}
+use Rattle.age_file.specs.Bindings.{file_id, chain, position_tag}
+use Rattle.age_file.specs.inner.Bindings.{chain_if}
 use Rattle.age_file.specs.declared.position.Positions.TheVariants.{Kept, Dropped}
-use Rattle.age_file.specs.Copies.{CopiesText}
+use Rattle.age_file.specs.inner.Copies.{CopiesText}
 use Rattle.age_file.specs.Faults.{HasRisen}
-use Rattle.age_file.specs.ResumesPayload.{side_of, ResumesPayload, DecryptsBehind}
-use Rattle.age_file.specs.Intakes.{Pulled}
-use Rattle.age_file.specs.Decrypts.{IsPositionAt, PositionAt, Told}
-use Rattle.age_file.specs.Counts.{HasCounted}
-use Rattle.age_file.specs.Skips.{Side, Passes, Dries, SkipFails}
-use Rattle.age_file.specs.Payloads.{Stage, DecryptsPayload, PayloadFails, PayloadDone}
-use Rattle.age_file.specs.Releases.{Tally}
+use Rattle.age_file.specs.inner.ResumesPayload.{side_of, ResumesPayload, DecryptsBehind}
+use Rattle.age_file.specs.inner.Intakes.{Pulled}
+use Rattle.age_file.specs.Decrypts.{Told}
+use Rattle.age_file.specs.inner.Decrypts.{IsPositionAt, PositionAt}
+use Rattle.age_file.specs.inner.Counts.{HasCounted}
+use Rattle.age_file.specs.inner.Skips.{Side, Passes, Dries, SkipFails}
+use Rattle.age_file.specs.inner.Payloads.{Stage, DecryptsPayload, PayloadFails, PayloadDone}
+use Rattle.age_file.specs.inner.Releases.{Tally}
 use Rattle.age_file.specs.Resumes.{ResumePorts, Reads, WritesOld, Resumption, segment_at, fresh_text, IsResumption, IsAuthenticResumption, ResumesOf, ResumesAll, IsNextPosition, IsSame, Accepts, ResumeDone}
-use Rattle.age_file.specs.Verdicts.{OpenedFile, PositionRefused}
+use Rattle.age_file.specs.Verdicts.{OpenedFile}
+use Rattle.age_file.specs.inner.Verdicts.{PositionRefused}
 use Rattle.age_file.specs.OldTexts.{BeginsWith, IsOldText}
 use Rattle.age_file.specs.ResumeFaults.{StopsInOld, StopsInPassed, ResumeFails}
-use Rattle.age_file.specs.Starts.{StartsAt, StartFails}
-use Rattle.age_file.specs.Unread.{Unread}
+use Rattle.age_file.specs.Starts.{StartFails}
+use Rattle.age_file.specs.inner.Starts.{StartsAt}
+use Rattle.age_file.specs.inner.Unread.{Unread}
 use Rattle.age_file.specs.declared.fault.FileFault.{FileFault}
 use Rattle.age_file.specs.declared.fault.FileFault.TheVariants.{Stream, OtherFile, ShortText, Read, Write, ReadNeverEnds, PositionForged, OldTextDiffers}
 use Rattle.age_file.specs.declared.position.Position.{Position}

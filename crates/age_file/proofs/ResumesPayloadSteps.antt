@@ -1,10 +1,10 @@
 -- From what was passed over to what was decrypted behind it.
 use Rattle.std.proofs.Common.{◌≡◌, ℕ, ◌^◌, ◌≤◌, ◌++◌, List, arith}
 use Rattle.std.proofs.lemmas.List.{length-append}
-use Rattle.age_file.specs.Intakes.{Pulled}
-use Rattle.age_file.specs.Payloads.{Stage, HasPlace}
-use Rattle.age_file.specs.Skips.{Passes}
-use Rattle.age_file.specs.ResumesPayload.{HasPulled, side_of}
+use Rattle.age_file.specs.inner.Intakes.{Pulled}
+use Rattle.age_file.specs.inner.Payloads.{Stage, HasPlace}
+use Rattle.age_file.specs.inner.Skips.{Passes}
+use Rattle.age_file.specs.inner.ResumesPayload.{HasPulled, side_of}
 
 -- there is room behind the blocks that were passed over
 pub place_behind : (old mid : Stage) (passed : List ℕ) → old.tally.progress.written ≤ 2 ^ 64 → mid.tally.progress.written ≡ old.tally.progress.written → HasPulled old → Passes (side_of old) (side_of mid) passed → HasPlace mid

@@ -19,7 +19,7 @@ use Rattle.age_stream.proofs.Nonces.{nonce_bytes-length}
 use Rattle.age_stream.proofs.Sealings.{last_index_le}
 use Rattle.age_stream.proofs.Undamaged.{all_full}
 use Rattle.age_file.specs.Faults.{HasRisen}
-use Rattle.age_file.specs.Seals.{front_of, IsTooLong, SealsSome, GoesOn, SealFails, HasRoom, Tally, Wrote}
+use Rattle.age_file.specs.inner.Seals.{front_of, IsTooLong, SealsSome, GoesOn, SealFails, HasRoom, Tally, Wrote}
 use Rattle.age_file.specs.declared.fault.FileFault.{FileFault}
 use Rattle.age_file.specs.declared.fault.FileFault.TheVariants.{Head, Key, NonceCut, Stream, BadPosition, OtherFile, ShortText, Read, Write, Memory, ReadNeverEnds, PositionForged, OldTextDiffers}
 use Rattle.age_file.proofs.Bytes.{Appends-then}

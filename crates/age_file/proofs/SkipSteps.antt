@@ -2,9 +2,9 @@
 use Rattle.std.proofs.Common.{Ok, Err, false, suc, ◌≤◌, ◌≡◌, ℕ, ◌*◌, ◌<◌, List, [], ◌++◌, length, subst, ◌∙◌, arith, append-nil, refl}
 use Rattle.std.proofs.lemmas.List.{length-append}
 use Rattle.std.proofs.Math.Nat.{mul-le-mul_right}
-use Rattle.age_file.specs.Intakes.{PullFails}
+use Rattle.age_file.specs.inner.Intakes.{PullFails}
 use Rattle.age_file.specs.Faults.{HasRisen}
-use Rattle.age_file.specs.Skips.{Side, Passes, Dries, SkipsBlock, SkipFails, EndsAfter}
+use Rattle.age_file.specs.inner.Skips.{Side, Passes, Dries, SkipsBlock, SkipFails, EndsAfter}
 use Rattle.age_file.specs.declared.fault.FileFault.{FileFault}
 use Rattle.age_file.specs.declared.fault.FileFault.TheVariants.{Stream, Read, ReadNeverEnds}
 use Rattle.age_file.proofs.StartSteps.{uses_then}

@@ -10,9 +10,9 @@ use Rattle.age_stream.specs.Payload.{pair, block_bytes, payload, sealed_before_l
 use Rattle.age_stream.specs.Sealing.{SealerView, Holds}
 use Rattle.age_stream.proofs.Sealings.{payload_begins}
 use Rattle.age_file.specs.Faults.{HasRisen}
-use Rattle.age_file.specs.Intakes.{PullFails}
+use Rattle.age_file.specs.inner.Intakes.{PullFails}
 use Rattle.age_file.specs.Ports.{Ports}
-use Rattle.age_file.specs.Seals.{front_of, SealsSome, GoesOn, SealFails, SealingFails, Tally, Wrote}
+use Rattle.age_file.specs.inner.Seals.{front_of, SealsSome, GoesOn, SealFails, SealingFails, Tally, Wrote}
 use Rattle.age_file.specs.declared.fault.FileFault.{FileFault}
 use Rattle.age_file.specs.declared.fault.FileFault.TheVariants.{Head, Key, NonceCut, Stream, BadPosition, OtherFile, ShortText, Read, Write, Memory, ReadNeverEnds, PositionForged, OldTextDiffers}
 use Rattle.age_file.proofs.Bytes.{Appends-then, prefix_trans}

@@ -9,10 +9,12 @@ use Rattle.age_stanza.specs.Laws.{OneHeader}
 use Rattle.age_keys.specs.declared.fault.KeyFault.{KeyFault}
 use Rattle.age_keys.specs.declared.fault.KeyFault.TheVariants.{ScryptNotAlone, BadScrypt, WorkTooHigh, NoMatch, WrongKey, MacMismatch, BadX25519, Memory as KeyMemory}
 use Rattle.age_keys.specs.Opened.{Opens, Refuses}
-use Rattle.age_file.specs.Unread.{Unread}
-use Rattle.age_file.specs.Intakes.{Pulled, PullFails}
-use Rattle.age_file.specs.Faults.{HasRisen, HeadFails, IsInHeader, IsShort, fault_of_key}
-use Rattle.age_file.specs.Starts.{Uses, UsesShort, NonceFails, StartFails}
+use Rattle.age_file.specs.inner.Unread.{Unread}
+use Rattle.age_file.specs.inner.Intakes.{Pulled, PullFails}
+use Rattle.age_file.specs.Faults.{HasRisen, HeadFails, IsShort}
+use Rattle.age_file.specs.inner.Faults.{IsInHeader, fault_of_key}
+use Rattle.age_file.specs.Starts.{StartFails}
+use Rattle.age_file.specs.inner.Starts.{Uses, UsesShort, NonceFails}
 use Rattle.age_file.specs.declared.fault.FileFault.{FileFault}
 use Rattle.age_file.specs.declared.fault.FileFault.TheVariants.{Head, NonceCut, Read, Memory, ReadNeverEnds}
 use Rattle.age_file.proofs.Bytes.{cut_pulled, head_pulled}

@@ -12,7 +12,7 @@ use Rattle.age_stream.specs.declared.fault.StreamKind.TheVariants.{Truncated}
 use Rattle.age_stream.specs.declared.step.Status.TheVariants.{Open, Failed, Done}
 use Rattle.age_stream.specs.Payload.{payload, chunk_count}
 use Rattle.age_stream.specs.Segment.{outcome}
-use Rattle.age_stream.specs.SegmentSteps.{status_after, status_ended}
+use Rattle.age_stream.specs.inner.SegmentSteps.{status_after, status_ended}
 use Rattle.age_stream.specs.Headline.{IsAuthentic}
 use Rattle.age_stream.specs.Authentic.{IsClosed}
 use Rattle.age_stream.proofs.Going.{after_piece, after_end}
@@ -20,7 +20,7 @@ use Rattle.age_stream.proofs.Undamaged.{rest_payload, rest_is_done, rest_authent
 use Rattle.age_keys.specs.declared.fault.KeyFault.{KeyFault}
 use Rattle.age_keys.specs.declared.fault.KeyFault.TheVariants.{Memory as KeyMemory}
 use Rattle.age_keys.specs.Keys.{IsMacOf, payload_key}
-use Rattle.age_keys.specs.PayloadBox.{box_lawful}
+use Rattle.age_keys.specs.inner.PayloadBox.{box_lawful}
 use Rattle.age_keys.specs.Opened.{Refuses}
 use Rattle.age_file.specs.AgeFile.{box, unbox}
 use Rattle.age_file.specs.Ports.{Ports}

@@ -1,11 +1,9 @@
 -- What binds a position to its file and to the text before it. Not of the age format.
-use Rattle.std.specs.Prelude.{ℕ, List, ◌++◌, Option, Some, None, codes, replicate, fold}
+use Rattle.std.specs.Prelude.{ℕ, List, ◌++◌, codes, replicate, fold}
 use Rattle.std.specs.Fmt.{decimal}
 use Rattle.sha2.specs.Sha256.{sha256}
 use Rattle.age_stanza.specs.Text.{text}
 use Rattle.age_kdf.specs.Hmac.{hmac}
-use Rattle.age_file.specs.declared.position.Positions.{Positions}
-use Rattle.age_file.specs.declared.position.Positions.TheVariants.{Kept, Dropped}
 
 -- the chain over chunks, one link a chunk: each is the digest of the link before it and the chunk
 abbrev pub link : List ℕ → List ℕ → List ℕ
@@ -13,16 +11,6 @@ link so_far chunk = sha256 (so_far ++ chunk)
 
 unfoldable pub chain : List (List ℕ) → List ℕ
 chain chunks = fold link (replicate 32 0) chunks
-
--- the chain where positions are kept, and none where they are dropped
-abbrev pub chain_if : Positions → List (List ℕ) → Option (List ℕ)
-chain_if Kept chunks = Some (chain chunks)
-chain_if Dropped chunks = None
-
--- one more link, where there is a chain
-abbrev pub link_if : Option (List ℕ) → List ℕ → Option (List ℕ)
-link_if (Some so_far) chunk = Some (link so_far chunk)
-link_if None chunk = None
 
 -- what tells a file from others: the digest of its header's bytes and its payload nonce
 unfoldable pub file_id : List ℕ → List ℕ → List ℕ

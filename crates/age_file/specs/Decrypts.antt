@@ -19,7 +19,6 @@ use Rattle.age_file.specs.Bindings.{file_id, chain, position_tag}
 use Rattle.age_file.specs.declared.position.Position.{Position}
 use Rattle.age_file.specs.declared.position.Positions.{Positions}
 use Rattle.age_file.specs.declared.position.Positions.TheVariants.{Kept, Dropped}
-use Rattle.age_file.specs.declared.start.Unlocked.{Unlocked}
 use Rattle.age_file.specs.Ports.{Ports, NoneFailed}
 use Rattle.age_file.specs.Starts.{StartFails}
 use Rattle.age_file.specs.declared.decryption.Done.{Done}
@@ -87,20 +86,6 @@ pub record IsPositionOf (r : Run) (p : Position) : Type 0 where
   pub chain_is : p.chain ≡ chain (first_chunks 65536 p.index r.out)
   pub tag_is : p.tag ≡ position_tag (position_key r.key r.nonce) p.index p.file_id p.chain
   pub carries : CarriesOf r p
-
--- where it is told: the position of this index and chain, in the file that was unlocked
-pub record IsPositionAt (unlocked : Unlocked) (index : ℕ) (links : List ℕ) (p : Position)
-    : Type 0 where
-  pub index_is : p.index ≡ index
-  pub file_id_is : p.file_id ≡ unlocked.id
-  pub chain_is : p.chain ≡ links
-  pub tag_is : p.tag ≡ position_tag (position_key unlocked.key unlocked.nonce) p.index p.file_id
-      p.chain
-
-abbrev pub PositionAt : Unlocked → ℕ → Option (List ℕ) → Option Position → Type 0
-PositionAt unlocked index (Some links) position =
-    IsSomeAnd position (IsPositionAt unlocked index links)
-PositionAt unlocked index None position = position ≡ None
 
 -- a position is told where positions are kept, and none where they are dropped
 abbrev pub Told : Positions → (Position → Type 0) → Option Position → Type 0

@@ -1,7 +1,6 @@
 -- What an encryption did.
-use Rattle.std.specs.Prelude.{◌≡◌, ℕ, ◌-◌, ◌^◌, ◌<◌, ◌≤◌, List, ◌++◌, length}
+use Rattle.std.specs.Prelude.{◌≡◌, ℕ, ◌-◌, ◌^◌, ◌<◌, ◌≤◌, List, length}
 use Rattle.std.specs.Io.KnownBytes.{Consumes, Appends, IsAtEnd}
-use Rattle.age_stanza.specs.Grammar.{HeadText}
 use Rattle.age_stream.specs.Headline.{IsPrefixOf}
 use Rattle.age_stream.specs.Nonce.{chunk_limit}
 use Rattle.age_stream.specs.Payload.{chunk_count}
@@ -18,13 +17,6 @@ use Rattle.age_file.specs.declared.fault.FileFault.TheVariants.{Stream, Read, Wr
 -- the bytes are the age file of the text for the passphrase: its header has one scrypt stanza
 abbrev pub AgeFile : SecretView → List ℕ → List ℕ → Type 0
 AgeFile s text bytes = FileOf (scrypt_head s.pass s.log s.salt s.key) s.key s.nonce text bytes
-
--- what stands before the payload: the header's text and the payload nonce
-pub record BeginsFile (s : SecretView) (bytes : List ℕ) : Type 0 where
-  pub front : List ℕ
-  pub head : HeadText (scrypt_head s.pass s.log s.salt s.key) front
-  pub parts : bytes ≡ front ++ s.nonce
-  pub size : length s.nonce ≡ 16
 
 -- the age file of all that the source gave, of no more than 2^48 chunks, was written, and both are
 -- counted

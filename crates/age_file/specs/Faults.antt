@@ -82,19 +82,6 @@ place_of (Head fault) = head.place_of fault
 place_of (Stream fault) = Some fault.chunk
 place_of other = None
 
--- a header's fault; want of memory is one case, whichever layer it came from
-abbrev pub fault_by_kind : HeadKind → HeadFault → FileFault
-fault_by_kind HeadMemory fault = Memory
-fault_by_kind kind fault = Head fault
-
-abbrev pub fault_of : HeadFault → FileFault
-fault_of fault = fault_by_kind fault.kind fault
-
--- an unlocker's fault as a file's, in the same way
-abbrev pub fault_of_key : KeyFault → FileFault
-fault_of_key KeyMemory = Memory
-fault_of_key fault = Key fault
-
 -- a count of failures rose, or is at its greatest value
 abbrev pub HasRisen : ℕ → ℕ → Type 0
 HasRisen old new = (old < new) ⊎ (new ≡ 2 ^ 64 - 1)
@@ -124,10 +111,6 @@ pub record TellsFault (old new : Option (List ℕ)) (fault : HeadFault) : Type 0
 -- a source gave so much that it is taken for one that never ends
 abbrev pub NeverEnds : Option (List ℕ) → Option (List ℕ) → Type 0
 NeverEnds old new = (bytes : List ℕ) × Consumes old new bytes × (2 ^ 63 ≤ length bytes)
-
--- the bytes that came hold no header
-abbrev pub IsInHeader : Option (List ℕ) → Option (List ℕ) → Type 0
-IsInHeader old new = (bytes : List ℕ) × Consumes old new bytes × (HasHeader bytes → ⊥)
 
 -- fewer bytes came than those of a header and a payload nonce
 abbrev pub IsShort : Option (List ℕ) → Option (List ℕ) → Type 0

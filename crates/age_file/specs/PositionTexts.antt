@@ -1,6 +1,5 @@
 -- The text of a position. Not of the age format.
 use Rattle.std.specs.Prelude.{◌≡◌, ◌≢◌, ℕ, List, ◌++◌, length, codes}
-use Rattle.std.specs.Fmt.{decimal}
 use Rattle.base64.specs.GeneralPurpose.{IsBytes}
 use Rattle.age_stanza.specs.Text.{text}
 use Rattle.age_file.specs.declared.position.Position.{Position}
@@ -19,15 +18,3 @@ pub record IsDigest (bytes : List ℕ) : Type 0 where
 abbrev pub NoPosition : List ℕ → Type 0
 NoPosition words = (p : Position) → IsDigest p.file_id → IsDigest p.chain → IsDigest p.tag
     → words ≢ position_text p
-
--- how a text begins that has this index
-abbrev pub index_text : ℕ → List ℕ
-index_text index = codes "age-position/v2 " ++ decimal index
-
--- a space, and the text of some bytes
-abbrev pub field_text : List ℕ → List ℕ
-field_text bytes = codes " " ++ text bytes
-
--- what follows the index
-abbrev pub fields_text : List ℕ → List ℕ → List ℕ → List ℕ
-fields_text id links tag = field_text id ++ (field_text links ++ (field_text tag ++ codes "\n"))

@@ -2,10 +2,10 @@
 
 ghost use Rattle.std.specs.Prelude.{◌≡◌, ◌+◌, ◌^◌, ◌<◌, ◌≤◌, [], IsSome};
 ghost use Rattle.age_file.specs.declared.position.Positions.TheVariants.{Kept};
-ghost use Rattle.age_file.specs.Bindings.{chain_if};
-ghost use Rattle.age_file.specs.Releases.{tally};
-ghost use Rattle.age_file.specs.Skips.{side};
-ghost use Rattle.age_file.specs.Copies.{CopiesChunk, CopiesAll};
+ghost use Rattle.age_file.specs.inner.Bindings.{chain_if};
+ghost use Rattle.age_file.specs.inner.Releases.{tally};
+ghost use Rattle.age_file.specs.inner.Skips.{side};
+ghost use Rattle.age_file.specs.inner.Copies.{CopiesChunk, CopiesAll};
 
 use crate::fault::FileFault;
 use crate::intake::Intake;

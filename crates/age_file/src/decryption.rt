@@ -3,7 +3,8 @@
 ghost use Rattle.std.specs.Prelude.{◌≡◌, ℕ, List, None, IfOk, OnOk, IfErr, MatchResult};
 ghost use Rattle.age_file.specs.Ports.{ports};
 ghost use Rattle.age_file.specs.declared.position.Positions.TheVariants.{Kept};
-ghost use Rattle.age_file.specs.Decrypts.{PositionAt, DecryptEnds, DecryptStops, IsUndamaged, WritesText, StopsOutside};
+ghost use Rattle.age_file.specs.Decrypts.{DecryptEnds, DecryptStops, IsUndamaged, WritesText, StopsOutside};
+ghost use Rattle.age_file.specs.inner.Decrypts.{PositionAt};
 
 use crate::fault::FileFault;
 use crate::intake::Intake;

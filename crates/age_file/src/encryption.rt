@@ -1,7 +1,8 @@
 //! Encrypts a file under a passphrase.
 
 ghost use Rattle.std.specs.Prelude.{◌≡◌, IfOk, OnOk, IfErr};
-ghost use Rattle.age_file.specs.Encrypts.{BeginsFile, Encrypts, EncryptFails};
+ghost use Rattle.age_file.specs.Encrypts.{Encrypts, EncryptFails};
+ghost use Rattle.age_file.specs.inner.Encrypts.{BeginsFile};
 ghost use Rattle.age_file.specs.Ports.{ports};
 ghost use Rattle.age_file.specs.declared.fault.FileFault.TheVariants.{Memory};
 

@@ -2,7 +2,8 @@
 
 ghost use Rattle.std.specs.Prelude.{◌≡◌};
 ghost use Rattle.age_file.specs.declared.fault.FileFault.TheVariants.{Stream, Memory as MemoryFault};
-ghost use Rattle.age_file.specs.Faults.{number_of, place_of, name_of, head_name_of, key_name_of, stream_name_of, fault_of, fault_of_key};
+ghost use Rattle.age_file.specs.Faults.{number_of, place_of, name_of, head_name_of, key_name_of, stream_name_of};
+ghost use Rattle.age_file.specs.inner.Faults.{fault_of, fault_of_key};
 
 use crate::failed::Memory;
 use age_keys::KeyFault;

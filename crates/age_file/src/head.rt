@@ -2,8 +2,9 @@
 
 ghost use Rattle.std.specs.Prelude.{◌≡◌, ◌≢◌, [], IfOk, IfErr, OnOk};
 ghost use Rattle.age_file.specs.declared.fault.FileFault.TheVariants.{Memory};
-ghost use Rattle.age_file.specs.Faults.{HeadFails, IsInHeader};
-ghost use Rattle.age_file.specs.Intakes.{ReadsHead};
+ghost use Rattle.age_file.specs.Faults.{HeadFails};
+ghost use Rattle.age_file.specs.inner.Faults.{IsInHeader};
+ghost use Rattle.age_file.specs.inner.Intakes.{ReadsHead};
 
 use crate::fault::FileFault;
 use crate::intake::Intake;

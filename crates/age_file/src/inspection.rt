@@ -3,7 +3,7 @@
 ghost use Rattle.std.specs.Prelude.{◌≡◌, ◌+◌, ◌^◌, ◌<◌, ◌≤◌, ◌*◌, IfOk, IfErr, OnOk, map};
 ghost use Rattle.std.specs.Io.KnownBytes.{IsAtEnd};
 ghost use Rattle.age_file.specs.Faults.{HeadFails};
-ghost use Rattle.age_file.specs.Intakes.{CountsRest, RestFails};
+ghost use Rattle.age_file.specs.inner.Intakes.{CountsRest, RestFails};
 ghost use Rattle.age_file.specs.Reports.{stanza_report, IsPlainOf, Inspects};
 
 use crate::fault::FileFault;

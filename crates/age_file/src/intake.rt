@@ -1,8 +1,8 @@
 //! The bytes that were pulled from a source and not used yet.
 
 ghost use Rattle.std.specs.Prelude.{◌≡◌, ◌≤◌, ◌^◌, [], length, drop, IfOk, take};
-ghost use Rattle.age_file.specs.Intakes.{Refills};
-ghost use Rattle.age_file.specs.Unread.{Unread};
+ghost use Rattle.age_file.specs.inner.Intakes.{Refills};
+ghost use Rattle.age_file.specs.inner.Unread.{Unread};
 
 use crate::fault::FileFault;
 use crate::source::Source;

@@ -2,7 +2,8 @@
 
 ghost use Rattle.std.specs.Prelude.{◌≡◌, ◌<◌, ◌≤◌, [], Some, true, false, length, IfOk, OnOk, MatchResult, vec_capacity};
 ghost use Rattle.std.specs.Io.KnownBytes.{WriteAppends, Keeps};
-ghost use Rattle.age_file.specs.Memory.{one_more, Puts, Flushes, Holding};
+ghost use Rattle.age_file.specs.Memory.{one_more, Holding};
+ghost use Rattle.age_file.specs.inner.Memory.{Puts, Flushes};
 
 use crate::failed::{Failed, Memory};
 use crate::sink::Sink;

@@ -1,9 +1,9 @@
 //! Opens what a source gives, and writes each chunk once its tag was checked.
 
 ghost use Rattle.std.specs.Prelude.{◌≡◌, ◌+◌, ◌-◌, ◌^◌, ◌<◌, ◌≤◌, length, IfOk, OnOk};
-ghost use Rattle.age_file.specs.Releases.{tally, FeedsOnce, FeedsPiece, Closes};
-ghost use Rattle.age_file.specs.Flows.{flow, HasRoom, Turns, OpensAll};
-ghost use Rattle.age_file.specs.Payloads.{stage, HasPlace, DecryptsPayload};
+ghost use Rattle.age_file.specs.inner.Releases.{tally, FeedsOnce, FeedsPiece, Closes};
+ghost use Rattle.age_file.specs.inner.Flows.{flow, HasRoom, Turns, OpensAll};
+ghost use Rattle.age_file.specs.inner.Payloads.{stage, HasPlace, DecryptsPayload};
 
 use crate::fault::FileFault;
 use crate::intake::Intake;

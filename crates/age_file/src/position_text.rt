@@ -1,7 +1,8 @@
 //! The text of a position.
 
 ghost use Rattle.std.specs.Prelude.{◌≡◌, ◌≢◌, ◌<◌, ℕ, List, length, IfOk, IfErr, IfSome, IfNone, decimal};
-ghost use Rattle.age_file.specs.PositionTexts.{position_text, NoPosition, IsDigest, index_text, field_text, fields_text};
+ghost use Rattle.age_file.specs.PositionTexts.{position_text, NoPosition, IsDigest};
+ghost use Rattle.age_file.specs.inner.PositionTexts.{index_text, field_text, fields_text};
 ghost use Rattle.age_file.specs.declared.fault.FileFault.TheVariants.{BadPosition, Memory};
 
 use crate::fault::FileFault;

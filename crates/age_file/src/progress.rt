@@ -1,7 +1,7 @@
 //! How far a run has come.
 
 ghost use Rattle.std.specs.Prelude.{◌≡◌, ◌<◌, ℕ, List, []};
-ghost use Rattle.age_file.specs.Bindings.{chain_if, link_if};
+ghost use Rattle.age_file.specs.inner.Bindings.{chain_if, link_if};
 ghost use Rattle.age_file.specs.declared.position.Positions.TheVariants.{Kept};
 
 use crate::position::{Positions, next_link};
@@ -17,7 +17,7 @@ pub(crate) struct Progress {
 }
 
 impl Progress {
-    ghost use Rattle.age_file.specs.Counts.{Advances};
+    ghost use Rattle.age_file.specs.inner.Counts.{Advances};
 
     /// Nothing was written.
     #[tactic(auto, unfolding(crate::specs::Bindings::chain))]

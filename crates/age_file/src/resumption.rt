@@ -1,16 +1,16 @@
 //! Goes on with a decryption that stopped.
 
 ghost use Rattle.std.specs.Prelude.{◌≡◌, ℕ, List, ◌^◌, ◌<◌, ◌≤◌, [], IfOk, OnOk, IfErr, MatchResult};
-ghost use Rattle.age_file.specs.Releases.{tally};
-ghost use Rattle.age_file.specs.Skips.{side};
-ghost use Rattle.age_file.specs.Copies.{CopiesText};
-ghost use Rattle.age_file.specs.Payloads.{stage};
-ghost use Rattle.age_file.specs.ResumesPayload.{HasPulled, ResumesPayload};
+ghost use Rattle.age_file.specs.inner.Releases.{tally};
+ghost use Rattle.age_file.specs.inner.Skips.{side};
+ghost use Rattle.age_file.specs.inner.Copies.{CopiesText};
+ghost use Rattle.age_file.specs.inner.Payloads.{stage};
+ghost use Rattle.age_file.specs.inner.ResumesPayload.{HasPulled, ResumesPayload};
 ghost use Rattle.age_file.specs.Ports.{ports};
 ghost use Rattle.age_file.specs.Decrypts.{WritesText, StopsOutside};
 ghost use Rattle.age_file.specs.declared.position.Positions.TheVariants.{Kept};
-ghost use Rattle.age_file.specs.Bindings.{chain_if};
-ghost use Rattle.age_file.specs.Verdicts.{VerdictOn};
+ghost use Rattle.age_file.specs.inner.Bindings.{chain_if};
+ghost use Rattle.age_file.specs.inner.Verdicts.{VerdictOn};
 ghost use Rattle.age_file.specs.Resumes.{resume_ports};
 ghost use Rattle.age_file.specs.ResumeFaults.{ResumeEnds, ResumeStops};
 ghost use Rattle.age_file.specs.UndamagedRests.{IsUndamagedRest};

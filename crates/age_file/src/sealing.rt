@@ -3,7 +3,7 @@
 ghost use Rattle.std.specs.Prelude.{◌≡◌, ◌-◌, ◌^◌, ◌≤◌, [], length, IfOk, OnOk, IfErr};
 ghost use Rattle.age_stream.specs.Sealing.{Holds};
 ghost use Rattle.age_file.specs.Ports.{ports};
-ghost use Rattle.age_file.specs.Seals.{tally, IsFeeding, HasRoom, SealsOnce, SealsPiece, SealsLast, SealsSource, SealsAll, SealsFront};
+ghost use Rattle.age_file.specs.inner.Seals.{tally, IsFeeding, HasRoom, SealsOnce, SealsPiece, SealsLast, SealsSource, SealsAll, SealsFront};
 
 use crate::fault::FileFault;
 use crate::intake::Intake;

@@ -1,6 +1,6 @@
 //! Passes over the blocks of a payload that were opened before.
 
-ghost use Rattle.age_file.specs.Skips.{side, SkipsBlock, SkipsBlocks};
+ghost use Rattle.age_file.specs.inner.Skips.{side, SkipsBlock, SkipsBlocks};
 
 use crate::fault::FileFault;
 use crate::intake::Intake;

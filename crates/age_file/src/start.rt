@@ -1,7 +1,8 @@
 //! Reads a file up to its payload.
 
 ghost use Rattle.std.specs.Prelude.{◌≡◌, ◌+◌, ◌-◌, ◌≤◌, [], ◌++◌, length, take, min, IfOk, IfErr, OnOk};
-ghost use Rattle.age_file.specs.Starts.{Uses, SomeAnswers, NonceFails, StartsAt, StartFails};
+ghost use Rattle.age_file.specs.Starts.{StartFails};
+ghost use Rattle.age_file.specs.inner.Starts.{Uses, SomeAnswers, NonceFails, StartsAt};
 
 use crate::fault::FileFault;
 use crate::head::read_head;

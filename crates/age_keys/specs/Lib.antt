@@ -3,7 +3,7 @@ pub mod Keys
 pub mod Laws
 pub mod Opened
 pub mod Passphrase
-pub mod PayloadBox
 pub mod Scrypt
 pub mod SharedSecret
 pub mod X25519
+pub mod inner

@@ -4,7 +4,7 @@ ghost use Rattle.std.specs.Prelude.{◌≡◌, []};
 ghost use Rattle.age_cipher.specs.Aead.{sealing as sealing_with};
 ghost use Rattle.age_cipher.specs.Opening.{opening as opening_with};
 ghost use Rattle.age_keys.specs.Keys.{payload_key, position_key};
-ghost use Rattle.age_keys.specs.PayloadBox.{box_lawful};
+ghost use Rattle.age_keys.specs.inner.PayloadBox.{box_lawful};
 
 use crate::key::FileKey;
 use age_cipher::{open_in_place, seal_in_place};

@@ -5,8 +5,8 @@ use Rattle.std.proofs.lemmas.List.{get_or-drop}
 use Rattle.std.proofs.lemmas.Nat.{pow-add}
 use Rattle.age_scrypt.specs.BlockMix.{part, xor_words, block_mix}
 use Rattle.age_scrypt.specs.Romix.{mixed_times, number, integerify, looked_up}
-use Rattle.age_scrypt.specs.Table.{IsTable}
-use Rattle.age_scrypt.specs.Turned.{IsTurned}
+use Rattle.age_scrypt.specs.inner.Table.{IsTable}
+use Rattle.age_scrypt.specs.inner.Turned.{IsTurned}
 use Rattle.age_scrypt.proofs.PartLemmas.{part-append_left, part-append_right}
 
 number_of_front : (xs : List ℕ) (k : ℕ) → 0 < length xs → (rest : ℕ) × (number (take (suc k) xs) ≡ get_or xs 0 0 + 2 ^ 32 * rest)

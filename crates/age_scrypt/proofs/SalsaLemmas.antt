@@ -3,7 +3,7 @@ use Rattle.std.proofs.Common.{◌≡◌, ◌++◌, ◌∙◌, ℕ, List, [], ◌
 use Rattle.std.specs.Simd.Lanes.{zip2}
 use Rattle.std.proofs.lemmas.List.{length-append}
 use Rattle.age_scrypt.specs.Salsa.{columns}
-use Rattle.age_scrypt.specs.Lanes.{words, at_places, IsRows, IsDiagonals, quarters}
+use Rattle.age_scrypt.specs.inner.Lanes.{words, at_places, IsRows, IsDiagonals, quarters}
 use Rattle.age_scrypt.specs.declared.part.Part.{Part}
 use Rattle.age_scrypt.proofs.LaneLemmas.{for_sixteen, sixteen_words}
 

@@ -2,6 +2,4 @@ pub mod Salsa
 pub mod BlockMix
 pub mod Romix
 pub mod Scrypt
-pub mod Lanes
-pub mod Turned
-pub mod Table
+pub mod inner

@@ -1,7 +1,7 @@
 // BlockMix with r = 8 (RFC 7914, section 4), from one turned block into another.
 ghost use Rattle.std.specs.Prelude.{◌≡◌, ℕ, ◌+◌, List, length};
 ghost use Rattle.age_scrypt.specs.BlockMix.{block_mix};
-ghost use Rattle.age_scrypt.specs.Turned.{IsTurned};
+ghost use Rattle.age_scrypt.specs.inner.Turned.{IsTurned};
 
 use crate::part::Part;
 use crate::salsa::salsa20_8;

@@ -38,7 +38,7 @@ fn write_row(words: &mut [u32], at: usize, row: u32x4)
 }
 
 impl Part {
-    ghost use Rattle.age_scrypt.specs.Lanes.{words};
+    ghost use Rattle.age_scrypt.specs.inner.Lanes.{words};
 
     /// Part `i` of a block of 256 words, row by row.
     #[inline(always)]

@@ -2,8 +2,8 @@
 ghost use Rattle.std.specs.Prelude.{◌≡◌, ℕ, ◌+◌, ◌*◌, ◌%◌, ◌^◌, ◌<◌, ◌≤◌, List, length, vec_len, vec_capacity};
 ghost use Rattle.age_scrypt.specs.BlockMix.{xor_words};
 ghost use Rattle.age_scrypt.specs.Romix.{mixed_times, integerify, romix};
-ghost use Rattle.age_scrypt.specs.Table.{IsTable};
-ghost use Rattle.age_scrypt.specs.Turned.{IsTurned};
+ghost use Rattle.age_scrypt.specs.inner.Table.{IsTable};
+ghost use Rattle.age_scrypt.specs.inner.Turned.{IsTurned};
 
 use crate::mix::block_mix;
 use crate::part::Part;

@@ -7,8 +7,8 @@ ghost use Rattle.std.specs.Prelude.{◌≡◌, ℕ, ◌<◌, List, [], ◌∷◌
 ghost use Rattle.std.specs.Int.{w32, rotate_left};
 ghost use Rattle.std.specs.Simd.Lanes.{zip2};
 ghost use Rattle.age_scrypt.specs.Salsa.{add32, rows, columns, salsa20_8};
-ghost use Rattle.age_scrypt.specs.Lanes.{words, IsRows, IsDiagonals, transpose, quarters};
-ghost use Rattle.age_scrypt.specs.Turned.{turned};
+ghost use Rattle.age_scrypt.specs.inner.Lanes.{words, IsRows, IsDiagonals, transpose, quarters};
+ghost use Rattle.age_scrypt.specs.inner.Turned.{turned};
 
 use crate::part::Part;
 use std::simd::u32x4;

@@ -1,7 +1,7 @@
 // A block whose parts are kept as their diagonals, so that BlockMix has no words to move. ROMix turns
 // its block once at its entry, and back at its exit.
 ghost use Rattle.std.specs.Prelude.{◌≡◌, List, ℕ, length};
-ghost use Rattle.age_scrypt.specs.Turned.{IsTurned};
+ghost use Rattle.age_scrypt.specs.inner.Turned.{IsTurned};
 
 use crate::part::Part;
 use crate::salsa::{diagonals, rows};

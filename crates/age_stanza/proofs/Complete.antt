@@ -11,7 +11,7 @@ use Rattle.age_stanza.specs.declared.place.Place.{Place}
 use Rattle.age_stanza.specs.declared.place.Place.TheVariants.{Start, Between, InBody}
 use Rattle.age_stanza.specs.declared.place.Next.TheVariants.{Go, Done}
 use Rattle.age_stanza.specs.Text.{text}
-use Rattle.age_stanza.specs.LineMachine.{decoded, ready, walk, after, step}
+use Rattle.age_stanza.specs.inner.LineMachine.{decoded, ready, walk, after, step}
 use Rattle.age_stanza.specs.Grammar.{line, version, IsArgument, argument_line, in_lines, stanza_text, end_line, head_text, IsStanza, IsHeader}
 use Rattle.age_stanza.proofs.Texts.{text-append, length-text, decoded-text, IsBytes-take, IsBytes-drop, IsLine, IsLine-append, text_line, line_from_test}
 use Rattle.age_stanza.proofs.Lines.{IsVisible, in_lines-full, in_lines-short, read_argument_line, read_end_line}

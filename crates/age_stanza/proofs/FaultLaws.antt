@@ -19,7 +19,7 @@ use Rattle.age_stanza.specs.declared.place.Place.TheVariants.{Start, Between, In
 use Rattle.age_stanza.specs.declared.place.Next.{Next}
 use Rattle.age_stanza.specs.declared.place.Next.TheVariants.{Go, Done}
 use Rattle.age_stanza.specs.Text.{text}
-use Rattle.age_stanza.specs.LineMachine.{decoded, unfinished, ready, faulty, walk, after, step, ended, begun, continued, arguments_of, mac_of, fault_at}
+use Rattle.age_stanza.specs.inner.LineMachine.{decoded, unfinished, ready, faulty, walk, after, step, ended, begun, continued, arguments_of, mac_of, fault_at}
 use Rattle.age_stanza.specs.Grammar.{line, version, in_lines, stanza_text, end_line, head_text, IsStanza, IsHeader}
 use Rattle.age_stanza.specs.Faults.{armor, Begins, IsLine, AreLines, stanzas_text, IsEndLine, RefusesBetween, Refuses, line_after, NoFault, IsLineFault}
 use Rattle.age_stanza.proofs.Texts.{bytes_from_pass, IsBytes-append, IsBytes-tail, IsLine-append, decoded-text, text-nil, line_from_test}

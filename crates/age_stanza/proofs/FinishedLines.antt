@@ -13,8 +13,8 @@ use Rattle.age_stanza.specs.declared.place.Place.TheVariants.{Start}
 use Rattle.age_stanza.specs.declared.place.Next.TheVariants.{Go, Done}
 use Rattle.age_stanza.specs.Grammar.{line}
 use Rattle.age_stanza.specs.Faults.{IsLine, AreLines, line_after, memory_fault}
-use Rattle.age_stanza.specs.LineMachine.{unfinished, ready, faulty, walk, after, step, fault_at}
-use Rattle.age_stanza.specs.Retelling.{retold, LeadTo, IsPartial, IsUnderWay}
+use Rattle.age_stanza.specs.inner.LineMachine.{unfinished, ready, faulty, walk, after, step, fault_at}
+use Rattle.age_stanza.specs.inner.Retelling.{retold, LeadTo, IsPartial, IsUnderWay}
 use Rattle.age_stanza.proofs.Texts.{IsBytes-append, IsLine-append, bytes_from_pass}
 use Rattle.age_stanza.proofs.Lines.{All-front}
 use Rattle.age_stanza.proofs.Complete.{walk_text, walk_go}

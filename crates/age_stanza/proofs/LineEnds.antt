@@ -10,7 +10,7 @@ use Rattle.age_stanza.specs.declared.header.Header.{Header}
 use Rattle.age_stanza.specs.declared.fault.HeadFault.{HeadFault}
 use Rattle.age_stanza.specs.declared.place.Place.TheVariants.{Start}
 use Rattle.age_stanza.specs.Faults.{IsLine, memory_fault}
-use Rattle.age_stanza.specs.LineMachine.{walk, ready, faulty}
+use Rattle.age_stanza.specs.inner.LineMachine.{walk, ready, faulty}
 use Rattle.age_stanza.proofs.Lines.{chosen}
 
 line_of_front : (i : ℕ) (xs : List ℕ) → ((k : ℕ) → k < i → eqb (get_or xs k 0) 10 ≡ false) → IsLine (take i xs)

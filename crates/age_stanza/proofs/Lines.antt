@@ -9,7 +9,7 @@ use Rattle.std.proofs.lemmas.List.Concat.{flat_map-append}
 use Rattle.std.proofs.lemmas.Slice.Eq.{starts_is}
 use Rattle.std.proofs.lemmas.Option.{cond_some}
 use Rattle.base64.specs.GeneralPurpose.{IsBytes}
-use Rattle.age_stanza.specs.LineMachine.{decoded, arguments_from, arguments_of, mac_of, whole_mac}
+use Rattle.age_stanza.specs.inner.LineMachine.{decoded, arguments_from, arguments_of, mac_of, whole_mac}
 use Rattle.age_stanza.specs.Text.{text}
 use Rattle.age_stanza.specs.Grammar.{line, IsArgument, argument_line, in_lines, end_line}
 use Rattle.age_stanza.proofs.Texts.{text_of_decoded, decoded-text, IsBytes-drop}

@@ -15,7 +15,7 @@ use Rattle.age_stanza.specs.declared.place.Place.{Place}
 use Rattle.age_stanza.specs.declared.place.Place.TheVariants.{Start, Between, InBody}
 use Rattle.age_stanza.specs.Grammar.{line, version, stanza_text, IsStanza, Spells}
 use Rattle.age_stanza.specs.Faults.{Begins, IsLine, AreLines, FirstFault, stanzas_text, IsEndLine, RefusesBetween, Refuses, line_after, IsLineFault, IsFault}
-use Rattle.age_stanza.specs.LineMachine.{Outcome, unfinished, ready, faulty, walk, mac_of}
+use Rattle.age_stanza.specs.inner.LineMachine.{Outcome, unfinished, ready, faulty, walk, mac_of}
 use Rattle.age_stanza.proofs.Texts.{IsBytes-take, IsBytes-tail, line_from_test}
 use Rattle.age_stanza.proofs.Lines.{All-front, end_line_read, read_end_line}
 use Rattle.age_stanza.proofs.Complete.{walk_go, stanzas_reach, step_version}

@@ -17,7 +17,7 @@ use Rattle.age_stanza.specs.declared.place.Place.TheVariants.{Start, Between, In
 use Rattle.age_stanza.specs.declared.place.Next.{Next}
 use Rattle.age_stanza.specs.declared.place.Next.TheVariants.{Go, Done}
 use Rattle.age_stanza.specs.Text.{text}
-use Rattle.age_stanza.specs.LineMachine.{decoded, ready, walk, after, step, ended, begun, continued, arguments_of, mac_of}
+use Rattle.age_stanza.specs.inner.LineMachine.{decoded, ready, walk, after, step, ended, begun, continued, arguments_of, mac_of}
 use Rattle.age_stanza.specs.Grammar.{line, version, IsArgument, argument_line, in_lines, stanza_text, end_line, head_text, IsStanza, IsHeader}
 use Rattle.age_stanza.specs.Faults.{armor}
 use Rattle.age_stanza.proofs.Texts.{text-append, length-text, text_of_decoded, IsBytes-append, IsBytes-tail}

@@ -14,10 +14,10 @@ use Rattle.age_stanza.specs.declared.place.Place.{Place}
 use Rattle.age_stanza.specs.declared.place.Place.TheVariants.{Start, Between, InBody}
 use Rattle.age_stanza.specs.declared.place.Next.TheVariants.{Go}
 use Rattle.age_stanza.specs.Text.{text}
-use Rattle.age_stanza.specs.LineMachine.{decoded, step, ended, begun, continued, arguments_of, mac_of}
+use Rattle.age_stanza.specs.inner.LineMachine.{decoded, step, ended, begun, continued, arguments_of, mac_of}
 use Rattle.age_stanza.specs.Grammar.{line, version, argument_line, in_lines, stanza_text}
 use Rattle.age_stanza.specs.Faults.{stanzas_text, armor}
-use Rattle.age_stanza.specs.Retelling.{whole_lines, retold, IsWhole}
+use Rattle.age_stanza.specs.inner.Retelling.{whole_lines, retold, IsWhole}
 use Rattle.age_stanza.proofs.Texts.{text-append, text-nil, length-text, text_of_decoded}
 use Rattle.age_stanza.proofs.Lines.{chosen, in_lines-short, argument_line_read}
 use Rattle.age_stanza.proofs.Places.{same_go, not_ended}

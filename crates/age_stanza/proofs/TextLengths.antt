@@ -10,7 +10,7 @@ use Rattle.base64.specs.GeneralPurpose.{IsBytes}
 use Rattle.age_stanza.specs.declared.header.Stanza.{Stanza}
 use Rattle.age_stanza.specs.declared.header.Header.{Header}
 use Rattle.age_stanza.specs.Text.{text}
-use Rattle.age_stanza.specs.Lengths.{HasArguments, Leaves, IsTextLength}
+use Rattle.age_stanza.specs.inner.Lengths.{HasArguments, Leaves, IsTextLength}
 use Rattle.age_stanza.specs.Grammar.{line, version, in_lines, stanza_text, end_line, head_text, IsStanza, HasText}
 use Rattle.age_stanza.proofs.Lines.{chosen}
 use Rattle.age_stanza.proofs.Texts.{length-text}

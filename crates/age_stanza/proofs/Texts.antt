@@ -13,7 +13,7 @@ use Rattle.base64.proofs.EngineFacts.{decode_of-encode_of, decode_of_strict, enc
 use Rattle.base64.proofs.RoundTrip.{length-encode_symbols}
 use Rattle.age_stanza.specs.Text.{text}
 use Rattle.age_stanza.specs.Laws.{character}
-use Rattle.age_stanza.specs.LineMachine.{decoded, only_bytes}
+use Rattle.age_stanza.specs.inner.LineMachine.{decoded, only_bytes}
 
 pub bytes_pass : (b : List ℕ) → IsBytes b → list_all (λ x. ltb x 256) b ≡ true
 bytes_pass [] h = refl

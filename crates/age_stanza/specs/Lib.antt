@@ -8,7 +8,5 @@ pub mod Parsing
 pub mod Pieces
 pub mod Laws
 -- What only private code cites
-pub mod LineMachine
-pub mod Retelling
 pub mod Steps
-pub mod Lengths
+pub mod inner

@@ -1,14 +1,14 @@
 //! The argument line of a stanza.
 
 ghost use Rattle.std.specs.Prelude.{◌≡◌, [], IfOk};
-ghost use Rattle.age_stanza.specs.LineMachine.{arguments_from, arguments_of as spec_arguments_of};
+ghost use Rattle.age_stanza.specs.inner.LineMachine.{arguments_from, arguments_of as spec_arguments_of};
 
 use crate::bytes::{Arguments, Bytes};
 use std::alloc::{AllocError, Global};
 
 /// The arguments that visible characters and single spaces hold, or `None`
 /// where an argument is empty or another character stands there.
-#[tactic(auto, unfolding(crate::specs::LineMachine::arguments_from))]
+#[tactic(auto, unfolding(crate::specs::inner::LineMachine::arguments_from))]
 fn arguments_in(alloc: Global, letters: &[u8]) -> Result<Option<Arguments>, AllocError>
     ensures { IfOk result (λ r. r ≡ arguments_from [] [] letters.now) }
 {
@@ -36,7 +36,7 @@ fn arguments_in(alloc: Global, letters: &[u8]) -> Result<Option<Arguments>, Allo
 }
 
 /// The arguments of a line, without its LF; `None` where it is no argument line.
-#[tactic(auto, unfolding(crate::specs::LineMachine::arguments_of))]
+#[tactic(auto, unfolding(crate::specs::inner::LineMachine::arguments_of))]
 pub(crate) fn arguments_of(alloc: Global, line: &[u8]) -> Result<Option<Arguments>, AllocError>
     ensures { IfOk result (λ r. r ≡ spec_arguments_of line.now) }
 {

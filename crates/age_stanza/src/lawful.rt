@@ -5,7 +5,7 @@ ghost use Rattle.std.specs.List.{flat_map, list_all};
 ghost use Rattle.base64.specs.GeneralPurpose.{IsBytes};
 ghost use Rattle.age_stanza.specs.Text.{text};
 ghost use Rattle.age_stanza.specs.Grammar.{IsArgument, HasText, in_lines};
-ghost use Rattle.age_stanza.specs.Lengths.{HasArguments, Leaves, LeavesBehindStanza, IsTextLength};
+ghost use Rattle.age_stanza.specs.inner.Lengths.{HasArguments, Leaves, LeavesBehindStanza, IsTextLength};
 
 use crate::HEAD_MAX;
 use crate::bytes::Bytes;

@@ -2,8 +2,8 @@
 
 ghost use Rattle.std.specs.Prelude.{◌≡◌, ◌++◌, ◌+◌, ◌<◌, ◌≤◌, [], length, take, IfOk, IfErr};
 ghost use Rattle.age_stanza.specs.Faults.{line_after, memory_fault, IsLine};
-ghost use Rattle.age_stanza.specs.LineMachine.{fault_at as spec_fault_at};
-ghost use Rattle.age_stanza.specs.Retelling.{IsUnderWay};
+ghost use Rattle.age_stanza.specs.inner.LineMachine.{fault_at as spec_fault_at};
+ghost use Rattle.age_stanza.specs.inner.Retelling.{IsUnderWay};
 
 use crate::fault::{HeadFault, HeadKind, MEMORY};
 use crate::header::Header;
@@ -24,7 +24,7 @@ pub(crate) struct PartialHeader {
 
 impl Model for PartialHeader {
     ghost use Rattle.std.specs.Prelude.{ℕ, List, ◌++◌};
-    ghost use Rattle.age_stanza.specs.Retelling.{retold, IsPartial};
+    ghost use Rattle.age_stanza.specs.inner.Retelling.{retold, IsPartial};
 
     ghost Value = { List ℕ };
 
@@ -53,7 +53,7 @@ fn fault_at(kind: HeadKind, line: u64) -> HeadFault
 }
 
 impl PartialHeader {
-    ghost use Rattle.age_stanza.specs.Steps.{EndsLine};
+    ghost use Rattle.age_stanza.specs.inner.Steps.{EndsLine};
 
     /// Nothing came yet. Takes no memory.
     pub(crate) fn new(alloc: Global) -> PartialHeader

@@ -2,7 +2,7 @@
 
 ghost use Rattle.std.specs.Prelude.{◌≡◌, ◌==◌, ◌+◌, ◌<◌, ◌≤◌, length, take};
 ghost use Rattle.std.specs.List.{position};
-ghost use Rattle.age_stanza.specs.Steps.{ReadsLines, TakesPiece};
+ghost use Rattle.age_stanza.specs.inner.Steps.{ReadsLines, TakesPiece};
 
 use crate::HEAD_MAX;
 use crate::fault::HeadFault;

@@ -5,7 +5,7 @@ ghost use Rattle.std.specs.Prelude.{◌≡◌, ◌≢◌, ◌≤◌, ℕ, List, 
 ghost use Rattle.std.specs.Bool.{OnTrue, OnFalse};
 ghost use Rattle.std.specs.Option.{option_map};
 ghost use Rattle.base64.specs.GeneralPurpose.{IsBytes};
-ghost use Rattle.age_stanza.specs.LineMachine.{decoded, mac_of as spec_mac_of};
+ghost use Rattle.age_stanza.specs.inner.LineMachine.{decoded, mac_of as spec_mac_of};
 ghost use Rattle.age_stanza.specs.Text.{text};
 
 use base64::DecodeAllocError;
@@ -13,7 +13,7 @@ use base64::engine::general_purpose::STANDARD_NO_PAD;
 use std::alloc::{AllocError, Global};
 
 /// The bytes of a text, or `None` where it is no canonical text.
-#[tactic(auto, unfolding(crate::specs::LineMachine::decoded))]
+#[tactic(auto, unfolding(crate::specs::inner::LineMachine::decoded))]
 pub(crate) fn decode(alloc: Global, text: &[u8]) -> Result<Option<Vec<u8>>, AllocError>
     ensures { IfOk result (λ r. option_map (λ v. v.items) r ≡ decoded text.now) }
 {

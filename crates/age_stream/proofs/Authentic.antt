@@ -10,7 +10,7 @@ use Rattle.age_stream.specs.Segment.{Segment}
 use Rattle.age_stream.specs.Deliveries.{Standing, standing, standing_from, begin, fresh, after_delivery}
 use Rattle.age_stream.specs.Headline.{IsAuthentic, AreAuthentic, IsRest, IsUndamaged}
 use Rattle.age_stream.specs.Clear.{clear_sealing, clear_opening, clear_mark}
-use Rattle.age_stream.specs.ClearLaw.{clear_lawful}
+use Rattle.age_stream.specs.inner.ClearLaw.{clear_lawful}
 use Rattle.age_stream.specs.Authentic.{AreWhole, IsClosed, GivesBack}
 use Rattle.age_stream.specs.declared.delivery.Delivery.{Delivery}
 use Rattle.age_stream.specs.declared.delivery.Delivery.TheVariants.{Piece, End}

@@ -5,13 +5,14 @@ use Rattle.std.specs.List.{flat_map}
 use Rattle.std.proofs.lemmas.List.{append-nil}
 use Rattle.std.proofs.lemmas.Grind.{flat_map-append}
 use Rattle.age_stream.specs.Segment.{Segment, Outcome, outcome, released, final_block, front_texts, whole_blocks, rest_bytes}
-use Rattle.age_stream.specs.SegmentSteps.{status_ended}
+use Rattle.age_stream.specs.inner.SegmentSteps.{status_ended}
 use Rattle.age_stream.specs.Deliveries.{with_end}
 use Rattle.age_stream.specs.declared.opener.OpenerState.{OpenerState}
 use Rattle.age_stream.specs.declared.fault.StreamFault.{StreamFault}
 use Rattle.age_stream.specs.declared.step.Status.TheVariants.{Open, Failed}
 use Rattle.age_stream.specs.Opening.{Stands}
-use Rattle.age_stream.specs.OpenerSteps.{held_bytes, opener_view, Ends, front_bytes}
+use Rattle.age_stream.specs.OpenerSteps.{held_bytes, opener_view}
+use Rattle.age_stream.specs.inner.OpenerSteps.{Ends, front_bytes}
 use Rattle.age_stream.proofs.Going.{going, going_outcome, past_place, prepend_rest, after_end}
 
 module _ {B : Type 0} {n : ℕ} {g : _} (opening : B → List ℕ → List ℕ → Option (List ℕ)) (old new : OpenerState B n g) where

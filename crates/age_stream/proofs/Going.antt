@@ -8,7 +8,7 @@ use Rattle.std.proofs.lemmas.Nat.{div-mul-add}
 use Rattle.std.proofs.Math.Nat.{div-mul-le_self, le-div_iff_mul-le}
 use Rattle.age_stream.specs.Nonce.{nonce_bytes}
 use Rattle.age_stream.specs.Segment.{Segment, Outcome, outcome, outcome_of, verdict_at, at_block, final_block, after_last, front_texts, text_then, text_before_last, whole_blocks, rest_bytes, failed}
-use Rattle.age_stream.specs.SegmentSteps.{after_front, one_block, status_after, status_ended}
+use Rattle.age_stream.specs.inner.SegmentSteps.{after_front, one_block, status_after, status_ended}
 use Rattle.std.proofs.Math.Bool.{or-true, or-false}
 use Rattle.age_stream.specs.Deliveries.{with_piece, with_end}
 use Rattle.age_stream.specs.declared.step.Status.{Status}

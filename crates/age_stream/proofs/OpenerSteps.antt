@@ -4,14 +4,15 @@ use Rattle.std.specs.Prelude.{Option, Result, Ok, Err, MatchResult, nat_lt, cond
 use Rattle.std.proofs.lemmas.List.{append-nil, append_assoc, length-take, take-append-drop, take_all}
 use Rattle.std.proofs.lemmas.Bool.{cases_lt}
 use Rattle.age_stream.specs.Segment.{Segment, Outcome, outcome, rest_bytes}
-use Rattle.age_stream.specs.SegmentSteps.{one_block, status_after}
+use Rattle.age_stream.specs.inner.SegmentSteps.{one_block, status_after}
 use Rattle.age_stream.specs.Deliveries.{with_piece}
 use Rattle.age_stream.specs.declared.opener.OpenerState.{OpenerState}
 use Rattle.age_stream.specs.declared.fault.StreamFault.{StreamFault}
 use Rattle.age_stream.specs.declared.step.Status.{Status}
 use Rattle.age_stream.specs.declared.step.Status.TheVariants.{Open, LastSeen, Done, Failed}
 use Rattle.age_stream.specs.Opening.{Stands, given, handed}
-use Rattle.age_stream.specs.OpenerSteps.{held_bytes, opener_view, TakesPart, TakesWhole, TakesNone}
+use Rattle.age_stream.specs.OpenerSteps.{held_bytes, opener_view}
+use Rattle.age_stream.specs.inner.OpenerSteps.{TakesPart, TakesWhole, TakesNone}
 use Rattle.age_stream.proofs.Going.{going, going_part, going_whole, after_piece, unended_piece, IsGoing, IsWhole}
 
 piece_timely : (s : Segment) (ended : Bool) (p : List ℕ) → s.ended ≡ ended → (s.ended ≡ false → s.late ≡ false) → (with_piece s p).ended ≡ false → (with_piece s p).late ≡ false

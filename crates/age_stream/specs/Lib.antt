@@ -1,11 +1,9 @@
 pub mod Lawful
 pub mod Clear
-pub mod ClearLaw
 pub mod Nonce
 pub mod Payload
 pub mod Parts
 pub mod Segment
-pub mod SegmentSteps
 pub mod Deliveries
 pub mod Sealing
 pub mod WholeText
@@ -25,3 +23,4 @@ pub mod Drills
 pub mod FaultNumbers
 pub mod Laws
 pub mod Authentic
+pub mod inner

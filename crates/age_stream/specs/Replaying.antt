@@ -1,6 +1,6 @@
 -- What a replay stands for. A chunk has n bytes.
 use Rattle.std.specs.Prelude.{◌≡◌, ◌<◌, ◌+◌, ℕ, List, [], length, Option}
-use Rattle.age_stream.specs.Deliveries.{Standing, standing, text_held, with_piece}
+use Rattle.age_stream.specs.Deliveries.{Standing, standing, text_held}
 use Rattle.age_stream.specs.Opening.{OpenerView, Stands, text_of_piece, text_at_end}
 use Rattle.age_stream.specs.declared.delivery.Delivery.{Delivery}
 use Rattle.age_stream.specs.declared.delivery.Delivery.TheVariants.{Piece, End, Restart}
@@ -13,15 +13,6 @@ pub record ReplayView (B : Type 0) : Type 0 where
   pub text : List ℕ
   pub capacity : ℕ
   pub refused : ℕ
-
--- more bytes came to the current segment
-abbrev pub with_bytes : Standing → List ℕ → Standing
-with_bytes s piece = record {
-  given_up = s.given_up;
-  base = s.base;
-  segment = with_piece s.segment piece;
-  refused = s.refused;
-}
 
 module _ {B : Type 0} (opening : B → List ℕ → List ℕ → Option (List ℕ)) (n : ℕ) where
   -- it stands where the standing says

@@ -33,10 +33,11 @@ struct OpenerState<'k, B: ChunkBox, const SEALED: usize> {
 
 impl<'k, B: ChunkBox, const SEALED: usize> OpenerState<'k, B, SEALED> {
     ghost use Rattle.age_stream.specs.Segment.{Segment, outcome, released, final_block, failed};
-    ghost use Rattle.age_stream.specs.SegmentSteps.{one_block, status_ended};
+    ghost use Rattle.age_stream.specs.inner.SegmentSteps.{one_block, status_ended};
     ghost use Rattle.age_stream.specs.Deliveries.{with_piece, with_end};
     ghost use Rattle.age_stream.specs.Opening.{Stands, given, handed, has_failed, text_at_end};
-    ghost use Rattle.age_stream.specs.OpenerSteps.{held_bytes, opener_view, IsTried, TakesPart, TakesWhole, TakesNone, Ends, front_bytes};
+    ghost use Rattle.age_stream.specs.OpenerSteps.{held_bytes, opener_view};
+    ghost use Rattle.age_stream.specs.inner.OpenerSteps.{IsTried, TakesPart, TakesWhole, TakesNone, Ends, front_bytes};
 
     // Empties the buffer of a text that was lent.
     fn settle(&mut self)

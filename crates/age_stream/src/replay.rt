@@ -39,7 +39,8 @@ struct ReplayState<'k, B: ChunkBox, const SEALED: usize> {
 }
 
 impl<'k, B: ChunkBox, const SEALED: usize> ReplayState<'k, B, SEALED> {
-    ghost use Rattle.age_stream.specs.Replaying.{IsAt, IsCramped, Replays, with_bytes};
+    ghost use Rattle.age_stream.specs.Replaying.{IsAt, IsCramped, Replays};
+    ghost use Rattle.age_stream.specs.inner.Replaying.{with_bytes};
     ghost use Rattle.age_stream.specs.Opening.{text_at_end, text_of_piece, whole_text};
     ghost use Rattle.age_stream.specs.ReplaySteps.{replay_view};
     ghost use Rattle.age_stream.specs.Deliveries.{Standing, after_delivery};

@@ -28,7 +28,8 @@ struct SealerState<'k, B: ChunkBox, const SEALED: usize> {
 }
 
 impl<'k, B: ChunkBox, const SEALED: usize> SealerState<'k, B, SEALED> {
-    ghost use Rattle.age_stream.specs.SealerSteps.{held_text, sealer_view, bytes_of, IsStep};
+    ghost use Rattle.age_stream.specs.SealerSteps.{held_text, sealer_view};
+    ghost use Rattle.age_stream.specs.inner.SealerSteps.{bytes_of, IsStep};
     ghost use Rattle.age_stream.specs.SealerCalls.{IsRefused};
     ghost use Rattle.age_stream.specs.Sealing.{Holds, step_len, needs_too_many, too_many};
     ghost use Rattle.age_stream.specs.Payload.{sealed_before_last, block_bytes, payload};

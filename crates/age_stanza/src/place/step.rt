@@ -1,4 +1,4 @@
-ghost use Rattle.age_stanza.specs.LineMachine.{Gives, step as step_of, ended as ended_of, begun as begun_of, mac_of as spec_mac_of, arguments_of as spec_arguments_of};
+ghost use Rattle.age_stanza.specs.inner.LineMachine.{Gives, step as step_of, ended as ended_of, begun as begun_of, mac_of as spec_mac_of, arguments_of as spec_arguments_of};
 
 use super::{ARMOR, ARMOR_CR, Next, Place, VERSION};
 use crate::arguments::arguments_of;
@@ -8,7 +8,7 @@ use crate::header::{Header, Stanza, Stanzas};
 use crate::text::{decode, mac_of};
 use std::alloc::Global;
 
-#[tactic(auto, unfolding(crate::specs::LineMachine::step))]
+#[tactic(auto, unfolding(crate::specs::inner::LineMachine::step))]
 fn first(alloc: Global, line: &[u8]) -> Result<Next, HeadKind>
     ensures { Gives result (step_of Place.Start line.now) }
 {
@@ -42,7 +42,7 @@ fn begin(alloc: Global, stanzas: Stanzas, line: &[u8]) -> Result<Next, HeadKind>
     Ok(Next::Go(Place::InBody(stanzas, args, Bytes::new(alloc))))
 }
 
-#[tactic(auto, unfolding(crate::specs::LineMachine::step))]
+#[tactic(auto, unfolding(crate::specs::inner::LineMachine::step))]
 fn body_line(
     alloc: Global,
     mut stanzas: Stanzas,
@@ -67,7 +67,7 @@ fn body_line(
 }
 
 /// Where a line leads.
-#[tactic(auto, unfolding(crate::specs::LineMachine::step))]
+#[tactic(auto, unfolding(crate::specs::inner::LineMachine::step))]
 pub(crate) fn step(alloc: Global, place: Place, line: &[u8]) -> Result<Next, HeadKind>
     ensures { Gives result (step_of place line.now) }
 {

@@ -1,4 +1,4 @@
-use Rattle.age_cipher.specs.Places.{word_byte}
+use Rattle.age_cipher.specs.inner.Places.{word_byte}
 use Rattle.age_cipher.proofs.PlaceLemmas.{IsXoredBelow}
 use Rattle.age_cipher.proofs.lanes.xor_rest.Given as goal
 

@@ -1,5 +1,5 @@
 use Rattle.std.proofs.Common.{◌*◌}
-use Rattle.age_cipher.specs.Places.{word_byte}
+use Rattle.age_cipher.specs.inner.Places.{word_byte}
 use Rattle.age_cipher.proofs.PlaceLemmas.{IsXoredBelow}
 use Rattle.age_cipher.proofs.lanes.xor_words.Given as goal
 

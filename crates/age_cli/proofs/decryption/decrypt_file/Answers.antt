@@ -1,13 +1,13 @@
 use Rattle.age_file.specs.declared.position.Positions.{Positions}
 use Rattle.std.proofs.Common.{ℕ, List, Option, ◌≡◌, ◌∙◌, ◌++◌, ◌∷◌, [], inr, ap, sym, subst, true≢false, Some}
-use Rattle.age_cli.specs.Requests.{text_of}
+use Rattle.age_cli.specs.inner.Requests.{text_of}
 use Rattle.age_cli.specs.Stops.{DecryptionStop, OutStops, PortsOf}
 use Rattle.age_cli.proofs.StopSteps.{ends_from}
 use Rattle.age_cli.specs.Events.{Follows, Opened, opening, making, replacing}
 use Rattle.age_cli.proofs.EventSteps.{every_fault, chosen_opens, stop_follows, unmade, longer}
 use Rattle.std.specs.Prelude.{is_some}
 use Rattle.age_cli.specs.Decryptions.{DecryptsOut}
-use Rattle.age_cli.specs.OpenerSteps.{opener_of}
+use Rattle.age_cli.specs.inner.OpenerSteps.{opener_of}
 use Rattle.age_cli.proofs.OpenerLemmas.{opener_made}
 use Rattle.age_cli.proofs.decryption.decrypt_file.Goals as goal
 

@@ -2,7 +2,7 @@ use Rattle.std.proofs.Common.{◌≡◌, inl, refl, sym, subst, Some, []}
 use Rattle.age_file.specs.Ports.{ports}
 use Rattle.age_cli.specs.Stops.{DecryptionStop, Leaves, OutStops, PortsOf}
 use Rattle.age_cli.specs.Openers.{allows_by, refuses_by}
-use Rattle.age_cli.specs.OpenerSteps.{opener_of}
+use Rattle.age_cli.specs.inner.OpenerSteps.{opener_of}
 use Rattle.age_cli.specs.declared.stop.Stop.{Stop}
 use Rattle.age_cli.proofs.StopSteps.{stop_wrote, holds_nothing}
 use Rattle.age_cli.proofs.decryption.write_out.Goals as goal

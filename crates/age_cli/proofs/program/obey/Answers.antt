@@ -3,7 +3,7 @@ use Rattle.std.specs.Option.{IfSome}
 use Rattle.std.proofs.lemmas.Result.{on_ok_weaker, IfErr-weaker}
 use Rattle.std.proofs.lemmas.List.{nil_from_length}
 use Rattle.clap.specs.Walk.{texts}
-use Rattle.age_cli.specs.Requests.{Requests}
+use Rattle.age_cli.specs.inner.Requests.{Requests}
 use Rattle.age_cli.specs.declared.request.Request.{Request}
 use Rattle.age_cli.specs.declared.request.Request.TheVariants.{Encrypt, Decrypt, Resume, Drill}
 use Rattle.age_cli.specs.Stops.{PortsOf}

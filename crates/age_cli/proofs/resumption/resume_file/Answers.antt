@@ -1,8 +1,8 @@
 use Rattle.std.proofs.Common.{ℕ, List, Option, ◌≡◌, ◌∙◌, ◌++◌, ◌∷◌, [], inr, ap, sym, subst, true≢false, Some}
 use Rattle.std.specs.Prelude.{is_some}
 use Rattle.age_cli.specs.Resumptions.{ResumesOut}
-use Rattle.age_cli.specs.OpenerSteps.{opener_of}
-use Rattle.age_cli.specs.Requests.{text_of}
+use Rattle.age_cli.specs.inner.OpenerSteps.{opener_of}
+use Rattle.age_cli.specs.inner.Requests.{text_of}
 use Rattle.age_cli.specs.Events.{Follows, Opened, making, replacing}
 use Rattle.age_cli.specs.Stops.{ResumptionStop, OutStops, PortsOf}
 use Rattle.age_file.specs.declared.position.Positions.{Positions}

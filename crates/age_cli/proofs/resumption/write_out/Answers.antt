@@ -3,7 +3,7 @@ use Rattle.age_file.specs.Ports.{ports}
 use Rattle.age_file.specs.Resumes.{resume_ports}
 use Rattle.age_cli.specs.Stops.{ResumptionStop, Leaves, OutStops, PortsOf}
 use Rattle.age_cli.specs.Openers.{allows_by, refuses_by}
-use Rattle.age_cli.specs.OpenerSteps.{opener_of}
+use Rattle.age_cli.specs.inner.OpenerSteps.{opener_of}
 use Rattle.age_cli.specs.declared.stop.Stop.{Stop}
 use Rattle.age_cli.proofs.StopSteps.{resume_wrote, holds_nothing}
 use Rattle.age_cli.proofs.resumption.write_out.Goals as goal

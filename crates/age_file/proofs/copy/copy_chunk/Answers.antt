@@ -6,9 +6,9 @@ use Rattle.std.specs.Io.KnownBytes.{Appends}
 use Rattle.sha2.specs.Hashers.{Holds256}
 use Rattle.age_stream.specs.Headline.{IsPrefixOf}
 use Rattle.age_file.specs.Faults.{HasRisen}
-use Rattle.age_file.specs.Bindings.{link_if}
-use Rattle.age_file.specs.Skips.{side}
-use Rattle.age_file.specs.Releases.{tally}
+use Rattle.age_file.specs.inner.Bindings.{link_if}
+use Rattle.age_file.specs.inner.Skips.{side}
+use Rattle.age_file.specs.inner.Releases.{tally}
 use Rattle.age_file.proofs.Bytes.{Appends-then}
 use Rattle.age_file.proofs.StartSteps.{uses_front}
 use Rattle.age_file.proofs.SkipSteps.{passes_then, passes_same, dries_same}

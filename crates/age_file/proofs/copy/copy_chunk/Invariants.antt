@@ -1,7 +1,7 @@
 use Rattle.std.proofs.Common.{◌≡◌, ◌+◌, ◌++◌, ℕ, List, Some, length}
 use Rattle.std.specs.Io.KnownBytes.{Appends}
 use Rattle.sha2.specs.Hashers.{Holds256}
-use Rattle.age_file.specs.Skips.{side, Passes}
+use Rattle.age_file.specs.inner.Skips.{side, Passes}
 use Rattle.age_file.proofs.copy.copy_chunk.Given as goal
 
 -- what was copied so far

@@ -2,10 +2,10 @@ use Rattle.std.proofs.Common.{◌≡◌, ◌++◌, ◌∙◌, ◌+◌, ℕ, List
 use Rattle.std.proofs.lemmas.Result.{err_from_is_err_and}
 use Rattle.std.proofs.lemmas.List.{length-append}
 use Rattle.std.specs.Simd.{first_chunks}
-use Rattle.age_file.specs.Bindings.{chain_if, link_if}
+use Rattle.age_file.specs.inner.Bindings.{chain_if, link_if}
 use Rattle.age_file.specs.declared.position.Positions.TheVariants.{Kept}
-use Rattle.age_file.specs.Skips.{side}
-use Rattle.age_file.specs.Releases.{tally}
+use Rattle.age_file.specs.inner.Skips.{side}
+use Rattle.age_file.specs.inner.Releases.{tally}
 use Rattle.age_file.proofs.Bytes.{Appends-then}
 use Rattle.age_file.proofs.SkipSteps.{passes_then}
 use Rattle.age_file.proofs.CopySteps.{chain_more, chunk_failed}

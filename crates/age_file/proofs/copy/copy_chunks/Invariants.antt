@@ -1,9 +1,9 @@
 use Rattle.std.proofs.Common.{◌≡◌, ◌*◌, ℕ, List, length}
 use Rattle.std.specs.Io.KnownBytes.{Appends}
 use Rattle.std.specs.Simd.{first_chunks}
-use Rattle.age_file.specs.Bindings.{chain_if}
+use Rattle.age_file.specs.inner.Bindings.{chain_if}
 use Rattle.age_file.specs.declared.position.Positions.TheVariants.{Kept}
-use Rattle.age_file.specs.Skips.{side, Passes}
+use Rattle.age_file.specs.inner.Skips.{side, Passes}
 use Rattle.age_file.proofs.copy.copy_chunks.Given as goal
 
 -- the chunks that were copied so far

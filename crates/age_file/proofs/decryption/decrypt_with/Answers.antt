@@ -1,7 +1,7 @@
 use Rattle.std.proofs.KnownBytes.{Appends-nil}
 use Rattle.age_file.specs.Ports.{ports}
-use Rattle.age_file.specs.Releases.{tally}
-use Rattle.age_file.specs.Payloads.{stage}
+use Rattle.age_file.specs.inner.Releases.{tally}
+use Rattle.age_file.specs.inner.Payloads.{stage}
 use Rattle.age_file.proofs.DecryptSteps.{decrypted, decrypt_done, decrypt_fails, start_fails}
 use Rattle.age_file.proofs.Undamaged.{undamaged, undamaged_done}
 use Rattle.age_file.proofs.decryption.decrypt_with.Goals as goal

@@ -3,9 +3,9 @@ use Rattle.std.proofs.lemmas.Result.{err_from_is_err_and}
 use Rattle.std.specs.Io.KnownBytes.{Appends}
 use Rattle.age_cipher.specs.Aead.{sealing}
 use Rattle.age_keys.specs.Keys.{payload_key}
-use Rattle.age_file.specs.Encrypts.{BeginsFile}
+use Rattle.age_file.specs.inner.Encrypts.{BeginsFile}
 use Rattle.age_file.specs.Ports.{ports}
-use Rattle.age_file.specs.Seals.{SealsAll, SealsFront}
+use Rattle.age_file.specs.inner.Seals.{SealsAll, SealsFront}
 use Rattle.age_file.proofs.EncryptSteps.{front_cut, sealed_all, sealing_stopped}
 use Rattle.age_file.proofs.encryption.encrypt.Goals as goal
 

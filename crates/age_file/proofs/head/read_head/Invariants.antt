@@ -1,7 +1,7 @@
 use Rattle.std.proofs.Common.{◌-◌, ◌^◌, ◌≡◌, ◌<◌, ℕ, [], List, length}
 use Rattle.age_stanza.specs.Faults.{HasHeader}
 use Rattle.age_stanza.specs.Parsing.{reading}
-use Rattle.age_file.specs.Intakes.{Pulled}
+use Rattle.age_file.specs.inner.Intakes.{Pulled}
 use Rattle.age_file.proofs.head.read_head.Given as goal
 
 abbrev pub invariant-pieces : goal.invariant-pieces

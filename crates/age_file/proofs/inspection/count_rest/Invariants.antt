@@ -1,5 +1,5 @@
 use Rattle.std.proofs.Common.{◌≡◌, ◌+◌, ◌-◌, ◌*◌, ◌^◌, ◌≤◌, ◌++◌, [], ℕ, List, length, Option}
-use Rattle.age_file.specs.Intakes.{Pulled}
+use Rattle.age_file.specs.inner.Intakes.{Pulled}
 use Rattle.age_file.proofs.inspection.count_rest.Given as goal
 
 -- the bytes that were counted

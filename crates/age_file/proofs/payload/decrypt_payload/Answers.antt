@@ -1,7 +1,7 @@
 use Rattle.std.proofs.Common.{◌-◌, ◌<◌, ap, arith}
 use Rattle.std.proofs.lemmas.Result.{err_from_is_err_and}
-use Rattle.age_file.specs.Flows.{flow}
-use Rattle.age_file.specs.Releases.{tally}
+use Rattle.age_file.specs.inner.Flows.{flow}
+use Rattle.age_file.specs.inner.Releases.{tally}
 use Rattle.age_file.proofs.PayloadSteps.{pour_stopped, pour_ended}
 use Rattle.age_file.proofs.payload.decrypt_payload.Goals as goal
 

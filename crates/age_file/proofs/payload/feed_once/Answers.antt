@@ -3,7 +3,7 @@ use Rattle.std.proofs.lemmas.Result.{err_from_is_err_and}
 use Rattle.std.proofs.lemmas.List.{take-append-drop}
 use Rattle.std.proofs.KnownBytes.{Appends-nil}
 use Rattle.age_stream.specs.Deliveries.{with_piece}
-use Rattle.age_file.specs.Releases.{tally}
+use Rattle.age_file.specs.inner.Releases.{tally}
 use Rattle.age_file.proofs.ReleaseSteps.{more_text, fed_front, goes_front, counts_whole, counts_refused, counts_cut}
 use Rattle.age_file.proofs.payload.feed_once.Goals as goal
 

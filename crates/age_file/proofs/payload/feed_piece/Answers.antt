@@ -2,7 +2,7 @@ use Rattle.std.proofs.Common.{◌≡◌, ◌+◌, ◌-◌, length, take, drop, s
 use Rattle.std.proofs.lemmas.Result.{err_from_is_err_and}
 use Rattle.std.proofs.lemmas.List.{take_rest, take-append-drop, length-append, length-drop, append_assoc, take_at, take_all}
 use Rattle.age_file.proofs.ReleaseSteps.{both_then, releases_none, releases_then, fails_then}
-use Rattle.age_file.specs.Releases.{tally}
+use Rattle.age_file.specs.inner.Releases.{tally}
 use Rattle.age_file.proofs.payload.feed_piece.Goals as goal
 
 -- the front of what is left of a piece

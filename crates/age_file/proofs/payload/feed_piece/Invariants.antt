@@ -1,6 +1,6 @@
 use Rattle.std.proofs.Common.{length, ◌-◌, ◌≤◌, take, []}
 use Rattle.age_stream.specs.Deliveries.{with_piece}
-use Rattle.age_file.specs.Releases.{tally, Releases, FeedGoes}
+use Rattle.age_file.specs.inner.Releases.{tally, Releases, FeedGoes}
 use Rattle.age_file.proofs.payload.feed_piece.Given as goal
 
 abbrev pub invariant-loop-at : goal.invariant-loop-at

@@ -1,7 +1,7 @@
 use Rattle.std.proofs.Common.{refl, ◌-◌}
 use Rattle.std.proofs.lemmas.Result.{err_from_is_err_and}
-use Rattle.age_file.specs.Releases.{tally}
-use Rattle.age_file.specs.Flows.{flow}
+use Rattle.age_file.specs.inner.Releases.{tally}
+use Rattle.age_file.specs.inner.Flows.{flow}
 use Rattle.age_file.proofs.FlowSteps.{flows_none, all_stopped, all_done, on}
 use Rattle.age_file.proofs.payload.open_all.Goals as goal
 

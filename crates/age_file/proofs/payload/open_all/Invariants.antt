@@ -1,6 +1,6 @@
 use Rattle.std.proofs.Common.{◌-◌, ◌^◌, []}
-use Rattle.age_file.specs.Releases.{tally}
-use Rattle.age_file.specs.Flows.{flow, Flows, HasRoom, SameFailures}
+use Rattle.age_file.specs.inner.Releases.{tally}
+use Rattle.age_file.specs.inner.Flows.{flow, Flows, HasRoom, SameFailures}
 use Rattle.age_file.proofs.payload.open_all.Given as goal
 
 abbrev pub invariant-turns : goal.invariant-turns

@@ -1,6 +1,6 @@
 use Rattle.std.proofs.Common.{refl, inr}
-use Rattle.age_file.specs.Releases.{tally}
-use Rattle.age_file.specs.Payloads.{stage}
+use Rattle.age_file.specs.inner.Releases.{tally}
+use Rattle.age_file.specs.inner.Payloads.{stage}
 use Rattle.age_file.proofs.ResumesPayloadSteps.{place_behind}
 use Rattle.age_file.proofs.resumption.open_rest.Goals as goal
 

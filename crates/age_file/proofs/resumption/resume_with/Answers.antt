@@ -1,8 +1,8 @@
 use Rattle.std.proofs.Common.{None}
 use Rattle.std.proofs.KnownBytes.{Appends-nil}
-use Rattle.age_file.specs.Releases.{tally}
-use Rattle.age_file.specs.Skips.{side}
-use Rattle.age_file.specs.Payloads.{stage}
+use Rattle.age_file.specs.inner.Releases.{tally}
+use Rattle.age_file.specs.inner.Skips.{side}
+use Rattle.age_file.specs.inner.Payloads.{stage}
 use Rattle.age_file.specs.Ports.{ports}
 use Rattle.age_file.specs.Resumes.{resume_ports}
 use Rattle.age_file.proofs.ResumeSteps.{start_fails, verdict_fails, copy_fails, resume_done, resume_fails}

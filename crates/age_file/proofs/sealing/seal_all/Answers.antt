@@ -3,7 +3,7 @@ use Rattle.std.proofs.lemmas.Result.{err_from_is_err_and}
 use Rattle.std.proofs.lemmas.Nat.{mul-le}
 use Rattle.age_file.specs.Ports.{ports}
 use Rattle.age_file.specs.Faults.{HasRisen}
-use Rattle.age_file.specs.Seals.{front_of, tally, Wrote, SealingFails, SealsAll, SealsFront}
+use Rattle.age_file.specs.inner.Seals.{front_of, tally, Wrote, SealingFails, SealsAll, SealsFront}
 use Rattle.age_file.proofs.SealSteps.{front_small}
 use Rattle.age_file.proofs.SourceSteps.{last_written, last_begins, last_whole}
 use Rattle.age_file.specs.declared.fault.FileFault.{FileFault}

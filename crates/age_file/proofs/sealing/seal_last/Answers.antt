@@ -1,5 +1,5 @@
 use Rattle.std.proofs.Common.{◌-◌, ◌++◌, ◌∙◌, ap, List, ℕ}
-use Rattle.age_file.specs.Seals.{front_of}
+use Rattle.age_file.specs.inner.Seals.{front_of}
 use Rattle.age_file.proofs.Bytes.{answer_as}
 use Rattle.age_file.proofs.sealing.seal_last.Goals as goal
 

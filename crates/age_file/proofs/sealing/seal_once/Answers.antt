@@ -4,7 +4,7 @@ use Rattle.std.proofs.lemmas.List.{length-take}
 use Rattle.std.proofs.KnownBytes.{Appends-nil}
 use Rattle.age_stream.specs.Sealing.{too_many}
 use Rattle.age_stream.specs.Lent.{chunk_bytes}
-use Rattle.age_file.specs.Seals.{front_of}
+use Rattle.age_file.specs.inner.Seals.{front_of}
 use Rattle.age_file.proofs.SealSteps.{step_len_le, step_len_some, at_limit, too_long, some_sealed}
 use Rattle.age_file.proofs.sealing.seal_once.Goals as goal
 

@@ -2,7 +2,7 @@ use Rattle.std.proofs.Common.{◌≡◌, ◌+◌, ◌-◌, length, take, drop, a
 use Rattle.std.proofs.lemmas.Result.{err_from_is_err_and}
 use Rattle.std.proofs.KnownBytes.{Appends-nil}
 use Rattle.std.proofs.lemmas.List.{take-append-drop, take_rest, length-append, length-drop}
-use Rattle.age_file.specs.Seals.{SealsSome, GoesOn, SealFails, front_of, tally}
+use Rattle.age_file.specs.inner.Seals.{SealsSome, GoesOn, SealFails, front_of, tally}
 use Rattle.age_file.proofs.SealSteps.{next_some, fed_alone, fed_is, goes_then, fails_then, room_left}
 use Rattle.age_file.proofs.sealing.seal_piece.Goals as goal
 

@@ -1,5 +1,5 @@
 use Rattle.std.proofs.Common.{length, ◌-◌, ◌≡◌, ◌≤◌, take, []}
-use Rattle.age_file.specs.Seals.{tally, SealsSome, GoesOn}
+use Rattle.age_file.specs.inner.Seals.{tally, SealsSome, GoesOn}
 use Rattle.age_file.proofs.sealing.seal_piece.Given as goal
 
 -- what was fed so far

@@ -2,8 +2,8 @@ use Rattle.std.proofs.Common.{◌≡◌, ◌-◌, ◌<◌, length, ap, sym, subs
 use Rattle.std.proofs.lemmas.Result.{err_from_is_err_and}
 use Rattle.std.proofs.KnownBytes.{Appends-nil, Consumes-nil}
 use Rattle.std.proofs.lemmas.List.{length-append}
-use Rattle.age_file.specs.Intakes.{Pulled}
-use Rattle.age_file.specs.Seals.{Wrote, front_of, tally}
+use Rattle.age_file.specs.inner.Intakes.{Pulled}
+use Rattle.age_file.specs.inner.Seals.{Wrote, front_of, tally}
 use Rattle.age_file.specs.Ports.{ports}
 use Rattle.age_file.proofs.Bytes.{cut_pulled}
 use Rattle.age_file.proofs.SourceSteps.{front_begins, no_front, piece_done, piece_cut, pull_fails, seal_fails}

@@ -1,6 +1,6 @@
 use Rattle.std.proofs.Common.{◌-◌, ◌^◌, ◌≡◌, ℕ, [], List, length}
-use Rattle.age_file.specs.Intakes.{Pulled}
-use Rattle.age_file.specs.Seals.{tally, Wrote, GoesOn, front_of}
+use Rattle.age_file.specs.inner.Intakes.{Pulled}
+use Rattle.age_file.specs.inner.Seals.{tally, Wrote, GoesOn, front_of}
 use Rattle.age_file.proofs.sealing.seal_source.Given as goal
 
 -- the text that came so far

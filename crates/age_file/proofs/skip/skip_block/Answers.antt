@@ -1,7 +1,7 @@
 use Rattle.std.proofs.Common.{◌++◌, refl, take, arith}
 use Rattle.std.proofs.lemmas.Result.{err_from_is_err_and}
 use Rattle.std.proofs.lemmas.List.{length-append, length-take}
-use Rattle.age_file.specs.Skips.{side}
+use Rattle.age_file.specs.inner.Skips.{side}
 use Rattle.age_file.proofs.StartSteps.{uses_front}
 use Rattle.age_file.proofs.SkipSteps.{passes_then, passes_same, dries_same}
 use Rattle.age_file.proofs.skip.skip_block.Goals as goal

@@ -1,5 +1,5 @@
 use Rattle.std.proofs.Common.{◌≡◌, ◌+◌, ℕ, List, length}
-use Rattle.age_file.specs.Skips.{side, Passes}
+use Rattle.age_file.specs.inner.Skips.{side, Passes}
 use Rattle.age_file.proofs.skip.skip_block.Given as goal
 
 abbrev pub invariant-parts : goal.invariant-parts

@@ -1,7 +1,7 @@
 use Rattle.std.proofs.Common.{◌≡◌, ◌+◌, take, [], List, ℕ, sym, subst, arith, append-nil, ◌∙◌}
 use Rattle.std.proofs.lemmas.Result.{err_from_is_err_and}
 use Rattle.std.proofs.lemmas.List.{length-take, take_all}
-use Rattle.age_file.specs.Starts.{Uses}
+use Rattle.age_file.specs.inner.Starts.{Uses}
 use Rattle.age_file.proofs.StartSteps.{uses_then, uses_front, nonce_fails}
 use Rattle.age_file.proofs.start.take_nonce.Goals as goal
 

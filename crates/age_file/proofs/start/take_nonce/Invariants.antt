@@ -1,5 +1,5 @@
 use Rattle.std.proofs.Common.{◌-◌, ◌≡◌, ◌≤◌, take, length}
-use Rattle.age_file.specs.Starts.{Uses}
+use Rattle.age_file.specs.inner.Starts.{Uses}
 use Rattle.age_file.proofs.start.take_nonce.Given as goal
 
 abbrev pub invariant-parts : goal.invariant-parts

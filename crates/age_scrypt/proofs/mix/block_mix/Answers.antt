@@ -1,8 +1,8 @@
 use Rattle.std.proofs.Common.{◌≡◌, ◌+◌, ◌*◌, ◌/◌, ◌%◌, ◌<◌, ◌∙◌, ℕ, List, bit_xor, sym, ap₂, arith, add-one, below_more}
 use Rattle.std.proofs.lemmas.Simd.{length-zip2}
 use Rattle.age_scrypt.specs.BlockMix.{part, chained, xor_words}
-use Rattle.age_scrypt.specs.Lanes.{words}
-use Rattle.age_scrypt.specs.Turned.{turned, IsTurned}
+use Rattle.age_scrypt.specs.inner.Lanes.{words}
+use Rattle.age_scrypt.specs.inner.Turned.{turned, IsTurned}
 use Rattle.age_scrypt.proofs.TurnLemmas.{zip2-turned, length-part, length-chained, mixed_turned}
 use Rattle.age_scrypt.proofs.mix.block_mix.Goals as goal
 

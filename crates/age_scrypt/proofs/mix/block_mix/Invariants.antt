@@ -1,7 +1,7 @@
 use Rattle.std.proofs.Common.{◌≡◌, ◌+◌, ◌*◌, ◌/◌, ◌%◌, ◌<◌, ℕ, List}
 use Rattle.age_scrypt.specs.BlockMix.{part, chained}
-use Rattle.age_scrypt.specs.Lanes.{words}
-use Rattle.age_scrypt.specs.Turned.{turned, IsTurned}
+use Rattle.age_scrypt.specs.inner.Lanes.{words}
+use Rattle.age_scrypt.specs.inner.Turned.{turned, IsTurned}
 use Rattle.age_scrypt.proofs.mix.block_mix.Given as goal
 
 abbrev pub invariant-loop-i : goal.invariant-loop-i

@@ -3,7 +3,7 @@ use Rattle.std.proofs.lemmas.List.{length-append}
 use Rattle.std.proofs.lemmas.Slice.{pushed}
 use Rattle.age_scrypt.specs.BlockMix.{part}
 use Rattle.age_scrypt.specs.Romix.{mixed_times}
-use Rattle.age_scrypt.specs.Turned.{IsTurned}
+use Rattle.age_scrypt.specs.inner.Turned.{IsTurned}
 use Rattle.age_scrypt.proofs.PartLemmas.{part-append_right}
 use Rattle.age_scrypt.proofs.RomixLemmas.{table_more, mixed_times_more}
 use Rattle.age_scrypt.proofs.romix.fill.Goals as goal

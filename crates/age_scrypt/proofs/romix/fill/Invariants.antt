@@ -1,7 +1,7 @@
 use Rattle.std.proofs.Common.{◌≡◌, ◌+◌, ◌*◌, ◌≤◌, ℕ, List, vec_len, vec_capacity}
 use Rattle.age_scrypt.specs.Romix.{mixed_times}
-use Rattle.age_scrypt.specs.Table.{IsTable}
-use Rattle.age_scrypt.specs.Turned.{IsTurned}
+use Rattle.age_scrypt.specs.inner.Table.{IsTable}
+use Rattle.age_scrypt.specs.inner.Turned.{IsTurned}
 use Rattle.age_scrypt.proofs.romix.fill.Given as goal
 
 abbrev pub invariant-loop-i : goal.invariant-loop-i

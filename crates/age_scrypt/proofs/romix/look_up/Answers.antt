@@ -2,8 +2,8 @@ use Rattle.std.proofs.Common.{◌≡◌, ◌+◌, ◌-◌, ◌*◌, ◌%◌, ◌
 use Rattle.std.proofs.lemmas.List.{length-take, length-drop}
 use Rattle.age_scrypt.specs.BlockMix.{part, xor_words}
 use Rattle.age_scrypt.specs.Romix.{mixed_times, looked_up, integerify}
-use Rattle.age_scrypt.specs.Table.{IsTable}
-use Rattle.age_scrypt.specs.Turned.{IsTurned}
+use Rattle.age_scrypt.specs.inner.Table.{IsTable}
+use Rattle.age_scrypt.specs.inner.Turned.{IsTurned}
 use Rattle.age_scrypt.proofs.TurnLemmas.{xor_turned}
 use Rattle.age_scrypt.proofs.RomixLemmas.{table_at, looked_up_more}
 use Rattle.age_scrypt.proofs.romix.look_up.Goals as goal

@@ -1,7 +1,7 @@
 use Rattle.std.proofs.Common.{◌≡◌, ◌+◌, ℕ, List}
 use Rattle.age_scrypt.specs.Romix.{mixed_times, looked_up}
-use Rattle.age_scrypt.specs.Table.{IsTable}
-use Rattle.age_scrypt.specs.Turned.{IsTurned}
+use Rattle.age_scrypt.specs.inner.Table.{IsTable}
+use Rattle.age_scrypt.specs.inner.Turned.{IsTurned}
 use Rattle.age_scrypt.proofs.romix.look_up.Given as goal
 
 abbrev pub invariant-loop-round : goal.invariant-loop-round

@@ -1,6 +1,6 @@
 use Rattle.std.proofs.Common.{subst}
 use Rattle.age_scrypt.specs.Salsa.{columns}
-use Rattle.age_scrypt.specs.Lanes.{IsDiagonals, transpose}
+use Rattle.age_scrypt.specs.inner.Lanes.{IsDiagonals, transpose}
 use Rattle.age_scrypt.proofs.LaneLemmas.{length-columns, length-transpose, transpose-columns_of-transpose}
 use Rattle.age_scrypt.proofs.SalsaLemmas.{columns_on_diagonals}
 use Rattle.age_scrypt.proofs.salsa.double_round.Goals as goal

@@ -1,5 +1,5 @@
 use Rattle.std.proofs.Common.{◌≡◌, [], drop}
-use Rattle.age_stanza.specs.LineMachine.{arguments_from}
+use Rattle.age_stanza.specs.inner.LineMachine.{arguments_from}
 use Rattle.age_stanza.proofs.arguments.arguments_in.Given as goal
 
 -- what is left gives the answer

@@ -1,7 +1,7 @@
 use Rattle.std.proofs.Common.{◌≡◌, [], length, ap, sym, ◌∙◌, arith, rules, tests}
 use Rattle.std.proofs.lemmas.Bool.{eqb-false, false≢true}
 use Rattle.std.proofs.lemmas.Iterator.{cases_from_all, YieldsList-from_slice}
-use Rattle.age_stanza.specs.Lengths.{HasArguments}
+use Rattle.age_stanza.specs.inner.Lengths.{HasArguments}
 use Rattle.age_stanza.proofs.Elements.{all_is}
 use Rattle.age_stanza.proofs.TextLengths.{has_text, text_within}
 use Rattle.age_stanza.proofs.lawful.is_header.Goals as goal

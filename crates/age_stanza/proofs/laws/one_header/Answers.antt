@@ -2,7 +2,7 @@ use Rattle.std.proofs.Common.{◌≡◌, ◌∙◌, sym, ap, List, ℕ, ◌++◌
 use Rattle.age_stanza.specs.declared.header.Header.{Header}
 use Rattle.age_stanza.specs.declared.place.Place.TheVariants.{Start}
 use Rattle.age_stanza.specs.Grammar.{Spells, head_text}
-use Rattle.age_stanza.specs.LineMachine.{ready, walk}
+use Rattle.age_stanza.specs.inner.LineMachine.{ready, walk}
 use Rattle.age_stanza.proofs.Complete.{text_walk}
 use Rattle.age_stanza.proofs.laws.one_header.Goals as goal
 

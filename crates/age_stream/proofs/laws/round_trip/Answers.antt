@@ -1,5 +1,5 @@
 use Rattle.age_stream.specs.Clear.{clear_sealing, clear_opening}
-use Rattle.age_stream.specs.ClearLaw.{clear_lawful}
+use Rattle.age_stream.specs.inner.ClearLaw.{clear_lawful}
 use Rattle.age_stream.proofs.Authentic.{comes_back, clear_closed}
 use Rattle.age_stream.proofs.laws.round_trip.Goals as goal
 

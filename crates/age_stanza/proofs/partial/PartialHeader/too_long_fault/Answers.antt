@@ -1,7 +1,7 @@
 use Rattle.std.proofs.Common.{◌≡◌, ◌∷◌, ◌++◌, ◌∙◌, List, ℕ, [], length, take, ap, sym, arith, refl}
 use Rattle.std.proofs.lemmas.Bool.{eqb-true, eq-eqb, false≢true}
 use Rattle.age_stanza.specs.Faults.{line_after}
-use Rattle.age_stanza.specs.Retelling.{retold, LeadTo}
+use Rattle.age_stanza.specs.inner.Retelling.{retold, LeadTo}
 use Rattle.age_stanza.specs.declared.fault.HeadFault.{HeadFault}
 use Rattle.age_stanza.specs.declared.fault.HeadKind.TheVariants.{HeadTooLong}
 use Rattle.age_stanza.specs.declared.place.Place.{Place}

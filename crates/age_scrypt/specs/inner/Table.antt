@@ -2,7 +2,7 @@
 use Rattle.std.specs.Prelude.{ℕ, ◌<◌, List}
 use Rattle.age_scrypt.specs.BlockMix.{part}
 use Rattle.age_scrypt.specs.Romix.{mixed_times}
-use Rattle.age_scrypt.specs.Turned.{IsTurned}
+use Rattle.age_scrypt.specs.inner.Turned.{IsTurned}
 
 -- block i of the table is V i of the block b, turned, for each i below n
 pub record IsTable (b : List ℕ) (n : ℕ) (table : List ℕ) : Type 0 where

@@ -2,9 +2,9 @@
 use Rattle.std.specs.Prelude.{◌≡◌, ℕ, ◌+◌, ◌*◌, ◌<◌, ◌≤◌, List, [], length, Option, Result, Ok, Err, Bool, true, false}
 use Rattle.std.specs.Io.KnownBytes.{IsAtEnd}
 use Rattle.age_stream.specs.declared.fault.StreamKind.TheVariants.{Truncated}
-use Rattle.age_file.specs.Unread.{Unread}
-use Rattle.age_file.specs.Intakes.{PullFails}
-use Rattle.age_file.specs.Starts.{Uses}
+use Rattle.age_file.specs.inner.Unread.{Unread}
+use Rattle.age_file.specs.inner.Intakes.{PullFails}
+use Rattle.age_file.specs.inner.Starts.{Uses}
 use Rattle.age_file.specs.declared.fault.FileFault.{FileFault}
 use Rattle.age_file.specs.declared.fault.FileFault.TheVariants.{Stream, Read, ReadNeverEnds}
 

@@ -3,7 +3,7 @@ use Rattle.std.specs.Prelude.{◌≡◌, ℕ, ◌+◌, ◌*◌, ◌^◌, ◌<◌
 use Rattle.std.specs.Io.KnownBytes.{Consumes, IsAtEnd}
 use Rattle.age_stanza.specs.Grammar.{HeadText}
 use Rattle.age_file.specs.Faults.{HasRisen}
-use Rattle.age_file.specs.Unread.{Unread}
+use Rattle.age_file.specs.inner.Unread.{Unread}
 use Rattle.age_file.specs.declared.head.Head.{Head}
 use Rattle.age_file.specs.declared.fault.FileFault.{FileFault}
 use Rattle.age_file.specs.declared.fault.FileFault.TheVariants.{Read, ReadNeverEnds}

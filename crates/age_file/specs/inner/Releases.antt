@@ -6,7 +6,7 @@ use Rattle.age_stream.specs.Segment.{Segment, released}
 use Rattle.age_stream.specs.Deliveries.{with_piece, with_end}
 use Rattle.age_stream.specs.Opening.{OpenerView, Stands}
 use Rattle.age_file.specs.Faults.{HasRisen}
-use Rattle.age_file.specs.Counts.{CountsChunks}
+use Rattle.age_file.specs.inner.Counts.{CountsChunks}
 use Rattle.age_file.specs.declared.position.Positions.{Positions}
 use Rattle.age_file.specs.declared.progress.Progress.{Progress}
 use Rattle.age_file.specs.declared.fault.FileFault.{FileFault}

@@ -1,8 +1,8 @@
 -- What was made of the bytes behind a nonce from a later chunk on. Only private functions cite this.
 use Rattle.std.specs.Prelude.{◌≡◌, ◌⊎◌, ℕ, ◌*◌, List, ◌++◌, length, Option, Result, Err}
-use Rattle.age_file.specs.Intakes.{Pulled}
-use Rattle.age_file.specs.Skips.{Side, side, Passes, SkipFails}
-use Rattle.age_file.specs.Payloads.{Stage, DecryptsPayload}
+use Rattle.age_file.specs.inner.Intakes.{Pulled}
+use Rattle.age_file.specs.inner.Skips.{Side, side, Passes, SkipFails}
+use Rattle.age_file.specs.inner.Payloads.{Stage, DecryptsPayload}
 use Rattle.age_file.specs.declared.fault.FileFault.{FileFault}
 
 abbrev pub side_of : Stage → Side

@@ -4,11 +4,12 @@ use Rattle.std.specs.Simd.{first_chunks}
 use Rattle.std.specs.Io.KnownBytes.{Appends, IsAtEnd}
 use Rattle.age_stream.specs.Headline.{IsPrefixOf}
 use Rattle.age_file.specs.Faults.{HasRisen}
-use Rattle.age_file.specs.Bindings.{link_if, chain, chain_if}
+use Rattle.age_file.specs.Bindings.{chain}
+use Rattle.age_file.specs.inner.Bindings.{link_if, chain_if}
 use Rattle.age_file.specs.declared.position.Positions.{Positions}
 use Rattle.age_file.specs.declared.position.Positions.TheVariants.{Kept}
-use Rattle.age_file.specs.Releases.{Tally}
-use Rattle.age_file.specs.Skips.{Side, Passes, Dries}
+use Rattle.age_file.specs.inner.Releases.{Tally}
+use Rattle.age_file.specs.inner.Skips.{Side, Passes, Dries}
 use Rattle.age_file.specs.declared.fault.FileFault.{FileFault}
 use Rattle.age_file.specs.declared.fault.FileFault.TheVariants.{ShortText, Read, Write, ReadNeverEnds, OldTextDiffers}
 

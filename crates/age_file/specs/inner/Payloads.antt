@@ -6,11 +6,11 @@ use Rattle.age_stream.specs.declared.step.Status.TheVariants.{Failed, Done}
 use Rattle.age_stream.specs.Segment.{Segment, outcome, released}
 use Rattle.age_stream.specs.Headline.{IsPrefixOf}
 use Rattle.age_file.specs.Faults.{HasRisen}
-use Rattle.age_file.specs.Unread.{Unread}
-use Rattle.age_file.specs.Intakes.{Pulled}
-use Rattle.age_file.specs.Releases.{Tally}
-use Rattle.age_file.specs.Bindings.{chain_if}
-use Rattle.age_file.specs.Counts.{HasCounted}
+use Rattle.age_file.specs.inner.Unread.{Unread}
+use Rattle.age_file.specs.inner.Intakes.{Pulled}
+use Rattle.age_file.specs.inner.Releases.{Tally}
+use Rattle.age_file.specs.inner.Bindings.{chain_if}
+use Rattle.age_file.specs.inner.Counts.{HasCounted}
 use Rattle.age_file.specs.declared.position.Positions.{Positions}
 use Rattle.age_file.specs.Decrypts.{segment}
 use Rattle.age_file.specs.declared.fault.FileFault.{FileFault}

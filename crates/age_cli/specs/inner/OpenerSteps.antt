@@ -5,7 +5,7 @@ use Rattle.age_keys.specs.Keys.{SpellsKey}
 use Rattle.age_keys.specs.Passphrase.{IsAllowed}
 use Rattle.age_cli.specs.Held.{Held}
 use Rattle.age_cli.specs.Events.{Event, Opened}
-use Rattle.age_cli.specs.Requests.{text_of}
+use Rattle.age_cli.specs.inner.Requests.{text_of}
 use Rattle.age_cli.specs.Openers.{Opener, Options, ByWords, ByKey, ByShared, without_line_feed, IsSharedIn}
 use Rattle.age_cli.specs.declared.request.Unlocking.{Unlocking}
 use Rattle.age_cli.specs.declared.opener.Chosen.{Chosen}

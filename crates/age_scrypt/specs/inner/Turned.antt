@@ -1,7 +1,7 @@
 -- What only private functions cite: a block that is kept with the diagonals of each part in place of its rows.
 use Rattle.std.specs.Prelude.{◌≡◌, ℕ, ◌<◌, List, ◌++◌, length}
 use Rattle.age_scrypt.specs.BlockMix.{part}
-use Rattle.age_scrypt.specs.Lanes.{at_places}
+use Rattle.age_scrypt.specs.inner.Lanes.{at_places}
 
 -- the diagonals of sixteen words, one after the other: word k is word 5 k mod 16 of x
 unfoldable pub turned : List ℕ → List ℕ

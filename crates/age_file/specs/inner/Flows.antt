@@ -5,9 +5,9 @@ use Rattle.age_stream.specs.declared.step.Status.TheVariants.{Failed}
 use Rattle.age_stream.specs.Deliveries.{with_piece}
 use Rattle.age_stream.specs.Opening.{OpenerView}
 use Rattle.age_file.specs.Faults.{HasRisen}
-use Rattle.age_file.specs.Unread.{Unread}
-use Rattle.age_file.specs.Intakes.{Pulled}
-use Rattle.age_file.specs.Releases.{Tally, Releases}
+use Rattle.age_file.specs.inner.Unread.{Unread}
+use Rattle.age_file.specs.inner.Intakes.{Pulled}
+use Rattle.age_file.specs.inner.Releases.{Tally, Releases}
 use Rattle.age_file.specs.declared.fault.FileFault.{FileFault}
 use Rattle.age_file.specs.declared.fault.FileFault.TheVariants.{Stream, Read, Write, ReadNeverEnds}
 

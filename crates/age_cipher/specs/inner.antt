@@ -1,0 +1,4 @@
+pub mod Absorbing
+pub mod Limbs
+pub mod Places
+pub mod Sums

@@ -1,0 +1,10 @@
+pub mod Asking
+pub mod Commands
+pub mod Endings
+pub mod Entries
+pub mod Events
+pub mod Fronts
+pub mod Held
+pub mod OpenerSteps
+pub mod Randoms
+pub mod Requests

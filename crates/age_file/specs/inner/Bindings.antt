@@ -1,0 +1,15 @@
+-- What binds a position to its file and to the text before it. Not of the age format.
+use Rattle.std.specs.Prelude.{ℕ, List, Option, Some, None}
+use Rattle.age_file.specs.declared.position.Positions.{Positions}
+use Rattle.age_file.specs.declared.position.Positions.TheVariants.{Kept, Dropped}
+use Rattle.age_file.specs.Bindings.{link, chain}
+
+-- the chain where positions are kept, and none where they are dropped
+abbrev pub chain_if : Positions → List (List ℕ) → Option (List ℕ)
+chain_if Kept chunks = Some (chain chunks)
+chain_if Dropped chunks = None
+
+-- one more link, where there is a chain
+abbrev pub link_if : Option (List ℕ) → List ℕ → Option (List ℕ)
+link_if (Some so_far) chunk = Some (link so_far chunk)
+link_if None chunk = None

@@ -1,0 +1,17 @@
+-- Whether a position is a file's, and was made under its key.
+use Rattle.std.specs.Prelude.{◌≡◌, ◌≢◌, ℕ, List, Result, MatchResult}
+use Rattle.age_file.specs.Bindings.{file_id}
+use Rattle.age_file.specs.declared.position.Position.{Position}
+use Rattle.age_file.specs.declared.fault.FileFault.{FileFault}
+use Rattle.age_file.specs.declared.fault.FileFault.TheVariants.{OtherFile, PositionForged}
+use Rattle.age_file.specs.Verdicts.{IsTagged}
+
+-- why a position is refused, for a file of this id, key and nonce
+abbrev pub PositionRefused : Position → List ℕ → List ℕ → List ℕ → FileFault → Type 0
+PositionRefused p id key nonce OtherFile = p.file_id ≢ id
+PositionRefused p id key nonce PositionForged = (p.file_id ≡ id) × ¬ IsTagged p key nonce
+PositionRefused p id key nonce other = ⊥
+
+abbrev pub VerdictOn : Position → List ℕ → List ℕ → List ℕ → Result (Unit {0}) FileFault → Type 0
+VerdictOn p id key nonce result = MatchResult result
+    (λ _. (p.file_id ≡ id) × IsTagged p key nonce) (PositionRefused p id key nonce)

@@ -1,0 +1,3 @@
+pub mod Lanes
+pub mod Table
+pub mod Turned

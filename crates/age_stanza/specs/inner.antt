@@ -1,0 +1,4 @@
+pub mod Lengths
+pub mod LineMachine
+pub mod Retelling
+pub mod Steps

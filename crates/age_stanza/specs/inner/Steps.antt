@@ -1,0 +1,38 @@
+-- Private: no public contract cites this module.
+-- What the end of a line, some bytes and a piece do to a part of a header.
+use Rattle.std.specs.Prelude.{◌≡◌, ◌⊎◌, ℕ, ◌<◌, ◌≤◌, List, [], ◌∷◌, ◌++◌, length, take, drop, Result, Ok, Err}
+use Rattle.age_stanza.specs.declared.fault.HeadFault.{HeadFault}
+use Rattle.age_stanza.specs.declared.place.Place.TheVariants.{Start}
+use Rattle.age_stanza.specs.declared.partial.Progress.{Progress}
+use Rattle.age_stanza.specs.declared.partial.Progress.TheVariants as progress
+use Rattle.age_stanza.specs.declared.piece.Reading.{Reading}
+use Rattle.age_stanza.specs.declared.piece.Reading.TheVariants as reads
+use Rattle.age_stanza.specs.Grammar.{HeadText}
+use Rattle.age_stanza.specs.Faults.{HasHeader, IsFault, memory_fault}
+use Rattle.age_stanza.specs.inner.LineMachine.{walk, ready, faulty}
+use Rattle.age_stanza.specs.inner.Retelling.{IsUnderWay}
+
+-- the LF of a line
+abbrev pub EndsLine : List ℕ → Result Progress HeadFault → Type 0
+EndsLine held (Ok (progress.More longer)) = longer ≡ held ++ 10 ∷ []
+EndsLine held (Ok (progress.Whole h)) = (rest : List ℕ)
+    → walk Start 1 [] (held ++ 10 ∷ rest) ≡ ready h rest
+EndsLine held (Err fault) = (fault ≡ memory_fault)
+    ⊎ ((rest : List ℕ) → walk Start 1 [] (held ++ 10 ∷ rest) ≡ faulty fault)
+
+-- bytes that are all read
+abbrev pub ReadsLines : List ℕ → List ℕ → Result Reading HeadFault → Type 0
+ReadsLines held bytes (Ok (reads.More longer)) = longer ≡ held ++ bytes
+ReadsLines held bytes (Ok (reads.Ready taken h)) = (taken ≤ length bytes)
+    × (walk Start 1 [] (held ++ bytes) ≡ ready h (drop taken bytes))
+ReadsLines held bytes (Err fault) = (fault ≡ memory_fault)
+    ⊎ (walk Start 1 [] (held ++ bytes) ≡ faulty fault)
+
+-- a piece, of which no more is read than the limit allows
+abbrev pub TakesPiece : List ℕ → List ℕ → Result Reading HeadFault → Type 0
+TakesPiece held piece (Ok (reads.More longer)) = (longer ≡ held ++ piece)
+    × (length (held ++ piece) < 1048576) × IsUnderWay (held ++ piece)
+TakesPiece held piece (Ok (reads.Ready taken h)) = (taken ≤ length piece)
+    × HeadText h (held ++ take taken piece)
+TakesPiece held piece (Err fault) = (fault ≡ memory_fault)
+    ⊎ ((HasHeader (held ++ piece) → ⊥) × IsFault (held ++ piece) fault)

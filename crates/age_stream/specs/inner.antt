@@ -1,0 +1,5 @@
+pub mod ClearLaw
+pub mod OpenerSteps
+pub mod Replaying
+pub mod SealerSteps
+pub mod SegmentSteps
