@@ -1,6 +1,7 @@
 -- What files over memory hold.
-use Rattle.std.specs.Prelude.{ℕ, Bool, List, Option, find, option_map}
+use Rattle.std.specs.Prelude.{ℕ, ◌-◌, ◌^◌, Bool, false, List, [], Option, None, find, option_map}
 use Rattle.std.specs.Str.{bytes_eq}
+use Rattle.age_file.specs.Memory.{Holding}
 use Rattle.age_cli.specs.Events.{Event}
 use Rattle.age_cli.specs.declared.mem_entry.MemEntry.{MemEntry}
 
@@ -17,3 +18,15 @@ pub record Shelf : Type 0 where
   pub refused : List (List ℕ)
   pub room : ℕ
   pub events : List Event
+
+-- the sink of a new file that holds at most so many bytes
+abbrev pub empty_with : ℕ → Holding
+empty_with room = record {
+  held = [];
+  room = room;
+  step = 2 ^ 64 - 1;
+  fail_call = None;
+  calls = 0;
+  failures = 0;
+  settled = false;
+}

@@ -1,7 +1,6 @@
 pub mod Asking
 pub mod Commands
 pub mod Endings
-pub mod Entries
 pub mod Events
 pub mod Fronts
 pub mod Held

@@ -151,6 +151,6 @@ pub(crate) fn encrypt_file<F: FileSet>(
     };
     let mut source = files.open(alloc, asked.from)?;
     let out = files.create(alloc, asked.to)?;
-    write_out(alloc, files, &mut source, &secret, out, Durability::Synced)?;
+    write_out(alloc, files, &mut source, &secret, out, asked.durability)?;
     Ok(())
 }

@@ -34,7 +34,7 @@ enum Target {
     Faults(Stderr),
 }
 
-/// A file of the machine that is written, or standard output or error. A regular file is emptied with the first put. It
+/// A file of the machine that is written, or standard output or error. A regular file keeps its bytes until a put takes some. It
 /// tells no bytes. A contract sees how many puts have failed.
 #[derive(Drop)]
 pub struct HostOut {
@@ -113,29 +113,31 @@ impl OutFile {
         }
     }
 
-    /// Empties a regular file of what it held.
-    fn empty(&mut self) -> io::Result<()> {
+    /// Cuts off what a regular file held after so many bytes, once.
+    fn cut(&mut self, len: u64) -> io::Result<()> {
         if self.is_stale {
             if self.file.metadata()?.is_file() {
-                self.file.set_len(0)?;
+                self.file.set_len(len)?;
             }
             self.is_stale = false;
         }
         Ok(())
     }
 
+    // The first bytes are written before the rest is cut off, so that a first write that fails changes nothing.
     fn write(&mut self, from: &[u8]) -> io::Result<usize>
         ensures { WritesAtMost result from.now }
     {
-        if !from.is_empty() {
-            self.empty()?;
+        let n = self.file.write(from)?;
+        if n > 0 {
+            self.cut(n as u64)?;
         }
-        self.file.write(from)
+        Ok(n)
     }
 
     /// Ends it with what was written.
     fn close(mut self, rt: &HostRuntime, durability: Durability) -> io::Result<()> {
-        self.empty()?;
+        self.cut(0)?;
         if durability == Durability::Synced && self.file.metadata()?.is_file() {
             sync(&self.file)?;
             if let Some(path) = &self.made {

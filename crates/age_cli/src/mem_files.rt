@@ -2,10 +2,8 @@
 
 ghost use Rattle.std.specs.Prelude.{◌≡◌, ◌≢◌, ◌↔◌, ◌⊎◌, ◌++◌, ◌∷◌, ◌<◌, ◌≤◌, IsTrue, ℕ, List, [], true, Some, None, OnOk, OnErr, IfOk, IsErrOf, IsOk, IfErr, IsOkUnless, Contains, is_some, option_map, length, MatchResult};
 ghost use Rattle.std.specs.Io.KnownBytes.{WriteAppends, Keeps};
-ghost use Rattle.age_file.specs.Memory.{one_more};
-ghost use Rattle.age_file.specs.inner.Memory.{Puts, Flushes};
-ghost use Rattle.age_cli.specs.Entries.{entry_of};
-ghost use Rattle.age_cli.specs.inner.Entries.{empty_with};
+ghost use Rattle.age_file.specs.Memory.{one_more, Puts, Flushes};
+ghost use Rattle.age_cli.specs.Entries.{entry_of, empty_with};
 ghost use Rattle.age_cli.specs.FileSet.{IsMemoryOr, CreateFails};
 ghost use Rattle.age_cli.specs.Events.{Opened, Created, Replaced, Closed};
 ghost use Rattle.age_cli.specs.declared.files.CreateFault.TheVariants.{Fault};

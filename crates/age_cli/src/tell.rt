@@ -1,14 +1,57 @@
-//! Tells why a run ended.
+//! Reports why a run ended.
 
-ghost use Rattle.std.specs.Prelude.{◌≡◌, ◌++◌, decimal, OnOk, OnErr};
+ghost use Rattle.std.specs.Prelude.{◌≡◌, ◌++◌, [], decimal, OnOk, OnErr, Some};
 ghost use Rattle.std.specs.Io.KnownBytes.{Appends};
 ghost use Rattle.age_file.specs.Faults.{HasRisen, number_of, place_of};
 ghost use Rattle.age_cli.specs.FaultLines.{place_text, fault_line, TellsEnding};
 
 use crate::ending::{Ending, Usage};
 use crate::print::{flush, put_bytes};
-use age_file::{FileFault, Sink};
+use age_file::{Failed, FileFault, Sink};
+use arrayvec::ArrayVec;
 use itoa::Buffer;
+
+/// A line on the stack, so that it goes out in one put and lines of several runs don't mix. The longest has 61 bytes.
+#[derive(Debug, Drop)]
+struct Line {
+    bytes: ArrayVec<u8, 128>,
+    failed: u64,
+}
+
+impl Line {
+    fn new() -> Line
+        ensures { result.bytes.items ≡ [] }
+    {
+        Line {
+            bytes: ArrayVec::new(),
+            failed: 0,
+        }
+    }
+}
+
+impl Sink for Line {
+    ghost taken = { λ line. Some line.bytes.items };
+
+    ghost failed = { λ line. line.failed };
+
+    fn put(&mut self, from: &[u8]) -> Result<usize, Failed> {
+        match self.bytes.try_extend_from_slice(from) {
+            Ok(()) => Ok(from.len()),
+            Err(_) => {
+                self.failed = self.failed.saturating_add(1);
+                Err(Failed)
+            }
+        }
+    }
+
+    fn flush(&mut self) -> Result<(), Failed> {
+        Ok(())
+    }
+
+    fn failures(&self) -> u64 {
+        self.failed
+    }
+}
 
 /// A word, and a number in decimal.
 fn put_number<E: Sink>(faults: &mut E, word: &str, number: u64) -> Result<(), FileFault>
@@ -37,8 +80,8 @@ fn put_place<E: Sink>(faults: &mut E, fault: FileFault) -> Result<(), FileFault>
     }
 }
 
-/// One line: the fault's number and name, and its place. It takes no memory, so that want of memory is told too.
-fn put_fault<E: Sink>(faults: &mut E, fault: FileFault) -> Result<(), FileFault>
+/// The fault's number and name, and its place. It takes no memory, so that running out of it is reported too.
+fn put_fault_line<E: Sink>(faults: &mut E, fault: FileFault) -> Result<(), FileFault>
     ensures ok { OnOk result
         (Appends (E.taken faults.old) (E.taken faults.new) (fault_line fault)) }
     ensures same { OnOk result (E.failed faults.new ≡ E.failed faults.old) }
@@ -51,14 +94,38 @@ fn put_fault<E: Sink>(faults: &mut E, fault: FileFault) -> Result<(), FileFault>
     put_bytes(faults, b"\n")
 }
 
-/// One line, which takes no memory either.
-fn put_usage<E: Sink>(faults: &mut E, usage: Usage) -> Result<(), FileFault> {
+/// One line, in one put.
+fn put_fault<E: Sink>(faults: &mut E, fault: FileFault) -> Result<(), FileFault>
+    ensures ok { OnOk result
+        (Appends (E.taken faults.old) (E.taken faults.new) (fault_line fault)) }
+    ensures same { OnOk result (E.failed faults.new ≡ E.failed faults.old) }
+    ensures err { OnErr result (HasRisen (E.failed faults.old) (E.failed faults.new)) }
+{
+    let mut line = Line::new();
+    match put_fault_line(&mut line, fault) {
+        Ok(()) => put_bytes(faults, line.bytes.as_slice()),
+        // A line that is too long goes out in parts.
+        Err(_) => put_fault_line(faults, fault),
+    }
+}
+
+/// The text of a bad command line, which takes no memory either.
+fn put_usage_line<E: Sink>(faults: &mut E, usage: Usage) -> Result<(), FileFault> {
     put_bytes(faults, b"age_tool: ")?;
     match usage {
         Usage::BadScriptLine(line) => put_number(faults, usage.text(), line as u64)?,
         _ => put_bytes(faults, usage.text().as_bytes())?,
     }
     put_bytes(faults, b"\n")
+}
+
+/// One line, in one put.
+fn put_usage<E: Sink>(faults: &mut E, usage: Usage) -> Result<(), FileFault> {
+    let mut line = Line::new();
+    match put_usage_line(&mut line, usage) {
+        Ok(()) => put_bytes(faults, line.bytes.as_slice()),
+        Err(_) => put_usage_line(faults, usage),
+    }
 }
 
 fn put_ending<E: Sink>(faults: &mut E, ending: &Ending) -> Result<(), FileFault>
@@ -77,7 +144,7 @@ fn put_ending<E: Sink>(faults: &mut E, ending: &Ending) -> Result<(), FileFault>
     flush(faults)
 }
 
-/// Tells why a run ended, where the sink takes it.
+/// Reports why a run ended, where the sink takes it.
 pub(crate) fn tell<E: Sink>(faults: &mut E, ending: &Ending)
     ensures { TellsEnding ending.now (E.taken faults.old) (E.taken faults.new) (E.failed faults.old)
         (E.failed faults.new) }

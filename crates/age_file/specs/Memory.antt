@@ -1,5 +1,6 @@
 -- Sources and sinks over memory: what each call answers and leaves, by their plan of failures.
-use Rattle.std.specs.Prelude.{ℕ, ◌+◌, ◌-◌, ◌^◌, min, List, Option, Bool}
+use Rattle.std.specs.Prelude.{◌≡◌, ◌≢◌, ◌⊎◌, ℕ, ◌+◌, ◌-◌, ◌^◌, min, List, [], ◌++◌, length, take, drop, Option, Some, Result, Ok, Err, Bool, true, false}
+use Rattle.age_file.specs.declared.failed.Failed.{Failed}
 
 -- a count after one more; it stays at the greatest value of its type
 abbrev pub one_more : ℕ → ℕ
@@ -14,6 +15,14 @@ pub record Feeding : Type 0 where
   pub calls : ℕ
   pub failures : ℕ
 
+-- a pull into a slice of so many bytes
+abbrev pub Pulls : Feeding → ℕ → Result ℕ Failed → Feeding → Type 0
+Pulls old room (Ok n) new = (old.fail_call ≢ Some old.calls)
+    × (n ≡ min (min old.step room) (length old.left))
+    × (new ≡ record old { left = drop n old.left; calls = one_more old.calls })
+Pulls old room (Err failed) new = (old.fail_call ≡ Some old.calls)
+    × (new ≡ record old { calls = one_more old.calls; failures = one_more old.failures })
+
 -- a sink over memory: what it took, how much it holds at most, how much a put takes at most, the number of the put or
 -- flush that fails, how many of both were made and have failed, and whether the last that did not fail was a flush
 pub record Holding : Type 0 where
@@ -24,3 +33,22 @@ pub record Holding : Type 0 where
   pub calls : ℕ
   pub failures : ℕ
   pub settled : Bool
+
+-- a put of these bytes; it fails by plan, or where there are bytes and no room
+abbrev pub Puts : Holding → List ℕ → Result ℕ Failed → Holding → Type 0
+Puts old from (Ok n) new = (old.fail_call ≢ Some old.calls)
+    × (n ≡ min (min old.step (length from)) (old.room - length old.held))
+    × (new ≡ record old {
+      held = old.held ++ take n from;
+      calls = one_more old.calls;
+      settled = false;
+    })
+Puts old from (Err failed) new = ((old.fail_call ≡ Some old.calls)
+    ⊎ ((from ≢ []) × (length old.held ≡ old.room)))
+    × (new ≡ record old { calls = one_more old.calls; failures = one_more old.failures })
+
+abbrev pub Flushes : Holding → Result (Unit {0}) Failed → Holding → Type 0
+Flushes old (Ok done) new = (old.fail_call ≢ Some old.calls)
+    × (new ≡ record old { calls = one_more old.calls; settled = true })
+Flushes old (Err failed) new = (old.fail_call ≡ Some old.calls)
+    × (new ≡ record old { calls = one_more old.calls; failures = one_more old.failures })

@@ -6,7 +6,6 @@ pub mod Encrypts
 pub mod Faults
 pub mod Flows
 pub mod Intakes
-pub mod Memory
 pub mod Payloads
 pub mod PositionTexts
 pub mod Releases

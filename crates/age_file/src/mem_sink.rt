@@ -2,8 +2,7 @@
 
 ghost use Rattle.std.specs.Prelude.{◌≡◌, ◌<◌, ◌≤◌, [], Some, true, false, length, IfOk, OnOk, MatchResult, vec_capacity};
 ghost use Rattle.std.specs.Io.KnownBytes.{WriteAppends, Keeps};
-ghost use Rattle.age_file.specs.Memory.{one_more, Holding};
-ghost use Rattle.age_file.specs.inner.Memory.{Puts, Flushes};
+ghost use Rattle.age_file.specs.Memory.{one_more, Holding, Puts, Flushes};
 
 use crate::failed::{Failed, Memory};
 use crate::sink::Sink;

@@ -2,8 +2,7 @@
 
 ghost use Rattle.std.specs.Prelude.{◌≡◌, ◌<◌, ◌≤◌, Some, length, take, IfOk, MatchResult, drop};
 ghost use Rattle.std.specs.Io.KnownBytes.{ReadConsumes};
-ghost use Rattle.age_file.specs.Memory.{one_more, Feeding};
-ghost use Rattle.age_file.specs.inner.Memory.{Pulls};
+ghost use Rattle.age_file.specs.Memory.{one_more, Feeding, Pulls};
 
 use crate::failed::Failed;
 use crate::source::Source;

@@ -1,4 +1,4 @@
--- Private: no public contract cites this module.
+-- What a contract sees of a parser.
 -- What the end of a line, some bytes and a piece do to a part of a header.
 use Rattle.age_stanza.specs.declared.partial.Progress.TheVariants as progress
 use Rattle.age_stanza.specs.declared.piece.Reading.TheVariants as reads

@@ -1,4 +1,4 @@
--- What a replay keeps. Only private functions cite this.
+-- What a contract sees of a replay.
 use Rattle.std.specs.Prelude.{vec_capacity}
 use Rattle.age_stream.specs.Replaying.{ReplayView}
 use Rattle.age_stream.specs.declared.replay.ReplayState.{ReplayState}
