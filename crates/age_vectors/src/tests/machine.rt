@@ -16,19 +16,19 @@ const PLAIN: &str = "some text";
 const SAME: (u8, &str, &str) = (2, "", "age_tool: same file named twice\n");
 
 /// A new folder with a passphrase, a text and its age file, and with a symbolic and a hard link to the passphrase.
-fn folder(rt: &HostRuntime) -> Result<String, Fail> {
+fn folder(abort: &impl Abort, rt: &HostRuntime) -> Result<String, Fail> {
     let alloc = rt.alloc();
     for n in 0..10_000 {
         let path = format!(in alloc; "/tmp/age_tool-test-{n}")?;
         if fs::create_dir(rt, path.as_str()).is_ok() {
-            fill(rt, path.as_str())?;
+            fill(abort, rt, path.as_str())?;
             return Ok(path);
         }
     }
     Err(Fail::new("no folder could be made"))
 }
 
-fn fill(rt: &HostRuntime, folder: &str) -> Result<(), Fail> {
+fn fill(abort: &impl Abort, rt: &HostRuntime, folder: &str) -> Result<(), Fail> {
     write(rt, folder, "pass", PASS)?;
     write(rt, folder, "plain", PLAIN)?;
     let alloc = rt.alloc();
@@ -38,6 +38,7 @@ fn fill(rt: &HostRuntime, folder: &str) -> Result<(), Fail> {
     symlink(rt, "pass", soft.as_str())?;
     fs::hard_link(rt, pass.as_str(), hard.as_str())?;
     see(
+        abort,
         rt,
         folder,
         "encrypt --pass @/pass --log 4 @/plain @/age",
@@ -66,15 +67,21 @@ fn is_there(rt: &HostRuntime, folder: &str, name: &str) -> Result<bool, Fail> {
 }
 
 /// Runs words in which `@` stands for the folder, over a set of files of its own.
-fn see(rt: &HostRuntime, folder: &str, line: &str, want: (u8, &str, &str)) -> Result<(), Fail> {
+fn see(
+    abort: &impl Abort,
+    rt: &HostRuntime,
+    folder: &str,
+    line: &str,
+    want: (u8, &str, &str),
+) -> Result<(), Fail> {
     let alloc = rt.alloc();
     let words = line.replace(alloc, "@", folder)?;
-    see_line(rt, alloc, &mut HostFiles::new(rt), words.as_str(), want)
+    see_line(abort, alloc, &mut HostFiles::new(rt), words.as_str(), want)
 }
 
 #[test]
 fn no_run_writes_over_what_it_reads(rt: HostRuntime) -> Result<(), Fail> {
-    let folder = folder(&rt)?;
+    let folder = folder(&rt, &rt)?;
     let at = folder.as_str();
     for name in ["pass", "./pass", "soft", "hard"] {
         for words in [
@@ -88,11 +95,11 @@ fn no_run_writes_over_what_it_reads(rt: HostRuntime) -> Result<(), Fail> {
             "resume --position @/plain --old @/pass --pass @/plain @/age @/",
         ] {
             let line = format!(in rt.alloc(); "{words}{name}")?;
-            see(&rt, at, line.as_str(), SAME)?;
+            see(&rt, &rt, at, line.as_str(), SAME)?;
             assert!(rt; holds(&rt, at, "pass", PASS)?, "{line}");
         }
         let saved = format!(in rt.alloc(); "decrypt --pass @/pass --save @/{name} @/age @/new")?;
-        see(&rt, at, saved.as_str(), SAME)?;
+        see(&rt, &rt, at, saved.as_str(), SAME)?;
         assert!(rt; holds(&rt, at, "pass", PASS)?, "{saved}");
         assert!(rt; !is_there(&rt, at, "new")?, "{saved}");
     }
@@ -102,7 +109,7 @@ fn no_run_writes_over_what_it_reads(rt: HostRuntime) -> Result<(), Fail> {
 
 #[test]
 fn a_position_goes_to_no_new_output(rt: HostRuntime) -> Result<(), Fail> {
-    let folder = folder(&rt)?;
+    let folder = folder(&rt, &rt)?;
     let at = folder.as_str();
     let link = format!(in rt.alloc(); "{at}/dangling")?;
     symlink(&rt, "new", link.as_str())?;
@@ -112,7 +119,7 @@ fn a_position_goes_to_no_new_output(rt: HostRuntime) -> Result<(), Fail> {
         "decrypt --pass @/pass --save @/dangling @/age @/new",
         "decrypt --pass @/pass --save @/new @/age @/dangling",
     ] {
-        see(&rt, at, words, SAME)?;
+        see(&rt, &rt, at, words, SAME)?;
         assert!(rt; !is_there(&rt, at, "new")?, "{words}");
         assert!(rt; is_there(&rt, at, "dangling")?, "{words}");
     }
@@ -122,12 +129,12 @@ fn a_position_goes_to_no_new_output(rt: HostRuntime) -> Result<(), Fail> {
 
 #[test]
 fn what_stops_before_the_first_byte_leaves_the_output(rt: HostRuntime) -> Result<(), Fail> {
-    let folder = folder(&rt)?;
+    let folder = folder(&rt, &rt)?;
     let at = folder.as_str();
     write(&rt, at, "wrong", "incorrect horse")?;
     for (words, fault) in [
         ("decrypt --pass @/wrong @/age @/", "13 WrongKey"),
-        ("decrypt --pass @/pass @/plain @/", "1 NotAge line 1"),
+        ("decrypt --pass @/pass @/pass @/", "1 NotAge line 1"),
         ("decrypt --pass @/pass @/none @/", "26 Read"),
         ("decrypt --pass @/pass @ @/", "26 Read"),
         ("encrypt --pass @/pass --log 4 @ @/", "26 Read"),
@@ -148,7 +155,7 @@ fn what_stops_before_the_first_byte_leaves_the_output(rt: HostRuntime) -> Result
         write(&rt, at, "old", "what was there")?;
         for name in ["old", "new"] {
             let line = format!(in rt.alloc(); "{words}{name}")?;
-            see(&rt, at, line.as_str(), (1, "", told.as_str()))?;
+            see(&rt, &rt, at, line.as_str(), (1, "", told.as_str()))?;
         }
         assert!(rt; holds(&rt, at, "old", "what was there")?, "{words}");
         assert!(rt; !is_there(&rt, at, "new")?, "{words}");
@@ -159,7 +166,7 @@ fn what_stops_before_the_first_byte_leaves_the_output(rt: HostRuntime) -> Result
 
 #[test]
 fn an_output_is_made_or_replaced(rt: HostRuntime) -> Result<(), Fail> {
-    let folder = folder(&rt)?;
+    let folder = folder(&rt, &rt)?;
     let at = folder.as_str();
     write(&rt, at, "old", "a text that is longer than the new one")?;
     write(&rt, at, "empty", "")?;
@@ -168,11 +175,12 @@ fn an_output_is_made_or_replaced(rt: HostRuntime) -> Result<(), Fail> {
     symlink(&rt, "made", link.as_str())?;
     for name in ["new", "old", "dangling"] {
         let line = format!(in rt.alloc(); "decrypt --pass @/pass @/age @/{name}")?;
-        see(&rt, at, line.as_str(), (0, "", ""))?;
+        see(&rt, &rt, at, line.as_str(), (0, "", ""))?;
         assert!(rt; holds(&rt, at, name, PLAIN)?, "{name}");
     }
     assert!(rt; holds(&rt, at, "made", PLAIN)?);
     see(
+        &rt,
         &rt,
         at,
         "decrypt --no-sync --pass @/pass @/age @/old",
@@ -181,11 +189,13 @@ fn an_output_is_made_or_replaced(rt: HostRuntime) -> Result<(), Fail> {
     assert!(rt; holds(&rt, at, "old", PLAIN)?);
     see(
         &rt,
+        &rt,
         at,
         "encrypt --no-sync --pass @/pass --log 4 @/empty @/none.age",
         (0, "", ""),
     )?;
     see(
+        &rt,
         &rt,
         at,
         "decrypt --pass @/pass @/none.age @/cleared",
@@ -194,11 +204,13 @@ fn an_output_is_made_or_replaced(rt: HostRuntime) -> Result<(), Fail> {
     assert!(rt; holds(&rt, at, "cleared", "")?);
     see(
         &rt,
+        &rt,
         at,
         "decrypt --pass @/pass @/age @",
         (1, "", "age_tool: 27 Write\n"),
     )?;
     see(
+        &rt,
         &rt,
         at,
         "decrypt --pass @/pass @/age @/none/new",
@@ -210,12 +222,13 @@ fn an_output_is_made_or_replaced(rt: HostRuntime) -> Result<(), Fail> {
 
 #[test]
 fn a_position_replaces_the_old_one(rt: HostRuntime) -> Result<(), Fail> {
-    let folder = folder(&rt)?;
+    let folder = folder(&rt, &rt)?;
     let at = folder.as_str();
     let path = format!(in rt.alloc(); "{at}/large")?;
     let large = vec![in rt.alloc(); 7u8; 70_000]?;
     fs::write(&rt, path.as_str(), large.as_slice())?;
     see(
+        &rt,
         &rt,
         at,
         "encrypt --pass @/pass --log 4 @/large @/large.age",
@@ -234,6 +247,7 @@ fn a_position_replaces_the_old_one(rt: HostRuntime) -> Result<(), Fail> {
     let stopped = (1, "", "age_tool: 17 ChunkDamaged chunk 1\n");
     see(
         &rt,
+        &rt,
         at,
         "decrypt --pass @/pass --save @/position @/cut @/out",
         stopped,
@@ -250,11 +264,13 @@ fn a_position_replaces_the_old_one(rt: HostRuntime) -> Result<(), Fail> {
     );
     see(
         &rt,
+        &rt,
         at,
         "decrypt --pass @/pass --save @ @/cut @/out",
         unsaved,
     )?;
     see(
+        &rt,
         &rt,
         at,
         "decrypt --pass @/pass --save @/none/position @/cut @/out",
