@@ -16,19 +16,19 @@ const PLAIN: &str = "some text";
 const SAME: (u8, &str, &str) = (2, "", "age_tool: same file named twice\n");
 
 /// A new folder with a passphrase, a text and its age file, and with a symbolic and a hard link to the passphrase.
-fn folder(rt: &HostRuntime, abort: &impl Abort) -> Result<String, Fail> {
+fn folder(abort: &impl Abort, rt: &HostRuntime) -> Result<String, Fail> {
     let alloc = rt.alloc();
     for n in 0..10_000 {
         let path = format!(in alloc; "/tmp/age_tool-test-{n}")?;
         if fs::create_dir(rt, path.as_str()).is_ok() {
-            fill(rt, abort, path.as_str())?;
+            fill(abort, rt, path.as_str())?;
             return Ok(path);
         }
     }
     Err(Fail::new("no folder could be made"))
 }
 
-fn fill(rt: &HostRuntime, abort: &impl Abort, folder: &str) -> Result<(), Fail> {
+fn fill(abort: &impl Abort, rt: &HostRuntime, folder: &str) -> Result<(), Fail> {
     write(rt, folder, "pass", PASS)?;
     write(rt, folder, "plain", PLAIN)?;
     let alloc = rt.alloc();
@@ -38,8 +38,8 @@ fn fill(rt: &HostRuntime, abort: &impl Abort, folder: &str) -> Result<(), Fail> 
     symlink(rt, "pass", soft.as_str())?;
     fs::hard_link(rt, pass.as_str(), hard.as_str())?;
     see(
-        rt,
         abort,
+        rt,
         folder,
         "encrypt --pass @/pass --log 4 @/plain @/age",
         (0, "", ""),
@@ -68,8 +68,8 @@ fn is_there(rt: &HostRuntime, folder: &str, name: &str) -> Result<bool, Fail> {
 
 /// Runs words in which `@` stands for the folder, over a set of files of its own.
 fn see(
-    rt: &HostRuntime,
     abort: &impl Abort,
+    rt: &HostRuntime,
     folder: &str,
     line: &str,
     want: (u8, &str, &str),
@@ -134,7 +134,7 @@ fn what_stops_before_the_first_byte_leaves_the_output(rt: HostRuntime) -> Result
     write(&rt, at, "wrong", "incorrect horse")?;
     for (words, fault) in [
         ("decrypt --pass @/wrong @/age @/", "13 WrongKey"),
-        ("decrypt --pass @/pass @/plain @/", "1 NotAge line 1"),
+        ("decrypt --pass @/pass @/pass @/", "1 NotAge line 1"),
         ("decrypt --pass @/pass @/none @/", "26 Read"),
         ("decrypt --pass @/pass @ @/", "26 Read"),
         ("encrypt --pass @/pass --log 4 @ @/", "26 Read"),
