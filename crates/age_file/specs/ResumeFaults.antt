@@ -40,7 +40,8 @@ module _ (Allows : Header → List ℕ → Type 0) (p : Position) where
   ResumeEnds old new done = (r : Resumption) × ResumeDone Allows p old new done.written r
 
 module _ (keep : Positions) (Allows : Header → List ℕ → Type 0) (p : Position) where
-  -- a run that stopped in the blocks that are passed over, with the old text written and the position that it began from
+  -- a run that stopped in the blocks that are passed over, with the old text written and the
+  -- position that it began from
   pub record StopsInPassed (old new : ResumePorts) (written : ℕ) (position : Option Position)
       (passed : List ℕ) : Type 0 where
     pub file : OpenedFile
