@@ -7,8 +7,8 @@ use Rattle.age_cipher.specs.Keystream.{keystream_byte}
 use Rattle.age_cipher.specs.Aead.{sealing}
 use Rattle.age_cipher.specs.Opening.{opening}
 
--- the state that a block begins with: four constants, the eight words of the key, the block counter,
--- and the three words of the nonce (RFC 8439, 2.3)
+-- the state that a block begins with: four constants, the eight words of the key, the block
+-- counter, and the three words of the nonce (RFC 8439, 2.3)
 abbrev pub state : List ℕ → ℕ → List ℕ → List ℕ
 state key counter nonce =
     0x61707865 ∷ 0x3320646e ∷ 0x79622d32 ∷ 0x6b206574

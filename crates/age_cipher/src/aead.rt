@@ -1,4 +1,5 @@
-// The AEAD of ChaCha20 and Poly1305 (RFC 8439, 2.8), in place.
+//! The AEAD of ChaCha20 and Poly1305 (RFC 8439, 2.8), in place.
+
 ghost use Rattle.std.specs.Prelude.{◌≡◌, ◌-◌, ◌≤◌, ◌↔◌, [], ◌∷◌, length, take, drop, IsTrue};
 ghost use Rattle.std.specs.List.{concat};
 ghost use Rattle.std.specs.Bool.{OnTrue, OnFalse};
@@ -8,21 +9,21 @@ ghost use Rattle.age_cipher.specs.Aead.{one_time_key, padding, tag, sealing, IsS
 use crate::authenticator::poly1305;
 use crate::keystream::xor_stream;
 
-// The front of block 0 is the one-time key, and the text is enciphered from block 1 on.
+/// The front of block 0 is the one-time key, and the text is enciphered from block 1 on.
 const KEY_BLOCK: u32 = 0;
 
 const TEXT_BLOCK: u32 = 1;
 
 static ZEROS: [u8; 16] = [0; 16];
 
-// The zeros up to a multiple of 16 bytes.
+/// The zeros up to a multiple of 16 bytes.
 fn padding(bytes: &[u8]) -> &'static [u8]
     ensures { result.now ≡ padding bytes.now }
 {
     &ZEROS[..(16 - bytes.len() % 16) % 16]
 }
 
-// The one-time key of Poly1305 (RFC 8439, 2.6).
+/// The one-time key of Poly1305 (RFC 8439, 2.6).
 fn one_time_key(key: &[u8; 32], nonce: &[u8; 12]) -> [u8; 32]
     ensures { result ≡ one_time_key key.now nonce.now }
 {
@@ -31,7 +32,7 @@ fn one_time_key(key: &[u8; 32], nonce: &[u8; 12]) -> [u8; 32]
     block
 }
 
-// The tag of six parts, all lent for as long.
+/// The tag of six parts, all lent for as long.
 fn tag_of_parts<'a>(
     key: &[u8; 32],
     aad: &'a [u8],
@@ -58,7 +59,7 @@ fn tag_of_parts<'a>(
     )
 }
 
-// The tag over the associated data and the ciphertext.
+/// The tag over the associated data and the ciphertext.
 fn tag(key: &[u8; 32], nonce: &[u8; 12], aad: &[u8], cipher: &[u8]) -> [u8; 16]
     ensures { result ≡ tag key.now nonce.now aad.now cipher.now }
 {
@@ -90,7 +91,7 @@ pub fn seal_in_place(key: &[u8; 32], nonce: &[u8; 12], aad: &[u8], block: &mut [
     end.copy_from_slice(&tag);
 }
 
-// Whether 16 bytes are the tag. It reads all of them, wherever they differ.
+/// Whether 16 bytes are the tag. It reads all of them, wherever they differ.
 fn is_tag(tag: &[u8; 16], bytes: &[u8]) -> bool
     requires { length bytes.now ≡ 16 }
     ensures { IsTrue result ↔ (tag.now ≡ bytes.now) }

@@ -1,4 +1,5 @@
-// ChaCha20 (RFC 8439, 2.4), whose words come from the generator of `rand_chacha`.
+//! ChaCha20 (RFC 8439, 2.4), whose words come from the generator of `rand_chacha`.
+
 ghost use Rattle.std.specs.Prelude.{◌≡◌, ℕ, ◌+◌, ◌*◌, ◌%◌, ◌^◌, ◌<◌, ◌≤◌, length, slice_index};
 ghost use Rattle.rand_chacha.specs.ChaCha.{word_at, key_of};
 ghost use Rattle.age_cipher.specs.Keystream.{stream_number, block_place, ciphertext};
@@ -8,8 +9,8 @@ use rand_chacha::ChaCha20Rng;
 use rand_core::SeedableRng;
 use rand_core::utils::{NextWord, read_u32};
 
-// The generator, at the first word of a block. The nonce's first word is the high half of its
-// 64-bit counter.
+/// The generator, at the first word of a block. The nonce's first word is the high half of its
+/// 64-bit counter.
 fn generator_at(key: &[u8; 32], nonce: &[u8; 12], counter: u32) -> ChaCha20Rng
     ensures { result ≡ record {
       key = key_of key.now;
@@ -26,8 +27,8 @@ fn generator_at(key: &[u8; 32], nonce: &[u8; 12], counter: u32) -> ChaCha20Rng
     generator
 }
 
-// Draws the next words. No other place asks the generator for a word: so the compiler puts the
-// generator's code here, while with several places each word would be a call.
+/// Draws the next words. No other place asks the generator for a word: so the compiler puts the
+/// generator's code here, while with several places each word would be a call.
 fn draw_words(generator: &mut ChaCha20Rng, words: &mut [u32])
     requires { generator.old.word_pos < 2 ^ 68 }
     ensures words { (k : ℕ) → k < length words.old

@@ -1,4 +1,5 @@
-// Laws of the definitions.
+//! Laws of the definitions.
+
 ghost use Rattle.age_cipher.specs.Aead.{DistinctSealings};
 ghost use Rattle.age_cipher.specs.Laws.{KeystreamIsBlocks, OpensSealings};
 

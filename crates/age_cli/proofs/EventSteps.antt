@@ -1,23 +1,13 @@
 -- The events of a command, in order.
 use Rattle.std.proofs.Common.{◌≡◌, ◌∙◌, ◌++◌, ◌∷◌, [], refl, ap, ap₂, sym, List, Option, Some, Result, Ok, Err, IfErr, append_assoc}
 use Rattle.clap.specs.Words.{Text}
-use Rattle.age_cli.specs.Events.{Event, Follows, Created, Closed, making, replacing, opener_order}
-use Rattle.age_cli.specs.inner.OpenerSteps.{IsChosen, chosen_order}
-use Rattle.age_cli.specs.inner.Requests.{text_of}
-use Rattle.age_cli.specs.declared.request.Unlocking.{Unlocking}
-use Rattle.age_cli.specs.declared.opener.Chosen.{Chosen}
-use Rattle.age_cli.specs.declared.opener.Chosen.TheVariants as chosen
+use Rattle.age_fileset.specs.Events.{Event, Created, Closed}
+use Rattle.age_cli.specs.EventOrders.{Follows, making, replacing}
 
 -- what is so of every fault is so of the one that came
 pub every_fault : {T E : Type 0} (r : Result T E) (P : E → Type 0) → ((e : E) → P e) → IfErr r P
 every_fault (Ok x) P h = tt
 every_fault (Err e) P h = h e
-
--- the one option that is given names the file that is opened
-pub chosen_opens : (u : Unlocking) (c : Chosen) → IsChosen u c → opener_order (text_of u.pass) (text_of u.shared) ≡ chosen_order c
-chosen_opens u (chosen.Pass name) h = ap₂ opener_order h.0 h.2
-chosen_opens u (chosen.Key key) h = ap₂ opener_order h.0 h.2
-chosen_opens u (chosen.Shared name) h = ap₂ opener_order h.0 h.2
 
 pub two_events : (old mid new : List Event) (a b : Event) → mid ≡ old ++ a ∷ [] → new ≡ mid ++ b ∷ [] → new ≡ old ++ a ∷ b ∷ []
 two_events old mid new a b m n = n ∙ (ap (λ x. x ++ b ∷ []) m ∙ append_assoc old (a ∷ []) (b ∷ []))
@@ -27,33 +17,33 @@ pub three_events : (old one two new : List Event) (a b c : Event) → one ≡ ol
 three_events old one two new a b c x y z = z ∙ (ap (λ t. t ++ c ∷ []) (two_events old one two a b x y) ∙ append_assoc old (a ∷ b ∷ []) (c ∷ []))
 
 -- what opens the input was read, then these files were opened
-module _ (old material source output end : List Event) (opener reads : List Event) (to : Text) (save : Option Text)
-    (m : material ≡ old ++ opener) (s : source ≡ material ++ reads) where
-  at_source : source ≡ old ++ (opener ++ reads)
-  at_source = s ∙ (ap (λ x. x ++ reads) m ∙ append_assoc old opener reads)
+module _ (old material source output end : List Event) (secret reads : List Event) (to : Text) (save : Option Text)
+    (m : material ≡ old ++ secret) (s : source ≡ material ++ reads) where
+  at_source : source ≡ old ++ (secret ++ reads)
+  at_source = s ∙ (ap (λ x. x ++ reads) m ∙ append_assoc old secret reads)
 
-  at_output : (x made : List Event) → x ≡ source ++ made → x ≡ old ++ (opener ++ (reads ++ made))
-  at_output x made o = o ∙ (ap (λ x. x ++ made) at_source ∙ (append_assoc old (opener ++ reads) made
-      ∙ ap (λ x. old ++ x) (append_assoc opener reads made)))
+  at_output : (x made : List Event) → x ≡ source ++ made → x ≡ old ++ (secret ++ (reads ++ made))
+  at_output x made o = o ∙ (ap (λ x. x ++ made) at_source ∙ (append_assoc old (secret ++ reads) made
+      ∙ ap (λ x. old ++ x) (append_assoc secret reads made)))
 
   -- a stop: the output was made and ended, and the position was saved as far as that came
   pub stop_follows : (created : List Event) → created ≡ source ++ Created to ∷ [] → output ≡ created ++ Closed ∷ [] → Follows (replacing save) output end
-      → Follows ((opener ++ (reads ++ making (Some to))) ++ replacing save) old end
+      → Follows ((secret ++ (reads ++ making (Some to))) ++ replacing save) old end
   stop_follows created m o f = record {
-    done = (opener ++ (reads ++ Created to ∷ Closed ∷ [])) ++ f.done;
+    done = (secret ++ (reads ++ Created to ∷ Closed ∷ [])) ++ f.done;
     rest = f.rest;
     did = f.did ∙ (ap (λ x. x ++ f.done) (at_output output (Created to ∷ Closed ∷ []) (two_events source created output (Created to) Closed m o))
-        ∙ append_assoc old (opener ++ (reads ++ Created to ∷ Closed ∷ [])) f.done);
-    front = ap (λ x. (opener ++ (reads ++ Created to ∷ Closed ∷ [])) ++ x) f.front ∙ sym (append_assoc (opener ++ (reads ++ Created to ∷ Closed ∷ [])) f.done f.rest);
+        ∙ append_assoc old (secret ++ (reads ++ Created to ∷ Closed ∷ [])) f.done);
+    front = ap (λ x. (secret ++ (reads ++ Created to ∷ Closed ∷ [])) ++ x) f.front ∙ sym (append_assoc (secret ++ (reads ++ Created to ∷ Closed ∷ [])) f.done f.rest);
   }
 
   -- the output could not be made
-  pub unmade : Follows (making (Some to)) source end → Follows (opener ++ (reads ++ making (Some to))) old end
+  pub unmade : Follows (making (Some to)) source end → Follows (secret ++ (reads ++ making (Some to))) old end
   unmade f = record {
-    done = opener ++ (reads ++ f.done);
+    done = secret ++ (reads ++ f.done);
     rest = f.rest;
     did = at_output end f.done f.did;
-    front = ap (λ x. opener ++ (reads ++ x)) f.front ∙ (ap (λ x. opener ++ x) (sym (append_assoc reads f.done f.rest)) ∙ sym (append_assoc opener (reads ++ f.done) f.rest));
+    front = ap (λ x. secret ++ (reads ++ x)) f.front ∙ (ap (λ x. secret ++ x) (sym (append_assoc reads f.done f.rest)) ∙ sym (append_assoc secret (reads ++ f.done) f.rest));
   }
 
 -- what follows an order follows a longer one

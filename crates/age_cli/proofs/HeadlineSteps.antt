@@ -1,21 +1,28 @@
 -- The headline for OUT, from what the commands did.
-use Rattle.std.proofs.Common.{◌≡◌, ◌∙◌, ◌++◌, ℕ, inl, inr, ap, sym, subst, true, true≢false, codes, List, [], Option, Some, None, append-nil, ⊎_elim}
+use Rattle.std.proofs.Common.{◌≡◌, ◌≤◌, ◌*◌, ◌∙◌, ◌++◌, ℕ, inl, inr, ap, sym, subst, refl, true, true≢false, codes, List, [], length, take, Option, Some, None, append-nil, append_assoc, arith, ⊎_elim}
+use Rattle.std.proofs.lemmas.List.{length-take, take_at}
 use Rattle.std.specs.Prelude.{is_some}
 use Rattle.std.specs.Option.{option_map_or}
 use Rattle.std.specs.Io.KnownBytes.{Consumes, Appends, IsAtEnd}
 use Rattle.clap.specs.Words.{Row, Text, first_of}
-use Rattle.age_stream.specs.Headline.{IsPrefixOf}
+use Rattle.age_stream.specs.Payload.{chunk_count}
+use Rattle.age_stream.specs.Headline.{IsPrefixOf, IsAuthentic}
+use Rattle.age_file.specs.AgeFile.{box, unbox}
+use Rattle.age_file.specs.OldTexts.{BeginsWith}
+use Rattle.age_file.specs.Resumes.{ResumePorts, Resumption, IsResumption, IsAuthenticResumption, segment_at}
 use Rattle.age_file.specs.Ports.{Ports}
 use Rattle.age_file.specs.Decrypts.{Run, IsRun, IsAuthenticRun}
 use Rattle.age_file.specs.declared.position.Positions.{Positions}
 use Rattle.age_file.specs.declared.position.Position.{Position}
 use Rattle.age_file.specs.declared.fault.FileFault.{FileFault}
 use Rattle.age_cli.specs.Held.{Held}
-use Rattle.age_cli.specs.Openers.{Opener, allows_by, refuses_by}
+use Rattle.age_cli.specs.declared.identity.Identity.{Identity}
+use Rattle.age_cli.specs.Identities.{allows_by, refuses_by}
 use Rattle.age_cli.specs.Decryptions.{DecryptsRows}
-use Rattle.age_cli.specs.Stops.{OutStops, DecryptionStop, FailsToDecrypt, kept_for}
-use Rattle.age_cli.proofs.StopSteps.{stop_wrote}
-use Rattle.age_cli.specs.Headline.{IsRead, IsWritersInput, HoldsNoMore, KeepsOut}
+use Rattle.age_cli.specs.Resumptions.{ResumesRows}
+use Rattle.age_cli.specs.Stops.{OutStops, DecryptionStop, ResumptionStop, FailsToDecrypt, FailsToResume, kept_for}
+use Rattle.age_cli.proofs.StopSteps.{stop_wrote, resume_wrote}
+use Rattle.age_cli.specs.Headline.{IsRead, IsWritersInput, HoldsNoMore, KeepsOut, IsReadOn, IsWritersResumption}
 use Rattle.age_cli.specs.declared.ending.Ending.{Ending}
 
 appended_nil : (b : Option (List ℕ)) (out : List ℕ) → Appends (Some []) b out → b ≡ Some out
@@ -30,9 +37,9 @@ read_from None b bs t c = absurd (true≢false (sym t))
 read_from (Some x) None bs t c = absurd c
 read_from (Some x) (Some y) bs t c = (y, ap Some c, λ e. e)
 
-is_read : (opener : Opener) (input : Option (List ℕ)) (before after : Ports) (written : ℕ) (r : Run) → input ≡ before.coming → is_some input ≡ true
-    → IsRun (allows_by opener) before after written r → IsRead opener input r
-is_read opener input before after written r coming told is =
+is_read : (identity : Identity) (input : Option (List ℕ)) (before after : Ports) (written : ℕ) (r : Run) → input ≡ before.coming → is_some input ≡ true
+    → IsRun (allows_by identity) before after written r → IsRead identity input r
+is_read identity input before after written r coming told is =
     let found = read_from before.coming after.coming ((r.front ++ r.nonce) ++ r.bytes) (ap is_some (sym coming) ∙ told) is.read in
     record {
       text = is.text;
@@ -44,14 +51,14 @@ is_read opener input before after written r coming told is =
     }
 
 -- OUT where it stopped
-held_stop : (IsPorts : Ports → Type 0) (keep : Positions) (opener : Opener) (input old new : Option (List ℕ)) (position : Option Position) (fault : FileFault) (text : List ℕ)
-    → is_some input ≡ true → ((r : Run) → IsRead opener input r → IsAuthenticRun r text)
-    → OutStops (DecryptionStop IsPorts keep opener input position fault) old new position fault → HoldsNoMore old new text
-held_stop IsPorts keep opener input old new position fault text told auth (inl (written, taken, s, leaves)) =
-    let w = stop_wrote keep (allows_by opener) (refuses_by opener) s.before s.after written position fault s.fails in
-    let begins : IsPrefixOf w.0 text = w.2 text (λ r is. auth r (is_read opener input s.before s.after written r s.coming told is)) in
+held_stop : (IsPorts : Ports → Type 0) (keep : Positions) (identity : Identity) (input old new : Option (List ℕ)) (position : Option Position) (fault : FileFault) (text : List ℕ)
+    → is_some input ≡ true → ((r : Run) → IsRead identity input r → IsAuthenticRun r text)
+    → OutStops (DecryptionStop IsPorts keep identity input position fault) old new position fault → HoldsNoMore old new text
+held_stop IsPorts keep identity input old new position fault text told auth (inl (written, taken, s, leaves)) =
+    let w = stop_wrote keep (allows_by identity) (refuses_by identity) s.before s.after written position fault s.fails in
+    let begins : IsPrefixOf w.0 text = w.2 text (λ r is. auth r (is_read identity input s.before s.after written r s.coming told is)) in
     ⊎_elim (λ at. inr (w.0, at ∙ (s.took ∙ appended s.before.taken s.after.taken w.0 s.empty w.1.0), begins)) (λ same. inl same) leaves.held
-held_stop IsPorts keep opener input old new position fault text told auth (inr s) = inl s.0
+held_stop IsPorts keep identity input old new position fault text told auth (inr s) = inl s.0
 
 -- the name that stands there
 one_name : (a : Option Text) (x y : Text) → a ≡ Some x → a ≡ Some y → x ≡ y
@@ -65,8 +72,8 @@ kept_stop IsPorts rows old new e status text failed auth (inl same) = record {
 }
 kept_stop IsPorts rows old new e status text failed auth (inr s) =
     let t = s.stops in
-    let here : HoldsNoMore (old s.to) (new s.to) text = held_stop IsPorts (kept_for (first_of (codes "save") rows)) t.opener (old s.from) (old s.to) (new s.to) t.position t.fault text t.there
-    (auth s.from t.opener s.from_is t.opens) t.output in
+    let here : HoldsNoMore (old s.to) (new s.to) text = held_stop IsPorts (kept_for (first_of (codes "save") rows)) t.identity (old s.from) (old s.to) (new s.to) t.position t.fault text t.there
+    (auth s.from t.identity s.from_is t.opens) t.output in
     record {
       safe = λ to is. subst (λ (t : Text). HoldsNoMore (old t) (new t) text) (one_name (first_of (codes "OUT") rows) s.to to s.to_is is) here;
       whole = λ to is zero. absurd (failed zero);
@@ -77,8 +84,99 @@ kept_done rows old new status text auth d =
     let t = d.decrypts in
     let o = t.output in
     let is = o.done.wrote.is in
-    let all : o.run.out ≡ text = o.done.all text (auth d.from t.opener d.from_is t.opens o.run (is_read t.opener (old d.from) o.before o.after o.written o.run o.coming t.there is)) in
+    let all : o.run.out ≡ text = o.done.all text (auth d.from t.identity d.from_is t.opens o.run (is_read t.identity (old d.from) o.before o.after o.written o.run o.coming t.there is)) in
     let holds : new d.to ≡ Some text = o.taken ∙ (appended o.before.taken o.after.taken o.run.out o.empty is.wrote ∙ ap Some all) in
+    record {
+      safe = λ to is. inr (text, subst (λ (t : Text). new t ≡ Some text) (one_name (first_of (codes "OUT") rows) d.to to d.to_is is) holds, ([], append-nil text));
+      whole = λ to is zero. subst (λ (t : Text). new t ≡ Some text) (one_name (first_of (codes "OUT") rows) d.to to d.to_is is) holds;
+    }
+
+-- ---- of a decryption that goes on from a position
+
+some_of : (a : Option (List ℕ)) → is_some a ≡ true → (all : List ℕ) × (a ≡ Some all)
+some_of None t = absurd (true≢false (sym t))
+some_of (Some x) t = (x, refl)
+
+same_front : (n : ℕ) (a b x y : List ℕ) → length a ≡ n → length b ≡ n → a ++ x ≡ b ++ y → a ≡ b
+same_front n a b x y p q e = sym (take_at a x n p) ∙ (ap (take n) e ∙ take_at b y n q)
+
+-- what is so of the position, of the old text and of the input
+module _ (identity : Identity) (p : Position) (input old_text : Option (List ℕ)) (text : List ℕ) (told : is_some input ≡ true) (old_told : is_some old_text ≡ true)
+    (few : chunk_count 65536 text ≤ 281474976710656) (begins : (all : List ℕ) → old_text ≡ Some all → (p.index * 65536 ≤ length text) × IsPrefixOf (take (p.index * 65536) text) all)
+    (auth : (r : Resumption) → IsReadOn identity p input r → IsAuthentic (box r.file.key r.file.nonce) (unbox r.file.key r.file.nonce) 65536 text (segment_at p r)) where
+  begins_with : (coming : Option (List ℕ)) → old_text ≡ coming → BeginsWith p coming text
+  begins_with coming same =
+      let all = some_of old_text old_told in
+      let h = begins all.0 all.1 in
+      record { all = all.0; told = sym same ∙ all.1; within = h.0; begins = h.1 }
+
+  read_on : (before after : ResumePorts) (written : ℕ) (r : Resumption) → input ≡ before.main.coming → IsResumption (allows_by identity) p before after written r → IsReadOn identity p input r
+  read_on before after written r coming is =
+      let found = read_from before.main.coming after.main.coming ((r.file.front ++ r.file.nonce) ++ (r.passed ++ r.bytes)) (ap is_some (sym coming) ∙ told) is.reads.read in
+      record {
+        text = is.reads.text;
+        opens = is.reads.opens;
+        size = is.reads.size;
+        own = is.own;
+        tagged = is.tagged;
+        passed_size = is.passed_size;
+        rest = found.0;
+        bytes = coming ∙ found.1;
+        whole = λ ended. found.2 (is.at_end ended);
+      }
+
+  authentic_resumption : (before after : ResumePorts) (written : ℕ) (r : Resumption) → input ≡ before.main.coming → old_text ≡ before.old_coming
+      → IsResumption (allows_by identity) p before after written r → IsAuthenticResumption p r text
+  authentic_resumption before after written r coming old_coming is =
+      let b = begins_with before.old_coming old_coming in
+      let found = read_from before.old_coming after.old_coming (r.copied ++ is.more) (ap is_some (sym old_coming) ∙ old_told) is.old_read in
+      let whole : (r.copied ++ is.more) ++ found.0 ≡ b.all = ap (λ (o : Option (List ℕ)). option_map_or (λ t. t) o []) (sym found.1 ∙ b.told) in
+      let size : length (take (p.index * 65536) text) ≡ p.index * 65536 = omega (arith, length-take (p.index * 65536) text, b.within) in
+      record {
+        few = few;
+        old_text = same_front (p.index * 65536) r.copied (take (p.index * 65536) text) (is.more ++ found.0) b.begins.0 is.old_text.size size
+            (sym (append_assoc r.copied is.more found.0) ∙ (whole ∙ sym b.begins.1));
+        within = b.within;
+        authentic = auth r (read_on before after written r coming is);
+      }
+
+  -- OUT where it stopped
+  resumed_stop : (IsPorts : Ports → Type 0) (keep : Positions) (old new : Option (List ℕ)) (position : Option Position) (fault : FileFault)
+      → OutStops (ResumptionStop IsPorts keep identity p input old_text position fault) old new position fault → HoldsNoMore old new text
+  resumed_stop IsPorts keep old new position fault (inl (written, taken, s, leaves)) =
+      let w = resume_wrote keep (allows_by identity) p (refuses_by identity) s.before s.after written position fault s.fails in
+      let front : IsPrefixOf w.0 text = w.2 text (begins_with s.before.old_coming s.old_coming) (λ r is. authentic_resumption s.before s.after written r s.coming s.old_coming is) in
+      ⊎_elim (λ at. inr (w.0, at ∙ (s.took ∙ appended s.before.main.taken s.after.main.taken w.0 s.empty w.1.0), front)) (λ same. inl same) leaves.held
+  resumed_stop IsPorts keep old new position fault (inr s) = inl s.0
+
+pub kept_resumption_stop : (IsPorts : Ports → Type 0) (rows : List Row) (old new : Held) (e : Ending) (status : ℕ) (text : List ℕ) → (status ≡ 0 → ⊥) → IsWritersResumption rows old text
+    → FailsToResume IsPorts rows old new e → KeepsOut rows old new status text
+kept_resumption_stop IsPorts rows old new e status text failed auth (inl same) = record {
+  safe = λ to is. inl (ap (λ f. f to) same.0);
+  whole = λ to is zero. absurd (failed zero);
+}
+kept_resumption_stop IsPorts rows old new e status text failed auth (inr s) =
+    let t = s.stops in
+    let here : HoldsNoMore (old s.to) (new s.to) text = resumed_stop t.identity t.from_position (old s.from) (old s.old_name) text t.there t.old_there auth.few
+    (λ all same. auth.old_text s.position_name t.from_position s.position_name_is t.position_is s.old_name all s.old_name_is same)
+    (auth.rest s.position_name t.from_position s.position_name_is t.position_is s.from t.identity s.from_is t.opens)
+    IsPorts (kept_for (first_of (codes "save") rows)) (old s.to) (new s.to) t.position t.fault t.output in
+    record {
+      safe = λ to is. subst (λ (t : Text). HoldsNoMore (old t) (new t) text) (one_name (first_of (codes "OUT") rows) s.to to s.to_is is) here;
+      whole = λ to is zero. absurd (failed zero);
+    }
+
+pub kept_resumption_done : (rows : List Row) (old new : Held) (status : ℕ) (text : List ℕ) → IsWritersResumption rows old text → ResumesRows rows old new → KeepsOut rows old new status text
+kept_resumption_done rows old new status text auth d =
+    let t = d.resumes in
+    let o = t.output in
+    let is = o.done.resumed.is in
+    let run = authentic_resumption t.identity t.position (old d.from) (old d.old_name) text t.there t.old_there auth.few
+    (λ all same. auth.old_text d.position_name t.position d.position_name_is t.position_is d.old_name all d.old_name_is same)
+    (auth.rest d.position_name t.position d.position_name_is t.position_is d.from t.identity d.from_is t.opens)
+    o.before o.after o.written o.run o.coming o.old_coming is in
+    let all : o.run.copied ++ o.run.out ≡ text = o.done.all text run in
+    let holds : new d.to ≡ Some text = o.taken ∙ (appended o.before.main.taken o.after.main.taken (o.run.copied ++ o.run.out) o.empty is.wrote ∙ ap Some all) in
     record {
       safe = λ to is. inr (text, subst (λ (t : Text). new t ≡ Some text) (one_name (first_of (codes "OUT") rows) d.to to d.to_is is) holds, ([], append-nil text));
       whole = λ to is zero. subst (λ (t : Text). new t ≡ Some text) (one_name (first_of (codes "OUT") rows) d.to to d.to_is is) holds;

@@ -1,10 +1,9 @@
-pub mod EntryLemmas
 pub mod Simple
 pub mod Numbers
 pub mod Literals
 pub mod Cuts
 pub mod EncryptionSteps
-pub mod OpenerLemmas
+pub mod IdentitySteps
 pub mod RowSteps
 pub mod Telling
 pub mod StopSteps

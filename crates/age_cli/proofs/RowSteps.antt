@@ -9,8 +9,8 @@ use Rattle.age_cli.specs.declared.request.Unlocking.{Unlocking}
 use Rattle.age_cli.specs.declared.request.Decrypting.{Decrypting}
 use Rattle.age_cli.specs.declared.request.Resuming.{Resuming}
 use Rattle.age_cli.specs.Held.{Held}
-use Rattle.age_cli.specs.Openers.{Options, options_of}
-use Rattle.age_cli.specs.inner.OpenerSteps.{options_asked}
+use Rattle.age_cli.specs.Identities.{Options, options_of}
+use Rattle.age_cli.specs.inner.IdentitySteps.{options_asked}
 use Rattle.age_cli.specs.Decryptions.{DecryptsFile, DecryptsRows}
 use Rattle.age_cli.specs.Resumptions.{ResumesFile, ResumesRows}
 

@@ -8,23 +8,27 @@ use Rattle.age_stanza.specs.declared.header.Header.{Header}
 use Rattle.age_keys.specs.declared.fault.KeyFault.{KeyFault}
 use Rattle.age_stream.specs.Headline.{IsPrefixOf}
 use Rattle.age_file.specs.Ports.{Ports}
+use Rattle.age_file.specs.Secrets.{SecretView}
+use Rattle.age_file.specs.Encrypts.{EncryptFails}
 use Rattle.age_file.specs.Decrypts.{Run, IsRun, IsAuthenticRun, DecryptFails, WritesNone, WroteSoFar}
-use Rattle.age_file.specs.Resumes.{ResumePorts, WritesOld}
+use Rattle.age_file.specs.OldTexts.{BeginsWith}
+use Rattle.age_file.specs.Resumes.{ResumePorts, WritesOld, Resumption, IsResumption, IsAuthenticResumption}
 use Rattle.age_file.specs.ResumeFaults.{ResumeFails, FailsAt}
 use Rattle.age_file.specs.declared.position.Position.{Position}
 use Rattle.age_file.specs.declared.position.Positions.{Positions}
 use Rattle.age_file.specs.declared.fault.FileFault.{FileFault}
 use Rattle.age_file.specs.declared.fault.FileFault.TheVariants as fault
 use Rattle.age_cli.specs.Asked.{Asks}
-use Rattle.age_cli.specs.inner.Requests.{IsDecrypting, IsResuming, Requests, text_of}
-use Rattle.age_cli.specs.declared.request.Request.TheVariants.{Decrypt, Resume}
+use Rattle.age_cli.specs.inner.Requests.{IsEncrypting, IsDecrypting, IsResuming, Requests, text_of}
+use Rattle.age_cli.specs.declared.request.Request.TheVariants.{Encrypt, Decrypt, Resume}
+use Rattle.age_cli.specs.declared.request.Encrypting.{Encrypting}
 use Rattle.age_cli.specs.declared.request.Decrypting.{Decrypting}
 use Rattle.age_cli.specs.declared.request.Resuming.{Resuming}
 use Rattle.age_cli.specs.Held.{Held}
-use Rattle.age_cli.specs.Openers.{Options}
-use Rattle.age_cli.specs.inner.OpenerSteps.{options_asked}
+use Rattle.age_cli.specs.Identities.{Options}
+use Rattle.age_cli.specs.inner.IdentitySteps.{options_asked}
 use Rattle.age_cli.specs.Endings.{EndsEarly}
-use Rattle.age_cli.specs.Stops.{EndsOf, DecryptsStop, ResumesStop, FailsToDecrypt, FailsToResume}
+use Rattle.age_cli.specs.Stops.{EndsOf, EncryptsStop, DecryptsStop, ResumesStop, FailsToEncrypt, FailsToDecrypt, FailsToResume}
 use Rattle.age_cli.specs.declared.ending.Ending.{Ending}
 use Rattle.age_cli.specs.declared.ending.Ending.TheVariants.{Words, Usage, Fault, Unsaved}
 use Rattle.age_cli.proofs.RowSteps.{one_command, options_same}
@@ -45,6 +49,10 @@ Written old new written out = Appends old new out × (written ≡ length out)
 -- where nothing was written, the sink holds nothing, as before
 pub holds_nothing : (old new : Option (List ℕ)) (written : ℕ) (out : List ℕ) → old ≡ Some [] → Written old new written out → written ≡ 0 → new ≡ Some []
 holds_nothing old new written out empty put none = none_out new out written (subst (λ (o : Option (List ℕ)). Appends o new out) empty put.0) put.1 none
+
+-- where memory was refused, an encryption wrote nothing
+pub sealed_nothing : (s : SecretView) (old new : Ports) (f : FileFault) → f ≡ fault.Memory → EncryptFails s old new f → new.taken ≡ old.taken
+sealed_nothing s old new f is fails = ap (λ (p : Ports). p.taken) (subst (λ (x : FileFault). EncryptFails s old new x) is fails)
 
 -- what a decryption wrote before it stopped; it begins the text of which each run is authentic
 module _ (keep : Positions) (A : Header → List ℕ → Type 0) (R : Header → KeyFault → Type 0) (old new : Ports) (written : ℕ) (position : Option Position) where
@@ -76,22 +84,26 @@ module _ (keep : Positions) (A : Header → List ℕ → Type 0) (R : Header →
   stop_wrote fault.PositionForged h = of_none h.0
   stop_wrote fault.OldTextDiffers h = of_none h.0
 
--- what a resumed decryption wrote before it stopped
+-- what a resumed decryption wrote before it stopped; it begins the text of whose first chunks the old text is, and of which
+-- each run is authentic
 module _ (keep : Positions) (A : Header → List ℕ → Type 0) (p : Position) (R : Header → KeyFault → Type 0) (old new : ResumePorts) (written : ℕ) (position : Option Position) where
+  abbrev pub RewriteBegins : List ℕ → Type 0
+  RewriteBegins out = (text : List ℕ) → BeginsWith p old.old_coming text → ((r : Resumption) → IsResumption A p old new written r → IsAuthenticResumption p r text) → IsPrefixOf out text
+
   abbrev pub Rewrote : Type 0
-  Rewrote = (out : List ℕ) × Written old.main.taken new.main.taken written out
+  Rewrote = (out : List ℕ) × Written old.main.taken new.main.taken written out × RewriteBegins out
 
   none_new : WritesNone old.main new.main written position → Rewrote
-  none_new h = ([], (h.0, h.1))
+  none_new h = ([], (h.0, h.1), (λ text begins auth. (text, refl)))
 
   old_new : (copied : List ℕ) → WritesOld p old new written copied → Rewrote
-  old_new copied h = (copied, (h.wrote, h.count))
+  old_new copied h = (copied, (h.wrote, h.count), (λ text begins auth. h.of text begins))
 
   at_new : (M O : Type 0) → FailsAt keep A p M O old new written position → Rewrote
   at_new M O (inl h) = none_new h.0
   at_new M O (inr (inl h)) = old_new h.0.copied h.0.writes
   at_new M O (inr (inr (inl h))) = old_new h.1.copied h.1.writes
-  at_new M O (inr (inr (inr h))) = (h.0.copied ++ h.0.out, (h.1.is.wrote, h.1.is.count))
+  at_new M O (inr (inr (inr h))) = (h.0.copied ++ h.0.out, (h.1.is.wrote, h.1.is.count), (λ text begins auth. h.1.of text (auth h.0 h.1.is)))
 
   pub resume_wrote : (fault : FileFault) → ResumeFails keep A p R old new written position fault → Rewrote
   resume_wrote fault.OtherFile h = none_new h.0
@@ -99,9 +111,9 @@ module _ (keep : Positions) (A : Header → List ℕ → Type 0) (p : Position) 
   resume_wrote fault.ShortText h = old_new h.0.copied h.0.writes
   resume_wrote fault.OldTextDiffers h = old_new h.4 h.5
   resume_wrote (fault.Stream f) (inl h, rest) = old_new h.stops.copied h.stops.writes
-  resume_wrote (fault.Stream f) (inr h, rest) = (h.0.copied ++ h.0.out, (h.1.is.wrote, h.1.is.count))
+  resume_wrote (fault.Stream f) (inr h, rest) = (h.0.copied ++ h.0.out, (h.1.is.wrote, h.1.is.count), (λ text begins auth. h.1.of text (auth h.0 h.1.is)))
   resume_wrote fault.Write (inl h, rest) = old_new h.copied h.writes
-  resume_wrote fault.Write (inr h, rest) = (h.0.copied ++ h.0.out, (h.1.wrote, h.1.count))
+  resume_wrote fault.Write (inr h, rest) = (h.0.copied ++ h.0.out, (h.1.wrote, h.1.count), (λ text begins auth. h.2 text (auth h.0 h.1)))
   resume_wrote fault.Read h = at_new _ _ h
   resume_wrote fault.ReadNeverEnds h = at_new _ _ h
   resume_wrote (fault.Head f) h = none_new h.0
@@ -124,6 +136,28 @@ ends_from f name p old mid new (Usage u) same h = absurd h
 
 -- a stop, of the arguments that ask for it
 module _ (IsPorts : Ports → Type 0) where
+  abbrev SealsHere : Encrypting → Held → Held → Ending → Type 0
+  SealsHere e old new ending = EncryptsStop IsPorts e.pass.now e.log (text_of e.random) e.from.now e.to.now old new ending
+
+  sealing_stop_given : (rows : List Row) (e : Encrypting) (old new : Held) (ending : Ending) → IsEncrypting rows e → ((new ≡ old) × EndsEarly ending) ⊎ SealsHere e old new ending
+      → FailsToEncrypt IsPorts rows old new ending
+  sealing_stop_given rows e old new ending is (inl same) = inl same
+  sealing_stop_given rows e old new ending is (inr did) = inr (record {
+    pass = e.pass.now;
+    from = e.from.now;
+    to = e.to.now;
+    pass_is = sym is.pass;
+    from_is = sym is.from;
+    to_is = sym is.to;
+    stops = subst (λ (log : ℕ). EncryptsStop IsPorts e.pass.now log (first_of (codes "random") rows) e.from.now e.to.now old new ending) is.log
+        (subst (λ (random : Option Text). EncryptsStop IsPorts e.pass.now e.log random e.from.now e.to.now old new ending) is.random did);
+  })
+
+  pub sealing_stop_rows : (words : List Text) (rows : List Row) (e : Encrypting) (old new : Held) (ending : Ending) → Requests words (Encrypt e) → Asks words (codes "encrypt") rows
+      → ((new ≡ old) × EndsEarly ending) ⊎ SealsHere e old new ending → FailsToEncrypt IsPorts rows old new ending
+  sealing_stop_rows words rows e old new ending (name, given, asked, request) asks did =
+      subst (λ (t : List Row). FailsToEncrypt IsPorts t old new ending) (one_command words name (codes "encrypt") given rows asked asks) (sealing_stop_given given e old new ending request.1 did)
+
   abbrev StopsHere : Decrypting → Held → Held → Ending → Type 0
   StopsHere d old new e = DecryptsStop IsPorts (options_asked d.unlocking) d.from.now d.to.now (text_of d.save) old new e
 

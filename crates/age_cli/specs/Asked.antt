@@ -1,4 +1,5 @@
--- What the words after the program's name ask for, by the definitions of the parser of command lines.
+-- What the words after the program's name ask for, by the definitions of the parser of command
+-- lines.
 use Rattle.std.specs.Prelude.{◌≡◌, ◌⊎◌, List, [], Option, Some}
 use Rattle.clap.specs.Words.{Row, Text, fault_of, subcommand_of}
 use Rattle.clap.specs.Kinds.{Kinds, IsAmong}

@@ -3,26 +3,27 @@ use Rattle.std.specs.Prelude.{◌≡◌, ℕ, true, List, [], is_some, Option, S
 use Rattle.clap.specs.Words.{Row, Text, first_of}
 use Rattle.age_file.specs.Ports.{Ports}
 use Rattle.age_file.specs.Decrypts.{Run, DecryptDone}
-use Rattle.age_cli.specs.Openers.{Opener, Options, options_of, allows_by, OpensBy}
+use Rattle.age_cli.specs.declared.identity.Identity.{Identity}
+use Rattle.age_cli.specs.Identities.{Options, options_of, allows_by, OpensBy}
 use Rattle.age_cli.specs.Held.{Held, SparesBut}
 
 -- the engine's promise for the input's bytes and what opens them, of what the output then holds
-pub record DecryptsOut (opener : Opener) (input output : Option (List ℕ)) : Type 0 where
+pub record DecryptsOut (identity : Identity) (input output : Option (List ℕ)) : Type 0 where
   pub before : Ports
   pub after : Ports
   pub run : Run
   pub written : ℕ
   pub coming : input ≡ before.coming
   pub empty : before.taken ≡ Some []
-  pub done : DecryptDone (allows_by opener) before after written run
+  pub done : DecryptDone (allows_by identity) before after written run
   pub taken : output ≡ after.taken
 
 -- of what stands under these names
 pub record DecryptsFile (options : Options) (from to : Text) (old new : Held) : Type 0 where
-  pub opener : Opener
-  pub opens : OpensBy old options opener
+  pub identity : Identity
+  pub opens : OpensBy old options identity
   pub there : is_some (old from) ≡ true
-  pub output : DecryptsOut opener (old from) (new to)
+  pub output : DecryptsOut identity (old from) (new to)
   pub others : SparesBut to old new
 
 -- of what the arguments give

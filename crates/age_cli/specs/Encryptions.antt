@@ -6,7 +6,7 @@ use Rattle.age_file.specs.Secrets.{SecretView, IsWithinLimits}
 use Rattle.age_file.specs.Encrypts.{Encrypts}
 use Rattle.age_file.specs.declared.encryption.Written.{Written}
 use Rattle.age_cli.specs.Requests.{number_or}
-use Rattle.age_cli.specs.Openers.{IsPassphraseIn}
+use Rattle.age_cli.specs.Identities.{IsPassphraseIn}
 use Rattle.age_cli.specs.Held.{Held, SparesBut}
 
 -- the first 48 bytes of a file: the file key, the stanza's salt and the payload nonce
@@ -32,14 +32,20 @@ pub record EncryptsOut (s : SecretView) (input output : Option (List ℕ)) : Typ
   pub done : Encrypts s before after written
   pub taken : output ≡ after.taken
 
--- of what stands under the names that are asked for: the passphrase, the work factor and the random bytes make the secret
-pub record EncryptsFile (pass : Text) (log : ℕ) (random : Option Text) (from to : Text)
-    (old new : Held) : Type 0 where
-  pub secret : SecretView
+-- the passphrase and the random bytes that stand under these names, and the work factor, make the
+-- secret
+pub record MakesSecret (pass : Text) (log : ℕ) (random : Option Text) (old : Held)
+    (secret : SecretView) : Type 0 where
   pub passphrase : IsPassphraseIn (old pass) secret.pass
   pub log_is : secret.log ≡ log
   pub within : IsWithinLimits secret.pass secret.log
   pub random_is : IsRandomIn (old (random_name random)) secret
+
+-- of what stands under the names that are asked for
+pub record EncryptsFile (pass : Text) (log : ℕ) (random : Option Text) (from to : Text)
+    (old new : Held) : Type 0 where
+  pub secret : SecretView
+  pub made : MakesSecret pass log random old secret
   pub there : is_some (old from) ≡ true
   pub output : EncryptsOut secret (old from) (new to)
   pub others : SparesBut to old new

@@ -4,7 +4,7 @@ use Rattle.age_cli.specs.declared.ending.Ending.{Ending}
 use Rattle.age_cli.specs.declared.ending.Ending.TheVariants.{Words, Usage, Fault, Unsaved}
 use Rattle.age_cli.specs.declared.ending.Usage.TheVariants as usage
 use Rattle.age_file.specs.declared.fault.FileFault.TheVariants.{Read, Write, Memory}
-use Rattle.age_cli.specs.declared.files.CreateFault.TheVariants as create
+use Rattle.age_fileset.specs.declared.files.CreateFault.TheVariants as create
 
 -- the command line was refused
 abbrev pub is_usage : Ending → Bool
@@ -17,8 +17,8 @@ is_usage (Unsaved fault second) = false
 abbrev pub status_of : Ending → ℕ
 status_of e = if is_usage e then 2 else 1
 
--- how a command ends before its output is written: its arguments are refused, a file can't be read or created, or memory is
--- refused
+-- how a command ends before its output is written: its arguments are refused, a file can't be read
+-- or created, or memory is refused
 abbrev pub EndsEarly : Ending → Type 0
 EndsEarly (Fault fault) = (fault ≡ Read) ⊎ ((fault ≡ Write) ⊎ (fault ≡ Memory))
 EndsEarly (Usage usage) = Unit {0}

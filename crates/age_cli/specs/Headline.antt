@@ -1,18 +1,25 @@
 -- The headline for OUT: it holds nothing but what the file's writer wrote.
-use Rattle.std.specs.Prelude.{◌≡◌, ◌⊎◌, ℕ, true, List, [], ◌++◌, length, Option, Some, codes}
+use Rattle.std.specs.Prelude.{◌≡◌, ◌⊎◌, ℕ, ◌*◌, ◌≤◌, true, List, [], ◌++◌, length, take, Option, Some, codes}
 use Rattle.clap.specs.Words.{Row, Text, first_of}
 use Rattle.age_stanza.specs.Grammar.{HeadText}
-use Rattle.age_stream.specs.Headline.{IsPrefixOf}
+use Rattle.age_stream.specs.Payload.{chunk_count}
+use Rattle.age_stream.specs.Headline.{IsPrefixOf, IsAuthentic}
 use Rattle.age_keys.specs.Opened.{Opens}
+use Rattle.age_file.specs.AgeFile.{box, unbox}
 use Rattle.age_file.specs.Decrypts.{Run, IsAuthenticRun}
+use Rattle.age_file.specs.Verdicts.{HasId, HasTag}
+use Rattle.age_file.specs.Resumes.{Resumption, segment_at}
+use Rattle.age_file.specs.declared.position.Position.{Position}
 use Rattle.age_cli.specs.Held.{Held}
-use Rattle.age_cli.specs.Openers.{Opener, options_of, allows_by, OpensBy}
+use Rattle.age_cli.specs.declared.identity.Identity.{Identity}
+use Rattle.age_cli.specs.Identities.{options_of, allows_by, OpensBy}
+use Rattle.age_cli.specs.Resumptions.{IsPositionIn}
 
--- a beginning of the input, as a decryption may have read it: a header that opens, the payload nonce, and bytes of the
--- payload; and all of the input where it was read to its end
-pub record IsRead (opener : Opener) (input : Option (List ℕ)) (r : Run) : Type 0 where
+-- a beginning of the input, as a decryption may have read it: a header that opens, the payload
+-- nonce, and bytes of the payload; and all of the input where it was read to its end
+pub record IsRead (identity : Identity) (input : Option (List ℕ)) (r : Run) : Type 0 where
   pub text : HeadText r.header r.front
-  pub opens : Opens (allows_by opener) r.header r.key
+  pub opens : Opens (allows_by identity) r.header r.key
   pub size : length r.nonce ≡ 16
   pub rest : List ℕ
   pub bytes : input ≡ Some (((r.front ++ r.nonce) ++ r.bytes) ++ rest)
@@ -21,8 +28,8 @@ pub record IsRead (opener : Opener) (input : Option (List ℕ)) (r : Run) : Type
 -- no block of IN opens except as the writer of this text sealed it, however much of IN is read
 abbrev pub IsWritersInput : List Row → Held → List ℕ → Type 0
 IsWritersInput rows old text =
-    (from : Text) (opener : Opener) → first_of (codes "IN") rows ≡ Some from
-    → OpensBy old (options_of rows) opener → (r : Run) → IsRead opener (old from) r → IsAuthenticRun r text
+    (from : Text) (identity : Identity) → first_of (codes "IN") rows ≡ Some from
+    → OpensBy old (options_of rows) identity → (r : Run) → IsRead identity (old from) r → IsAuthenticRun r text
 
 -- a file is as it was, or holds a beginning of the text
 abbrev pub HoldsNoMore : Option (List ℕ) → Option (List ℕ) → List ℕ → Type 0
@@ -35,3 +42,43 @@ pub record KeepsOut (rows : List Row) (old new : Held) (status : ℕ) (text : Li
       → HoldsNoMore (old to) (new to) text
   pub whole : (to : Text) → first_of (codes "OUT") rows ≡ Some to → status ≡ 0
       → new to ≡ Some text
+
+-- ---- of a decryption that goes on from a position. A chunk has 65,536 bytes, its block 65,552.
+
+-- a beginning of the input, as it may have been read then: a header that opens, of the file that
+-- the position is of, the payload nonce, the blocks before the position, and bytes after them; and
+-- all of the input where it was read to its end
+pub record IsReadOn (identity : Identity) (p : Position) (input : Option (List ℕ)) (r : Resumption)
+    : Type 0 where
+  pub text : HeadText r.file.header r.file.front
+  pub opens : Opens (allows_by identity) r.file.header r.file.key
+  pub size : length r.file.nonce ≡ 16
+  pub own : HasId p r.file
+  pub tagged : HasTag p r.file
+  pub passed_size : length r.passed ≡ p.index * 65552
+  pub rest : List ℕ
+  pub bytes : input ≡ Some (((r.file.front ++ r.file.nonce) ++ (r.passed ++ r.bytes)) ++ rest)
+  pub whole : r.ended ≡ true → rest ≡ []
+
+-- no block of IN after the position opens except as the writer of this text sealed it, however much
+-- of IN is read
+abbrev pub IsWritersRest : List Row → Held → Position → List ℕ → Type 0
+IsWritersRest rows old p text =
+    (from : Text) (identity : Identity) → first_of (codes "IN") rows ≡ Some from
+    → OpensBy old (options_of rows) identity → (r : Resumption) → IsReadOn identity p (old from) r
+    → IsAuthentic (box r.file.key r.file.nonce) (unbox r.file.key r.file.nonce) 65536 text
+    (segment_at p r)
+
+-- the file of `--old` begins with the chunks of this text before the position
+abbrev pub IsWritersOld : List Row → Held → Position → List ℕ → Type 0
+IsWritersOld rows old p text =
+    (name : Text) (all : List ℕ) → first_of (codes "old") rows ≡ Some name → old name ≡ Some all
+    → (p.index * 65536 ≤ length text) × IsPrefixOf (take (p.index * 65536) text) all
+
+-- both, for the position in the file of `--position`
+pub record IsWritersResumption (rows : List Row) (old : Held) (text : List ℕ) : Type 0 where
+  pub few : chunk_count 65536 text ≤ 281474976710656
+  pub old_text : (name : Text) (p : Position) → first_of (codes "position") rows ≡ Some name
+      → IsPositionIn (old name) p → IsWritersOld rows old p text
+  pub rest : (name : Text) (p : Position) → first_of (codes "position") rows ≡ Some name
+      → IsPositionIn (old name) p → IsWritersRest rows old p text

@@ -1,7 +1,5 @@
-pub mod Entries
-pub mod Events
+pub mod EventOrders
 pub mod Orders
-pub mod FileSet
 pub mod Commands
 pub mod Asked
 pub mod Requests
@@ -10,10 +8,11 @@ pub mod FaultLines
 pub mod ReportTexts
 pub mod Runs
 pub mod Held
-pub mod Openers
+pub mod Identities
 pub mod Encryptions
 pub mod Decryptions
 pub mod Stops
 pub mod Headline
 pub mod Resumptions
+pub mod Promises
 pub mod inner

@@ -3,10 +3,11 @@ use Rattle.std.specs.Prelude.{List, [], ◌++◌, Option, Some, codes, if◌then
 use Rattle.std.specs.Str.{bytes_eq}
 use Rattle.clap.specs.Words.{Row, Text, first_of}
 use Rattle.age_cli.specs.Encryptions.{random_name}
-use Rattle.age_cli.specs.Events.{Event, opening, making, replacing, opener_order}
+use Rattle.age_fileset.specs.Events.{Event}
+use Rattle.age_cli.specs.EventOrders.{opening, making, replacing, identity_order}
 
--- what a command opens, creates and replaces: what its arguments are judged by; where it ends well; and with all that a
--- stop may add
+-- what a command opens, creates and replaces: what its arguments are judged by; where it ends well;
+-- and with all that a stop may add
 pub record Order : Type 0 where
   pub judged : List Event
   pub done : List Event
@@ -27,15 +28,16 @@ encrypting_order pass random from to =
 abbrev pub decrypting_order : Option Text → Option Text → Option Text → Option Text → Option Text
     → Order
 decrypting_order pass shared from to save =
-    let judged = opener_order pass shared in
+    let judged = identity_order pass shared in
     let done = judged ++ (opening from ++ making to) in
     record { judged = judged; done = done; whole = done ++ replacing save }
 
--- what opens the input, the position, the old text, the input, the output; where it stops the next position
+-- what opens the input, the position, the old text, the input, the output; where it stops the next
+-- position
 abbrev pub resuming_order : Option Text → Option Text → Option Text → Option Text → Option Text
     → Option Text → Option Text → Order
 resuming_order pass shared position old from to save =
-    let judged = opener_order pass shared in
+    let judged = identity_order pass shared in
     let done = judged ++ ((opening position ++ (opening old ++ opening from)) ++ making to) in
     record { judged = judged; done = done; whole = done ++ replacing save }
 

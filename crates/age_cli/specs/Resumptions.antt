@@ -4,15 +4,17 @@ use Rattle.clap.specs.Words.{Row, Text, first_of}
 use Rattle.age_file.specs.declared.position.Position.{Position}
 use Rattle.age_file.specs.PositionTexts.{position_text}
 use Rattle.age_file.specs.Resumes.{ResumePorts, Resumption, ResumeDone}
-use Rattle.age_cli.specs.Openers.{Opener, Options, options_of, allows_by, OpensBy}
+use Rattle.age_cli.specs.declared.identity.Identity.{Identity}
+use Rattle.age_cli.specs.Identities.{Options, options_of, allows_by, OpensBy}
 use Rattle.age_cli.specs.Held.{Held, SparesBut}
 
 -- the position in a file
 abbrev pub IsPositionIn : Option (List ℕ) → Position → Type 0
 IsPositionIn held position = held ≡ Some (position_text position)
 
--- the engine's promise for the input's bytes, what opens them, the position and the old text, of what the output then holds
-pub record ResumesOut (opener : Opener) (position : Position)
+-- the engine's promise for the input's bytes, what opens them, the position and the old text, of
+-- what the output then holds
+pub record ResumesOut (identity : Identity) (position : Position)
     (input old_text output : Option (List ℕ)) : Type 0 where
   pub before : ResumePorts
   pub after : ResumePorts
@@ -21,19 +23,19 @@ pub record ResumesOut (opener : Opener) (position : Position)
   pub coming : input ≡ before.main.coming
   pub old_coming : old_text ≡ before.old_coming
   pub empty : before.main.taken ≡ Some []
-  pub done : ResumeDone (allows_by opener) position before after written run
+  pub done : ResumeDone (allows_by identity) position before after written run
   pub taken : output ≡ after.main.taken
 
 -- of what stands under these names
 pub record ResumesFile (options : Options) (position_name old_name from to : Text)
     (old new : Held) : Type 0 where
-  pub opener : Opener
+  pub identity : Identity
   pub position : Position
-  pub opens : OpensBy old options opener
+  pub opens : OpensBy old options identity
   pub position_is : IsPositionIn (old position_name) position
   pub there : is_some (old from) ≡ true
   pub old_there : is_some (old old_name) ≡ true
-  pub output : ResumesOut opener position (old from) (old old_name) (new to)
+  pub output : ResumesOut identity position (old from) (old old_name) (new to)
   pub others : SparesBut to old new
 
 -- of what the arguments give

@@ -1,9 +1,8 @@
 pub mod Asking
 pub mod Commands
 pub mod Endings
-pub mod Events
 pub mod Fronts
 pub mod Held
-pub mod OpenerSteps
+pub mod IdentitySteps
 pub mod Randoms
 pub mod Requests

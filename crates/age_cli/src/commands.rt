@@ -61,7 +61,8 @@ fn add<'a>(command: Command<'a>, arg: Arg<'a>) -> Result<Command<'a>, AllocError
     command.arg(arg)
 }
 
-/// The options that say what opens a file, where a stop's position goes, and whether what is written is waited for.
+/// The options that say what opens a file, where a stop's position goes, and whether what is
+/// written is waited for.
 fn add_unlocking<'a>(alloc: Global, to: Command<'a>) -> Result<Command<'a>, AllocError>
     requires { has_globals to ≡ false }
     ensures { IfOk result (HasApp (with_unlocking (app_of to.entry))) }

@@ -2,49 +2,51 @@
 
 ghost use Rattle.age_cli.specs.Stops.{DecryptionStop, DecryptsStop, OutStops, PortsOf, kept_for};
 ghost use Rattle.std.specs.Prelude.{◌≡◌, ◌⊎◌, [], ◌∷◌, ◌++◌, true, false, Some, None, IfErr, OnOk};
-ghost use Rattle.age_cli.specs.Events.{Follows, Closed};
+ghost use Rattle.age_fileset.specs.Events.{Closed};
+ghost use Rattle.age_cli.specs.EventOrders.{Follows};
 ghost use Rattle.age_cli.specs.inner.Asking.{order_asked};
 ghost use Rattle.age_cli.specs.declared.request.Request.TheVariants.{Decrypt};
 ghost use Rattle.clap.specs.Words.{Text};
 ghost use Rattle.age_cli.specs.inner.Requests.{text_of};
-ghost use Rattle.age_cli.specs.inner.OpenerSteps.{opener_of, options_asked};
+ghost use Rattle.age_cli.specs.inner.IdentitySteps.{options_asked};
 ghost use Rattle.age_cli.specs.Decryptions.{DecryptsOut, DecryptsFile};
 ghost use Rattle.age_cli.specs.Endings.{EndsEarly, is_usage};
 ghost use Rattle.age_cli.specs.Held.{SparesBut, SparesBoth};
 
 use crate::ending::{Ending, Usage};
-use crate::files::{Durability, FileSet};
-use crate::opener::{Unlocker, choose, read_material, unlocker_of};
+use crate::identity::{Identity, identity_of, read_secret, secret_file};
 use crate::output::{create_out, leave};
 use crate::request::Decrypting;
 use crate::stop::{Stop, end_of};
 use age_file::{Positions, decrypt_with};
+use age_fileset::{Durability, FileSet};
 use std::alloc::Global;
 
-/// Decrypts the input into the output, and ends that. Where it stops before anything is written, the output is as it was.
+/// Decrypts the input into the output, and ends that. Where it stops before anything is written,
+/// the output is as it was.
 fn write_out<F: FileSet>(
     alloc: Global,
     files: &mut F,
     source: &mut F::In,
     positions: Positions,
-    unlocker: &Unlocker<'_>,
+    identity: &Identity<'_>,
     mut out: F::Out,
     durability: Durability,
 ) -> Result<(), Stop>
     ensures told { F.tells files.new ≡ F.tells files.old }
     ensures done { OnOk result (F.tells files.old ≡ true → F.Out.taken out ≡ Some []
-        → DecryptsOut (opener_of unlocker.now) (F.In.remaining source.old)
+        → DecryptsOut identity.now (F.In.remaining source.old)
         (F.entry files.new (F.Out.label out))) }
     ensures stops { IfErr result (λ stop. F.tells files.old ≡ true → F.Out.taken out ≡ Some []
         → OutStops
         (DecryptionStop (PortsOf F.In.remaining F.In.failed F.Out.taken F.Out.failed) positions
-        (opener_of unlocker.now) (F.In.remaining source.old) stop.position stop.fault)
+        identity.now (F.In.remaining source.old) stop.position stop.fault)
         (F.entry files.old (F.Out.label out)) (F.entry files.new (F.Out.label out)) stop.position
         stop.fault) }
     ensures others { SparesBut (F.Out.label out) (F.entry files.old) (F.entry files.new) }
     ensures noted { F.events files.new ≡ F.events files.old ++ Closed ∷ [] }
 {
-    match decrypt_with(alloc, positions, unlocker, source, &mut out) {
+    match decrypt_with(alloc, positions, identity, source, &mut out) {
         Ok(_) => {
             files.close(out, durability)?;
             Ok(())
@@ -66,7 +68,8 @@ pub(crate) fn is_given_as<F: FileSet>(files: &F, given: Option<&str>, name: &str
     }
 }
 
-/// Whether a name stands for a file that a decryption reads: its input, or the file of what opens that.
+/// Whether a name stands for a file that a decryption reads: its input, or the file of what opens
+/// that.
 fn is_read<F: FileSet>(files: &F, asked: &Decrypting<'_>, name: &str) -> bool
     ensures from { asked.now.from.now ≡ name.now → result ≡ true }
     ensures pass { text_of asked.now.unlocking.pass ≡ Some name.now → result ≡ true }
@@ -77,8 +80,8 @@ fn is_read<F: FileSet>(files: &F, asked: &Decrypting<'_>, name: &str) -> bool
         || is_given_as(files, asked.unlocking.shared, name)
 }
 
-/// Whether two of the files that have to differ are one: the output is none of those that are read, and a position goes
-/// to none of all these.
+/// Whether two of the files that have to differ are one: the output is none of those that are read,
+/// and a position goes to none of all these.
 pub(crate) fn names_a_file_twice<F: FileSet>(files: &F, asked: &Decrypting<'_>) -> bool
     ensures both { asked.now.from.now ≡ asked.now.to.now → result ≡ true }
     ensures pass_to { text_of asked.now.unlocking.pass ≡ Some asked.now.to.now → result ≡ true }
@@ -137,12 +140,12 @@ pub(crate) fn decrypt_file<F: FileSet>(
     ensures order_told { F.tells files.old ≡ true → IfErr result (λ e. is_usage e ≡ true → Follows
         (order_asked (Decrypt asked.now)).judged (F.events files.old) (F.events files.new)) }
 {
-    let chosen = choose(&asked.unlocking)?;
+    let name = secret_file(&asked.unlocking)?;
     if names_a_file_twice(files, asked) {
         return Err(Ending::Usage(Usage::SameFile));
     }
-    let material = read_material(alloc, files, chosen)?;
-    let unlocker = unlocker_of(&material, asked.unlocking.max_log)?;
+    let secret = read_secret(alloc, files, name)?;
+    let identity = identity_of(&asked.unlocking, &secret)?;
     let mut source = files.open(alloc, asked.from)?;
     let out = create_out(alloc, files, asked.to, asked.save, None)?;
     match write_out(
@@ -150,7 +153,7 @@ pub(crate) fn decrypt_file<F: FileSet>(
         files,
         &mut source,
         positions_for(asked.save),
-        &unlocker,
+        &identity,
         out,
         asked.durability,
     ) {

@@ -1,19 +1,20 @@
 //! The command that delivers a payload by a script.
 
 ghost use Rattle.std.specs.Prelude.{◌≡◌, ◌≤◌, ◌++◌, ◌∷◌, [], Some, IfOk, OnOk, length};
-ghost use Rattle.age_cli.specs.Events.{Follows, Opened};
+ghost use Rattle.age_fileset.specs.Events.{Opened};
+ghost use Rattle.age_cli.specs.EventOrders.{Follows};
 ghost use Rattle.age_cli.specs.inner.Asking.{order_asked};
 ghost use Rattle.age_cli.specs.declared.request.Request.TheVariants.{Drill};
 ghost use Rattle.age_stanza.specs.Grammar.{HasText};
 
 use crate::ending::{Ending, Usage};
-use crate::files::FileSet;
 use crate::front::{fill_front, read_up_to};
-use crate::opener::{read_pass, trimmed};
+use crate::identity::{read_pass, trimmed};
 use crate::print::{flush, put_bytes};
 use crate::request::Drilling;
 use crate::script::{Line, SCRIPT_MAX, has_too_many_lines, read_lines};
 use age_file::{FileFault, Sink};
+use age_fileset::FileSet;
 use age_keys::{Passphrase, PayloadKey, open_header, payload_key};
 use age_stanza::{HEAD_MAX, HeadParser, HeadStep, Header};
 use age_stream::{ChunkBox, ClearBox, Delivery, Replay, Status};
@@ -43,8 +44,8 @@ fn read_script<F: FileSet>(alloc: Global, files: &mut F, name: &str) -> Result<V
     }
 }
 
-/// The header at the beginning of a file, and its length. `read` is how reading those bytes ended: its fault comes only
-/// where the bytes before it have none.
+/// The header at the beginning of a file, and its length. `read` is how reading those bytes ended:
+/// its fault comes only where the bytes before it have none.
 fn read_header(
     alloc: Global,
     bytes: &[u8],
@@ -63,8 +64,8 @@ fn read_header(
     }
 }
 
-/// The key of a file's payload, and where in the bytes the payload begins. Faults come in the order of the bytes: that of
-/// reading after those of the header and the key.
+/// The key of a file's payload, and where in the bytes the payload begins. Faults come in the order
+/// of the bytes: that of reading after those of the header and the key.
 fn open_payload(
     alloc: Global,
     unlock: &Passphrase<'_>,
@@ -194,8 +195,8 @@ fn drill_clear<F: FileSet, O: Sink>(
     )
 }
 
-/// Drills the payload of an age file that a passphrase opens. A fault of the header, the key or the nonce is reported
-/// before a payload that is too long.
+/// Drills the payload of an age file that a passphrase opens. A fault of the header, the key or the
+/// nonce is reported before a payload that is too long.
 fn drill_sealed<F: FileSet, O: Sink>(
     alloc: Global,
     files: &mut F,
@@ -226,7 +227,8 @@ fn drill_sealed<F: FileSet, O: Sink>(
     deliver::<PayloadKey, 65_552, O>(alloc, &key, payload, script.as_slice(), output)
 }
 
-/// Delivers a payload as the words ask. No file is changed, and whatever the deliveries gave is no fault.
+/// Delivers a payload as the words ask. No file is changed, and whatever the deliveries gave is no
+/// fault.
 pub(crate) fn drill_file<F: FileSet, O: Sink>(
     alloc: Global,
     files: &mut F,

@@ -1,22 +1,24 @@
 //! The command that encrypts a file.
 
-ghost use Rattle.std.specs.Prelude.{◌≡◌, [], ◌∷◌, ◌++◌, ℕ, List, Some, true, IfOk, IfErr, IfSome, OnOk};
+ghost use Rattle.std.specs.Prelude.{◌≡◌, ◌⊎◌, [], ◌∷◌, ◌++◌, ℕ, List, Some, true, IfOk, IfErr, IfSome, OnOk};
 ghost use Rattle.age_cli.specs.inner.Requests.{text_of};
-ghost use Rattle.age_cli.specs.Events.{Follows, Opened, Closed};
+ghost use Rattle.age_fileset.specs.Events.{Opened, Closed};
+ghost use Rattle.age_cli.specs.EventOrders.{Follows};
 ghost use Rattle.age_cli.specs.inner.Asking.{order_asked};
 ghost use Rattle.age_cli.specs.declared.request.Request.TheVariants.{Encrypt};
 ghost use Rattle.age_cli.specs.Encryptions.{random_name, EncryptsOut, EncryptsFile};
 ghost use Rattle.age_cli.specs.inner.Randoms.{IsRandom};
-ghost use Rattle.age_cli.specs.Endings.{is_usage};
+ghost use Rattle.age_cli.specs.Endings.{EndsEarly, is_usage};
+ghost use Rattle.age_cli.specs.Stops.{EncryptionStop, EncryptsStop, Leaves, PortsOf, SealedOutStops};
 ghost use Rattle.age_cli.specs.Held.{SparesBut};
 ghost use Rattle.age_file.specs.declared.fault.FileFault.TheVariants.{Memory};
 
 use crate::ending::{Ending, Usage};
-use crate::files::{Durability, FileSet};
 use crate::front::read_front;
-use crate::opener::{read_pass, trimmed};
+use crate::identity::{read_pass, trimmed};
 use crate::request::Encrypting;
 use age_file::{FileFault, Secret, encrypt};
+use age_fileset::{Durability, FileSet};
 use std::alloc::Global;
 
 /// Where random bytes come from if no file is named.
@@ -52,6 +54,7 @@ fn read_random<F: FileSet>(alloc: Global, files: &mut F, name: &str) -> Result<R
         → (bytes : List ℕ) × (rest : List ℕ) × (F.entry files.old name.now ≡ Some (bytes ++ rest))
         × IsRandom bytes r) }
     ensures noted { F.events files.new ≡ F.events files.old ++ Opened name.now ∷ [] }
+    ensures early { IfErr result EndsEarly }
 {
     let mut source = files.open(alloc, name)?;
     let bytes = read_front(alloc, &mut source, 48)?;
@@ -61,8 +64,24 @@ fn read_random<F: FileSet>(alloc: Global, files: &mut F, name: &str) -> Result<R
     }
 }
 
-/// Encrypts the input into the output, and ends that. Where memory is refused nothing was written, and the output is as it
-/// was.
+/// Ends the output of an encryption that stopped: as it was, where memory was refused, for nothing
+/// is written then; else with what was written.
+fn leave_sealed<F: FileSet>(files: &mut F, out: F::Out, fault: FileFault, durability: Durability)
+    ensures held { F.tells files.old ≡ true → (fault ≡ Memory → F.Out.taken out ≡ Some [])
+        → Leaves (fault ≡ Memory) (F.Out.taken out) (F.entry files.old (F.Out.label out))
+        (F.entry files.new (F.Out.label out)) }
+    ensures others { SparesBut (F.Out.label out) (F.entry files.old) (F.entry files.new) }
+    ensures noted { F.events files.new ≡ F.events files.old ++ Closed ∷ [] }
+{
+    match fault {
+        FileFault::Memory => files.discard(out),
+        _ => {
+            let _ = files.close(out, durability);
+        }
+    }
+}
+
+/// Encrypts the input into the output, and ends that.
 fn write_out<F: FileSet>(
     alloc: Global,
     files: &mut F,
@@ -74,19 +93,21 @@ fn write_out<F: FileSet>(
     ensures done { OnOk result (F.tells files.old ≡ true → F.Out.taken out ≡ Some []
         → EncryptsOut secret.now (F.In.remaining source.old)
         (F.entry files.new (F.Out.label out))) }
-    ensures memory { IfErr result (λ fault. fault ≡ Memory → F.tells files.old ≡ true
-        → F.Out.taken out ≡ Some [] → F.entry files.new ≡ F.entry files.old) }
+    ensures stops { IfErr result (λ fault. F.tells files.old ≡ true → F.Out.taken out ≡ Some []
+        → SealedOutStops
+        (EncryptionStop (PortsOf F.In.remaining F.In.failed F.Out.taken F.Out.failed) secret.now
+        (F.In.remaining source.old) fault)
+        (F.entry files.old (F.Out.label out)) (F.entry files.new (F.Out.label out)) fault) }
     ensures others { SparesBut (F.Out.label out) (F.entry files.old) (F.entry files.new) }
     ensures noted { F.events files.new ≡ F.events files.old ++ Closed ∷ [] }
 {
     match encrypt(alloc, secret, source, &mut out) {
-        Ok(_) => files.close(out, durability),
-        Err(FileFault::Memory) => {
-            files.discard(out);
-            Err(FileFault::Memory)
+        Ok(_) => {
+            files.close(out, durability)?;
+            Ok(())
         }
         Err(fault) => {
-            let _ = files.close(out, durability);
+            leave_sealed(files, out, fault, durability);
             Err(fault)
         }
     }
@@ -123,6 +144,11 @@ pub(crate) fn encrypt_file<F: FileSet>(
     ensures done { OnOk result (F.tells files.old ≡ true
         → EncryptsFile asked.now.pass.now asked.now.log (text_of asked.now.random)
         asked.now.from.now asked.now.to.now (F.entry files.old) (F.entry files.new)) }
+    ensures stops { IfErr result (λ e. F.tells files.old ≡ true
+        → ((F.entry files.new ≡ F.entry files.old) × EndsEarly e)
+        ⊎ EncryptsStop (PortsOf F.In.remaining F.In.failed F.Out.taken F.Out.failed)
+        asked.now.pass.now asked.now.log (text_of asked.now.random) asked.now.from.now
+        asked.now.to.now (F.entry files.old) (F.entry files.new) e) }
     ensures usage { IfErr result (λ e. is_usage e ≡ true → F.entry files.new ≡ F.entry files.old) }
     ensures spares { F.tells files.old ≡ true
         → SparesBut asked.now.to.now (F.entry files.old) (F.entry files.new) }
@@ -151,6 +177,8 @@ pub(crate) fn encrypt_file<F: FileSet>(
     };
     let mut source = files.open(alloc, asked.from)?;
     let out = files.create(alloc, asked.to)?;
-    write_out(alloc, files, &mut source, &secret, out, asked.durability)?;
-    Ok(())
+    match write_out(alloc, files, &mut source, &secret, out, asked.durability) {
+        Ok(()) => Ok(()),
+        Err(fault) => Err(Ending::Fault(fault)),
+    }
 }

@@ -4,14 +4,14 @@ ghost use Rattle.std.specs.Prelude.{◌≡◌};
 ghost use Rattle.age_cli.specs.inner.Endings.{ending_of};
 ghost use Rattle.age_cli.specs.declared.ending.Ending.TheVariants.{Fault, Usage as UsageEnding};
 
-use crate::files::CreateFault;
 use age_file::FileFault;
+use age_fileset::CreateFault;
 
 /// A command line that asks for nothing that can be done.
 #[derive(Clone, Copy, Debug, PartialEq, Eq)]
 pub(crate) enum Usage {
     /// None of the options that say what opens the file, or more than one.
-    GiveOneOpener,
+    GiveOneIdentity,
     /// No 32 hexadecimal digits.
     BadFileKey,
     /// A name stands for two files that have to differ.
@@ -38,7 +38,7 @@ impl Usage {
     /// What is told of it; a script's line number follows.
     pub(crate) fn text(&self) -> &'static str {
         match self {
-            Usage::GiveOneOpener => "give one of --pass, --file-key and --shared",
+            Usage::GiveOneIdentity => "give one of --pass, --file-key and --shared",
             Usage::BadFileKey => "bad file key",
             Usage::SameFile => "same file named twice",
             Usage::BadPassphraseFile => "bad passphrase file",

@@ -1,7 +1,7 @@
 //! What stands at the front of a source.
 
 ghost use Rattle.std.specs.Prelude.{◌≡◌, ◌^◌, ◌<◌, ◌≤◌, take, [], OnOk, IfOk, IfErr, IfSome};
-ghost use Rattle.age_cli.specs.FileSet.{IsMemoryOr};
+ghost use Rattle.age_fileset.specs.FileSet.{IsMemoryOr};
 ghost use Rattle.age_file.specs.declared.fault.FileFault.TheVariants.{Read};
 ghost use Rattle.std.specs.Io.KnownBytes.{Consumes, IsAtEnd};
 ghost use Rattle.age_cli.specs.inner.Fronts.{IsFront};
@@ -32,8 +32,9 @@ fn pull_some<S: Source>(
     }
 }
 
-/// Puts the first bytes of a source into a vector that is empty: so many, or all that it gives where it ends before. Not
-/// a byte more is pulled. Where it fails, the vector holds what came before.
+/// Puts the first bytes of a source into a vector that is empty: so many, or all that it gives
+/// where it ends before. Not a byte more is pulled. Where it fails, the vector holds what came
+/// before.
 pub(crate) fn fill_front<S: Source>(
     source: &mut S,
     held: &mut Vec<u8>,
@@ -55,7 +56,8 @@ pub(crate) fn fill_front<S: Source>(
     Ok(())
 }
 
-/// The first bytes of a source: so many, or all that it gives where it ends before. Not a byte more is pulled.
+/// The first bytes of a source: so many, or all that it gives where it ends before. Not a byte more
+/// is pulled.
 pub(crate) fn read_front<S: Source>(
     alloc: Global,
     source: &mut S,
@@ -70,7 +72,8 @@ pub(crate) fn read_front<S: Source>(
     Ok(held)
 }
 
-/// All bytes of a source that gives at most so many; `None` where it gives more. At most one byte more is pulled.
+/// All bytes of a source that gives at most so many; `None` where it gives more. At most one byte
+/// more is pulled.
 pub(crate) fn read_up_to<S: Source>(
     alloc: Global,
     source: &mut S,

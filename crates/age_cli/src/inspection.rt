@@ -2,13 +2,13 @@
 
 ghost use Rattle.std.specs.Prelude.{◌≡◌, [], ◌∷◌, ◌++◌, true, false, OnOk, IfErr};
 ghost use Rattle.age_cli.specs.Endings.{is_usage};
-ghost use Rattle.age_cli.specs.Events.{Opened};
+ghost use Rattle.age_fileset.specs.Events.{Opened};
 ghost use Rattle.age_cli.specs.Runs.{Reports, ReportsFile};
 
 use crate::ending::Ending;
-use crate::files::FileSet;
 use crate::print::{flush, put_bytes, text_of};
 use age_file::{FileFault, Sink, Source, inspect};
+use age_fileset::FileSet;
 use std::alloc::Global;
 
 /// Writes the report of what it reads, to the end.

@@ -1,8 +1,9 @@
 //! The program over words, files, a source and sinks.
 //!
-//! `run` takes the words after the program's name, a set of files, the input, the output and a sink for faults, and
-//! answers the status: 0 on success, 1 on a fault, 2 for a bad command line. It is generic over all of them, so that its
-//! contract speaks of every input and every set of files; the program hands in the machine's.
+//! `run` takes the words after the program's name, a set of files, the input, the output and a sink
+//! for faults, and answers the status: 0 on success, 1 on a fault, 2 for a bad command line. It is
+//! generic over all of them, so that its contract speaks of every input and every set of files; the
+//! program hands in the machine's.
 #![tactic(auto)]
 
 mod commands;
@@ -10,19 +11,10 @@ mod decryption;
 mod drill;
 mod encryption;
 mod ending;
-mod files;
 mod front;
 mod help;
-mod host_files;
-mod host_in;
-mod host_names;
-mod host_out;
-mod host_replace;
+mod identity;
 mod inspection;
-mod log;
-mod mem_entry;
-mod mem_files;
-mod opener;
 mod output;
 mod print;
 mod program;
@@ -33,10 +25,4 @@ mod script;
 mod stop;
 mod tell;
 
-pub use files::{CreateFault, Durability, FileSet};
-pub use host_files::HostFiles;
-pub use host_in::HostIn;
-pub use host_out::HostOut;
-pub use log::Log;
-pub use mem_files::{MemFiles, MemOut};
 pub use program::run;

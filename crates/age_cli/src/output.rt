@@ -2,11 +2,12 @@
 
 ghost use Rattle.std.specs.Prelude.{◌≡◌, ◌≢◌, ℕ, [], ◌∷◌, ◌++◌, List, Some, true, false, IfOk, IfErr, OnOk, OnErr};
 ghost use Rattle.age_cli.specs.Endings.{EndsEarly, is_usage};
-ghost use Rattle.age_cli.specs.Events.{Follows, Created, Closed, making};
+ghost use Rattle.age_fileset.specs.Events.{Created, Closed};
+ghost use Rattle.age_cli.specs.EventOrders.{Follows, making};
 ghost use Rattle.age_cli.specs.Stops.{Leaves};
 
 use crate::ending::{Ending, Usage};
-use crate::files::{Durability, FileSet};
+use age_fileset::{Durability, FileSet};
 use std::alloc::Global;
 
 /// Whether the file of `--save` is one that is open, other than that of the position.
@@ -20,7 +21,8 @@ fn saves_over<F: FileSet>(files: &F, save: Option<&str>, position: Option<&str>)
     }
 }
 
-/// Opens the output, unless it turns out to be a file that is read, or that of `--save` one that is open.
+/// Opens the output, unless it turns out to be a file that is read, or that of `--save` one that is
+/// open.
 pub(crate) fn create_out<F: FileSet>(
     alloc: Global,
     files: &mut F,
@@ -50,7 +52,7 @@ pub(crate) fn create_out<F: FileSet>(
 pub(crate) fn leave<F: FileSet>(files: &mut F, out: F::Out, written: u128, durability: Durability)
     ensures told { F.tells files.new ≡ F.tells files.old }
     ensures held { F.tells files.old ≡ true → (written ≡ 0 → F.Out.taken out ≡ Some [])
-        → Leaves written (F.Out.taken out) (F.entry files.old (F.Out.label out))
+        → Leaves (written ≡ 0) (F.Out.taken out) (F.entry files.old (F.Out.label out))
         (F.entry files.new (F.Out.label out)) }
     ensures others { (q : List ℕ) → q ≢ F.Out.label out → F.entry files.new q ≡ F.entry files.old q }
     ensures noted { F.events files.new ≡ F.events files.old ++ Closed ∷ [] }

@@ -1,33 +1,28 @@
 //! The program, over words, files, a source and sinks.
 
-ghost use Rattle.std.specs.Prelude.{◌≡◌, ◌⊎◌, ◌≤◌, ℕ, List, [], ◌++◌, true, OnOk, IfErr, IsOk, codes};
-ghost use Rattle.clap.specs.Words.{Row, Text, first_of, kind_of};
+ghost use Rattle.std.specs.Prelude.{◌≡◌, ◌⊎◌, ◌≤◌, ℕ, List, [], true, OnOk, IfErr, IsOk, codes};
+ghost use Rattle.clap.specs.Words.{Row, Text, kind_of};
 ghost use Rattle.clap.specs.Walk.{texts};
 ghost use Rattle.clap.specs.declared.error.kind.ErrorKind.TheVariants.{DisplayHelp, DisplayVersion};
 ghost use Rattle.age_cli.specs.Asked.{Asks, IsServed, refusals};
-ghost use Rattle.age_cli.specs.Encryptions.{EncryptsRows};
-ghost use Rattle.age_cli.specs.Decryptions.{DecryptsRows};
-ghost use Rattle.age_cli.specs.Resumptions.{ResumesRows};
+ghost use Rattle.age_cli.specs.Promises.{Inspecting, Encrypting, Decrypting, Resuming, SparingOthers, EncryptingStops, DecryptingStops, ResumingStops, Touching, Finishing, Judging, JudgingTold};
 ghost use Rattle.age_cli.specs.Endings.{EndsEarly, is_usage};
-ghost use Rattle.age_cli.specs.Stops.{FailsToDecrypt, FailsToResume, PortsOf, StopsTold};
-ghost use Rattle.age_cli.specs.Headline.{IsWritersInput, KeepsOut};
-ghost use Rattle.age_cli.specs.Events.{Follows};
-ghost use Rattle.age_cli.specs.Orders.{order_of};
+ghost use Rattle.age_cli.specs.Stops.{PortsOf, StopsTold};
+ghost use Rattle.age_cli.specs.Headline.{IsWritersInput, IsWritersResumption, KeepsOut};
 ghost use Rattle.age_cli.specs.FaultLines.{TellsFault};
-ghost use Rattle.age_cli.specs.Held.{Spares};
-ghost use Rattle.age_cli.specs.Runs.{Reports, Inspects};
+ghost use Rattle.age_cli.specs.Runs.{Reports};
 
 use crate::decryption::decrypt_file;
 use crate::drill::drill_file;
 use crate::encryption::encrypt_file;
 use crate::ending::{Ending, Usage};
-use crate::files::FileSet;
 use crate::inspection::{report, report_file};
 use crate::reading::read_request;
 use crate::request::Request;
 use crate::resumption::resume_file;
 use crate::tell::tell;
 use age_file::{FileFault, Sink, Source, flush_all, write_all};
+use age_fileset::FileSet;
 use clap::Error;
 use clap::error::ErrorKind;
 use std::alloc::Global;
@@ -64,43 +59,39 @@ fn obey<F: FileSet, I: Source, O: Sink>(
     ensures report { words.now ≡ []
         → OnOk result (Reports (I.remaining input.old) (I.remaining input.new) (O.taken output.old)
         (O.taken output.new)) }
-    ensures inspects { (rows : List Row) → Asks (texts words.now) (codes "inspect") rows
-        → OnOk result (
-        Inspects (first_of (codes "FILE") rows) (F.tells files.old) (F.entry files.old)
-        (I.remaining input.old) (I.remaining input.new) (O.taken output.old) (O.taken output.new)) }
-    ensures encrypts { (rows : List Row) → Asks (texts words.now) (codes "encrypt") rows
-        → OnOk result (F.tells files.old ≡ true
-        → EncryptsRows rows (F.entry files.old) (F.entry files.new)) }
-    ensures decrypts { (rows : List Row) → Asks (texts words.now) (codes "decrypt") rows
-        → OnOk result (F.tells files.old ≡ true
-        → DecryptsRows rows (F.entry files.old) (F.entry files.new)) }
-    ensures resumes { (rows : List Row) → Asks (texts words.now) (codes "resume") rows
-        → OnOk result (F.tells files.old ≡ true
-        → ResumesRows rows (F.entry files.old) (F.entry files.new)) }
-    ensures spares { (rows : List Row) (name : Text) → Asks (texts words.now) name rows
-        → F.tells files.old ≡ true
-        → Spares rows (F.entry files.old) (F.entry files.new) }
+    ensures inspects { Inspecting (texts words.now) (F.tells files.old) (F.entry files.old)
+        (I.remaining input.old) (I.remaining input.new) (O.taken output.old) (O.taken output.new)
+        (OnOk result) }
+    ensures encrypts { Encrypting (texts words.now) (F.tells files.old) (F.entry files.old)
+        (F.entry files.new) (OnOk result) }
+    ensures decrypts { Decrypting (texts words.now) (F.tells files.old) (F.entry files.old)
+        (F.entry files.new) (OnOk result) }
+    ensures resumes { Resuming (texts words.now) (F.tells files.old) (F.entry files.old)
+        (F.entry files.new) (OnOk result) }
+    ensures spares { SparingOthers (texts words.now) (F.tells files.old) (F.entry files.old)
+        (F.entry files.new) }
     ensures usage { IfErr result (λ e. is_usage e ≡ true → F.entry files.new ≡ F.entry files.old) }
     ensures refused { (refusals (texts words.now) ≡ [] → ⊥)
         → F.entry files.new ≡ F.entry files.old }
-    ensures decrypts_stop { (rows : List Row) → Asks (texts words.now) (codes "decrypt") rows
-        → IfErr result (λ e. F.tells files.old ≡ true
-        → FailsToDecrypt (PortsOf F.In.remaining F.In.failed F.Out.taken F.Out.failed) rows
-        (F.entry files.old) (F.entry files.new) e) }
-    ensures resumes_stop { (rows : List Row) → Asks (texts words.now) (codes "resume") rows
-        → IfErr result (λ e. F.tells files.old ≡ true
-        → FailsToResume (PortsOf F.In.remaining F.In.failed F.Out.taken F.Out.failed) rows
-        (F.entry files.old) (F.entry files.new) e) }
-    ensures touches { (name : Text) (rows : List Row) → Asks (texts words.now) name rows
-        → Follows (order_of name rows).whole (F.events files.old) (F.events files.new) }
-    ensures finished { (name : Text) (rows : List Row) → Asks (texts words.now) name rows
-        → OnOk result (F.events files.new ≡ F.events files.old ++ (order_of name rows).done) }
-    ensures judged { (name : Text) (rows : List Row) → Asks (texts words.now) name rows
-        → IfErr result (λ e. is_usage e ≡ true
-        → Follows (order_of name rows).done (F.events files.old) (F.events files.new)) }
-    ensures judged_told { (name : Text) (rows : List Row) → Asks (texts words.now) name rows
-        → F.tells files.old ≡ true → IfErr result (λ e. is_usage e ≡ true
-        → Follows (order_of name rows).judged (F.events files.old) (F.events files.new)) }
+    ensures encrypts_stop { EncryptingStops (texts words.now) (F.tells files.old) (F.entry files.old)
+        (F.entry files.new)
+        (PortsOf F.In.remaining F.In.failed F.Out.taken F.Out.failed)
+        (λ Ends. IfErr result Ends) }
+    ensures decrypts_stop { DecryptingStops (texts words.now) (F.tells files.old) (F.entry files.old)
+        (F.entry files.new)
+        (PortsOf F.In.remaining F.In.failed F.Out.taken F.Out.failed)
+        (λ Ends. IfErr result Ends) }
+    ensures resumes_stop { ResumingStops (texts words.now) (F.tells files.old) (F.entry files.old)
+        (F.entry files.new)
+        (PortsOf F.In.remaining F.In.failed F.Out.taken F.Out.failed)
+        (λ Ends. IfErr result Ends) }
+    ensures touches { Touching (texts words.now) (F.events files.old) (F.events files.new) }
+    ensures finished { Finishing (texts words.now) (F.events files.old) (F.events files.new)
+        (OnOk result) }
+    ensures judged { Judging (texts words.now) (F.events files.old) (F.events files.new)
+        (λ P. IfErr result (λ e. is_usage e ≡ true → P)) }
+    ensures judged_told { JudgingTold (texts words.now) (F.events files.old) (F.events files.new)
+        (F.tells files.old) (λ P. IfErr result (λ e. is_usage e ≡ true → P)) }
     ensures untouched { (refusals (texts words.now) ≡ [] → ⊥)
         → F.events files.new ≡ F.events files.old }
 {
@@ -140,72 +131,76 @@ pub fn run<F: FileSet, I: Source, O: Sink, E: Sink>(
     faults: &mut E,
 ) -> u8
     ensures status { result ≤ 2 }
-    // What goes to `faults`: nothing with 0; with 1 the line of a fault, or those of two, unless the sink fails.
+    // What goes to `faults`: nothing with 0; with 1 the line of a fault, or those of two, unless
+    // the sink fails.
     ensures quiet { result ≡ 0 → faults.new ≡ faults.old }
     ensures told { result ≡ 1
         → TellsFault (E.taken faults.old) (E.taken faults.new) (E.failed faults.old)
         (E.failed faults.new) }
-    // 0 comes only without words, for a command, and where help is asked for; never of words that are refused.
+    // 0 comes only without words, for a command, and where help is asked for; never of words that
+    // are refused.
     ensures served { result ≡ 0 → IsServed (texts words.now) }
     // 0 means that the input was read to its end, and that its report and nothing else was written.
     ensures report { words.now ≡ [] → result ≡ 0
         → Reports (I.remaining input.old) (I.remaining input.new) (O.taken output.old)
         (O.taken output.new) }
-    ensures inspects { (rows : List Row) → Asks (texts words.now) (codes "inspect") rows
-        → result ≡ 0
-        → Inspects (first_of (codes "FILE") rows) (F.tells files.old) (F.entry files.old)
-        (I.remaining input.old) (I.remaining input.new) (O.taken output.old) (O.taken output.new) }
+    ensures inspects { Inspecting (texts words.now) (F.tells files.old) (F.entry files.old)
+        (I.remaining input.old) (I.remaining input.new) (O.taken output.old) (O.taken output.new)
+        (λ P. result ≡ 0 → P) }
     // 0 means that OUT holds what the engine promises for what the names stood for at the call.
-    ensures encrypts { (rows : List Row) → Asks (texts words.now) (codes "encrypt") rows
-        → result ≡ 0 → F.tells files.old ≡ true
-        → EncryptsRows rows (F.entry files.old) (F.entry files.new) }
-    ensures decrypts { (rows : List Row) → Asks (texts words.now) (codes "decrypt") rows
-        → result ≡ 0 → F.tells files.old ≡ true
-        → DecryptsRows rows (F.entry files.old) (F.entry files.new) }
-    ensures resumes { (rows : List Row) → Asks (texts words.now) (codes "resume") rows → result ≡ 0
-        → F.tells files.old ≡ true
-        → ResumesRows rows (F.entry files.old) (F.entry files.new) }
+    ensures encrypts { Encrypting (texts words.now) (F.tells files.old) (F.entry files.old)
+        (F.entry files.new) (λ P. result ≡ 0 → P) }
+    ensures decrypts { Decrypting (texts words.now) (F.tells files.old) (F.entry files.old)
+        (F.entry files.new) (λ P. result ≡ 0 → P) }
+    ensures resumes { Resuming (texts words.now) (F.tells files.old) (F.entry files.old)
+        (F.entry files.new) (λ P. result ≡ 0 → P) }
     // Whatever the status, no file but OUT and that of --save differs.
-    ensures spares { (rows : List Row) (name : Text) → Asks (texts words.now) name rows
-        → F.tells files.old ≡ true
-        → Spares rows (F.entry files.old) (F.entry files.new) }
+    ensures spares { SparingOthers (texts words.now) (F.tells files.old) (F.entry files.old)
+        (F.entry files.new) }
     // A bad command line, and words that ask for help, change no file.
     ensures usage { result ≡ 2 → F.entry files.new ≡ F.entry files.old }
     ensures refused { (refusals (texts words.now) ≡ [] → ⊥)
         → F.entry files.new ≡ F.entry files.old }
-    // 1 means that nothing differs, or that OUT holds what the engine promises for a stop, the file of --save its
-    // position, and that the line which is told is that stop's.
-    ensures decrypts_stop { (rows : List Row) → Asks (texts words.now) (codes "decrypt") rows
-        → result ≡ 1 → F.tells files.old ≡ true
-        → StopsTold
-        (FailsToDecrypt (PortsOf F.In.remaining F.In.failed F.Out.taken F.Out.failed) rows
-        (F.entry files.old) (F.entry files.new))
-        (E.taken faults.old) (E.taken faults.new) (E.failed faults.old) (E.failed faults.new) }
-    ensures resumes_stop { (rows : List Row) → Asks (texts words.now) (codes "resume") rows
-        → result ≡ 1 → F.tells files.old ≡ true
-        → StopsTold
-        (FailsToResume (PortsOf F.In.remaining F.In.failed F.Out.taken F.Out.failed) rows
-        (F.entry files.old) (F.entry files.new))
-        (E.taken faults.old) (E.taken faults.new) (E.failed faults.old) (E.failed faults.new) }
-    // The headline: whatever the status, OUT is as it was or holds a beginning of the plaintext, while no block of IN opens
-    // except as its writer sealed it; and 0 means all of the plaintext.
+    // 1 means that nothing differs, or that OUT holds what the engine promises for a stop, the file
+    // of --save its position, and that the line which is told is that stop's.
+    ensures encrypts_stop { EncryptingStops (texts words.now) (F.tells files.old) (F.entry files.old)
+        (F.entry files.new)
+        (PortsOf F.In.remaining F.In.failed F.Out.taken F.Out.failed)
+        (λ Ends. result ≡ 1 → StopsTold Ends (E.taken faults.old) (E.taken faults.new)
+        (E.failed faults.old) (E.failed faults.new)) }
+    ensures decrypts_stop { DecryptingStops (texts words.now) (F.tells files.old) (F.entry files.old)
+        (F.entry files.new)
+        (PortsOf F.In.remaining F.In.failed F.Out.taken F.Out.failed)
+        (λ Ends. result ≡ 1 → StopsTold Ends (E.taken faults.old) (E.taken faults.new)
+        (E.failed faults.old) (E.failed faults.new)) }
+    ensures resumes_stop { ResumingStops (texts words.now) (F.tells files.old) (F.entry files.old)
+        (F.entry files.new)
+        (PortsOf F.In.remaining F.In.failed F.Out.taken F.Out.failed)
+        (λ Ends. result ≡ 1 → StopsTold Ends (E.taken faults.old) (E.taken faults.new)
+        (E.failed faults.old) (E.failed faults.new)) }
+    // The headline: whatever the status, OUT is as it was or holds a beginning of the plaintext,
+    // while no block of IN opens except as its writer sealed it; and 0 means all of the plaintext.
     ensures headline { (rows : List Row) (text : List ℕ)
         → Asks (texts words.now) (codes "decrypt") rows → F.tells files.old ≡ true
         → IsWritersInput rows (F.entry files.old) text
         → KeepsOut rows (F.entry files.old) (F.entry files.new) result text }
-    // What is opened and made, also of the machine's files: the beginning of the command's order; with 0 all of it but what a
-    // stop adds; with 2 the beginning of that, and of files that are told only what the arguments are judged by, for a name
-    // may turn out to be another file's only once the output is opened; and nothing of a command line that is refused.
-    ensures touches { (name : Text) (rows : List Row) → Asks (texts words.now) name rows
-        → Follows (order_of name rows).whole (F.events files.old) (F.events files.new) }
-    ensures finished { (name : Text) (rows : List Row) → Asks (texts words.now) name rows
-        → result ≡ 0 → F.events files.new ≡ F.events files.old ++ (order_of name rows).done }
-    ensures judged { (name : Text) (rows : List Row) → Asks (texts words.now) name rows
-        → result ≡ 2
-        → Follows (order_of name rows).done (F.events files.old) (F.events files.new) }
-    ensures judged_told { (name : Text) (rows : List Row) → Asks (texts words.now) name rows
-        → F.tells files.old ≡ true → result ≡ 2
-        → Follows (order_of name rows).judged (F.events files.old) (F.events files.new) }
+    // The same of `resume`, while the old text begins with the chunks of the plaintext before the
+    // position.
+    ensures headline_resumed { (rows : List Row) (text : List ℕ)
+        → Asks (texts words.now) (codes "resume") rows → F.tells files.old ≡ true
+        → IsWritersResumption rows (F.entry files.old) text
+        → KeepsOut rows (F.entry files.old) (F.entry files.new) result text }
+    // What is opened and made, also of the machine's files: the beginning of the command's order;
+    // with 0 all of it but what a stop adds; with 2 the beginning of that, and of files that are
+    // told only what the arguments are judged by, for a name may turn out to be another file's only
+    // once the output is opened; and nothing of a command line that is refused.
+    ensures touches { Touching (texts words.now) (F.events files.old) (F.events files.new) }
+    ensures finished { Finishing (texts words.now) (F.events files.old) (F.events files.new)
+        (λ P. result ≡ 0 → P) }
+    ensures judged { Judging (texts words.now) (F.events files.old) (F.events files.new)
+        (λ P. result ≡ 2 → P) }
+    ensures judged_told { JudgingTold (texts words.now) (F.events files.old) (F.events files.new)
+        (F.tells files.old) (λ P. result ≡ 2 → P) }
     ensures untouched { (refusals (texts words.now) ≡ [] → ⊥)
         → F.events files.new ≡ F.events files.old }
 {

@@ -8,13 +8,13 @@ ghost use Rattle.age_cli.specs.Requests.{number_or};
 ghost use Rattle.age_cli.specs.inner.Requests.{text_of, IsDurability, IsEncrypting, IsUnlocking, IsDecrypting, IsResuming, IsDrilling, IsRequest, Requests};
 
 use crate::commands::matches_of;
-use crate::files::Durability;
 use crate::request::{Decrypting, Drilling, Encrypting, Request, Resuming, Unlocking};
+use age_fileset::Durability;
 use clap::{ArgMatches, Error};
 use std::alloc::Global;
 
-/// A number from 1 to 22, or this one where the words have none. The parser of command lines promises the range of no
-/// number of a command, so it is tested here.
+/// A number from 1 to 22, or this one where the words have none. The parser of command lines
+/// promises the range of no number of a command, so it is tested here.
 fn number(matches: &ArgMatches<'_>, id: &str, default: u32) -> Option<u32>
     requires low { 1 ≤ default }
     requires high { default ≤ 22 }
@@ -136,8 +136,9 @@ fn request_of<'a>(name: &str, matches: &ArgMatches<'a>) -> Option<Request<'a>>
     }
 }
 
-/// What the words ask for. A request is there wherever the words are taken, since each word that is taken is of an
-/// argument that the command has; the parser of command lines doesn't promise this, so there is an answer for none.
+/// What the words ask for. A request is there wherever the words are taken, since each word that is
+/// taken is of an argument that the command has; the parser of command lines doesn't promise this,
+/// so there is an answer for none.
 pub(crate) fn read_request<'a>(
     alloc: Global,
     words: &'a [&'a str],

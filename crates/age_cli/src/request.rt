@@ -1,6 +1,6 @@
 //! What the words ask for.
 
-use crate::files::Durability;
+use age_fileset::Durability;
 
 /// What `encrypt` is asked.
 #[derive(Clone, Copy, Debug)]

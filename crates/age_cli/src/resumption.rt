@@ -1,28 +1,29 @@
 //! The command that goes on with a decryption that stopped.
 
 ghost use Rattle.std.specs.Prelude.{◌≡◌, ◌⊎◌, [], ◌∷◌, ◌++◌, true, Some, IfOk, IfErr, OnOk};
-ghost use Rattle.age_cli.specs.Events.{Follows, Opened, Closed};
+ghost use Rattle.age_fileset.specs.Events.{Opened, Closed};
+ghost use Rattle.age_cli.specs.EventOrders.{Follows};
 ghost use Rattle.age_cli.specs.inner.Asking.{order_asked};
-ghost use Rattle.age_cli.specs.FileSet.{IsMemoryOr};
+ghost use Rattle.age_fileset.specs.FileSet.{IsMemoryOr};
 ghost use Rattle.age_cli.specs.Stops.{ResumptionStop, ResumesStop, OutStops, PortsOf};
 ghost use Rattle.age_cli.specs.declared.request.Request.TheVariants.{Resume};
 ghost use Rattle.age_cli.specs.declared.ending.Ending.TheVariants.{Fault};
 ghost use Rattle.age_file.specs.declared.fault.FileFault.TheVariants.{Read, BadPosition};
 ghost use Rattle.age_cli.specs.inner.Requests.{text_of};
-ghost use Rattle.age_cli.specs.inner.OpenerSteps.{opener_of, options_asked};
+ghost use Rattle.age_cli.specs.inner.IdentitySteps.{options_asked};
 ghost use Rattle.age_cli.specs.Resumptions.{IsPositionIn, ResumesOut, ResumesFile};
 ghost use Rattle.age_cli.specs.Endings.{EndsEarly, is_usage};
 ghost use Rattle.age_cli.specs.Held.{SparesBut, SparesBoth};
 
 use crate::decryption::{is_given_as, names_a_file_twice, positions_for};
 use crate::ending::{Ending, Usage};
-use crate::files::{Durability, FileSet};
 use crate::front::read_up_to;
-use crate::opener::{Unlocker, choose, read_material, unlocker_of};
+use crate::identity::{Identity, identity_of, read_secret, secret_file};
 use crate::output::{create_out, leave};
 use crate::request::Resuming;
 use crate::stop::{Stop, end_of};
 use age_file::{FileFault, Position, Positions, resume_with};
+use age_fileset::{Durability, FileSet};
 use std::alloc::Global;
 
 /// The position in a file.
@@ -45,34 +46,34 @@ fn read_position<F: FileSet>(
     }
 }
 
-/// Writes the whole text into the output, and ends that: the old text up to the position, and the input's behind it. Where
-/// it stops before anything is written, the output is as it was.
+/// Writes the whole text into the output, and ends that: the old text up to the position, and the
+/// input's behind it. Where it stops before anything is written, the output is as it was.
 fn write_out<F: FileSet>(
     alloc: Global,
     files: &mut F,
     source: &mut F::In,
     old: &mut F::In,
     positions: Positions,
-    unlocker: &Unlocker<'_>,
+    identity: &Identity<'_>,
     position: &Position,
     mut out: F::Out,
     durability: Durability,
 ) -> Result<(), Stop>
     ensures told { F.tells files.new ≡ F.tells files.old }
     ensures done { OnOk result (F.tells files.old ≡ true → F.Out.taken out ≡ Some []
-        → ResumesOut (opener_of unlocker.now) position.now (F.In.remaining source.old)
+        → ResumesOut identity.now position.now (F.In.remaining source.old)
         (F.In.remaining old.old) (F.entry files.new (F.Out.label out))) }
     ensures stops { IfErr result (λ stop. F.tells files.old ≡ true → F.Out.taken out ≡ Some []
         → OutStops
         (ResumptionStop (PortsOf F.In.remaining F.In.failed F.Out.taken F.Out.failed) positions
-        (opener_of unlocker.now) position.now (F.In.remaining source.old) (F.In.remaining old.old)
+        identity.now position.now (F.In.remaining source.old) (F.In.remaining old.old)
         stop.position stop.fault)
         (F.entry files.old (F.Out.label out)) (F.entry files.new (F.Out.label out)) stop.position
         stop.fault) }
     ensures others { SparesBut (F.Out.label out) (F.entry files.old) (F.entry files.new) }
     ensures noted { F.events files.new ≡ F.events files.old ++ Closed ∷ [] }
 {
-    match resume_with(alloc, positions, unlocker, position, source, old, &mut out) {
+    match resume_with(alloc, positions, identity, position, source, old, &mut out) {
         Ok(_) => {
             files.close(out, durability)?;
             Ok(())
@@ -84,8 +85,8 @@ fn write_out<F: FileSet>(
     }
 }
 
-/// Whether two of the files that have to differ are one: those of a decryption, the old text from all of these that are
-/// not what opens the input, and the output from the position.
+/// Whether two of the files that have to differ are one: those of a decryption, the old text from
+/// all of these that are not what opens the input, and the output from the position.
 fn names_one_twice<F: FileSet>(files: &F, asked: &Resuming<'_>) -> bool
     ensures position_to { asked.now.position.now ≡ asked.now.decrypting.to.now → result ≡ true }
     ensures old_from { asked.now.old.now ≡ asked.now.decrypting.from.now → result ≡ true }
@@ -133,12 +134,12 @@ pub(crate) fn resume_file<F: FileSet>(
         (order_asked (Resume asked.now)).judged (F.events files.old) (F.events files.new)) }
 {
     let wanted = &asked.decrypting;
-    let chosen = choose(&wanted.unlocking)?;
+    let name = secret_file(&wanted.unlocking)?;
     if names_one_twice(files, asked) {
         return Err(Ending::Usage(Usage::SameFile));
     }
-    let material = read_material(alloc, files, chosen)?;
-    let unlocker = unlocker_of(&material, wanted.unlocking.max_log)?;
+    let secret = read_secret(alloc, files, name)?;
+    let identity = identity_of(&wanted.unlocking, &secret)?;
     let position = read_position(alloc, files, asked.position)?;
     let mut old = files.open(alloc, asked.old)?;
     let mut source = files.open(alloc, wanted.from)?;
@@ -149,7 +150,7 @@ pub(crate) fn resume_file<F: FileSet>(
         &mut source,
         &mut old,
         positions_for(wanted.save),
-        &unlocker,
+        &identity,
         &position,
         out,
         wanted.durability,

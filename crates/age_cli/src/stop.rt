@@ -4,13 +4,13 @@ ghost use Rattle.std.specs.Prelude.{◌≡◌, true, false, None, OnOk, OnErr};
 ghost use Rattle.age_cli.specs.inner.Requests.{text_of};
 ghost use Rattle.age_cli.specs.Endings.{is_usage};
 ghost use Rattle.age_cli.specs.Stops.{SaveFails, EndsOf};
-ghost use Rattle.age_cli.specs.Events.{Follows, replacing};
+ghost use Rattle.age_cli.specs.EventOrders.{Follows, replacing};
 ghost use Rattle.age_cli.specs.Held.{SparesBoth};
 ghost use Rattle.age_cli.specs.inner.Held.{Saves};
 
 use crate::ending::Ending;
-use crate::files::{Durability, FileSet};
 use age_file::{FileFault, Position, Stopped};
+use age_fileset::{Durability, FileSet};
 use std::alloc::Global;
 
 /// Why a command stopped, and the position to save.

@@ -11,7 +11,8 @@ use age_file::{Failed, FileFault, Sink};
 use arrayvec::ArrayVec;
 use itoa::Buffer;
 
-/// A line on the stack, so that it goes out in one put and lines of several runs don't mix. The longest has 61 bytes.
+/// A line on the stack, so that it goes out in one put and lines of several runs don't mix. The
+/// longest has 61 bytes.
 #[derive(Debug, Drop)]
 struct Line {
     bytes: ArrayVec<u8, 128>,
@@ -80,7 +81,8 @@ fn put_place<E: Sink>(faults: &mut E, fault: FileFault) -> Result<(), FileFault>
     }
 }
 
-/// The fault's number and name, and its place. It takes no memory, so that running out of it is reported too.
+/// The fault's number and name, and its place. It takes no memory, so that running out of it is
+/// reported too.
 fn put_fault_line<E: Sink>(faults: &mut E, fault: FileFault) -> Result<(), FileFault>
     ensures ok { OnOk result
         (Appends (E.taken faults.old) (E.taken faults.new) (fault_line fault)) }

@@ -6,8 +6,8 @@ use age_keys::{FileKey, KeyFault, Unlock};
 use age_stanza::Header;
 use std::alloc::Global;
 
-/// Two ways to open a file, such as a new passphrase and the one before it: the first that finds a key
-/// counts. What the second refuses is reported.
+/// Two ways to open a file, such as a new passphrase and the one before it: the first that finds a
+/// key counts. What the second refuses is reported.
 #[derive(Drop)]
 pub struct Either<A: Unlock, B: Unlock> {
     pub first: A,

@@ -6,7 +6,8 @@ use age_keys::{FileKey, KnownKey, Passphrase, payload_key};
 use std::alloc::Global;
 use std::test::Fail;
 
-// The file key is the bytes 0 to 15, the payload nonce 100 to 115, and the one stanza, of type `x`, has an empty body.
+// The file key is the bytes 0 to 15, the payload nonce 100 to 115, and the one stanza, of type `x`,
+// has an empty body.
 const KEY: [u8; 16] = [0, 1, 2, 3, 4, 5, 6, 7, 8, 9, 10, 11, 12, 13, 14, 15];
 
 const NONCE: [u8; 16] = *b"defghijklmnopqrs";

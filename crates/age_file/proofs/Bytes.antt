@@ -1,16 +1,20 @@
 -- Bytes that are told, one call after another.
-use Rattle.std.proofs.Common.{◌≡◌, ℕ, ◌+◌, ◌-◌, ◌^◌, min, List, [], ◌++◌, take, drop, Option, Some, None, Result, Ok, Err, sym, ap, subst, ◌∙◌, append_assoc, append-nil, inl, inr, arith}
+use Rattle.std.proofs.Common.{◌≡◌, ℕ, ◌+◌, ◌-◌, ◌^◌, ◌≤◌, min, List, [], ◌++◌, length, take, drop, Option, Some, None, Result, Ok, Err, refl, sym, ap, subst, ◌∙◌, append_assoc, append-nil, inl, inr, arith}
 use Rattle.std.proofs.lemmas.Bool.{cases_lt}
 use Rattle.std.specs.Prelude.{◌⊎◌, ◌≢◌, MatchResult, IfErr}
 use Rattle.std.specs.Io.KnownBytes.{Consumes, Appends, Keeps, IsAtEnd}
-use Rattle.std.proofs.lemmas.List.{take-append-drop}
+use Rattle.std.proofs.lemmas.List.{append_cancel_left, length-append, take-append-drop}
 use Rattle.age_stanza.specs.declared.fault.HeadFault.{HeadFault}
 use Rattle.age_stanza.specs.declared.fault.HeadKind.{HeadKind}
 use Rattle.age_stanza.specs.declared.fault.HeadKind.TheVariants.{NotAge, Armored, BadStanzaLine, BadBody, BadEndLine, NoStanza, HeadTooLong, HeadCut, Memory}
-use Rattle.age_stanza.specs.Faults.{HasHeader, IsFault, memory_fault}
+use Rattle.age_stanza.specs.Faults.{HasHeader, NoFault, IsFault, memory_fault}
+use Rattle.std.proofs.KnownBytes.{Consumes-nil}
 use Rattle.age_stanza.proofs.AnyPieces.{more_fault}
+use Rattle.age_stanza.proofs.FinishedLines.{nothing_under_way}
+use Rattle.age_stanza.proofs.Pieces.{none_held}
+use Rattle.age_stanza.proofs.FaultLaws.{no_fault}
 use Rattle.age_stream.specs.Headline.{IsPrefixOf}
-use Rattle.age_file.specs.Faults.{HasRisen, IsCut, IsHeadFault, IsSourcesFault, TellsFault, HeadFails}
+use Rattle.age_file.specs.Faults.{HasRisen, IsCut, IsHeadFault, IsSourcesFault, TellsFault, StopsAtHeader, HeadFails}
 use Rattle.age_file.specs.inner.Faults.{IsInHeader, fault_of, fault_by_kind}
 use Rattle.age_file.specs.declared.fault.FileFault.{FileFault}
 use Rattle.age_file.specs.declared.fault.FileFault.TheVariants.{Memory as FileMemory}
@@ -46,17 +50,31 @@ risen old new e =
 
 -- ---- headers
 
+pub stops_at : (old new : Option (List ℕ)) (held piece : List ℕ) → length piece ≤ 65536 → (HasHeader held → ⊥) → NoFault held → Consumes old new (held ++ piece) → StopsAtHeader old new
+stops_at old new held piece most none sound consumed = record { before = held; last = piece; read = consumed; one_pull = most; no_header = none; no_fault = sound }
+
+-- the last pull gave nothing
+pub stops_at_held : (old new : Option (List ℕ)) (held : List ℕ) → Consumes old new held → (HasHeader held → ⊥) → NoFault held → StopsAtHeader old new
+stops_at_held old new held consumed none sound =
+    stops_at old new held [] (omega arith) none sound (subst (λ (t : List ℕ). Consumes old new t) (sym (append-nil held)) consumed)
+
+-- nothing was pulled
+pub stops_unread : (a : Option (List ℕ)) → StopsAtHeader a a
+stops_unread a =
+    let started = nothing_under_way in
+    stops_at_held a a [] (Consumes-nil a) (none_held [] (omega arith) started.goes_on) (no_fault [] started.are_bytes started.goes_on)
+
 -- a fault that the bytes have is the fault that is told
-fails_by_kind : (old new : Option (List ℕ)) (i j : ℕ) (kind : HeadKind) (fault : HeadFault) → TellsFault old new fault → HeadFails old new i j (fault_by_kind kind fault)
-fails_by_kind old new i j NotAge fault told = told
-fails_by_kind old new i j Armored fault told = told
-fails_by_kind old new i j BadStanzaLine fault told = told
-fails_by_kind old new i j BadBody fault told = told
-fails_by_kind old new i j BadEndLine fault told = told
-fails_by_kind old new i j NoStanza fault told = told
-fails_by_kind old new i j HeadTooLong fault told = told
-fails_by_kind old new i j HeadCut fault told = told
-fails_by_kind old new i j Memory fault told = tt
+fails_by_kind : (old new : Option (List ℕ)) (i j : ℕ) (kind : HeadKind) (fault : HeadFault) → StopsAtHeader old new → TellsFault old new fault → HeadFails old new i j (fault_by_kind kind fault)
+fails_by_kind old new i j NotAge fault stops told = told
+fails_by_kind old new i j Armored fault stops told = told
+fails_by_kind old new i j BadStanzaLine fault stops told = told
+fails_by_kind old new i j BadBody fault stops told = told
+fails_by_kind old new i j BadEndLine fault stops told = told
+fails_by_kind old new i j NoStanza fault stops told = told
+fails_by_kind old new i j HeadTooLong fault stops told = told
+fails_by_kind old new i j HeadCut fault stops told = told
+fails_by_kind old new i j Memory fault stops told = stops
 
 -- what is told of the bytes that were read is told of all that the source had
 whole_fault : (old new : Option (List ℕ)) (bytes : List ℕ) (fault : HeadFault) → Consumes old new bytes → (HasHeader bytes → ⊥) → IsFault bytes fault → IsSourcesFault old fault
@@ -74,16 +92,17 @@ whole_cut (Some all) (Some rest) bytes fault consumed ended none unwritten =
     subst (λ (t : List ℕ). IsHeadFault t fault) (sym same) (none, inr unwritten)
 
 -- the input ended inside the header
-pub end_fails : (old new : Option (List ℕ)) (i j : ℕ) (bytes : List ℕ) (fault : HeadFault) → Consumes old new bytes → IsAtEnd new → (HasHeader bytes → ⊥) → IsCut bytes fault → HeadFails old new i j (fault_of fault)
-end_fails old new i j bytes fault consumed ended none unwritten =
-    fails_by_kind old new i j fault.kind fault (record { bytes = bytes; consumed = consumed; no_header = none; told = inr (ended, unwritten); of_all = whole_cut old new bytes fault consumed ended none unwritten })
+pub end_fails : (old new : Option (List ℕ)) (i j : ℕ) (bytes : List ℕ) (fault : HeadFault) → StopsAtHeader old new → Consumes old new bytes → IsAtEnd new → (HasHeader bytes → ⊥) → IsCut bytes fault → HeadFails old new i j (fault_of fault)
+end_fails old new i j bytes fault stops consumed ended none unwritten =
+    fails_by_kind old new i j fault.kind fault stops (record { bytes = bytes; consumed = consumed; no_header = none; told = inr (ended, unwritten); of_all = whole_cut old new bytes fault consumed ended none unwritten })
 
 -- a piece that was refused
-pub piece_fails : (old new : Option (List ℕ)) (i j : ℕ) (held piece : List ℕ) (fault : HeadFault) → Consumes old new (held ++ piece)
+pub piece_fails : (old new : Option (List ℕ)) (i j : ℕ) (held piece : List ℕ) (fault : HeadFault) → length piece ≤ 65536 → (HasHeader held → ⊥) → NoFault held → Consumes old new (held ++ piece)
     → (fault ≡ memory_fault) ⊎ ((HasHeader (held ++ piece) → ⊥) × IsFault (held ++ piece) fault) → HeadFails old new i j (fault_of fault)
-piece_fails old new i j held piece fault consumed (inl memory) = subst (λ (f : HeadFault). HeadFails old new i j (fault_of f)) (sym memory) tt
-piece_fails old new i j held piece fault consumed (inr told) =
-    fails_by_kind old new i j fault.kind fault (record { bytes = held ++ piece; consumed = consumed; no_header = told.0; told = inl told.1; of_all = whole_fault old new (held ++ piece) fault consumed told.0 told.1 })
+piece_fails old new i j held piece fault most none sound consumed (inl memory) =
+    subst (λ (f : HeadFault). HeadFails old new i j (fault_of f)) (sym memory) (stops_at old new held piece most none sound consumed)
+piece_fails old new i j held piece fault most none sound consumed (inr told) =
+    fails_by_kind old new i j fault.kind fault (stops_at old new held piece most none sound consumed) (record { bytes = held ++ piece; consumed = consumed; no_header = told.0; told = inl told.1; of_all = whole_fault old new (held ++ piece) fault consumed told.0 told.1 })
 
 -- the same where more than the fault is asked
 pub piece_early : (old new : Option (List ℕ)) (held piece : List ℕ) (fault : HeadFault) (told : FileFault) → told ≡ fault_of fault → Consumes old new (held ++ piece)
@@ -94,6 +113,43 @@ piece_early old new held piece fault told is consumed (inr refused) not = (held 
 -- a refill that gave nothing
 pub cut_pulled : (start now : Option (List ℕ)) (pulls : ℕ) (held bytes : List ℕ) → bytes ≡ [] → Pulled start now pulls (held ++ bytes) → Pulled start now pulls held
 cut_pulled start now pulls held bytes none h = subst (λ (t : List ℕ). Pulled start now pulls t) (ap (λ (t : List ℕ). held ++ t) none ∙ append-nil held) h
+
+-- ---- the pulls of a call, over its two sources
+
+-- a source that gives these bytes first
+abbrev pub preceded : List ℕ → Option (List ℕ) → Option (List ℕ)
+preceded front None = None
+preceded front (Some rest) = Some (front ++ rest)
+
+first_consumed : (front : List ℕ) (a : Option (List ℕ)) → Consumes (preceded front a) a front
+first_consumed front None = tt
+first_consumed front (Some rest) = refl
+
+pub preceded_consumed : (front y : List ℕ) (a b : Option (List ℕ)) → Consumes (preceded front a) b (front ++ y) → Consumes a b y
+preceded_consumed front y None b h = tt
+preceded_consumed front y (Some rest) None h = absurd h
+preceded_consumed front y (Some rest) (Some left) h = append_cancel_left front rest (y ++ left) (h ∙ append_assoc front y left)
+
+preceded_then : (front y : List ℕ) (a b : Option (List ℕ)) → Consumes a b y → Consumes (preceded front a) b (front ++ y)
+preceded_then front y a b h = Consumes-then (preceded front a) a b front y (first_consumed front a) h
+
+-- the pulls of one source are counted on at another
+pub counted_on : (a b c : Option (List ℕ)) (pulls : ℕ) (front : List ℕ) → Pulled a b pulls front → Pulled (preceded front c) c pulls (front ++ [])
+counted_on a b c pulls front h = record {
+  consumed = preceded_then front [] c c (Consumes-nil c);
+  each_gave = omega (arith, h.each_gave, ap length (append-nil front));
+  small = omega (arith, h.small, ap length (append-nil front));
+  most = h.most;
+}
+
+-- and back
+pub counted_back : (a b c d : Option (List ℕ)) (pulls total : ℕ) (x y : List ℕ) → Pulled a b pulls x → Pulled (preceded x c) d total (x ++ y) → Pulled (preceded y a) b total (y ++ x)
+counted_back a b c d pulls total x y h k = record {
+  consumed = preceded_then y x a b h.consumed;
+  each_gave = omega (arith, k.each_gave, length-append x y, length-append y x);
+  small = omega (arith, k.small, length-append x y, length-append y x);
+  most = k.most;
+}
 
 -- the part of a piece that a header ends in, and the part that is left in the intake
 pub head_pulled : (start now : Option (List ℕ)) (old new : Unread) (held piece : List ℕ) (taken : ℕ) → new.pulls ≡ old.pulls → piece ≡ old.bytes → new.bytes ≡ drop taken old.bytes

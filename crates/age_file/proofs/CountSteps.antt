@@ -1,25 +1,21 @@
 -- Counting the chunks that were written, one step after another. A chunk has n bytes.
-use Rattle.std.proofs.Common.{inl, inr, ◌≡◌, ℕ, ◌+◌, ◌-◌, ◌*◌, ◌/◌, ◌<◌, ◌≤◌, min, List, [], ◌∷◌, ◌++◌, length, take, Option, Some, refl, sym, ap, ◌∙◌, arith, append-nil, append_assoc, false, replicate}
-use Rattle.std.specs.Prelude.{◌⊎◌, nat_lt, slice_get}
+use Rattle.std.proofs.Common.{inl, inr, ◌≡◌, ℕ, ◌+◌, ◌-◌, ◌*◌, ◌/◌, ◌<◌, ◌≤◌, min, List, [], ◌∷◌, ◌++◌, length, take, Option, Some, refl, sym, ap, ◌∙◌, arith, append-nil, append_assoc, Bool, true, false, replicate}
+use Rattle.std.specs.Prelude.{◌⊎◌}
 use Rattle.std.specs.Simd.{first_chunks}
 use Rattle.std.specs.List.{flat_map}
 use Rattle.std.proofs.lemmas.Grind.{flat_map-append, fold-append}
 use Rattle.std.proofs.lemmas.List.{length-append, length-take, take_all}
 use Rattle.std.proofs.lemmas.Bool.{cases_lt}
+use Rattle.std.proofs.Math.Bool.{or-false}
 use Rattle.std.proofs.Math.Nat.{le-div_iff_mul-le}
 use Rattle.age_stream.specs.Lawful.{IsLawful}
-use Rattle.age_stream.specs.Segment.{Segment, Outcome, outcome, released, front_texts, whole_blocks, rest_bytes}
+use Rattle.age_stream.specs.Segment.{Segment, Outcome, outcome, released}
 use Rattle.age_stream.specs.Deliveries.{with_piece, with_end, fresh}
 use Rattle.age_stream.specs.Laws.{counted}
 use Rattle.age_stream.specs.declared.step.Status.{Status}
 use Rattle.age_stream.specs.declared.step.Status.TheVariants.{Open}
-use Rattle.age_stream.proofs.Segments.{by_test}
-use Rattle.age_stream.proofs.Chunks.{first_chunks-append, length-first_chunks}
-use Rattle.age_stream.proofs.Going.{going, after_piece}
-use Rattle.age_stream.proofs.Fresh.{fresh_outcome}
-use Rattle.age_stream.proofs.ReplaySteps.{with_bytes-nil}
-use Rattle.age_stream.proofs.Growing.{index_stays, index_stop}
-use Rattle.age_stream.proofs.Counting.{is_counted}
+use Rattle.age_stream.proofs.PublicLaws.{chunks_are_counted, closed_stays, end_closes, fresh_is_open, released_grows}
+use Rattle.age_file.proofs.FirstChunks.{first_chunks-append, length-first_chunks}
 use Rattle.age_file.specs.Bindings.{link, chain}
 use Rattle.age_file.specs.inner.Bindings.{link_if, chain_if}
 use Rattle.age_file.specs.declared.position.Positions.{Positions}
@@ -41,10 +37,17 @@ min_is x n i j positive low le (inr same) =
 
 -- no bytes
 pub no_piece : (s : Segment) → with_piece s [] ≡ s
-no_piece s = ap (λ st. st.segment) (with_bytes-nil (record { given_up = []; base = []; segment = s; refused = 0 }))
+no_piece s = nothing s.start s.bytes s.ended s.late where
+  nothing : (start : ℕ) (bytes : List ℕ) (ended late : Bool)
+      → with_piece (record { start = start; bytes = bytes; ended = ended; late = late }) [] ≡ record { start = start; bytes = bytes; ended = ended; late = late }
+  nothing start bytes true late = ap (λ (l : Bool). record { start = start; bytes = bytes; ended = true; late = l }) (or-false late)
+  nothing start bytes false late = ap (λ (b : List ℕ). record { start = start; bytes = b; ended = false; late = late }) (append-nil bytes)
 
 pub piece_start : (s : Segment) (piece : List ℕ) → (with_piece s piece).start ≡ s.start
-piece_start s piece = by_test (λ (t : Segment). t.start ≡ s.start) s.ended _ _ (λ _. refl) (λ _. refl)
+piece_start s piece = start_of s.start s.bytes s.ended s.late where
+  start_of : (start : ℕ) (bytes : List ℕ) (ended late : Bool) → (with_piece (record { start = start; bytes = bytes; ended = ended; late = late }) piece).start ≡ start
+  start_of start bytes true late = refl
+  start_of start bytes false late = refl
 
 -- one link more
 pub chain_on : (chunks : List (List ℕ)) (chunk : List ℕ) → chain (chunks ++ chunk ∷ []) ≡ link (chain chunks) chunk
@@ -67,17 +70,14 @@ module _ (sealing : List ℕ → List ℕ → List ℕ) (opening : List ℕ → 
   abbrev IsTimely : Segment → Type 0
   IsTimely s = s.ended ≡ false → s.late ≡ false
 
-  -- the index is that of the block at which it stands
-  index_of : (s : Segment) → at s ≡ s.start + length (front_texts opening s.start (whole_blocks n s.bytes))
-  index_of s =
-      let texts = front_texts opening s.start (whole_blocks n s.bytes) in
-      let m = length texts in
-      index_stop opening n texts (s.start + m) (slice_get (whole_blocks n s.bytes) m) (nat_lt ((m + 1) * (n + 16)) (length s.bytes)) (rest_bytes n s.bytes) s.late s.ended
+  -- with more bytes it never falls
+  index_stays : (s : Segment) (piece : List ℕ) → IsTimely s → at s ≤ at (with_piece s piece)
+  index_stays s piece timely = (released_grows opening n s piece timely).1
 
   -- open segments have released whole chunks alone
   open_text : (base : List ℕ) (s : Segment) → length base ≡ s.start * n → counted opening n s ≡ (outcome opening n s).texts → length (base ++ released opening n s) ≡ at s * n
   open_text base s len all =
-      let c = is_counted sealing opening lawful n base s len in
+      let c = chunks_are_counted sealing opening lawful n base s len in
       let text = base ++ released opening n s in
       let e : text ≡ take (at s * n) text = ap (λ (ts : List (List ℕ)). base ++ flat_map (λ (t : List ℕ). t) ts) (sym all) ∙ c.join in
       omega (arith, ap length e, length-take (at s * n) text, c.within)
@@ -85,7 +85,7 @@ module _ (sealing : List ℕ → List ℕ → List ℕ) (opening : List ℕ → 
   -- how many texts were released, by the index
   texts_len : (base : List ℕ) (s : Segment) → length base ≡ s.start * n → at s ≤ s.start + length (outcome opening n s).texts
   texts_len base s len =
-      let c = is_counted sealing opening lawful n base s len in
+      let c = chunks_are_counted sealing opening lawful n base s len in
       omega (arith, c.count, length-take (at s - s.start) (outcome opening n s).texts)
 
   -- a segment is open, or more bytes leave its index
@@ -94,14 +94,14 @@ module _ (sealing : List ℕ → List ℕ → List ℕ) (opening : List ℕ → 
     by_status : (status : Status) → (outcome opening n s).status ≡ status
         → ((outcome opening n s).status ≡ Open) ⊎ ((more : List ℕ) → (at (with_piece s more) ≡ at s) × ((outcome opening n (with_piece s more)).texts ≡ (outcome opening n s).texts))
     by_status Open e = inl e
-    by_status other e = inr (λ more. let after = after_piece opening n s more timely (λ o. cc) in (after.index, after.texts))
+    by_status other e = inr (λ more. let after = (closed_stays opening n s timely (λ o. cc)).0 more in (after.index, after.texts))
 
   -- all was written
   pub mark_all : (base : List ℕ) (s : Segment) (p : Progress) → length base ≡ s.start * n → IsTimely s → p.index ≡ at s → p.chain ≡ chain_if keep (first_chunks n p.index (base ++ released opening n s))
       → CountsChunks keep opening n base s [] p
   mark_all base s p len timely index chain_is =
       let text = base ++ released opening n s in
-      let c = is_counted sealing opening lawful n base s len in
+      let c = chunks_are_counted sealing opening lawful n base s len in
       let x : length text - 0 ≡ length text = omega arith in
       record {
         index = λ more.
@@ -110,7 +110,7 @@ module _ (sealing : List ℕ → List ℕ → List ℕ) (opening : List ℕ → 
               | inl o ↦ (let e : (at s + 1) * n ≡ at s * n + n = omega arith in inl (omega (arith, open_text base s len (c.all o), e, positive)))
               | inr same ↦ inr (same more).0
             ] in
-            index ∙ (min_is (length text) n (at s) (at (with_piece s more)) positive c.within (index_stays opening n s more timely) side ∙ ap (λ (k : ℕ). min (k / n) (at (with_piece s more))) (sym x));
+            index ∙ (min_is (length text) n (at s) (at (with_piece s more)) positive c.within (index_stays s more timely) side ∙ ap (λ (k : ℕ). min (k / n) (at (with_piece s more))) (sym x));
         chain_is = chain_is;
       }
 
@@ -118,7 +118,7 @@ module _ (sealing : List ℕ → List ℕ → List ℕ) (opening : List ℕ → 
   pub mark_index : (base : List ℕ) (s : Segment) (p : Progress) → length base ≡ s.start * n → CountsChunks keep opening n base s [] p → p.index ≡ at s
   mark_index base s p len m =
       let text = base ++ released opening n s in
-      let c = is_counted sealing opening lawful n base s len in
+      let c = chunks_are_counted sealing opening lawful n base s len in
       let x : length text - 0 ≡ length text = omega arith in
       let e : p.index ≡ min (length text / n) (at s) = m.index [] ∙ (ap (λ (t : Segment). min ((length text - 0) / n) (at t)) (no_piece s) ∙ ap (λ (k : ℕ). min (k / n) (at s)) x) in
       let below : at s ≤ length text / n = (le-div_iff_mul-le positive).1 c.within in
@@ -128,7 +128,7 @@ module _ (sealing : List ℕ → List ℕ → List ℕ) (opening : List ℕ → 
   front_stays : (base : List ℕ) (s next : Segment) (more : List ℕ) → length base ≡ s.start * n → released opening n next ≡ released opening n s ++ more
       → first_chunks n (at s) (base ++ released opening n next) ≡ first_chunks n (at s) (base ++ released opening n s)
   front_stays base s next more len e =
-      let c = is_counted sealing opening lawful n base s len in
+      let c = chunks_are_counted sealing opening lawful n base s len in
       ap (λ (t : List ℕ). first_chunks n (at s) (base ++ t)) e
       ∙ (ap (first_chunks n (at s)) (sym (append_assoc base (released opening n s) more)) ∙ first_chunks-append n (at s) (base ++ released opening n s) more c.within)
 
@@ -153,8 +153,8 @@ module _ (sealing : List ℕ → List ℕ → List ℕ) (opening : List ℕ → 
       let next = with_piece s piece in
       let start : next.start ≡ s.start = piece_start s piece in
       let len' : length base ≡ next.start * n = len ∙ ap (λ (k : ℕ). k * n) (sym start) in
-      let c = is_counted sealing opening lawful n base s len in
-      let c' = is_counted sealing opening lawful n base next len' in
+      let c = chunks_are_counted sealing opening lawful n base s len in
+      let c' = chunks_are_counted sealing opening lawful n base next len' in
       let texts = (outcome opening n s).texts in
       let o : (outcome opening n s).status ≡ Open = elim (stays s timely) [ inl o ↦ o | inr same ↦ absurd (omega (arith, lt, (same piece).0)) ] in
       let count : s.start + length texts ≡ at s = ap (λ (xs : List (List ℕ)). s.start + length xs) (sym (c.all o)) ∙ c.count in
@@ -199,7 +199,7 @@ module _ (sealing : List ℕ → List ℕ → List ℕ) (opening : List ℕ → 
       let len' : length base ≡ next.start * n = len ∙ ap (λ (k : ℕ). k * n) (sym (piece_start s piece)) in
       let more : IsMore s piece ts = record { texts = texts; few = few } in
       let old = mark_index base s was len m in
-      let grown = index_stays opening n s piece timely in
+      let grown = index_stays s piece timely in
       elim (cases_lt (at s) (at next)) [
         | inl lt ↦
             (let r = raised base s piece ts len timely more lt in
@@ -229,7 +229,7 @@ module _ (sealing : List ℕ → List ℕ → List ℕ) (opening : List ℕ → 
       let few : length {A = List ℕ} [] ≤ 1 = omega arith in
       let more : IsMore s piece [] = record { texts = texts; few = few } in
       let old = mark_index base s was len m in
-      let grown = index_stays opening n s piece timely in
+      let grown = index_stays s piece timely in
       let same : at next ≡ at s =
       elim (cases_lt (at s) (at next)) [
         | inl lt ↦ (let r = raised base s piece [] len timely more lt in absurd (omega (arith, r.one)))
@@ -256,8 +256,8 @@ module _ (sealing : List ℕ → List ℕ → List ℕ) (opening : List ℕ → 
       let len' : length base ≡ next.start * n = len ∙ ap (λ (k : ℕ). k * n) (sym (piece_start s piece)) in
       let more_is : IsMore s piece ts = record { texts = texts; few = few } in
       let old = mark_index base s was len m in
-      let c = is_counted sealing opening lawful n base s len in
-      let c' = is_counted sealing opening lawful n base next len' in
+      let c = chunks_are_counted sealing opening lawful n base s len in
+      let c' = chunks_are_counted sealing opening lawful n base next len' in
       let text = base ++ released opening n s in
       let text' = base ++ released opening n next in
       let e = more_released s piece ts more_is ∙ ap (λ (t : List ℕ). released opening n s ++ t) parts in
@@ -278,7 +278,7 @@ module _ (sealing : List ℕ → List ℕ → List ℕ) (opening : List ℕ → 
       record {
         index = λ more.
             let j = at (with_piece next more) in
-            let grows : at s ≤ j = omega (arith, index_stays opening n s piece timely, index_stays opening n next more timely') in
+            let grows : at s ≤ j = omega (arith, index_stays s piece timely, index_stays next more timely') in
             let side : (length text' - length unwritten < (at s + 1) * n) ⊎ (j ≡ at s) =
             elim (cases_lt (at s) (at next)) [
               | inl lt ↦
@@ -286,7 +286,7 @@ module _ (sealing : List ℕ → List ℕ → List ℕ) (opening : List ℕ → 
                   let all : length text' ≡ at s * n + n = r.whole ∙ (ap (λ (k : ℕ). k * n) r.by_one ∙ step) in
                   inl (omega (arith, all, some, step, left, ap length e, length-append base (released opening n next), length-append (released opening n s) (out ++ unwritten), length-append out unwritten, length-append base (released opening n s))))
               | inr le ↦
-                  (let same : at next ≡ at s = omega (arith, le, index_stays opening n s piece timely) in
+                  (let same : at next ≡ at s = omega (arith, le, index_stays s piece timely) in
                   elim (stays next timely') [
                     | inl o' ↦
                         (let count' : next.start + length (outcome opening n next).texts ≡ at next = ap (λ (xs : List (List ℕ)). next.start + length xs) (sym (c'.all o')) ∙ c'.count in
@@ -305,16 +305,16 @@ module _ (sealing : List ℕ → List ℕ → List ℕ) (opening : List ℕ → 
   mark_end base s out unwritten was now len e index chain_same m =
       let next = with_end s in
       let old = mark_index base s was len m in
-      let c = is_counted sealing opening lawful n base s len in
+      let c = chunks_are_counted sealing opening lawful n base s len in
       let text = base ++ released opening n s in
       let text' = base ++ released opening n next in
-      let same : at next ≡ at s = index_of next ∙ sym (index_of s) in
+      let closes = end_closes opening n s in
+      let same : at next ≡ at s = closes.1 in
       let left = cut_len base s next out unwritten e in
-      let closed : (outcome opening n next).status ≡ Open → ⊥ = λ o. let u = (going opening n next o).unended in cc in
       record {
         index = λ more.
             let j = at (with_piece next more) in
-            let still : j ≡ at s = (after_piece opening n next more (λ u. cc) closed).index ∙ same in
+            let still : j ≡ at s = ((closed_stays opening n next (λ u. cc) closes.0).0 more).index ∙ same in
             index ∙ (old ∙ min_is (length text' - length unwritten) n (at s) j positive (omega (arith, left, c.within)) (omega (arith, still)) (inr still));
         chain_is = chain_same ∙ (m.chain_is ∙ (ap (λ (k : ℕ). chain_if keep (first_chunks n k text)) old
             ∙ (ap (chain_if keep) (sym (front_stays base s next (out ++ unwritten) len e)) ∙ ap (λ (k : ℕ). chain_if keep (first_chunks n k text')) (sym (index ∙ old)))));
@@ -323,9 +323,9 @@ module _ (sealing : List ℕ → List ℕ → List ℕ) (opening : List ℕ → 
   -- before any byte
   pub mark_fresh : (base : List ℕ) (k : ℕ) (p : Progress) → length base ≡ k * n → p.index ≡ k → p.chain ≡ chain_if keep (first_chunks n k base) → CountsChunks keep opening n base (fresh k) [] p
   mark_fresh base k p len index chain_is =
-      let none : released opening n (fresh k) ≡ [] = ap (λ (o : Outcome). flat_map (λ (t : List ℕ). t) o.texts) (fresh_outcome opening n k) in
+      let none : released opening n (fresh k) ≡ [] = ap (λ (o : Outcome). flat_map (λ (t : List ℕ). t) o.texts) (fresh_is_open opening n k) in
       let same : base ≡ base ++ released opening n (fresh k) = sym (ap (λ (t : List ℕ). base ++ t) none ∙ append-nil base) in
-      mark_all base (fresh k) p len (λ _. refl) (index ∙ sym (ap (λ (o : Outcome). o.index) (fresh_outcome opening n k)))
+      mark_all base (fresh k) p len (λ _. refl) (index ∙ sym (ap (λ (o : Outcome). o.index) (fresh_is_open opening n k)))
       (chain_is ∙ (ap (λ (t : List ℕ). chain_if keep (first_chunks n k t)) same ∙ ap (λ (i : ℕ). chain_if keep (first_chunks n i (base ++ released opening n (fresh k)))) (sym index)))
 
   -- and at the end of a run, with bytes behind that were not fed

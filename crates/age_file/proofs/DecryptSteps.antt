@@ -1,11 +1,11 @@
 -- From what was read and decrypted to what a decryption did.
-use Rattle.std.proofs.Common.{◌/◌, min, Some, None, refl, inl, inr, ◌≡◌, ℕ, ◌*◌, ◌<◌, ◌≤◌, List, [], ◌++◌, length, take, Option, sym, ap, subst, ◌∙◌, arith, append_assoc}
+use Rattle.std.proofs.Common.{◌/◌, min, Some, None, refl, inl, inr, ◌≡◌, ℕ, ◌*◌, ◌<◌, ◌≤◌, List, [], ◌++◌, length, Option, sym, ap, subst, ◌∙◌, arith, append_assoc}
 use Rattle.std.specs.Prelude.{Result, MatchResult, Ok, Err}
 use Rattle.age_stanza.specs.declared.header.Header.{Header}
 use Rattle.age_stream.specs.declared.step.Status.TheVariants.{Done}
 use Rattle.age_stream.specs.Segment.{outcome}
-use Rattle.age_stream.specs.Headline.{IsPrefixOf}
-use Rattle.age_stream.proofs.Segments.{released_segment}
+use Rattle.age_stream.specs.Headline.{IsPrefixOf, IsReached}
+use Rattle.age_stream.proofs.PublicLaws.{released_is_written}
 use Rattle.age_keys.specs.declared.fault.KeyFault.{KeyFault}
 use Rattle.age_cipher.specs.Opening.{opening}
 use Rattle.age_keys.specs.Keys.{payload_key, position_key}
@@ -27,7 +27,7 @@ use Rattle.age_file.specs.inner.Counts.{HasCounted}
 use Rattle.age_file.specs.declared.position.Position.{Position}
 use Rattle.std.proofs.lemmas.List.{length-append}
 use Rattle.std.proofs.Math.Nat.{le-div_iff_mul-le}
-use Rattle.age_stream.proofs.Chunks.{first_chunks-append}
+use Rattle.age_file.proofs.FirstChunks.{first_chunks-append}
 use Rattle.std.specs.Simd.{first_chunks}
 use Rattle.std.specs.Io.KnownBytes.{Appends}
 use Rattle.age_file.specs.declared.start.Unlocked.{Unlocked}
@@ -50,9 +50,8 @@ released_run r text auth =
     let positive : 0 < 65536 = omega arith in
     let small : 0 < 281474976710656 = omega arith in
     let fits : 0 * 65536 ≤ length text = omega arith in
-    let z : 0 ≡ 0 * 65536 = omega arith in
-    let base : [] ≡ take (0 * 65536) text = ap (λ (k : ℕ). take k text) z in
-    let o = released_segment (box r.key r.nonce) (unbox r.key r.nonce) (box_lawful (payload_key r.key r.nonce)) 65536 text auth.0 positive (segment_of r) [] small fits base auth.1 in
+    let reached : IsReached (box r.key r.nonce) (unbox r.key r.nonce) 65536 text (segment_of r) = record { limit = small; within = fits } in
+    let o = released_is_written (box r.key r.nonce) (unbox r.key r.nonce) (box_lawful (payload_key r.key r.nonce)) 65536 positive (segment_of r) text auth.0 reached auth.1 in
     (o.prefix, o.done)
 
 pub writes_of : (r : Run) → IsPrefixOf r.out (text_of r) → WritesOf r
@@ -107,7 +106,7 @@ module _ (keep : Positions) (Allows : Header → List ℕ → Type 0) (Refused :
   fails a i old new r pulled p (Stream x) same h is at f = (r, record { is = is; whole = f.1; of = writes_of r is.prefix }, at, f.0, (f.2.1 ∙ same, f.2.0))
   fails a i old new r pulled p Write same h is at f = (r, is, writes_of r is.prefix, at, f)
   fails a i old new r pulled p Read same h is at f = (inr (r, record { is = is; whole = f.0; of = writes_of r is.prefix }, at), subst (λ (m : ℕ). HasRisen m new.read_failed) same f.1)
-  fails a i old new r pulled p ReadNeverEnds same h is at f = (inr (r, record { is = is; whole = f.0; of = writes_of r is.prefix }, at), (pulled, h.consumed, omega (arith, h.each_gave, f.1)))
+  fails a i old new r pulled p ReadNeverEnds same h is at f = (inr (r, record { is = is; whole = f.0; of = writes_of r is.prefix }, at), (pulled, h.consumed, (omega (arith, h.each_gave, f.1), omega (arith, h.small, f.1))))
   fails a i old new r pulled p other same h is at f = absurd f
 
   -- what was read and decrypted

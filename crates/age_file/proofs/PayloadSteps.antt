@@ -7,8 +7,7 @@ use Rattle.age_stream.specs.Segment.{Segment, Outcome, outcome, released}
 use Rattle.age_stream.specs.Deliveries.{with_piece, with_end, fresh}
 use Rattle.age_stream.specs.Opening.{OpenerView, Stands}
 use Rattle.age_stream.specs.Headline.{IsPrefixOf}
-use Rattle.age_stream.proofs.Fresh.{fresh_outcome}
-use Rattle.age_stream.proofs.Growing.{released_grows}
+use Rattle.age_stream.proofs.PublicLaws.{fresh_is_open, released_grows}
 use Rattle.age_file.specs.Faults.{HasRisen}
 use Rattle.age_file.specs.inner.Releases.{Tally, Releases, Closes, FeedFails}
 use Rattle.age_file.specs.inner.Flows.{Flow, SameFailures, FlowFails, OpensAll}
@@ -28,7 +27,7 @@ module _ (op : List ℕ → List ℕ → Option (List ℕ)) (n k : ℕ) where
   -- what was written is a beginning of the text of all bytes
   prefix_of : (fed left out unwritten : List ℕ) → released op n (segment k fed false) ≡ out ++ unwritten → IsPrefixOf out (released op n (segment k (fed ++ left) false))
   prefix_of fed left out unwritten e =
-      let r = released_grows op n (segment k fed false) left (λ _. refl) in
+      let r = (released_grows op n (segment k fed false) left (λ _. refl)).0 in
       (unwritten ++ r.0, sym (append_assoc out unwritten r.0) ∙ (ap (λ (t : List ℕ). t ++ r.0) (sym e) ∙ r.1))
 
   exact : (fed left out unwritten : List ℕ) → released op n (segment k fed false) ≡ out ++ unwritten → left ≡ [] → unwritten ≡ [] → out ≡ released op n (segment k (fed ++ left) false)
@@ -45,7 +44,7 @@ module _ {B : Type 0} (sealing : B → List ℕ → List ℕ → List ℕ) (open
         → (o : Releases opening n next old new was now unwritten) → released (opening K) n (next (fresh k)) ≡ o.out ++ unwritten
     from_start next old new was now unwritten key h o =
         let t = subst (λ c. released (opening c) n (next (fresh k)) ≡ released (opening c) n (fresh k) ++ (o.out ++ unwritten)) key (o.text (fresh k) h) in
-        t ∙ ap (λ (x : Outcome). flat_map (λ (y : List ℕ). y) x.texts ++ (o.out ++ unwritten)) (fresh_outcome (opening K) n k)
+        t ∙ ap (λ (x : Outcome). flat_map (λ (y : List ℕ). y) x.texts ++ (o.out ++ unwritten)) (fresh_is_open (opening K) n k)
 
     -- where the opener then stands
     status_of : (next : Segment → Segment) (old new : OpenerView B) (was now : Tally) (unwritten : List ℕ) → old.key ≡ K → Stands opening n old (fresh k)

@@ -8,7 +8,7 @@ use Rattle.std.specs.Io.KnownBytes.{Appends}
 use Rattle.age_stream.specs.Segment.{Segment, outcome, released}
 use Rattle.age_stream.specs.Deliveries.{with_piece}
 use Rattle.age_stream.specs.Opening.{OpenerView, Stands, chunk_texts}
-use Rattle.age_stream.proofs.ReplaySteps.{pieces_join, lent_flat}
+use Rattle.age_stream.proofs.PublicLaws.{pieces_join}
 use Rattle.age_stream.specs.Lent.{chunk_bytes}
 use Rattle.age_file.specs.Faults.{HasRisen}
 use Rattle.age_file.specs.inner.Releases.{Tally, Releases, FeedGoes, FeedFails}
@@ -22,6 +22,11 @@ use Rattle.age_file.specs.inner.Counts.{Advances, CountsChunks}
 use Rattle.age_file.proofs.CountSteps.{no_piece, piece_start, mark_step, mark_none, mark_cut}
 use Rattle.age_file.proofs.Bytes.{Appends-then}
 use Rattle.std.proofs.KnownBytes.{Appends-nil}
+
+-- what was lent, joined
+lent_flat : (chunk : Option (Bor (List ℕ))) → flat_map (λ (t : List ℕ). t) (chunk_texts chunk) ≡ chunk_bytes chunk
+lent_flat None = refl
+lent_flat (Some chunk) = append-nil chunk.now
 
 -- a chunk is one text at most
 chunk_few : (chunk : Option (Bor (List ℕ))) → length (chunk_texts chunk) ≤ 1
@@ -88,14 +93,13 @@ module _ {B : Type 0} (opening : B → List ℕ → List ℕ → Option (List �
       → CountsChunks keep (opening old.key) n base s [] was → CountsChunks keep (opening old.key) n base (with_piece s fed) unwritten now
 
   -- what the opener lent of a piece was written whole, and counted
-  pub counts_whole : (sealing : List ℕ → List ℕ → List ℕ) (old new : OpenerView B) (was now : Progress) (fed : List ℕ) (chunk : Option (Bor (List ℕ))) (index : ℕ) (link_is : Option (List ℕ))
+  pub counts_whole : (sealing : List ℕ → List ℕ → List ℕ) (old new : OpenerView B) (was now : Progress) (fed : List ℕ) (chunk : Option (Bor (List ℕ))) (index : ℕ)
       → IsLawful sealing (opening old.key) → new.key ≡ old.key → index ≡ new.index
       → ((s : Segment) → Stands opening n old s → Stands opening n new (with_piece s fed))
       → ((s : Segment) → Stands opening n old s → (outcome (opening old.key) n (with_piece s fed)).texts ≡ (outcome (opening old.key) n s).texts ++ chunk_texts chunk)
-      → link_is ≡ link_if was.chain (chunk_bytes chunk)
-      → Advances was.index was.chain index link_is now → IsMarkedOn old fed was now []
-  counts_whole sealing old new was now fed chunk index link_is lawful key is stands texts linked a keep positive s base len h m =
-      let a' = subst (λ (l : Option (List ℕ)). Advances was.index was.chain index l now) (linked ∙ ap (link_if was.chain) (sym (lent_flat chunk))) a in
+      → Advances was.index was.chain index (link_if was.chain (chunk_bytes chunk)) now → IsMarkedOn old fed was now []
+  counts_whole sealing old new was now fed chunk index lawful key is stands texts a keep positive s base len h m =
+      let a' = subst (λ (l : Option (List ℕ)). Advances was.index was.chain index l now) (ap (link_if was.chain) (sym (lent_flat chunk))) a in
       let at : index ≡ (outcome (opening old.key) n (with_piece s fed)).index = is ∙ ((stands s h).index ∙ ap (λ k. (outcome (opening k) n (with_piece s fed)).index) key) in
       mark_step sealing (opening old.key) lawful n positive keep base s fed (chunk_texts chunk) index was now len h.timely (stands s h).timely (texts s h) (chunk_few chunk) at a' m
 

@@ -1,17 +1,16 @@
 -- From what was read, copied, passed over and decrypted to what a resumed decryption did.
-use Rattle.std.proofs.Common.{◌≡◌, ℕ, ◌+◌, ◌*◌, ◌<◌, ◌≤◌, ◌/◌, min, List, [], ◌++◌, length, take, drop, Option, Some, None, refl, inl, inr, sym, ap, subst, ◌∙◌, suc, arith, append-nil, append_assoc}
+use Rattle.std.proofs.Common.{◌≡◌, ℕ, ◌+◌, ◌*◌, ◌<◌, ◌≤◌, ◌/◌, min, List, [], ◌++◌, length, take, drop, Option, Some, None, refl, inl, inr, sym, ap, subst, ◌∙◌, suc, ◌^◌, arith, append-nil, append_assoc}
 use Rattle.std.specs.Prelude.{Result, MatchResult, Ok, Err}
 use Rattle.std.specs.Simd.{first_chunks}
 use Rattle.std.specs.Io.KnownBytes.{Consumes, Appends}
-use Rattle.std.proofs.KnownBytes.{Consumes-nil}
 use Rattle.std.proofs.lemmas.List.{length-append, length-take, take_at, take-append-drop, take-append-le}
 use Rattle.std.proofs.Math.Nat.{mul-le-mul_right, le-div_iff_mul-le}
 use Rattle.age_stanza.specs.declared.header.Header.{Header}
 use Rattle.age_stream.specs.declared.step.Status.TheVariants.{Done}
 use Rattle.age_stream.specs.Segment.{outcome}
-use Rattle.age_stream.specs.Headline.{IsPrefixOf}
-use Rattle.age_stream.proofs.Chunks.{first_chunks-append}
-use Rattle.age_stream.proofs.Segments.{released_segment}
+use Rattle.age_stream.specs.Headline.{IsPrefixOf, IsReached}
+use Rattle.age_file.proofs.FirstChunks.{first_chunks-append}
+use Rattle.age_stream.proofs.PublicLaws.{released_is_written}
 use Rattle.age_keys.specs.declared.fault.KeyFault.{KeyFault}
 use Rattle.age_cipher.specs.Opening.{opening}
 use Rattle.age_keys.specs.Keys.{payload_key, position_key}
@@ -34,37 +33,19 @@ use Rattle.age_file.specs.Resumes.{ResumePorts, Reads, WritesOld, Resumption, se
 use Rattle.age_file.specs.Verdicts.{OpenedFile}
 use Rattle.age_file.specs.inner.Verdicts.{PositionRefused}
 use Rattle.age_file.specs.OldTexts.{BeginsWith, IsOldText}
-use Rattle.age_file.specs.ResumeFaults.{StopsInOld, StopsInPassed, ResumeFails}
+use Rattle.age_file.specs.ResumeFaults.{NeverEnd, StopsInOld, StopsInPassed, ResumeFails}
 use Rattle.age_file.specs.Starts.{StartFails}
-use Rattle.age_file.specs.inner.Starts.{StartsAt}
+use Rattle.age_file.specs.inner.Starts.{Uses, StartsAt}
 use Rattle.age_file.specs.inner.Unread.{Unread}
 use Rattle.age_file.specs.declared.fault.FileFault.{FileFault}
 use Rattle.age_file.specs.declared.fault.FileFault.TheVariants.{Stream, OtherFile, ShortText, Read, Write, ReadNeverEnds, PositionForged, OldTextDiffers}
 use Rattle.age_file.specs.declared.position.Position.{Position}
 use Rattle.age_file.specs.declared.position.Positions.{Positions}
 use Rattle.age_file.specs.declared.start.Unlocked.{Unlocked}
-use Rattle.age_file.proofs.Bytes.{Appends-then, prefix_trans}
+use Rattle.age_file.proofs.Bytes.{Appends-then, prefix_trans, preceded, preceded_consumed, counted_on, counted_back}
 use Rattle.age_file.proofs.DecryptSteps.{own_tag}
 
 -- ---- the old text
-
--- nothing was pulled yet
-fresh_pulled : (a : Option (List ℕ)) (u : Unread) → u.bytes ≡ [] → u.pulls ≡ 0 → Pulled a a u.pulls ([] ++ u.bytes)
-fresh_pulled a u none zero = record {
-  consumed = subst (λ (t : List ℕ). Consumes a a t) (sym none) (Consumes-nil a);
-  each_gave = omega (arith, zero);
-  small = omega (arith, ap length none);
-  most = omega (arith, zero);
-}
-
--- what was used of the old text, from its start
-used_old : (x z : Side) (used : List ℕ) → x.unread.bytes ≡ [] → x.unread.pulls ≡ 0 → Passes x z used → Pulled x.coming z.coming z.unread.pulls (used ++ z.unread.bytes)
-used_old x z used none zero f = f.uses x.coming [] (fresh_pulled x.coming x.unread none zero)
-
-dried_old : (x z : Side) (used : List ℕ) (fault : FileFault) → x.unread.bytes ≡ [] → x.unread.pulls ≡ 0 → Dries x z used fault → Pulled x.coming z.coming z.unread.pulls used
-dried_old x z used fault none zero f =
-    subst (λ (t : List ℕ). Pulled x.coming z.coming z.unread.pulls t) (ap (λ (t : List ℕ). used ++ t) f.used ∙ append-nil used)
-    (f.uses x.coming [] (fresh_pulled x.coming x.unread none zero))
 
 -- the front of what begins as another text
 cut_prefix : (x y z : List ℕ) → IsPrefixOf x z → IsPrefixOf y z → length x ≤ length y → IsPrefixOf x y
@@ -101,9 +82,12 @@ resumed_text : (p : Position) (r : Resumption) (text : List ℕ) → IsAuthentic
     × ((outcome (unbox r.file.key r.file.nonce) 65536 (segment_at p r)).status ≡ Done → r.copied ++ fresh_text p r ≡ text)
 resumed_text p r text auth limit =
     let positive : 0 < 65536 = omega arith in
-    let o = released_segment (box r.file.key r.file.nonce) (unbox r.file.key r.file.nonce) (box_lawful (payload_key r.file.key r.file.nonce)) 65536 text auth.few positive
-    (segment_at p r) r.copied limit auth.within auth.old_text auth.authentic in
-    (o.prefix, o.done)
+    let reached : IsReached (box r.file.key r.file.nonce) (unbox r.file.key r.file.nonce) 65536 text (segment_at p r) = record { limit = limit; within = auth.within } in
+    let o = released_is_written (box r.file.key r.file.nonce) (unbox r.file.key r.file.nonce) (box_lawful (payload_key r.file.key r.file.nonce)) 65536 positive (segment_at p r) text auth.few
+    reached auth.authentic in (
+      subst (λ (t : List ℕ). IsPrefixOf (t ++ fresh_text p r) text) (sym auth.old_text) o.prefix,
+      λ done. ap (λ (t : List ℕ). t ++ fresh_text p r) auth.old_text ∙ o.done done,
+    )
 
 append_prefix : (x y z : List ℕ) → IsPrefixOf y z → IsPrefixOf (x ++ y) (x ++ z)
 append_prefix x y z p = (p.0, append_assoc x y p.0 ∙ ap (λ (t : List ℕ). x ++ t) p.1)
@@ -132,17 +116,18 @@ module _ (keep : Positions) (Allows : Header → List ℕ → Type 0) (Refused :
   reads_of a b u unlocked s c rest read = record { text = s.text; opens = s.opens; size = s.size; read = read }
 
   -- no payload came to be opened
-  pub start_fails : (old new : ResumePorts) (fault : FileFault) → Appends old.main.taken new.main.taken []
+  pub start_fails : (old new : ResumePorts) (fault : FileFault) → Consumes old.old_coming new.old_coming [] → Appends old.main.taken new.main.taken []
       → StartFails Allows Refused old.main.coming new.main.coming old.main.read_failed new.main.read_failed fault → ResumeFails keep Allows p Refused old new 0 None fault
-  start_fails old new Read none f = inl ((none, refl, refl), f.0, f.1)
-  start_fails old new ReadNeverEnds none f = inl ((none, refl, refl), f.0, f.1)
-  start_fails old new (Stream x) none f = absurd f
-  start_fails old new Write none f = absurd f
-  start_fails old new OtherFile none f = absurd f
-  start_fails old new ShortText none f = absurd f
-  start_fails old new PositionForged none f = absurd f
-  start_fails old new OldTextDiffers none f = absurd f
-  start_fails old new other none f = ((none, refl, refl), f)
+  start_fails old new Read unread none f = inl ((none, refl, refl), f.0, f.1)
+  start_fails old new ReadNeverEnds unread none f =
+      inl ((none, refl, refl), f.0, (f.1.0, [], f.1.1, unread, (omega (arith, f.1.2.0), omega (arith, f.1.2.1))))
+  start_fails old new (Stream x) unread none f = absurd f
+  start_fails old new Write unread none f = absurd f
+  start_fails old new OtherFile unread none f = absurd f
+  start_fails old new ShortText unread none f = absurd f
+  start_fails old new PositionForged unread none f = absurd f
+  start_fails old new OldTextDiffers unread none f = absurd f
+  start_fails old new other unread none f = ((none, refl, refl), f)
 
   -- the position was refused
   pub verdict_fails : (old new : ResumePorts) (u : Unread) (unlocked : Unlocked) (fault : FileFault) → Appends old.main.taken new.main.taken []
@@ -161,30 +146,49 @@ module _ (keep : Positions) (Allows : Header → List ℕ → Type 0) (Refused :
       → Consumes a c ((s.front ++ unlocked.nonce) ++ rest) → Accepts Allows p a c (opened a b u unlocked s) rest
   accepts_of a b u unlocked s v c rest read = record { reads = reads_of a b u unlocked s c rest read; own = v.0 ∙ s.id; tagged = v.1 }
 
-  module _ (a : Option (List ℕ)) (i : ℕ) (unlocked : Unlocked) (s1 : Stage) (s : StartsAt Allows a s1.coming s1.unread unlocked) (v : IsVerified unlocked) (same : s1.read_failed ≡ i)
-      (first : Tally) (zero : first.progress.written ≡ 0) (x z : Side) (none : x.unread.bytes ≡ []) (pulls : x.unread.pulls ≡ 0) where
+  -- the file was started, and the old text's pulls are counted on from there
+  module _ (a : Option (List ℕ)) (i : ℕ) (unlocked : Unlocked) (s1 : Stage) (u : Unread) (s : StartsAt Allows a s1.coming u unlocked) (v : IsVerified unlocked) (same : s1.read_failed ≡ i)
+      (first : Tally) (zero : first.progress.written ≡ 0) (x z : Side) (none : x.unread.bytes ≡ []) (pulls : x.unread.pulls ≡ u.pulls) where
     abbrev file : OpenedFile
-    file = opened a s1.coming s1.unread unlocked s
+    file = opened a s1.coming u unlocked s
 
     abbrev head : List ℕ
     head = s.front ++ unlocked.nonce
 
+    -- what was pulled of the file before the old text
+    abbrev started : List ℕ
+    started = head ++ u.bytes
+
+    -- what was used of the old text, from its start
+    old_pulled : (used : List ℕ) → Uses x.coming z.coming x.unread z.unread used → Pulled (preceded started x.coming) z.coming z.unread.pulls (started ++ (used ++ z.unread.bytes))
+    old_pulled used uses =
+        let none_used = counted_on a s1.coming x.coming u.pulls started s.pulled in
+        let fresh = subst (λ (k : ℕ). Pulled (preceded started x.coming) x.coming k (started ++ [])) (sym pulls) none_used in
+        uses (preceded started x.coming) started (subst (λ (t : List ℕ). Pulled (preceded started x.coming) x.coming x.unread.pulls (started ++ t)) (sym none) fresh)
+
+    old_dried : (used : List ℕ) → z.unread.bytes ≡ [] → Uses x.coming z.coming x.unread z.unread used → Pulled (preceded started x.coming) z.coming z.unread.pulls (started ++ used)
+    old_dried used empty uses =
+        subst (λ (t : List ℕ). Pulled (preceded started x.coming) z.coming z.unread.pulls (started ++ t)) (ap (λ (t : List ℕ). used ++ t) empty ∙ append-nil used) (old_pulled used uses)
+
+    old_read : (y : List ℕ) → Pulled (preceded started x.coming) z.coming z.unread.pulls (started ++ y) → Consumes x.coming z.coming y
+    old_read y h = preceded_consumed started y x.coming z.coming h.consumed
+
     -- the copy of the old text stopped
     stops_in_old : (out pulled : List ℕ) → Appends first.taken s1.tally.taken out → s1.tally.progress.written ≡ first.progress.written + length out → length out < p.index * 65536
-        → Pulled x.coming z.coming z.unread.pulls pulled → IsPrefixOf out pulled → StopsInOld Allows p (before a i first x) (after s1 z) s1.tally.progress.written None
+        → Consumes x.coming z.coming pulled → IsPrefixOf out pulled → StopsInOld Allows p (before a i first x) (after s1 z) s1.tally.progress.written None
     stops_in_old out pulled wrote count short read front = record {
       file = file;
-      rest = s1.unread.bytes;
-      accepts = accepts_of a s1.coming s1.unread unlocked s v s1.coming s1.unread.bytes s.pulled.consumed;
+      rest = u.bytes;
+      accepts = accepts_of a s1.coming u unlocked s v s1.coming u.bytes s.pulled.consumed;
       copied = out;
       short = short;
       writes = record {
         pulled = pulled;
-        read = read.consumed;
+        read = read;
         front = front;
         wrote = wrote;
         count = omega (arith, count, zero);
-        of = old_of p x.coming z.coming pulled out read.consumed front (omega (arith, short));
+        of = old_of p x.coming z.coming pulled out read front (omega (arith, short));
       };
       none = refl;
     }
@@ -193,36 +197,43 @@ module _ (keep : Positions) (Allows : Header → List ℕ → Type 0) (Refused :
     unfolding stops_in_old
     copy_fails ShortText c =
         let f = c.answered in
-        let used = used_old x z c.out none pulls f.1.0 in
-        let all : Pulled x.coming z.coming z.unread.pulls c.out = subst (λ (t : List ℕ). Pulled x.coming z.coming z.unread.pulls t) (ap (λ (t : List ℕ). c.out ++ t) f.1.1 ∙ append-nil c.out) used in
+        let all = old_read c.out (old_dried c.out f.1.1 f.1.0.uses) in
         (stops_in_old c.out c.out c.wrote c.count f.0 all ([], append-nil c.out), refl, f.1.2)
     copy_fails Write c =
         let f = c.answered in
-        (inl (stops_in_old c.out (f.1.0 ++ z.unread.bytes) c.wrote c.count f.0 (used_old x z f.1.0 none pulls f.1.1) f.1.2), f.1.3)
+        (inl (stops_in_old c.out (f.1.0 ++ z.unread.bytes) c.wrote c.count f.0 (old_read (f.1.0 ++ z.unread.bytes) (old_pulled f.1.0 f.1.1.uses)) f.1.2), f.1.3)
     copy_fails Read c =
         let f = c.answered in
-        inr (inl (stops_in_old c.out c.out c.wrote c.count f.0 (dried_old x z c.out Read none pulls f.1.0) ([], append-nil c.out), refl, f.1.0.why))
+        let all = old_read c.out (old_dried c.out f.1.0.used f.1.0.uses) in
+        inr (inl (stops_in_old c.out c.out c.wrote c.count f.0 all ([], append-nil c.out), refl, f.1.0.why))
     copy_fails ReadNeverEnds c =
         let f = c.answered in
-        let all = dried_old x z c.out ReadNeverEnds none pulls f.1.0 in
-        inr (inl (stops_in_old c.out c.out c.wrote c.count f.0 all ([], append-nil c.out), refl, (c.out, all.consumed, omega (arith, all.each_gave, f.1.0.why))))
+        let all = old_dried c.out f.1.0.used f.1.0.uses in
+        let both = length-append started c.out in
+        let read = old_read c.out all in (
+        inr (inl (
+          stops_in_old c.out c.out c.wrote c.count f.0 read ([], append-nil c.out),
+          refl,
+          (started, c.out, s.pulled.consumed, read, (omega (arith, all.each_gave, f.1.0.why, both), omega (arith, all.small, f.1.0.why, both))),
+        ))
+        )
     copy_fails OldTextDiffers c =
         let f = c.answered in
-        let used = used_old x z c.out none pulls f.0.1 in
+        let read = old_read (c.out ++ z.unread.bytes) (old_pulled c.out f.0.1.uses) in
         let front : IsPrefixOf c.out (c.out ++ z.unread.bytes) = (z.unread.bytes, refl) in
         let le : length c.out ≤ p.index * 65536 = omega (arith, f.0.0) in (
           refl,
           file,
-          s1.unread.bytes,
-          accepts_of a s1.coming s1.unread unlocked s v s1.coming s1.unread.bytes s.pulled.consumed,
+          u.bytes,
+          accepts_of a s1.coming u unlocked s v s1.coming u.bytes s.pulled.consumed,
           c.out,
           record {
             pulled = c.out ++ z.unread.bytes;
-            read = used.consumed;
+            read = read;
             front = front;
             wrote = c.wrote;
             count = omega (arith, c.count, zero);
-            of = old_of p x.coming z.coming (c.out ++ z.unread.bytes) c.out used.consumed front le;
+            of = old_of p x.coming z.coming (c.out ++ z.unread.bytes) c.out read front le;
           },
           f.0.0,
           λ e. f.1 (f.0.4 ∙ ap Some e),
@@ -232,14 +243,36 @@ module _ (keep : Positions) (Allows : Header → List ℕ → Type 0) (Refused :
     -- ---- a run that went on behind the old text
 
     -- the old text was copied, and is the position's
-    module _ (c : CopiesText keep 65536 p.index p.chain x z first s1.tally (Ok tt)) (limit : p.index < 281474976710656) where
+    module _ (c : CopiesText keep 65536 p.index p.chain x z first s1.tally (Ok tt)) (limit : p.index < 281474976710656) (kept : s1.unread.bytes ≡ u.bytes) (on : s1.unread.pulls ≡ z.unread.pulls) where
       old_text : IsOldText p c.out
       old_text =
           let f = c.answered in
           old_text_of p c.out f.0 f.5
 
-      old_used : Pulled x.coming z.coming z.unread.pulls (c.out ++ z.unread.bytes)
-      old_used = used_old x z c.out none pulls c.answered.1
+      -- what was pulled of the old text, and then of the file, whose pulls are counted on from there
+      abbrev old_bytes : List ℕ
+      old_bytes = c.out ++ z.unread.bytes
+
+      old_used : Pulled (preceded started x.coming) z.coming z.unread.pulls (started ++ old_bytes)
+      old_used = old_pulled c.out c.answered.1.uses
+
+      old_is_read : Consumes x.coming z.coming old_bytes
+      old_is_read = old_read old_bytes old_used
+
+      pub again : Pulled (preceded old_bytes a) s1.coming s1.unread.pulls ((old_bytes ++ head) ++ s1.unread.bytes)
+      again =
+          let back = counted_back a s1.coming x.coming z.coming u.pulls z.unread.pulls started old_bytes s.pulled old_used in
+          let bytes = ap (λ (t : List ℕ). old_bytes ++ (head ++ t)) (sym kept) ∙ sym (append_assoc old_bytes head s1.unread.bytes) in
+          subst (λ (k : ℕ). Pulled (preceded old_bytes a) s1.coming k ((old_bytes ++ head) ++ s1.unread.bytes)) (sym on)
+          (subst (λ (t : List ℕ). Pulled (preceded old_bytes a) s1.coming z.unread.pulls t) bytes back)
+
+      read_on : (s2 : Stage) (y : List ℕ) → Pulled (preceded old_bytes a) s2.coming s2.unread.pulls (old_bytes ++ y) → Consumes a s2.coming y
+      read_on s2 y h = preceded_consumed old_bytes y a s2.coming h.consumed
+
+      never_end : (s2 : Stage) (y : List ℕ) → Pulled (preceded old_bytes a) s2.coming s2.unread.pulls (old_bytes ++ y) → s2.unread.pulls ≡ 2 ^ 63 → NeverEnd (before a i first x) (after s2 z)
+      never_end s2 y h all =
+          let both = length-append old_bytes y in
+          (y, old_bytes, read_on s2 y h, old_is_read, (omega (arith, h.each_gave, all, both), omega (arith, h.small, all, both)))
 
       -- the old text, and no more, was written
       writes_old : (s2 : Stage) → s2.tally ≡ s1.tally → WritesOld p (before a i first x) (after s2 z) s2.tally.progress.written c.out
@@ -248,12 +281,12 @@ module _ (keep : Positions) (Allows : Header → List ℕ → Type 0) (Refused :
           let front : IsPrefixOf c.out (c.out ++ z.unread.bytes) = (z.unread.bytes, refl) in
           let written : s2.tally.progress.written ≡ s1.tally.progress.written = ap (λ (t : Tally). t.progress.written) still in
           record {
-            pulled = c.out ++ z.unread.bytes;
-            read = old_used.consumed;
+            pulled = old_bytes;
+            read = old_is_read;
             front = front;
             wrote = subst (λ (t : Option (List ℕ)). Appends first.taken t c.out) (sym (ap (λ (t : Tally). t.taken) still)) c.wrote;
             count = omega (arith, c.count, zero, written);
-            of = old_of p x.coming z.coming (c.out ++ z.unread.bytes) c.out old_used.consumed front le;
+            of = old_of p x.coming z.coming old_bytes c.out old_is_read front le;
           }
 
       -- the run stopped in the blocks that are passed over
@@ -261,7 +294,7 @@ module _ (keep : Positions) (Allows : Header → List ℕ → Type 0) (Refused :
           → Consumes a s2.coming (head ++ passed) → StopsInPassed keep Allows p (before a i first x) (after s2 z) s2.tally.progress.written position passed
       stops_in_passed s2 position passed still at short read = record {
         file = file;
-        accepts = accepts_of a s1.coming s1.unread unlocked s v s2.coming passed read;
+        accepts = accepts_of a s1.coming u unlocked s v s2.coming passed read;
         short = short;
         copied = c.out;
         old_text = old_text;
@@ -269,21 +302,21 @@ module _ (keep : Positions) (Allows : Header → List ℕ → Type 0) (Refused :
         here = at;
       }
 
-      dried : (s2 : Stage) (passed : List ℕ) (fault : FileFault) → Dries (side_of s1) (side_of s2) passed fault → Pulled a s2.coming s2.unread.pulls (head ++ passed)
-      dried s2 passed fault f =
-          subst (λ (t : List ℕ). Pulled a s2.coming s2.unread.pulls (head ++ t)) (ap (λ (t : List ℕ). passed ++ t) f.used ∙ append-nil passed) (f.uses a head s.pulled)
+      dried : (s2 : Stage) (passed : List ℕ) → s2.unread.bytes ≡ [] → Uses s1.coming s2.coming s1.unread s2.unread passed → Pulled (preceded old_bytes a) s2.coming s2.unread.pulls (old_bytes ++ (head ++ passed))
+      dried s2 passed empty uses =
+          let bytes = ap (λ (t : List ℕ). (old_bytes ++ head) ++ t) (ap (λ (t : List ℕ). passed ++ t) empty ∙ append-nil passed) ∙ append_assoc old_bytes head passed in
+          subst (λ (t : List ℕ). Pulled (preceded old_bytes a) s2.coming s2.unread.pulls t) bytes (uses (preceded old_bytes a) (old_bytes ++ head) again)
 
       passed_fails : (s2 : Stage) (position : Option Position) (fault : FileFault) → s2.tally ≡ s1.tally → Told keep (IsSame p) position → SkipFails 65552 p.index (side_of s1) (side_of s2) fault
           → ResumeFails keep Allows p Refused (before a i first x) (after s2 z) s2.tally.progress.written position fault
       passed_fails s2 position (Stream fault) still at f =
           let e = f.2 in
-          let all : Pulled a s2.coming s2.unread.pulls (head ++ e.bytes) =
-          subst (λ (t : List ℕ). Pulled a s2.coming s2.unread.pulls (head ++ t)) (ap (λ (t : List ℕ). e.bytes ++ t) e.used ∙ append-nil e.bytes) (e.passes.uses a head s.pulled) in
+          let all = read_on s2 (head ++ e.bytes) (dried s2 e.bytes e.used e.passes.uses) in
           let more : suc fault.chunk * 65552 ≤ p.index * 65552 = mul-le-mul_right 65552 f.1 in
           let failed : s2.tally.failed ≡ first.failed = ap (λ (t : Tally). t.failed) still ∙ c.answered.2 in (
             inl (record {
               passed = e.bytes;
-              stops = stops_in_passed s2 position e.bytes still at (omega (arith, e.most, more)) all.consumed;
+              stops = stops_in_passed s2 position e.bytes still at (omega (arith, e.most, more)) all;
               kind = f.0;
               least = e.least;
               most = e.most;
@@ -292,10 +325,11 @@ module _ (keep : Positions) (Allows : Header → List ℕ → Type 0) (Refused :
             ((e.passes.unfailed ∙ same, failed), c.answered.1.unfailed),
           )
       passed_fails s2 position Read still at f =
-          inr (inr (inl (f.0, stops_in_passed s2 position f.0 still at f.1 (dried s2 f.0 Read f.2).consumed, subst (λ (m : ℕ). HasRisen m s2.read_failed) same f.2.why)))
+          let all = read_on s2 (head ++ f.0) (dried s2 f.0 f.2.used f.2.uses) in
+          inr (inr (inl (f.0, stops_in_passed s2 position f.0 still at f.1 all, subst (λ (m : ℕ). HasRisen m s2.read_failed) same f.2.why)))
       passed_fails s2 position ReadNeverEnds still at f =
-          let all = dried s2 f.0 ReadNeverEnds f.2 in
-          inr (inr (inl (f.0, stops_in_passed s2 position f.0 still at f.1 all.consumed, (head ++ f.0, all.consumed, omega (arith, all.each_gave, f.2.why)))))
+          let all = dried s2 f.0 f.2.used f.2.uses in
+          inr (inr (inl (f.0, stops_in_passed s2 position f.0 still at f.1 (read_on s2 (head ++ f.0) all), never_end s2 (head ++ f.0) all f.2.why)))
       passed_fails s2 position other still at f = absurd f
 
       -- what was read and decrypted behind the blocks that were passed over
@@ -303,7 +337,7 @@ module _ (keep : Positions) (Allows : Header → List ℕ → Type 0) (Refused :
         run : Resumption
         file_is : run.file ≡ file
         is : IsResumption Allows p (before a i first x) (after s2 z) s2.tally.progress.written run
-        pulled : Pulled a s2.coming s2.unread.pulls (head ++ (run.passed ++ run.bytes))
+        pulled : Pulled (preceded old_bytes a) s2.coming s2.unread.pulls (old_bytes ++ (head ++ (run.passed ++ run.bytes)))
         counts : HasCounted keep (unbox run.file.key run.file.nonce) 65536 (run.copied ++ run.out) (segment_at p run) s2.tally.progress
         mid : Stage
         read_failed : mid.read_failed ≡ i
@@ -314,12 +348,15 @@ module _ (keep : Positions) (Allows : Header → List ℕ → Type 0) (Refused :
           → DecryptsBehind (λ nonce block. opening key nonce [] block) p.index s1 s2 result → IsDecrypted s2 result
       decrypted key s2 result key_is b =
           let q = subst (λ (t : List ℕ). DecryptsPayload (λ nonce block. opening t nonce [] block) 65536 p.index b.mid s2 result) key_is b.decrypts in
-          let behind : Pulled a b.mid.coming b.mid.unread.pulls (head ++ (b.passed ++ b.mid.unread.bytes)) = b.passes.uses a head s.pulled in
-          let all : Pulled a s2.coming s2.unread.pulls ((head ++ (b.passed ++ b.mid.unread.bytes)) ++ q.fresh) = q.pulled a (head ++ (b.passed ++ b.mid.unread.bytes)) behind in
-          let parts : (head ++ (b.passed ++ b.mid.unread.bytes)) ++ q.fresh ≡ head ++ (b.passed ++ q.bytes) =
-          append_assoc head (b.passed ++ b.mid.unread.bytes) q.fresh
-          ∙ ap (λ (t : List ℕ). head ++ t) (append_assoc b.passed b.mid.unread.bytes q.fresh ∙ ap (λ (t : List ℕ). b.passed ++ t) q.parts) in
-          let pulls : Pulled a s2.coming s2.unread.pulls (head ++ (b.passed ++ q.bytes)) = subst (λ (t : List ℕ). Pulled a s2.coming s2.unread.pulls t) parts all in
+          let front = old_bytes ++ head in
+          let behind : Pulled (preceded old_bytes a) b.mid.coming b.mid.unread.pulls (front ++ (b.passed ++ b.mid.unread.bytes)) = b.passes.uses (preceded old_bytes a) front again in
+          let all : Pulled (preceded old_bytes a) s2.coming s2.unread.pulls ((front ++ (b.passed ++ b.mid.unread.bytes)) ++ q.fresh) = q.pulled (preceded old_bytes a) (front ++ (b.passed ++ b.mid.unread.bytes)) behind in
+          let parts : (front ++ (b.passed ++ b.mid.unread.bytes)) ++ q.fresh ≡ old_bytes ++ (head ++ (b.passed ++ q.bytes)) =
+          append_assoc front (b.passed ++ b.mid.unread.bytes) q.fresh
+          ∙ (ap (λ (t : List ℕ). front ++ t) (append_assoc b.passed b.mid.unread.bytes q.fresh ∙ ap (λ (t : List ℕ). b.passed ++ t) q.parts)
+          ∙ append_assoc old_bytes head (b.passed ++ q.bytes)) in
+          let pulls : Pulled (preceded old_bytes a) s2.coming s2.unread.pulls (old_bytes ++ (head ++ (b.passed ++ q.bytes))) =
+          subst (λ (t : List ℕ). Pulled (preceded old_bytes a) s2.coming s2.unread.pulls t) parts all in
           let wrote : Appends s1.tally.taken s2.tally.taken q.out = subst (λ (t : Option (List ℕ)). Appends t s2.tally.taken q.out) (ap (λ (t : Tally). t.taken) b.same) q.wrote in
           let written : b.mid.tally.progress.written ≡ s1.tally.progress.written = ap (λ (t : Tally). t.progress.written) b.same in
           let index : b.mid.tally.progress.index ≡ p.index = ap (λ (t : Tally). t.progress.index) b.same ∙ c.answered.3 in
@@ -330,11 +367,11 @@ module _ (keep : Positions) (Allows : Header → List ℕ → Type 0) (Refused :
             is = record {
               own = v.0 ∙ s.id;
               tagged = v.1;
-              reads = reads_of a s1.coming s1.unread unlocked s s2.coming (b.passed ++ q.bytes) pulls.consumed;
+              reads = reads_of a s1.coming u unlocked s s2.coming (b.passed ++ q.bytes) (read_on s2 (head ++ (b.passed ++ q.bytes)) pulls);
               old_text = old_text;
               passed_size = b.size;
               more = z.unread.bytes;
-              old_read = old_used.consumed;
+              old_read = old_is_read;
               at_end = q.at_end;
               wrote = Appends-then first.taken s1.tally.taken s2.tally.taken c.out q.out c.wrote wrote;
               count = omega (arith, q.count, written, c.count, zero, length-append c.out q.out);
@@ -402,7 +439,7 @@ module _ (keep : Positions) (Allows : Header → List ℕ → Type 0) (Refused :
         b.run,
         record { is = b.is; whole = f.0; of = resumes_of p b.run limit b.is.prefix },
         h,
-        (head ++ (b.run.passed ++ b.run.bytes), b.pulled.consumed, omega (arith, b.pulled.each_gave, f.1)),
+        never_end s2 (head ++ (b.run.passed ++ b.run.bytes)) b.pulled f.1,
       )))
       decrypted_fails s2 position other b h f = absurd f
 

@@ -1,13 +1,22 @@
 -- From what was passed over to what was decrypted behind it.
-use Rattle.std.proofs.Common.{◌≡◌, ℕ, ◌^◌, ◌≤◌, ◌++◌, List, arith}
+use Rattle.std.proofs.Common.{◌≡◌, ◌∙◌, ℕ, ◌^◌, ◌≤◌, ◌++◌, List, Option, ap, inl, inr, arith}
+use Rattle.std.specs.Prelude.{Result}
 use Rattle.std.proofs.lemmas.List.{length-append}
 use Rattle.age_file.specs.inner.Intakes.{Pulled}
 use Rattle.age_file.specs.inner.Payloads.{Stage, HasPlace}
 use Rattle.age_file.specs.inner.Skips.{Passes}
-use Rattle.age_file.specs.inner.ResumesPayload.{HasPulled, side_of}
+use Rattle.age_file.specs.inner.ResumesPayload.{HasPulled, side_of, ResumesPayload}
+use Rattle.age_file.specs.inner.Releases.{Tally}
+use Rattle.age_file.specs.declared.fault.FileFault.{FileFault}
 
 -- there is room behind the blocks that were passed over
 pub place_behind : (old mid : Stage) (passed : List ℕ) → old.tally.progress.written ≤ 2 ^ 64 → mid.tally.progress.written ≡ old.tally.progress.written → HasPulled old → Passes (side_of old) (side_of mid) passed → HasPlace mid
 place_behind old mid passed room same (start, used, pulled) passes =
     let all : Pulled start mid.coming mid.unread.pulls (used ++ (passed ++ mid.unread.bytes)) = passes.uses start used pulled in
     (omega (arith, all.small, same, room, length-append used (passed ++ mid.unread.bytes), length-append passed mid.unread.bytes), all.most)
+
+-- the sink goes by its name
+pub resumed_label : (opening : List ℕ → List ℕ → Option (List ℕ)) (index : ℕ) (old new : Stage) (result : Result (Unit {0}) FileFault) → ResumesPayload opening index old new result
+    → new.tally.label ≡ old.tally.label
+resumed_label opening index old new result (inl stopped) = ap (λ (t : Tally). t.label) stopped.same
+resumed_label opening index old new result (inr behind) = behind.decrypts.named ∙ ap (λ (t : Tally). t.label) behind.same

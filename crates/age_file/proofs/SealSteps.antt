@@ -1,23 +1,18 @@
 -- One feed of a sealer, and what then was written.
-use Rattle.std.proofs.Common.{◌≡◌, ℕ, suc, ◌+◌, ◌-◌, ◌*◌, ◌^◌, ◌<◌, ◌≤◌, sym, ap, subst, ◌∙◌, List, [], ◌∷◌, ◌++◌, length, take, drop, Option, append-nil, append_assoc, take-append-drop, take-add, Bool, false, true, arith}
-use Rattle.std.specs.Prelude.{nat_lt, ◌==◌, ◌&&◌, ◌||◌, map}
-use Rattle.std.specs.List.{enumerate_from, AllByRecursion}
-use Rattle.std.specs.Simd.{first_chunks}
-use Rattle.std.proofs.Math.Nat.{div-le_self}
+use Rattle.std.proofs.Common.{◌≡◌, ℕ, ◌+◌, ◌-◌, ◌*◌, ◌^◌, ◌<◌, ◌≤◌, sym, ap, subst, ◌∙◌, List, [], ◌++◌, length, take, drop, Option, append-nil, append_assoc, take-append-drop, take-add, Bool, false, true, arith}
+use Rattle.std.specs.Prelude.{nat_lt, ◌==◌, ◌&&◌, ◌||◌}
+use Rattle.std.proofs.Math.Nat.{div-le_self, div-mul-le_self}
 use Rattle.std.proofs.lemmas.Nat.{mul-le}
 use Rattle.std.specs.Borrow.{Bor}
 use Rattle.std.proofs.lemmas.Bool.{ltb-true, eqb-true, and_parts}
 use Rattle.std.proofs.lemmas.Bool.Decides.{nat_tests}
 use Rattle.std.proofs.lemmas.List.{length-take, length-append, length-drop, take_rest, take_at}
 use Rattle.age_stream.specs.Lawful.{IsLawful}
-use Rattle.age_stream.specs.Nonce.{nonce_bytes, chunk_limit}
-use Rattle.age_stream.specs.Payload.{last_index, pair, block_bytes}
+use Rattle.age_stream.specs.Nonce.{chunk_limit}
+use Rattle.age_stream.specs.Payload.{last_index}
 use Rattle.age_stream.specs.Sealing.{SealerView, Holds, step_len, needs_too_many}
 use Rattle.age_stream.specs.Lent.{chunk_bytes}
-use Rattle.age_stream.proofs.Chunks.{length-first_chunks}
-use Rattle.age_stream.proofs.Nonces.{nonce_bytes-length}
-use Rattle.age_stream.proofs.Sealings.{last_index_le}
-use Rattle.age_stream.proofs.Undamaged.{all_full}
+use Rattle.age_stream.proofs.PublicLaws.{payload_is_longer}
 use Rattle.age_file.specs.Faults.{HasRisen}
 use Rattle.age_file.specs.inner.Seals.{front_of, IsTooLong, SealsSome, GoesOn, SealFails, HasRoom, Tally, Wrote}
 use Rattle.age_file.specs.declared.fault.FileFault.{FileFault}
@@ -46,7 +41,7 @@ pub too_long : {B : Type 0} (n : ℕ) (s : SealerView B) (piece : List ℕ) → 
 too_long n s piece positive limit text holds =
     let index : last_index n text ≡ 281474976710655 = sym holds.index ∙ limit.index in
     let tail : length s.held ≡ length text - last_index n text * n = ap length holds.held ∙ length-drop (last_index n text * n) text in
-    let before : 281474976710655 * n ≤ length text - 1 = subst (λ (k : ℕ). k * n ≤ length text - 1) index (last_index_le n text) in
+    let before : 281474976710655 * n ≤ length text - 1 = subst (λ (k : ℕ). k * n ≤ length text - 1) index (div-mul-le_self (length text - 1) n) in
     let exact : length text - 281474976710655 * n ≡ n = sym (tail ∙ ap (λ (k : ℕ). length text - k * n) index) ∙ limit.full in
     omega (arith, limit.more, before, exact, positive, length-append text piece)
 
@@ -135,29 +130,13 @@ module _ {B : Type 0} (sealing : B → List ℕ → List ℕ → List ℕ) (n : 
 
 -- ---- sizes
 
--- the blocks of so many chunks of n bytes
+-- the blocks before the last of a text
 module _ (sealing : List ℕ → List ℕ → List ℕ) (opening : List ℕ → List ℕ → Option (List ℕ)) (lawful : IsLawful sealing opening) (n : ℕ) where
-  blocks_length : (i : ℕ) (chunks : List (List ℕ)) → AllByRecursion (λ (x : List ℕ). length x ≡ n) chunks
-      → length (block_bytes (map (pair sealing false) (enumerate_from i chunks))) ≡ length chunks * (n + 16)
-  blocks_length i [] all = omega arith
-  blocks_length i (x ∷ xs) all =
-      let block = sealing (nonce_bytes i false) x in
-      let one : length block ≡ n + 16 = lawful.longer (nonce_bytes i false) x (nonce_bytes-length i false) ∙ ap (λ (k : ℕ). k + 16) all.0 in
-      let rest = blocks_length (i + 1) xs all.1 in
-      let more : suc (length xs) * (n + 16) ≡ (n + 16) + length xs * (n + 16) = omega arith in
-      length-append block (block_bytes (map (pair sealing false) (enumerate_from (i + 1) xs))) ∙ omega (arith, one, rest, more)
-
-  pub front_length : (text : List ℕ) → length (front_of sealing n text) ≡ last_index n text * (n + 16)
-  front_length text =
-      let q = last_index n text in
-      blocks_length 0 (first_chunks n q text) (all_full n q text (omega (arith, last_index_le n text)))
-      ∙ ap (λ (k : ℕ). k * (n + 16)) (length-first_chunks n q text)
-
   pub front_small : (text : List ℕ) → n + 16 ≤ 65552 → length (front_of sealing n text) ≤ length text * 65552
   front_small text most =
       let q = last_index n text in
       let few : q ≤ length text = omega (arith, div-le_self (length text - 1) n) in
-      omega (arith, front_length text, mul-le q (n + 16) (length text) 65552 few most)
+      omega (arith, (payload_is_longer sealing opening lawful n text).1, mul-le q (n + 16) (length text) 65552 few most)
 
 -- after a piece's front the count of what was written has room for a block
 pub room_left : {B : Type 0} (sealing : B → List ℕ → List ℕ → List ℕ) (opening : List ℕ → List ℕ → Option (List ℕ)) (n : ℕ) (a b : SealerView B) (was now : Tally) (piece : List ℕ) (at : ℕ)

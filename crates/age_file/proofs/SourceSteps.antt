@@ -8,7 +8,7 @@ use Rattle.std.proofs.lemmas.List.{length-append}
 use Rattle.age_stream.specs.Headline.{IsPrefixOf}
 use Rattle.age_stream.specs.Payload.{pair, block_bytes, payload, sealed_before_last, last_index, last_chunk}
 use Rattle.age_stream.specs.Sealing.{SealerView, Holds}
-use Rattle.age_stream.proofs.Sealings.{payload_begins}
+use Rattle.age_stream.proofs.PublicLaws.{sealed_grows}
 use Rattle.age_file.specs.Faults.{HasRisen}
 use Rattle.age_file.specs.inner.Intakes.{PullFails}
 use Rattle.age_file.specs.Ports.{Ports}
@@ -63,7 +63,7 @@ module _ {B : Type 0} (sealing : B → List ℕ → List ℕ → List ℕ) (n : 
   piece_cut =
       let key = sealing a.key in
       let first : IsPrefixOf (front_of key n text ++ some.out) (front_of key n (text ++ fed)) = (unwritten, append_assoc (front_of key n text) some.out unwritten ∙ sym brought) in
-      let grown = payload_begins n positive key (text ++ fed) left in
+      let grown = sealed_grows key n (text ++ fed) left positive in
       let whole : (text ++ fed) ++ left ≡ text ++ piece = append_assoc text fed left ∙ ap (λ (t : List ℕ). text ++ t) (sym some.parts) in
       let second : IsPrefixOf (front_of key n (text ++ fed)) (payload key n (text ++ piece)) =
       subst (λ (t : List ℕ). IsPrefixOf (front_of key n (text ++ fed)) (payload key n t)) whole (prefix_trans _ _ _ grown (front_begins key n ((text ++ fed) ++ left))) in

@@ -11,7 +11,7 @@ use Rattle.age_keys.specs.declared.fault.KeyFault.TheVariants.{ScryptNotAlone, B
 use Rattle.age_keys.specs.Opened.{Opens, Refuses}
 use Rattle.age_file.specs.inner.Unread.{Unread}
 use Rattle.age_file.specs.inner.Intakes.{Pulled, PullFails}
-use Rattle.age_file.specs.Faults.{HasRisen, HeadFails, IsShort}
+use Rattle.age_file.specs.Faults.{HasRisen, HeadFails, IsShort, StopsAtHeader}
 use Rattle.age_file.specs.inner.Faults.{IsInHeader, fault_of_key}
 use Rattle.age_file.specs.Starts.{StartFails}
 use Rattle.age_file.specs.inner.Starts.{Uses, UsesShort, NonceFails}
@@ -55,20 +55,20 @@ module _ (Allows : Header → List ℕ → Type 0) (Refused : Header → KeyFaul
   pub head_to_start : (a b : Option (List ℕ)) (i j : ℕ) (fault : FileFault) → HeadFails a b i j fault → (fault ≢ Memory → IsInHeader a b) → StartFails Allows Refused a b i j fault
   head_to_start a b i j (Head f) h early = h
   head_to_start a b i j Read h early = (in_header_short a b (early (λ e. cc)), h)
-  head_to_start a b i j Memory h early = tt
+  head_to_start a b i j Memory h early = h
   head_to_start a b i j ReadNeverEnds h early = (in_header_short a b (early (λ e. cc)), h)
   head_to_start a b i j other h early = absurd h
 
-  pub key_to_start : (a b : Option (List ℕ)) (i j : ℕ) (h : Header) (front rest : List ℕ) (fault : KeyFault) → HeadText h front → Consumes a b (front ++ rest)
+  pub key_to_start : (a b : Option (List ℕ)) (i j : ℕ) (h : Header) (front rest : List ℕ) (fault : KeyFault) → StopsAtHeader a b → HeadText h front → Consumes a b (front ++ rest)
       → Refuses Allows Refused h fault → StartFails Allows Refused a b i j (fault_of_key fault)
-  key_to_start a b i j h front rest KeyMemory text consumed refuses = tt
-  key_to_start a b i j h front rest ScryptNotAlone text consumed refuses = (h, front, rest, text, consumed, λ e. cc, refuses)
-  key_to_start a b i j h front rest BadScrypt text consumed refuses = (h, front, rest, text, consumed, λ e. cc, refuses)
-  key_to_start a b i j h front rest WorkTooHigh text consumed refuses = (h, front, rest, text, consumed, λ e. cc, refuses)
-  key_to_start a b i j h front rest NoMatch text consumed refuses = (h, front, rest, text, consumed, λ e. cc, refuses)
-  key_to_start a b i j h front rest WrongKey text consumed refuses = (h, front, rest, text, consumed, λ e. cc, refuses)
-  key_to_start a b i j h front rest MacMismatch text consumed refuses = (h, front, rest, text, consumed, λ e. cc, refuses)
-  key_to_start a b i j h front rest BadX25519 text consumed refuses = (h, front, rest, text, consumed, λ e. cc, refuses)
+  key_to_start a b i j h front rest KeyMemory stops text consumed refuses = stops
+  key_to_start a b i j h front rest ScryptNotAlone stops text consumed refuses = (h, front, rest, text, consumed, λ e. cc, refuses)
+  key_to_start a b i j h front rest BadScrypt stops text consumed refuses = (h, front, rest, text, consumed, λ e. cc, refuses)
+  key_to_start a b i j h front rest WorkTooHigh stops text consumed refuses = (h, front, rest, text, consumed, λ e. cc, refuses)
+  key_to_start a b i j h front rest NoMatch stops text consumed refuses = (h, front, rest, text, consumed, λ e. cc, refuses)
+  key_to_start a b i j h front rest WrongKey stops text consumed refuses = (h, front, rest, text, consumed, λ e. cc, refuses)
+  key_to_start a b i j h front rest MacMismatch stops text consumed refuses = (h, front, rest, text, consumed, λ e. cc, refuses)
+  key_to_start a b i j h front rest BadX25519 stops text consumed refuses = (h, front, rest, text, consumed, λ e. cc, refuses)
 
   -- what was pulled where a nonce fell short
   short_pulled : (a b c : Option (List ℕ)) (y z : Unread) (front : List ℕ) (u : UsesShort b c y z) → Pulled a b y.pulls (front ++ y.bytes) → Pulled a c z.pulls (front ++ u.0)
@@ -82,5 +82,5 @@ module _ (Allows : Header → List ℕ → Type 0) (Refused : Header → KeyFaul
       (behind_short one a c h front f.0.0 text f.0.1 (short_pulled a b c y z front f.0 p).consumed, subst (λ (m : ℕ). HasRisen m k) e f.1)
   nonce_to_start one a b c i j k y z h front key ReadNeverEnds e text opens p f =
       let all = short_pulled a b c y z front f.0 p in
-      (behind_short one a c h front f.0.0 text f.0.1 all.consumed, (front ++ f.0.0, all.consumed, omega (arith, all.each_gave, f.1)))
+      (behind_short one a c h front f.0.0 text f.0.1 all.consumed, (front ++ f.0.0, all.consumed, (omega (arith, all.each_gave, f.1), omega (arith, all.small, f.1))))
   nonce_to_start one a b c i j k y z h front key other e text opens p f = absurd f

@@ -1,6 +1,5 @@
 -- What can't stop the decryption of an age file that is undamaged.
 use Rattle.std.proofs.Common.{inl, inr, ◌≡◌, ℕ, ◌+◌, ◌*◌, ◌<◌, ◌≤◌, List, [], ◌++◌, length, take, drop, Option, Some, None, refl, sym, ap, subst, ◌∙◌, arith, append-nil, append_assoc, Bool, true, false}
-use Rattle.std.specs.Prelude.{nat_lt}
 use Rattle.std.proofs.lemmas.List.{length-append, drop_at, take_at, drop_all}
 use Rattle.std.specs.Io.KnownBytes.{Appends, Consumes, IsAtEnd}
 use Rattle.age_stanza.specs.declared.header.Header.{Header}
@@ -12,11 +11,9 @@ use Rattle.age_stream.specs.declared.fault.StreamKind.TheVariants.{Truncated}
 use Rattle.age_stream.specs.declared.step.Status.TheVariants.{Open, Failed, Done}
 use Rattle.age_stream.specs.Payload.{payload, chunk_count}
 use Rattle.age_stream.specs.Segment.{outcome}
-use Rattle.age_stream.specs.inner.SegmentSteps.{status_after, status_ended}
-use Rattle.age_stream.specs.Headline.{IsAuthentic}
+use Rattle.age_stream.specs.Headline.{IsAuthentic, IsReached, IsRest}
 use Rattle.age_stream.specs.Authentic.{IsClosed}
-use Rattle.age_stream.proofs.Going.{after_piece, after_end}
-use Rattle.age_stream.proofs.Undamaged.{rest_payload, rest_is_done, rest_authentic}
+use Rattle.age_stream.proofs.PublicLaws.{closed_stays, released_is_written, rest_is_authentic}
 use Rattle.age_keys.specs.declared.fault.KeyFault.{KeyFault}
 use Rattle.age_keys.specs.declared.fault.KeyFault.TheVariants.{Memory as KeyMemory}
 use Rattle.age_keys.specs.Keys.{IsMacOf, payload_key}
@@ -52,15 +49,16 @@ same_front a b x y len e = (
   sym (drop_at a x (length b) len) ∙ (ap (drop (length b)) e ∙ drop_at b y (length b) refl),
 )
 
+-- a chunk of a text begins in it
+reaches : (text : List ℕ) (k : ℕ) → k < chunk_count 65536 text → k * 65536 ≤ length text
+reaches text k below = omega (arith, below)
+
 -- an end without bytes
 no_bytes : (op : List ℕ → List ℕ → Option (List ℕ)) (k : ℕ) → (outcome op 65536 (segment k [] true)).status ≡ Failed (record { kind = Truncated; chunk = k + 0 })
+unfolding outcome
 no_bytes op k = refl
 
 -- a segment that failed stays so with more bytes and an end
-failed_after : (some : Bool) (i : ℕ) (fault : StreamFault) → status_after some i (Failed fault) ≡ Failed fault
-failed_after true i fault = refl
-failed_after false i fault = refl
-
 failed_stays : (op : List ℕ → List ℕ → Option (List ℕ)) (n k : ℕ) (bytes more : List ℕ) (ended : Bool) (fault : StreamFault) → (outcome op n (segment k bytes ended)).status ≡ Failed fault
     → (ended ≡ true → more ≡ []) → (outcome op n (segment k (bytes ++ more) true)).status ≡ Failed fault
 failed_stays op n k bytes more true fault e none =
@@ -68,11 +66,11 @@ failed_stays op n k bytes more true fault e none =
     ap (λ (t : List ℕ). (outcome op n (segment k t true)).status) (sym same) ∙ e
 failed_stays op n k bytes more false fault e none =
     let s = segment k bytes false in
-    let fed = after_piece op n s more (λ _. refl) (λ o. let clash : Open ≡ Failed fault = sym o ∙ e in cc) in
-    let i = (outcome op n s).index in
-    let later : (outcome op n (segment k (bytes ++ more) false)).status ≡ Failed fault = fed.status ∙ (ap (status_after (nat_lt 0 (length more)) i) e ∙ failed_after (nat_lt 0 (length more)) i fault) in
-    let end = after_end op n (segment k (bytes ++ more) false) (λ o. let clash : Open ≡ Failed fault = sym o ∙ later in cc) in
-    end.status ∙ ap status_ended later
+    let shut : (outcome op n s).status ≡ Open → ⊥ = λ o. let clash : Open ≡ Failed fault = sym o ∙ e in cc in
+    let later = ((closed_stays op n s (λ _. refl) shut).0 more).fault fault e in
+    let fed = segment k (bytes ++ more) false in
+    let still : (outcome op n fed).status ≡ Open → ⊥ = λ o. let clash : Open ≡ Failed fault = sym o ∙ later in cc in
+    (closed_stays op n fed (λ _. refl) still).1.fault fault later
 
 module _ (one : OneHeader) (Allows : Header → List ℕ → Type 0) (Refused : Header → KeyFault → Type 0) (coming : Option (List ℕ)) (text : List ℕ) (u : IsWhole Allows Refused coming text) where
   -- what was read of the header is the file's
@@ -160,10 +158,10 @@ module _ (one : OneHeader) (Allows : Header → List ℕ → Type 0) (Refused : 
     rest_done =
         let lawful = box_lawful (payload_key u.key u.nonce) in
         let positive : 0 < 65536 = omega arith in
-        let e = rest_payload (box u.key u.nonce) (unbox u.key u.nonce) lawful 65536 positive text u.few k below in
-        ap (λ (t : List ℕ). (outcome (unbox u.key u.nonce) 65536 (segment k t true)).status) e
-        ∙ rest_is_done (box u.key u.nonce) (unbox u.key u.nonce) lawful 65536 positive text u.few k below
-        (subst (λ (t : List ℕ). IsAuthentic (box u.key u.nonce) (unbox u.key u.nonce) 65536 text (segment k t true)) e authentic)
+        let s = segment k (drop (k * 65552) (payload (box u.key u.nonce) 65536 text)) true in
+        let reached : IsReached (box u.key u.nonce) (unbox u.key u.nonce) 65536 text s = record { limit = omega (arith, below, u.few); within = reaches text k below } in
+        let rest : IsRest (box u.key u.nonce) (unbox u.key u.nonce) 65536 text s = record { below = below; bytes = refl; ended = refl; timely = refl } in
+        ((released_is_written (box u.key u.nonce) (unbox u.key u.nonce) lawful 65536 positive s text u.few reached authentic).whole rest).1
 
     pub no_stream_fault : (after : Option (List ℕ)) (key nonce passed bytes : List ℕ) (ended : Bool) (fault : StreamFault) → IsOpenedAs key nonce (passed ++ bytes) after → length passed ≡ k * 65552
         → (ended ≡ true → IsAtEnd after) → (outcome (unbox key nonce) 65536 (segment k bytes ended)).status ≡ Failed fault → ⊥
@@ -194,8 +192,8 @@ pub own_authentic : (key nonce text : List ℕ) → chunk_count 65536 text ≤ 2
 own_authentic key nonce text few closed k below =
     let lawful = box_lawful (payload_key key nonce) in
     let positive : 0 < 65536 = omega arith in
-    subst (λ (t : List ℕ). IsAuthentic (box key nonce) (unbox key nonce) 65536 text (segment k t true)) (sym (rest_payload (box key nonce) (unbox key nonce) lawful 65536 positive text few k below))
-    (rest_authentic (box key nonce) (unbox key nonce) lawful 65536 positive text few k below closed)
+    rest_is_authentic (box key nonce) (unbox key nonce) lawful 65536 positive text few closed (segment k (drop (k * 65552) (payload (box key nonce) 65536 text)) true)
+    (record { below = below; bytes = refl; ended = refl; timely = refl })
 
 pub undamaged : (keep : Positions) → OneHeader → (Allows : Header → List ℕ → Type 0) (Refused : Header → KeyFault → Type 0) (old new : Ports) (written : ℕ) (position : Option Position) (fault : FileFault) (text : List ℕ)
     → IsUndamaged Allows Refused old.coming text → DecryptFails keep Allows Refused old new written position fault → StopsOutside fault

@@ -5,7 +5,7 @@ use Rattle.std.specs.Simd.{first_chunks}
 use Rattle.std.specs.Io.KnownBytes.{Appends, IsAtEnd}
 use Rattle.age_stanza.specs.declared.header.Header.{Header}
 use Rattle.age_stanza.specs.Laws.{OneHeader}
-use Rattle.age_stream.proofs.Chunks.{first_chunks-append}
+use Rattle.age_file.proofs.FirstChunks.{first_chunks-append}
 use Rattle.age_keys.specs.declared.fault.KeyFault.{KeyFault}
 use Rattle.age_keys.specs.Keys.{position_key}
 use Rattle.age_stream.specs.Payload.{payload}

@@ -9,9 +9,9 @@ use Rattle.age_file.specs.OldTexts.{IsBoundTo}
 use Rattle.age_file.specs.Resumes.{ResumePorts, Resumption, segment_at, IsResumption, ResumeDone}
 use Rattle.age_file.specs.declared.position.Position.{Position}
 
--- the position carries the chain over this text's first chunks, the bytes that were copied have that
--- chain only if they are these chunks, and no block that came and is tried opens, except as the
--- writer of this text sealed it
+-- the position carries the chain over this text's first chunks, the bytes that were copied have
+-- that chain only if they are these chunks, and no block that came and is tried opens, except as
+-- the writer of this text sealed it
 pub record BindsTo (text : List ℕ) (p : Position) (r : Resumption) : Type 0 where
   pub few : chunk_count 65536 text ≤ 281474976710656
   pub to : IsBoundTo p r.copied text

@@ -1,5 +1,5 @@
--- Calls in a row: a decryption, and then resumed ones, each with what the sink of the call before took as its old text. What
--- each call did is what its contract promises.
+-- Calls in a row: a decryption, and then resumed ones, each with what the sink of the call before
+-- took as its old text. What each call did is what its contract promises.
 use Rattle.std.specs.Prelude.{◌≡◌, ◌⊎◌, ℕ, ◌*◌, ◌≤◌, List, [], ◌∷◌, length, Option, Some, IfSome, Result, Ok, Err, MatchResult}
 use mathlib.Core.Logic.{inl, inr}
 use Rattle.std.specs.Simd.{first_chunks}
@@ -39,7 +39,8 @@ abbrev pub CarriesText : List ℕ → Position → Type 0
 CarriesText text p = (p.index * 65536 ≤ length text)
     × (p.chain ≡ chain (first_chunks 65536 p.index text))
 
--- the sink took all of the text where the call is done, and else its beginning; and a position that is handed out is right
+-- the sink took all of the text where the call is done, and else its beginning; and a position that
+-- is handed out is right
 abbrev pub AnswersRight : List ℕ → Option (List ℕ) → Result Done Stopped → Type 0
 AnswersRight text taken result = MatchResult result (λ done. taken ≡ Some text)
     (λ stopped. TookBeginning text taken × IfSome stopped.position (CarriesText text))

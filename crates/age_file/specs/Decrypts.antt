@@ -1,5 +1,5 @@
 -- What a decryption did.
-use Rattle.std.specs.Prelude.{◌≡◌, ◌⊎◌, ℕ, ◌*◌, ◌/◌, ◌≤◌, min, List, [], ◌++◌, length, Option, Some, None, IsSomeAnd, Bool, true, false}
+use Rattle.std.specs.Prelude.{◌≡◌, ◌⊎◌, ℕ, ◌*◌, ◌/◌, ◌≤◌, min, List, [], ◌++◌, length, Option, Some, None, IsSomeAnd, Bool, true, false, Result, IfOk, IfErr, OnOk, MatchResult}
 use Rattle.std.specs.Simd.{first_chunks}
 use Rattle.std.specs.Io.KnownBytes.{Consumes, Appends, IsAtEnd}
 use Rattle.age_stanza.specs.declared.header.Header.{Header}
@@ -30,8 +30,8 @@ use Rattle.age_file.specs.declared.fault.FileFault.TheVariants.{Stream, Read, Wr
 abbrev pub segment : ℕ → List ℕ → Bool → Segment
 segment start bytes ended = record { start = start; bytes = bytes; ended = ended; late = false }
 
--- a run: a file whose header was opened and whose nonce was read, the bytes that were pulled behind it, whether the source
--- ended there, and what was written
+-- a run: a file whose header was opened and whose nonce was read, the bytes that were pulled behind
+-- it, whether the source ended there, and what was written
 pub record Run : Type 0 where
   pub header : Header
   pub front : List ℕ
@@ -77,8 +77,8 @@ abbrev pub CarriesOf : Run → Position → Type 0
 CarriesOf r p = (text : List ℕ) → IsAuthenticRun r text → (p.index * 65536 ≤ length text)
     × (p.chain ≡ chain (first_chunks 65536 p.index text))
 
--- where a reader may go on: the whole chunks that were written, as far as they were released as not last, with the file's
--- id, the chain over those chunks, and the tag
+-- where a reader may go on: the whole chunks that were written, as far as they were released as not
+-- last, with the file's id, the chain over those chunks, and the tag
 pub record IsPositionOf (r : Run) (p : Position) : Type 0 where
   pub index : p.index
       ≡ min (length r.out / 65536) (outcome (unbox r.key r.nonce) 65536 (segment_of r)).index
@@ -113,7 +113,8 @@ module _ (Allows : Header → List ℕ → Type 0) where
     pub none_failed : NoneFailed old new
 
 module _ (keep : Positions) (Allows : Header → List ℕ → Type 0) where
-  -- a run of which all text was written, with its position; or none yet: fewer bytes were pulled than a header and a nonce
+  -- a run of which all text was written, with its position; or none yet: fewer bytes were pulled
+  -- than a header and a nonce
   abbrev pub WroteSoFar : Ports → Ports → ℕ → Option Position → Type 0
   WroteSoFar old new written position =
       (WritesNone old new written position × IsShort old.coming new.coming)
@@ -150,7 +151,8 @@ DecryptStops keep Allows Refused old new stopped = DecryptFails keep Allows Refu
 abbrev pub WritesText : Option (List ℕ) → Option (List ℕ) → ℕ → List ℕ → Type 0
 WritesText old new written text = Appends old new text × (written ≡ length text)
 
--- the source is an age file of this text, and the unlocker has its key and no other, and no fault but want of memory
+-- the source is an age file of this text, and the unlocker has its key and no other, and no fault
+-- but want of memory
 pub record IsWhole (Allows : Header → List ℕ → Type 0) (Refused : Header → KeyFault → Type 0)
     (coming : Option (List ℕ)) (text : List ℕ) : Type 0 where
   pub header : Header
@@ -177,3 +179,17 @@ StopsOutside Write = Unit {0}
 StopsOutside Memory = Unit {0}
 StopsOutside ReadNeverEnds = Unit {0}
 StopsOutside other = ⊥
+
+-- what a decryption promises, where positions are kept or dropped: how it ended and how it stopped;
+-- that the text of an age file that is undamaged is written, unless reading, writing or memory
+-- fails; that the sink sent on what it took; and that the sink keeps its label
+pub record Decrypts (keep : Positions) (Allows : Header → List ℕ → Type 0)
+    (Refused : Header → KeyFault → Type 0) (old new : Ports) (Settled : Type 0)
+    (label_old label_new : List ℕ) (result : Result Done Stopped) : Type 0 where
+  pub done : IfOk result (DecryptEnds Allows old new)
+  pub stopped : IfErr result (DecryptStops keep Allows Refused old new)
+  pub undamaged : (text : List ℕ) → IsUndamaged Allows Refused old.coming text
+      → MatchResult result (λ done. WritesText old.taken new.taken done.written text)
+      (λ stopped. StopsOutside stopped.fault)
+  pub settled : OnOk result Settled
+  pub named : label_new ≡ label_old

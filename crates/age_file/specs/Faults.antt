@@ -1,5 +1,5 @@
 -- The numbers and places of faults, and when each comes.
-use Rattle.std.specs.Prelude.{◌≡◌, ◌⊎◌, ℕ, ◌^◌, ◌-◌, ◌<◌, ◌≤◌, List, ◌++◌, length, Option, Some, None, codes}
+use Rattle.std.specs.Prelude.{◌≡◌, ◌⊎◌, ℕ, ◌^◌, ◌-◌, ◌*◌, ◌<◌, ◌≤◌, List, ◌++◌, length, Option, Some, None, codes}
 use Rattle.std.specs.Io.KnownBytes.{Consumes, IsAtEnd}
 use Rattle.age_stanza.specs.declared.fault.HeadKind.{HeadKind}
 use Rattle.age_stanza.specs.declared.fault.HeadKind.TheVariants.{NotAge, Armored, BadStanzaLine, BadBody, BadEndLine, NoStanza, HeadTooLong, HeadCut, Memory as HeadMemory}
@@ -108,9 +108,13 @@ pub record TellsFault (old new : Option (List ℕ)) (fault : HeadFault) : Type 0
   pub told : IsFault bytes fault ⊎ (IsAtEnd new × IsCut bytes fault)
   pub of_all : IsSourcesFault old fault
 
+-- so many bytes came by 2^63 pulls, each of which gave 1 to 65,536
+abbrev pub IsByAllPulls : ℕ → Type 0
+IsByAllPulls count = (2 ^ 63 ≤ count) × (count ≤ 65536 * 2 ^ 63)
+
 -- a source gave so much that it is taken for one that never ends
 abbrev pub NeverEnds : Option (List ℕ) → Option (List ℕ) → Type 0
-NeverEnds old new = (bytes : List ℕ) × Consumes old new bytes × (2 ^ 63 ≤ length bytes)
+NeverEnds old new = (bytes : List ℕ) × Consumes old new bytes × IsByAllPulls (length bytes)
 
 -- fewer bytes came than those of a header and a payload nonce
 abbrev pub IsShort : Option (List ℕ) → Option (List ℕ) → Type 0
@@ -118,10 +122,21 @@ IsShort old new = (bytes : List ℕ) × Consumes old new bytes
     × ((h : Header) (front rest : List ℕ) → HeadText h front → bytes ≡ front ++ rest
     → length rest < 16)
 
--- why a header was not read: what the source's bytes and its count of failures have to be for each fault
+-- no pull was made after the one that a header ended in: what came before the last pull, which
+-- gives no more than 65,536 bytes, holds neither a header nor a faulty line
+pub record StopsAtHeader (old new : Option (List ℕ)) : Type 0 where
+  pub before : List ℕ
+  pub last : List ℕ
+  pub read : Consumes old new (before ++ last)
+  pub one_pull : length last ≤ 65536
+  pub no_header : HasHeader before → ⊥
+  pub no_fault : NoFault before
+
+-- why a header was not read: what the source's bytes and its count of failures have to be for each
+-- fault
 abbrev pub HeadFails : Option (List ℕ) → Option (List ℕ) → ℕ → ℕ → FileFault → Type 0
 HeadFails old new failed_old failed_new (Head fault) = TellsFault old new fault
 HeadFails old new failed_old failed_new Read = HasRisen failed_old failed_new
-HeadFails old new failed_old failed_new Memory = Unit {0}
+HeadFails old new failed_old failed_new Memory = StopsAtHeader old new
 HeadFails old new failed_old failed_new ReadNeverEnds = NeverEnds old new
 HeadFails old new failed_old failed_new other = ⊥

@@ -1,4 +1,3 @@
-pub mod Memory
 pub mod Faults
 pub mod Reports
 pub mod Writes
@@ -13,6 +12,7 @@ pub mod OldTexts
 pub mod Resumes
 pub mod ResumeFaults
 pub mod UndamagedRests
+pub mod ResumePromises
 pub mod Secrets
 pub mod Encrypts
 pub mod ResumedRuns

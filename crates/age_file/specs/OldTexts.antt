@@ -12,15 +12,16 @@ pub record BeginsWith (p : Position) (old_coming : Option (List ℕ)) (text : Li
   pub within : p.index * 65536 ≤ length text
   pub begins : IsPrefixOf (take (p.index * 65536) text) all
 
--- the position carries the chain over the first chunks of a text, and these bytes have another chain if they are other bytes
+-- the position carries the chain over the first chunks of a text, and these bytes have another
+-- chain if they are other bytes
 pub record IsBoundTo (p : Position) (copied text : List ℕ) : Type 0 where
   pub within : p.index * 65536 ≤ length text
   pub carries : p.chain ≡ chain (first_chunks 65536 p.index text)
   pub tells : chain (first_chunks 65536 p.index copied) ≡ chain (first_chunks 65536 p.index text)
       → copied ≡ take (p.index * 65536) text
 
--- the text that the position was made for: its chunks have the position's chain; so it is the beginning of each text that
--- the position is bound to
+-- the text that the position was made for: its chunks have the position's chain; so it is the
+-- beginning of each text that the position is bound to
 pub record IsOldText (p : Position) (copied : List ℕ) : Type 0 where
   pub size : length copied ≡ p.index * 65536
   pub same : chain (first_chunks 65536 p.index copied) ≡ p.chain

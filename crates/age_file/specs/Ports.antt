@@ -1,7 +1,8 @@
 -- What an engine's contract sees of its source and sink.
 use Rattle.std.specs.Prelude.{◌≡◌, ℕ, List, Option}
 
--- the bytes that are still to come, where they are told, and how many pulls have failed; the same of what was taken, and of puts and flushes
+-- the bytes that are still to come, where they are told, and how many pulls have failed; the same
+-- of what was taken, and of puts and flushes
 pub record Ports : Type 0 where
   pub coming : Option (List ℕ)
   pub read_failed : ℕ

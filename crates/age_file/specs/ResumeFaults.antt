@@ -1,14 +1,14 @@
 -- Why a resumed decryption stopped, and what it did. A chunk has 65,536 bytes, its block 65,552.
 use Rattle.std.specs.Prelude.{◌≡◌, ◌≢◌, ◌⊎◌, ℕ, ◌*◌, ◌+◌, ◌<◌, ◌≤◌, List, length, Option, None}
 use Rattle.std.specs.Simd.{first_chunks}
-use Rattle.std.specs.Io.KnownBytes.{IsAtEnd}
+use Rattle.std.specs.Io.KnownBytes.{Consumes, IsAtEnd}
 use Rattle.age_stanza.specs.declared.header.Header.{Header}
 use Rattle.age_stream.specs.declared.fault.StreamKind.TheVariants.{Truncated}
 use Rattle.age_stream.specs.declared.fault.StreamFault.{StreamFault}
 use Rattle.age_stream.specs.declared.step.Status.TheVariants.{Failed}
 use Rattle.age_stream.specs.Segment.{outcome}
 use Rattle.age_keys.specs.declared.fault.KeyFault.{KeyFault}
-use Rattle.age_file.specs.Faults.{HasRisen, NeverEnds, IsShort}
+use Rattle.age_file.specs.Faults.{HasRisen, IsByAllPulls, IsShort}
 use Rattle.age_file.specs.AgeFile.{unbox}
 use Rattle.age_file.specs.Bindings.{chain}
 use Rattle.age_file.specs.Starts.{StartFails}
@@ -23,8 +23,15 @@ use Rattle.age_file.specs.Verdicts.{OpenedFile, HasId, HasTag}
 use Rattle.age_file.specs.OldTexts.{IsOldText}
 use Rattle.age_file.specs.Resumes.{ResumePorts, NoPortFailed, Reads, WritesOld, Resumption, segment_at, IsResumption, ResumesOf, IsNextPosition, IsSame, Accepts, Resumed, ResumeDone}
 
+-- the file and the old text, together, gave so much that they are taken for ones that never end
+abbrev pub NeverEnd : ResumePorts → ResumePorts → Type 0
+NeverEnd old new = (bytes : List ℕ) × (texts : List ℕ)
+    × Consumes old.main.coming new.main.coming bytes × Consumes old.old_coming new.old_coming texts
+    × IsByAllPulls (length bytes + length texts)
+
 module _ (Allows : Header → List ℕ → Type 0) (p : Position) where
-  -- a run that stopped in the old text, before all that the position needs was written; it has no position
+  -- a run that stopped in the old text, before all that the position needs was written; it has no
+  -- position
   pub record StopsInOld (old new : ResumePorts) (written : ℕ) (position : Option Position)
       : Type 0 where
     pub file : OpenedFile
@@ -106,8 +113,7 @@ module _ (keep : Positions) (Allows : Header → List ℕ → Type 0) (p : Posit
       FailsAt (HasRisen old.main.read_failed new.main.read_failed)
       (HasRisen old.old_failed new.old_failed) old new written position
   ResumeFails Refused old new written position ReadNeverEnds =
-      FailsAt (NeverEnds old.main.coming new.main.coming) (NeverEnds old.old_coming new.old_coming)
-      old new written position
+      FailsAt (NeverEnd old new) (NeverEnd old new) old new written position
   ResumeFails Refused old new written position fault =
       WritesNone old.main new.main written position × StartFails Allows Refused old.main.coming
       new.main.coming old.main.read_failed new.main.read_failed fault

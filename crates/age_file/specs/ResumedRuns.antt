@@ -1,4 +1,5 @@
--- Runs in a row: a decryption, and then resumed ones, each of which has the output of the run before as its old text.
+-- Runs in a row: a decryption, and then resumed ones, each of which has the output of the run
+-- before as its old text.
 use Rattle.std.specs.Prelude.{◌≡◌, ◌⊎◌, ℕ, ◌*◌, ◌≤◌, List, [], ◌∷◌, ◌++◌, length}
 use Rattle.std.specs.Simd.{first_chunks}
 use Rattle.age_stream.specs.declared.step.Status.TheVariants.{Done}
@@ -11,8 +12,8 @@ use Rattle.age_file.specs.Resumes.{Resumption, segment_at, fresh_text, IsNextPos
 use Rattle.age_file.specs.OldTexts.{IsOldText}
 use Rattle.age_file.specs.declared.position.Position.{Position}
 
--- a resumed run and the position that it began from; where it stopped in the blocks that are passed over, no bytes are
--- behind them
+-- a resumed run and the position that it began from; where it stopped in the blocks that are passed
+-- over, no bytes are behind them
 pub record ResumedRun : Type 0 where
   pub position : Position
   pub run : Resumption
@@ -36,8 +37,8 @@ HasEnded first (r ∷ earlier) =
     × ((outcome (unbox r.run.file.key r.run.file.nonce) 65536 (segment_at r.position r.run)).status
     ≡ Done)
 
--- a run copied the beginning of what was written before, and wrote the beginning of its text behind it; no block that came
--- and is tried opens, except as the writer of this text sealed it
+-- a run copied the beginning of what was written before, and wrote the beginning of its text behind
+-- it; no block that came and is tried opens, except as the writer of this text sealed it
 pub record FollowsOn (text : List ℕ) (first : Run) (earlier : List ResumedRun) (r : ResumedRun)
     : Type 0 where
   pub old : IsPrefixOf r.run.copied (output first earlier)
@@ -50,8 +51,9 @@ abbrev pub AreInARow : List ℕ → Run → List ResumedRun → Type 0
 AreInARow text first [] = IsAuthenticRun first text × IsPrefixOf first.out (text_of first)
 AreInARow text first (r ∷ earlier) = FollowsOn text first earlier r × AreInARow text first earlier
 
--- then what the last one wrote begins the text, and is all of it where it ended; so does what one more run wrote that stopped
--- while it copied that output; and a position that the last one handed out carries the chain over the text's first chunks
+-- then what the last one wrote begins the text, and is all of it where it ended; so does what one
+-- more run wrote that stopped while it copied that output; and a position that the last one handed
+-- out carries the chain over the text's first chunks
 pub record WritesRight (text : List ℕ) (first : Run) (runs : List ResumedRun) : Type 0 where
   pub prefix : IsPrefixOf (output first runs) text
   pub in_copy : (copied : List ℕ) → IsPrefixOf copied (output first runs) → IsPrefixOf copied text

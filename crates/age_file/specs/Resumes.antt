@@ -17,7 +17,8 @@ use Rattle.age_file.specs.declared.position.Position.{Position}
 use Rattle.age_file.specs.Verdicts.{OpenedFile, HasId, HasTag}
 use Rattle.age_file.specs.OldTexts.{BeginsWith, IsOldText}
 
--- the ports of a decryption, and those of the old text: what is to come of it, and how often its pulls have failed
+-- the ports of a decryption, and those of the old text: what is to come of it, and how often its
+-- pulls have failed
 pub record ResumePorts : Type 0 where
   pub main : Ports
   pub old_coming : Option (List ℕ)
@@ -41,8 +42,8 @@ pub record Reads (Allows : Header → List ℕ → Type 0) (old new : Option (Li
   pub size : length f.nonce ≡ 16
   pub read : Consumes old new ((f.front ++ f.nonce) ++ rest)
 
--- so much of the old text was written, and nothing else: a front of what was pulled; where the old text is that of a text,
--- what was written begins that text
+-- so much of the old text was written, and nothing else: a front of what was pulled; where the old
+-- text is that of a text, what was written begins that text
 pub record WritesOld (p : Position) (old new : ResumePorts) (written : ℕ) (copied : List ℕ)
     : Type 0 where
   pub pulled : List ℕ
@@ -52,8 +53,8 @@ pub record WritesOld (p : Position) (old new : ResumePorts) (written : ℕ) (cop
   pub count : written ≡ length copied
   pub of : (text : List ℕ) → BeginsWith p old.old_coming text → IsPrefixOf copied text
 
--- a resumed run: the file, the old text, the blocks that were passed over, the bytes behind them, whether the source ended
--- there, and what was written behind the old text
+-- a resumed run: the file, the old text, the blocks that were passed over, the bytes behind them,
+-- whether the source ended there, and what was written behind the old text
 pub record Resumption : Type 0 where
   pub file : OpenedFile
   pub copied : List ℕ
@@ -83,7 +84,8 @@ pub record IsResumption (Allows : Header → List ℕ → Type 0) (p : Position)
   pub count : written ≡ length (r.copied ++ r.out)
   pub prefix : IsPrefixOf r.out (fresh_text p r)
 
--- no block that came and is tried opens, except as the writer of this text sealed it; and the old text begins that text
+-- no block that came and is tried opens, except as the writer of this text sealed it; and the old
+-- text begins that text
 pub record IsAuthenticResumption (p : Position) (r : Resumption) (text : List ℕ) : Type 0 where
   pub few : chunk_count 65536 text ≤ 281474976710656
   pub old_text : r.copied ≡ take (p.index * 65536) text
@@ -104,8 +106,8 @@ abbrev pub CarriesNext : Position → Resumption → Position → Type 0
 CarriesNext p r next = (text : List ℕ) → IsAuthenticResumption p r text
     → (next.index * 65536 ≤ length text) × (next.chain ≡ chain (first_chunks 65536 next.index text))
 
--- where a reader may go on: the whole chunks that were written, copied or released as not last, with the file's id, the
--- chain over those chunks, and the tag
+-- where a reader may go on: the whole chunks that were written, copied or released as not last,
+-- with the file's id, the chain over those chunks, and the tag
 pub record IsNextPosition (p : Position) (r : Resumption) (next : Position) : Type 0 where
   pub index : next.index ≡ min (length (r.copied ++ r.out) / 65536)
       (outcome (unbox r.file.key r.file.nonce) 65536 (segment_at p r)).index

@@ -26,7 +26,8 @@ pub record IsSecret (s : SecretView) : Type 0 where
 abbrev pub words_of : SecretView → ℕ → Words
 words_of s max_log = record { pass = s.pass; max_log = max_log }
 
--- the age file of a secret and a text is a whole one for the secret's passphrase, where the limit allows its work factor
+-- the age file of a secret and a text is a whole one for the secret's passphrase, where the limit
+-- allows its work factor
 abbrev pub AgeFileIsWhole : Type 0
 AgeFileIsWhole = (s : SecretView) (max_log : ℕ) (text bytes : List ℕ) → IsSecret s → s.log ≤ max_log
     → chunk_count 65536 text ≤ 281474976710656 → AgeFile s text bytes
@@ -40,8 +41,8 @@ pub record WasEncrypted (s : SecretView) (text : List ℕ) (old new : Ports) (wr
   pub sink : old.taken ≡ Some []
   pub done : Encrypts s old new written
 
--- then a decryption of what the sink took, with the same passphrase, gives the text back, or stops as reading, writing or
--- want of memory may stop it
+-- then a decryption of what the sink took, with the same passphrase, gives the text back, or stops
+-- as reading, writing or want of memory may stop it
 abbrev pub RoundTrip : Type 0
 RoundTrip = (keep : Positions) (s : SecretView) (max_log : ℕ) (text : List ℕ)
     (was file now last : Ports) (written : Written) (result : Result Done Stopped) → IsSecret s

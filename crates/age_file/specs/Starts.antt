@@ -6,7 +6,7 @@ use Rattle.age_stanza.specs.Grammar.{HeadText}
 use Rattle.age_keys.specs.declared.fault.KeyFault.{KeyFault}
 use Rattle.age_keys.specs.declared.fault.KeyFault.TheVariants.{Memory as KeyMemory}
 use Rattle.age_keys.specs.Opened.{Opens, Refuses}
-use Rattle.age_file.specs.Faults.{HasRisen, TellsFault, NeverEnds, IsShort}
+use Rattle.age_file.specs.Faults.{HasRisen, TellsFault, NeverEnds, IsShort, StopsAtHeader}
 use Rattle.age_file.specs.declared.fault.FileFault.{FileFault}
 use Rattle.age_file.specs.declared.fault.FileFault.TheVariants.{Head, Key, NonceCut, Read, Memory, ReadNeverEnds}
 
@@ -22,7 +22,7 @@ StartFails Allows Refused old new failed_old failed_new NonceCut =
     × Opens Allows h key × (length short < 16) × Consumes old new (front ++ short) × IsAtEnd new
 StartFails Allows Refused old new failed_old failed_new Read = IsShort old new
     × HasRisen failed_old failed_new
-StartFails Allows Refused old new failed_old failed_new Memory = Unit {0}
+StartFails Allows Refused old new failed_old failed_new Memory = StopsAtHeader old new
 StartFails Allows Refused old new failed_old failed_new ReadNeverEnds = IsShort old new
     × NeverEnds old new
 StartFails Allows Refused old new failed_old failed_new other = ⊥

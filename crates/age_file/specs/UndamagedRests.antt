@@ -17,9 +17,9 @@ abbrev pub opened : {Allows : Header → List ℕ → Type 0} {Refused : Header 
     {coming : Option (List ℕ)} {text : List ℕ} → IsWhole Allows Refused coming text → OpenedFile
 opened w = record { header = w.header; front = w.file.front; key = w.key; nonce = w.nonce }
 
--- the source is an age file of this text, and the unlocker has its key and no other; the position is this file's, of a chunk
--- that the text has, and carries its chain; the old text is the text's before that chunk; and the last block, where
--- that is full, doesn't open as one before the last
+-- the source is an age file of this text, and the unlocker has its key and no other; the position
+-- is this file's, of a chunk that the text has, and carries its chain; the old text is the text's
+-- before that chunk; and the last block, where that is full, doesn't open as one before the last
 pub record IsUndamagedRest (Allows : Header → List ℕ → Type 0)
     (Refused : Header → KeyFault → Type 0) (p : Position) (coming old_coming : Option (List ℕ))
     (text : List ℕ) : Type 0 where

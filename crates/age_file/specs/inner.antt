@@ -1,4 +1,5 @@
 pub mod Bindings
+pub mod Boxes
 pub mod Copies
 pub mod Counts
 pub mod Decrypts

@@ -11,9 +11,8 @@ use crate::fault::FileFault;
 use crate::intake::Intake;
 use crate::progress::Progress;
 use crate::put::write_all;
-use crate::sink::Sink;
-use crate::source::Source;
 use crate::start::some_bytes;
+use age_io::{Sink, Source};
 use sha2::{Digest, Sha256};
 
 /// The bytes of a chunk before the last.

@@ -1,9 +1,9 @@
 //! Decrypts a file.
 
-ghost use Rattle.std.specs.Prelude.{◌≡◌, ℕ, List, None, IfOk, OnOk, IfErr, MatchResult};
+ghost use Rattle.std.specs.Prelude.{◌≡◌, None};
 ghost use Rattle.age_file.specs.Ports.{ports};
 ghost use Rattle.age_file.specs.declared.position.Positions.TheVariants.{Kept};
-ghost use Rattle.age_file.specs.Decrypts.{DecryptEnds, DecryptStops, IsUndamaged, WritesText, StopsOutside};
+ghost use Rattle.age_file.specs.Decrypts.{Decrypts};
 ghost use Rattle.age_file.specs.inner.Decrypts.{PositionAt};
 
 use crate::fault::FileFault;
@@ -11,10 +11,9 @@ use crate::intake::Intake;
 use crate::payload::decrypt_payload;
 use crate::position::{Position, Positions};
 use crate::progress::Progress;
-use crate::sink::Sink;
-use crate::source::Source;
 use crate::start::{Unlocked, start};
-use age_keys::{PayloadKey, Unlock, payload_key, position_key};
+use age_io::{Sink, Source};
+use age_keys::{Unlock, payload_key, position_key};
 use age_stanza::one_header;
 use std::alloc::Global;
 use thiserror::Error;
@@ -34,8 +33,8 @@ pub struct Stopped {
     pub fault: FileFault,
     /// How many bytes were written.
     pub written: u128,
-    /// Where a reader may go on, from the moment the payload nonce was read: behind the whole chunks before the last that
-    /// were written.
+    /// Where a reader may go on, from the moment the payload nonce was read: behind the whole
+    /// chunks before the last that were written.
     pub position: Option<Position>,
 }
 
@@ -87,34 +86,24 @@ pub fn decrypt<U: Unlock, S: Source, O: Sink>(
     reader: &mut S,
     writer: &mut O,
 ) -> Result<Done, Stopped>
-    ensures done { IfOk result (DecryptEnds (U.allows unlock.now)
+    ensures { Decrypts Kept (U.allows unlock.now) (U.refuses unlock.now)
         (ports (S.remaining reader.old) (S.failed reader.old) (O.taken writer.old)
         (O.failed writer.old))
         (ports (S.remaining reader.new) (S.failed reader.new) (O.taken writer.new)
-        (O.failed writer.new))) }
-    ensures stopped { IfErr result (DecryptStops Kept (U.allows unlock.now)
-        (U.refuses unlock.now)
-        (ports (S.remaining reader.old) (S.failed reader.old) (O.taken writer.old)
-        (O.failed writer.old))
-        (ports (S.remaining reader.new) (S.failed reader.new) (O.taken writer.new)
-        (O.failed writer.new))) }
-    // The text of an age file that is undamaged is written, unless reading, writing or memory fails.
-    ensures undamaged { (text : List ℕ) → IsUndamaged (U.allows unlock.now) (U.refuses unlock.now)
-        (S.remaining reader.old) text → MatchResult result
-        (λ done. WritesText (O.taken writer.old) (O.taken writer.new) done.written text)
-        (λ stopped. StopsOutside stopped.fault) }
-    ensures settled { OnOk result (O.settled writer.new) }
-    ensures named { O.label writer.new ≡ O.label writer.old }
+        (O.failed writer.new))
+        (O.settled writer.new) (O.label writer.old) (O.label writer.new) result }
 {
     decrypt_with(alloc, Positions::Kept, unlock, reader, writer)
 }
 
-/// Decrypts a file: opens its header, and writes each chunk of the text once the tag of its block was checked (C2SP
-/// age.md). It reads to the end of the source, and flushes before it answers that it is done.
+/// Decrypts a file: opens its header, and writes each chunk of the text once the tag of its block
+/// was checked (C2SP age.md). It reads to the end of the source, and flushes before it answers that
+/// it is done.
 ///
-/// It stops with the header's fault (1 to 8), the unlocker's or a wrong header MAC (9 to 15), `NonceCut` (16), a fault of
-/// the payload (17 to 22), `Read` (26), `Write` (27), `Memory` (28) and `ReadNeverEnds` (29). All memory is taken before
-/// the payload nonce is read, so that nothing was written where it was refused.
+/// It stops with the header's fault (1 to 8), the unlocker's or a wrong header MAC (9 to 15),
+/// `NonceCut` (16), a fault of the payload (17 to 22), `Read` (26), `Write` (27), `Memory` (28) and
+/// `ReadNeverEnds` (29). All memory is taken before the payload nonce is read, so that nothing was
+/// written where it was refused.
 pub fn decrypt_with<U: Unlock, S: Source, O: Sink>(
     alloc: Global,
     positions: Positions,
@@ -122,24 +111,12 @@ pub fn decrypt_with<U: Unlock, S: Source, O: Sink>(
     reader: &mut S,
     writer: &mut O,
 ) -> Result<Done, Stopped>
-    ensures done { IfOk result (DecryptEnds (U.allows unlock.now)
+    ensures { Decrypts positions (U.allows unlock.now) (U.refuses unlock.now)
         (ports (S.remaining reader.old) (S.failed reader.old) (O.taken writer.old)
         (O.failed writer.old))
         (ports (S.remaining reader.new) (S.failed reader.new) (O.taken writer.new)
-        (O.failed writer.new))) }
-    ensures stopped { IfErr result (DecryptStops positions (U.allows unlock.now)
-        (U.refuses unlock.now)
-        (ports (S.remaining reader.old) (S.failed reader.old) (O.taken writer.old)
-        (O.failed writer.old))
-        (ports (S.remaining reader.new) (S.failed reader.new) (O.taken writer.new)
-        (O.failed writer.new))) }
-    // The text of an age file that is undamaged is written, unless reading, writing or memory fails.
-    ensures undamaged { (text : List ℕ) → IsUndamaged (U.allows unlock.now) (U.refuses unlock.now)
-        (S.remaining reader.old) text → MatchResult result
-        (λ done. WritesText (O.taken writer.old) (O.taken writer.new) done.written text)
-        (λ stopped. StopsOutside stopped.fault) }
-    ensures settled { OnOk result (O.settled writer.new) }
-    ensures named { O.label writer.new ≡ O.label writer.old }
+        (O.failed writer.new))
+        (O.settled writer.new) (O.label writer.old) (O.label writer.new) result }
 {
     one_header();
     let Ok(mut intake) = Intake::new(alloc) else {
@@ -151,14 +128,7 @@ pub fn decrypt_with<U: Unlock, S: Source, O: Sink>(
     };
     let key = payload_key(&unlocked.key, &unlocked.nonce);
     let mut progress = Progress::new(positions);
-    match decrypt_payload::<PayloadKey, 65552, S, O>(
-        &key,
-        0,
-        reader,
-        &mut intake,
-        writer,
-        &mut progress,
-    ) {
+    match decrypt_payload(&key, 0, reader, &mut intake, writer, &mut progress) {
         Ok(()) => Ok(Done {
             written: progress.written,
         }),

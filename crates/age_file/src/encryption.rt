@@ -11,9 +11,8 @@ use crate::intake::Intake;
 use crate::put::write_all;
 use crate::sealing::seal_all;
 use crate::secret::Secret;
-use crate::sink::Sink;
-use crate::source::Source;
-use age_keys::{FileKey, PayloadKey, payload_key, scrypt_header};
+use age_io::{Sink, Source};
+use age_keys::{FileKey, payload_key, scrypt_header};
 use age_stanza::encode_head;
 use std::alloc::Global;
 
@@ -26,7 +25,8 @@ pub struct Written {
     pub file: u128,
 }
 
-/// What stands before the payload: the header's text and the payload nonce. It refuses for want of memory alone.
+/// What stands before the payload: the header's text and the payload nonce. It refuses for want of
+/// memory alone.
 fn front_of(alloc: Global, secret: &Secret<'_>) -> Result<Vec<u8>, FileFault>
     ensures front { IfOk result (λ v. BeginsFile secret.now v.items) }
     ensures memory { IfErr result (λ fault. fault ≡ Memory) }
@@ -38,12 +38,13 @@ fn front_of(alloc: Global, secret: &Secret<'_>) -> Result<Vec<u8>, FileFault>
     Ok(front)
 }
 
-/// Encrypts all that a source gives under a passphrase, into an age file (C2SP age.md): the header with one scrypt
-/// stanza, the payload nonce, and the payload in chunks of 65,536 bytes. Flushes at the end.
+/// Encrypts all that a source gives under a passphrase, into an age file (C2SP age.md): the header
+/// with one scrypt stanza, the payload nonce, and the payload in chunks of 65,536 bytes. Flushes at
+/// the end.
 ///
-/// It refuses with [`FileFault::Memory`] (28) before it reads or writes anything, with `Read` (26), `Write` (27) and
-/// `ReadNeverEnds` (29), and with `TooManyChunks` (22) where the source gave more than 2^64 bytes. What was written by then is
-/// a front of the age file of what was read.
+/// It refuses with [`FileFault::Memory`] (28) before it reads or writes anything, with `Read` (26),
+/// `Write` (27) and `ReadNeverEnds` (29), and with `TooManyChunks` (22) where the source gave more
+/// than 2^64 bytes. What was written by then is a front of the age file of what was read.
 pub fn encrypt<S: Source, O: Sink>(
     alloc: Global,
     secret: &Secret<'_>,
@@ -68,6 +69,6 @@ pub fn encrypt<S: Source, O: Sink>(
     let key = payload_key(&FileKey::new(secret.file_key), &secret.payload_nonce);
     let mut file = 0;
     write_all(writer, front.as_slice(), &mut file)?;
-    let plain = seal_all::<PayloadKey, 65552, S, O>(&key, reader, &mut intake, writer, &mut file)?;
+    let plain = seal_all(&key, reader, &mut intake, writer, &mut file)?;
     Ok(Written { plain, file })
 }

@@ -5,14 +5,15 @@ ghost use Rattle.age_file.specs.declared.fault.FileFault.TheVariants.{Stream, Me
 ghost use Rattle.age_file.specs.Faults.{number_of, place_of, name_of, head_name_of, key_name_of, stream_name_of};
 ghost use Rattle.age_file.specs.inner.Faults.{fault_of, fault_of_key};
 
-use crate::failed::Memory;
+use age_io::Memory;
 use age_keys::KeyFault;
 use age_stanza::{HeadFault, HeadKind};
 use age_stream::{StreamFault, StreamKind};
 use std::alloc::{AllocError, AllocFailed};
 use thiserror::Error;
 
-/// Why a file could not be read or written. Want of memory is one case, whichever layer it came from.
+/// Why a file could not be read or written. Want of memory is one case, whichever layer it came
+/// from.
 #[derive(Clone, Copy, Debug, PartialEq, Eq, Error)]
 pub enum FileFault {
     /// The header is not one, at this line (1 to 8).
@@ -45,7 +46,7 @@ pub enum FileFault {
     /// Memory was refused (28).
     #[error("out of memory")]
     Memory,
-    /// A source gave bytes by 2^63 pulls in one call (29).
+    /// The sources gave bytes by 2^63 pulls in one call (29).
     #[error("the input never ends")]
     ReadNeverEnds,
     /// The position was not made under this file's key (30).

@@ -2,13 +2,13 @@
 
 ghost use Rattle.std.specs.Prelude.{◌≡◌, ◌≢◌, [], IfOk, IfErr, OnOk};
 ghost use Rattle.age_file.specs.declared.fault.FileFault.TheVariants.{Memory};
-ghost use Rattle.age_file.specs.Faults.{HeadFails};
+ghost use Rattle.age_file.specs.Faults.{HeadFails, StopsAtHeader};
 ghost use Rattle.age_file.specs.inner.Faults.{IsInHeader};
 ghost use Rattle.age_file.specs.inner.Intakes.{ReadsHead};
 
 use crate::fault::FileFault;
 use crate::intake::Intake;
-use crate::source::Source;
+use age_io::Source;
 use age_stanza::{HeadParser, HeadStep, Header};
 use std::alloc::Global;
 
@@ -28,6 +28,7 @@ pub(crate) fn read_head<S: Source>(
     requires { (intake.old.bytes ≡ []) × (intake.old.pulls ≡ 0) }
     ensures found { IfOk result (ReadsHead (S.remaining source.old) (S.remaining source.new)
         intake.new) }
+    ensures last { OnOk result (StopsAtHeader (S.remaining source.old) (S.remaining source.new)) }
     ensures unfailed { OnOk result (S.failed source.new ≡ S.failed source.old) }
     ensures fails { IfErr result (HeadFails (S.remaining source.old) (S.remaining source.new)
         (S.failed source.old) (S.failed source.new)) }

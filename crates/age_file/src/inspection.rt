@@ -10,7 +10,7 @@ use crate::fault::FileFault;
 use crate::head::read_head;
 use crate::intake::Intake;
 use crate::report::{Report, StanzaReport, StanzaReports};
-use crate::source::Source;
+use age_io::Source;
 use age_stanza::{Bytes, Stanza};
 use std::alloc::{AllocError, Global};
 
@@ -79,8 +79,9 @@ fn plain_of(rest: u128) -> Option<u128>
     Some(payload - 16 * chunks)
 }
 
-/// Reads a source to its end, and reports what it holds: the header's length, its stanzas, how many bytes follow it, and
-/// the length of the plaintext that so many bytes hold (C2SP age.md, "Header" and "Payload").
+/// Reads a source to its end, and reports what it holds: the header's length, its stanzas, how many
+/// bytes follow it, and the length of the plaintext that so many bytes hold (C2SP age.md, "Header"
+/// and "Payload").
 ///
 /// Refuses with the header's fault (1 to 8), `Read` (26), `Memory` (28) and `ReadNeverEnds` (29).
 pub fn inspect<S: Source>(alloc: Global, source: &mut S) -> Result<Report, FileFault>

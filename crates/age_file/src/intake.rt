@@ -5,17 +5,19 @@ ghost use Rattle.age_file.specs.inner.Intakes.{Refills};
 ghost use Rattle.age_file.specs.inner.Unread.{Unread};
 
 use crate::fault::FileFault;
-use crate::source::Source;
+use age_io::Source;
 use std::alloc::{AllocError, Global};
 use std::marker::Model;
 
-/// The most pulls of one call. A source that gave bytes so often is taken for one that never ends.
+/// The most pulls of one call, over all its sources. Those that gave bytes so often are taken for
+/// ones that never end.
 const MOST_PULLS: u64 = 9_223_372_036_854_775_808;
 
 /// How many bytes are pulled at once, at most.
 const ROOM: usize = 65_536;
 
-/// The bytes that were pulled from a source and not used yet, and how many pulls gave some.
+/// The bytes that were pulled from a source and not used yet, and how many pulls of the call gave
+/// some.
 #[derive(Drop)]
 pub(crate) struct Intake {
     buffer: Vec<u8>,
@@ -47,6 +49,14 @@ impl Intake {
             to: 0,
             pulls: 0,
         })
+    }
+
+    /// Counts on from the pulls of the call's other source.
+    pub(crate) fn count_on(&mut self, other: &Intake)
+        ensures bytes { self.new.bytes ≡ self.old.bytes }
+        ensures pulls { self.new.pulls ≡ other.now.pulls }
+    {
+        self.pulls = other.pulls;
     }
 
     /// The bytes that were not used yet.

@@ -7,42 +7,46 @@ ghost use Rattle.age_file.specs.RoundTrips.{AgeFileIsWhole, RoundTrip};
 use age_keys::{Unlock, passphrase_opens};
 use age_stanza::one_header;
 
-/// A decryption that stopped, and any number of resumed ones, each with the output of the one before as its old text: while
-/// no block opens except as the writer of a text sealed it, every output begins the text, the last is all of it where its
-/// run ended, a run that stops while it copies that output wrote a beginning of the text too, and each position that is
-/// handed out carries the chain over the text's first chunks.
+/// A decryption that stopped, and any number of resumed ones, each with the output of the one
+/// before as its old text: while no block opens except as the writer of a text sealed it, every
+/// output begins the text, the last is all of it where its run ended, a run that stops while it
+/// copies that output wrote a beginning of the text too, and each position that is handed out
+/// carries the chain over the text's first chunks.
 pub fn runs_in_a_row()
     ensures { RunsInARow }
 {}
 
-/// Calls of [`decrypt`](crate::decrypt) and then of [`resume`](crate::resume), by unlockers of one kind, each resumed one
-/// with what the sink of the call before took as its old text: while no block opens except as the writer of a text sealed
-/// it, what each call's sink took begins the text, is all of it where the call is done, and each position that is handed out
-/// carries the chain over the text's first chunks. Of each call no more is assumed than what its contract promises, and that
-/// its sink had taken nothing before.
+/// Calls of [`decrypt`](crate::decrypt) and then of [`resume`](crate::resume), by unlockers of one
+/// kind, each resumed one with what the sink of the call before took as its old text: while no
+/// block opens except as the writer of a text sealed it, what each call's sink took begins the
+/// text, is all of it where the call is done, and each position that is handed out carries the
+/// chain over the text's first chunks. Of each call no more is assumed than what its contract
+/// promises, and that its sink had taken nothing before.
 pub fn calls_in_a_row<U: Unlock>()
     ensures { CallsInARow U U.allows U.refuses }
 {}
 
-/// Bound positions: where a position carries the chain over a text's first chunks, the bytes that were copied of the old text
-/// have that chain only if they are these chunks, and no block opens except as the writer of that text sealed it, then the
-/// copied bytes are the text's, what a resumed run wrote begins the text, and it is all of the text where the call is done.
+/// Bound positions: where a position carries the chain over a text's first chunks, the bytes that
+/// were copied of the old text have that chain only if they are these chunks, and no block opens
+/// except as the writer of that text sealed it, then the copied bytes are the text's, what a
+/// resumed run wrote begins the text, and it is all of the text where the call is done.
 pub fn bound_positions<U: Unlock>()
     ensures runs { RunsAreBound U U.allows }
     ensures done { DoneIsBound U U.allows }
 {}
 
-/// The age file of a secret and a text is one that the secret's passphrase opens, and nothing but want of memory may be
-/// answered for its header, where the limit is no less than its work factor.
+/// The age file of a secret and a text is one that the secret's passphrase opens, and nothing but
+/// want of memory may be answered for its header, where the limit is no less than its work factor.
 pub fn age_file_is_whole()
     ensures { AgeFileIsWhole }
 {
     passphrase_opens();
 }
 
-/// What [`encrypt`](crate::encrypt) wrote of a text, [`decrypt`](crate::decrypt) with the same passphrase gives back, or it
-/// stops with `Read` (26), `Write` (27), `Memory` (28) or `ReadNeverEnds` (29), while a last block that is full doesn't open as
-/// one before the last. Of both calls no more is assumed than what their contracts promise.
+/// What [`encrypt`](crate::encrypt) wrote of a text, [`decrypt`](crate::decrypt) with the same
+/// passphrase gives back, or it stops with `Read` (26), `Write` (27), `Memory` (28) or
+/// `ReadNeverEnds` (29), while a last block that is full doesn't open as one before the last. Of
+/// both calls no more is assumed than what their contracts promise.
 pub fn round_trip()
     ensures { RoundTrip }
 {

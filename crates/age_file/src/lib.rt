@@ -13,14 +13,11 @@
 mod copy;
 mod decryption;
 mod encryption;
-mod failed;
 mod fault;
 mod head;
 mod inspection;
 mod intake;
 mod laws;
-mod mem_sink;
-mod mem_source;
 mod payload;
 mod position;
 mod position_text;
@@ -30,26 +27,20 @@ mod report;
 mod resumption;
 mod sealing;
 mod secret;
-mod sink;
 mod skip;
-mod source;
 mod start;
 
+pub use age_io::{Failed, MemSink, MemSource, Memory, Reading, Sink, Source, Writing};
 pub use decryption::{Done, Stopped, decrypt, decrypt_with};
 pub use encryption::{Written, encrypt};
-pub use failed::{Failed, Memory};
 pub use fault::FileFault;
 pub use inspection::inspect;
 pub use laws::{age_file_is_whole, bound_positions, calls_in_a_row, round_trip, runs_in_a_row};
-pub use mem_sink::MemSink;
-pub use mem_source::MemSource;
 pub use position::{Position, Positions};
 pub use put::{flush_all, put_all, write_all};
 pub use report::{Report, StanzaReport, StanzaReports};
 pub use resumption::{resume, resume_with};
 pub use secret::Secret;
-pub use sink::{Sink, Writing};
-pub use source::{Reading, Source};
 
 #[cfg(test)]
 mod tests;

@@ -1,6 +1,7 @@
 //! Opens what a source gives, and writes each chunk once its tag was checked.
 
-ghost use Rattle.std.specs.Prelude.{◌≡◌, ◌+◌, ◌-◌, ◌^◌, ◌<◌, ◌≤◌, length, IfOk, OnOk};
+ghost use Rattle.std.specs.Prelude.{◌≡◌, ◌+◌, ◌^◌, ◌<◌, ◌≤◌, length, IfOk, OnOk};
+ghost use Rattle.age_file.specs.inner.Boxes.{opens};
 ghost use Rattle.age_file.specs.inner.Releases.{tally, FeedsOnce, FeedsPiece, Closes};
 ghost use Rattle.age_file.specs.inner.Flows.{flow, HasRoom, Turns, OpensAll};
 ghost use Rattle.age_file.specs.inner.Payloads.{stage, HasPlace, DecryptsPayload};
@@ -9,19 +10,22 @@ use crate::fault::FileFault;
 use crate::intake::Intake;
 use crate::progress::Progress;
 use crate::put::{flush_all, write_all};
-use crate::sink::Sink;
-use crate::source::Source;
-use age_stream::{ChunkBox, Opener};
+use age_io::{Sink, Source};
+use age_keys::PayloadKey;
+use age_stream::Opener;
+
+/// What opens the blocks of a payload.
+type PayloadOpener<'a> = Opener<'a, PayloadKey, 65552>;
 
 /// Feeds the front of a piece, and writes the chunk that comes out.
-fn feed_once<B: ChunkBox, const SEALED: usize, O: Sink>(
-    opener: &mut Opener<'_, B, SEALED>,
+fn feed_once<O: Sink>(
+    opener: &mut PayloadOpener<'_>,
     piece: &[u8],
     sink: &mut O,
     progress: &mut Progress,
 ) -> Result<usize, FileFault>
     requires small { length opener.old.held + progress.old.written + length piece.now < 2 ^ 128 }
-    ensures fed { FeedsOnce B.opening (SEALED - 16) opener.old opener.new
+    ensures fed { FeedsOnce opens 65536 opener.old opener.new
         (tally (O.taken sink.old) (O.failed sink.old) (O.label sink.old) progress.old)
         (tally (O.taken sink.new) (O.failed sink.new) (O.label sink.new) progress.new) piece.now
         result }
@@ -33,20 +37,19 @@ fn feed_once<B: ChunkBox, const SEALED: usize, O: Sink>(
         return Ok(taken);
     };
     write_all(sink, chunk, &mut progress.written)?;
-    let chain = progress.chain_over(chunk);
-    progress.advance(opener.index(), chain);
+    progress.count(step.index, chunk);
     Ok(taken)
 }
 
 /// Feeds a whole piece, and writes the chunks that come out.
-fn feed_piece<B: ChunkBox, const SEALED: usize, O: Sink>(
-    opener: &mut Opener<'_, B, SEALED>,
+fn feed_piece<O: Sink>(
+    opener: &mut PayloadOpener<'_>,
     piece: &[u8],
     sink: &mut O,
     progress: &mut Progress,
 ) -> Result<(), FileFault>
     requires small { length opener.old.held + progress.old.written + length piece.now < 2 ^ 128 }
-    ensures fed { FeedsPiece B.opening (SEALED - 16) opener.old opener.new
+    ensures fed { FeedsPiece opens 65536 opener.old opener.new
         (tally (O.taken sink.old) (O.failed sink.old) (O.label sink.old) progress.old)
         (tally (O.taken sink.new) (O.failed sink.new) (O.label sink.new) progress.new) piece.now
         result }
@@ -59,8 +62,8 @@ fn feed_piece<B: ChunkBox, const SEALED: usize, O: Sink>(
 }
 
 /// Feeds what was pulled, and pulls again. False: the source is at its end.
-fn turn<B: ChunkBox, const SEALED: usize, S: Source, O: Sink>(
-    opener: &mut Opener<'_, B, SEALED>,
+fn turn<S: Source, O: Sink>(
+    opener: &mut PayloadOpener<'_>,
     source: &mut S,
     intake: &mut Intake,
     sink: &mut O,
@@ -69,7 +72,7 @@ fn turn<B: ChunkBox, const SEALED: usize, S: Source, O: Sink>(
     requires { HasRoom (flow opener.old (tally (O.taken sink.old) (O.failed sink.old)
         (O.label sink.old) progress.old)
         (S.remaining source.old) (S.failed source.old) intake.old) }
-    ensures { Turns B.opening (SEALED - 16)
+    ensures { Turns opens 65536
         (flow opener.old (tally (O.taken sink.old) (O.failed sink.old) (O.label sink.old)
         progress.old)
         (S.remaining source.old) (S.failed source.old) intake.old)
@@ -83,8 +86,8 @@ fn turn<B: ChunkBox, const SEALED: usize, S: Source, O: Sink>(
 }
 
 /// Opens what a source gives, up to its end.
-fn open_all<B: ChunkBox, const SEALED: usize, S: Source, O: Sink>(
-    opener: &mut Opener<'_, B, SEALED>,
+fn open_all<S: Source, O: Sink>(
+    opener: &mut PayloadOpener<'_>,
     source: &mut S,
     intake: &mut Intake,
     sink: &mut O,
@@ -93,7 +96,7 @@ fn open_all<B: ChunkBox, const SEALED: usize, S: Source, O: Sink>(
     requires { HasRoom (flow opener.old (tally (O.taken sink.old) (O.failed sink.old)
         (O.label sink.old) progress.old)
         (S.remaining source.old) (S.failed source.old) intake.old) }
-    ensures { OpensAll B.opening (SEALED - 16)
+    ensures { OpensAll opens 65536
         (flow opener.old (tally (O.taken sink.old) (O.failed sink.old) (O.label sink.old)
         progress.old)
         (S.remaining source.old) (S.failed source.old) intake.old)
@@ -106,13 +109,13 @@ fn open_all<B: ChunkBox, const SEALED: usize, S: Source, O: Sink>(
 }
 
 /// Ends the opener, and writes the chunk that comes out.
-fn close<B: ChunkBox, const SEALED: usize, O: Sink>(
-    opener: &mut Opener<'_, B, SEALED>,
+fn close<O: Sink>(
+    opener: &mut PayloadOpener<'_>,
     sink: &mut O,
     progress: &mut Progress,
 ) -> Result<(), FileFault>
     requires { length opener.old.held + progress.old.written < 2 ^ 128 }
-    ensures { Closes B.opening (SEALED - 16) opener.old opener.new
+    ensures { Closes opens 65536 opener.old opener.new
         (tally (O.taken sink.old) (O.failed sink.old) (O.label sink.old) progress.old)
         (tally (O.taken sink.new) (O.failed sink.new) (O.label sink.new) progress.new) result }
 {
@@ -121,13 +124,13 @@ fn close<B: ChunkBox, const SEALED: usize, O: Sink>(
 }
 
 /// The same, and then flushes.
-fn finish<B: ChunkBox, const SEALED: usize, O: Sink>(
-    opener: &mut Opener<'_, B, SEALED>,
+fn finish<O: Sink>(
+    opener: &mut PayloadOpener<'_>,
     sink: &mut O,
     progress: &mut Progress,
 ) -> Result<(), FileFault>
     requires { length opener.old.held + progress.old.written < 2 ^ 128 }
-    ensures closes { Closes B.opening (SEALED - 16) opener.old opener.new
+    ensures closes { Closes opens 65536 opener.old opener.new
         (tally (O.taken sink.old) (O.failed sink.old) (O.label sink.old) progress.old)
         (tally (O.taken sink.new) (O.failed sink.new) (O.label sink.new) progress.new) result }
     ensures settled { OnOk result (O.settled sink.new) }
@@ -136,29 +139,28 @@ fn finish<B: ChunkBox, const SEALED: usize, O: Sink>(
     flush_all(sink)
 }
 
-/// Opens what a source gives from a chunk on, up to its end, and writes each chunk once its tag was checked.
-pub(crate) fn decrypt_payload<B: ChunkBox, const SEALED: usize, S: Source, O: Sink>(
-    key: &B,
+/// Opens what a source gives from a chunk on, up to its end, and writes each chunk once its tag was
+/// checked.
+pub(crate) fn decrypt_payload<S: Source, O: Sink>(
+    key: &PayloadKey,
     index: u64,
     source: &mut S,
     intake: &mut Intake,
     sink: &mut O,
     progress: &mut Progress,
 ) -> Result<(), FileFault>
-    requires least { 17 ≤ SEALED }
-    requires most { SEALED ≤ 65552 }
     requires limit { index < 281474976710656 }
     requires room { HasPlace (stage (tally (O.taken sink.old) (O.failed sink.old) (O.label sink.old)
         progress.old)
         (S.remaining source.old) (S.failed source.old) intake.old) }
-    ensures decrypts { DecryptsPayload (B.opening key.now) (SEALED - 16) index
+    ensures decrypts { DecryptsPayload (opens key.now) 65536 index
         (stage (tally (O.taken sink.old) (O.failed sink.old) (O.label sink.old) progress.old)
         (S.remaining source.old) (S.failed source.old) intake.old)
         (stage (tally (O.taken sink.new) (O.failed sink.new) (O.label sink.new) progress.new)
         (S.remaining source.new) (S.failed source.new) intake.new) result }
     ensures settled { OnOk result (O.settled sink.new) }
 {
-    let mut opener = Opener::<B, SEALED>::at(key, index);
+    let mut opener = PayloadOpener::at(key, index);
     open_all(&mut opener, source, intake, sink, progress)?;
     finish(&mut opener, sink, progress)
 }

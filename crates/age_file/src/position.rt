@@ -12,24 +12,24 @@ use sha2::{Digest, Sha256};
 /// What every position's text begins with.
 pub(crate) const VERSION: &[u8; 16] = b"age-position/v2 ";
 
-/// A place in a payload at which a reader goes on after a stop, bound to the file and to the text before it. It is no
-/// part of the age format.
+/// A place in a payload at which a reader goes on after a stop, bound to the file and to the text
+/// before it. It is no part of the age format.
 #[derive(Clone, Copy, Debug, PartialEq, Eq)]
 pub struct Position {
     /// The chunk at which reading goes on, from 0; below 2^48.
     pub index: u64,
     /// The SHA-256 of the header's bytes and the payload nonce.
     pub file_id: [u8; 32],
-    /// The chain over the chunks before: 32 zero bytes, then for each chunk the SHA-256 of the link before it and the
-    /// chunk.
+    /// The chain over the chunks before: 32 zero bytes, then for each chunk the SHA-256 of the link
+    /// before it and the chunk.
     pub chain: [u8; 32],
     /// The HMAC of the position's text before the tag, under the position key of the file.
     pub tag: [u8; 32],
     ghost within: { index < 281474976710656 },
 }
 
-/// Whether a decryption keeps the position at which a reader can go on after a stop. Keeping it takes a SHA-256 over the
-/// text.
+/// Whether a decryption keeps the position at which a reader can go on after a stop. Keeping it
+/// takes a SHA-256 over the text.
 #[derive(Clone, Copy, Debug, PartialEq, Eq)]
 pub enum Positions {
     /// A stop hands out its position.
@@ -50,7 +50,8 @@ pub(crate) fn spelled(bytes: &[u8; 32]) -> [u8; 43]
     text
 }
 
-/// The parts of a position's text up to its tag, from the texts of its index, its file id and its chain.
+/// The parts of a position's text up to its tag, from the texts of its index, its file id and its
+/// chain.
 pub(crate) fn front_parts<'a>(
     index: &'a [u8],
     id: &'a [u8; 43],

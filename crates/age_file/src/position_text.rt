@@ -107,8 +107,9 @@ fn position_of(index: u64, fields: &[u8]) -> Option<Position>
 }
 
 impl Position {
-    /// The text of a position: `age-position/v2 INDEX ID CHAIN TAG` and a line feed, INDEX in decimal, the others as the
-    /// 43 characters of unpadded base64 (RFC 4648, section 4). It refuses for want of memory alone.
+    /// The text of a position: `age-position/v2 INDEX ID CHAIN TAG` and a line feed, INDEX in
+    /// decimal, the others as the 43 characters of unpadded base64 (RFC 4648, section 4). It
+    /// refuses for want of memory alone.
     pub fn text(&self, alloc: Global) -> Result<Vec<u8>, FileFault>
         ensures text { IfOk result (λ text. text.items ≡ position_text self.now) }
         ensures memory { IfErr result (λ fault. fault ≡ Memory) }
@@ -116,8 +117,8 @@ impl Position {
         Ok(text_of(alloc, self)?)
     }
 
-    /// Reads the text of a position. It refuses every other text with `BadPosition`, one with leading zeros, without the
-    /// line feed or with characters behind it too. It takes no memory.
+    /// Reads the text of a position. It refuses every other text with `BadPosition`, one with
+    /// leading zeros, without the line feed or with characters behind it too. It takes no memory.
     pub fn read(text: &[u8]) -> Result<Position, FileFault>
         ensures read { IfOk result (λ position. text.now ≡ position_text position) }
         ensures fault { IfErr result (λ fault. fault ≡ BadPosition) }

@@ -6,8 +6,8 @@ ghost use Rattle.age_file.specs.declared.position.Positions.TheVariants.{Kept};
 
 use crate::position::{Positions, next_link};
 
-/// How far a run has come: how many bytes it wrote, how many whole chunks before the last these make from the start of
-/// the text, and the chain over those, where positions are kept.
+/// How far a run has come: how many bytes it wrote, how many whole chunks before the last these
+/// make from the start of the text, and the chain over those, where positions are kept.
 #[derive(Clone, Copy, Debug, PartialEq, Eq)]
 pub(crate) struct Progress {
     pub(crate) written: u128,
@@ -60,7 +60,22 @@ impl Progress {
         }
     }
 
-    /// Counts the chunk that was written last, unless it was the last of its text: that leaves the index of the opener.
+    /// Counts a chunk that was written, unless it was the last of its text: that leaves the index
+    /// of the opener, and isn't linked.
+    pub(crate) fn count(&mut self, index: u64, chunk: &[u8])
+        requires { index < 281474976710656 }
+        ensures same { self.new.written ≡ self.old.written }
+        ensures counted { Advances self.old.index self.old.chain index
+            (link_if self.old.chain chunk.now) self.new }
+    {
+        if index <= self.index {
+            return;
+        }
+        let chain = self.chain_over(chunk);
+        self.advance(index, chain);
+    }
+
+    /// Counts a chunk whose link is known, likewise.
     pub(crate) fn advance(&mut self, index: u64, chain: Option<[u8; 32]>)
         requires { index < 281474976710656 }
         ensures same { self.new.written ≡ self.old.written }

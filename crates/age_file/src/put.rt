@@ -2,16 +2,15 @@
 
 ghost use Rattle.std.specs.Prelude.{◌≡◌, ◌+◌, ◌^◌, ◌<◌, length, IfErr, OnOk, MatchResult};
 ghost use Rattle.std.specs.Io.KnownBytes.{Keeps};
-ghost use Rattle.age_file.specs.Memory.{one_more};
+ghost use Rattle.age_io.specs.Memory.{one_more};
 ghost use Rattle.age_file.specs.Writes.{Writes};
 ghost use Rattle.age_file.specs.declared.fault.FileFault.TheVariants.{Write};
 
-use crate::failed::Failed;
 use crate::fault::FileFault;
-use crate::sink::Sink;
+use age_io::{Failed, Sink};
 
-/// Writes all of some bytes, and adds to `written` as many as the sink took. Where it fails, those that it took before
-/// are counted.
+/// Writes all of some bytes, and adds to `written` as many as the sink took. Where it fails, those
+/// that it took before are counted.
 pub fn put_all<O: Sink>(sink: &mut O, bytes: &[u8], written: &mut u128) -> Result<(), Failed>
     requires { written.old + length bytes.now < 2 ^ 128 }
     ensures writes { Writes (O.taken sink.old) (O.taken sink.new) (O.failed sink.old)

@@ -66,6 +66,7 @@ pub struct Report {
     pub stanzas: StanzaReports,
     /// How many bytes follow the header.
     pub rest: u128,
-    /// The length of the plaintext that so many bytes hold, or none where no lawful payload has that length.
+    /// The length of the plaintext that so many bytes hold, or none where no lawful payload has
+    /// that length.
     pub plain: Option<u128>,
 }

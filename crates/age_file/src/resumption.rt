@@ -1,19 +1,17 @@
 //! Goes on with a decryption that stopped.
 
-ghost use Rattle.std.specs.Prelude.{◌≡◌, ℕ, List, ◌^◌, ◌<◌, ◌≤◌, [], IfOk, OnOk, IfErr, MatchResult};
+ghost use Rattle.std.specs.Prelude.{◌≡◌, ◌^◌, ◌<◌, ◌≤◌, [], OnOk};
 ghost use Rattle.age_file.specs.inner.Releases.{tally};
 ghost use Rattle.age_file.specs.inner.Skips.{side};
 ghost use Rattle.age_file.specs.inner.Copies.{CopiesText};
 ghost use Rattle.age_file.specs.inner.Payloads.{stage};
 ghost use Rattle.age_file.specs.inner.ResumesPayload.{HasPulled, ResumesPayload};
 ghost use Rattle.age_file.specs.Ports.{ports};
-ghost use Rattle.age_file.specs.Decrypts.{WritesText, StopsOutside};
 ghost use Rattle.age_file.specs.declared.position.Positions.TheVariants.{Kept};
 ghost use Rattle.age_file.specs.inner.Bindings.{chain_if};
 ghost use Rattle.age_file.specs.inner.Verdicts.{VerdictOn};
 ghost use Rattle.age_file.specs.Resumes.{resume_ports};
-ghost use Rattle.age_file.specs.ResumeFaults.{ResumeEnds, ResumeStops};
-ghost use Rattle.age_file.specs.UndamagedRests.{IsUndamagedRest};
+ghost use Rattle.age_file.specs.ResumePromises.{ResumesText};
 ghost use Rattle.age_cipher.specs.Opening.{opening};
 
 use crate::copy::copy_chunks;
@@ -23,10 +21,9 @@ use crate::intake::Intake;
 use crate::payload::decrypt_payload;
 use crate::position::{Position, Positions, tag_of};
 use crate::progress::Progress;
-use crate::sink::Sink;
 use crate::skip::skip_blocks;
-use crate::source::Source;
 use crate::start::{Unlocked, start};
+use age_io::{Sink, Source};
 use age_keys::{PayloadKey, Unlock, payload_key, position_key};
 use age_stanza::one_header;
 use std::alloc::Global;
@@ -94,10 +91,11 @@ fn open_rest<S: Source, O: Sink>(
     ensures settled { OnOk result (O.settled writer.new) }
 {
     skip_blocks(reader, intake, index)?;
-    decrypt_payload::<PayloadKey, 65552, S, O>(key, index, reader, intake, writer, progress)
+    decrypt_payload(key, index, reader, intake, writer, progress)
 }
 
-/// Goes on with a decryption that stopped, and hands out the position of a stop: [`resume_with`], with positions kept.
+/// Goes on with a decryption that stopped, and hands out the position of a stop: [`resume_with`],
+/// with positions kept.
 pub fn resume<U: Unlock, S: Source, L: Source, O: Sink>(
     alloc: Global,
     unlock: &U,
@@ -106,7 +104,7 @@ pub fn resume<U: Unlock, S: Source, L: Source, O: Sink>(
     old_reader: &mut L,
     writer: &mut O,
 ) -> Result<Done, Stopped>
-    ensures done { IfOk result (ResumeEnds (U.allows unlock.now) position.now
+    ensures { ResumesText Kept (U.allows unlock.now) (U.refuses unlock.now) position.now
         (resume_ports
         (ports (S.remaining reader.old) (S.failed reader.old) (O.taken writer.old)
         (O.failed writer.old))
@@ -114,26 +112,8 @@ pub fn resume<U: Unlock, S: Source, L: Source, O: Sink>(
         (resume_ports
         (ports (S.remaining reader.new) (S.failed reader.new) (O.taken writer.new)
         (O.failed writer.new))
-        (L.remaining old_reader.new) (L.failed old_reader.new))) }
-    ensures stopped { IfErr result
-        (ResumeStops Kept (U.allows unlock.now) position.now (U.refuses unlock.now)
-        (resume_ports
-        (ports (S.remaining reader.old) (S.failed reader.old) (O.taken writer.old)
-        (O.failed writer.old))
-        (L.remaining old_reader.old) (L.failed old_reader.old))
-        (resume_ports
-        (ports (S.remaining reader.new) (S.failed reader.new) (O.taken writer.new)
-        (O.failed writer.new))
-        (L.remaining old_reader.new) (L.failed old_reader.new))) }
-    // The text of an age file that is undamaged, from a position of it, is written whole, unless reading, writing or memory
-    // fails.
-    ensures undamaged { (text : List ℕ) → IsUndamagedRest (U.allows unlock.now)
-        (U.refuses unlock.now) position.now (S.remaining reader.old)
-        (L.remaining old_reader.old) text → MatchResult result
-        (λ done. WritesText (O.taken writer.old) (O.taken writer.new) done.written text)
-        (λ stopped. StopsOutside stopped.fault) }
-    ensures settled { OnOk result (O.settled writer.new) }
-    ensures named { O.label writer.new ≡ O.label writer.old }
+        (L.remaining old_reader.new) (L.failed old_reader.new))
+        (O.settled writer.new) (O.label writer.old) (O.label writer.new) result }
 {
     resume_with(
         alloc,
@@ -146,16 +126,19 @@ pub fn resume<U: Unlock, S: Source, L: Source, O: Sink>(
     )
 }
 
-/// Goes on with a decryption that stopped, from its position: opens the file's header, copies the old text up to the
-/// position, passes over the blocks of that text, and writes each chunk behind them once the tag of its block was checked.
-/// What was written at the end is the whole text, not its rest alone.
+/// Goes on with a decryption that stopped, from its position: opens the file's header, copies the
+/// old text up to the position, passes over the blocks of that text, and writes each chunk behind
+/// them once the tag of its block was checked. What was written at the end is the whole text, not
+/// its rest alone.
 ///
-/// Up to the payload nonce it stops as [`decrypt_with`](crate::decrypt_with) does. Then it stops with `OtherFile` (24) where the
-/// position is of another file, and with `PositionForged` (30) where its tag isn't that of the file's key; nothing was
-/// written. `ShortText` (25) comes where the old text ended before the position, and `OldTextDiffers` (31) where its chunks
-/// aren't those that the position was made for; what was copied stands. `Truncated` (20) with its chunk comes where the
-/// source ends in the blocks that are passed over. Else it stops as `decrypt_with` does. A position is handed out once
-/// the old text was found to be the position's, where positions are kept. All memory is taken before the payload nonce is read.
+/// Up to the payload nonce it stops as [`decrypt_with`](crate::decrypt_with) does. Then it stops
+/// with `OtherFile` (24) where the position is of another file, and with `PositionForged` (30)
+/// where its tag isn't that of the file's key; nothing was written. `ShortText` (25) comes where
+/// the old text ended before the position, and `OldTextDiffers` (31) where its chunks aren't those
+/// that the position was made for; what was copied stands. `Truncated` (20) with its chunk comes
+/// where the source ends in the blocks that are passed over. Else it stops as `decrypt_with` does.
+/// A position is handed out once the old text was found to be the position's, where positions are
+/// kept. All memory is taken before the payload nonce is read.
 pub fn resume_with<U: Unlock, S: Source, L: Source, O: Sink>(
     alloc: Global,
     positions: Positions,
@@ -165,7 +148,7 @@ pub fn resume_with<U: Unlock, S: Source, L: Source, O: Sink>(
     old_reader: &mut L,
     writer: &mut O,
 ) -> Result<Done, Stopped>
-    ensures done { IfOk result (ResumeEnds (U.allows unlock.now) position.now
+    ensures { ResumesText positions (U.allows unlock.now) (U.refuses unlock.now) position.now
         (resume_ports
         (ports (S.remaining reader.old) (S.failed reader.old) (O.taken writer.old)
         (O.failed writer.old))
@@ -173,26 +156,8 @@ pub fn resume_with<U: Unlock, S: Source, L: Source, O: Sink>(
         (resume_ports
         (ports (S.remaining reader.new) (S.failed reader.new) (O.taken writer.new)
         (O.failed writer.new))
-        (L.remaining old_reader.new) (L.failed old_reader.new))) }
-    ensures stopped { IfErr result
-        (ResumeStops positions (U.allows unlock.now) position.now (U.refuses unlock.now)
-        (resume_ports
-        (ports (S.remaining reader.old) (S.failed reader.old) (O.taken writer.old)
-        (O.failed writer.old))
-        (L.remaining old_reader.old) (L.failed old_reader.old))
-        (resume_ports
-        (ports (S.remaining reader.new) (S.failed reader.new) (O.taken writer.new)
-        (O.failed writer.new))
-        (L.remaining old_reader.new) (L.failed old_reader.new))) }
-    // The text of an age file that is undamaged, from a position of it, is written whole, unless reading, writing or memory
-    // fails.
-    ensures undamaged { (text : List ℕ) → IsUndamagedRest (U.allows unlock.now)
-        (U.refuses unlock.now) position.now (S.remaining reader.old)
-        (L.remaining old_reader.old) text → MatchResult result
-        (λ done. WritesText (O.taken writer.old) (O.taken writer.new) done.written text)
-        (λ stopped. StopsOutside stopped.fault) }
-    ensures settled { OnOk result (O.settled writer.new) }
-    ensures named { O.label writer.new ≡ O.label writer.old }
+        (L.remaining old_reader.new) (L.failed old_reader.new))
+        (O.settled writer.new) (O.label writer.old) (O.label writer.new) result }
 {
     one_header();
     let (Ok(mut intake), Ok(mut old_intake)) = (Intake::new(alloc), Intake::new(alloc)) else {
@@ -206,6 +171,7 @@ pub fn resume_with<U: Unlock, S: Source, L: Source, O: Sink>(
         Ok(()) => {}
         Err(fault) => return Err(Stopped::early(fault)),
     }
+    old_intake.count_on(&intake);
     let mut progress = Progress::new(Positions::Kept);
     match copy_old(
         positions,
@@ -218,6 +184,7 @@ pub fn resume_with<U: Unlock, S: Source, L: Source, O: Sink>(
         Ok(()) => {}
         Err(fault) => return Err(Stopped::behind(fault, &progress, None)),
     }
+    intake.count_on(&old_intake);
     let key = payload_key(&unlocked.key, &unlocked.nonce);
     match open_rest(
         &key,

@@ -5,8 +5,8 @@ ghost use Rattle.age_file.specs.Secrets.{SecretView, IsWithinLimits};
 
 use std::marker::Model;
 
-/// What an age file for a passphrase is made of. Salt, file key and payload nonce have to be new random bytes for each
-/// file; nothing here can see that they are. A contract sees all five parts.
+/// What an age file for a passphrase is made of. Salt, file key and payload nonce have to be new
+/// random bytes for each file; nothing here can see that they are. A contract sees all five parts.
 #[derive(Drop)]
 pub struct Secret<'a> {
     pub(crate) pass: &'a [u8],
@@ -31,8 +31,8 @@ impl<'a> Model for Secret<'a> {
 }
 
 impl<'a> Secret<'a> {
-    /// The secret of these parts; `None` where the passphrase has no byte or more than 65,536, or the work factor isn't 1
-    /// to 22.
+    /// The secret of these parts; `None` where the passphrase has no byte or more than 65,536, or
+    /// the work factor isn't 1 to 22.
     pub fn new(
         pass: &'a [u8],
         log: u32,

@@ -4,8 +4,8 @@ ghost use Rattle.age_file.specs.inner.Skips.{side, SkipsBlock, SkipsBlocks};
 
 use crate::fault::FileFault;
 use crate::intake::Intake;
-use crate::source::Source;
 use crate::start::some_bytes;
+use age_io::Source;
 use age_stream::{StreamFault, StreamKind};
 
 /// The bytes of a block of a whole chunk.

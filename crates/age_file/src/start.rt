@@ -8,7 +8,7 @@ use crate::fault::FileFault;
 use crate::head::read_head;
 use crate::intake::Intake;
 use crate::position::file_id;
-use crate::source::Source;
+use age_io::Source;
 use age_keys::{FileKey, Unlock, open_header};
 use age_stanza::{encode_head, one_header};
 use std::alloc::Global;

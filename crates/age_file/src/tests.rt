@@ -13,8 +13,8 @@ use std::alloc::Global;
 use std::process::Abort;
 use std::test::Fail;
 
-// By python's hashlib, hmac and cryptography: the file key is the bytes 0 to 15, the payload nonce 100 to 115, and the one
-// stanza, of type `x`, has an empty body.
+// By python's hashlib, hmac and cryptography: the file key is the bytes 0 to 15, the payload nonce
+// 100 to 115, and the one stanza, of type `x`, has an empty body.
 const KEY: [u8; 16] = [0, 1, 2, 3, 4, 5, 6, 7, 8, 9, 10, 11, 12, 13, 14, 15];
 
 const NONCE: [u8; 16] = [
@@ -42,7 +42,8 @@ const FILE_ID: [u8; 32] = [
     150, 90, 142, 141, 100, 171, 154, 230, 80, 58, 59, 114,
 ];
 
-/// The chain over no chunk, over one and over two of those bytes, and the tag of the position there.
+/// The chain over no chunk, over one and over two of those bytes, and the tag of the position
+/// there.
 const POSITIONS: [([u8; 32], [u8; 32]); 3] = [
     (
         [

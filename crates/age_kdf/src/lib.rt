@@ -20,12 +20,12 @@ use sha2::{Digest, Sha256};
 #[cfg(test)]
 mod tests;
 
-// The bytes that the two pads repeat (RFC 2104, section 2).
+/// The bytes that the two pads repeat (RFC 2104, section 2).
 const INNER_PAD: u8 = 0x36;
 
 const OUTER_PAD: u8 = 0x5c;
 
-// At most 64 bytes, followed by zeros up to a block of SHA-256.
+/// At most 64 bytes, followed by zeros up to a block of SHA-256.
 fn zero_filled(key: &[u8]) -> [u8; 64]
     requires { length key.now ≤ 64 }
     ensures { result ≡ zero_filled key.now }
@@ -35,7 +35,7 @@ fn zero_filled(key: &[u8]) -> [u8; 64]
     block
 }
 
-// The key as a block. A key longer than a block stands as its digest first.
+/// The key as a block. A key longer than a block stands as its digest first.
 #[tactic(auto, unfolding(crate::specs::Hmac::key_block), using(std::proofs::lemmas::Bool::Decides::nat_tests))]
 fn key_block(key: &[u8]) -> [u8; 64]
     ensures { result ≡ key_block key.now }
@@ -47,14 +47,14 @@ fn key_block(key: &[u8]) -> [u8; 64]
     }
 }
 
-// The exclusive or of a block and the pad that repeats a byte.
+/// The exclusive or of a block and the pad that repeats a byte.
 fn xor_pad(block: &[u8; 64], pad: u8) -> [u8; 64]
     ensures { result ≡ xor_pad pad block.now }
 {
     block.map(|byte| byte ^ pad)
 }
 
-// The HMAC of a message under each key that has this block.
+/// The HMAC of a message under each key that has this block.
 fn hmac_of_block(block: &[u8; 64], parts: &[&[u8]]) -> [u8; 32]
     ensures { (key : List ℕ) → block.now ≡ key_block key
         → result ≡ hmac key (concat (map (λ part. part.now) parts.now)) }
@@ -91,7 +91,7 @@ pub fn hkdf32(ikm: &[u8], salt: &[u8], info: &[u8]) -> [u8; 32]
     hmac(&prk, &[info, &[1]])
 }
 
-// The block of number `i`, from 1, for each passphrase that has this key block.
+/// The block of number `i`, from 1, for each passphrase that has this key block.
 fn pbkdf2_block(block: &[u8; 64], salt: &[u8], i: u32) -> [u8; 32]
     ensures { (pass : List ℕ) → block.now ≡ key_block pass
         → result ≡ pbkdf2_block pass salt.now i }

@@ -5,7 +5,8 @@ use Rattle.age_keys.specs.Opened.{AllowsAlone}
 use Rattle.age_keys.specs.Passphrase.{Words, IsPassphraseKey, PassphraseRefuses}
 use Rattle.age_keys.specs.Scrypt.{scrypt_head}
 
--- the passphrase that a header was made for finds the file key in it and nothing else, where the limit allows the work factor
+-- the passphrase that a header was made for finds the file key in it and nothing else, where the
+-- limit allows the work factor
 abbrev pub PassphraseOpens : Type 0
 PassphraseOpens =
     (w : Words) (log : ℕ) (salt key : List ℕ) → 1 ≤ log → log ≤ 22 → log ≤ w.max_log

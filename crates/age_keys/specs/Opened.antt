@@ -12,8 +12,8 @@ pub record Opens (Allows : Header → List ℕ → Type 0) (h : Header) (key : L
   pub mac : IsMacOf h key
   pub size : length key ≡ 16
 
--- the fault may be answered for it; want of memory, where the unlocker may answer that, or some key whose MAC was to be
--- computed
+-- the fault may be answered for it; want of memory, where the unlocker may answer that, or some key
+-- whose MAC was to be computed
 abbrev pub Refuses : (Header → List ℕ → Type 0) → (Header → KeyFault → Type 0) → Header
     → KeyFault → Type 0
 Refuses Allows Refused h fault =

@@ -9,11 +9,13 @@ use Rattle.age_stanza.specs.Text.{text}
 use Rattle.age_scrypt.specs.Scrypt.{scrypt}
 use Rattle.age_keys.specs.Keys.{header_mac, wrapped}
 
--- the key that a file key is wrapped under: scrypt of the passphrase, salted with a label and the stanza's salt
+-- the key that a file key is wrapped under: scrypt of the passphrase, salted with a label and the
+-- stanza's salt
 unfoldable pub wrap_key : List ℕ → List ℕ → ℕ → List ℕ
 wrap_key pass salt log = scrypt pass (codes "age-encryption.org/v1/scrypt" ++ salt) log
 
--- the characters of a work factor: decimal digits, as many as there may be, and the first isn't zero
+-- the characters of a work factor: decimal digits, as many as there may be, and the first isn't
+-- zero
 pub record IsWorkFactor (characters : List ℕ) : Type 0 where
   pub digits : IsNumeral 10 characters
   pub no_leading_zero : slice_index characters 0 ≢ 48
@@ -40,7 +42,8 @@ unfoldable pub scrypt_stanza : List ℕ → ℕ → List ℕ → Stanza
 scrypt_stanza salt log body =
     record { args = codes "scrypt" ∷ text salt ∷ decimal log ∷ []; body = body }
 
--- the header of that one stanza, whose body is the file key wrapped under the passphrase, with the file key's MAC, which covers the stanza alone
+-- the header of that one stanza, whose body is the file key wrapped under the passphrase, with the
+-- file key's MAC, which covers the stanza alone
 unfoldable pub scrypt_head : List ℕ → ℕ → List ℕ → List ℕ → Header
 scrypt_head pass log salt key =
     let stanzas = scrypt_stanza salt log (wrapped (wrap_key pass salt log) key) ∷ [] in

@@ -1,4 +1,5 @@
--- What a shared secret finds in a header, and what it refuses (C2SP age.md, "The X25519 recipient type").
+-- What a shared secret finds in a header, and what it refuses (C2SP age.md, "The X25519 recipient
+-- type").
 use Rattle.std.specs.Prelude.{◌≡◌, ◌⊎◌, ℕ, Bool, true, false, List, ◌∷◌, ◌++◌, Any, replicate, codes}
 use Rattle.std.specs.List.{list_any, AllByRecursion}
 use Rattle.age_stanza.specs.declared.header.Stanza.{Stanza}
@@ -14,7 +15,8 @@ pub record Shared : Type 0 where
   pub secret : List ℕ
   pub recipient : List ℕ
 
--- the key that a file key is wrapped under: HKDF of the shared secret, salted with the stanza's share and the recipient
+-- the key that a file key is wrapped under: HKDF of the shared secret, salted with the stanza's
+-- share and the recipient
 unfoldable pub shared_wrap_key : Shared → List ℕ → List ℕ
 shared_wrap_key x share =
     hkdf32 x.secret (share ++ x.recipient) (codes "age-encryption.org/v1/X25519")

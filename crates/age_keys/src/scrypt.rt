@@ -1,16 +1,19 @@
-//! The scrypt stanza.
+//! The scrypt stanza (C2SP age.md, "The scrypt recipient type"): read and written.
 
-ghost use Rattle.std.specs.Prelude.{◌≡◌, ◌≤◌, [], ◌∷◌, length, IfOk, IfErr};
+ghost use Rattle.std.specs.Prelude.{◌≡◌, ◌≤◌, ◌↔◌, ℕ, List, [], ◌∷◌, length, min, IsTrue, IfSome, IfNone, IfOk, IfErr};
+ghost use Rattle.std.specs.Char.{is_ascii_digit};
+ghost use Rattle.std.specs.List.{list_all};
+ghost use Rattle.std.specs.Str.Parse.{digits_value};
 ghost use Rattle.age_stanza.specs.Grammar.{HasText};
-ghost use Rattle.age_keys.specs.Scrypt.{wrap_key, scrypt_stanza, scrypt_head};
+ghost use Rattle.age_keys.specs.Scrypt.{IsWorkFactor, IsScryptStanza, wrap_key, scrypt_stanza, scrypt_head};
 ghost use Rattle.age_keys.specs.declared.fault.KeyFault.TheVariants.{Memory};
 
 use crate::fault::KeyFault;
 use crate::key::FileKey;
-use crate::open::mac_of;
+use crate::open::{is_scrypt, mac_of};
 use crate::wrap::wrapped;
 use age_scrypt::Steps;
-use age_stanza::{Arguments, Bytes, Header, Stanza, Stanzas};
+use age_stanza::{Arguments, Bytes, Header, Stanza, Stanzas, read_base64};
 use base64::engine::general_purpose::STANDARD_NO_PAD;
 use std::alloc::{AllocError, Global};
 
@@ -36,6 +39,72 @@ pub(crate) fn wrap_key(
     match age_scrypt::derive(alloc, pass, &labelled, log, &mut Steps::new()) {
         Ok(key) => Ok(key),
         Err(_) => Err(KeyFault::Memory),
+    }
+}
+
+/// Whether all characters are decimal digits.
+fn are_digits(characters: &[u8]) -> bool
+    ensures { result ≡ list_all is_ascii_digit characters.now }
+{
+    characters.iter().all(u8::is_ascii_digit)
+}
+
+/// Whether characters are those of a work factor: decimal digits, of which the first isn't zero.
+fn is_work_factor(characters: &[u8]) -> bool
+    ensures { IsTrue result ↔ IsWorkFactor characters.now }
+{
+    match characters {
+        [first, ..] => *first != b'0' && are_digits(characters),
+        [] => false,
+    }
+}
+
+/// The number that the characters spell, or the greatest `u32` where it is above that.
+fn number_of(characters: &[u8]) -> u32
+    requires { IsWorkFactor characters.now }
+    ensures { result ≡ min (digits_value 10 characters.now) 4294967295 }
+{
+    let mut number: u32 = 0;
+    for c in characters {
+        number = number
+            .saturating_mul(10)
+            .saturating_add(u32::from(*c - b'0'));
+    }
+    number
+}
+
+/// A scrypt stanza (C2SP age.md, "The scrypt recipient type"): `-> scrypt SALT LOG` and a body.
+#[derive(Clone, Copy)]
+pub(crate) struct ScryptStanza {
+    pub salt: [u8; 16],
+    /// The work factor, or the greatest `u32` where it is above that.
+    pub log: u32,
+    pub body: [u8; 32],
+}
+
+impl ScryptStanza {
+    /// Reads a stanza of type `scrypt`; `None` where it isn't of the lawful shape.
+    pub(crate) fn read(stanza: &Stanza) -> Option<ScryptStanza>
+        ensures read { IfSome result (λ read. (log : ℕ) × (read.log ≡ min log 4294967295)
+            × IsScryptStanza stanza.now read.salt log read.body) }
+        ensures none { IfNone result ((salt : List ℕ) (log : ℕ) (body : List ℕ)
+            → IsScryptStanza stanza.now salt log body → ⊥) }
+    {
+        let [_, salt, log] = stanza.args.as_slice() else {
+            return None;
+        };
+        let mut bytes = [0; 16];
+        if !is_scrypt(stanza)
+            || !read_base64(salt.as_slice(), &mut bytes)
+            || !is_work_factor(log.as_slice())
+        {
+            return None;
+        }
+        Some(ScryptStanza {
+            salt: bytes,
+            log: number_of(log.as_slice()),
+            body: *stanza.body.as_slice().as_array::<32>()?,
+        })
     }
 }
 

@@ -1,3 +1,5 @@
+ghost use Rattle.std.specs.Prelude.{◌≤◌, length};
+
 use super::*;
 use age_stanza::{HeadParser, HeadStep, Header, is_header};
 use age_stream::ChunkBox;
@@ -90,4 +92,25 @@ fn refuses_31_digits(rt: HostRuntime) {
     assert!(rt; KnownKey::read("000102030405060708090a0b0c0d0e0").is_none());
     assert_eq!(rt; KeyFault::BadX25519.number(), 15);
     assert!(rt; KeyFault::BadX25519.place().is_none());
+}
+
+/// The key that a passphrase opens a header of its own with.
+fn opened(alloc: Global, pass: &[u8]) -> Result<[u8; 16], KeyFault>
+    requires least { 1 ≤ length pass.now }
+    requires most { length pass.now ≤ 65536 }
+{
+    let header = scrypt_header(alloc, pass, 1, &[9; 16], &FileKey::new([7; 16]))?;
+    let Some(passphrase) = Passphrase::new(pass, 1) else {
+        return Err(KeyFault::WrongKey);
+    };
+    Ok(*open_header(alloc, &header, &passphrase)?.bytes())
+}
+
+// `checks/allocations` runs it with each allocation refused in turn: the call that meets the
+// refusal says so, and the next one answers as ever.
+#[test]
+fn a_refusal_is_reported(rt: HostRuntime) {
+    let first = opened(rt.alloc(), b"correct horse");
+    assert!(rt; first == Ok([7; 16]) || first == Err(KeyFault::Memory));
+    assert!(rt; first.is_ok() || opened(rt.alloc(), b"correct horse") == Ok([7; 16]));
 }

@@ -1,4 +1,5 @@
--- ROMix with r = 8 (RFC 7914, section 5), on lists of 256 words. It has no table: V i is said outright.
+-- ROMix with r = 8 (RFC 7914, section 5), on lists of 256 words. It has no table: V i is said
+-- outright.
 use Rattle.std.specs.Prelude.{ℕ, zero, suc, ◌+◌, ◌*◌, ◌%◌, ◌^◌, List, [], ◌∷◌}
 use Rattle.age_scrypt.specs.BlockMix.{part, xor_words, block_mix}
 

@@ -1,4 +1,5 @@
-// BlockMix with r = 8 (RFC 7914, section 4), from one turned block into another.
+//! BlockMix with r = 8 (RFC 7914, section 4), from one turned block into another.
+
 ghost use Rattle.std.specs.Prelude.{◌≡◌, ℕ, ◌+◌, List, length};
 ghost use Rattle.age_scrypt.specs.BlockMix.{block_mix};
 ghost use Rattle.age_scrypt.specs.inner.Turned.{IsTurned};

@@ -1,4 +1,5 @@
-// A part of a block: sixteen words in four vectors.
+//! A part of a block: sixteen words in four vectors.
+
 ghost use Rattle.std.specs.Prelude.{◌≡◌, ◌≢◌, ℕ, ◌+◌, ◌<◌, ◌≤◌, ◌++◌, length, take, drop};
 ghost use Rattle.std.specs.Simd.Lanes.{zip2};
 ghost use Rattle.age_scrypt.specs.Salsa.{add32};
@@ -19,7 +20,7 @@ pub(crate) struct Part {
     ghost d_len: { length d ≡ 4 },
 }
 
-// Four words from a place on.
+/// Four words from a place on.
 #[inline(always)]
 fn read_row(words: &[u32], at: usize) -> u32x4
     requires { at + 4 ≤ length words.now }
@@ -28,7 +29,7 @@ fn read_row(words: &[u32], at: usize) -> u32x4
     u32x4::from_slice(&words[at..at + 4])
 }
 
-// Writes four words from a place on.
+/// Writes four words from a place on.
 #[inline(always)]
 fn write_row(words: &mut [u32], at: usize, row: u32x4)
     requires { at + 4 ≤ length words.old }

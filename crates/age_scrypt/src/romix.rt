@@ -1,4 +1,5 @@
-// ROMix with r = 8 (RFC 7914, section 5), over one flat table of words.
+//! ROMix with r = 8 (RFC 7914, section 5), over one flat table of words.
+
 ghost use Rattle.std.specs.Prelude.{◌≡◌, ℕ, ◌+◌, ◌*◌, ◌%◌, ◌^◌, ◌<◌, ◌≤◌, List, length, vec_len, vec_capacity};
 ghost use Rattle.age_scrypt.specs.BlockMix.{xor_words};
 ghost use Rattle.age_scrypt.specs.Romix.{mixed_times, integerify, romix};
@@ -21,7 +22,7 @@ pub(crate) fn block_count(log: u32) -> usize
     1 << log
 }
 
-// Writes the exclusive or of two blocks over a third.
+/// Writes the exclusive or of two blocks over a third.
 fn xor_blocks(x: &[u32], y: &[u32], to: &mut [u32])
     requires x { length x.now ≡ 256 }
     requires y { length y.now ≡ 256 }
@@ -33,8 +34,8 @@ fn xor_blocks(x: &[u32], y: &[u32], to: &mut [u32])
     }
 }
 
-// The place in a table of `n` blocks of the one that the turned block `x` asks for. The lowest word
-// says it, since 2^32 is a multiple of `n`, and it is where it was before the turn.
+/// The place in a table of `n` blocks of the one that the turned block `x` asks for. The lowest
+/// word says it, since 2^32 is a multiple of `n`, and it is where it was before the turn.
 fn place_of(x: &[u32], n: usize) -> usize
     requires x { length x.now ≡ 256 }
     requires n { 2 ^ 32 % n ≡ 0 }
@@ -45,7 +46,7 @@ fn place_of(x: &[u32], n: usize) -> usize
     x[240] as usize % n
 }
 
-// Fills a table that has room for `n` turned blocks: block `i` is `x` mixed `i` times.
+/// Fills a table that has room for `n` turned blocks: block `i` is `x` mixed `i` times.
 fn fill(table: &mut Vec<u32>, x: &mut [u32], n: usize, steps: &mut Steps)
     requires empty { vec_len table.old ≡ 0 }
     requires room { 256 * n ≤ vec_capacity table.old }
@@ -63,7 +64,7 @@ fn fill(table: &mut Vec<u32>, x: &mut [u32], n: usize, steps: &mut Steps)
     }
 }
 
-// Looks up as many blocks as the table has.
+/// Looks up as many blocks as the table has.
 fn look_up(table: &[u32], x: &mut [u32], y: &mut [u32], n: usize, steps: &mut Steps)
     requires table { length table.now ≡ 256 * n }
     requires x { length x.old ≡ 256 }

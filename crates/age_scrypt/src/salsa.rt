@@ -1,8 +1,9 @@
-// The Salsa20/8 core (RFC 7914, section 3), on vectors of four words.
-//
-// Of sixteen words as four rows of four, the diagonals stand in four vectors, each word in the lane
-// of its column. So the four quarter rounds of the columns are one on vectors. The rows of a matrix
-// are the columns of its transpose, whose diagonals are the same words, in other lanes.
+//! The Salsa20/8 core (RFC 7914, section 3), on vectors of four words.
+//!
+//! Of sixteen words as four rows of four, the diagonals stand in four vectors, each word in the
+//! lane of its column. So the four quarter rounds of the columns are one on vectors. The rows of a
+//! matrix are the columns of its transpose, whose diagonals are the same words, in other lanes.
+
 ghost use Rattle.std.specs.Prelude.{◌≡◌, ℕ, ◌<◌, List, [], ◌∷◌, length, map, bit_xor, slice_index};
 ghost use Rattle.std.specs.Int.{w32, rotate_left};
 ghost use Rattle.std.specs.Simd.Lanes.{zip2};
@@ -13,7 +14,7 @@ ghost use Rattle.age_scrypt.specs.inner.Turned.{turned};
 use crate::part::Part;
 use std::simd::u32x4;
 
-// `b` xor the sum of `x` and `y`, rotated to the left by `K` bits.
+/// `b` xor the sum of `x` and `y`, rotated to the left by `K` bits.
 #[inline(always)]
 fn xor_rotated<const K: u32>(b: u32x4, x: u32x4, y: u32x4) -> u32x4
     requires some { 0 < K }
@@ -24,7 +25,7 @@ fn xor_rotated<const K: u32>(b: u32x4, x: u32x4, y: u32x4) -> u32x4
     b ^ ((sum << u32x4::splat(K)) | (sum >> u32x4::splat(32 - K)))
 }
 
-// A quarter round on each lane.
+/// A quarter round on each lane.
 #[inline(always)]
 fn quarter(p: Part) -> Part
     ensures a { result.a ≡ map (λ q. q.0) (quarters p.a p.b p.c p.d) }
@@ -40,7 +41,7 @@ fn quarter(p: Part) -> Part
     Part { a, b, c, d }
 }
 
-// The diagonals of the transpose.
+/// The diagonals of the transpose.
 #[inline(always)]
 fn transposed(p: Part) -> Part
     ensures { (x : List ℕ) → IsDiagonals x p → IsDiagonals (transpose x) result }
@@ -53,7 +54,7 @@ fn transposed(p: Part) -> Part
     }
 }
 
-// The columns, and then the rows.
+/// The columns, and then the rows.
 #[inline(always)]
 fn double_round(p: Part) -> Part
     ensures { (x : List ℕ) → length x ≡ 16 → IsDiagonals x p
@@ -62,7 +63,7 @@ fn double_round(p: Part) -> Part
     transposed(quarter(transposed(quarter(p))))
 }
 
-// The even lanes of `x` and the odd ones of `y`.
+/// The even lanes of `x` and the odd ones of `y`.
 #[inline(always)]
 fn alternate(x: u32x4, y: u32x4) -> u32x4
     ensures { result ≡ slice_index x 0 ∷ slice_index y 1 ∷ slice_index x 2 ∷ slice_index y 3 ∷ [] }
@@ -70,7 +71,7 @@ fn alternate(x: u32x4, y: u32x4) -> u32x4
     x.shuffle(y, [0, 5, 2, 7])
 }
 
-// The first half of `x` and the second of `y`.
+/// The first half of `x` and the second of `y`.
 #[inline(always)]
 fn halves(x: u32x4, y: u32x4) -> u32x4
     ensures { result ≡ slice_index x 0 ∷ slice_index x 1 ∷ slice_index y 2 ∷ slice_index y 3 ∷ [] }
@@ -78,7 +79,7 @@ fn halves(x: u32x4, y: u32x4) -> u32x4
     x.shuffle(y, [0, 1, 6, 7])
 }
 
-// From rows to diagonals. Each word stays in its lane.
+/// From rows to diagonals. Each word stays in its lane.
 #[inline(always)]
 pub(crate) fn diagonals(p: Part) -> Part
     ensures { (x : List ℕ) → IsRows x p → IsDiagonals x result }
@@ -93,7 +94,7 @@ pub(crate) fn diagonals(p: Part) -> Part
     }
 }
 
-// From diagonals to rows.
+/// From diagonals to rows.
 #[inline(always)]
 pub(crate) fn rows(p: Part) -> Part
     ensures { (x : List ℕ) → IsDiagonals x p → IsRows x result }

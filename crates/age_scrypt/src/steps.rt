@@ -1,10 +1,11 @@
-// The count of BlockMix steps.
+//! The count of BlockMix steps.
+
 ghost use Rattle.std.specs.Prelude.{◌≡◌, ℕ, ◌+◌};
 ghost use Rattle.std.specs.Borrow.{ftrue};
 
 use std::marker::Model;
 
-// A number that no code holds: the proofs of `zero` and `raise` set it.
+/// A number that no code holds: the proofs of `zero` and `raise` set it.
 #[derive(Drop)]
 struct Count {
     pub ghost number: { ℕ },

@@ -1,5 +1,6 @@
-// A block whose parts are kept as their diagonals, so that BlockMix has no words to move. ROMix turns
-// its block once at its entry, and back at its exit.
+//! A block whose parts are kept as their diagonals, so that BlockMix has no words to move. ROMix
+//! turns its block once at its entry, and back at its exit.
+
 ghost use Rattle.std.specs.Prelude.{◌≡◌, List, ℕ, length};
 ghost use Rattle.age_scrypt.specs.inner.Turned.{IsTurned};
 

@@ -153,6 +153,16 @@ longer_partial place bytes lines l more known lined fits room =
       within = room;
     }
 
+-- the same, where so much is held
+pub whole_partial : (place : Place) (bytes lines : ℕ) (l more held : List ℕ) → IsPartial place l bytes lines → retold place ++ l ≡ held → IsLine more → IsBytes more
+    → length held + length more ≤ 1048576 → IsPartial place (l ++ more) (bytes + length more) lines
+whole_partial place bytes lines l more held known is lined fits room =
+    let size = known.size in
+    longer_partial place bytes lines l more known lined fits (omega (arith, ap length is))
+
+pub whole_held : (place : Place) (l more held : List ℕ) → retold place ++ l ≡ held → retold place ++ (l ++ more) ≡ held ++ more
+whole_held place l more held is = sym (append_assoc (retold place) l more) ∙ ap (λ (t : List ℕ). t ++ more) is
+
 -- nothing came yet
 pub new_partial : IsPartial Start [] 0 0
 new_partial = record {

@@ -1,6 +1,6 @@
--- Where the first line of some bytes ends.
+-- Where the first line of some bytes ends, and the first argument of a line.
 use Rattle.std.proofs.Common.{◌≡◌, ℕ, zero, suc, ◌<◌, ◌≤◌, ◌+◌, ◌-◌, false, eqb, List, [], ◌∷◌, ◌++◌, length, get_or, take, drop, Some, None, sym, ap, ◌∙◌, arith, inl, inr}
-use Rattle.std.specs.List.{position, position_from}
+use Rattle.std.specs.List.{AllByRecursion, position, position_from}
 use Rattle.std.proofs.lemmas.Bool.{eqb-true, eqb-false}
 use Rattle.std.proofs.lemmas.Iterator.Adapters.{position_from-zero}
 use Rattle.std.proofs.lemmas.List.{append_assoc, take-append-drop, drop_more, drop-drop, length-drop}
@@ -13,38 +13,49 @@ use Rattle.age_stanza.specs.Faults.{IsLine, memory_fault}
 use Rattle.age_stanza.specs.inner.LineMachine.{walk, ready, faulty}
 use Rattle.age_stanza.proofs.Lines.{chosen}
 
-line_of_front : (i : ℕ) (xs : List ℕ) → ((k : ℕ) → k < i → eqb (get_or xs k 0) 10 ≡ false) → IsLine (take i xs)
-line_of_front zero xs other = tt
-line_of_front (suc i) [] other = tt
-line_of_front (suc i) (x ∷ xs) other = (eqb-false x 10 (other 0 (omega arith)), line_of_front i xs (λ k lt. other (suc k) (omega arith)))
+part_of_front : (mark i : ℕ) (xs : List ℕ) → ((k : ℕ) → k < i → eqb (get_or xs k 0) mark ≡ false) → AllByRecursion (λ c. c ≡ mark → ⊥) (take i xs)
+part_of_front mark zero xs other = tt
+part_of_front mark (suc i) [] other = tt
+part_of_front mark (suc i) (x ∷ xs) other = (eqb-false x mark (other 0 (omega arith)), part_of_front mark i xs (λ k lt. other (suc k) (omega arith)))
 
--- the first line, and what follows its LF
-pub record FirstLine (xs : List ℕ) (i : ℕ) : Type 0 where
+-- the first part, in which no mark stands, and what follows the mark behind it
+pub record FirstPart (mark : ℕ) (xs : List ℕ) (i : ℕ) : Type 0 where
   pub within : i < length xs
-  pub one_line : IsLine (take i xs)
-  pub parts : xs ≡ take i xs ++ 10 ∷ drop (i + 1) xs
+  pub one_line : AllByRecursion (λ c. c ≡ mark → ⊥) (take i xs)
+  pub parts : xs ≡ take i xs ++ mark ∷ drop (i + 1) xs
 
-pub first_line : (xs : List ℕ) (i : ℕ) → position (λ c. eqb c 10) xs ≡ Some i → FirstLine xs i
-first_line xs i e =
-    let known = position-Some (λ c. eqb c 10) xs i 0 e in
+pub first_part : (mark : ℕ) (xs : List ℕ) (i : ℕ) → position (λ c. eqb c mark) xs ≡ Some i → FirstPart mark xs i
+first_part mark xs i e =
+    let known = position-Some (λ c. eqb c mark) xs i 0 e in
     let within : i < length xs = known.0 in
-    let lf : get_or xs i 0 ≡ 10 = eqb-true (get_or xs i 0) 10 known.1 in
+    let at : get_or xs i 0 ≡ mark = eqb-true (get_or xs i 0) mark known.1 in
     record {
       within = known.0;
-      one_line = line_of_front i xs known.2;
-      parts = sym (take-append-drop i xs) ∙ ap (λ (t : List ℕ). take i xs ++ t) (drop_more xs i 0 within ∙ ap (λ n. n ∷ drop (i + 1) xs) lf);
+      one_line = part_of_front mark i xs known.2;
+      parts = sym (take-append-drop i xs) ∙ ap (λ (t : List ℕ). take i xs ++ t) (drop_more xs i 0 within ∙ ap (λ n. n ∷ drop (i + 1) xs) at);
     }
 
-no_line_from : (n : ℕ) (xs : List ℕ) → position_from (λ c. eqb c 10) n xs ≡ None → IsLine xs
-no_line_from n [] e = tt
-no_line_from n (x ∷ xs) e = elim (chosen (eqb x 10) (Some n) (position_from (λ c. eqb c 10) (n + 1) xs) None e) [
+no_part_from : (mark n : ℕ) (xs : List ℕ) → position_from (λ c. eqb c mark) n xs ≡ None → AllByRecursion (λ c. c ≡ mark → ⊥) xs
+no_part_from mark n [] e = tt
+no_part_from mark n (x ∷ xs) e = elim (chosen (eqb x mark) (Some n) (position_from (λ c. eqb c mark) (n + 1) xs) None e) [
   | inl h ↦ absurd (cc (h.1))
-  | inr h ↦ (eqb-false x 10 h.0, no_line_from (n + 1) xs h.1)
+  | inr h ↦ (eqb-false x mark h.0, no_part_from mark (n + 1) xs h.1)
 ]
+
+-- where no mark stands, all is one part
+pub no_part : (mark : ℕ) (xs : List ℕ) → position (λ c. eqb c mark) xs ≡ None → AllByRecursion (λ c. c ≡ mark → ⊥) xs
+no_part mark xs e = no_part_from mark 0 xs (sym (position_from-zero (λ c. eqb c mark) xs) ∙ e)
+
+-- the first line, and what follows its LF
+abbrev pub FirstLine : List ℕ → ℕ → Type 0
+FirstLine xs i = FirstPart 10 xs i
+
+pub first_line : (xs : List ℕ) (i : ℕ) → position (λ c. eqb c 10) xs ≡ Some i → FirstLine xs i
+first_line xs i e = first_part 10 xs i e
 
 -- where no LF stands, all is one line
 pub no_line : (xs : List ℕ) → position (λ c. eqb c 10) xs ≡ None → IsLine xs
-no_line xs e = no_line_from 0 xs (sym (position_from-zero (λ c. eqb c 10) xs) ∙ e)
+no_line xs e = no_part 10 xs e
 
 -- ---- the loop over lines: what is left of the bytes, and what was read
 

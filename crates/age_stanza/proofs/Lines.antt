@@ -20,6 +20,10 @@ pub chosen : {A : Type 0} (b : Bool) (x y z : A) → cond b x y ≡ z → ((b �
 chosen true x y z e = inl (refl, e)
 chosen false x y z e = inr (refl, e)
 
+known_test : (b : Bool) → cond b true false ≡ b
+known_test true = refl
+known_test false = refl
+
 -- ---- what a line starts with
 
 pub starts_at : (s p : List ℕ) → starts_with nat_eq s p ≡ true → s ≡ p ++ drop (length p) s
@@ -124,6 +128,63 @@ arguments_complete done word (c ∷ cs) ws some visible args =
     let pass : (leb 33 c && leb c 126) ≡ true = and_from (leb 33 c) (leb c 126) (le-leb 33 c seen.0) (le-leb c 126 seen.1) in
     let longer : 0 < length ((word ++ c ∷ []) ++ cs) = rw append_assoc some in
     rw (space, pass) (arguments_complete done (word ++ c ∷ []) cs ws longer visible.1 args ∙ ap (λ (xs : List ℕ). Some (done ++ xs ∷ ws)) (append_assoc word (c ∷ []) cs))
+
+-- the letters of a word, and what follows it
+word_read : (done : List (List ℕ)) (word w cs : List ℕ) → AllByRecursion IsVisible w → arguments_from done word (w ++ cs) ≡ arguments_from done (word ++ w) cs
+unfolding arguments_from
+word_read done word [] cs visible = ap (λ (xs : List ℕ). arguments_from done xs cs) (sym (append-nil word))
+word_read done word (c ∷ w) cs visible =
+    let seen : IsVisible c = visible.0 in
+    let space : eqb c 32 ≡ false = ne_eqb c 32 (λ e. omega arith) in
+    let pass : (leb 33 c && leb c 126) ≡ true = and_from (leb 33 c) (leb c 126) (le-leb 33 c seen.0) (le-leb c 126 seen.1) in
+    rw (space, pass) (word_read done (word ++ c ∷ []) w cs visible.1 ∙ ap (λ (xs : List ℕ). arguments_from done xs cs) (append_assoc word (c ∷ []) w))
+
+pub next_argument : (done : List (List ℕ)) (w rest : List ℕ) → IsArgument w → arguments_from done [] (w ++ 32 ∷ rest) ≡ arguments_from (done ++ w ∷ []) [] rest
+unfolding arguments_from
+next_argument done w rest lawful =
+    let size = lawful.0 in
+    let long : eqb (length w) 0 ≡ false = ne_eqb (length w) 0 (λ e. omega arith) in
+    word_read done [] w (32 ∷ rest) lawful.1 ∙ rw long refl
+
+pub last_argument : (done : List (List ℕ)) (w : List ℕ) → IsArgument w → arguments_from done [] w ≡ Some (done ++ w ∷ [])
+unfolding arguments_from
+last_argument done w lawful =
+    let size = lawful.0 in
+    let long : eqb (length w) 0 ≡ false = ne_eqb (length w) 0 (λ e. omega arith) in
+    ap (arguments_from done []) (sym (append-nil w)) ∙ word_read done [] w [] lawful.1 ∙ rw long refl
+
+-- the line ends here, or a space follows
+abbrev pub EndsWord : List ℕ → Type 0
+EndsWord cs = (cs ≡ []) ⊎ ((rest : List ℕ) × (cs ≡ 32 ∷ rest))
+
+no_word : (done : List (List ℕ)) (word cs : List ℕ) → EndsWord cs → eqb (length word) 0 ≡ true → arguments_from done word cs ≡ None
+unfolding arguments_from
+no_word done word cs (inl e) none = rw (e, none) refl
+no_word done word cs (inr (rest, e)) none = rw (e, none) refl
+
+bad_word : (done : List (List ℕ)) (word w cs : List ℕ) → EndsWord cs → AllByRecursion (λ c. c ≡ 32 → ⊥) w → AllByRecursion IsVisible word → (IsArgument (word ++ w) → ⊥)
+    → arguments_from done word (w ++ cs) ≡ None
+unfolding arguments_from
+bad_word done word [] cs ends others visible bad = elim (chosen (eqb (length word) 0) true false (eqb (length word) 0) (known_test (eqb (length word) 0))) [
+  | inl h ↦ no_word done word cs ends h.0
+  | inr h ↦ absurd (bad (rw append-nil (some_length word h.0, visible)))
+]
+bad_word done word (c ∷ w) cs ends others visible bad =
+    let space : eqb c 32 ≡ false = ne_eqb c 32 others.0 in
+    elim (chosen (leb 33 c && leb c 126) true false (leb 33 c && leb c 126) (known_test (leb 33 c && leb c 126))) [
+      | inl h ↦
+          let parts = and_parts (leb 33 c) (leb c 126) h.0 in
+          rw (space, h.0) (bad_word done (word ++ c ∷ []) w cs ends others.1 (All-append IsVisible word (c ∷ []) visible ((leb-true 33 c parts.0, leb-true c 126 parts.1), tt))
+          (λ lawful. bad (rw (← append_assoc word (c ∷ []) w) lawful)))
+      | inr h ↦ rw (space, h.0) refl
+    ]
+
+-- a word that is no argument, before a space and at the end
+pub bad_argument : (done : List (List ℕ)) (w rest : List ℕ) → AllByRecursion (λ c. c ≡ 32 → ⊥) w → (IsArgument w → ⊥) → arguments_from done [] (w ++ 32 ∷ rest) ≡ None
+bad_argument done w rest others bad = bad_word done [] w (32 ∷ rest) (inr (rest, refl)) others tt bad
+
+pub bad_last_argument : (done : List (List ℕ)) (w : List ℕ) → AllByRecursion (λ c. c ≡ 32 → ⊥) w → (IsArgument w → ⊥) → arguments_from done [] w ≡ None
+bad_last_argument done w others bad = ap (arguments_from done []) (sym (append-nil w)) ∙ bad_word done [] w [] (inl refl) others tt bad
 
 pub argument_line_read : (l : List ℕ) (args : List (List ℕ)) → arguments_of l ≡ Some args → (l ≡ argument_line args) × (0 < length args) × AllByRecursion IsArgument args
 unfolding arguments_of

@@ -1,5 +1,6 @@
--- The first fault of bytes that begin no header (C2SP age.md, "Header"): a line is faulty where no header's text goes on behind it.
--- Which kind is told of it is this crate's own, and follows from where the line stands.
+-- The first fault of bytes that begin no header (C2SP age.md, "Header"): a line is faulty where no
+-- header's text goes on behind it. Which kind is told of it is this crate's own, and follows from
+-- where the line stands.
 use Rattle.std.specs.Prelude.{◌≡◌, ◌≢◌, ◌⊎◌, ℕ, ◌+◌, ◌==◌, nat_eq, ◌||◌, true, false, if◌then◌else◌, List, [], ◌∷◌, ◌++◌, length, take, codes, count_by}
 use Rattle.std.specs.List.{flat_map, AllByRecursion, starts_with}
 use Rattle.std.specs.Str.{bytes_eq}
@@ -78,8 +79,8 @@ abbrev pub IsLineFault : List ℕ → HeadFault → Type 0
 IsLineFault bytes fault = (before : List ℕ) × (l : List ℕ) × FirstFault bytes before l
     × (fault.line ≡ line_after before) × Refuses before l fault.kind
 
--- what is told of bytes that have no header in front, by their first 1,048,576: the first faulty line; else, where there are so many, that the header is too long,
--- on the line of the last of them
+-- what is told of bytes that have no header in front, by their first 1,048,576: the first faulty
+-- line; else, where there are so many, that the header is too long, on the line of the last of them
 abbrev pub IsFault : List ℕ → HeadFault → Type 0
 IsFault bytes fault = IsLineFault (take 1048576 bytes) fault
     ⊎ (NoFault (take 1048576 bytes) × (length (take 1048576 bytes) ≡ 1048576)

@@ -19,7 +19,8 @@ abbrev pub OneFault : Type 0
 OneFault = (bytes : List ℕ) (fault other : HeadFault) → IsBytes bytes → IsFault bytes fault
     → IsFault bytes other → fault ≡ other
 
--- the 64 characters of the base64 that a header is written in are those of RFC 4648, section 4, in their order
+-- the 64 characters of the base64 that a header is written in are those of RFC 4648, section 4, in
+-- their order
 abbrev pub Alphabet : Type 0
 Alphabet =
     engine_symbols standard_no_pad
@@ -35,7 +36,8 @@ abbrev pub MacTextIsFront : Type 0
 MacTextIsFront = (h : Header) (bytes : List ℕ) → HeadText h bytes
     → (last : List ℕ) × (length last ≡ 45) × (bytes ≡ mac_text h ++ last)
 
--- a text in lines is lines of 64 characters, one for each 64 of the text, and a last one with the fewer than 64 that are left
+-- a text in lines is lines of 64 characters, one for each 64 of the text, and a last one with the
+-- fewer than 64 that are left
 abbrev pub LinesOf64 : Type 0
 LinesOf64 =
     ((characters rest : List ℕ) → length characters ≡ 64
@@ -46,8 +48,9 @@ LinesOf64 =
 abbrev pub character : ℕ → ℕ
 character bits = slice_index (engine_symbols standard_no_pad) bits
 
--- base64 (RFC 4648, section 4): three bytes are four characters of six bits. Two bytes at the end are three characters, and one is two, with zeros for the bits
--- that the last character has left: so the text is canonical (section 3.5). No padding follows
+-- base64 (RFC 4648, section 4): three bytes are four characters of six bits. Two bytes at the end
+-- are three characters, and one is two, with zeros for the bits that the last character has left:
+-- so the text is canonical (section 3.5). No padding follows
 pub record IsBase64 : Type 0 where
   pub none : text [] ≡ []
   pub one : (a : ℕ) → text (a ∷ []) ≡ character (a / 4) ∷ character (a % 4 * 16) ∷ []

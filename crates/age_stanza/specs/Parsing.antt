@@ -14,7 +14,8 @@ pub data Parsing : Type 0 where
   complete : Parsing
   refused : HeadFault → Parsing
 
--- what is true of every parser: the bytes so far of one that reads on are fewer than the limit, no header stands in front of them, and none of their lines is faulty
+-- what is true of every parser: the bytes so far of one that reads on are fewer than the limit, no
+-- header stands in front of them, and none of their lines is faulty
 abbrev pub IsParsing : Parsing → Type 0
 IsParsing (reading held) = (length held < 1048576) × IsBytes held × (¬ HasHeader held) × NoFault held
 IsParsing complete = Unit {0}
@@ -23,8 +24,9 @@ IsParsing (refused fault) = Unit {0}
 abbrev pub IsOpen : Parsing → Type 0
 IsOpen parsing = parsing ≢ complete
 
--- what is answered to a piece, and what the parser then is: a header exactly where a front of the joined bytes is its text; else the first fault of the joined bytes;
--- else more is asked for. A fault stays
+-- what is answered to a piece, and what the parser then is: a header exactly where a front of the
+-- joined bytes is its text; else the first fault of the joined bytes; else more is asked for. A
+-- fault stays
 abbrev pub Feeds : Parsing → List ℕ → Result HeadStep HeadFault → Parsing → Type 0
 Feeds (reading held) piece (Ok More) new = (new ≡ reading (held ++ piece))
     × (length (held ++ piece) < 1048576) × (¬ HasHeader (held ++ piece)) × NoFault (held ++ piece)
@@ -35,7 +37,8 @@ Feeds (reading held) piece (Err fault) new = (new ≡ refused fault)
 Feeds complete piece result new = Unit {0}
 Feeds (refused fault) piece result new = (result ≡ Err fault) × (new ≡ refused fault)
 
--- what is answered to the end of the input: that the header is cut, in the line that the end comes in, or the earlier fault
+-- what is answered to the end of the input: that the header is cut, in the line that the end comes
+-- in, or the earlier fault
 abbrev pub Cuts : Parsing → HeadFault → Parsing → Type 0
 Cuts (reading held) fault new = (fault ≡ record { kind = HeadCut; line = line_after held })
     × (new ≡ refused fault) × (¬ HasHeader held) × NoFault held

@@ -1,7 +1,4 @@
 -- What a contract sees of a parser.
--- What the end of a line, some bytes and a piece do to a part of a header.
-use Rattle.age_stanza.specs.declared.partial.Progress.TheVariants as progress
-use Rattle.age_stanza.specs.declared.piece.Reading.TheVariants as reads
 use Rattle.age_stanza.specs.declared.parser.State.{State}
 use Rattle.age_stanza.specs.declared.parser.State.TheVariants.{Open, Done, Failed}
 use Rattle.age_stanza.specs.Parsing.{Parsing, reading, complete, refused}

@@ -1,37 +1,51 @@
 //! The argument line of a stanza.
 
-ghost use Rattle.std.specs.Prelude.{◌≡◌, [], IfOk};
+ghost use Rattle.std.specs.Prelude.{◌≡◌, ◌==◌, ◌++◌, ◌∷◌, [], true, false, IfOk};
+ghost use Rattle.std.specs.List.{position};
+ghost use Rattle.age_stanza.specs.Grammar.{IsArgument};
 ghost use Rattle.age_stanza.specs.inner.LineMachine.{arguments_from, arguments_of as spec_arguments_of};
 
 use crate::bytes::{Arguments, Bytes};
+use crate::lawful::is_argument;
 use std::alloc::{AllocError, Global};
 
-/// The arguments that visible characters and single spaces hold, or `None`
-/// where an argument is empty or another character stands there.
-#[tactic(auto, unfolding(crate::specs::inner::LineMachine::arguments_from))]
+/// Adds an argument. False where its characters aren't lawful; then nothing changes.
+fn push_lawful(alloc: Global, args: &mut Arguments, characters: &[u8]) -> Result<bool, AllocError>
+    ensures pushed { IfOk result (λ r. r ≡ true → IsArgument characters.now
+        × (args.new ≡ args.old ++ characters.now ∷ [])) }
+    ensures refused { IfOk result (λ r. r ≡ false → IsArgument characters.now → ⊥) }
+{
+    if !is_argument(characters) {
+        return Ok(false);
+    }
+    args.push(Bytes::from_slice(alloc, characters)?)?;
+    Ok(true)
+}
+
+/// Where the first argument ends.
+fn argument_end(letters: &[u8]) -> Option<usize>
+    ensures { result ≡ position (λ c. c == 32) letters.now }
+{
+    letters.iter().position(|c| *c == b' ')
+}
+
+/// The arguments that letters hold, parted by single spaces, or `None` where one
+/// isn't lawful.
 fn arguments_in(alloc: Global, letters: &[u8]) -> Result<Option<Arguments>, AllocError>
     ensures { IfOk result (λ r. r ≡ arguments_from [] [] letters.now) }
 {
     let spaces = letters.iter().filter(|c| **c == b' ').count();
     let mut args = Arguments::with_capacity(alloc, spaces + 1)?;
-    let mut word = Bytes::new(alloc);
-    for c in letters {
-        if *c == b' ' {
-            if word.is_empty() {
-                return Ok(None);
-            }
-            args.push(word)?;
-            word = Bytes::new(alloc);
-        } else if b'!' <= *c && *c <= b'~' {
-            word.push(*c)?;
-        } else {
+    let mut rest = letters;
+    while let Some(end) = argument_end(rest) {
+        if !push_lawful(alloc, &mut args, &rest[..end])? {
             return Ok(None);
         }
+        rest = &rest[end + 1..];
     }
-    if word.is_empty() {
+    if !push_lawful(alloc, &mut args, rest)? {
         return Ok(None);
     }
-    args.push(word)?;
     Ok(Some(args))
 }
 

@@ -1,8 +1,8 @@
 //! The part of a header that came so far.
 
-ghost use Rattle.std.specs.Prelude.{◌≡◌, ◌++◌, ◌+◌, ◌<◌, ◌≤◌, [], length, take, IfOk, IfErr};
+ghost use Rattle.std.specs.Prelude.{◌≡◌, ◌++◌, ◌+◌, ◌<◌, ◌≤◌, [], length, take, OnOk, IfErr};
 ghost use Rattle.age_stanza.specs.Faults.{line_after, memory_fault, IsLine};
-ghost use Rattle.age_stanza.specs.inner.LineMachine.{fault_at as spec_fault_at};
+ghost use Rattle.age_stanza.specs.inner.LineMachine.{fault_at as spec_fault_at, Gives, step as step_of};
 ghost use Rattle.age_stanza.specs.inner.Retelling.{IsUnderWay};
 
 use crate::fault::{HeadFault, HeadKind, MEMORY};
@@ -10,6 +10,7 @@ use crate::header::Header;
 use crate::place::{Next, Place, step};
 use std::alloc::Global;
 use std::marker::Model;
+use std::mem;
 
 /// The part of a header that came so far: what its finished lines hold, and
 /// the line that isn't finished. No finished line is kept as it came. A
@@ -33,15 +34,6 @@ impl Model for PartialHeader {
     ghost invariant = { λ p. IsPartial p.place p.line.items p.bytes p.finished_lines };
 }
 
-/// What the end of a line led to.
-#[derive(Debug, Drop)]
-pub(crate) enum Progress {
-    /// The header goes on.
-    More(PartialHeader),
-    /// The line was the header's end line.
-    Whole(Header),
-}
-
 /// A refusal in a line; want of memory has none.
 fn fault_at(kind: HeadKind, line: u64) -> HeadFault
     ensures { result ≡ spec_fault_at kind line }
@@ -50,6 +42,23 @@ fn fault_at(kind: HeadKind, line: u64) -> HeadFault
         HeadKind::Memory => MEMORY,
         _ => HeadFault { kind, line },
     }
+}
+
+/// Where a line leads whose first characters are kept, and whose last ones came just now. A line
+/// that came whole is judged where it lies.
+fn step_whole(
+    alloc: Global,
+    place: Place,
+    kept: &mut Vec<u8>,
+    last: &[u8],
+) -> Result<Next, HeadKind>
+    ensures { Gives result (step_of place (kept.old.items ++ last.now)) }
+{
+    if kept.is_empty() {
+        return step(alloc, place, last);
+    }
+    kept.extend_from_slice(last)?;
+    step(alloc, place, kept.as_slice())
 }
 
 impl PartialHeader {
@@ -76,39 +85,41 @@ impl PartialHeader {
     }
 
     /// Adds characters to the line that isn't finished.
-    pub(crate) fn extended(mut self, characters: &[u8]) -> Result<PartialHeader, HeadFault>
+    pub(crate) fn extend(&mut self, characters: &[u8]) -> Result<(), HeadFault>
         requires one_line { IsLine characters.now }
-        requires within { length self + length characters.now ≤ 1048576 }
-        ensures ok { IfOk result (λ longer. longer ≡ self ++ characters.now) }
+        requires within { length self.old + length characters.now ≤ 1048576 }
+        ensures ok { OnOk result (self.new ≡ self.old ++ characters.now) }
         ensures err { IfErr result (λ fault. fault ≡ memory_fault) }
     {
         self.line.extend_from_slice(characters)?;
         self.bytes += characters.len();
-        Ok(self)
+        Ok(())
     }
 
-    /// Judges the line, whose LF came.
-    pub(crate) fn line_ended(self) -> Result<Progress, HeadFault>
-        requires { length self < 1048576 }
-        ensures { EndsLine self result }
+    /// Takes what is left of the line, and its LF. A header, or a fault, leaves nothing behind.
+    pub(crate) fn end_line(&mut self, characters: &[u8]) -> Result<Option<Header>, HeadFault>
+        requires one_line { IsLine characters.now }
+        requires within { length self.old + length characters.now < 1048576 }
+        ensures { EndsLine (self.old ++ characters.now) result self.new }
     {
-        let PartialHeader {
-            place,
-            mut line,
-            bytes,
-            finished_lines,
-        } = self;
-        match step(*line.allocator(), place, line.as_slice()) {
-            Err(kind) => Err(fault_at(kind, finished_lines + 1)),
-            Ok(Next::Done(header)) => Ok(Progress::Whole(header)),
+        let alloc = *self.line.allocator();
+        let place = mem::replace(&mut self.place, Place::Start);
+        match step_whole(alloc, place, &mut self.line, characters) {
             Ok(Next::Go(place)) => {
-                line.clear();
-                Ok(Progress::More(PartialHeader {
-                    place,
-                    line,
-                    bytes: bytes + 1,
-                    finished_lines: finished_lines + 1,
-                }))
+                self.place = place;
+                self.line.clear();
+                self.bytes += characters.len() + 1;
+                self.finished_lines += 1;
+                Ok(None)
+            }
+            Ok(Next::Done(header)) => {
+                *self = PartialHeader::new(alloc);
+                Ok(Some(header))
+            }
+            Err(kind) => {
+                let line = self.finished_lines + 1;
+                *self = PartialHeader::new(alloc);
+                Err(fault_at(kind, line))
             }
         }
     }

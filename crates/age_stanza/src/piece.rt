@@ -6,17 +6,8 @@ ghost use Rattle.age_stanza.specs.inner.Steps.{ReadsLines, TakesPiece};
 
 use crate::HEAD_MAX;
 use crate::fault::HeadFault;
-use crate::header::Header;
-use crate::partial::{PartialHeader, Progress};
-
-/// What bytes that follow a part of a header led to.
-#[derive(Debug, Drop)]
-pub(crate) enum Reading {
-    /// All were taken.
-    More(PartialHeader),
-    /// The header ended with the byte before number `taken`.
-    Ready { taken: usize, header: Header },
-}
+use crate::header::HeadStep;
+use crate::partial::PartialHeader;
 
 /// Where the first line ends.
 fn line_end(bytes: &[u8]) -> Option<usize>
@@ -37,39 +28,37 @@ fn front(piece: &[u8], room: usize) -> &[u8]
 }
 
 /// Reads bytes line by line.
-fn read_lines(mut partial: PartialHeader, bytes: &[u8]) -> Result<Reading, HeadFault>
-    requires { length partial + length bytes.now ≤ 1048576 }
-    ensures { ReadsLines partial bytes.now result }
+fn read_lines(partial: &mut PartialHeader, bytes: &[u8]) -> Result<HeadStep, HeadFault>
+    requires { length partial.old + length bytes.now ≤ 1048576 }
+    ensures { ReadsLines partial.old bytes.now result partial.new }
 {
     let mut rest = bytes;
     while let Some(end) = line_end(rest) {
-        match partial.extended(&rest[..end])?.line_ended()? {
-            Progress::Whole(header) => {
-                return Ok(Reading::Ready {
-                    taken: bytes.len() - rest.len() + end + 1,
-                    header,
-                });
-            }
-            Progress::More(longer) => partial = longer,
+        if let Some(header) = partial.end_line(&rest[..end])? {
+            return Ok(HeadStep::Ready {
+                taken: bytes.len() - rest.len() + end + 1,
+                header,
+            });
         }
         rest = &rest[end + 1..];
     }
-    Ok(Reading::More(partial.extended(rest)?))
+    partial.extend(rest)?;
+    Ok(HeadStep::More)
 }
 
 /// Takes a piece, of which no more than the limit allows is read.
-pub(crate) fn take_piece(partial: PartialHeader, piece: &[u8]) -> Result<Reading, HeadFault>
-    requires { length partial < 1048576 }
-    ensures { TakesPiece partial piece.now result }
+pub(crate) fn take_piece(partial: &mut PartialHeader, piece: &[u8]) -> Result<HeadStep, HeadFault>
+    requires { length partial.old < 1048576 }
+    ensures { TakesPiece partial.old piece.now result partial.new }
 {
     let room = HEAD_MAX - partial.len();
     match read_lines(partial, front(piece, room))? {
-        Reading::Ready { taken, header } => Ok(Reading::Ready { taken, header }),
-        Reading::More(longer) => {
-            if longer.len() == HEAD_MAX {
-                return Err(longer.too_long_fault());
+        HeadStep::Ready { taken, header } => Ok(HeadStep::Ready { taken, header }),
+        HeadStep::More => {
+            if partial.len() == HEAD_MAX {
+                return Err(partial.too_long_fault());
             }
-            Ok(Reading::More(longer))
+            Ok(HeadStep::More)
         }
     }
 }

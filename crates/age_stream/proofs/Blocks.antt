@@ -2,8 +2,8 @@
 use Rattle.std.proofs.Common.{◌≡◌, ℕ, ap, ◌∙◌, List, [], ◌∷◌, true, false}
 use Rattle.std.specs.Prelude.{Option, Some, None}
 use Rattle.age_stream.specs.Nonce.{nonce_bytes}
-use Rattle.age_stream.specs.Segment.{after_last, at_block, unless_greatest, failed}
-use Rattle.age_stream.specs.inner.SegmentSteps.{one_block, after_front}
+use Rattle.age_stream.specs.Segment.{unless_greatest, failed}
+use Rattle.age_stream.specs.inner.SegmentSteps.{one_block, after_front, after_last, at_block}
 use Rattle.age_stream.specs.declared.step.Status.TheVariants.{LastSeen}
 use Rattle.age_stream.specs.declared.fault.StreamKind.TheVariants.{ChunkDamaged}
 

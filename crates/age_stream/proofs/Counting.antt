@@ -15,6 +15,7 @@ use Rattle.age_stream.proofs.Undamaged.{all_full}
 use Rattle.age_stream.proofs.Going.{going, going_outcome, first_chunks-add}
 use Rattle.age_stream.proofs.Growing.{begins_stop, index_stop}
 use Rattle.age_stream.proofs.Chunks.{first_chunks-append, length-first_chunks}
+use Rattle.age_stream.proofs.Table.{by_blocks}
 
 first_chunks-take : (n i d : ℕ) (xs : List ℕ) → take i (first_chunks n (i + d) xs) ≡ first_chunks n i xs
 first_chunks-take n i d xs =
@@ -71,8 +72,10 @@ module _ (sealing : List ℕ → List ℕ → List ℕ) (opening : List ℕ → 
       let pos : 0 < n + 16 = omega arith in
       let fits : length s.bytes / (n + 16) * (n + 16) ≤ length s.bytes = (le-div_iff_mul-le pos).0 (omega arith) in
       let full = front_full blocks s.start (all_full (n + 16) (length s.bytes / (n + 16)) s.bytes fits) in
-      let at : i ≡ s.start + m = index_stop opening n texts (s.start + m) (slice_get blocks m) behind (rest_bytes n s.bytes) s.late s.ended in
-      let more = begins_stop opening n texts (s.start + m) (slice_get blocks m) behind (rest_bytes n s.bytes) s.late s.ended in
+      let same = by_blocks opening n s in
+      let at : i ≡ s.start + m = ap (λ (o : Outcome). o.index) same ∙ index_stop opening n texts (s.start + m) (slice_get blocks m) behind (rest_bytes n s.bytes) s.late s.ended in
+      let stopped = begins_stop opening n texts (s.start + m) (slice_get blocks m) behind (rest_bytes n s.bytes) s.late s.ended in
+      let more : (added : List (List ℕ)) × ((outcome opening n s).texts ≡ texts ++ added) = (stopped.0, ap (λ (o : Outcome). o.texts) same ∙ stopped.1) in
       let are : counted opening n s ≡ texts =
       ap (λ (ts : List (List ℕ)). take (i - s.start) ts) more.1 ∙ take_at texts more.0 (i - s.start) (omega (arith, at)) in
       let front = flat_map (λ (t : List ℕ). t) texts in

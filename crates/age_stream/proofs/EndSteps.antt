@@ -4,8 +4,8 @@ use Rattle.std.specs.Prelude.{Option, Result, Ok, Err, MatchResult}
 use Rattle.std.specs.List.{flat_map}
 use Rattle.std.proofs.lemmas.List.{append-nil}
 use Rattle.std.proofs.lemmas.Grind.{flat_map-append}
-use Rattle.age_stream.specs.Segment.{Segment, Outcome, outcome, released, final_block, front_texts, whole_blocks, rest_bytes}
-use Rattle.age_stream.specs.inner.SegmentSteps.{status_ended}
+use Rattle.age_stream.specs.Segment.{Segment, Outcome, outcome, released, front_texts, whole_blocks, rest_bytes}
+use Rattle.age_stream.specs.inner.SegmentSteps.{status_ended, final_block}
 use Rattle.age_stream.specs.Deliveries.{with_end}
 use Rattle.age_stream.specs.declared.opener.OpenerState.{OpenerState}
 use Rattle.age_stream.specs.declared.fault.StreamFault.{StreamFault}

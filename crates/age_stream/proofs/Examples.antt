@@ -31,39 +31,51 @@ abbrev out : List (List ℕ) → ℕ → Status → Outcome
 out texts index status = record { texts = texts; index = index; status = status }
 
 empty_text_opened : given 0 (payload clear_sealing 4 []) true false ≡ out ([] ∷ []) 0 Done
+unfolding outcome
 empty_text_opened = refl
 
 two_blocks_opened : given 0 (first ++ second) true false ≡ out (codes "abcd" ∷ codes "efgh" ∷ []) 1 Done
+unfolding outcome
 two_blocks_opened = refl
 
 swapped_blocks : given 0 (second ++ first) true false ≡ out [] 0 (failed ChunkDamaged 0)
+unfolding outcome
 swapped_blocks = refl
 
 last_block_missing : given 0 first true false ≡ out (codes "abcd" ∷ []) 1 (failed Truncated 1)
+unfolding outcome
 last_block_missing = refl
 
 cut_in_second_block : given 0 (take 25 (first ++ second)) true false ≡ out (codes "abcd" ∷ []) 1 (failed ChunkCut 1)
+unfolding outcome
 cut_in_second_block = refl
 
 byte_behind_last_block : given 0 (first ++ second ++ 0 ∷ []) false false ≡ out (codes "abcd" ∷ codes "efgh" ∷ []) 1 (failed Trailing 1)
+unfolding outcome
 byte_behind_last_block = refl
 
 byte_behind_last_block_then_end : given 0 (first ++ second ++ 0 ∷ []) true false ≡ out (codes "abcd" ∷ codes "efgh" ∷ []) 1 (failed Trailing 1)
+unfolding outcome
 byte_behind_last_block_then_end = refl
 
 byte_after_end : given 0 (first ++ second) true true ≡ out (codes "abcd" ∷ codes "efgh" ∷ []) 1 (failed Trailing 1)
+unfolding outcome
 byte_after_end = refl
 
 first_block_twice : given 0 (first ++ first) false false ≡ out (codes "abcd" ∷ []) 1 (failed ChunkDamaged 1)
+unfolding outcome
 first_block_twice = refl
 
 empty_last_block : given 0 (first ++ drop 4 second) true false ≡ out (codes "abcd" ∷ []) 1 (failed EmptyLast 1)
+unfolding outcome
 empty_last_block = refl
 
 greatest_chunk_not_last : given 281474976710655 (codes "XXXX" ++ clear_mark (nonce_bytes 281474976710655 false)) false false ≡ out [] 281474976710655 (failed TooManyChunks 281474976710655)
+unfolding outcome
 greatest_chunk_not_last = refl
 
 greatest_chunk_last : given 281474976710655 (codes "XXXX" ++ clear_mark (nonce_bytes 281474976710655 true)) false false ≡ out (codes "XXXX" ∷ []) 281474976710655 LastSeen
+unfolding outcome
 greatest_chunk_last = refl
 
 abbrev piece : List ℕ → Delivery
@@ -79,19 +91,25 @@ held deliveries =
     ((text_held clear_opening 4 s, o.status), (o.index, s.refused))
 
 fed_byte_by_byte : held (map (λ (b : ℕ). piece (b ∷ [])) both ++ End ∷ []) ≡ ((codes "abcdefgh", Done), (1, 0))
+unfolding outcome
 fed_byte_by_byte = refl
 
 restart_at_first_chunk : held (piece first ∷ Restart 0 ∷ piece both ∷ End ∷ []) ≡ ((codes "abcdefgh", Done), (1, 0))
+unfolding outcome
 restart_at_first_chunk = refl
 
 restart_behind_text_refused : held (piece both ∷ Restart 3 ∷ []) ≡ ((codes "abcdefgh", LastSeen), (1, 1))
+unfolding outcome
 restart_behind_text_refused = refl
 
 restart_at_end_of_text : held (piece both ∷ Restart 3 ∷ Restart 2 ∷ []) ≡ ((codes "abcdefgh", Open), (2, 1))
+unfolding outcome
 restart_at_end_of_text = refl
 
 end_after_restart_at_end_of_text : held (piece both ∷ Restart 3 ∷ Restart 2 ∷ End ∷ []) ≡ ((codes "abcdefgh", failed Truncated 2), (2, 1))
+unfolding outcome
 end_after_restart_at_end_of_text = refl
 
 restart_in_cut_block : held (piece (take 27 both) ∷ Restart 1 ∷ piece (drop 20 both) ∷ End ∷ []) ≡ ((codes "abcdefgh", Done), (1, 0))
+unfolding outcome
 restart_in_cut_block = refl

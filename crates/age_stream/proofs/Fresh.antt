@@ -4,9 +4,10 @@ use Rattle.std.specs.Simd.{first_chunks}
 use Rattle.std.specs.Prelude.{Option}
 use Rattle.std.proofs.lemmas.Nat.{div-mul-add}
 use Rattle.std.proofs.Math.Seq.{drop-nil}
-use Rattle.age_stream.specs.Segment.{outcome, outcome_of, rest_bytes}
+use Rattle.age_stream.specs.Segment.{outcome, rest_bytes}
 use Rattle.age_stream.specs.Deliveries.{fresh}
 use Rattle.age_stream.specs.declared.step.Status.TheVariants.{Open}
+use Rattle.age_stream.proofs.Table.{outcome_of, by_blocks}
 
 no_count : (n : ℕ) → 0 / (n + 16) ≡ 0
 no_count n =
@@ -17,8 +18,9 @@ no_count n =
 pub fresh_outcome : (opening : List ℕ → List ℕ → Option (List ℕ)) (n k : ℕ) → outcome opening n (fresh k) ≡ record { texts = []; index = k; status = Open }
 fresh_outcome opening n k =
     let z : k + 0 ≡ k = omega arith in
-    ap (λ (c : ℕ). outcome_of opening n k (first_chunks (n + 16) c []) 0 (drop (c * (n + 16)) []) false false) (no_count n)
-    ∙ ap (λ (i : ℕ). record { texts = []; index = i; status = Open }) z
+    by_blocks opening n (fresh k)
+    ∙ (ap (λ (c : ℕ). outcome_of opening n k (first_chunks (n + 16) c []) 0 (drop (c * (n + 16)) []) false false) (no_count n)
+    ∙ ap (λ (i : ℕ). record { texts = []; index = i; status = Open }) z)
 
 pub fresh_rest : (n k : ℕ) → rest_bytes n (fresh k).bytes ≡ []
 fresh_rest n k = drop-nil (length (fresh k).bytes / (n + 16) * (n + 16))

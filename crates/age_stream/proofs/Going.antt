@@ -7,15 +7,16 @@ use Rattle.std.proofs.lemmas.Bool.{cases_lt, lt-ltb, le-ltb}
 use Rattle.std.proofs.lemmas.Nat.{div-mul-add}
 use Rattle.std.proofs.Math.Nat.{div-mul-le_self, le-div_iff_mul-le}
 use Rattle.age_stream.specs.Nonce.{nonce_bytes}
-use Rattle.age_stream.specs.Segment.{Segment, Outcome, outcome, outcome_of, verdict_at, at_block, final_block, after_last, front_texts, text_then, text_before_last, whole_blocks, rest_bytes, failed}
-use Rattle.age_stream.specs.inner.SegmentSteps.{after_front, one_block, status_after, status_ended}
+use Rattle.age_stream.specs.Segment.{Segment, Outcome, outcome, front_texts, text_then, text_before_last, whole_blocks, rest_bytes, failed}
+use Rattle.age_stream.specs.inner.SegmentSteps.{after_front, one_block, status_after, status_ended, at_block, final_block, after_last}
 use Rattle.std.proofs.Math.Bool.{or-true, or-false}
 use Rattle.age_stream.specs.Deliveries.{with_piece, with_end}
 use Rattle.age_stream.specs.declared.step.Status.{Status}
 use Rattle.age_stream.specs.declared.step.Status.TheVariants.{Open}
 use Rattle.age_stream.specs.declared.fault.StreamKind.TheVariants.{ChunkDamaged, ChunkCut, EmptyLast, Truncated, TooManyChunks}
 use Rattle.age_stream.proofs.Chunks.{length-first_chunks, first_chunks_more, first_chunks-append, slice_get-within, slice_get-past}
-use Rattle.age_stream.proofs.Segments.{by_test, length-front_texts}
+use Rattle.age_stream.proofs.Segments.{by_test}
+use Rattle.age_stream.proofs.Table.{outcome_of, verdict_at, by_blocks, length-front_texts}
 
 pub first_chunks-add : (z q d : ℕ) (xs : List ℕ) → first_chunks z (q + d) xs ≡ first_chunks z q xs ++ first_chunks z d (drop (q * z) xs)
 first_chunks-add z zero d xs =
@@ -46,15 +47,6 @@ more_blocks n bytes more =
           ∙ (first_chunks-add z q d (bytes ++ more)
           ∙ ap (λ (cs : List (List ℕ)). cs ++ first_chunks z d (drop (q * z) (bytes ++ more))) (first_chunks-append z q bytes more fits)),
     )
-
-pub rest_short : (n : ℕ) (bytes : List ℕ) → length (rest_bytes n bytes) < n + 16
-rest_short n bytes =
-    let z = n + 16 in
-    let q = length bytes / z in
-    elim (cases_lt (length bytes) ((q + 1) * z)) [
-      | inl lt ↦ omega (arith, length-drop (q * z) bytes)
-      | inr le ↦ (let pos : 0 < z = omega arith in let h : q + 1 ≤ length bytes / z = (le-div_iff_mul-le pos).1 le in absurd (omega (arith, h)))
-    ]
 
 -- bytes that make no whole block
 module _ (n : ℕ) (bytes more : List ℕ) where
@@ -246,7 +238,8 @@ module _ (opening : List ℕ → List ℕ → Option (List ℕ)) (n : ℕ) where
   at_place s lt =
       let blocks = whole_blocks n s.bytes in
       let texts = front_texts opening s.start blocks in
-      ap (λ (o : Option (List ℕ)). verdict_at opening texts (s.start + length texts) o (nat_lt ((length texts + 1) * (n + 16)) (length s.bytes)) (rest_bytes n s.bytes) s.late s.ended)
+      by_blocks opening n s
+      ∙ ap (λ (o : Option (List ℕ)). verdict_at opening texts (s.start + length texts) o (nat_lt ((length texts + 1) * (n + 16)) (length s.bytes)) (rest_bytes n s.bytes) s.late s.ended)
       (slice_get-within blocks (length texts) [] lt)
 
   -- and behind them
@@ -256,7 +249,8 @@ module _ (opening : List ℕ → List ℕ → Option (List ℕ)) (n : ℕ) where
   past_place s e =
       let blocks = whole_blocks n s.bytes in
       let texts = front_texts opening s.start blocks in
-      ap (λ (o : Option (List ℕ)). verdict_at opening texts (s.start + length texts) o (nat_lt ((length texts + 1) * (n + 16)) (length s.bytes)) (rest_bytes n s.bytes) s.late s.ended)
+      by_blocks opening n s
+      ∙ ap (λ (o : Option (List ℕ)). verdict_at opening texts (s.start + length texts) o (nat_lt ((length texts + 1) * (n + 16)) (length s.bytes)) (rest_bytes n s.bytes) s.late s.ended)
       (slice_get-past blocks (length texts) (omega (arith, e)))
 
   ended_closed : (s : Segment) (ended : Bool) → s.ended ≡ ended → length (front_texts opening s.start (whole_blocks n s.bytes)) ≡ length (whole_blocks n s.bytes) → (outcome opening n s).status ≡ Open → IsGoing s
@@ -315,7 +309,8 @@ module _ (opening : List ℕ → List ℕ → Option (List ℕ)) (n : ℕ) where
       let e0 : outcome opening n (with_piece s p) ≡ outcome opening n (record { start = s.start; bytes = bytes; ended = false; late = late }) =
       ap (λ (t : Bool). outcome opening n (cond t (record { start = s.start; bytes = s.bytes; ended = true; late = s.late || nat_lt 0 (length p) }) (record { start = s.start; bytes = s.bytes ++ p; ended = false; late = s.late }))) is in
       let e1 : outcome opening n (record { start = s.start; bytes = bytes; ended = false; late = late }) ≡ F (front_texts opening s.start (blocks ++ more.0)) =
-      ap (λ (bs : List (List ℕ)). outcome_of opening n s.start bs (length bytes) rest late false) more.1 in
+      by_blocks opening n (record { start = s.start; bytes = bytes; ended = false; late = late })
+      ∙ ap (λ (bs : List (List ℕ)). outcome_of opening n s.start bs (length bytes) rest late false) more.1 in
       let e2 : F (front_texts opening s.start (blocks ++ more.0)) ≡ F texts = ap F (front_stays opening blocks more.0 s.start lt) in
       let g : slice_get (blocks ++ more.0) (length texts) ≡ Some b = slice_get-append_left blocks more.0 (length texts) lt ∙ slice_get-within blocks (length texts) [] lt in
       let e3 : F texts ≡ at_block opening texts i b (nat_lt a (length bytes) || late) false o =
@@ -476,9 +471,10 @@ module _ (opening : List ℕ → List ℕ → Option (List ℕ)) (n : ℕ) where
       front_on opening blocks (b ∷ []) start g.all ∙ ap (λ (k : ℕ). texts ++ front_texts opening (start + k) (b ∷ [])) (sym g.all) in
       let all : outcome opening n (with_piece s p) ≡ prepend opening texts (one_block opening i b) =
       ap (outcome opening n) e
+      ∙ (by_blocks opening n (record { start = start; bytes = bytes; ended = false; late = s.late })
       ∙ (ap (λ (bs : List (List ℕ)). F bs s.late) (whole_more n s.bytes p h)
       ∙ (ap (λ (l : Bool). F (blocks ++ b ∷ []) l) timely
-      ∙ (ap G front ∙ one_more (text_before_last opening i b) blocks b start (length bytes) (rest_bytes n bytes) g.all count))) in
+      ∙ (ap G front ∙ one_more (text_before_last opening i b) blocks b start (length bytes) (rest_bytes n bytes) g.all count)))) in
       let here = going_outcome s g in
       let at : (outcome opening n s).index ≡ i = ap (λ (o : Outcome). o.index) here in
       record {

@@ -5,13 +5,15 @@ use Rattle.std.specs.List.{flat_map}
 use Rattle.std.proofs.lemmas.Grind.{flat_map-append}
 use Rattle.std.proofs.lemmas.List.{append-nil, append_assoc, length-append}
 use Rattle.age_stream.specs.Nonce.{nonce_bytes}
-use Rattle.age_stream.specs.Segment.{Segment, Outcome, outcome, front_texts, after_last, at_block, final_block, verdict_at, whole_blocks, rest_bytes, released}
+use Rattle.age_stream.specs.Segment.{Segment, Outcome, outcome, front_texts, whole_blocks, rest_bytes, released}
+use Rattle.age_stream.specs.inner.SegmentSteps.{after_last, at_block, final_block}
 use Rattle.age_stream.specs.Deliveries.{with_piece}
 use Rattle.age_stream.specs.Headline.{IsPrefixOf}
 use Rattle.age_stream.specs.declared.step.Status.{Status}
 use Rattle.age_stream.specs.declared.step.Status.TheVariants.{Open}
 use Rattle.age_stream.proofs.Segments.{by_test}
 use Rattle.age_stream.proofs.Going.{going, going_outcome, IsGoing, unended_piece, more_blocks, front_on, after_piece}
+use Rattle.age_stream.proofs.Table.{verdict_at, by_blocks}
 
 module _ (opening : List ℕ → List ℕ → Option (List ℕ)) (n : ℕ) where
   -- the texts of an outcome begin with these
@@ -53,7 +55,8 @@ module _ (opening : List ℕ → List ℕ → Option (List ℕ)) (n : ℕ) where
       let rest = front_texts opening (s.start + length (whole_blocks n s.bytes)) more.0 in (
         rest ++ b.0,
         ap (λ (t : Segment). (outcome opening n t).texts) (unended_piece s p g.unended)
-            ∙ (b.1 ∙ (ap (λ (ts : List (List ℕ)). ts ++ b.0) on ∙ (append_assoc texts rest b.0 ∙ ap (λ (ts : List (List ℕ)). ts ++ (rest ++ b.0)) (sym here)))),
+            ∙ (ap (λ (o : Outcome). o.texts) (by_blocks opening n next)
+            ∙ (b.1 ∙ (ap (λ (ts : List (List ℕ)). ts ++ b.0) on ∙ (append_assoc texts rest b.0 ∙ ap (λ (ts : List (List ℕ)). ts ++ (rest ++ b.0)) (sym here))))),
       )
 
   grows : (s : Segment) (p : List ℕ) (status : Status) → (s.ended ≡ false → s.late ≡ false) → (outcome opening n s).status ≡ status → Begins (outcome opening n s).texts (outcome opening n (with_piece s p))
@@ -97,7 +100,8 @@ module _ (opening : List ℕ → List ℕ → Option (List ℕ)) (n : ℕ) where
       let texts = front_texts opening s.start (whole_blocks n s.bytes) in
       let all = front_texts opening s.start (whole_blocks n bytes) in
       let there = ap (λ (t : Segment). (outcome opening n t).index) (unended_piece s p g.unended)
-      ∙ index_stop all (s.start + length all) (slice_get (whole_blocks n bytes) (length all)) (nat_lt ((length all + 1) * (n + 16)) (length bytes)) (rest_bytes n bytes) s.late false in
+      ∙ (ap (λ (o : Outcome). o.index) (by_blocks opening n (record { start = s.start; bytes = bytes; ended = false; late = s.late }))
+      ∙ index_stop all (s.start + length all) (slice_get (whole_blocks n bytes) (length all)) (nat_lt ((length all + 1) * (n + 16)) (length bytes)) (rest_bytes n bytes) s.late false) in
       let on : all ≡ texts ++ front_texts opening (s.start + length (whole_blocks n s.bytes)) more.0 =
       ap (front_texts opening s.start) more.1 ∙ front_on opening (whole_blocks n s.bytes) more.0 s.start g.all in
       let len = ap length on ∙ length-append texts (front_texts opening (s.start + length (whole_blocks n s.bytes)) more.0) in

@@ -12,7 +12,8 @@ use Rattle.std.proofs.lemmas.Option.{cond_some}
 use Rattle.age_stream.specs.Lawful.{IsLawful}
 use Rattle.age_stream.specs.Nonce.{nonce_bytes, chunk_limit}
 use Rattle.age_stream.specs.Payload.{chunk_count, last_index, last_chunk, pair, sealed_before_last, sealed}
-use Rattle.age_stream.specs.Segment.{Segment, Outcome, outcome, text_before_last, unless_greatest, text_then, front_texts, after_last, at_block, final_block, verdict_at, whole_blocks, rest_bytes, failed}
+use Rattle.age_stream.specs.Segment.{Segment, Outcome, outcome, text_before_last, unless_greatest, text_then, front_texts, whole_blocks, rest_bytes, failed}
+use Rattle.age_stream.specs.inner.SegmentSteps.{after_last, at_block, final_block}
 use Rattle.age_stream.specs.declared.step.Status.{Status}
 use Rattle.age_stream.specs.declared.step.Status.TheVariants.{Open, Done}
 use Rattle.age_stream.specs.declared.fault.StreamKind.TheVariants.{ChunkDamaged, ChunkCut, EmptyLast, Truncated, TooManyChunks}
@@ -20,6 +21,7 @@ use Rattle.age_stream.specs.Headline.{IsWriters, IsAuthentic, IsPrefixOf}
 use Rattle.age_stream.specs.Deliveries.{with_piece}
 use Rattle.age_stream.proofs.Nonces.{nonce_bytes-length, nonce_bytes-number, nonce_bytes-flag}
 use Rattle.age_stream.proofs.Chunks.{length-first_chunks, get_or-first_chunks, last_chunk_le, slice_get-within, slice_get-past}
+use Rattle.age_stream.proofs.Table.{verdict_at, by_blocks, length-front_texts}
 
 -- a pair of the writer's, by its number
 pub record IsPair (sealing : List ℕ → List ℕ → List ℕ) (n : ℕ) (text : List ℕ) (nonce block : List ℕ) : Type 0 where
@@ -98,15 +100,6 @@ pub record IsChunk (n : ℕ) (text : List ℕ) (i : ℕ) (last : Bool) (x : List
   pub below : i < chunk_count n text
   pub flag : last ≡ (i + 1 == chunk_count n text)
   pub is : x ≡ take n (drop (i * n) text)
-
--- no more texts than blocks
-pub length-front_texts : (opening : List ℕ → List ℕ → Option (List ℕ)) (blocks : List (List ℕ)) (i : ℕ) → length (front_texts opening i blocks) ≤ length blocks
-length-front_texts opening [] i = omega arith
-length-front_texts opening (block ∷ blocks) i =
-    let h = length-front_texts opening blocks (i + 1) in
-    let P : List (List ℕ) → Type 0 = λ ts. length ts ≤ suc (length blocks) in
-    elim (text_before_last opening i block) as (λ o. P (text_then opening o (front_texts opening (i + 1) blocks)))
-    [ None ↦ omega arith | Some x ↦ omega (arith, h) ]
 
 -- a piece leaves the start
 pub piece_start : (s : Segment) (p : List ℕ) → (with_piece s p).start ≡ s.start
@@ -264,7 +257,8 @@ module _ (sealing : List ℕ → List ℕ → List ℕ) (opening : List ℕ → 
       let low : i < chunk_limit = c.small small in
       let behind = nat_lt ((m + 1) * size) (length s.bytes) in
       let rest = rest_bytes n s.bytes in
-      elim (cases_lt m (length blocks)) [
+      subst (IsReleased i base) (sym (by_blocks opening n s))
+      (elim (cases_lt m (length blocks)) [
         | inl lt ↦
             (let is : slice_get blocks m ≡ Some (get_or blocks m []) = slice_get-within blocks m [] lt in
             let lt' : m < length s.bytes / size = omega (arith, lt, count) in
@@ -278,4 +272,4 @@ module _ (sealing : List ℕ → List ℕ → List ℕ) (opening : List ℕ → 
             (released_rest i base texts rest s.late s.ended low
             (λ t h z. subst (λ (k : ℕ). IsWriters sealing opening n text (nonce_bytes (s.start + k) true) rest) (sym eq)
             (auth.rest eq t h (λ g. omega (arith, eq, z g)))) here))
-      ]
+      ])

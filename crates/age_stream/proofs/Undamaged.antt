@@ -12,7 +12,8 @@ use Rattle.std.proofs.Math.Nat.{add-mul-div_left}
 use Rattle.age_stream.specs.Lawful.{IsLawful}
 use Rattle.age_stream.specs.Nonce.{nonce_bytes, chunk_limit}
 use Rattle.age_stream.specs.Payload.{last_index, last_chunk, chunk_count, pair, sealed_before_last, sealed, block_bytes, payload}
-use Rattle.age_stream.specs.Segment.{Segment, Outcome, outcome, outcome_of, verdict_at, at_block, final_block, after_last, front_texts, text_then, unless_greatest, whole_blocks, rest_bytes}
+use Rattle.age_stream.specs.Segment.{Segment, Outcome, outcome, front_texts, text_then, unless_greatest, whole_blocks, rest_bytes}
+use Rattle.age_stream.specs.inner.SegmentSteps.{at_block, final_block, after_last}
 use Rattle.age_stream.specs.Headline.{IsAuthentic, IsWriters}
 use Rattle.age_stream.specs.declared.step.Status.TheVariants.{Done}
 use Rattle.age_stream.proofs.Nonces.{nonce_bytes-length}
@@ -20,6 +21,7 @@ use Rattle.age_stream.proofs.Chunks.{length-first_chunks, last_chunk_le, slice_g
 use Rattle.age_stream.proofs.Sealings.{last_index_le}
 use Rattle.age_stream.proofs.Segments.{by_test, writer_text}
 use Rattle.age_stream.proofs.Going.{front_on, slice_get_end}
+use Rattle.age_stream.proofs.Table.{outcome_of, verdict_at, by_blocks}
 
 pub all_full : (n c : ℕ) (xs : List ℕ) → c * n ≤ length xs → AllByRecursion (λ (x : List ℕ). length x ≡ n) (first_chunks n c xs)
 all_full n zero xs h = tt
@@ -190,8 +192,9 @@ module _ (sealing : List ℕ → List ℕ → List ℕ) (opening : List ℕ → 
 
     outcome_is : outcome opening n rest_segment ≡ outcome_of opening n k (blocks_of k ds ++ whole_blocks n tail) (length bytes) (rest_bytes n tail) false true
     outcome_is =
-        ap (λ (bs : List (List ℕ)). outcome_of opening n k bs (length bytes) (rest_bytes n bytes) false true) (whole_of k ds tail ds_full)
-        ∙ ap (λ (r : List ℕ). outcome_of opening n k (blocks_of k ds ++ whole_blocks n tail) (length bytes) r false true) (left_of k ds tail ds_full)
+        by_blocks opening n rest_segment
+        ∙ (ap (λ (bs : List (List ℕ)). outcome_of opening n k bs (length bytes) (rest_bytes n bytes) false true) (whole_of k ds tail ds_full)
+        ∙ ap (λ (r : List ℕ). outcome_of opening n k (blocks_of k ds ++ whole_blocks n tail) (length bytes) r false true) (left_of k ds tail ds_full))
 
     open_front : front_texts opening k (blocks_of k ds) ≡ ds
     open_front = front_opens k ds (omega (arith, ds_len, few))

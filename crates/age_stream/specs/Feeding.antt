@@ -23,6 +23,7 @@ module _ {B : Type 0} (sealing : B → List ℕ → List ℕ → List ℕ)
     pub key : new.key ≡ old.key
     pub stands : (s : Segment) → Stands opening n old s
         → Stands opening n new (fed s piece answer)
+    pub index : IfOk answer (λ step. step.index ≡ new.index)
     pub fault : IfErr answer (λ fault. new.status ≡ Failed fault)
     pub unfailed : OnOk answer (has_failed new.status ≡ false)
     -- a text that is lent is a whole chunk, and nothing is held; else all that was taken is held

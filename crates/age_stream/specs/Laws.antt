@@ -1,14 +1,15 @@
 -- Laws over the definitions. A chunk has n bytes.
-use Rattle.std.specs.Prelude.{◌≡◌, ℕ, ◌+◌, ◌-◌, ◌*◌, ◌<◌, ◌≤◌, Bool, false, List, ◌++◌, length, take, Option}
+use Rattle.std.specs.Prelude.{◌≡◌, ◌≢◌, ℕ, ◌+◌, ◌-◌, ◌*◌, ◌<◌, ◌≤◌, Bool, false, List, [], ◌++◌, length, take, Option}
 use Rattle.std.specs.List.{flat_map}
 use Rattle.std.specs.Simd.{first_chunks}
 use Rattle.age_stream.specs.Lawful.{IsLawful}
 use Rattle.age_stream.specs.Nonce.{nonce_bytes, chunk_limit}
-use Rattle.age_stream.specs.Payload.{sealed_before_last, block_bytes}
-use Rattle.age_stream.specs.Segment.{Segment, outcome, released}
-use Rattle.age_stream.specs.Deliveries.{with_piece}
-use Rattle.age_stream.specs.Headline.{IsPrefixOf}
-use Rattle.age_stream.specs.declared.step.Status.TheVariants.{Open}
+use Rattle.age_stream.specs.Payload.{last_index, chunk_count, sealed_before_last, block_bytes, payload}
+use Rattle.age_stream.specs.Segment.{Segment, Outcome, outcome, released}
+use Rattle.age_stream.specs.Deliveries.{with_piece, with_end, fresh}
+use Rattle.age_stream.specs.Headline.{IsPrefixOf, ReleasesWritten}
+use Rattle.age_stream.specs.declared.fault.StreamFault.{StreamFault}
+use Rattle.age_stream.specs.declared.step.Status.TheVariants.{Open, Failed}
 
 -- no two chunks of a payload have the same nonce
 abbrev pub NoncesDiffer : Type 0
@@ -33,6 +34,49 @@ ReleasedGrows = (opening : List ℕ → List ℕ → Option (List ℕ)) (n : ℕ
     → (s.ended ≡ false → s.late ≡ false)
     → IsPrefixOf (released opening n s) (released opening n (with_piece s piece))
     × ((outcome opening n s).index ≤ (outcome opening n (with_piece s piece)).index)
+
+-- a segment of no bytes and no end is open, and released nothing
+abbrev pub FreshIsOpen : Type 0
+FreshIsOpen = (opening : List ℕ → List ℕ → Option (List ℕ)) (n k : ℕ)
+    → outcome opening n (fresh k) ≡ record { texts = []; index = k; status = Open }
+
+-- it released no more, and stands at the same chunk; a refusal stays
+pub record IsSettled (old new : Outcome) : Type 0 where
+  pub texts : new.texts ≡ old.texts
+  pub index : new.index ≡ old.index
+  pub fault : (fault : StreamFault) → old.status ≡ Failed fault → new.status ≡ Failed fault
+
+-- once a segment isn't open, it is settled, whatever comes
+abbrev pub ClosedStays : Type 0
+ClosedStays = (opening : List ℕ → List ℕ → Option (List ℕ)) (n : ℕ) (s : Segment)
+    → (s.ended ≡ false → s.late ≡ false)
+    → (outcome opening n s).status ≢ Open
+    → ((piece : List ℕ) → IsSettled (outcome opening n s) (outcome opening n (with_piece s piece)))
+    × IsSettled (outcome opening n s) (outcome opening n (with_end s))
+
+-- after an end it isn't open, and it stands at the same chunk
+abbrev pub EndCloses : Type 0
+EndCloses = (opening : List ℕ → List ℕ → Option (List ℕ)) (n : ℕ) (s : Segment)
+    → ((outcome opening n (with_end s)).status ≢ Open)
+    × ((outcome opening n (with_end s)).index ≡ (outcome opening n s).index)
+
+-- the headline of every segment, for every box
+abbrev pub ReleasedIsWritten : Type 0
+ReleasedIsWritten = (sealing : List ℕ → List ℕ → List ℕ)
+    (opening : List ℕ → List ℕ → Option (List ℕ))
+    → IsLawful sealing opening
+    → (n : ℕ) → 0 < n
+    → (s : Segment)
+    → ReleasesWritten sealing opening n s (released opening n s) (outcome opening n s).status
+
+-- how long a payload is: each chunk is sealed with 16 bytes more
+abbrev pub PayloadIsLonger : Type 0
+PayloadIsLonger = (sealing : List ℕ → List ℕ → List ℕ)
+    (opening : List ℕ → List ℕ → Option (List ℕ))
+    → IsLawful sealing opening
+    → (n : ℕ) (text : List ℕ)
+    → (length (payload sealing n text) ≡ length text + chunk_count n text * 16)
+    × (length (block_bytes (sealed_before_last sealing n text)) ≡ last_index n text * (n + 16))
 
 -- the payload without its last block of a text begins that of the text and more
 abbrev pub SealedGrows : Type 0

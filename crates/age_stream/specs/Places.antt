@@ -1,17 +1,13 @@
 -- Each block in its place: what a segment gives where its blocks are compared with the writer's. A
 -- chunk has n bytes.
-use Rattle.std.specs.Prelude.{◌≡◌, ◌≢◌, ℕ, ◌+◌, ◌-◌, ◌*◌, ◌<◌, Bool, true, false, ◌&&◌, List, [], ◌∷◌, take, drop, Option, Some, None, if◌then◌else◌}
+use Rattle.std.specs.Prelude.{◌≡◌, ◌≢◌, ℕ, ◌+◌, ◌-◌, ◌<◌, Bool, true, false, ◌&&◌, List, [], ◌∷◌, Option, Some, None, if◌then◌else◌}
 use Rattle.std.specs.List.{list_any}
 use Rattle.std.specs.Str.{bytes_eq}
 use Rattle.age_stream.specs.Nonce.{nonce_bytes}
 use Rattle.age_stream.specs.Payload.{chunks, sealed}
-use Rattle.age_stream.specs.Segment.{Segment, outcome, failed}
+use Rattle.age_stream.specs.Segment.{Segment, outcome, failed, block_at}
 use Rattle.age_stream.specs.declared.step.Status.{Status}
 use Rattle.age_stream.specs.declared.fault.StreamKind.TheVariants.{ChunkDamaged, TooManyChunks}
-
--- block j of these bytes, or what is left of them there
-abbrev pub block_at : ℕ → List ℕ → ℕ → List ℕ
-block_at n bytes j = take (n + 16) (drop (j * (n + 16)) bytes)
 
 -- the chunk that was sealed as this block at this nonce, if any: blocks are compared, and none is
 -- opened

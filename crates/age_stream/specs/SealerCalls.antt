@@ -19,6 +19,7 @@ module _ {B : Type 0} (n : ℕ) (old : SealerView B) where
       (new : SealerView B) : Type 0 where
     pub key : new.key ≡ old.key
     pub unfinished : new.finished ≡ false
+    pub index : IfOk answer (λ step. step.index ≡ new.index)
     pub unfailed : OnOk answer (new.failed ≡ false)
     pub holds : IfOk answer (λ step. (text : List ℕ) → Holds n old text
         → Holds n new (text ++ take step.taken piece))

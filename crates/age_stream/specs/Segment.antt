@@ -1,6 +1,6 @@
 -- What an opener makes of a segment: the bytes that came from one start up to the next. A chunk has
 -- n bytes, its block n + 16.
-use Rattle.std.specs.Prelude.{ℕ, ◌+◌, ◌*◌, ◌/◌, Bool, true, false, ◌||◌, ◌&&◌, ◌==◌, nat_lt, List, [], ◌∷◌, ◌++◌, length, drop, Option, Some, None, if◌then◌else◌, slice_get}
+use Rattle.std.specs.Prelude.{ℕ, ◌+◌, ◌*◌, ◌/◌, Bool, true, false, not, ◌||◌, ◌&&◌, ◌==◌, nat_lt, List, [], ◌∷◌, ◌++◌, length, take, drop, Option, Some, None, is_some, is_none, if◌then◌else◌}
 use Rattle.std.specs.List.{flat_map}
 use Rattle.std.specs.Simd.{first_chunks}
 use Rattle.age_stream.specs.Nonce.{nonce_bytes, chunk_limit}
@@ -32,6 +32,40 @@ whole_blocks n bytes = first_chunks (n + 16) (length bytes / (n + 16)) bytes
 abbrev pub rest_bytes : ℕ → List ℕ → List ℕ
 rest_bytes n bytes = drop (length bytes / (n + 16) * (n + 16)) bytes
 
+-- block j of these bytes, or what is left of them there
+abbrev pub block_at : ℕ → List ℕ → ℕ → List ℕ
+block_at n bytes j = take (n + 16) (drop (j * (n + 16)) bytes)
+
+-- where a segment stands: the texts of the blocks in front, the number of the next block, what came
+-- of it, whether that is all of it, whether bytes came after it, and whether the input ended
+pub record Stop : Type 0 where
+  pub texts : List (List ℕ)
+  pub index : ℕ
+  pub block : List ℕ
+  pub whole : Bool
+  pub followed : Bool
+  pub ended : Bool
+
+-- the rest of the block may still come
+abbrev pub is_waiting : Stop → Bool
+is_waiting b = not b.whole && not b.ended
+
+-- the input ended where a block had to begin
+abbrev pub is_missing : Stop → Bool
+is_missing b = length b.block == 0
+
+-- it ended before a block had as many bytes as a tag
+abbrev pub is_cut : Stop → Bool
+is_cut b = nat_lt (length b.block) 16
+
+-- the last block is a tag alone, though other chunks came before it
+abbrev pub is_empty_last : Stop → Bool
+is_empty_last b = not b.whole && (length b.block == 16 && nat_lt 0 b.index)
+
+-- nothing more is released
+abbrev pub stays : Stop → Status → Outcome
+stays b status = record { texts = b.texts; index = b.index; status = status }
+
 -- the first line that holds, or else what comes after all lines
 abbrev pub first_line : {A : Type 0} → List (Bool × A) → A → A
 first_line [] other = other
@@ -56,58 +90,53 @@ module _ (opening : List ℕ → List ℕ → Option (List ℕ)) where
   front_texts i [] = []
   front_texts i (block ∷ blocks) = text_then (text_before_last i block) (front_texts (i + 1) blocks)
 
-  -- tried as the last block, with its text if it opened, whether bytes followed it, and whether the
-  -- input ended
-  abbrev pub after_last : List (List ℕ) → ℕ → Option (List ℕ) → Bool → Bool → Outcome
-  after_last texts i None followed ended =
-      record { texts = texts; index = i; status = failed ChunkDamaged i }
-  after_last texts i (Some text) followed ended =
+  -- where a segment stands: at the block after those in front
+  abbrev pub stop : ℕ → Segment → Stop
+  stop n s =
+      let texts = front_texts s.start (whole_blocks n s.bytes) in
+      let j = length texts in
       record {
-        texts = texts ++ text ∷ [];
-        index = i;
-        status = first_line ((followed, failed Trailing i) ∷ (ended, Done) ∷ []) LastSeen;
+        texts = texts;
+        index = s.start + j;
+        block = block_at n s.bytes j;
+        whole = length (block_at n s.bytes j) == n + 16;
+        followed = nat_lt ((j + 1) * (n + 16)) (length s.bytes) || s.late;
+        ended = s.ended;
       }
 
-  -- a whole block, with its text if it opened as one before the last: then its number is the
-  -- greatest; else it is tried as the last
-  abbrev pub at_block : List (List ℕ) → ℕ → List ℕ → Bool → Bool → Option (List ℕ) → Outcome
-  at_block texts i block followed ended (Some text) =
-      record { texts = texts; index = i; status = failed TooManyChunks i }
-  at_block texts i block followed ended None =
-      after_last texts i (opening (nonce_bytes i true) block) followed ended
+  -- a whole block that opens as one before the last, though it isn't in front: its number is the
+  -- greatest
+  abbrev pub is_too_many : Stop → Bool
+  is_too_many b = b.whole && is_some (opening (nonce_bytes b.index false) b.block)
 
-  -- less than a whole block: once the input ended it is the last
-  abbrev pub final_block : List (List ℕ) → ℕ → List ℕ → Bool → Bool → Outcome
-  final_block texts i rest late false = record { texts = texts; index = i; status = Open }
-  final_block texts i rest late true =
-      let refused : StreamKind → Outcome = λ kind.
-      record { texts = texts; index = i; status = failed kind i } in
-      let len = length rest in
+  -- it doesn't open as the last
+  abbrev pub is_damaged : Stop → Bool
+  is_damaged b = is_none (opening (nonce_bytes b.index true) b.block)
+
+  -- the text of the last block is released
+  abbrev pub releases_last : Stop → Status → Outcome
+  releases_last b status = record {
+    texts = b.texts ++ text_then (opening (nonce_bytes b.index true) b.block) [];
+    index = b.index;
+    status = status;
+  }
+
+  -- the outcome: the first line that holds
+  abbrev pub verdict : Stop → Outcome
+  verdict b =
       first_line (
-      (nat_lt 0 len && nat_lt len 16, refused ChunkCut)
-      ∷ (len == 16 && nat_lt 0 i, refused EmptyLast)
-      ∷ (len == 0, refused Truncated) ∷ [])
-      (after_last texts i (opening (nonce_bytes i true) rest) late true)
+      (is_waiting b, stays b Open)
+      ∷ (is_missing b, stays b (failed Truncated b.index))
+      ∷ (is_cut b, stays b (failed ChunkCut b.index))
+      ∷ (is_empty_last b, stays b (failed EmptyLast b.index))
+      ∷ (is_too_many b, stays b (failed TooManyChunks b.index))
+      ∷ (is_damaged b, stays b (failed ChunkDamaged b.index))
+      ∷ (b.followed, releases_last b (failed Trailing b.index))
+      ∷ (b.ended, releases_last b Done)
+      ∷ []) (releases_last b LastSeen)
 
-  -- at the whole block that stopped the texts in front, or, if all opened, at what is left after
-  -- them
-  abbrev pub verdict_at : List (List ℕ) → ℕ → Option (List ℕ) → Bool → List ℕ → Bool → Bool
-      → Outcome
-  verdict_at texts i None followed rest late ended = final_block texts i rest late ended
-  verdict_at texts i (Some block) followed rest late ended =
-      at_block texts i block (followed || late) ended (opening (nonce_bytes i false) block)
-
-  -- the outcome, from the bytes split into whole blocks and what is left after them
-  abbrev pub outcome_of : ℕ → ℕ → List (List ℕ) → ℕ → List ℕ → Bool → Bool → Outcome
-  outcome_of n start blocks len rest late ended =
-      let texts = front_texts start blocks in
-      let m = length texts in
-      verdict_at texts (start + m) (slice_get blocks m) (nat_lt ((m + 1) * (n + 16)) len) rest late ended
-
-  abbrev pub outcome : ℕ → Segment → Outcome
-  outcome n s =
-      outcome_of n s.start (whole_blocks n s.bytes) (length s.bytes)
-      (rest_bytes n s.bytes) s.late s.ended
+  unfoldable pub outcome : ℕ → Segment → Outcome
+  outcome n s = verdict (stop n s)
 
   -- the bytes that were released
   abbrev pub released : ℕ → Segment → List ℕ

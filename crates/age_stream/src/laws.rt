@@ -1,5 +1,5 @@
 //! Laws over the definitions, for the layers above.
-ghost use Rattle.age_stream.specs.Laws.{ChunksAreCounted, NoncesDiffer, PiecesJoin, ReleasedGrows, SealedGrows, SealingsDiffer};
+ghost use Rattle.age_stream.specs.Laws.{ChunksAreCounted, ClosedStays, EndCloses, FreshIsOpen, NoncesDiffer, PayloadIsLonger, PiecesJoin, ReleasedGrows, ReleasedIsWritten, SealedGrows, SealingsDiffer};
 ghost use Rattle.age_stream.specs.Authentic.{ClearIsAuthentic, ClearRoundTrip, RestIsAuthentic, RoundTrip, UndamagedIsAuthentic, WholeIsAuthentic};
 ghost use Rattle.age_stream.specs.Parts.{ChunksAreOne, SealsChunks};
 
@@ -22,6 +22,26 @@ pub fn pieces_join()
 /// falls.
 pub fn released_grows()
     ensures { ReleasedGrows }
+{}
+
+/// A segment that was given nothing is open. Once it isn't open, more bytes
+/// and an end release nothing, and a refusal stays. After an end it isn't
+/// open, and it stands at the same chunk.
+pub fn closed_stays()
+    ensures fresh { FreshIsOpen }
+    ensures closed { ClosedStays }
+    ensures end { EndCloses }
+{}
+
+/// The headline of one segment, for every lawful sealing and opening.
+pub fn released_is_written()
+    ensures { ReleasedIsWritten }
+{}
+
+/// A payload has 16 bytes more than its text for each chunk, and the blocks
+/// before the last are whole.
+pub fn payload_is_longer()
+    ensures { PayloadIsLonger }
 {}
 
 /// The payload without its last block of a text begins that of the text and

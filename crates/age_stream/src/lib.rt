@@ -34,15 +34,16 @@ pub use drilling::drill;
 pub use fault::{Memory, StreamFault, StreamKind};
 pub use headline::held_is_written;
 pub use laws::{
-    chunks_are_counted, chunks_are_one, clear_is_authentic, nonces_differ, pieces_join,
-    released_grows, round_trip, sealed_grows, sealings_differ, undamaged_is_authentic,
+    chunks_are_counted, chunks_are_one, clear_is_authentic, closed_stays, nonces_differ,
+    payload_is_longer, pieces_join, released_grows, released_is_written, round_trip, sealed_grows,
+    sealings_differ, undamaged_is_authentic,
 };
 pub use nonce::{CHUNK_LIMIT, nonce_of};
 pub use opener::Opener;
 pub use replay::{Drill, Replay};
 pub use sealer::Sealer;
 pub use step::{Status, Step};
-pub use whole_text::{SealFault, seal_all};
+pub use whole_text::{SealFault, seal_all, seal_into};
 
 #[cfg(test)]
 mod tests;

@@ -32,8 +32,8 @@ struct OpenerState<'k, B: ChunkBox, const SEALED: usize> {
 }
 
 impl<'k, B: ChunkBox, const SEALED: usize> OpenerState<'k, B, SEALED> {
-    ghost use Rattle.age_stream.specs.Segment.{Segment, outcome, released, final_block, failed};
-    ghost use Rattle.age_stream.specs.inner.SegmentSteps.{one_block, status_ended};
+    ghost use Rattle.age_stream.specs.Segment.{Segment, outcome, released, failed};
+    ghost use Rattle.age_stream.specs.inner.SegmentSteps.{final_block, one_block, status_ended};
     ghost use Rattle.age_stream.specs.Deliveries.{with_piece, with_end};
     ghost use Rattle.age_stream.specs.Opening.{Stands, given, handed, has_failed, text_at_end};
     ghost use Rattle.age_stream.specs.OpenerSteps.{held_bytes, opener_view};
@@ -386,6 +386,7 @@ impl<'k, B: ChunkBox, const SEALED: usize> Opener<'k, B, SEALED> {
         ensures taken { IfOk result
             (λ step. step.taken ≡ min (SEALED - length self.old.held) (length piece.now)) }
         ensures some { IfOk result (λ step. 0 < length piece.now → 0 < step.taken) }
+        ensures limit { IfOk result (λ step. step.index < chunk_limit) }
         ensures whole { IfOk result
             (λ step. IfSome step.chunk (λ text. length text.now ≡ SEALED - 16)) }
         ensures nothing { length piece.now ≡ 0 → IfOk result (λ step. chunk_texts step.chunk ≡ []) }
@@ -395,12 +396,18 @@ impl<'k, B: ChunkBox, const SEALED: usize> Opener<'k, B, SEALED> {
         ensures was_open { OnOk result (0 < length piece.now → self.old.status ≡ Status.Open) }
     {
         let (taken, full) = self.state.advance(piece)?;
+        let reached = self.state.index;
         if !full {
-            return Ok(Step { taken, chunk: None });
+            return Ok(Step {
+                taken,
+                index: reached,
+                chunk: None,
+            });
         }
         let text = &self.state.buffer.as_slice()[..SEALED - 16];
         Ok(Step {
             taken,
+            index: reached,
             chunk: Some(text),
         })
     }

@@ -347,7 +347,7 @@ fn push_text(text: &mut Vec<u8>, bytes: &[u8])
 }
 
 // Appends what is lent, if anything is, to a text that has room for it.
-fn push_lent(text: &mut Vec<u8>, chunk: Option<&[u8]>)
+pub(crate) fn push_lent(text: &mut Vec<u8>, chunk: Option<&[u8]>)
     requires { vec_len text.old + length (chunk_bytes chunk) ≤ vec_capacity text.old }
     ensures items { text.new.items ≡ text.old.items ++ chunk_bytes chunk.entry }
     ensures capacity { vec_capacity text.old ≤ vec_capacity text.new }

@@ -270,11 +270,17 @@ impl<'k, B: ChunkBox, const SEALED: usize> Sealer<'k, B, SEALED> {
             × (fault ≡ too_many self.old.index)) }
     {
         let (taken, full) = self.state.advance(piece)?;
+        let reached = self.state.index;
         if !full {
-            return Ok(Step { taken, chunk: None });
+            return Ok(Step {
+                taken,
+                index: reached,
+                chunk: None,
+            });
         }
         Ok(Step {
             taken,
+            index: reached,
             chunk: Some(self.state.buffer.as_slice()),
         })
     }

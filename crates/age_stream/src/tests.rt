@@ -1,4 +1,5 @@
-//! Worked examples that run, and each public function once. The longer ones stand in the crate of the vectors.
+//! Worked examples that run, and each public function once. The longer ones stand in the crate of
+//! the vectors.
 use crate::clear_box::ClearBox;
 use crate::delivery::Delivery;
 use crate::drilling::drill;
@@ -8,7 +9,7 @@ use crate::opener::Opener;
 use crate::replay::Replay;
 use crate::sealer::Sealer;
 use crate::step::Status;
-use crate::whole_text::{SealFault, seal_all};
+use crate::whole_text::{SealFault, seal_all, seal_into};
 use std::test::Fail;
 
 const SEALED_8: &[u8; 40] =
@@ -28,6 +29,17 @@ fn eight_bytes_there_and_back(rt: HostRuntime) -> Result<(), Fail> {
     assert_eq!(rt; replay.index(), 1);
     assert!(rt; replay.take(&Delivery::Restart(3)).is_ok());
     assert_eq!(rt; replay.refused(), 1);
+    Ok(())
+}
+
+#[test]
+fn a_payload_is_appended(rt: HostRuntime) -> Result<(), Fail> {
+    let mut out = Vec::new(rt.alloc());
+    out.extend_from_slice(b"front")?;
+    seal_into::<ClearBox, 20>(&ClearBox, b"abcdefgh", &mut out)?;
+    let (front, payload) = out.as_slice().split_at(5);
+    assert_eq!(rt; front, b"front".as_slice());
+    assert_eq!(rt; payload, SEALED_8.as_slice());
     Ok(())
 }
 
@@ -99,7 +111,7 @@ fn why_a_text_is_not_sealed(rt: HostRuntime) -> Result<(), Fail> {
     Ok(())
 }
 
-// Run it with each allocation refused in turn (rt try --test --fail-alloc N): a refused growth is
+// Run it with each allocation refused in turn (checks/allocations): a refused growth is
 // reported and changes nothing, and the next call takes the same delivery.
 #[test]
 fn a_refused_growth_changes_nothing(rt: HostRuntime) -> Result<(), Fail> {

@@ -1,14 +1,14 @@
 //! A caller of the sealer: it feeds a text, and copies out the blocks that are lent.
-ghost use Rattle.std.specs.Prelude.{◌≡◌, ◌-◌, ◌≤◌, ◌<◌, ◌+◌, ◌*◌, ◌/◌, ◌++◌, min, IfOk, IfErr, OnOk};
+ghost use Rattle.std.specs.Prelude.{◌≡◌, ◌-◌, ◌≤◌, ◌<◌, ◌+◌, ◌*◌, ◌/◌, ◌^◌, ◌++◌, length, IfOk, IfErr, OnOk, IfSome, IfNone, vec_capacity};
 ghost use Rattle.age_stream.specs.Payload.{payload, chunk_count};
 ghost use Rattle.age_stream.specs.Nonce.{chunk_limit};
 ghost use Rattle.age_stream.specs.Authentic.{GivesBack, IsClosed};
-ghost use Rattle.age_stream.specs.Lent.{chunk_bytes};
 ghost use Rattle.age_stream.specs.WholeText.{SealRefuses, number_of, place_of};
 ghost use Rattle.age_stream.specs.declared.whole_text.SealFault.TheVariants.{Stream as StreamRefusal, Memory as MemoryRefusal};
 
 use crate::chunk_box::ChunkBox;
 use crate::fault::StreamFault;
+use crate::replay::push_lent;
 use crate::sealer::Sealer;
 use std::alloc::{AllocError, Global};
 use thiserror::Error;
@@ -65,9 +65,8 @@ impl From<StreamFault> for SealFault {
 }
 
 /// The payload of a text: its chunks, each sealed at its nonce, one after the
-/// other (C2SP age.md, "Payload"), in chunks of `SEALED - 16` bytes. Memory is
-/// asked for once, before anything is sealed; that aside, only a text of more
-/// than 2^48 chunks is refused.
+/// other (C2SP age.md, "Payload"), in chunks of `SEALED - 16` bytes. Refused as
+/// by [`seal_into`].
 pub fn seal_all<B: ChunkBox, const SEALED: usize>(
     alloc: Global,
     key: &B,
@@ -83,41 +82,75 @@ pub fn seal_all<B: ChunkBox, const SEALED: usize>(
     ensures gives_back { IfOk result
         (λ v. IsClosed (B.sealing key.now) (B.opening key.now) (SEALED - 16) text.now
         → GivesBack (B.opening key.now) (SEALED - 16) v.items text.now) }
-    ensures refused { IfErr result (SealRefuses (SEALED - 16) text.now) }
+    ensures refused { IfErr result (SealRefuses (SEALED - 16) text.now 0) }
 {
     let mut out = Vec::new(alloc);
-    out.reserve(payload_len(text.len(), SEALED - 16))?;
+    seal_into::<B, SEALED>(key, text, &mut out)?;
+    Ok(out)
+}
+
+/// Appends the payload of a text, in chunks of `SEALED - 16` bytes. Memory is
+/// asked for once, before anything is sealed, and only where there is no room
+/// for the payload; where it is refused, nothing changes. That aside, only
+/// a text of more than 2^48 chunks is refused.
+pub fn seal_into<B: ChunkBox, const SEALED: usize>(
+    key: &B,
+    text: &[u8],
+    out: &mut Vec<u8>,
+) -> Result<(), SealFault>
+    requires least { 17 ≤ SEALED }
+    requires most { SEALED ≤ 65552 }
+    ensures sealed { OnOk result (out.new.items
+        ≡ out.old.items ++ payload (B.sealing key.now) (SEALED - 16) text.now) }
+    ensures few { OnOk result (chunk_count (SEALED - 16) text.now ≤ chunk_limit) }
+    ensures refused { IfErr result
+        (SealRefuses (SEALED - 16) text.now (vec_capacity out.old - length out.old.items)) }
+    ensures unchanged { IfErr result
+        (λ fault. fault ≡ MemoryRefusal → out.new.items ≡ out.old.items) }
+{
+    let Some(len) = payload_len(text.len(), SEALED - 16) else {
+        return Err(SealFault::Memory);
+    };
+    out.reserve(len)?;
+    seal_within::<B, SEALED>(key, text, out)?;
+    Ok(())
+}
+
+// Appends the payload of a text where there is room for it, so that no memory is asked for.
+fn seal_within<B: ChunkBox, const SEALED: usize>(
+    key: &B,
+    text: &[u8],
+    out: &mut Vec<u8>,
+) -> Result<(), StreamFault>
+    requires least { 17 ≤ SEALED }
+    requires most { SEALED ≤ 65552 }
+    requires room { length out.old.items
+        + (length text.now + chunk_count (SEALED - 16) text.now * 16) ≤ vec_capacity out.old }
+    ensures sealed { OnOk result (out.new.items
+        ≡ out.old.items ++ payload (B.sealing key.now) (SEALED - 16) text.now) }
+    ensures few { OnOk result (chunk_count (SEALED - 16) text.now ≤ chunk_limit) }
+    ensures refused { IfErr result (λ fault. SealRefuses (SEALED - 16) text.now 0
+        (StreamRefusal fault)) }
+{
     let mut sealer = Sealer::<B, SEALED>::new(key);
     let mut at = 0;
     while at < text.len() {
         let step = sealer.feed(&text[at..])?;
-        copy_lent(&mut out, step.chunk)?;
+        push_lent(out, step.chunk);
         at += step.taken;
     }
-    out.extend_from_slice(sealer.finish()?)?;
-    Ok(out)
+    push_lent(out, Some(sealer.finish()?));
+    Ok(())
 }
 
-// How many bytes the payload of a text has, in chunks of so many bytes; at most the greatest
-// number.
-fn payload_len(text_len: usize, chunk_len: usize) -> usize
+// How many bytes the payload of a text has, in chunks of so many bytes, unless it is too long for
+// any memory.
+fn payload_len(text_len: usize, chunk_len: usize) -> Option<usize>
     requires { 0 < chunk_len }
-    ensures { result ≡ min (text_len + ((text_len - 1) / chunk_len + 1) * 16)
-        18446744073709551615 }
+    ensures len { IfSome result (λ len. len ≡ text_len + ((text_len - 1) / chunk_len + 1) * 16) }
+    ensures long { IfNone result
+        (2 ^ 64 ≤ text_len + ((text_len - 1) / chunk_len + 1) * 16) }
 {
     let count = text_len.saturating_sub(1) / chunk_len;
-    count
-        .saturating_add(1)
-        .saturating_mul(16)
-        .saturating_add(text_len)
-}
-
-// Copies out what is lent, if anything is.
-fn copy_lent(out: &mut Vec<u8>, chunk: Option<&[u8]>) -> Result<(), AllocError>
-    ensures { OnOk result (out.new.items ≡ out.old.items ++ chunk_bytes chunk.entry) }
-{
-    match chunk {
-        Some(block) => out.extend_from_slice(block),
-        None => Ok(()),
-    }
+    count.checked_add(1)?.checked_mul(16)?.checked_add(text_len)
 }

@@ -2,8 +2,9 @@
 //! `age_cli::run`, and ends with the status that it answers.
 #![tactic(auto)]
 
-use age_cli::{HostFiles, run};
+use age_cli::run;
 use age_file::{Reading, Writing};
+use age_fileset::HostFiles;
 use std::alloc::Global;
 use std::io;
 use std::process::ExitCode;

@@ -4,7 +4,8 @@ use Rattle.age_stanza.specs.declared.header.Header.{Header}
 use Rattle.age_stanza.specs.Grammar.{HeadText}
 use Rattle.age_keys.specs.Opened.{Opens}
 
--- a header stands in front of the text, and the key may be answered for it, by the unlocker's relation
+-- a header stands in front of the text, and the key may be answered for it, by the unlocker's
+-- relation
 pub record OpensIn (Allows : Header → List ℕ → Type 0) (text key : List ℕ) : Type 0 where
   pub header : Header
   pub size : ℕ

@@ -1,5 +1,5 @@
-// Worked rows of a payload, sealed by a box that hides nothing: chunks of four bytes in blocks of twenty, and what is
-// held under cuts, swaps, repeats, restarts and bytes behind the end.
+// Worked rows of a payload, sealed by a box that hides nothing: chunks of four bytes in blocks of
+// twenty, and what is held under cuts, swaps, repeats, restarts and bytes behind the end.
 use age_stream::{
     CHUNK_LIMIT, ClearBox, Delivery, Opener, Replay, Sealer, Status, StreamFault, StreamKind,
     seal_all,

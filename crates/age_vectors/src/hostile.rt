@@ -1,6 +1,6 @@
-// Hostile bytes: a payload of three blocks, sealed by a box that hides nothing, cut at every byte, with its blocks in
-// wrong orders, and started again at every chunk; and sealed under a real key, with each of its bits inverted. Each with its
-// pieces whole and byte by byte.
+// Hostile bytes: a payload of three blocks, sealed by a box that hides nothing, cut at every byte,
+// with its blocks in wrong orders, and started again at every chunk; and sealed under a real key,
+// with each of its bits inverted. Each with its pieces whole and byte by byte.
 use crate::delivery::{TEN, failed};
 use age_keys::{FileKey, PayloadKey, payload_key};
 use age_stream::{ChunkBox, ClearBox, Delivery, Status, StreamKind, drill, seal_all};
@@ -140,7 +140,8 @@ fn is_order_right(alloc: Global, order: usize) -> bool {
     )
 }
 
-// The whole payload, then again from each chunk on; there is no chunk 3, and a restart there changes nothing.
+// The whole payload, then again from each chunk on; there is no chunk 3, and a restart there
+// changes nothing.
 fn is_restart_right(alloc: Global, k: u64) -> bool {
     let (_, from_second) = TEN.split_at(20);
     let (_, from_third) = TEN.split_at(40);

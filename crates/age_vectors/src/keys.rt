@@ -1,5 +1,5 @@
-// What passphrases and known keys find in headers. The header was made by Python: hashlib's scrypt, HMAC over its
-// SHA-256, and RFC 8439 in plain whole numbers.
+// What passphrases and known keys find in headers. The header was made by Python: hashlib's scrypt,
+// HMAC over its SHA-256, and RFC 8439 in plain whole numbers.
 ghost use Rattle.std.specs.Prelude.{◌<◌, IsTrue, IfOk, codes};
 ghost use Rattle.age_stanza.specs.Grammar.{HeadText};
 ghost use Rattle.age_keys.specs.Opened.{Opens};
@@ -49,7 +49,8 @@ pub(crate) fn opened<U: Unlock>(alloc: Global, text: &[u8], unlock: &U) -> Resul
     }
 }
 
-/// Whether a text's header opens to the file key of all headers here. Where it does, it does so by the definitions.
+/// Whether a text's header opens to the file key of all headers here. Where it does, it does so by
+/// the definitions.
 pub(crate) fn is_opened<U: Unlock>(alloc: Global, text: &[u8], unlock: &U) -> bool
     ensures { IsTrue result → OpensIn (U.allows unlock.now) text.now KEY }
 {

@@ -1,8 +1,9 @@
-//! Outside vectors and worked examples of the constructions under an age file, and the tests that cross crates.
+//! Outside vectors and worked examples of the constructions under an age file, and the tests that
+//! cross crates.
 //!
-//! Each public function runs the vectors of one standard, or the worked examples of one layer, and answers whether every
-//! one came out. Where a contract stands beside it, true says more: that the definition itself, and not only this
-//! program, gives the values of the standard.
+//! Each public function runs the vectors of one standard, or the worked examples of one layer, and
+//! answers whether every one came out. Where a contract stands beside it, true says more: that the
+//! definition itself, and not only this program, gives the values of the standard.
 #![tactic(auto)]
 
 mod cipher;

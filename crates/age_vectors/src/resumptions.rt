@@ -1,5 +1,5 @@
-// Decryptions that go on: from each stop of a decryption, and from the position behind two chunks while one pull, one put or
-// the flush fails. The positions are Python's.
+// Decryptions that go on: from each stop of a decryption, and from the position behind two chunks
+// while one pull, one put or the flush fails. The positions are Python's.
 use crate::stops::{Example, Failure, LOG, PASS, POSITIONS, STEP, decrypted, has_text, is_front};
 use age_file::{Done, MemSink, MemSource, Position, Stopped, resume};
 use age_keys::Passphrase;
@@ -16,7 +16,8 @@ struct Rest<'a> {
     old_pull: Option<u64>,
 }
 
-// How much of the text so many puts took: the copy goes piece by piece of the old text, and chunk by chunk.
+// How much of the text so many puts took: the copy goes piece by piece of the old text, and chunk
+// by chunk.
 const AFTER_PUTS: [usize; 24] = [
     0, 10_000, 20_000, 30_000, 40_000, 50_000, 60_000, 65_536, 70_000, 80_000, 90_000, 100_000,
     110_000, 120_000, 130_000, 131_072, 141_072, 151_072, 161_072, 171_072, 181_072, 191_072,
@@ -40,8 +41,9 @@ fn resumed(alloc: Global, rest: &Rest<'_>) -> Option<(Result<Done, Stopped>, Vec
     Some((answer, sink.into_bytes()))
 }
 
-/// Whether each stop of a decryption with a position can be gone on from; whether positions and old texts of other kinds are
-/// refused; and whether a resumed run stops as it has to where one call fails, and can be gone on from in its turn.
+/// Whether each stop of a decryption with a position can be gone on from; whether positions and old
+/// texts of other kinds are refused; and whether a resumed run stops as it has to where one call
+/// fails, and can be gone on from in its turn.
 pub(crate) fn resume_rows(alloc: Global, example: &Example) -> bool {
     let Some(text) = POSITIONS.get(2) else {
         return false;
@@ -184,8 +186,8 @@ fn refuses_another_file(alloc: Global, rest: &Rest<'_>) -> bool {
     )
 }
 
-// An old text that is as long as it has to be, one that is a byte short, and one whose last byte before the position is
-// another.
+// An old text that is as long as it has to be, one that is a byte short, and one whose last byte
+// before the position is another.
 fn refuses_old_texts(alloc: Global, example: &Example, rest: &Rest<'_>) -> bool {
     let (Some(enough), Some(short)) = (rest.old.get(..131_072), rest.old.get(..131_071)) else {
         return false;
@@ -218,8 +220,8 @@ fn refuses_old_texts(alloc: Global, example: &Example, rest: &Rest<'_>) -> bool 
     ) && writes_old(alloc, &changed, 31, 131_072)
 }
 
-// Twenty-one pulls give the file, and one more tells the end; fourteen give the old text. Fifteen puts take the copy, eight
-// the rest, and the flush is one more call.
+// Twenty-one pulls give the file, and one more tells the end; fourteen give the old text. Fifteen
+// puts take the copy, eight the rest, and the flush is one more call.
 fn stops_in_turn(alloc: Global, example: &Example, rest: &Rest<'_>) -> bool {
     (0..22).all(|pull| stops(alloc, example, rest, Failure::Pull(pull), read_after(pull)))
         && (0..24).all(|put| stops(alloc, example, rest, Failure::Put(put), put_after(put)))
@@ -265,8 +267,8 @@ fn put_after(puts: u64) -> usize {
     AFTER_PUTS.get(puts as usize).copied().unwrap_or(0)
 }
 
-// Whether the run stops behind so much of the text, with a position exactly where the copy was made, from which it can be
-// gone on.
+// Whether the run stops behind so much of the text, with a position exactly where the copy was
+// made, from which it can be gone on.
 fn stops(alloc: Global, example: &Example, rest: &Rest<'_>, failure: Failure, len: usize) -> bool {
     let Some((Err(stopped), text)) = resumed(alloc, &Rest { failure, ..*rest }) else {
         return false;

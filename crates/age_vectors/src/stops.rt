@@ -1,5 +1,5 @@
-// Every failure in turn: a text of 200,000 bytes is encrypted, and its file decrypted, while one pull, one put or the flush
-// fails. The front of the file and the positions are Python's.
+// Every failure in turn: a text of 200,000 bytes is encrypted, and its file decrypted, while one
+// pull, one put or the flush fails. The front of the file and the positions are Python's.
 use crate::resumptions::resume_rows;
 use age_file::{
     Done, FileFault, MemSink, MemSource, Position, Secret, Stopped, Written, decrypt, encrypt,
@@ -80,10 +80,11 @@ impl Failure {
     }
 }
 
-/// Whether an encryption and a decryption of 200,000 bytes stop as they have to where one pull, one put or the flush fails,
-/// each in turn, until a run ends with no stop: with the fault of the source or of the sink, behind as many bytes of the
-/// whole output as could be written by then, and a decryption with the position there, from which another run makes the whole
-/// text. The same of a run that goes on from a position. False too where memory is refused.
+/// Whether an encryption and a decryption of 200,000 bytes stop as they have to where one pull, one
+/// put or the flush fails, each in turn, until a run ends with no stop: with the fault of the
+/// source or of the sink, behind as many bytes of the whole output as could be written by then, and
+/// a decryption with the position there, from which another run makes the whole text. The same of a
+/// run that goes on from a position. False too where memory is refused.
 pub fn stop_rows(alloc: Global) -> bool {
     let Some(example) = make_example(alloc) else {
         return false;
@@ -129,8 +130,8 @@ pub(crate) fn decrypted(
     Some((answer, sink.into_bytes()))
 }
 
-// Twenty pulls give bytes, and one more tells the end. The front takes one put, each of three blocks seven, the last block
-// one, and the flush is one more call.
+// Twenty pulls give bytes, and one more tells the end. The front takes one put, each of three
+// blocks seven, the last block one, and the flush is one more call.
 fn encrypt_rows(alloc: Global, example: &Example) -> bool {
     (0..21).all(|pull| stops_encrypting(alloc, example, Failure::Pull(pull), sealed_after(pull)))
         && (0..24).all(|put| stops_encrypting(alloc, example, Failure::Put(put), file_after(put)))
@@ -161,7 +162,8 @@ fn file_after(puts: u64) -> usize {
     (165 + blocks).min(200_229) as usize
 }
 
-// How much of the text so many pulls make: a block is opened once it is whole. The last one waits for the end.
+// How much of the text so many pulls make: a block is opened once it is whole. The last one waits
+// for the end.
 fn opened_after(pulls: u64) -> usize {
     let file = (pulls as u128 * 10_000).min(200_229);
     (file.saturating_sub(165) / 65_552 * 65_536) as usize
@@ -210,8 +212,8 @@ fn stops_decrypting(alloc: Global, example: &Example, failure: Failure, len: usi
     }
 }
 
-// A position is there from the moment the payload nonce was read, with the first pull, and its index counts the chunks
-// that were wholly written.
+// A position is there from the moment the payload nonce was read, with the first pull, and its
+// index counts the chunks that were wholly written.
 fn is_position_right(
     alloc: Global,
     failure: Failure,

@@ -2,8 +2,8 @@
 use Rattle.age_cli.specs.declared.ending.Ending.{Ending}
 use Rattle.age_cli.specs.declared.ending.Ending.TheVariants.{Usage, Fault}
 use Rattle.age_cli.specs.declared.ending.Usage.TheVariants as usage
-use Rattle.age_cli.specs.declared.files.CreateFault.{CreateFault}
-use Rattle.age_cli.specs.declared.files.CreateFault.TheVariants as create
+use Rattle.age_fileset.specs.declared.files.CreateFault.{CreateFault}
+use Rattle.age_fileset.specs.declared.files.CreateFault.TheVariants as create
 
 -- how a command ends whose output can't be created
 abbrev pub ending_of : CreateFault → Ending

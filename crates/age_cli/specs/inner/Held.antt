@@ -5,7 +5,8 @@ use Rattle.age_file.specs.declared.position.Position.{Position}
 use Rattle.age_file.specs.PositionTexts.{position_text}
 use Rattle.age_cli.specs.Held.{Held}
 
--- the position stands in the file of this name, where both are there, and nothing differs where one isn't
+-- the position stands in the file of this name, where both are there, and nothing differs where one
+-- isn't
 abbrev pub Saves : Option Text → Option Position → Held → Held → Type 0
 Saves (Some name) (Some position) old new = new name ≡ Some (position_text position)
 Saves None position old new = new ≡ old

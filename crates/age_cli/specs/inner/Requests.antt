@@ -3,8 +3,8 @@ use Rattle.std.specs.Prelude.{◌≡◌, true, false, List, Option, Some, None, 
 use Rattle.std.specs.Borrow.{Bor}
 use Rattle.clap.specs.Words.{Row, Text, first_of, one_of}
 use Rattle.age_cli.specs.Asked.{Asks}
-use Rattle.age_cli.specs.declared.files.Durability.{Durability}
-use Rattle.age_cli.specs.declared.files.Durability.TheVariants.{Synced, Buffered}
+use Rattle.age_fileset.specs.declared.files.Durability.{Durability}
+use Rattle.age_fileset.specs.declared.files.Durability.TheVariants.{Synced, Buffered}
 use Rattle.age_cli.specs.declared.request.Encrypting.{Encrypting}
 use Rattle.age_cli.specs.declared.request.Unlocking.{Unlocking}
 use Rattle.age_cli.specs.declared.request.Decrypting.{Decrypting}

@@ -13,7 +13,8 @@ use Rattle.age_file.specs.inner.Skips.{Side, Passes, Dries}
 use Rattle.age_file.specs.declared.fault.FileFault.{FileFault}
 use Rattle.age_file.specs.declared.fault.FileFault.TheVariants.{ShortText, Read, Write, ReadNeverEnds, OldTextDiffers}
 
--- what was written of the old text, fewer bytes than were to be copied: all that the source gave, or its front where the sink failed
+-- what was written of the old text, fewer bytes than were to be copied: all that the source gave,
+-- or its front where the sink failed
 abbrev pub CopyFails : Side → Side → Tally → Tally → List ℕ → FileFault → Type 0
 CopyFails old new was now out ShortText = Passes old new out × (new.unread.bytes ≡ [])
     × IsAtEnd new.coming × (now.failed ≡ was.failed)

@@ -1,4 +1,5 @@
--- How a run's progress counts the chunks that were written. Only private functions cite this. A chunk has n bytes.
+-- How a run's progress counts the chunks that were written. Only private functions cite this. A
+-- chunk has n bytes.
 use Rattle.std.specs.Prelude.{◌≡◌, ℕ, ◌-◌, ◌/◌, ◌<◌, ◌≤◌, min, List, ◌++◌, length, Option}
 use Rattle.std.specs.Simd.{first_chunks}
 use Rattle.age_stream.specs.Segment.{Segment, outcome, released}
@@ -13,8 +14,8 @@ pub record Advances (index : ℕ) (links : Option (List ℕ)) (risen : ℕ) (lin
   pub further : index < risen → (new.index ≡ risen) × (new.chain ≡ link)
   pub still : risen ≤ index → (new.index ≡ index) × (new.chain ≡ links)
 
--- all of the text but for a part was written: the chunks that are counted are those that are whole and were released
--- as not last, and the chain is over them, whatever bytes come behind
+-- all of the text but for a part was written: the chunks that are counted are those that are whole
+-- and were released as not last, and the chain is over them, whatever bytes come behind
 pub record CountsChunks (keep : Positions) (opening : List ℕ → List ℕ → Option (List ℕ)) (n : ℕ)
     (base : List ℕ) (s : Segment) (unwritten : List ℕ) (p : Progress) : Type 0 where
   pub index : (more : List ℕ) → p.index

@@ -1,4 +1,5 @@
--- What flows from a source through an opener to a sink. Only private functions cite this. A chunk has n bytes.
+-- What flows from a source through an opener to a sink. Only private functions cite this. A chunk
+-- has n bytes.
 use Rattle.std.specs.Prelude.{◌≡◌, ℕ, ◌+◌, ◌*◌, ◌^◌, ◌<◌, ◌≤◌, List, [], ◌++◌, length, Option, Result, MatchResult, Bool, true, false}
 use Rattle.std.specs.Io.KnownBytes.{IsAtEnd}
 use Rattle.age_stream.specs.declared.step.Status.TheVariants.{Failed}
@@ -11,7 +12,8 @@ use Rattle.age_file.specs.inner.Releases.{Tally, Releases}
 use Rattle.age_file.specs.declared.fault.FileFault.{FileFault}
 use Rattle.age_file.specs.declared.fault.FileFault.TheVariants.{Stream, Read, Write, ReadNeverEnds}
 
--- an opener, what was written, what a source has to come and how often it failed, and what was pulled and not used
+-- an opener, what was written, what a source has to come and how often it failed, and what was
+-- pulled and not used
 pub record Flow (B : Type 0) : Type 0 where
   pub opener : OpenerView B
   pub tally : Tally

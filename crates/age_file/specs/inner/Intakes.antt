@@ -2,7 +2,7 @@
 use Rattle.std.specs.Prelude.{◌≡◌, ℕ, ◌+◌, ◌*◌, ◌^◌, ◌<◌, ◌≤◌, List, [], ◌++◌, length, Option, Result, Ok, Err, Bool, true, false}
 use Rattle.std.specs.Io.KnownBytes.{Consumes, IsAtEnd}
 use Rattle.age_stanza.specs.Grammar.{HeadText}
-use Rattle.age_file.specs.Faults.{HasRisen}
+use Rattle.age_file.specs.Faults.{HasRisen, NeverEnds}
 use Rattle.age_file.specs.inner.Unread.{Unread}
 use Rattle.age_file.specs.declared.head.Head.{Head}
 use Rattle.age_file.specs.declared.fault.FileFault.{FileFault}
@@ -56,5 +56,5 @@ abbrev pub RestFails : Option (List ℕ) → Option (List ℕ) → ℕ → ℕ �
 RestFails before now failed_old failed_new old Read = HasRisen failed_old failed_new
 RestFails before now failed_old failed_new old ReadNeverEnds = (start : Option (List ℕ))
     (used : List ℕ) → Pulled start before old.pulls (used ++ old.bytes)
-    → (bytes : List ℕ) × Consumes start now bytes × (2 ^ 63 ≤ length bytes)
+    → NeverEnds start now
 RestFails before now failed_old failed_new old other = ⊥

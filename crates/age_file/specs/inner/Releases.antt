@@ -1,4 +1,5 @@
--- What an opener was fed, and what of its text was written. Only private functions cite this. A chunk has n bytes.
+-- What an opener was fed, and what of its text was written. Only private functions cite this. A
+-- chunk has n bytes.
 use Rattle.std.specs.Prelude.{◌≡◌, ℕ, ◌+◌, ◌*◌, ◌<◌, ◌≤◌, List, [], ◌++◌, length, Option, Result, MatchResult}
 use Rattle.std.specs.Io.KnownBytes.{Appends}
 use Rattle.age_stream.specs.declared.step.Status.TheVariants.{Failed, Done}
@@ -28,9 +29,9 @@ tally taken failed label progress = record {
 }
 
 module _ {B : Type 0} (opening : B → List ℕ → List ℕ → Option (List ℕ)) (n : ℕ) where
-  -- for each segment that the opener stood for, it stands for the next, whose text is more by what was
-  -- written and what wasn't;
-  -- behind any base, the progress goes on counting the chunks that were written
+  -- for each segment that the opener stood for, it stands for the next, whose text is more by what
+  -- was written and what wasn't; behind any base, the progress goes on counting the chunks that
+  -- were written
   pub record Releases (next : Segment → Segment) (old new : OpenerView B) (was now : Tally)
       (unwritten : List ℕ) : Type 0 where
     pub out : List ℕ

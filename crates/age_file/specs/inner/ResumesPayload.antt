@@ -1,4 +1,5 @@
--- What was made of the bytes behind a nonce from a later chunk on. Only private functions cite this.
+-- What was made of the bytes behind a nonce from a later chunk on. Only private functions cite
+-- this.
 use Rattle.std.specs.Prelude.{◌≡◌, ◌⊎◌, ℕ, ◌*◌, List, ◌++◌, length, Option, Result, Err}
 use Rattle.age_file.specs.inner.Intakes.{Pulled}
 use Rattle.age_file.specs.inner.Skips.{Side, side, Passes, SkipFails}

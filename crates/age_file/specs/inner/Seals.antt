@@ -1,4 +1,5 @@
--- What a sealer was fed, and what of its blocks was written. What only the private parts of the engines cite.
+-- What a sealer was fed, and what of its blocks was written. What only the private parts of the
+-- engines cite.
 use Rattle.std.specs.Prelude.{◌≡◌, ℕ, ◌+◌, ◌-◌, ◌*◌, ◌^◌, ◌<◌, ◌≤◌, List, [], ◌++◌, length, Option, Result, MatchResult, false}
 use Rattle.std.specs.Io.KnownBytes.{Consumes, Appends, IsAtEnd}
 use Rattle.age_stream.specs.Nonce.{chunk_limit}
@@ -39,7 +40,8 @@ IsTooLong n old piece = (text : List ℕ) → Holds n old text
     → chunk_limit * n < length (text ++ piece)
 
 module _ {B : Type 0} (sealing : B → List ℕ → List ℕ → List ℕ) (n : ℕ) where
-  -- what was written and is still to be written fits its count: the blocks of a text that isn't too long, and something before them
+  -- what was written and is still to be written fits its count: the blocks of a text that isn't too
+  -- long, and something before them
   pub record HasRoom (s : SealerView B) (written more : ℕ) : Type 0 where
     pub text : List ℕ
     pub holds : Holds n s text
@@ -58,7 +60,8 @@ module _ {B : Type 0} (sealing : B → List ℕ → List ℕ → List ℕ) (n : 
   SealFails old was now piece Write = HasRisen was.failures now.failures
   SealFails old was now piece other = ⊥
 
-  -- of a piece the sealer was fed the front; its blocks grew by what was written, and by what wasn't where the sink failed
+  -- of a piece the sealer was fed the front; its blocks grew by what was written, and by what
+  -- wasn't where the sink failed
   pub record SealsSome (old new : SealerView B) (was now : Tally)
       (piece fed left unwritten : List ℕ) : Type 0 where
     pub out : List ℕ
@@ -90,7 +93,8 @@ module _ {B : Type 0} (sealing : B → List ℕ → List ℕ → List ℕ) (n : 
         (λ _. (left ≡ []) × (unwritten ≡ []) × (now.failures ≡ was.failures) × GoesOn old new fed)
         (SealFails old was now piece)
 
--- the last block of what the sealer holds: what of it was written, and what wasn't where the sink failed
+-- the last block of what the sealer holds: what of it was written, and what wasn't where the sink
+-- failed
 module _ {B : Type 0} (sealing : B → List ℕ → List ℕ → List ℕ) (n : ℕ) where
   pub record SealsLast (old : SealerView B) (was now : Tally) (result : Result (Unit {0}) FileFault)
       : Type 0 where

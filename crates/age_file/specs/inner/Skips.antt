@@ -1,4 +1,5 @@
--- What of a source was passed over, and what of an old text was copied. Only private functions cite this.
+-- What of a source was passed over, and what of an old text was copied. Only private functions cite
+-- this.
 use Rattle.std.specs.Prelude.{◌≡◌, ℕ, ◌+◌, ◌*◌, ◌<◌, ◌≤◌, List, [], length, Option, Result, Ok, Err, Bool, true, false}
 use Rattle.std.specs.Io.KnownBytes.{IsAtEnd}
 use Rattle.age_stream.specs.declared.fault.StreamKind.TheVariants.{Truncated}

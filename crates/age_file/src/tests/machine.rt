@@ -5,7 +5,8 @@ ghost use Rattle.std.specs.Prelude.{◌≤◌};
 use super::*;
 use std::io::{self, ErrorKind, Read, Write};
 
-/// Hands on to a reader or a writer; the call numbered `fail_call`, from 0, fails, and moves nothing.
+/// Hands on to a reader or a writer; the call numbered `fail_call`, from 0, fails, and moves
+/// nothing.
 #[derive(Drop)]
 struct FailsAt<T> {
     inner: T,

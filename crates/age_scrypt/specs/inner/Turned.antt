@@ -1,4 +1,5 @@
--- What only private functions cite: a block that is kept with the diagonals of each part in place of its rows.
+-- What only private functions cite: a block that is kept with the diagonals of each part in place
+-- of its rows.
 use Rattle.std.specs.Prelude.{◌≡◌, ℕ, ◌<◌, List, ◌++◌, length}
 use Rattle.age_scrypt.specs.BlockMix.{part}
 use Rattle.age_scrypt.specs.inner.Lanes.{at_places}

@@ -1,38 +1,37 @@
 -- Private: no public contract cites this module.
 -- What the end of a line, some bytes and a piece do to a part of a header.
-use Rattle.std.specs.Prelude.{◌≡◌, ◌⊎◌, ℕ, ◌<◌, ◌≤◌, List, [], ◌∷◌, ◌++◌, length, take, drop, Result, Ok, Err}
+use Rattle.std.specs.Prelude.{◌≡◌, ◌⊎◌, ℕ, ◌<◌, ◌≤◌, List, [], ◌∷◌, ◌++◌, length, take, drop, Option, Some, None, Result, Ok, Err}
 use Rattle.age_stanza.specs.declared.fault.HeadFault.{HeadFault}
+use Rattle.age_stanza.specs.declared.header.Header.{Header}
+use Rattle.age_stanza.specs.declared.header.HeadStep.{HeadStep}
+use Rattle.age_stanza.specs.declared.header.HeadStep.TheVariants.{More, Ready}
 use Rattle.age_stanza.specs.declared.place.Place.TheVariants.{Start}
-use Rattle.age_stanza.specs.declared.partial.Progress.{Progress}
-use Rattle.age_stanza.specs.declared.partial.Progress.TheVariants as progress
-use Rattle.age_stanza.specs.declared.piece.Reading.{Reading}
-use Rattle.age_stanza.specs.declared.piece.Reading.TheVariants as reads
 use Rattle.age_stanza.specs.Grammar.{HeadText}
 use Rattle.age_stanza.specs.Faults.{HasHeader, IsFault, memory_fault}
 use Rattle.age_stanza.specs.inner.LineMachine.{walk, ready, faulty}
 use Rattle.age_stanza.specs.inner.Retelling.{IsUnderWay}
 
--- the LF of a line
-abbrev pub EndsLine : List ℕ → Result Progress HeadFault → Type 0
-EndsLine held (Ok (progress.More longer)) = longer ≡ held ++ 10 ∷ []
-EndsLine held (Ok (progress.Whole h)) = (rest : List ℕ)
+-- the LF behind some bytes
+abbrev pub EndsLine : List ℕ → Result (Option Header) HeadFault → List ℕ → Type 0
+EndsLine held (Ok None) new = new ≡ held ++ 10 ∷ []
+EndsLine held (Ok (Some h)) new = (rest : List ℕ)
     → walk Start 1 [] (held ++ 10 ∷ rest) ≡ ready h rest
-EndsLine held (Err fault) = (fault ≡ memory_fault)
+EndsLine held (Err fault) new = (fault ≡ memory_fault)
     ⊎ ((rest : List ℕ) → walk Start 1 [] (held ++ 10 ∷ rest) ≡ faulty fault)
 
 -- bytes that are all read
-abbrev pub ReadsLines : List ℕ → List ℕ → Result Reading HeadFault → Type 0
-ReadsLines held bytes (Ok (reads.More longer)) = longer ≡ held ++ bytes
-ReadsLines held bytes (Ok (reads.Ready taken h)) = (taken ≤ length bytes)
+abbrev pub ReadsLines : List ℕ → List ℕ → Result HeadStep HeadFault → List ℕ → Type 0
+ReadsLines held bytes (Ok More) new = new ≡ held ++ bytes
+ReadsLines held bytes (Ok (Ready taken h)) new = (taken ≤ length bytes)
     × (walk Start 1 [] (held ++ bytes) ≡ ready h (drop taken bytes))
-ReadsLines held bytes (Err fault) = (fault ≡ memory_fault)
+ReadsLines held bytes (Err fault) new = (fault ≡ memory_fault)
     ⊎ (walk Start 1 [] (held ++ bytes) ≡ faulty fault)
 
 -- a piece, of which no more is read than the limit allows
-abbrev pub TakesPiece : List ℕ → List ℕ → Result Reading HeadFault → Type 0
-TakesPiece held piece (Ok (reads.More longer)) = (longer ≡ held ++ piece)
+abbrev pub TakesPiece : List ℕ → List ℕ → Result HeadStep HeadFault → List ℕ → Type 0
+TakesPiece held piece (Ok More) new = (new ≡ held ++ piece)
     × (length (held ++ piece) < 1048576) × IsUnderWay (held ++ piece)
-TakesPiece held piece (Ok (reads.Ready taken h)) = (taken ≤ length piece)
+TakesPiece held piece (Ok (Ready taken h)) new = (taken ≤ length piece)
     × HeadText h (held ++ take taken piece)
-TakesPiece held piece (Err fault) = (fault ≡ memory_fault)
+TakesPiece held piece (Err fault) new = (fault ≡ memory_fault)
     ⊎ ((HasHeader (held ++ piece) → ⊥) × IsFault (held ++ piece) fault)

@@ -1,3 +1,5 @@
+//! Where a line leads, by its place.
+
 ghost use Rattle.age_stanza.specs.inner.LineMachine.{Gives, step as step_of, ended as ended_of, begun as begun_of, mac_of as spec_mac_of, arguments_of as spec_arguments_of};
 
 use super::{ARMOR, ARMOR_CR, Next, Place, VERSION};
@@ -8,6 +10,7 @@ use crate::header::{Header, Stanza, Stanzas};
 use crate::text::{decode, mac_of};
 use std::alloc::Global;
 
+/// The first line: the version, an armored file's first line, or that of no age file.
 #[tactic(auto, unfolding(crate::specs::inner::LineMachine::step))]
 fn first(alloc: Global, line: &[u8]) -> Result<Next, HeadKind>
     ensures { Gives result (step_of Place.Start line.now) }
@@ -21,6 +24,7 @@ fn first(alloc: Global, line: &[u8]) -> Result<Next, HeadKind>
     Err(HeadKind::NotAge)
 }
 
+/// A line that begins with `---`: the end line, behind one or more stanzas.
 fn end(stanzas: Stanzas, line: &[u8]) -> Result<Next, HeadKind>
     ensures { Gives result (ended_of stanzas (spec_mac_of line.now)) }
 {
@@ -33,6 +37,7 @@ fn end(stanzas: Stanzas, line: &[u8]) -> Result<Next, HeadKind>
     Ok(Next::Done(Header { stanzas, mac }))
 }
 
+/// Any other line behind a whole stanza: the next one's argument line.
 fn begin(alloc: Global, stanzas: Stanzas, line: &[u8]) -> Result<Next, HeadKind>
     ensures { Gives result (begun_of stanzas (spec_arguments_of line.now)) }
 {
@@ -42,6 +47,7 @@ fn begin(alloc: Global, stanzas: Stanzas, line: &[u8]) -> Result<Next, HeadKind>
     Ok(Next::Go(Place::InBody(stanzas, args, Bytes::new(alloc))))
 }
 
+/// A line of a body. One of fewer than 64 characters is its last.
 #[tactic(auto, unfolding(crate::specs::inner::LineMachine::step))]
 fn body_line(
     alloc: Global,
@@ -66,7 +72,7 @@ fn body_line(
     Ok(Next::Go(Place::Between(stanzas)))
 }
 
-/// Where a line leads.
+/// Where a line leads, from any place.
 #[tactic(auto, unfolding(crate::specs::inner::LineMachine::step))]
 pub(crate) fn step(alloc: Global, place: Place, line: &[u8]) -> Result<Next, HeadKind>
     ensures { Gives result (step_of place line.now) }

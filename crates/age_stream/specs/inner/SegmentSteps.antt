@@ -1,10 +1,11 @@
 -- The steps of an opener's outcome, as more bytes or an end come. Only private functions cite this.
-use Rattle.std.specs.Prelude.{ℕ, ◌+◌, Bool, true, false, List, [], ◌∷◌, Option, Some, None}
+use Rattle.std.specs.Prelude.{ℕ, ◌+◌, Bool, true, false, ◌&&◌, ◌==◌, nat_lt, List, [], ◌∷◌, ◌++◌, length, Option, Some, None}
 use Rattle.age_stream.specs.Nonce.{nonce_bytes}
 use Rattle.age_stream.specs.declared.step.Status.{Status}
 use Rattle.age_stream.specs.declared.step.Status.TheVariants.{Open, LastSeen, Done, Failed}
-use Rattle.age_stream.specs.declared.fault.StreamKind.TheVariants.{Trailing}
-use Rattle.age_stream.specs.Segment.{Outcome, failed, text_before_last, at_block}
+use Rattle.age_stream.specs.declared.fault.StreamKind.{StreamKind}
+use Rattle.age_stream.specs.declared.fault.StreamKind.TheVariants.{ChunkDamaged, ChunkCut, EmptyLast, Truncated, Trailing, TooManyChunks}
+use Rattle.age_stream.specs.Segment.{Outcome, failed, first_line, text_before_last}
 
 -- the status once bytes came, or none
 abbrev pub status_after : Bool → ℕ → Status → Status
@@ -24,11 +25,44 @@ status_ended Done = Done
 status_ended Open = Open
 
 module _ (opening : List ℕ → List ℕ → Option (List ℕ)) where
+  -- tried as the last block, with its text if it opened, whether bytes followed it, and whether the
+  -- input ended
+  abbrev pub after_last : List (List ℕ) → ℕ → Option (List ℕ) → Bool → Bool → Outcome
+  after_last texts i None followed ended =
+      record { texts = texts; index = i; status = failed ChunkDamaged i }
+  after_last texts i (Some text) followed ended =
+      record {
+        texts = texts ++ text ∷ [];
+        index = i;
+        status = first_line ((followed, failed Trailing i) ∷ (ended, Done) ∷ []) LastSeen;
+      }
+
+  -- a whole block, with its text if it opened as one before the last: then its number is the
+  -- greatest; else it is tried as the last
+  abbrev pub at_block : List (List ℕ) → ℕ → List ℕ → Bool → Bool → Option (List ℕ) → Outcome
+  at_block texts i block followed ended (Some text) =
+      record { texts = texts; index = i; status = failed TooManyChunks i }
+  at_block texts i block followed ended None =
+      after_last texts i (opening (nonce_bytes i true) block) followed ended
+
+  -- less than a whole block: once the input ended it is the last
+  abbrev pub final_block : List (List ℕ) → ℕ → List ℕ → Bool → Bool → Outcome
+  final_block texts i rest late false = record { texts = texts; index = i; status = Open }
+  final_block texts i rest late true =
+      let refused : StreamKind → Outcome = λ kind.
+      record { texts = texts; index = i; status = failed kind i } in
+      let len = length rest in
+      first_line (
+      (nat_lt 0 len && nat_lt len 16, refused ChunkCut)
+      ∷ (len == 16 && nat_lt 0 i, refused EmptyLast)
+      ∷ (len == 0, refused Truncated) ∷ [])
+      (after_last texts i (opening (nonce_bytes i true) rest) late true)
+
   -- what one whole block alone gives, at number i
   abbrev pub after_front : Option (List ℕ) → ℕ → List ℕ → Outcome
   after_front (Some text) i block = record { texts = text ∷ []; index = i + 1; status = Open }
   after_front None i block =
-      at_block opening [] i block false false (opening (nonce_bytes i false) block)
+      at_block [] i block false false (opening (nonce_bytes i false) block)
 
   abbrev pub one_block : ℕ → List ℕ → Outcome
   one_block i block = after_front (text_before_last opening i block) i block

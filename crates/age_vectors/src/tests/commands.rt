@@ -1,8 +1,8 @@
-//! The commands that encrypt and decrypt, over files in memory. What a contract can't say stands here: which status comes, and
-//! what is told.
+//! The commands that encrypt and decrypt, over files in memory. What a contract can't say stands
+//! here: which status comes, and what is told.
 
 use super::see::{see, see_line};
-use age_cli::MemFiles;
+use age_fileset::MemFiles;
 use std::alloc::Global;
 use std::process::Abort;
 use std::test::Fail;
@@ -27,7 +27,8 @@ pub(super) const ENCRYPT: &[&str] = &[
 
 const DECRYPT: &[&str] = &["decrypt", "--pass", "PASS", "OUT", "BACK"];
 
-/// Encrypts so many bytes, and decrypts them again: the file's length and its report are the standard's.
+/// Encrypts so many bytes, and decrypts them again: the file's length and its report are the
+/// standard's.
 fn there_and_back(
     rt: &impl Abort,
     alloc: Global,

@@ -1,7 +1,7 @@
 //! Payloads that are delivered by a script.
 
 use super::see::see;
-use age_cli::MemFiles;
+use age_fileset::MemFiles;
 use std::alloc::Global;
 use std::process::Abort;
 use std::test::Fail;
@@ -14,8 +14,8 @@ const CLEAR: &[u8] =
 const THREE: &[u8] =
     b"abcd\0\0\0\0\0\0\0\0\0\0\0\0\0\0\0\0efgh\0\0\0\0\0\0\0\0\0\0\x01\0\0\0\0\0ij\0\0\0\0\0\0\0\0\0\0\x02\x01\0\0\0\0";
 
-/// `abcdefgh`, sealed under the passphrase `correct horse` with work factor 1: an age file that Python made, with a
-/// header of 149 bytes.
+/// `abcdefgh`, sealed under the passphrase `correct horse` with work factor 1: an age file that
+/// Python made, with a header of 149 bytes.
 const SEALED: &[u8] =
     b"age-encryption.org/v1\n-> scrypt EBESExQVFhcYGRobHB0eHw 1\ncdiwXonCDvWU+8XXoBzYhmXbXEU8ImVM72ZFkvkXFjk\n--- 7Zgpw6uReJkzRBzSm7B4w7XD7pLWsQ19BJES3qQBAv4\n !\x22#$%&'()*+,-./3\xe1\xa0@N\x0d\x02\xdd\xe7\xc6;\x9b,@X\x0bEs\xdf\x9a\xdd\xd2\x8c\xff";
 

@@ -43,8 +43,8 @@ fn see(rt: &impl Abort, found: &Result<Report, FileFault>, rest: u128, plain: Op
     assert_eq!(rt; report.stanzas.as_slice().len(), 1);
 }
 
-// Nonce and payload of R bytes: 16 and, for each chunk, its plaintext and 16; no plaintext has an empty last chunk but the
-// empty one.
+// Nonce and payload of R bytes: 16 and, for each chunk, its plaintext and 16; no plaintext has an
+// empty last chunk but the empty one.
 #[test]
 fn the_length_of_the_plaintext(rt: HostRuntime) -> Result<(), Fail> {
     let table = [

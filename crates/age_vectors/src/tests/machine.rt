@@ -1,8 +1,8 @@
-//! Runs over the machine's files in a temporary folder: what is refused as one file, and what a run leaves of what it reads and
-//! of what its output held.
+//! Runs over the machine's files in a temporary folder: what is refused as one file, and what a run
+//! leaves of what it reads and of what its output held.
 
 use super::see::see_line;
-use age_cli::HostFiles;
+use age_fileset::HostFiles;
 use std::fs;
 use std::os::unix::fs::symlink;
 use std::process::Abort;
@@ -15,7 +15,8 @@ const PLAIN: &str = "some text";
 
 const SAME: (u8, &str, &str) = (2, "", "age_tool: same file named twice\n");
 
-/// A new folder with a passphrase, a text and its age file, and with a symbolic and a hard link to the passphrase.
+/// A new folder with a passphrase, a text and its age file, and with a symbolic and a hard link to
+/// the passphrase.
 fn folder(abort: &impl Abort, rt: &HostRuntime) -> Result<String, Fail> {
     let alloc = rt.alloc();
     for n in 0..10_000 {

@@ -1,8 +1,9 @@
 //! The program over memory: words, files and input, and what comes of them.
 
 use super::see::see_input;
-use age_cli::{MemFiles, run};
+use age_cli::run;
 use age_file::{MemSink, MemSource};
+use age_fileset::MemFiles;
 use std::alloc::Global;
 use std::process::Abort;
 use std::test::Fail;

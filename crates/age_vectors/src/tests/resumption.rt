@@ -4,8 +4,8 @@ ghost use Rattle.std.specs.Prelude.{false, None};
 
 use super::commands::{ENCRYPT, FILE_KEY, files_with};
 use super::see::see;
-use age_cli::{CreateFault, Durability, FileSet, Log, MemFiles, MemOut};
 use age_file::{FileFault, MemSource};
+use age_fileset::{CreateFault, Durability, FileSet, Log, MemFiles, MemOut};
 use std::alloc::Global;
 use std::process::Abort;
 use std::test::Fail;
@@ -107,7 +107,8 @@ fn with_byte(mut bytes: Vec<u8>, at: usize, other: u8) -> Vec<u8> {
     bytes
 }
 
-/// Resumes with other bytes under a name: the fault, how many bytes were written, and how long a position was saved.
+/// Resumes with other bytes under a name: the fault, how many bytes were written, and how long a
+/// position was saved.
 fn stops(
     rt: &impl Abort,
     alloc: Global,

@@ -1,7 +1,8 @@
 //! A run of the program over memory, and what came of it.
 
-use age_cli::{FileSet, run};
+use age_cli::run;
 use age_file::{MemSink, MemSource};
+use age_fileset::FileSet;
 use std::alloc::Global;
 use std::process::Abort;
 use std::test::Fail;

@@ -1,10 +1,10 @@
-//! Files for an X25519 recipient, opened by the program with a shared secret that was computed elsewhere. Their header is
-//! Python's.
+//! Files for an X25519 recipient, opened by the program with a shared secret that was computed
+//! elsewhere. Their header is Python's.
 
 use super::see::see;
 use crate::keys::KEY;
 use crate::shared::{ONE, RECIPIENT, SECRET};
-use age_cli::MemFiles;
+use age_fileset::MemFiles;
 use age_keys::{FileKey, PayloadKey, payload_key};
 use age_stream::seal_all;
 use std::alloc::Global;

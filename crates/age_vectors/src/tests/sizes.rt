@@ -1,5 +1,5 @@
-//! The lengths of age files, through the library: the header of a passphrase with a work factor of two digits has 150 bytes, the
-//! payload nonce 16, and each chunk 16 more than its text.
+//! The lengths of age files, through the library: the header of a passphrase with a work factor of
+//! two digits has 150 bytes, the payload nonce 16, and each chunk 16 more than its text.
 
 use age_file::{MemSink, MemSource, Secret, decrypt, encrypt};
 use age_keys::Passphrase;

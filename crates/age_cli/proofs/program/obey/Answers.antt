@@ -7,8 +7,8 @@ use Rattle.age_cli.specs.inner.Requests.{Requests}
 use Rattle.age_cli.specs.declared.request.Request.{Request}
 use Rattle.age_cli.specs.declared.request.Request.TheVariants.{Encrypt, Decrypt, Resume, Drill}
 use Rattle.age_cli.specs.Stops.{PortsOf}
-use Rattle.age_cli.proofs.StopSteps.{stops_rows, resumes_stop_rows}
-use Rattle.age_cli.specs.Events.{Follows}
+use Rattle.age_cli.proofs.StopSteps.{sealing_stop_rows, stops_rows, resumes_stop_rows}
+use Rattle.age_cli.specs.EventOrders.{Follows}
 use Rattle.age_cli.specs.Orders.{Order}
 use Rattle.age_cli.proofs.EventSteps.{every_fault, none_done}
 use Rattle.age_cli.proofs.OrderSteps.{asked_order}
@@ -50,19 +50,26 @@ returns-in-Ok-Some-Decrypt-clause-decrypts g c = λ rows asks.
     let request = subst (λ (o : Option Request). IfSome o (Requests w)) (here.field-0-is ∙ ap Some here.field-0-0-is) here.ensures.asked in
     on_ok_weaker c.decrypt_file.result (λ did told. decrypts_rows w rows here.asked _ _ request asks (did told)) c.decrypt_file.ensures.done
 
+pub returns-in-Ok-Some-Encrypt-clause-encrypts_stop : goal.returns-in-Ok-Some-Encrypt-clause-encrypts_stop
+returns-in-Ok-Some-Encrypt-clause-encrypts_stop g c = λ rows asks told.
+    let w = texts c.args.words.now in
+    let here = c.in-Ok-Some-Encrypt in
+    let request = subst (λ (o : Option Request). IfSome o (Requests w)) (here.field-0-is ∙ ap Some here.field-0-0-is) here.ensures.asked in
+    IfErr-weaker c.encrypt_file.result _ _ (λ e did. sealing_stop_rows (PortsOf g.F.In.Source.remaining g.F.In.Source.failed g.F.Out.Sink.taken g.F.Out.Sink.failed) w rows here.asked _ _ e request asks (did told)) c.encrypt_file.ensures.stops
+
 pub returns-in-Ok-Some-Decrypt-clause-decrypts_stop : goal.returns-in-Ok-Some-Decrypt-clause-decrypts_stop
-returns-in-Ok-Some-Decrypt-clause-decrypts_stop g c = λ rows asks.
+returns-in-Ok-Some-Decrypt-clause-decrypts_stop g c = λ rows asks told.
     let w = texts c.args.words.now in
     let here = c.in-Ok-Some-Decrypt in
     let request = subst (λ (o : Option Request). IfSome o (Requests w)) (here.field-0-is ∙ ap Some here.field-0-0-is) here.ensures.asked in
-    IfErr-weaker c.decrypt_file.result _ _ (λ e did told. stops_rows (PortsOf g.F.In.Source.remaining g.F.In.Source.failed g.F.Out.Sink.taken g.F.Out.Sink.failed) w rows here.asked _ _ e request asks (did told)) c.decrypt_file.ensures.stops
+    IfErr-weaker c.decrypt_file.result _ _ (λ e did. stops_rows (PortsOf g.F.In.Source.remaining g.F.In.Source.failed g.F.Out.Sink.taken g.F.Out.Sink.failed) w rows here.asked _ _ e request asks (did told)) c.decrypt_file.ensures.stops
 
 pub returns-in-Ok-Some-Resume-clause-resumes_stop : goal.returns-in-Ok-Some-Resume-clause-resumes_stop
-returns-in-Ok-Some-Resume-clause-resumes_stop g c = λ rows asks.
+returns-in-Ok-Some-Resume-clause-resumes_stop g c = λ rows asks told.
     let w = texts c.args.words.now in
     let here = c.in-Ok-Some-Resume in
     let request = subst (λ (o : Option Request). IfSome o (Requests w)) (here.field-0-is ∙ ap Some here.field-0-0-is) here.ensures.asked in
-    IfErr-weaker c.resume_file.result _ _ (λ e did told. resumes_stop_rows (PortsOf g.F.In.Source.remaining g.F.In.Source.failed g.F.Out.Sink.taken g.F.Out.Sink.failed) w rows here.asked _ _ e request asks (did told)) c.resume_file.ensures.stops
+    IfErr-weaker c.resume_file.result _ _ (λ e did. resumes_stop_rows (PortsOf g.F.In.Source.remaining g.F.In.Source.failed g.F.Out.Sink.taken g.F.Out.Sink.failed) w rows here.asked _ _ e request asks (did told)) c.resume_file.ensures.stops
 
 pub returns-in-Ok-Some-Encrypt-clause-touches : goal.returns-in-Ok-Some-Encrypt-clause-touches
 returns-in-Ok-Some-Encrypt-clause-touches g c = λ name rows asks.
@@ -257,14 +264,23 @@ returns-in-Ok-None-clause-judged g c = λ name rows asks usage. none_done _ _
 pub returns-in-Ok-None-clause-judged_told : goal.returns-in-Ok-None-clause-judged_told
 returns-in-Ok-None-clause-judged_told g c = λ name rows asks told usage. none_done _ _
 
+pub returns-in_err-report-clause-encrypts_stop : goal.returns-in_err-report-clause-encrypts_stop
+returns-in_err-report-clause-encrypts_stop g c =
+    let short : length c.args.words.now ≡ 0 = search rules in
+    λ rows asks. absurd (no_command (texts c.args.words.now) _ rows (ap texts (nil_from_length c.args.words.now short)) asks)
+
+pub returns-in-Err-clause-encrypts_stop : goal.returns-in-Err-clause-encrypts_stop
+returns-in-Err-clause-encrypts_stop g c = λ rows asks told.
+    IfErr-weaker c.answer_refusal.result _ _ (λ e early. inl (refl, early)) c.answer_refusal.ensures.early
+
 pub returns-in_err-report-clause-decrypts_stop : goal.returns-in_err-report-clause-decrypts_stop
 returns-in_err-report-clause-decrypts_stop g c =
     let short : length c.args.words.now ≡ 0 = search rules in
     λ rows asks. absurd (no_command (texts c.args.words.now) _ rows (ap texts (nil_from_length c.args.words.now short)) asks)
 
 pub returns-in-Err-clause-decrypts_stop : goal.returns-in-Err-clause-decrypts_stop
-returns-in-Err-clause-decrypts_stop g c = λ rows asks.
-    IfErr-weaker c.answer_refusal.result _ _ (λ e early told. inl (refl, early)) c.answer_refusal.ensures.early
+returns-in-Err-clause-decrypts_stop g c = λ rows asks told.
+    IfErr-weaker c.answer_refusal.result _ _ (λ e early. inl (refl, early)) c.answer_refusal.ensures.early
 
 pub returns-in_err-report-clause-resumes_stop : goal.returns-in_err-report-clause-resumes_stop
 returns-in_err-report-clause-resumes_stop g c =
@@ -272,5 +288,5 @@ returns-in_err-report-clause-resumes_stop g c =
     λ rows asks. absurd (no_command (texts c.args.words.now) _ rows (ap texts (nil_from_length c.args.words.now short)) asks)
 
 pub returns-in-Err-clause-resumes_stop : goal.returns-in-Err-clause-resumes_stop
-returns-in-Err-clause-resumes_stop g c = λ rows asks.
-    IfErr-weaker c.answer_refusal.result _ _ (λ e early told. inl (refl, inl early)) c.answer_refusal.ensures.early
+returns-in-Err-clause-resumes_stop g c = λ rows asks told.
+    IfErr-weaker c.answer_refusal.result _ _ (λ e early. inl (refl, inl early)) c.answer_refusal.ensures.early

@@ -1,14 +1,22 @@
 use Rattle.std.proofs.Common.{◌∙◌, sym}
 use Rattle.age_cli.specs.Stops.{PortsOf}
-use Rattle.age_cli.proofs.HeadlineSteps.{kept_done, kept_stop}
+use Rattle.age_cli.proofs.HeadlineSteps.{kept_done, kept_stop, kept_resumption_done, kept_resumption_stop}
 use Rattle.age_cli.proofs.Telling.{tells_fault, failed_status, usage_status}
 use Rattle.age_cli.proofs.program.run.Goals as goal
 
 pub returns-in-Err-clause-told : goal.returns-in-Err-clause-told
 returns-in-Err-clause-told g c = λ one. tells_fault c.in-Err.ending _ _ _ _ (sym c.status.ensures ∙ one) c.tell.ensures
 
+pub returns-in-Err-clause-encrypts_stop : goal.returns-in-Err-clause-encrypts_stop
+returns-in-Err-clause-encrypts_stop g c = λ rows asks told one. record {
+  ending = c.in-Err.ending;
+  status = sym c.status.ensures ∙ one;
+  ends = c.in-Err.ensures.encrypts_stop rows asks told;
+  told = c.tell.ensures;
+}
+
 pub returns-in-Err-clause-decrypts_stop : goal.returns-in-Err-clause-decrypts_stop
-returns-in-Err-clause-decrypts_stop g c = λ rows asks one told. record {
+returns-in-Err-clause-decrypts_stop g c = λ rows asks told one. record {
   ending = c.in-Err.ending;
   status = sym c.status.ensures ∙ one;
   ends = c.in-Err.ensures.decrypts_stop rows asks told;
@@ -16,7 +24,7 @@ returns-in-Err-clause-decrypts_stop g c = λ rows asks one told. record {
 }
 
 pub returns-in-Err-clause-resumes_stop : goal.returns-in-Err-clause-resumes_stop
-returns-in-Err-clause-resumes_stop g c = λ rows asks one told. record {
+returns-in-Err-clause-resumes_stop g c = λ rows asks told one. record {
   ending = c.in-Err.ending;
   status = sym c.status.ensures ∙ one;
   ends = c.in-Err.ensures.resumes_stop rows asks told;
@@ -31,6 +39,15 @@ pub returns-in-Err-clause-headline : goal.returns-in-Err-clause-headline
 returns-in-Err-clause-headline g c = λ rows text asks told auth.
     kept_stop (PortsOf g.F.In.Source.remaining g.F.In.Source.failed g.F.Out.Sink.taken g.F.Out.Sink.failed) rows _ _ c.in-Err.ending c.status.result text
     (λ zero. failed_status c.in-Err.ending (sym c.status.ensures ∙ zero)) auth (c.in-Err.ensures.decrypts_stop rows asks told)
+
+pub returns-in-Ok-clause-headline_resumed : goal.returns-in-Ok-clause-headline_resumed
+returns-in-Ok-clause-headline_resumed g c = λ rows text asks told auth.
+    kept_resumption_done rows _ _ 0 text auth (c.in-Ok.ensures.resumes rows asks told)
+
+pub returns-in-Err-clause-headline_resumed : goal.returns-in-Err-clause-headline_resumed
+returns-in-Err-clause-headline_resumed g c = λ rows text asks told auth.
+    kept_resumption_stop (PortsOf g.F.In.Source.remaining g.F.In.Source.failed g.F.Out.Sink.taken g.F.Out.Sink.failed) rows _ _ c.in-Err.ending c.status.result text
+    (λ zero. failed_status c.in-Err.ending (sym c.status.ensures ∙ zero)) auth (c.in-Err.ensures.resumes_stop rows asks told)
 
 pub returns-in-Err-clause-judged : goal.returns-in-Err-clause-judged
 returns-in-Err-clause-judged g c = λ name rows asks two.

@@ -1,14 +1,15 @@
 use Rattle.std.proofs.Common.{ℕ, List, Option, ◌≡◌, ◌∙◌, ◌++◌, ◌∷◌, [], inr, ap, sym, subst, true≢false, Some}
 use Rattle.std.specs.Prelude.{is_some}
 use Rattle.age_cli.specs.Resumptions.{ResumesOut}
-use Rattle.age_cli.specs.inner.OpenerSteps.{opener_of}
+use Rattle.clap.specs.Words.{Text}
+use Rattle.age_cli.specs.inner.IdentitySteps.{IsSecretIn, bytes_of}
 use Rattle.age_cli.specs.inner.Requests.{text_of}
-use Rattle.age_cli.specs.Events.{Follows, Opened, making, replacing}
+use Rattle.age_fileset.specs.Events.{Opened}
+use Rattle.age_cli.specs.EventOrders.{Follows, making, replacing}
 use Rattle.age_cli.specs.Stops.{ResumptionStop, OutStops, PortsOf}
 use Rattle.age_file.specs.declared.position.Positions.{Positions}
-use Rattle.age_cli.proofs.OpenerLemmas.{opener_made}
 use Rattle.age_cli.proofs.StopSteps.{ends_from}
-use Rattle.age_cli.proofs.EventSteps.{every_fault, chosen_opens, stop_follows, three_events, unmade, longer}
+use Rattle.age_cli.proofs.EventSteps.{every_fault, stop_follows, three_events, unmade, longer}
 use Rattle.age_cli.proofs.resumption.resume_file.Goals as goal
 
 pub returns-in-Ok-clause-done : goal.returns-in-Ok-clause-done
@@ -16,40 +17,40 @@ returns-in-Ok-clause-done g c = λ told.
     let entry = g.F.FileSet.entry in
     let r = c.args.asked.now in
     let u = r.decrypting.unlocking in
-    let t1 = c.in_ok-material.ensures.told ∙ told in
+    let t1 = c.in_ok-secret.ensures.told ∙ told in
     let t2 = c.in_ok-position.ensures.told ∙ t1 in
     let t3 = c.in_ok-old.ensures.told ∙ t2 in
     let t4 = c.in_ok-source.ensures.told ∙ t3 in
     let t5 = c.in_ok-out.ensures.told ∙ t4 in
     let made = c.in_ok-out.ensures.made t4 in
-    let k1 = c.in_ok-material.ensures.kept in
+    let k1 = c.in_ok-secret.ensures.kept in
     let k2 = c.in_ok-position.ensures.kept ∙ k1 in
     let k3 = c.in_ok-old.ensures.kept ∙ k2 in
     let k5 = c.in_ok-out.ensures.kept ∙ (c.in_ok-source.ensures.kept ∙ k3) in
-    let opener = opener_of c.in_ok-unlocker.unlocker in
+    let identity = c.in_ok-identity.identity in
     let position = c.in_ok-position.position in
     let input = ap (λ f. f r.decrypting.from.now) (sym k3) ∙ sym (c.in_ok-source.ensures.found t3).1 in
     let old_text = ap (λ f. f r.old.now) (sym k2) ∙ sym (c.in_ok-old.ensures.found t2).1 in
     let out = entry c.write_out.new.files r.decrypting.to.now in
     record {
-      opener = opener;
+      identity = identity;
       position = position;
-      opens = opener_made (entry c.args.files.now) u c.in_ok-chosen.chosen c.in_ok-material.material u.max_log opener c.in_ok-chosen.ensures (c.in_ok-material.ensures.read told) c.in_ok-unlocker.ensures;
+      opens = c.in_ok-identity.ensures (entry c.args.files.now) (subst (λ (n : Option Text). IsSecretIn (entry c.args.files.now) n (bytes_of c.in_ok-secret.secret)) c.in_ok-name.ensures.name (c.in_ok-secret.ensures.read told));
       position_is = ap (λ f. f r.position.now) (sym k1) ∙ c.in_ok-position.ensures.read t1;
       there = ap (λ f. is_some (f r.decrypting.from.now)) (sym k3) ∙ (c.in_ok-source.ensures.found t3).0;
       old_there = ap (λ f. is_some (f r.old.now)) (sym k2) ∙ (c.in_ok-old.ensures.found t2).0;
-      output = subst (λ o. ResumesOut opener position o (entry c.args.files.now r.old.now) out) (sym input)
-          (subst (λ o. ResumesOut opener position (g.F.In.Source.remaining c.in_ok-source.source) o out) (sym old_text)
-          (subst (λ l. ResumesOut opener position (g.F.In.Source.remaining c.in_ok-source.source) (g.F.In.Source.remaining c.in_ok-old.old) (entry c.write_out.new.files l)) made.1 (c.in-Ok.ensures.done t5 made.0)));
+      output = subst (λ o. ResumesOut identity position o (entry c.args.files.now r.old.now) out) (sym input)
+          (subst (λ o. ResumesOut identity position (g.F.In.Source.remaining c.in_ok-source.source) o out) (sym old_text)
+          (subst (λ l. ResumesOut identity position (g.F.In.Source.remaining c.in_ok-source.source) (g.F.In.Source.remaining c.in_ok-old.old) (entry c.write_out.new.files l)) made.1 (c.in-Ok.ensures.done t5 made.0)));
       others = λ q other. c.in-Ok.ensures.others q (λ e. other (e ∙ made.1)) ∙ ap (λ f. f q) k5;
     }
 
 pub returns-clause-spares : goal.returns-clause-spares
 returns-clause-spares g c = λ told q other none.
-    let t4 = c.in_ok-source.ensures.told ∙ (c.in_ok-old.ensures.told ∙ (c.in_ok-position.ensures.told ∙ (c.in_ok-material.ensures.told ∙ told))) in
+    let t4 = c.in_ok-source.ensures.told ∙ (c.in_ok-old.ensures.told ∙ (c.in_ok-position.ensures.told ∙ (c.in_ok-secret.ensures.told ∙ told))) in
     let made = c.in_ok-out.ensures.made t4 in
     let t6 = c.in-Err.ensures.told ∙ (c.in_ok-out.ensures.told ∙ t4) in
-    let k5 = c.in_ok-out.ensures.kept ∙ (c.in_ok-source.ensures.kept ∙ (c.in_ok-old.ensures.kept ∙ (c.in_ok-position.ensures.kept ∙ c.in_ok-material.ensures.kept))) in
+    let k5 = c.in_ok-out.ensures.kept ∙ (c.in_ok-source.ensures.kept ∙ (c.in_ok-old.ensures.kept ∙ (c.in_ok-position.ensures.kept ∙ c.in_ok-secret.ensures.kept))) in
     c.end_of.ensures.others t6 q (λ e. cc) none ∙ (c.in-Err.ensures.others q (λ e. other (ap Some (sym (e ∙ made.1)))) ∙ ap (λ f. f q) k5)
 
 pub returns-clause-stops : goal.returns-clause-stops
@@ -62,18 +63,18 @@ returns-clause-stops g c = λ told.
     let made_in = entry c.create_out.new.files in
     let mid = entry c.write_out.new.files in
     let new = entry c.end_of.new.files in
-    let t1 = c.in_ok-material.ensures.told ∙ told in
+    let t1 = c.in_ok-secret.ensures.told ∙ told in
     let t2 = c.in_ok-position.ensures.told ∙ t1 in
     let t3 = c.in_ok-old.ensures.told ∙ t2 in
     let t4 = c.in_ok-source.ensures.told ∙ t3 in
     let t5 = c.in_ok-out.ensures.told ∙ t4 in
     let t6 = c.in-Err.ensures.told ∙ t5 in
     let made = c.in_ok-out.ensures.made t4 in
-    let k1 = c.in_ok-material.ensures.kept in
+    let k1 = c.in_ok-secret.ensures.kept in
     let k2 = c.in_ok-position.ensures.kept ∙ k1 in
     let k3 = c.in_ok-old.ensures.kept ∙ k2 in
     let k5 = c.in_ok-out.ensures.kept ∙ (c.in_ok-source.ensures.kept ∙ k3) in
-    let opener = opener_of c.in_ok-unlocker.unlocker in
+    let identity = c.in_ok-identity.identity in
     let position = c.in_ok-position.position in
     let read = g.F.In.Source.remaining c.in_ok-source.source in
     let old_read = g.F.In.Source.remaining c.in_ok-old.old in
@@ -83,12 +84,12 @@ returns-clause-stops g c = λ told.
     let elsewhere : text_of d.save ≡ Some d.to.now → ⊥ = λ same. true≢false (sym (c.if-names_one_twice.ensures.saved_to same)) in
     let spared : new d.to.now ≡ mid d.to.now = c.end_of.ensures.others t6 d.to.now (λ e. cc) elsewhere in
     let Engine : Positions → Option (List ℕ) → Option (List ℕ) → ℕ → Option (List ℕ) → Type 0 =
-    λ keep i o. ResumptionStop (PortsOf g.F.In.Source.remaining g.F.In.Source.failed g.F.Out.Sink.taken g.F.Out.Sink.failed) keep opener position i o stop.position stop.fault in
+    λ keep i o. ResumptionStop (PortsOf g.F.In.Source.remaining g.F.In.Source.failed g.F.Out.Sink.taken g.F.Out.Sink.failed) keep identity position i o stop.position stop.fault in
     let kept = c.positions_for.result in
     let out = subst (λ l. OutStops (Engine kept read old_read) (made_in l) (mid l) stop.position stop.fault) made.1 (c.in-Err.ensures.stops t5 made.0) in
     inr (record {
-      opener = opener;
-      opens = opener_made old u c.in_ok-chosen.chosen c.in_ok-material.material u.max_log opener c.in_ok-chosen.ensures (c.in_ok-material.ensures.read told) c.in_ok-unlocker.ensures;
+      identity = identity;
+      opens = c.in_ok-identity.ensures (entry c.args.files.now) (subst (λ (n : Option Text). IsSecretIn (entry c.args.files.now) n (bytes_of c.in_ok-secret.secret)) c.in_ok-name.ensures.name (c.in_ok-secret.ensures.read told));
       from_position = position;
       position_is = ap (λ f. f r.position.now) (sym k1) ∙ c.in_ok-position.ensures.read t1;
       there = ap (λ f. is_some (f d.from.now)) (sym k3) ∙ (c.in_ok-source.ensures.found t3).0;
@@ -111,8 +112,8 @@ returns-clause-order g c =
     let save = text_of d.save in
     let events = g.F.FileSet.events in
     subst (λ o. Follows ((o ++ ((Opened r.position.now ∷ Opened r.old.now ∷ Opened d.from.now ∷ []) ++ making (Some d.to.now))) ++ replacing save) (events c.args.files.now) (events c.end_of.new.files))
-    (sym (chosen_opens d.unlocking c.in_ok-chosen.chosen c.in_ok-chosen.ensures))
-    (stop_follows _ _ _ _ _ _ (Opened r.position.now ∷ Opened r.old.now ∷ Opened d.from.now ∷ []) d.to.now save c.in_ok-material.ensures.noted
+    c.in_ok-name.ensures.one
+    (stop_follows _ _ _ _ _ _ (Opened r.position.now ∷ Opened r.old.now ∷ Opened d.from.now ∷ []) d.to.now save c.in_ok-secret.ensures.noted
     (three_events _ _ _ _ _ _ _ c.in_ok-position.ensures.noted c.in_ok-old.ensures.noted c.in_ok-source.ensures.noted) _ c.in_ok-out.ensures.noted c.in-Err.ensures.noted c.end_of.ensures.noted)
 
 pub returns-in_err-out-clause-order : goal.returns-in_err-out-clause-order
@@ -123,8 +124,8 @@ returns-in_err-out-clause-order g c =
     let events = g.F.FileSet.events in
     longer _ (replacing save) _ _
     (subst (λ o. Follows (o ++ ((Opened r.position.now ∷ Opened r.old.now ∷ Opened d.from.now ∷ []) ++ making (Some d.to.now))) (events c.args.files.now) (events c.create_out.new.files))
-    (sym (chosen_opens d.unlocking c.in_ok-chosen.chosen c.in_ok-chosen.ensures))
-    (unmade _ _ _ [] _ _ (Opened r.position.now ∷ Opened r.old.now ∷ Opened d.from.now ∷ []) d.to.now save c.in_ok-material.ensures.noted
+    c.in_ok-name.ensures.one
+    (unmade _ _ _ [] _ _ (Opened r.position.now ∷ Opened r.old.now ∷ Opened d.from.now ∷ []) d.to.now save c.in_ok-secret.ensures.noted
     (three_events _ _ _ _ _ _ _ c.in_ok-position.ensures.noted c.in_ok-old.ensures.noted c.in_ok-source.ensures.noted) c.in_err-out.ensures.noted_err))
 
 pub returns-in_err-out-clause-order_usage : goal.returns-in_err-out-clause-order_usage
@@ -134,6 +135,6 @@ returns-in_err-out-clause-order_usage g c =
     let events = g.F.FileSet.events in
     every_fault c.from_residual-in_err-out.result _ (λ e usage.
     subst (λ o. Follows (o ++ ((Opened r.position.now ∷ Opened r.old.now ∷ Opened d.from.now ∷ []) ++ making (Some d.to.now))) (events c.args.files.now) (events c.create_out.new.files))
-    (sym (chosen_opens d.unlocking c.in_ok-chosen.chosen c.in_ok-chosen.ensures))
-    (unmade _ _ _ [] _ _ (Opened r.position.now ∷ Opened r.old.now ∷ Opened d.from.now ∷ []) d.to.now (text_of d.save) c.in_ok-material.ensures.noted
+    c.in_ok-name.ensures.one
+    (unmade _ _ _ [] _ _ (Opened r.position.now ∷ Opened r.old.now ∷ Opened d.from.now ∷ []) d.to.now (text_of d.save) c.in_ok-secret.ensures.noted
     (three_events _ _ _ _ _ _ _ c.in_ok-position.ensures.noted c.in_ok-old.ensures.noted c.in_ok-source.ensures.noted) c.in_err-out.ensures.noted_err))

@@ -2,8 +2,7 @@ use Rattle.std.proofs.Common.{◌≡◌, inl, refl, sym, subst, Some, []}
 use Rattle.age_file.specs.Ports.{ports}
 use Rattle.age_file.specs.Resumes.{resume_ports}
 use Rattle.age_cli.specs.Stops.{ResumptionStop, Leaves, OutStops, PortsOf}
-use Rattle.age_cli.specs.Openers.{allows_by, refuses_by}
-use Rattle.age_cli.specs.inner.OpenerSteps.{opener_of}
+use Rattle.age_cli.specs.Identities.{allows_by, refuses_by}
 use Rattle.age_cli.specs.declared.stop.Stop.{Stop}
 use Rattle.age_cli.proofs.StopSteps.{resume_wrote, holds_nothing}
 use Rattle.age_cli.proofs.resumption.write_out.Goals as goal
@@ -14,7 +13,7 @@ returns-in-Err-clause-stops g c = λ told empty.
     let In = g.F.In.Source in
     let Out = g.F.Out.Sink in
     let stopped = c.in-Err.stopped in
-    let opener = opener_of c.args.unlocker.now in
+    let identity = c.args.identity.now in
     let from = c.args.position.now in
     let label = Out.label c.args.out in
     let source = c.args.source.now in
@@ -24,10 +23,10 @@ returns-in-Err-clause-stops g c = λ told empty.
     let writer = c.resume_with.new.writer in
     let before = resume_ports (ports (In.remaining source) (In.failed source) (Out.taken c.args.out) (Out.failed c.args.out)) (In.remaining old) (In.failed old) in
     let after = resume_ports (ports (In.remaining reader) (In.failed reader) (Out.taken writer) (Out.failed writer)) (In.remaining old_reader) (In.failed old_reader) in
-    let wrote = resume_wrote c.args.positions (allows_by opener) from (refuses_by opener) before after stopped.written stopped.position stopped.fault c.in-Err.ensures.stopped in
+    let wrote = resume_wrote c.args.positions (allows_by identity) from (refuses_by identity) before after stopped.written stopped.position stopped.fault c.in-Err.ensures.stopped in
     let none : stopped.written ≡ 0 → Out.taken writer ≡ Some [] = λ zero. holds_nothing (Out.taken c.args.out) (Out.taken writer) stopped.written wrote.0 empty wrote.1 zero in
     subst (λ (s : Stop). OutStops
-    (ResumptionStop (PortsOf In.remaining In.failed Out.taken Out.failed) c.args.positions opener from (In.remaining source) (In.remaining old) s.position s.fault)
+    (ResumptionStop (PortsOf In.remaining In.failed Out.taken Out.failed) c.args.positions identity from (In.remaining source) (In.remaining old) s.position s.fault)
     (entry c.args.files.now label) (entry c.leave.new.files label) s.position s.fault) (sym c.from.ensures)
     (inl (
       stopped.written,
@@ -45,5 +44,5 @@ returns-in-Err-clause-stops g c = λ told empty.
         fails = c.in-Err.ensures.stopped;
         took = refl;
       }),
-      subst (λ l. Leaves stopped.written (Out.taken writer) (entry c.args.files.now l) (entry c.leave.new.files l)) c.in-Err.ensures.named (c.leave.ensures.held told none),
+      subst (λ l. Leaves (stopped.written ≡ 0) (Out.taken writer) (entry c.args.files.now l) (entry c.leave.new.files l)) c.in-Err.ensures.named (c.leave.ensures.held told none),
     ))

@@ -1,12 +1,15 @@
 use Rattle.std.proofs.Common.{◌<◌, ◌≡◌, ◌-◌, ◌≤◌, ℕ, ◌+◌, length, take, drop, List, ◌++◌, ap, sym, subst, ◌∙◌, arith, take-add, min}
 use Rattle.std.proofs.lemmas.List.{take_all, take_rest, length-take, length-drop}
 use Rattle.std.specs.Io.KnownBytes.{Appends}
-use Rattle.age_stream.specs.Sealing.{Holds}
+use Rattle.age_stream.specs.Sealing.{Holds, step_len}
 use Rattle.age_stream.specs.Lent.{chunk_bytes}
 use Rattle.age_stream.specs.Payload.{sealed_before_last, block_bytes, payload}
-use Rattle.age_stream.proofs.SealerSteps.{step_len_le}
+use Rattle.std.proofs.lemmas.Bool.Decides.{nat_tests}
 use Rattle.age_file.proofs.Bytes.{Appends-then}
 use Rattle.age_examples.proofs.sealing.seal_to.Goals as goal
+
+step_len_le : (m : ℕ) (held piece : List ℕ) → step_len m held piece ≤ length piece
+step_len_le m held piece = grind (arith, nat_tests)
 
 take_on : (k t : ℕ) (xs : List ℕ) → take k xs ++ take t (take (length xs - k) (drop k xs)) ≡ take (k + t) xs
 take_on k t xs = ap (λ (ys : List ℕ). take k xs ++ take t ys) (take_rest xs k) ∙ sym (take-add k t xs)

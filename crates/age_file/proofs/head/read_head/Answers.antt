@@ -1,7 +1,7 @@
 use Rattle.std.proofs.Common.{◌≡◌, ◌∙◌, sym, ap, ◌++◌, length, take, arith, rules}
 use Rattle.std.proofs.lemmas.Result.{err_from_is_err_and}
 use Rattle.std.proofs.lemmas.List.{length-append, length-take}
-use Rattle.age_file.proofs.Bytes.{piece_fails, piece_early, end_fails, cut_pulled, head_pulled}
+use Rattle.age_file.proofs.Bytes.{piece_fails, piece_early, end_fails, stops_at, stops_at_held, cut_pulled, head_pulled}
 use Rattle.age_file.proofs.head.read_head.Goals as goal
 
 pub returns-clause-fails : goal.returns-clause-fails
@@ -10,7 +10,7 @@ returns-clause-fails g c =
     let r = rw c.if-branch.false at c.in_ok-refill.ensures in
     let cuts = rw kept.parser_is at c.end.ensures in
     let all = cut_pulled _ _ _ kept.held _ r.answered.0 (r.pulled _ kept.held kept.pulled) in
-    rw c.from.ensures (end_fails _ _ _ _ kept.held c.end.result all.consumed r.answered.2 cuts.2 (cuts.3, kept.short, cuts.0))
+    rw c.from.ensures (end_fails _ _ _ _ kept.held c.end.result (stops_at_held _ _ kept.held all.consumed kept.none kept.sound) all.consumed r.answered.2 cuts.2 (cuts.3, kept.short, cuts.0))
 
 pub returns-in-Ready-clause-found : goal.returns-in-Ready-clause-found
 returns-in-Ready-clause-found g c =
@@ -24,13 +24,19 @@ returns-in-Ready-clause-found g c =
       pulled = head_pulled _ _ c.refill.new.self c.use_front.new.self kept.held c.bytes.result.now taken c.use_front.ensures.pulls c.bytes.ensures.bytes c.use_front.ensures.bytes (c.refill.ensures.pulled _ kept.held kept.pulled);
     }
 
+pub returns-in-Ready-clause-last : goal.returns-in-Ready-clause-last
+returns-in-Ready-clause-last g c =
+    let kept = c.pieces.invariant in
+    let all = rw (← c.bytes.ensures.bytes) at (c.refill.ensures.pulled _ kept.held kept.pulled) in
+    stops_at _ _ kept.held c.bytes.result.now c.bytes.ensures.most kept.none kept.sound all.consumed
+
 pub returns-in_err-feed-clause-fails : goal.returns-in_err-feed-clause-fails
 returns-in_err-feed-clause-fails g c =
     let p = err_from_is_err_and c.from_residual-in_err-feed.result c.from_residual-in_err-feed.ensures.1 in
     let kept = c.pieces.invariant in
     let feeds = rw kept.parser_is at c.in_err-feed.ensures in
     let all = rw (← c.bytes.ensures.bytes) at (c.refill.ensures.pulled _ kept.held kept.pulled) in
-    rw (p.1, p.2) (piece_fails _ _ _ _ kept.held c.bytes.result.now c.in_err-feed.field-0.0 all.consumed feeds.1)
+    rw (p.1, p.2) (piece_fails _ _ _ _ kept.held c.bytes.result.now c.in_err-feed.field-0.0 c.bytes.ensures.most kept.none kept.sound all.consumed feeds.1)
 
 pub returns-in_err-refill-clause-early : goal.returns-in_err-refill-clause-early
 returns-in_err-refill-clause-early g c =
@@ -60,6 +66,7 @@ pieces-preserved g c =
       len_is = omega (arith, kept.len_is, ap length same, length-append kept.held piece);
       short = feeds.1;
       none = feeds.2;
+      sound = feeds.3;
       pulled = rw c.use_all.ensures.pulls all;
       unread = c.use_all.ensures.bytes;
       unfailed = search rules;

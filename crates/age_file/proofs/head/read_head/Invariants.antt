@@ -1,5 +1,5 @@
 use Rattle.std.proofs.Common.{◌-◌, ◌^◌, ◌≡◌, ◌<◌, ℕ, [], List, length}
-use Rattle.age_stanza.specs.Faults.{HasHeader}
+use Rattle.age_stanza.specs.Faults.{HasHeader, NoFault}
 use Rattle.age_stanza.specs.Parsing.{reading}
 use Rattle.age_file.specs.inner.Intakes.{Pulled}
 use Rattle.age_file.proofs.head.read_head.Given as goal
@@ -11,6 +11,7 @@ invariant-pieces g l = record {
   len_is : l.len ≡ length held;
   short : length held < 1048576;
   none : HasHeader held → ⊥;
+  sound : NoFault held;
   pulled : Pulled (g.S.Source.remaining l.fn.source) (g.S.Source.remaining l.source) l.intake.pulls held;
   unread : l.intake.bytes ≡ [];
   unfailed : g.S.Source.failed l.source ≡ g.S.Source.failed l.fn.source;

@@ -3,6 +3,8 @@ use Rattle.std.proofs.lemmas.Result.{err_from_is_err_and}
 use Rattle.std.proofs.lemmas.List.{take-append-drop}
 use Rattle.std.proofs.KnownBytes.{Appends-nil}
 use Rattle.age_stream.specs.Deliveries.{with_piece}
+use Rattle.age_file.specs.inner.Boxes.{opens, seals}
+use Rattle.age_keys.specs.inner.PayloadBox.{box_lawful}
 use Rattle.age_file.specs.inner.Releases.{tally}
 use Rattle.age_file.proofs.ReleaseSteps.{more_text, fed_front, goes_front, counts_whole, counts_refused, counts_cut}
 use Rattle.age_file.proofs.payload.feed_once.Goals as goal
@@ -26,8 +28,8 @@ returns-in_err-step-clause-fed g c =
         named = refl;
         count = omega arith;
         stands = after.stands;
-        text = λ s h. more_text (g.B.ChunkBox.opening key) (g.row.SEALED - 16) s (with_piece s piece) [] [] (c.in_err-step.ensures.texts s h) refl;
-        counts = counts_refused g.B.ChunkBox.opening (g.row.SEALED - 16) (g.B.ChunkBox.sealing key) c.args.opener.now c.feed.follows.lender-at-none c.args.progress.now piece (g.met.B.ChunkBox.lawful key) after.stands c.in_err-step.ensures.texts;
+        text = λ s h. more_text (opens key) 65536 s (with_piece s piece) [] [] (c.in_err-step.ensures.texts s h) refl;
+        counts = counts_refused opens 65536 (seals key) c.args.opener.now c.feed.follows.lender-at-none c.args.progress.now piece (box_lawful key) after.stands c.in_err-step.ensures.texts;
       };
       answered = rw (p.1, p.2) (after.fault, refl, refl, refl);
     }
@@ -49,9 +51,9 @@ returns-in_default-clause-fed g c =
       left = drop step.taken piece;
       unwritten = [];
       parts = sym (take-append-drop step.taken piece);
-      releases = fed_front g.B.ChunkBox.opening (g.row.SEALED - 16) c.args.opener.now new was was piece step.taken None [] [] after.key after.stands texts refl (Appends-nil _) refl (omega arith)
-          (counts_refused g.B.ChunkBox.opening (g.row.SEALED - 16) (g.B.ChunkBox.sealing key) c.args.opener.now new c.args.progress.now (take step.taken piece) (g.met.B.ChunkBox.lawful key) after.stands texts);
-      answered = goes_front g.B.ChunkBox.opening (g.row.SEALED - 16) c.args.opener.now new was was piece step.taken None [] [] (omega (arith, ok.taken)) room refl (omega arith) refl refl;
+      releases = fed_front opens 65536 c.args.opener.now new was was piece step.taken None [] [] after.key after.stands texts refl (Appends-nil _) refl (omega arith)
+          (counts_refused opens 65536 (seals key) c.args.opener.now new c.args.progress.now (take step.taken piece) (box_lawful key) after.stands texts);
+      answered = goes_front opens 65536 c.args.opener.now new was was piece step.taken None [] [] (omega (arith, ok.taken)) room refl (omega arith) refl refl;
     }
 
 -- the sink failed
@@ -72,8 +74,8 @@ returns-in_err-write_all-clause-fed g c =
       left = drop step.taken piece;
       unwritten = put.unwritten;
       parts = sym (take-append-drop step.taken piece);
-      releases = fed_front g.B.ChunkBox.opening (g.row.SEALED - 16) c.args.opener.now c.feed.follows.lender-at-none was _ piece step.taken chunk put.out put.unwritten after.key after.stands texts put.parts put.wrote c.in_err-write_all.ensures.named put.count
-          (counts_cut g.B.ChunkBox.opening (g.row.SEALED - 16) (g.B.ChunkBox.sealing key) c.args.opener.now c.feed.follows.lender-at-none c.args.progress.now _ (take step.taken piece) chunk put.out put.unwritten (g.met.B.ChunkBox.lawful key) after.stands texts put.parts put.stopped refl refl);
+      releases = fed_front opens 65536 c.args.opener.now c.feed.follows.lender-at-none was _ piece step.taken chunk put.out put.unwritten after.key after.stands texts put.parts put.wrote c.in_err-write_all.ensures.named put.count
+          (counts_cut opens 65536 (seals key) c.args.opener.now c.feed.follows.lender-at-none c.args.progress.now _ (take step.taken piece) chunk put.out put.unwritten (box_lawful key) after.stands texts put.parts put.stopped refl refl);
       answered = rw (p.1, p.2, c.in_err-write_all.ensures.fault) put.answered;
     }
 
@@ -90,15 +92,15 @@ returns-clause-fed g c =
     let whole = put.parts ∙ ap (λ (t : List ℕ). put.out ++ t) put.answered.0 in
     let room = rw c.in-Some.is at after.fits in
     let none : [] ≡ [] = refl in
-    let count = c.advance.ensures.same ∙ put.count in
+    let count = c.count.ensures.same ∙ put.count in
     let was = tally (g.O.Sink.taken c.args.sink.now) (g.O.Sink.failed c.args.sink.now) (g.O.Sink.label c.args.sink.now) c.args.progress.now in
-    let now = tally (g.O.Sink.taken c.write_all.new.sink) (g.O.Sink.failed c.write_all.new.sink) (g.O.Sink.label c.write_all.new.sink) c.advance.new.self in
+    let now = tally (g.O.Sink.taken c.write_all.new.sink) (g.O.Sink.failed c.write_all.new.sink) (g.O.Sink.label c.write_all.new.sink) c.count.new.self in
     record {
       fed = take step.taken piece;
       left = drop step.taken piece;
       unwritten = [];
       parts = sym (take-append-drop step.taken piece);
-      releases = fed_front g.B.ChunkBox.opening (g.row.SEALED - 16) c.args.opener.now c.feed.follows.lender-at-none was now piece step.taken chunk put.out [] after.key after.stands texts whole put.wrote c.in_ok-write_all.ensures.named count
-          (counts_whole g.B.ChunkBox.opening (g.row.SEALED - 16) (g.B.ChunkBox.sealing key) c.args.opener.now c.feed.follows.lender-at-none c.args.progress.now c.advance.new.self (take step.taken piece) chunk c.index.result c.chain_over-chain.result (g.met.B.ChunkBox.lawful key) after.key c.index.ensures.index after.stands texts c.chain_over-chain.ensures c.advance.ensures.counted);
-      answered = goes_front g.B.ChunkBox.opening (g.row.SEALED - 16) c.args.opener.now c.feed.follows.lender-at-none was now piece step.taken chunk put.out [] (omega (arith, ok.taken)) room whole count none put.answered.1;
+      releases = fed_front opens 65536 c.args.opener.now c.feed.follows.lender-at-none was now piece step.taken chunk put.out [] after.key after.stands texts whole put.wrote c.in_ok-write_all.ensures.named count
+          (counts_whole opens 65536 (seals key) c.args.opener.now c.feed.follows.lender-at-none c.args.progress.now c.count.new.self (take step.taken piece) chunk step.index (box_lawful key) after.key after.index after.stands texts c.count.ensures.counted);
+      answered = goes_front opens 65536 c.args.opener.now c.feed.follows.lender-at-none was now piece step.taken chunk put.out [] (omega (arith, ok.taken)) room whole count none put.answered.1;
     }

@@ -1,6 +1,7 @@
 use Rattle.std.proofs.Common.{◌≡◌, ◌+◌, ◌-◌, length, take, drop, sym, ap, ◌∙◌, arith, List, ℕ, [], ◌++◌, append-nil, refl, take-add}
 use Rattle.std.proofs.lemmas.Result.{err_from_is_err_and}
 use Rattle.std.proofs.lemmas.List.{take_rest, take-append-drop, length-append, length-drop, append_assoc, take_at, take_all}
+use Rattle.age_file.specs.inner.Boxes.{opens}
 use Rattle.age_file.proofs.ReleaseSteps.{both_then, releases_none, releases_then, fails_then}
 use Rattle.age_file.specs.inner.Releases.{tally}
 use Rattle.age_file.proofs.payload.feed_piece.Goals as goal
@@ -21,7 +22,7 @@ loop-at-init g c =
     let was = tally (g.O.Sink.taken c.args.sink.now) (g.O.Sink.failed c.args.sink.now) (g.O.Sink.label c.args.sink.now) c.args.progress.now in
     record {
       within = omega arith;
-      releases = releases_none g.B.ChunkBox.opening (g.row.SEALED - 16) c.args.opener.now was;
+      releases = releases_none opens 65536 c.args.opener.now was;
       goes = (omega arith, refl, refl);
     }
 
@@ -31,7 +32,7 @@ loop-at-preserved g c =
     let fed = c.in_ok-at.ensures.fed in
     let piece = c.args.piece.now in
     let at = c.loop-at.at in
-    let both = both_then g.B.ChunkBox.opening (g.row.SEALED - 16) (take at piece) fed.fed (take (at + c.in_ok-at.field-0) piece) c.args.opener.now c.loop-at.opener c.feed_once.new.opener
+    let both = both_then opens 65536 (take at piece) fed.fed (take (at + c.in_ok-at.field-0) piece) c.args.opener.now c.loop-at.opener c.feed_once.new.opener
     (tally (g.O.Sink.taken c.args.sink.now) (g.O.Sink.failed c.args.sink.now) (g.O.Sink.label c.args.sink.now) c.args.progress.now)
     (tally (g.O.Sink.taken c.loop-at.sink) (g.O.Sink.failed c.loop-at.sink) (g.O.Sink.label c.loop-at.sink) c.loop-at.progress)
     (tally (g.O.Sink.taken c.feed_once.new.sink) (g.O.Sink.failed c.feed_once.new.sink) (g.O.Sink.label c.feed_once.new.sink) c.feed_once.new.progress) fed.unwritten
@@ -58,8 +59,8 @@ returns-in_err-at g c =
         left = fed.left;
         unwritten = fed.unwritten;
         parts = all_of piece fed.fed fed.left at fed.parts;
-        releases = releases_then g.B.ChunkBox.opening (g.row.SEALED - 16) (take at piece) fed.fed c.args.opener.now c.loop-at.opener c.feed_once.new.opener was mid now fed.unwritten kept.releases fed.releases;
-        answered = rw (p.1, p.2) (fails_then g.B.ChunkBox.opening (g.row.SEALED - 16) (take at piece) c.args.opener.now c.loop-at.opener c.feed_once.new.opener was mid now fed.left fed.unwritten c.in_err-at.field-0.0 kept.goes fed.answered);
+        releases = releases_then opens 65536 (take at piece) fed.fed c.args.opener.now c.loop-at.opener c.feed_once.new.opener was mid now fed.unwritten kept.releases fed.releases;
+        answered = rw (p.1, p.2) (fails_then opens 65536 (take at piece) c.args.opener.now c.loop-at.opener c.feed_once.new.opener was mid now fed.left fed.unwritten c.in_err-at.field-0.0 kept.goes fed.answered);
       };
     }
 

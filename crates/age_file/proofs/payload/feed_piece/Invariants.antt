@@ -1,5 +1,6 @@
 use Rattle.std.proofs.Common.{length, ◌-◌, ◌≤◌, take, []}
 use Rattle.age_stream.specs.Deliveries.{with_piece}
+use Rattle.age_file.specs.inner.Boxes.{opens}
 use Rattle.age_file.specs.inner.Releases.{tally, Releases, FeedGoes}
 use Rattle.age_file.proofs.payload.feed_piece.Given as goal
 
@@ -9,8 +10,8 @@ invariant-loop-at g l =
     let now = tally (g.O.Sink.taken l.sink) (g.O.Sink.failed l.sink) (g.O.Sink.label l.sink) l.progress in
     record {
       within : l.at ≤ length l.piece;
-      releases : Releases g.B.ChunkBox.opening (g.row.SEALED - 16) (λ s. with_piece s (take l.at l.piece)) l.fn.opener l.opener was now [];
-      goes : FeedGoes g.B.ChunkBox.opening (g.row.SEALED - 16) l.fn.opener l.opener was now (take l.at l.piece) [];
+      releases : Releases opens 65536 (λ s. with_piece s (take l.at l.piece)) l.fn.opener l.opener was now [];
+      goes : FeedGoes opens 65536 l.fn.opener l.opener was now (take l.at l.piece) [];
     }
 
 abbrev pub decreases-loop-at : goal.decreases-loop-at

@@ -1,5 +1,6 @@
 use Rattle.std.proofs.Common.{refl, ◌-◌}
 use Rattle.std.proofs.lemmas.Result.{err_from_is_err_and}
+use Rattle.age_file.specs.inner.Boxes.{opens}
 use Rattle.age_file.specs.inner.Releases.{tally}
 use Rattle.age_file.specs.inner.Flows.{flow}
 use Rattle.age_file.proofs.FlowSteps.{flows_none, all_stopped, all_done, on}
@@ -8,14 +9,14 @@ use Rattle.age_file.proofs.payload.open_all.Goals as goal
 pub turns-init : goal.turns-init
 turns-init g c =
     let old = flow c.args.opener.now (tally (g.O.Sink.taken c.args.sink.now) (g.O.Sink.failed c.args.sink.now) (g.O.Sink.label c.args.sink.now) c.args.progress.now) (g.S.Source.remaining c.args.source.now) (g.S.Source.failed c.args.source.now) c.args.intake.now in
-    record { flows = flows_none g.B.ChunkBox.opening (g.row.SEALED - 16) old; same = (refl, refl); room = c.requires }
+    record { flows = flows_none opens 65536 old; same = (refl, refl); room = c.requires }
 
 pub turns-preserved : goal.turns-preserved
 turns-preserved g c =
     let old = flow c.args.opener.now (tally (g.O.Sink.taken c.args.sink.now) (g.O.Sink.failed c.args.sink.now) (g.O.Sink.label c.args.sink.now) c.args.progress.now) (g.S.Source.remaining c.args.source.now) (g.S.Source.failed c.args.source.now) c.args.intake.now in
     let mid = flow c.turns.opener (tally (g.O.Sink.taken c.turns.sink) (g.O.Sink.failed c.turns.sink) (g.O.Sink.label c.turns.sink) c.turns.progress) (g.S.Source.remaining c.turns.source) (g.S.Source.failed c.turns.source) c.turns.intake in
     let new = flow c.turn.new.opener (tally (g.O.Sink.taken c.turn.new.sink) (g.O.Sink.failed c.turn.new.sink) (g.O.Sink.label c.turn.new.sink) c.turn.new.progress) (g.S.Source.remaining c.turn.new.source) (g.S.Source.failed c.turn.new.source) c.turn.new.intake in
-    let o = on g.B.ChunkBox.opening (g.row.SEALED - 16) old mid new c.turns.invariant.flows c.turns.invariant.same (rw c.if-branch.true at c.in_ok-turn.ensures) in
+    let o = on opens 65536 old mid new c.turns.invariant.flows c.turns.invariant.same (rw c.if-branch.true at c.in_ok-turn.ensures) in
     record { flows = o.flows; same = o.same; room = o.room }
 
 pub returns : goal.returns
@@ -23,7 +24,7 @@ returns g c =
     let old = flow c.args.opener.now (tally (g.O.Sink.taken c.args.sink.now) (g.O.Sink.failed c.args.sink.now) (g.O.Sink.label c.args.sink.now) c.args.progress.now) (g.S.Source.remaining c.args.source.now) (g.S.Source.failed c.args.source.now) c.args.intake.now in
     let mid = flow c.turns.opener (tally (g.O.Sink.taken c.turns.sink) (g.O.Sink.failed c.turns.sink) (g.O.Sink.label c.turns.sink) c.turns.progress) (g.S.Source.remaining c.turns.source) (g.S.Source.failed c.turns.source) c.turns.intake in
     let new = flow c.turn.new.opener (tally (g.O.Sink.taken c.turn.new.sink) (g.O.Sink.failed c.turn.new.sink) (g.O.Sink.label c.turn.new.sink) c.turn.new.progress) (g.S.Source.remaining c.turn.new.source) (g.S.Source.failed c.turn.new.source) c.turn.new.intake in
-    all_done g.B.ChunkBox.opening (g.row.SEALED - 16) old mid new c.turns.invariant.flows c.turns.invariant.same (rw c.if-branch.false at c.in_ok-turn.ensures)
+    all_done opens 65536 old mid new c.turns.invariant.flows c.turns.invariant.same (rw c.if-branch.false at c.in_ok-turn.ensures)
 
 pub returns-in_err-turn : goal.returns-in_err-turn
 returns-in_err-turn g c =
@@ -31,4 +32,4 @@ returns-in_err-turn g c =
     let old = flow c.args.opener.now (tally (g.O.Sink.taken c.args.sink.now) (g.O.Sink.failed c.args.sink.now) (g.O.Sink.label c.args.sink.now) c.args.progress.now) (g.S.Source.remaining c.args.source.now) (g.S.Source.failed c.args.source.now) c.args.intake.now in
     let mid = flow c.turns.opener (tally (g.O.Sink.taken c.turns.sink) (g.O.Sink.failed c.turns.sink) (g.O.Sink.label c.turns.sink) c.turns.progress) (g.S.Source.remaining c.turns.source) (g.S.Source.failed c.turns.source) c.turns.intake in
     let new = flow c.turn.new.opener (tally (g.O.Sink.taken c.turn.new.sink) (g.O.Sink.failed c.turn.new.sink) (g.O.Sink.label c.turn.new.sink) c.turn.new.progress) (g.S.Source.remaining c.turn.new.source) (g.S.Source.failed c.turn.new.source) c.turn.new.intake in
-    rw (p.1, p.2) (all_stopped g.B.ChunkBox.opening (g.row.SEALED - 16) old mid new c.in_err-turn.field-0.0 c.turns.invariant.flows c.turns.invariant.same c.in_err-turn.ensures)
+    rw (p.1, p.2) (all_stopped opens 65536 old mid new c.in_err-turn.field-0.0 c.turns.invariant.flows c.turns.invariant.same c.in_err-turn.ensures)

@@ -1,4 +1,5 @@
 use Rattle.std.proofs.Common.{◌-◌, ◌^◌, []}
+use Rattle.age_file.specs.inner.Boxes.{opens}
 use Rattle.age_file.specs.inner.Releases.{tally}
 use Rattle.age_file.specs.inner.Flows.{flow, Flows, HasRoom, SameFailures}
 use Rattle.age_file.proofs.payload.open_all.Given as goal
@@ -8,7 +9,7 @@ invariant-turns g l =
     let old = flow l.fn.opener (tally (g.O.Sink.taken l.fn.sink) (g.O.Sink.failed l.fn.sink) (g.O.Sink.label l.fn.sink) l.fn.progress) (g.S.Source.remaining l.fn.source) (g.S.Source.failed l.fn.source) l.fn.intake in
     let now = flow l.opener (tally (g.O.Sink.taken l.sink) (g.O.Sink.failed l.sink) (g.O.Sink.label l.sink) l.progress) (g.S.Source.remaining l.source) (g.S.Source.failed l.source) l.intake in
     record {
-      flows : Flows g.B.ChunkBox.opening (g.row.SEALED - 16) old now l.intake.bytes [];
+      flows : Flows opens 65536 old now l.intake.bytes [];
       same : SameFailures old now;
       room : HasRoom now;
     }

@@ -1,5 +1,6 @@
 use Rattle.std.proofs.Common.{refl, ◌-◌}
 use Rattle.std.proofs.lemmas.Result.{err_from_is_err_and}
+use Rattle.age_file.specs.inner.Boxes.{opens}
 use Rattle.age_file.specs.inner.Releases.{tally}
 use Rattle.age_file.specs.inner.Flows.{flow}
 use Rattle.age_file.proofs.FlowSteps.{turned, stopped}
@@ -9,11 +10,11 @@ pub returns : goal.returns
 returns g c =
     let old = flow c.args.opener.now (tally (g.O.Sink.taken c.args.sink.now) (g.O.Sink.failed c.args.sink.now) (g.O.Sink.label c.args.sink.now) c.args.progress.now) (g.S.Source.remaining c.args.source.now) (g.S.Source.failed c.args.source.now) c.args.intake.now in
     let new = flow c.feed_piece.new.opener (tally (g.O.Sink.taken c.feed_piece.new.sink) (g.O.Sink.failed c.feed_piece.new.sink) (g.O.Sink.label c.feed_piece.new.sink) c.feed_piece.new.progress) (g.S.Source.remaining c.refill.new.source) (g.S.Source.failed c.refill.new.source) c.refill.new.self in
-    turned g.B.ChunkBox.opening (g.row.SEALED - 16) old new c.use_all.new.self c.bytes.result.now c.refill.result c.bytes.ensures.bytes c.use_all.ensures.pulls c.requires c.in_ok-feed_piece.ensures.fed c.refill.ensures
+    turned opens 65536 old new c.use_all.new.self c.bytes.result.now c.refill.result c.bytes.ensures.bytes c.use_all.ensures.pulls c.requires c.in_ok-feed_piece.ensures.fed c.refill.ensures
 
 pub returns-in_err-feed_piece : goal.returns-in_err-feed_piece
 returns-in_err-feed_piece g c =
     let p = err_from_is_err_and c.from_residual.result c.from_residual.ensures.1 in
     let old = flow c.args.opener.now (tally (g.O.Sink.taken c.args.sink.now) (g.O.Sink.failed c.args.sink.now) (g.O.Sink.label c.args.sink.now) c.args.progress.now) (g.S.Source.remaining c.args.source.now) (g.S.Source.failed c.args.source.now) c.args.intake.now in
     let new = flow c.feed_piece.new.opener (tally (g.O.Sink.taken c.feed_piece.new.sink) (g.O.Sink.failed c.feed_piece.new.sink) (g.O.Sink.label c.feed_piece.new.sink) c.feed_piece.new.progress) (g.S.Source.remaining c.args.source.now) (g.S.Source.failed c.args.source.now) c.args.intake.now in
-    rw (p.1, p.2) (stopped g.B.ChunkBox.opening (g.row.SEALED - 16) old new c.bytes.result.now c.in_err-feed_piece.field-0.0 c.bytes.ensures.bytes refl refl refl c.in_err-feed_piece.ensures.fed)
+    rw (p.1, p.2) (stopped opens 65536 old new c.bytes.result.now c.in_err-feed_piece.field-0.0 c.bytes.ensures.bytes refl refl refl c.in_err-feed_piece.ensures.fed)

@@ -1,86 +1,138 @@
-use Rattle.std.proofs.Common.{None}
-use Rattle.std.proofs.KnownBytes.{Appends-nil}
+use Rattle.std.proofs.Common.{◌∙◌, ◌++◌, [], None, refl}
+use Rattle.age_cipher.specs.Opening.{opening}
+use Rattle.std.proofs.KnownBytes.{Appends-nil, Consumes-nil}
 use Rattle.age_file.specs.inner.Releases.{tally}
 use Rattle.age_file.specs.inner.Skips.{side}
 use Rattle.age_file.specs.inner.Payloads.{stage}
 use Rattle.age_file.specs.Ports.{ports}
 use Rattle.age_file.specs.Resumes.{resume_ports}
-use Rattle.age_file.proofs.ResumeSteps.{start_fails, verdict_fails, copy_fails, resume_done, resume_fails}
+use Rattle.age_file.proofs.Bytes.{stops_unread, preceded}
+use Rattle.age_file.proofs.ResumesPayloadSteps.{resumed_label}
+use Rattle.age_file.proofs.ResumeSteps.{again, start_fails, verdict_fails, copy_fails, resume_done, resume_fails}
 use Rattle.age_file.proofs.UndamagedRest.{undamaged_rest, undamaged_rest_done}
 use Rattle.age_file.proofs.resumption.resume_with.Goals as goal
 
-pub returns-in-Err-verify-clause-stopped : goal.returns-in-Err-verify-clause-stopped
-returns-in-Err-verify-clause-stopped g c =
+pub returns-in_default : goal.returns-in_default
+returns-in_default g c = record {
+  done = tt;
+  stopped = rw c.early.ensures ((Appends-nil _, refl, refl), stops_unread _);
+  undamaged = λ text whole. rw c.early.ensures tt;
+  settled = tt;
+  named = refl;
+}
+
+pub returns-in-Err : goal.returns-in-Err
+returns-in-Err g c =
     let old = resume_ports (ports (g.S.Source.remaining c.args.reader.now) (g.S.Source.failed c.args.reader.now) (g.O.Sink.taken c.args.writer.now) (g.O.Sink.failed c.args.writer.now)) (g.L.Source.remaining c.args.old_reader.now) (g.L.Source.failed c.args.old_reader.now) in
     let new = resume_ports (ports (g.S.Source.remaining c.start.new.source) (g.S.Source.failed c.start.new.source) (g.O.Sink.taken c.args.writer.now) (g.O.Sink.failed c.args.writer.now)) (g.L.Source.remaining c.args.old_reader.now) (g.L.Source.failed c.args.old_reader.now) in
-    rw c.early-in-Err-verify.ensures
-    (verdict_fails c.args.positions (g.U.Unlock.allows c.args.unlock.now) (g.U.Unlock.refuses c.args.unlock.now) c.args.position.now old new c.start.new.intake c.in-Ok.unlocked c.in-Err-verify.fault
-    (Appends-nil _) c.in-Ok.ensures.found c.in-Err-verify.ensures)
+    let Allows = g.U.Unlock.allows c.args.unlock.now in
+    let Refused = g.U.Unlock.refuses c.args.unlock.now in
+    let fails = start_fails c.args.positions Allows Refused c.args.position.now old new c.in-Err.fault (Consumes-nil _) (Appends-nil _) c.in-Err.ensures.fails in
+    record {
+      done = tt;
+      stopped = rw c.early-in-Err.ensures fails;
+      undamaged = λ text whole.
+          rw c.early-in-Err.ensures (undamaged_rest c.one_header.ensures Allows Refused c.args.position.now old new text whole c.args.positions 0 None c.in-Err.fault fails);
+      settled = tt;
+      named = refl;
+    }
 
-pub returns-in-Err-copy_old-clause-stopped : goal.returns-in-Err-copy_old-clause-stopped
-returns-in-Err-copy_old-clause-stopped g c =
-    let first = tally (g.O.Sink.taken c.args.writer.now) (g.O.Sink.failed c.args.writer.now) (g.O.Sink.label c.args.writer.now) c.new-progress.result in
-    let x = side (g.L.Source.remaining c.args.old_reader.now) (g.L.Source.failed c.args.old_reader.now) c.in-Ok-Ok.old_intake in
-    let z = side (g.L.Source.remaining c.copy_old.new.old_reader) (g.L.Source.failed c.copy_old.new.old_reader) c.copy_old.new.intake in
-    let s1 = stage (tally (g.O.Sink.taken c.copy_old.new.writer) (g.O.Sink.failed c.copy_old.new.writer) (g.O.Sink.label c.copy_old.new.writer) c.copy_old.new.progress) (g.S.Source.remaining c.start.new.source) (g.S.Source.failed c.start.new.source) c.start.new.intake in
-    rw c.behind.ensures
-    (copy_fails c.args.positions (g.U.Unlock.allows c.args.unlock.now) (g.U.Unlock.refuses c.args.unlock.now) c.args.position.now (g.S.Source.remaining c.args.reader.now) (g.S.Source.failed c.args.reader.now) c.in-Ok.unlocked
-    s1 c.in-Ok.ensures.found c.in-Ok-verify.ensures c.in-Ok.ensures.unfailed first c.new-progress.ensures.written x z c.in-Ok-Ok.ensures'.0 c.in-Ok-Ok.ensures'.1 c.in-Err-copy_old.fault c.in-Err-copy_old.ensures)
-
-pub returns-in-Ok-open_rest-clause-done : goal.returns-in-Ok-open_rest-clause-done
-returns-in-Ok-open_rest-clause-done g c =
-    let first = tally (g.O.Sink.taken c.args.writer.now) (g.O.Sink.failed c.args.writer.now) (g.O.Sink.label c.args.writer.now) c.new-progress.result in
-    let x = side (g.L.Source.remaining c.args.old_reader.now) (g.L.Source.failed c.args.old_reader.now) c.in-Ok-Ok.old_intake in
-    let z = side (g.L.Source.remaining c.copy_old.new.old_reader) (g.L.Source.failed c.copy_old.new.old_reader) c.copy_old.new.intake in
-    let s1 = stage (tally (g.O.Sink.taken c.copy_old.new.writer) (g.O.Sink.failed c.copy_old.new.writer) (g.O.Sink.label c.copy_old.new.writer) c.copy_old.new.progress) (g.S.Source.remaining c.start.new.source) (g.S.Source.failed c.start.new.source) c.start.new.intake in
-    let s2 = stage (tally (g.O.Sink.taken c.open_rest.new.writer) (g.O.Sink.failed c.open_rest.new.writer) (g.O.Sink.label c.open_rest.new.writer) c.open_rest.new.progress) (g.S.Source.remaining c.open_rest.new.reader) (g.S.Source.failed c.open_rest.new.reader) c.open_rest.new.intake in
-    resume_done c.args.positions (g.U.Unlock.allows c.args.unlock.now) (g.U.Unlock.refuses c.args.unlock.now) c.args.position.now (g.S.Source.remaining c.args.reader.now) (g.S.Source.failed c.args.reader.now) c.in-Ok.unlocked
-    s1 c.in-Ok.ensures.found c.in-Ok-verify.ensures c.in-Ok.ensures.unfailed first c.new-progress.ensures.written x z c.in-Ok-Ok.ensures'.0 c.in-Ok-Ok.ensures'.1
-    c.in-Ok-copy_old.ensures c.args.position.now.within c.payload_key-key.result s2 c.payload_key-key.ensures c.in-Ok-open_rest.ensures.resumes
-
-pub returns-clause-stopped : goal.returns-clause-stopped
-returns-clause-stopped g c =
-    let first = tally (g.O.Sink.taken c.args.writer.now) (g.O.Sink.failed c.args.writer.now) (g.O.Sink.label c.args.writer.now) c.new-progress.result in
-    let x = side (g.L.Source.remaining c.args.old_reader.now) (g.L.Source.failed c.args.old_reader.now) c.in-Ok-Ok.old_intake in
-    let z = side (g.L.Source.remaining c.copy_old.new.old_reader) (g.L.Source.failed c.copy_old.new.old_reader) c.copy_old.new.intake in
-    let s1 = stage (tally (g.O.Sink.taken c.copy_old.new.writer) (g.O.Sink.failed c.copy_old.new.writer) (g.O.Sink.label c.copy_old.new.writer) c.copy_old.new.progress) (g.S.Source.remaining c.start.new.source) (g.S.Source.failed c.start.new.source) c.start.new.intake in
-    let s2 = stage (tally (g.O.Sink.taken c.open_rest.new.writer) (g.O.Sink.failed c.open_rest.new.writer) (g.O.Sink.label c.open_rest.new.writer) c.open_rest.new.progress) (g.S.Source.remaining c.open_rest.new.reader) (g.S.Source.failed c.open_rest.new.reader) c.open_rest.new.intake in
-    rw c.behind-in-Err-open_rest.ensures
-    (resume_fails c.args.positions (g.U.Unlock.allows c.args.unlock.now) (g.U.Unlock.refuses c.args.unlock.now) c.args.position.now (g.S.Source.remaining c.args.reader.now) (g.S.Source.failed c.args.reader.now) c.in-Ok.unlocked
-    s1 c.in-Ok.ensures.found c.in-Ok-verify.ensures c.in-Ok.ensures.unfailed first c.new-progress.ensures.written x z c.in-Ok-Ok.ensures'.0 c.in-Ok-Ok.ensures'.1
-    c.in-Ok-copy_old.ensures c.args.position.now.within c.payload_key-key.result s2 c.position_of-next.result c.in-Err-open_rest.fault c.payload_key-key.ensures
-    c.position_of-next.ensures c.in-Err-open_rest.ensures.resumes)
-
-pub returns-in-Err-clause-undamaged : goal.returns-in-Err-clause-undamaged
-returns-in-Err-clause-undamaged g c = λ text whole.
+pub returns-in-Err-verify : goal.returns-in-Err-verify
+returns-in-Err-verify g c =
     let old = resume_ports (ports (g.S.Source.remaining c.args.reader.now) (g.S.Source.failed c.args.reader.now) (g.O.Sink.taken c.args.writer.now) (g.O.Sink.failed c.args.writer.now)) (g.L.Source.remaining c.args.old_reader.now) (g.L.Source.failed c.args.old_reader.now) in
     let new = resume_ports (ports (g.S.Source.remaining c.start.new.source) (g.S.Source.failed c.start.new.source) (g.O.Sink.taken c.args.writer.now) (g.O.Sink.failed c.args.writer.now)) (g.L.Source.remaining c.args.old_reader.now) (g.L.Source.failed c.args.old_reader.now) in
-    let fails = start_fails c.args.positions (g.U.Unlock.allows c.args.unlock.now) (g.U.Unlock.refuses c.args.unlock.now) c.args.position.now old new c.in-Err.fault (Appends-nil _) c.in-Err.ensures.fails in
-    rw c.early-in-Err.ensures (undamaged_rest c.one_header.ensures (g.U.Unlock.allows c.args.unlock.now) (g.U.Unlock.refuses c.args.unlock.now) c.args.position.now old new text whole c.args.positions 0 None c.in-Err.fault fails)
-
-pub returns-in-Err-verify-clause-undamaged : goal.returns-in-Err-verify-clause-undamaged
-returns-in-Err-verify-clause-undamaged g c = λ text whole.
-    let old = resume_ports (ports (g.S.Source.remaining c.args.reader.now) (g.S.Source.failed c.args.reader.now) (g.O.Sink.taken c.args.writer.now) (g.O.Sink.failed c.args.writer.now)) (g.L.Source.remaining c.args.old_reader.now) (g.L.Source.failed c.args.old_reader.now) in
-    let new = resume_ports (ports (g.S.Source.remaining c.start.new.source) (g.S.Source.failed c.start.new.source) (g.O.Sink.taken c.args.writer.now) (g.O.Sink.failed c.args.writer.now)) (g.L.Source.remaining c.args.old_reader.now) (g.L.Source.failed c.args.old_reader.now) in
-    let fails = verdict_fails c.args.positions (g.U.Unlock.allows c.args.unlock.now) (g.U.Unlock.refuses c.args.unlock.now) c.args.position.now old new c.start.new.intake c.in-Ok.unlocked c.in-Err-verify.fault
+    let Allows = g.U.Unlock.allows c.args.unlock.now in
+    let Refused = g.U.Unlock.refuses c.args.unlock.now in
+    let fails = verdict_fails c.args.positions Allows Refused c.args.position.now old new c.start.new.intake c.in-Ok.unlocked c.in-Err-verify.fault
     (Appends-nil _) c.in-Ok.ensures.found c.in-Err-verify.ensures in
-    rw c.early-in-Err-verify.ensures (undamaged_rest c.one_header.ensures (g.U.Unlock.allows c.args.unlock.now) (g.U.Unlock.refuses c.args.unlock.now) c.args.position.now old new text whole c.args.positions 0 None c.in-Err-verify.fault fails)
+    record {
+      done = tt;
+      stopped = rw c.early-in-Err-verify.ensures fails;
+      undamaged = λ text whole.
+          rw c.early-in-Err-verify.ensures (undamaged_rest c.one_header.ensures Allows Refused c.args.position.now old new text whole c.args.positions 0 None c.in-Err-verify.fault fails);
+      settled = tt;
+      named = refl;
+    }
 
-pub returns-in-Err-copy_old-clause-undamaged : goal.returns-in-Err-copy_old-clause-undamaged
-returns-in-Err-copy_old-clause-undamaged g c = λ text whole.
+pub returns-in-Err-copy_old : goal.returns-in-Err-copy_old
+returns-in-Err-copy_old g c =
+    let first = tally (g.O.Sink.taken c.args.writer.now) (g.O.Sink.failed c.args.writer.now) (g.O.Sink.label c.args.writer.now) c.new-progress.result in
+    let x = side (g.L.Source.remaining c.args.old_reader.now) (g.L.Source.failed c.args.old_reader.now) c.count_on.new.self in
+    let z = side (g.L.Source.remaining c.copy_old.new.old_reader) (g.L.Source.failed c.copy_old.new.old_reader) c.copy_old.new.intake in
+    let s1 = stage (tally (g.O.Sink.taken c.copy_old.new.writer) (g.O.Sink.failed c.copy_old.new.writer) (g.O.Sink.label c.copy_old.new.writer) c.copy_old.new.progress) (g.S.Source.remaining c.start.new.source) (g.S.Source.failed c.start.new.source) c.start.new.intake in
     let old = resume_ports (ports (g.S.Source.remaining c.args.reader.now) (g.S.Source.failed c.args.reader.now) (g.O.Sink.taken c.args.writer.now) (g.O.Sink.failed c.args.writer.now)) (g.L.Source.remaining c.args.old_reader.now) (g.L.Source.failed c.args.old_reader.now) in
     let new = resume_ports (ports (g.S.Source.remaining c.start.new.source) (g.S.Source.failed c.start.new.source) (g.O.Sink.taken c.copy_old.new.writer) (g.O.Sink.failed c.copy_old.new.writer)) (g.L.Source.remaining c.copy_old.new.old_reader) (g.L.Source.failed c.copy_old.new.old_reader) in
-    undamaged_rest c.one_header.ensures (g.U.Unlock.allows c.args.unlock.now) (g.U.Unlock.refuses c.args.unlock.now) c.args.position.now old new text whole c.args.positions c.behind.result.written c.behind.result.position c.behind.result.fault (returns-in-Err-copy_old-clause-stopped g c)
+    let Allows = g.U.Unlock.allows c.args.unlock.now in
+    let Refused = g.U.Unlock.refuses c.args.unlock.now in
+    let fails = copy_fails c.args.positions Allows Refused c.args.position.now (g.S.Source.remaining c.args.reader.now) (g.S.Source.failed c.args.reader.now) c.in-Ok.unlocked
+    s1 c.start.new.intake c.in-Ok.ensures.found c.in-Ok-verify.ensures c.in-Ok.ensures.unfailed first c.new-progress.ensures.written x z (c.count_on.ensures.bytes ∙ c.in-Ok-Ok.ensures'.0) c.count_on.ensures.pulls
+    c.in-Err-copy_old.fault c.in-Err-copy_old.ensures in
+    record {
+      done = tt;
+      stopped = rw c.behind.ensures fails;
+      undamaged = λ text whole.
+          rw c.behind.ensures (undamaged_rest c.one_header.ensures Allows Refused c.args.position.now old new text whole c.args.positions c.copy_old.new.progress.written None c.in-Err-copy_old.fault fails);
+      settled = tt;
+      named = c.in-Err-copy_old.ensures.named;
+    }
 
-pub returns-clause-undamaged : goal.returns-clause-undamaged
-returns-clause-undamaged g c = λ text whole.
+pub open_rest-requires-clause-pulled : goal.open_rest-requires-clause-pulled
+open_rest-requires-clause-pulled g c =
+    let first = tally (g.O.Sink.taken c.args.writer.now) (g.O.Sink.failed c.args.writer.now) (g.O.Sink.label c.args.writer.now) c.new-progress.result in
+    let x = side (g.L.Source.remaining c.args.old_reader.now) (g.L.Source.failed c.args.old_reader.now) c.count_on.new.self in
+    let z = side (g.L.Source.remaining c.copy_old.new.old_reader) (g.L.Source.failed c.copy_old.new.old_reader) c.copy_old.new.intake in
+    let s1 = stage (tally (g.O.Sink.taken c.copy_old.new.writer) (g.O.Sink.failed c.copy_old.new.writer) (g.O.Sink.label c.copy_old.new.writer) c.copy_old.new.progress) (g.S.Source.remaining c.start.new.source) (g.S.Source.failed c.start.new.source) c.count_on-2.new.self in
+    let found = c.in-Ok.ensures.found in
+    let copied = c.in-Ok-copy_old.ensures in (
+      preceded (copied.out ++ z.unread.bytes) (g.S.Source.remaining c.args.reader.now),
+      (copied.out ++ z.unread.bytes) ++ (found.front ++ c.in-Ok.unlocked.nonce),
+      again c.args.positions (g.U.Unlock.allows c.args.unlock.now) (g.U.Unlock.refuses c.args.unlock.now) c.args.position.now (g.S.Source.remaining c.args.reader.now) (g.S.Source.failed c.args.reader.now) c.in-Ok.unlocked
+          s1 c.start.new.intake found c.in-Ok-verify.ensures c.in-Ok.ensures.unfailed first c.new-progress.ensures.written x z (c.count_on.ensures.bytes ∙ c.in-Ok-Ok.ensures'.0) c.count_on.ensures.pulls
+          copied c.args.position.now.within c.count_on-2.ensures.bytes c.count_on-2.ensures.pulls,
+    )
+
+pub returns-in-Ok-open_rest : goal.returns-in-Ok-open_rest
+returns-in-Ok-open_rest g c =
+    let first = tally (g.O.Sink.taken c.args.writer.now) (g.O.Sink.failed c.args.writer.now) (g.O.Sink.label c.args.writer.now) c.new-progress.result in
+    let x = side (g.L.Source.remaining c.args.old_reader.now) (g.L.Source.failed c.args.old_reader.now) c.count_on.new.self in
+    let z = side (g.L.Source.remaining c.copy_old.new.old_reader) (g.L.Source.failed c.copy_old.new.old_reader) c.copy_old.new.intake in
+    let s1 = stage (tally (g.O.Sink.taken c.copy_old.new.writer) (g.O.Sink.failed c.copy_old.new.writer) (g.O.Sink.label c.copy_old.new.writer) c.copy_old.new.progress) (g.S.Source.remaining c.start.new.source) (g.S.Source.failed c.start.new.source) c.count_on-2.new.self in
+    let s2 = stage (tally (g.O.Sink.taken c.open_rest.new.writer) (g.O.Sink.failed c.open_rest.new.writer) (g.O.Sink.label c.open_rest.new.writer) c.open_rest.new.progress) (g.S.Source.remaining c.open_rest.new.reader) (g.S.Source.failed c.open_rest.new.reader) c.open_rest.new.intake in
     let old = resume_ports (ports (g.S.Source.remaining c.args.reader.now) (g.S.Source.failed c.args.reader.now) (g.O.Sink.taken c.args.writer.now) (g.O.Sink.failed c.args.writer.now)) (g.L.Source.remaining c.args.old_reader.now) (g.L.Source.failed c.args.old_reader.now) in
     let new = resume_ports (ports (g.S.Source.remaining c.open_rest.new.reader) (g.S.Source.failed c.open_rest.new.reader) (g.O.Sink.taken c.open_rest.new.writer) (g.O.Sink.failed c.open_rest.new.writer)) (g.L.Source.remaining c.copy_old.new.old_reader) (g.L.Source.failed c.copy_old.new.old_reader) in
-    undamaged_rest c.one_header.ensures (g.U.Unlock.allows c.args.unlock.now) (g.U.Unlock.refuses c.args.unlock.now) c.args.position.now old new text whole c.args.positions c.behind-in-Err-open_rest.result.written c.behind-in-Err-open_rest.result.position c.behind-in-Err-open_rest.result.fault (returns-clause-stopped g c)
+    let Allows = g.U.Unlock.allows c.args.unlock.now in
+    let Refused = g.U.Unlock.refuses c.args.unlock.now in
+    let done = resume_done c.args.positions Allows Refused c.args.position.now (g.S.Source.remaining c.args.reader.now) (g.S.Source.failed c.args.reader.now) c.in-Ok.unlocked
+    s1 c.start.new.intake c.in-Ok.ensures.found c.in-Ok-verify.ensures c.in-Ok.ensures.unfailed first c.new-progress.ensures.written x z (c.count_on.ensures.bytes ∙ c.in-Ok-Ok.ensures'.0) c.count_on.ensures.pulls
+    c.in-Ok-copy_old.ensures c.args.position.now.within c.count_on-2.ensures.bytes c.count_on-2.ensures.pulls c.payload_key-key.result s2 c.payload_key-key.ensures c.in-Ok-open_rest.ensures.resumes in
+    record {
+      done = done;
+      stopped = tt;
+      undamaged = λ text whole. undamaged_rest_done c.one_header.ensures Allows Refused c.args.position.now old new text whole _ done.0 done.1;
+      settled = c.in-Ok-open_rest.ensures.settled;
+      named = resumed_label (λ nonce block. opening c.payload_key-key.result nonce [] block) c.args.position.now.index s1 s2 _ c.in-Ok-open_rest.ensures.resumes ∙ c.in-Ok-copy_old.ensures.named;
+    }
 
-pub returns-in-Ok-open_rest-clause-undamaged : goal.returns-in-Ok-open_rest-clause-undamaged
-returns-in-Ok-open_rest-clause-undamaged g c = λ text whole.
+pub returns : goal.returns
+returns g c =
+    let first = tally (g.O.Sink.taken c.args.writer.now) (g.O.Sink.failed c.args.writer.now) (g.O.Sink.label c.args.writer.now) c.new-progress.result in
+    let x = side (g.L.Source.remaining c.args.old_reader.now) (g.L.Source.failed c.args.old_reader.now) c.count_on.new.self in
+    let z = side (g.L.Source.remaining c.copy_old.new.old_reader) (g.L.Source.failed c.copy_old.new.old_reader) c.copy_old.new.intake in
+    let s1 = stage (tally (g.O.Sink.taken c.copy_old.new.writer) (g.O.Sink.failed c.copy_old.new.writer) (g.O.Sink.label c.copy_old.new.writer) c.copy_old.new.progress) (g.S.Source.remaining c.start.new.source) (g.S.Source.failed c.start.new.source) c.count_on-2.new.self in
+    let s2 = stage (tally (g.O.Sink.taken c.open_rest.new.writer) (g.O.Sink.failed c.open_rest.new.writer) (g.O.Sink.label c.open_rest.new.writer) c.open_rest.new.progress) (g.S.Source.remaining c.open_rest.new.reader) (g.S.Source.failed c.open_rest.new.reader) c.open_rest.new.intake in
     let old = resume_ports (ports (g.S.Source.remaining c.args.reader.now) (g.S.Source.failed c.args.reader.now) (g.O.Sink.taken c.args.writer.now) (g.O.Sink.failed c.args.writer.now)) (g.L.Source.remaining c.args.old_reader.now) (g.L.Source.failed c.args.old_reader.now) in
     let new = resume_ports (ports (g.S.Source.remaining c.open_rest.new.reader) (g.S.Source.failed c.open_rest.new.reader) (g.O.Sink.taken c.open_rest.new.writer) (g.O.Sink.failed c.open_rest.new.writer)) (g.L.Source.remaining c.copy_old.new.old_reader) (g.L.Source.failed c.copy_old.new.old_reader) in
-    let done = returns-in-Ok-open_rest-clause-done g c in
-    undamaged_rest_done c.one_header.ensures (g.U.Unlock.allows c.args.unlock.now) (g.U.Unlock.refuses c.args.unlock.now) c.args.position.now old new text whole _ done.0 done.1
+    let Allows = g.U.Unlock.allows c.args.unlock.now in
+    let Refused = g.U.Unlock.refuses c.args.unlock.now in
+    let fails = resume_fails c.args.positions Allows Refused c.args.position.now (g.S.Source.remaining c.args.reader.now) (g.S.Source.failed c.args.reader.now) c.in-Ok.unlocked
+    s1 c.start.new.intake c.in-Ok.ensures.found c.in-Ok-verify.ensures c.in-Ok.ensures.unfailed first c.new-progress.ensures.written x z (c.count_on.ensures.bytes ∙ c.in-Ok-Ok.ensures'.0) c.count_on.ensures.pulls
+    c.in-Ok-copy_old.ensures c.args.position.now.within c.count_on-2.ensures.bytes c.count_on-2.ensures.pulls c.payload_key-key.result s2 c.position_of-next.result c.in-Err-open_rest.fault c.payload_key-key.ensures
+    c.position_of-next.ensures c.in-Err-open_rest.ensures.resumes in
+    record {
+      done = tt;
+      stopped = rw c.behind-in-Err-open_rest.ensures fails;
+      undamaged = λ text whole.
+          rw c.behind-in-Err-open_rest.ensures (undamaged_rest c.one_header.ensures Allows Refused c.args.position.now old new text whole c.args.positions c.open_rest.new.progress.written c.position_of-next.result c.in-Err-open_rest.fault fails);
+      settled = tt;
+      named = resumed_label (λ nonce block. opening c.payload_key-key.result nonce [] block) c.args.position.now.index s1 s2 _ c.in-Err-open_rest.ensures.resumes ∙ c.in-Ok-copy_old.ensures.named;
+    }

@@ -1,6 +1,8 @@
 use Rattle.std.proofs.Common.{◌-◌, ◌*◌, ◌^◌, ◌≤◌, length, ap, sym, subst, ◌∙◌, arith, ℕ, ◌++◌, rules}
 use Rattle.std.proofs.lemmas.Result.{err_from_is_err_and}
 use Rattle.std.proofs.lemmas.Nat.{mul-le}
+use Rattle.age_file.specs.inner.Boxes.{opens, seals}
+use Rattle.age_keys.specs.inner.PayloadBox.{box_lawful}
 use Rattle.age_file.specs.Ports.{ports}
 use Rattle.age_file.specs.Faults.{HasRisen}
 use Rattle.age_file.specs.inner.Seals.{front_of, tally, Wrote, SealingFails, SealsAll, SealsFront}
@@ -12,21 +14,18 @@ use Rattle.age_file.proofs.sealing.seal_all.Goals as goal
 pub finish-requires : goal.finish-requires
 finish-requires g c =
     let s = c.in_ok-plain.ensures.sealed in
-    let n = g.row.SEALED - 16 in
+    let n : ℕ = 65536 in
     let key = c.new-sealer.result.key in
-    let fits = front_small (g.B.ChunkBox.sealing key) (g.B.ChunkBox.opening key) (g.met.B.ChunkBox.lawful key) n s.text (omega (arith, c.requires.least, c.requires.most)) in
-    let product : length s.text * 65552 ≤ 2 ^ 80 * 65552 = mul-le (length s.text) 65552 (2 ^ 80) 65552 s.moved.small (omega arith) in (
-      search rules,
-      (s.feeding, omega (arith, c.requires.room, s.moved.count, fits, product)),
-    )
+    let fits = front_small (seals key) (opens key) (box_lawful key) n s.text (omega arith) in
+    let product : length s.text * 65552 ≤ 2 ^ 80 * 65552 = mul-le (length s.text) 65552 (2 ^ 80) 65552 s.moved.small (omega arith) in
+    record { feeding = s.feeding; room = omega (arith, c.requires.room, s.moved.count, fits, product) }
 
 pub returns-in_err-finish-clause-fails : goal.returns-in_err-finish-clause-fails
 returns-in_err-finish-clause-fails g c =
     let p = err_from_is_err_and c.from_residual-in_err-finish.result c.from_residual-in_err-finish.ensures.1 in
     let s = c.in_ok-plain.ensures.sealed in
     let l = c.in_err-finish.ensures.sealed in
-    let n = g.row.SEALED - 16 in
-    let sealing = g.B.ChunkBox.sealing in
+    let n : ℕ = 65536 in
     let a = c.new-sealer.result in
     let b = c.seal_source.new.sealer in
     let was = tally (g.O.Sink.taken c.args.sink.now) (g.O.Sink.failed c.args.sink.now) c.args.written.now in
@@ -34,13 +33,13 @@ returns-in_err-finish-clause-fails g c =
     let now = tally (g.O.Sink.taken c.finish.new.sink) (g.O.Sink.failed c.finish.new.sink) c.finish.new.written in
     let old = ports (g.S.Source.remaining c.args.source.now) (g.S.Source.failed c.args.source.now) (g.O.Sink.taken c.args.sink.now) (g.O.Sink.failed c.args.sink.now) in
     let new = ports (g.S.Source.remaining c.seal_source.new.source) (g.S.Source.failed c.seal_source.new.source) (g.O.Sink.taken c.finish.new.sink) (g.O.Sink.failed c.finish.new.sink) in
-    let wrote : Wrote was mid (front_of (sealing a.key) n s.text) = record { bytes = s.moved.wrote; count = s.moved.count } in
-    let out = last_written sealing n a b was mid now s.text s.key s.holds wrote l.out l.unwritten l.wrote l.blocks in
-    rw (p.1, p.2) (subst (λ k. SealsFront (sealing k) n old new c.args.written.now c.finish.new.written c.in_err-finish.field-0.0) (ap (λ v. v.key) c.new-sealer.ensures) (record {
+    let wrote : Wrote was mid (front_of (seals a.key) n s.text) = record { bytes = s.moved.wrote; count = s.moved.count } in
+    let out = last_written seals n a b was mid now s.text s.key s.holds wrote l.out l.unwritten l.wrote l.blocks in
+    rw (p.1, p.2) (subst (λ k. SealsFront (seals k) n old new c.args.written.now c.finish.new.written c.in_err-finish.field-0.0) (ap (λ v. v.key) c.new-sealer.ensures) (record {
       text = s.text;
-      out = front_of (sealing a.key) n s.text ++ l.out;
+      out = front_of (seals a.key) n s.text ++ l.out;
       moved = record { read = s.moved.read; wrote = out.bytes; count = out.count; small = s.moved.small };
-      prefix = last_begins sealing n a b was mid now s.text s.key s.holds wrote l.out l.unwritten l.wrote l.blocks;
+      prefix = last_begins seals n a b was mid now s.text s.key s.holds wrote l.out l.unwritten l.wrote l.blocks;
       fails = subst (λ (f : FileFault). SealingFails n old new s.text f) (sym l.answered.0) (subst (λ (k : ℕ). HasRisen k new.write_failed) s.none_failed.1 l.answered.1);
     }))
 
@@ -48,8 +47,7 @@ pub returns-clause-sealed : goal.returns-clause-sealed
 returns-clause-sealed g c =
     let s = c.in_ok-plain.ensures.sealed in
     let l = c.in_ok-finish.ensures.sealed in
-    let n = g.row.SEALED - 16 in
-    let sealing = g.B.ChunkBox.sealing in
+    let n : ℕ = 65536 in
     let a = c.new-sealer.result in
     let b = c.seal_source.new.sealer in
     let was = tally (g.O.Sink.taken c.args.sink.now) (g.O.Sink.failed c.args.sink.now) c.args.written.now in
@@ -57,9 +55,9 @@ returns-clause-sealed g c =
     let now = tally (g.O.Sink.taken c.finish.new.sink) (g.O.Sink.failed c.finish.new.sink) c.finish.new.written in
     let old = ports (g.S.Source.remaining c.args.source.now) (g.S.Source.failed c.args.source.now) (g.O.Sink.taken c.args.sink.now) (g.O.Sink.failed c.args.sink.now) in
     let new = ports (g.S.Source.remaining c.seal_source.new.source) (g.S.Source.failed c.seal_source.new.source) (g.O.Sink.taken c.finish.new.sink) (g.O.Sink.failed c.finish.new.sink) in
-    let wrote : Wrote was mid (front_of (sealing a.key) n s.text) = record { bytes = s.moved.wrote; count = s.moved.count } in
-    let out = last_whole sealing n a b was mid now s.text s.key s.holds wrote l.out l.unwritten l.wrote l.blocks l.answered.0 in
-    subst (λ k. SealsAll (sealing k) n old new c.args.written.now c.finish.new.written c.in_ok-plain.plain) (ap (λ v. v.key) c.new-sealer.ensures) (record {
+    let wrote : Wrote was mid (front_of (seals a.key) n s.text) = record { bytes = s.moved.wrote; count = s.moved.count } in
+    let out = last_whole seals n a b was mid now s.text s.key s.holds wrote l.out l.unwritten l.wrote l.blocks l.answered.0 in
+    subst (λ k. SealsAll (seals k) n old new c.args.written.now c.finish.new.written c.in_ok-plain.plain) (ap (λ v. v.key) c.new-sealer.ensures) (record {
       text = s.text;
       few = omega (arith, l.limit, s.holds.index);
       moved = record { read = s.moved.read; wrote = out.bytes; count = out.count; small = s.moved.small };

@@ -1,4 +1,5 @@
 use Rattle.std.proofs.Common.{◌-◌, ◌++◌, ◌∙◌, ap, List, ℕ}
+use Rattle.age_file.specs.inner.Boxes.{seals}
 use Rattle.age_file.specs.inner.Seals.{front_of}
 use Rattle.age_file.proofs.Bytes.{answer_as}
 use Rattle.age_file.proofs.sealing.seal_last.Goals as goal
@@ -11,6 +12,6 @@ returns-clause-sealed g c =
       unwritten = put.unwritten;
       limit = c.in_ok-block.ensures.limit;
       wrote = record { bytes = put.wrote; count = put.count };
-      blocks = λ text h. c.in_ok-block.ensures.chunk text h ∙ ap (λ (t : List ℕ). front_of (g.B.ChunkBox.sealing c.args.sealer.now.key) (g.row.SEALED - 16) text ++ t) put.parts;
+      blocks = λ text h. c.in_ok-block.ensures.chunk text h ∙ ap (λ (t : List ℕ). front_of (seals c.args.sealer.now.key) 65536 text ++ t) put.parts;
       answered = answer_as c.write_all.result put.answered c.write_all.ensures.fault (λ _ all. all) (λ _ is risen. (is, risen));
     }

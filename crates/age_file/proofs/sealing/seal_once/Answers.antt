@@ -1,9 +1,10 @@
-use Rattle.std.proofs.Common.{◌≡◌, ◌-◌, take, drop, sym, ap, ◌∙◌, arith, [], ◌++◌, append-nil, refl}
+use Rattle.std.proofs.Common.{ℕ, ◌≡◌, ◌-◌, take, drop, sym, ap, ◌∙◌, arith, [], ◌++◌, append-nil, refl}
 use Rattle.std.proofs.lemmas.Result.{err_from_is_err_and}
 use Rattle.std.proofs.lemmas.List.{length-take}
 use Rattle.std.proofs.KnownBytes.{Appends-nil}
 use Rattle.age_stream.specs.Sealing.{too_many}
 use Rattle.age_stream.specs.Lent.{chunk_bytes}
+use Rattle.age_file.specs.inner.Boxes.{seals}
 use Rattle.age_file.specs.inner.Seals.{front_of}
 use Rattle.age_file.proofs.SealSteps.{step_len_le, step_len_some, at_limit, too_long, some_sealed}
 use Rattle.age_file.proofs.sealing.seal_once.Goals as goal
@@ -11,7 +12,7 @@ use Rattle.age_file.proofs.sealing.seal_once.Goals as goal
 pub returns-in_err-step-clause-sealed : goal.returns-in_err-step-clause-sealed
 returns-in_err-step-clause-sealed g c =
     let p = err_from_is_err_and c.from_residual.result c.from_residual.ensures.1 in
-    let n = g.row.SEALED - 16 in
+    let n : ℕ = 65536 in
     let key = c.args.sealer.now.key in
     let refused = c.in_err-step.ensures.refused in
     let limit = at_limit n c.args.sealer.now c.args.piece.now c.requires.feeding.sound refused.0 in
@@ -23,9 +24,9 @@ returns-in_err-step-clause-sealed g c =
         out = [];
         parts = refl;
         wrote = record { bytes = Appends-nil _; count = omega arith };
-        blocks = λ text h. ap (front_of (g.B.ChunkBox.sealing key) n) (append-nil text) ∙ sym (append-nil (front_of (g.B.ChunkBox.sealing key) n text));
+        blocks = λ text h. ap (front_of (seals key) n) (append-nil text) ∙ sym (append-nil (front_of (seals key) n text));
       };
-      answered = rw (p.1, p.2) (too_long n c.args.sealer.now c.args.piece.now (omega (arith, c.requires.least)) limit, refused.1 ∙ ap too_many limit.index);
+      answered = rw (p.1, p.2) (too_long n c.args.sealer.now c.args.piece.now (omega arith) limit, refused.1 ∙ ap too_many limit.index);
     }
 
 pub returns-in_ok-write_all-clause-sealed : goal.returns-in_ok-write_all-clause-sealed
@@ -36,13 +37,13 @@ returns-in_ok-write_all-clause-sealed g c =
     let step = c.in_ok-step.step in
     let piece = c.args.piece.now in
     let held = c.args.sealer.now.held in
-    let n = g.row.SEALED - 16 in
+    let n : ℕ = 65536 in
     let is : chunk_bytes step.chunk ≡ put.out ++ put.unwritten = ap (λ o. chunk_bytes o) c.in-Some.is ∙ put.parts in
     record {
       fed = take step.taken piece;
       left = drop step.taken piece;
       unwritten = put.unwritten;
-      some = some_sealed g.B.ChunkBox.sealing n c.args.sealer.now _ _ _ piece step.taken step.chunk put.out put.unwritten is (record { bytes = put.wrote; count = put.count }) ok.chunk;
+      some = some_sealed seals n c.args.sealer.now _ _ _ piece step.taken step.chunk put.out put.unwritten is (record { bytes = put.wrote; count = put.count }) ok.chunk;
       answered = (
         omega (arith, ok.taken, step_len_le n held piece, length-take c.in_ok-step.step.taken c.args.piece.now),
         λ more. omega (arith, ok.taken, step_len_some n held piece more),
@@ -59,13 +60,13 @@ returns-in_default-clause-sealed g c =
     let step = c.in_ok-step.step in
     let piece = c.args.piece.now in
     let held = c.args.sealer.now.held in
-    let n = g.row.SEALED - 16 in
+    let n : ℕ = 65536 in
     let is : chunk_bytes step.chunk ≡ [] ++ [] = ap (λ o. chunk_bytes o) c.in_default.is in
     record {
       fed = take step.taken piece;
       left = drop step.taken piece;
       unwritten = [];
-      some = some_sealed g.B.ChunkBox.sealing n c.args.sealer.now _ _ _ piece step.taken step.chunk [] [] is (record { bytes = Appends-nil _; count = omega arith }) ok.chunk;
+      some = some_sealed seals n c.args.sealer.now _ _ _ piece step.taken step.chunk [] [] is (record { bytes = Appends-nil _; count = omega arith }) ok.chunk;
       answered = (
         omega (arith, ok.taken, step_len_le n held piece, length-take c.in_ok-step.step.taken c.args.piece.now),
         λ more. omega (arith, ok.taken, step_len_some n held piece more),
@@ -82,12 +83,12 @@ returns-in_err-write_all-clause-sealed g c =
     let put = c.in_err-write_all.ensures.writes in
     let step = c.in_ok-step.step in
     let piece = c.args.piece.now in
-    let n = g.row.SEALED - 16 in
+    let n : ℕ = 65536 in
     let is : chunk_bytes step.chunk ≡ put.out ++ put.unwritten = ap (λ o. chunk_bytes o) c.in-Some.is ∙ put.parts in
     record {
       fed = take step.taken piece;
       left = drop step.taken piece;
       unwritten = put.unwritten;
-      some = some_sealed g.B.ChunkBox.sealing n c.args.sealer.now _ _ _ piece step.taken step.chunk put.out put.unwritten is (record { bytes = put.wrote; count = put.count }) ok.chunk;
+      some = some_sealed seals n c.args.sealer.now _ _ _ piece step.taken step.chunk put.out put.unwritten is (record { bytes = put.wrote; count = put.count }) ok.chunk;
       answered = rw (p.1, p.2, c.in_err-write_all.ensures.fault) put.answered;
     }

@@ -2,6 +2,8 @@ use Rattle.std.proofs.Common.{◌≡◌, ◌+◌, ◌-◌, length, take, drop, a
 use Rattle.std.proofs.lemmas.Result.{err_from_is_err_and}
 use Rattle.std.proofs.KnownBytes.{Appends-nil}
 use Rattle.std.proofs.lemmas.List.{take-append-drop, take_rest, length-append, length-drop}
+use Rattle.age_file.specs.inner.Boxes.{opens, seals}
+use Rattle.age_keys.specs.inner.PayloadBox.{box_lawful}
 use Rattle.age_file.specs.inner.Seals.{SealsSome, GoesOn, SealFails, front_of, tally}
 use Rattle.age_file.proofs.SealSteps.{next_some, fed_alone, fed_is, goes_then, fails_then, room_left}
 use Rattle.age_file.proofs.sealing.seal_piece.Goals as goal
@@ -9,14 +11,14 @@ use Rattle.age_file.proofs.sealing.seal_piece.Goals as goal
 pub loop-at-init : goal.loop-at-init
 loop-at-init g c =
     let key = c.args.sealer.now.key in
-    let n = g.row.SEALED - 16 in
+    let n : ℕ = 65536 in
     record {
       within = omega arith;
       some = record {
         out = [];
         parts = refl;
         wrote = record { bytes = Appends-nil _; count = omega arith };
-        blocks = λ text h. ap (front_of (g.B.ChunkBox.sealing key) n) (append-nil text) ∙ sym (append-nil (front_of (g.B.ChunkBox.sealing key) n text));
+        blocks = λ text h. ap (front_of (seals key) n) (append-nil text) ∙ sym (append-nil (front_of (seals key) n text));
       };
       goes = record { key = refl; feeding = c.requires.feeding; holds = λ text h. rw (append-nil text) h };
       failures = refl;
@@ -26,16 +28,16 @@ loop-at-init g c =
 pub seal_once-requires : goal.seal_once-requires
 seal_once-requires g c =
     let kept = c.loop-at.invariant in
-    let key = c.args.sealer.now.key in (
-      search rules,
-      (c.requires.least, (kept.goes.feeding, room_left g.B.ChunkBox.sealing (g.B.ChunkBox.opening key) (g.row.SEALED - 16) c.args.sealer.now c.loop-at.sealer _ _ c.args.piece.now c.loop-at.at (g.met.B.ChunkBox.lawful key) (omega (arith, c.requires.least, c.requires.most)) c.requires.room kept.some)),
-    )
+    let key = c.args.sealer.now.key in
+    record {
+      feeding = kept.goes.feeding;
+      room = room_left seals (opens key) 65536 c.args.sealer.now c.loop-at.sealer _ _ c.args.piece.now c.loop-at.at (box_lawful key) (omega arith) c.requires.room kept.some;
+    }
 
 pub loop-at-preserved : goal.loop-at-preserved
 loop-at-preserved g c =
     let kept = c.loop-at.invariant in
-    let n = g.row.SEALED - 16 in
-    let sealing = g.B.ChunkBox.sealing in
+    let n : ℕ = 65536 in
     let piece = c.args.piece.now in
     let at = c.loop-at.at in
     let s = c.in_ok-at.ensures.sealed in
@@ -45,13 +47,13 @@ loop-at-preserved g c =
     let a = c.args.sealer.now in
     let b = c.loop-at.sealer in
     let d = c.seal_once.new.sealer in
-    let same : take at piece ++ s.fed ≡ take (at + c.in_ok-at.field-0) piece = fed_is sealing n piece at c.in_ok-at.field-0 s.fed s.left s.some.parts s.answered.0 in
-    let whole : SealsSome sealing n a d was now piece (take at piece ++ s.fed) s.left [] =
-    subst (λ (t : List ℕ). SealsSome sealing n a d was now piece (take at piece ++ s.fed) s.left t) s.answered.2 (next_some sealing n a b d was mid now piece at s.fed s.left s.unwritten kept.some kept.goes s.some) in
+    let same : take at piece ++ s.fed ≡ take (at + c.in_ok-at.field-0) piece = fed_is seals n piece at c.in_ok-at.field-0 s.fed s.left s.some.parts s.answered.0 in
+    let whole : SealsSome seals n a d was now piece (take at piece ++ s.fed) s.left [] =
+    subst (λ (t : List ℕ). SealsSome seals n a d was now piece (take at piece ++ s.fed) s.left t) s.answered.2 (next_some seals n a b d was mid now piece at s.fed s.left s.unwritten kept.some kept.goes s.some) in
     record {
       within = omega (arith, ap length s.some.parts, length-append s.fed s.left, s.answered.0, length-drop c.loop-at.at c.args.piece.now, ap length (take_rest c.args.piece.now c.loop-at.at), kept.within);
-      some = subst (λ (t : List ℕ). SealsSome sealing n a d was now t t [] []) same (fed_alone sealing n a d was now piece (take at piece ++ s.fed) s.left [] whole);
-      goes = subst (λ (t : List ℕ). GoesOn sealing n a d t) same (goes_then sealing n a b d (take at piece) s.fed kept.goes s.answered.4);
+      some = subst (λ (t : List ℕ). SealsSome seals n a d was now t t [] []) same (fed_alone seals n a d was now piece (take at piece ++ s.fed) s.left [] whole);
+      goes = subst (λ (t : List ℕ). GoesOn seals n a d t) same (goes_then seals n a b d (take at piece) s.fed kept.goes s.answered.4);
       failures = s.answered.3 ∙ kept.failures;
       named = c.in_ok-at.ensures.named ∙ kept.named;
     }
@@ -60,8 +62,7 @@ pub returns-in_err-at-clause-sealed : goal.returns-in_err-at-clause-sealed
 returns-in_err-at-clause-sealed g c =
     let p = err_from_is_err_and c.from_residual.result c.from_residual.ensures.1 in
     let kept = c.loop-at.invariant in
-    let n = g.row.SEALED - 16 in
-    let sealing = g.B.ChunkBox.sealing in
+    let n : ℕ = 65536 in
     let piece = c.args.piece.now in
     let at = c.loop-at.at in
     let s = c.in_err-at.ensures.sealed in
@@ -76,6 +77,6 @@ returns-in_err-at-clause-sealed g c =
       fed = take at piece ++ s.fed;
       left = s.left;
       unwritten = s.unwritten;
-      some = next_some sealing n a b d was mid now piece at s.fed s.left s.unwritten kept.some kept.goes s.some;
-      answered = rw (p.1, p.2) (subst (λ (t : List ℕ). SealFails sealing n a was now t c.in_err-at.field-0.0) whole (fails_then sealing n a b was mid now (take at piece) (take (length piece - at) (drop at piece)) c.in_err-at.field-0.0 kept.failures kept.goes s.answered));
+      some = next_some seals n a b d was mid now piece at s.fed s.left s.unwritten kept.some kept.goes s.some;
+      answered = rw (p.1, p.2) (subst (λ (t : List ℕ). SealFails seals n a was now t c.in_err-at.field-0.0) whole (fails_then seals n a b was mid now (take at piece) (take (length piece - at) (drop at piece)) c.in_err-at.field-0.0 kept.failures kept.goes s.answered));
     }

@@ -1,4 +1,5 @@
 use Rattle.std.proofs.Common.{length, ◌-◌, ◌≡◌, ◌≤◌, take, []}
+use Rattle.age_file.specs.inner.Boxes.{seals}
 use Rattle.age_file.specs.inner.Seals.{tally, SealsSome, GoesOn}
 use Rattle.age_file.proofs.sealing.seal_piece.Given as goal
 
@@ -6,9 +7,9 @@ use Rattle.age_file.proofs.sealing.seal_piece.Given as goal
 abbrev pub invariant-loop-at : goal.invariant-loop-at
 invariant-loop-at g l = record {
   within : l.at ≤ length l.piece;
-  some : SealsSome g.B.ChunkBox.sealing (g.row.SEALED - 16) l.fn.sealer l.sealer (tally (g.O.Sink.taken l.fn.sink) (g.O.Sink.failed l.fn.sink) l.fn.written)
+  some : SealsSome seals 65536 l.fn.sealer l.sealer (tally (g.O.Sink.taken l.fn.sink) (g.O.Sink.failed l.fn.sink) l.fn.written)
       (tally (g.O.Sink.taken l.sink) (g.O.Sink.failed l.sink) l.written) (take l.at l.piece) (take l.at l.piece) [] [];
-  goes : GoesOn g.B.ChunkBox.sealing (g.row.SEALED - 16) l.fn.sealer l.sealer (take l.at l.piece);
+  goes : GoesOn seals 65536 l.fn.sealer l.sealer (take l.at l.piece);
   failures : g.O.Sink.failed l.sink ≡ g.O.Sink.failed l.fn.sink;
   named : g.O.Sink.label l.sink ≡ g.O.Sink.label l.fn.sink;
 }

@@ -2,6 +2,7 @@ use Rattle.std.proofs.Common.{◌≡◌, ◌-◌, ◌<◌, length, ap, sym, subs
 use Rattle.std.proofs.lemmas.Result.{err_from_is_err_and}
 use Rattle.std.proofs.KnownBytes.{Appends-nil, Consumes-nil}
 use Rattle.std.proofs.lemmas.List.{length-append}
+use Rattle.age_file.specs.inner.Boxes.{seals}
 use Rattle.age_file.specs.inner.Intakes.{Pulled}
 use Rattle.age_file.specs.inner.Seals.{Wrote, front_of, tally}
 use Rattle.age_file.specs.Ports.{ports}
@@ -11,9 +12,8 @@ use Rattle.age_file.proofs.sealing.seal_source.Goals as goal
 
 pub pulls-init : goal.pulls-init
 pulls-init g c =
-    let sealing = g.B.ChunkBox.sealing c.args.sealer.now.key in
-    let n = g.row.SEALED - 16 in
-    let none = no_front sealing n (omega (arith, c.requires.least)) in
+    let n : ℕ = 65536 in
+    let none = no_front (seals c.args.sealer.now.key) n (omega arith) in
     let now = tally (g.O.Sink.taken c.args.sink.now) (g.O.Sink.failed c.args.sink.now) c.args.written.now in
     record {
       text = [];
@@ -49,13 +49,12 @@ returns-in_err-refill-clause-fails g c =
     let kept = c.pulls.invariant in
     let r = c.in_err-refill.ensures in
     let all = cut_pulled _ _ _ kept.text _ r.answered.0 (r.pulled _ kept.text kept.pulled) in
-    let sealing = g.B.ChunkBox.sealing c.args.sealer.now.key in
-    let n = g.row.SEALED - 16 in
+    let n : ℕ = 65536 in
     rw (p.1, p.2) (record {
       text = kept.text;
-      out = front_of sealing n kept.text;
+      out = front_of (seals c.args.sealer.now.key) n kept.text;
       moved = record { read = all.consumed; wrote = kept.wrote.bytes; count = kept.wrote.count; small = omega (arith, all.small, all.most) };
-      prefix = front_begins sealing n kept.text;
+      prefix = front_begins (seals c.args.sealer.now.key) n kept.text;
       fails = pull_fails n (ports (g.S.Source.remaining c.args.source.now) (g.S.Source.failed c.args.source.now) (g.O.Sink.taken c.args.sink.now) (g.O.Sink.failed c.args.sink.now))
           (ports (g.S.Source.remaining c.refill.new.source) (g.S.Source.failed c.refill.new.source) (g.O.Sink.taken c.pulls.sink) (g.O.Sink.failed c.pulls.sink)) kept.text _ _ _ c.in_err-refill.field-0.0 kept.read_failed refl kept.pulled.each_gave r.answered.2;
     })
@@ -64,27 +63,19 @@ pub seal_piece-requires : goal.seal_piece-requires
 seal_piece-requires g c =
     let kept = c.pulls.invariant in
     let text = kept.text in
-    let n = g.row.SEALED - 16 in
+    let n : ℕ = 65536 in
     let pulled = kept.pulled in
-    let blocks : front_of (g.B.ChunkBox.sealing c.args.sealer.now.key) n text ≡ front_of (g.B.ChunkBox.sealing c.pulls.sealer.key) n text =
-    ap (λ k. front_of (g.B.ChunkBox.sealing k) n text) (sym kept.goes.key) in (
-      search rules,
-      (
-        c.requires.least,
-        (
-          c.requires.most,
-          (
-            kept.goes.feeding,
-            record {
-              text = text;
-              holds = kept.goes.holds [] c.requires.fresh.1;
-              small = omega (arith, pulled.small, pulled.most, c.bytes.ensures.most);
-              count = omega (arith, c.requires.room, kept.wrote.count, ap length blocks);
-            },
-          ),
-        ),
-      ),
-    )
+    let blocks : front_of (seals c.args.sealer.now.key) n text ≡ front_of (seals c.pulls.sealer.key) n text =
+    ap (λ k. front_of (seals k) n text) (sym kept.goes.key) in
+    record {
+      feeding = kept.goes.feeding;
+      room = record {
+        text = text;
+        holds = kept.goes.holds [] c.requires.fresh.1;
+        small = omega (arith, pulled.small, pulled.most, c.bytes.ensures.most);
+        count = omega (arith, c.requires.room, kept.wrote.count, ap length blocks);
+      };
+    }
 
 pub returns-in_err-seal_piece-clause-fails : goal.returns-in_err-seal_piece-clause-fails
 returns-in_err-seal_piece-clause-fails g c =
@@ -92,8 +83,8 @@ returns-in_err-seal_piece-clause-fails g c =
     let kept = c.pulls.invariant in
     let r = rw c.if-branch.true at c.in_ok-refill.ensures in
     let s = c.in_err-seal_piece.ensures.sealed in
-    let n = g.row.SEALED - 16 in
-    let positive : 0 < n = omega (arith, c.requires.least) in
+    let n : ℕ = 65536 in
+    let positive : 0 < n = omega arith in
     let piece = c.bytes.result.now in
     let was = tally (g.O.Sink.taken c.args.sink.now) (g.O.Sink.failed c.args.sink.now) c.args.written.now in
     let mid = tally (g.O.Sink.taken c.pulls.sink) (g.O.Sink.failed c.pulls.sink) c.pulls.written in
@@ -101,13 +92,13 @@ returns-in_err-seal_piece-clause-fails g c =
     let old = ports (g.S.Source.remaining c.args.source.now) (g.S.Source.failed c.args.source.now) (g.O.Sink.taken c.args.sink.now) (g.O.Sink.failed c.args.sink.now) in
     let new = ports (g.S.Source.remaining c.refill.new.source) (g.S.Source.failed c.refill.new.source) (g.O.Sink.taken c.seal_piece.new.sink) (g.O.Sink.failed c.seal_piece.new.sink) in
     let all = rw (← c.bytes.ensures.bytes) at (r.pulled old.coming kept.text kept.pulled) in
-    let unwritten = piece_cut g.B.ChunkBox.sealing n c.args.sealer.now c.pulls.sealer c.seal_piece.new.sealer was mid now kept.text piece s.fed s.left s.unwritten kept.goes c.requires.fresh.1 kept.wrote s.some positive in
+    let unwritten = piece_cut seals n c.args.sealer.now c.pulls.sealer c.seal_piece.new.sealer was mid now kept.text piece s.fed s.left s.unwritten kept.goes c.requires.fresh.1 kept.wrote s.some positive in
     rw (p.1, p.2) (record {
       text = kept.text ++ piece;
       out = unwritten.0;
       moved = record { read = all.consumed; wrote = unwritten.1.bytes; count = unwritten.1.count; small = omega (arith, all.small, all.most) };
       prefix = unwritten.2;
-      fails = seal_fails g.B.ChunkBox.sealing n c.args.sealer.now c.pulls.sealer old new mid now kept.text piece c.in_err-seal_piece.field-0.0 kept.write_failed refl kept.goes c.requires.fresh.1 s.answered;
+      fails = seal_fails seals n c.args.sealer.now c.pulls.sealer old new mid now kept.text piece c.in_err-seal_piece.field-0.0 kept.write_failed refl kept.goes c.requires.fresh.1 s.answered;
     })
 
 pub pulls-preserved : goal.pulls-preserved
@@ -115,14 +106,14 @@ pulls-preserved g c =
     let kept = c.pulls.invariant in
     let r = rw c.if-branch.true at c.in_ok-refill.ensures in
     let s = c.in_ok-seal_piece.ensures.sealed in
-    let n = g.row.SEALED - 16 in
-    let positive : 0 < n = omega (arith, c.requires.least) in
+    let n : ℕ = 65536 in
+    let positive : 0 < n = omega arith in
     let piece = c.bytes.result.now in
     let was = tally (g.O.Sink.taken c.args.sink.now) (g.O.Sink.failed c.args.sink.now) c.args.written.now in
     let mid = tally (g.O.Sink.taken c.pulls.sink) (g.O.Sink.failed c.pulls.sink) c.pulls.written in
     let now = tally (g.O.Sink.taken c.seal_piece.new.sink) (g.O.Sink.failed c.seal_piece.new.sink) c.seal_piece.new.written in
     let all = rw (← c.bytes.ensures.bytes) at (r.pulled (g.S.Source.remaining c.args.source.now) kept.text kept.pulled) in
-    let done = piece_done g.B.ChunkBox.sealing n c.args.sealer.now c.pulls.sealer c.seal_piece.new.sealer was mid now kept.text piece s.fed s.left s.unwritten kept.goes c.requires.fresh.1 kept.wrote s.some positive s.answered.0 s.answered.1 s.answered.3 in
+    let done = piece_done seals n c.args.sealer.now c.pulls.sealer c.seal_piece.new.sealer was mid now kept.text piece s.fed s.left s.unwritten kept.goes c.requires.fresh.1 kept.wrote s.some positive s.answered.0 s.answered.1 s.answered.3 in
     record {
       text = kept.text ++ piece;
       pulled = subst (λ (k : ℕ). Pulled (g.S.Source.remaining c.args.source.now) (g.S.Source.remaining c.refill.new.source) k (kept.text ++ piece)) (sym c.use_all.ensures.pulls) all;

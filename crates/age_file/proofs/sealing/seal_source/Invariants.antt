@@ -1,4 +1,5 @@
 use Rattle.std.proofs.Common.{◌-◌, ◌^◌, ◌≡◌, ℕ, [], List, length}
+use Rattle.age_file.specs.inner.Boxes.{seals}
 use Rattle.age_file.specs.inner.Intakes.{Pulled}
 use Rattle.age_file.specs.inner.Seals.{tally, Wrote, GoesOn, front_of}
 use Rattle.age_file.proofs.sealing.seal_source.Given as goal
@@ -10,9 +11,9 @@ invariant-pulls g l = record {
   pulled : Pulled (g.S.Source.remaining l.fn.source) (g.S.Source.remaining l.source) l.intake.pulls text;
   unread : l.intake.bytes ≡ [];
   plain_is : l.plain ≡ length text;
-  goes : GoesOn g.B.ChunkBox.sealing (g.row.SEALED - 16) l.fn.sealer l.sealer text;
+  goes : GoesOn seals 65536 l.fn.sealer l.sealer text;
   wrote : Wrote (tally (g.O.Sink.taken l.fn.sink) (g.O.Sink.failed l.fn.sink) l.fn.written) (tally (g.O.Sink.taken l.sink) (g.O.Sink.failed l.sink) l.written)
-      (front_of (g.B.ChunkBox.sealing l.fn.sealer.key) (g.row.SEALED - 16) text);
+      (front_of (seals l.fn.sealer.key) 65536 text);
   read_failed : g.S.Source.failed l.source ≡ g.S.Source.failed l.fn.source;
   write_failed : g.O.Sink.failed l.sink ≡ g.O.Sink.failed l.fn.sink;
   named : g.O.Sink.label l.sink ≡ g.O.Sink.label l.fn.sink;

@@ -11,7 +11,7 @@ pub returns-in_err-key-clause-fails : goal.returns-in_err-key-clause-fails
 returns-in_err-key-clause-fails g c =
     let p = err_from_is_err_and c.from_residual-in_err-key.result c.from_residual-in_err-key.ensures.1 in
     let head = c.in_ok-header.ensures.found in
-    rw (p.1, p.2) (key_to_start (g.U.Unlock.allows c.args.unlock.now) (g.U.Unlock.refuses c.args.unlock.now) _ _ _ _ c.in_ok-header.field-0.header head.front c.read_head.new.intake.bytes c.in_err-key.field-0.0 head.text head.pulled.consumed c.in_err-key.ensures.refused)
+    rw (p.1, p.2) (key_to_start (g.U.Unlock.allows c.args.unlock.now) (g.U.Unlock.refuses c.args.unlock.now) _ _ _ _ c.in_ok-header.field-0.header head.front c.read_head.new.intake.bytes c.in_err-key.field-0.0 c.in_ok-header.ensures.last head.text head.pulled.consumed c.in_err-key.ensures.refused)
 
 pub returns-in_err-nonce-clause-fails : goal.returns-in_err-nonce-clause-fails
 returns-in_err-nonce-clause-fails g c =

@@ -1,7 +1,11 @@
-use Rattle.std.proofs.Common.{◌≡◌, [], drop}
+use Rattle.std.proofs.Common.{◌≡◌, ◌≤◌, [], length}
 use Rattle.age_stanza.specs.inner.LineMachine.{arguments_from}
 use Rattle.age_stanza.proofs.arguments.arguments_in.Given as goal
 
 -- what is left gives the answer
-abbrev pub invariant-loop-c : goal.invariant-loop-c
-invariant-loop-c l = arguments_from l.args l.word (drop l.c-index l.letters) ≡ arguments_from [] [] l.letters
+abbrev pub invariant-loop-end : goal.invariant-loop-end
+invariant-loop-end l = (arguments_from l.args [] l.rest ≡ arguments_from [] [] l.letters)
+    × (length l.rest ≤ length l.letters)
+
+abbrev pub decreases-loop-end : goal.decreases-loop-end
+decreases-loop-end l = length l.rest

@@ -1,12 +1,24 @@
-use Rattle.std.proofs.Common.{rules, ◌<◌, ◌≤◌, vec_len, vec_capacity, ◌≡◌, ◌-◌, ◌+◌, ap, sym, subst, ◌∙◌, arith, length, take, drop, List, ℕ, ◌++◌, take-add, take-append-drop}
+use Rattle.std.proofs.Common.{rules, ◌<◌, ◌≤◌, vec_len, vec_capacity, ◌≡◌, ◌-◌, ◌+◌, refl, ap, sym, subst, ◌∙◌, arith, length, take, drop, List, ℕ, ◌++◌, take-add, take-append-drop}
 use Rattle.std.proofs.lemmas.List.{take_rest, length-take, length-drop}
 use Rattle.age_stream.specs.Opening.{whole_text}
 use Rattle.age_stream.specs.declared.step.Status.TheVariants.{Open}
 use Rattle.age_stream.specs.ReplaySteps.{replay_view}
 use Rattle.age_stream.specs.Replaying.{IsAt}
 use Rattle.age_stream.specs.inner.Replaying.{with_bytes}
-use Rattle.age_stream.proofs.ReplaySteps.{with_bytes-append}
+use Rattle.age_stream.proofs.ReplaySteps.{with_bytes-append, with_bytes-nil}
 use Rattle.age_stream.proofs.replay.ReplayState.feed_all.Goals as goal
+
+pub loop-at-init : goal.loop-at-init
+loop-at-init g c =
+    let piece = c.args.piece.now in
+    let left : length piece - 0 ≡ length piece = omega arith in
+    record {
+      within = omega arith;
+      room = λ open_. subst (λ (k : ℕ). vec_len c.args.self.now.text + whole_text (g.row.SEALED - 16) (length c.args.self.now.opener.held + k) ≤ vec_capacity c.args.self.now.text) (sym left) (c.requires open_);
+      capacity = omega arith;
+      key = refl;
+      fed = λ s h. subst (IsAt g.B.ChunkBox.opening (g.row.SEALED - 16) (replay_view c.args.self.now)) (sym (with_bytes-nil s)) h;
+    }
 
 pub loop-at-preserved : goal.loop-at-preserved
 loop-at-preserved g c =

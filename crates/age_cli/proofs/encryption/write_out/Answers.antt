@@ -1,0 +1,31 @@
+use Rattle.std.proofs.Common.{◌≡◌, ◌∙◌, ap, inl, refl, sym, subst, Some, []}
+use Rattle.age_file.specs.Ports.{ports}
+use Rattle.age_file.specs.declared.fault.FileFault.TheVariants.{Memory}
+use Rattle.age_cli.specs.Stops.{EncryptionStop, Leaves, PortsOf}
+use Rattle.age_cli.proofs.StopSteps.{sealed_nothing}
+use Rattle.age_cli.proofs.encryption.write_out.Goals as goal
+
+pub returns-in-Err-clause-stops : goal.returns-in-Err-clause-stops
+returns-in-Err-clause-stops g c = λ told empty.
+    let entry = g.F.FileSet.entry in
+    let In = g.F.In.Source in
+    let Out = g.F.Out.Sink in
+    let fault = c.in-Err.fault in
+    let new = Out.taken c.encrypt.new.writer in
+    let before = ports (In.remaining c.args.source.now) (In.failed c.args.source.now) (Out.taken c.args.out) (Out.failed c.args.out) in
+    let after = ports (In.remaining c.encrypt.new.reader) (In.failed c.encrypt.new.reader) new (Out.failed c.encrypt.new.writer) in
+    let none : fault ≡ Memory → new ≡ Some [] = λ is. sealed_nothing c.args.secret.now before after fault is c.in-Err.ensures.fails ∙ empty in
+    inl (
+      new,
+      (record {
+        before = before;
+        after = after;
+        before_is = record { source = c.args.source.now; sink = c.args.out; is = refl };
+        after_is = record { source = c.encrypt.new.reader; sink = c.encrypt.new.writer; is = refl };
+        coming = refl;
+        empty = empty;
+        fails = c.in-Err.ensures.fails;
+        took = refl;
+      }),
+      subst (λ l. Leaves (fault ≡ Memory) new (entry c.args.files.now l) (entry c.leave_sealed.new.files l)) c.in-Err.ensures.named (c.leave_sealed.ensures.held told none),
+    )

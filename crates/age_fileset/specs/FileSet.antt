@@ -1,0 +1,16 @@
+-- The faults that a set of files answers.
+use Rattle.std.specs.Prelude.{◌≡◌, ◌⊎◌, Bool, false}
+use Rattle.age_file.specs.declared.fault.FileFault.{FileFault}
+use Rattle.age_file.specs.declared.fault.FileFault.TheVariants.{Memory, Write}
+use Rattle.age_fileset.specs.declared.files.CreateFault.{CreateFault}
+use Rattle.age_fileset.specs.declared.files.CreateFault.TheVariants.{SameFile, Fault}
+
+-- this fault, or want of memory
+abbrev pub IsMemoryOr : FileFault → FileFault → Type 0
+IsMemoryOr other fault = (fault ≡ other) ⊎ (fault ≡ Memory)
+
+-- it can't be written, or want of memory; or it is open under another name, which files that are
+-- told never are
+abbrev pub CreateFails : Bool → CreateFault → Type 0
+CreateFails tells SameFile = tells ≡ false
+CreateFails tells (Fault fault) = IsMemoryOr Write fault

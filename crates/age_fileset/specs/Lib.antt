@@ -1,0 +1,4 @@
+pub mod Events
+pub mod FileSet
+pub mod Entries
+pub mod inner

@@ -1,0 +1,140 @@
+//! Files by their names.
+
+ghost use Rattle.std.specs.Prelude.{◌≡◌, ◌≢◌, ℕ, Bool, true, false, List, [], ◌∷◌, ◌++◌, Option, Some, IfOk, IfErr, IsOkUnless, OnOk, OnErr, is_some};
+ghost use Rattle.age_fileset.specs.FileSet.{IsMemoryOr, CreateFails};
+ghost use Rattle.age_fileset.specs.declared.files.CreateFault.TheVariants.{Fault};
+ghost use Rattle.age_fileset.specs.Events.{Event, Opened, Created, Replaced, Closed};
+
+use age_file::{FileFault, Sink, Source};
+use std::alloc::Global;
+
+/// When a file that was written reaches the disk.
+#[derive(Clone, Copy, Debug, PartialEq, Eq)]
+pub enum Durability {
+    /// Before the call that ends it returns, so that a loss of power undoes nothing of it.
+    Synced,
+    /// When the system writes it, some seconds later.
+    Buffered,
+}
+
+/// Why a file could not be created.
+#[derive(Clone, Copy, Debug, PartialEq, Eq)]
+pub enum CreateFault {
+    /// It is one of the files that were opened or created before, under another name.
+    SameFile,
+    /// It can't be written (27), or memory was refused (28).
+    Fault(FileFault),
+}
+
+impl From<FileFault> for CreateFault {
+    ghost from_gives = { λ f c. c ≡ Fault f };
+
+    fn from(fault: FileFault) -> CreateFault {
+        CreateFault::Fault(fault)
+    }
+}
+
+/// Files by their names.
+///
+/// A name is opaque: a set gives it what meaning it likes, and nobody else takes one apart. Whoever
+/// implements this owes what the contracts say, and beyond them, where `tells` is false:
+/// - `create` changes nothing of a file that is there. Its bytes are replaced with the first put
+///   that takes some, or by `close`; from then on they may be seen by others.
+/// - a sink that is dropped without `close` or `discard` may leave the file with some of the bytes
+///   that it took, with none, or as it was;
+/// - two names that are one file are refused as such, by `is_same` before the second is opened, or
+///   else by `create` and `is_open`.
+pub trait FileSet {
+    /// A file that is read.
+    type In: Source + Drop;
+
+    /// A file that is written.
+    type Out: Sink + Drop;
+
+    // The entries are told.
+    ghost tells: { Self → Bool };
+
+    // The bytes of the entry of a name, where there is one.
+    ghost entry: { Self → List ℕ → Option (List ℕ) };
+
+    // What was opened, created, replaced and closed, in order, also where the entries aren't told,
+    // and whether it succeeded or not.
+    ghost events: { Self → List Event };
+
+    /// Whether two names stand for one file. Equal names do, and of files that are told no others.
+    fn is_same(&self, one: &str, other: &str) -> bool
+        ensures equal { one.now ≡ other.now → result ≡ true }
+        ensures told { tells self.now ≡ true → result ≡ true → one.now ≡ other.now }
+    {
+        one == other
+    }
+
+    /// Whether a name stands for a file that was opened or created so far under another name. Of
+    /// files that are told none does.
+    fn is_open(&self, _name: &str) -> bool
+        ensures told { tells self.now ≡ true → result ≡ false }
+    {
+        false
+    }
+
+    /// Opens a file to be read. Refuses with `Read` (26) where it can't be, and with `Memory` (28).
+    fn open(&mut self, alloc: Global, name: &str) -> Result<Self::In, FileFault>
+        ensures told { tells self.new ≡ tells self.old }
+        ensures kept { entry self.new ≡ entry self.old }
+        ensures noted { events self.new ≡ events self.old ++ Opened name.now ∷ [] }
+        ensures found { IfOk result (λ s. tells self.old ≡ true
+            → (is_some (entry self.old name.now) ≡ true)
+            × (Self.In.remaining s ≡ entry self.old name.now)) }
+        ensures faults { IfErr result (IsMemoryOr FileFault.Read) };
+
+    /// Opens a file to be written, and makes it where there is none. No entry changes until it is
+    /// closed. Refuses with `Write` (27) where it can't be, with `Memory` (28), and where it is one
+    /// that was opened or created before, which never comes of files that are told; a file that it
+    /// made is gone again then.
+    fn create(&mut self, alloc: Global, name: &str) -> Result<Self::Out, CreateFault>
+        ensures told { tells self.new ≡ tells self.old }
+        ensures kept { entry self.new ≡ entry self.old }
+        ensures made { IfOk result (λ o. tells self.old ≡ true
+            → (Self.Out.taken o ≡ Some []) × (Self.Out.label o ≡ name.now)) }
+        ensures noted { events self.new ≡ events self.old ++ Created name.now ∷ [] }
+        ensures faults { IfErr result (CreateFails (tells self.old)) };
+
+    /// Ends a file that was created, with exactly the bytes that its sink took, in place of what it
+    /// held. Refuses with `Write` (27).
+    fn close(&mut self, out: Self::Out, durability: Durability) -> Result<(), FileFault>
+        ensures told { tells self.new ≡ tells self.old }
+        ensures put { OnOk result (tells self.old ≡ true
+            → entry self.new (Self.Out.label out) ≡ Self.Out.taken out) }
+        ensures others { (q : List ℕ) → q ≢ Self.Out.label out
+            → entry self.new q ≡ entry self.old q }
+        ensures err { OnErr result (entry self.new ≡ entry self.old) }
+        ensures noted { events self.new ≡ events self.old ++ Closed ∷ [] }
+        ensures faults { IsOkUnless result FileFault.Write };
+
+    /// Ends a file that was created and into which nothing was put: it is as it was before
+    /// `create`, and where there was none, there is none.
+    fn discard(&mut self, out: Self::Out)
+        ensures told { tells self.new ≡ tells self.old }
+        ensures kept { (tells self.old ≡ true → Self.Out.taken out ≡ Some [])
+            → entry self.new ≡ entry self.old }
+        ensures others { (q : List ℕ) → q ≢ Self.Out.label out
+            → entry self.new q ≡ entry self.old q }
+        ensures noted { events self.new ≡ events self.old ++ Closed ∷ [] };
+
+    /// Makes a file of these bytes, in place of one of the name, which is there with what it held
+    /// until the new one is whole. Refuses with `Write` (27) and with `Memory` (28), and then
+    /// nothing has changed.
+    fn replace(
+        &mut self,
+        alloc: Global,
+        name: &str,
+        bytes: &[u8],
+        durability: Durability,
+    ) -> Result<(), FileFault>
+        ensures told { tells self.new ≡ tells self.old }
+        ensures put { OnOk result (tells self.old ≡ true → entry self.new name.now ≡ Some bytes.now) }
+        ensures others { (q : List ℕ) → q ≢ name.now → entry self.new q ≡ entry self.old q }
+        ensures err { OnErr result (entry self.new ≡ entry self.old) }
+        ensures noted { events self.new ≡ events self.old ++ Replaced name.now ∷ [] }
+        ensures faults { IfErr result (IsMemoryOr FileFault.Write) };
+}

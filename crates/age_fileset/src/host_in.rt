@@ -1,0 +1,99 @@
+//! A file of the machine that is read.
+
+ghost use Rattle.std.specs.Prelude.{◌≡◌};
+ghost use Rattle.std.specs.Io.{ReadsAtMost};
+
+use crate::host_names::{Identity, Place, Stream, above_streams, place_of};
+use age_file::{Failed, Source};
+use std::alloc::Global;
+use std::fs::File;
+use std::io::{self, Read};
+use std::marker::Model;
+use std::rt::{HostRuntime, Stdin};
+
+/// Where its bytes come from.
+#[derive(Drop)]
+enum Origin {
+    /// A file that was opened.
+    File(File),
+    /// Standard input, from where it stands.
+    Input(Stdin),
+}
+
+/// A file of the machine that is read, or standard input. It tells no bytes. A contract sees how
+/// many pulls have failed.
+#[derive(Drop)]
+pub struct HostIn {
+    origin: Origin,
+    failed: u64,
+}
+
+impl Model for HostIn {
+    ghost use Rattle.std.specs.Prelude.{ℕ};
+
+    ghost Value = { ℕ };
+
+    ghost view = { λ s. s.failed };
+}
+
+impl HostIn {
+    /// Opens what a name stands for, and says which regular file it is. Standard output and
+    /// standard error can't be read, nor can a folder.
+    pub(crate) fn open(
+        alloc: Global,
+        rt: &HostRuntime,
+        name: &str,
+    ) -> io::Result<(HostIn, Option<Identity>)> {
+        match place_of(alloc, rt, name)? {
+            Place::Stream(Stream::Input) => {
+                Stream::Input.check(rt)?;
+                let identity = Identity::at(rt, Stream::Input.path());
+                Ok((HostIn::new(Origin::Input(rt.stdin())), identity))
+            }
+            Place::Stream(_) => Err(io::Error::from(io::ErrorKind::Unsupported)),
+            Place::Path(_) => HostIn::open_path(rt, name),
+        }
+    }
+
+    fn new(origin: Origin) -> HostIn {
+        HostIn { origin, failed: 0 }
+    }
+
+    fn open_path(rt: &HostRuntime, name: &str) -> io::Result<(HostIn, Option<Identity>)> {
+        let file = above_streams(File::open(rt, name)?)?;
+        let metadata = file.metadata()?;
+        if metadata.is_dir() {
+            return Err(io::Error::from(io::ErrorKind::IsADirectory));
+        }
+        let identity = Identity::of(&metadata);
+        Ok((HostIn::new(Origin::File(file)), identity))
+    }
+
+    fn read(&mut self, into: &mut [u8]) -> io::Result<usize>
+        ensures bound { ReadsAtMost result into.new }
+        ensures counted { self.new ≡ self.old }
+    {
+        match &mut self.origin {
+            Origin::File(file) => file.read(into),
+            Origin::Input(input) => input.read(into),
+        }
+    }
+}
+
+impl Source for HostIn {
+    ghost failed = { λ s. s };
+
+    fn pull(&mut self, into: &mut [u8]) -> Result<usize, Failed> {
+        match self.read(into) {
+            Ok(n) => Ok(n),
+            Err(_) => {
+                self.failed = self.failed.saturating_add(1);
+                Err(Failed)
+            }
+        }
+    }
+
+    fn failures(&self) -> u64 {
+        self.failed
+    }
+}

@@ -1,0 +1,135 @@
+//! What the machine's names stand for: an inherited stream, or a file, whatever links lead to it.
+
+use std::alloc::Global;
+use std::fs::{self, File, Metadata};
+use std::io;
+use std::os::fd::{AsFd, AsRawFd};
+use std::os::unix::fs::MetadataExt;
+use std::path::PathBuf;
+use std::rt::HostRuntime;
+
+/// A stream that the program was started with.
+#[derive(Clone, Copy, Debug, PartialEq, Eq)]
+pub(crate) enum Stream {
+    /// Standard input.
+    Input,
+    /// Standard output.
+    Output,
+    /// Standard error.
+    Faults,
+}
+
+impl Stream {
+    /// The stream of which this is a name.
+    fn named(name: &str) -> Option<Stream> {
+        match name {
+            "/dev/stdin" | "/dev/fd/0" | "/proc/self/fd/0" => Some(Stream::Input),
+            "/dev/stdout" | "/dev/fd/1" | "/proc/self/fd/1" => Some(Stream::Output),
+            "/dev/stderr" | "/dev/fd/2" | "/proc/self/fd/2" => Some(Stream::Faults),
+            _ => None,
+        }
+    }
+
+    /// The path at which the system shows what the stream is connected to.
+    pub(crate) fn path(self) -> &'static str {
+        match self {
+            Stream::Input => "/proc/self/fd/0",
+            Stream::Output => "/proc/self/fd/1",
+            Stream::Faults => "/proc/self/fd/2",
+        }
+    }
+
+    /// Fails where the program was started without this stream.
+    pub(crate) fn check(self, rt: &HostRuntime) -> io::Result<()> {
+        let (input, output, faults) = (rt.stdin(), rt.stdout(), rt.stderr());
+        let stream = match self {
+            Stream::Input => input.as_fd(),
+            Stream::Output => output.as_fd(),
+            Stream::Faults => faults.as_fd(),
+        };
+        stream.try_clone_to_owned()?;
+        Ok(())
+    }
+}
+
+/// What a name stands for.
+#[derive(Drop)]
+pub(crate) enum Place {
+    /// A stream that the program was started with.
+    Stream(Stream),
+    /// A path that is no link; whether there is a file is another matter.
+    Path(PathBuf),
+}
+
+/// How many links are followed, as the system does.
+const LINKS_MAX: usize = 40;
+
+/// What a name stands for, at the end of its links.
+pub(crate) fn place_of(alloc: Global, rt: &HostRuntime, name: &str) -> io::Result<Place> {
+    let mut path = PathBuf::from_str(alloc, name)?;
+    for _ in 0..LINKS_MAX {
+        if let Some(stream) = Stream::named(path.as_str()) {
+            return Ok(Place::Stream(stream));
+        }
+        match target_of(alloc, rt, &path)? {
+            Some(target) => path = target,
+            None => return Ok(Place::Path(path)),
+        }
+    }
+    Err(io::Error::from(io::ErrorKind::FilesystemLoop))
+}
+
+/// Where a link leads; `None` for what is no link.
+fn target_of(alloc: Global, rt: &HostRuntime, path: &PathBuf) -> io::Result<Option<PathBuf>> {
+    match fs::read_link(rt, path.as_str()) {
+        Ok(target) => match path.parent() {
+            Some(folder) => Ok(Some(folder.join(alloc, target.as_str())?)),
+            None => Ok(Some(target)),
+        },
+        Err(error) if error.kind() == io::ErrorKind::OutOfMemory => Err(error),
+        Err(_) => Ok(None),
+    }
+}
+
+/// Which regular file one is, whatever its names.
+#[derive(Clone, Copy, Debug, PartialEq, Eq)]
+pub(crate) struct Identity {
+    device: u64,
+    inode: u64,
+}
+
+impl Identity {
+    /// `None` for a pipe, a terminal or a device, which is never another's.
+    pub(crate) fn of(metadata: &Metadata) -> Option<Identity> {
+        if metadata.is_file() {
+            Some(Identity {
+                device: metadata.dev(),
+                inode: metadata.ino(),
+            })
+        } else {
+            None
+        }
+    }
+
+    /// That of the file to which a name leads, where there is one.
+    pub(crate) fn at(rt: &HostRuntime, name: &str) -> Option<Identity> {
+        match fs::metadata(rt, name) {
+            Ok(metadata) => Identity::of(&metadata),
+            Err(_) => None,
+        }
+    }
+}
+
+/// The highest descriptor of a standard stream.
+const STREAM_MAX: i32 = 2;
+
+/// The same file at a descriptor that is no standard stream's. Where the program was started
+/// without one of these, the system gives its descriptor to the next file that is opened, and what
+/// is meant for the stream would go there.
+pub(crate) fn above_streams(file: File) -> io::Result<File> {
+    if file.as_raw_fd() > STREAM_MAX {
+        Ok(file)
+    } else {
+        file.try_clone()
+    }
+}

@@ -1,0 +1,270 @@
+//! A file of the machine that is written.
+
+ghost use Rattle.std.specs.Prelude.{◌≡◌};
+ghost use Rattle.std.specs.Io.{WritesAtMost};
+
+use crate::files::Durability;
+use crate::host_names::{Identity, Place, Stream, above_streams, place_of};
+use age_file::{Failed, Sink};
+use std::alloc::Global;
+use std::fs::{self, File};
+use std::io::{self, Write};
+use std::marker::Model;
+use std::path::PathBuf;
+use std::rt::{HostRuntime, Stderr, Stdout};
+
+/// A file that was opened to be written.
+#[derive(Drop)]
+struct OutFile {
+    file: File,
+    // The path at which opening made it, if that was so.
+    made: Option<PathBuf>,
+    // Its bytes are still there that have to go before others are written.
+    is_stale: bool,
+}
+
+/// Where its bytes go.
+#[derive(Drop)]
+enum Target {
+    /// A file that was opened.
+    File(OutFile),
+    /// Standard output, from where it stands.
+    Output(Stdout),
+    /// Standard error, likewise.
+    Faults(Stderr),
+}
+
+/// A file of the machine that is written, or standard output or error. A regular file keeps its
+/// bytes until a put takes some. It tells no bytes. A contract sees how many puts have failed.
+#[derive(Drop)]
+pub struct HostOut {
+    target: Target,
+    failed: u64,
+}
+
+impl Model for HostOut {
+    ghost use Rattle.std.specs.Prelude.{ℕ};
+
+    ghost Value = { ℕ };
+
+    ghost view = { λ s. s.failed };
+}
+
+/// Waits until a file has reached the disk. What can't be waited for is left.
+fn sync(file: &File) -> io::Result<()> {
+    match file.sync_all() {
+        Err(error) if error.kind() != io::ErrorKind::InvalidInput => Err(error),
+        _ => Ok(()),
+    }
+}
+
+/// Waits until the names in the folder of a path have reached the disk, where the folder can be
+/// opened.
+pub(crate) fn sync_folder(rt: &HostRuntime, path: &PathBuf) -> io::Result<()> {
+    let folder = match path.parent() {
+        Some(folder) if !folder.as_str().is_empty() => folder.as_str(),
+        _ => ".",
+    };
+    match File::open(rt, folder) {
+        Ok(file) => sync(&file),
+        Err(_) => Ok(()),
+    }
+}
+
+/// Removes a file that was made at this path, if that is still the one there, and still empty.
+fn remove_made(rt: &HostRuntime, file: &File, path: &PathBuf) {
+    let (Ok(own), Ok(there)) = (file.metadata(), fs::symlink_metadata(rt, path.as_str())) else {
+        return;
+    };
+    if own.len() == 0 && Identity::of(&own) == Identity::of(&there) {
+        let _ = fs::remove_file(rt, path.as_str());
+    }
+}
+
+impl OutFile {
+    /// Opens a file without emptying it, or makes it where there is none.
+    fn open(rt: &HostRuntime, name: &str, path: PathBuf) -> io::Result<OutFile> {
+        match File::options().write(true).open(rt, name) {
+            Ok(file) => Ok(OutFile {
+                file: above_streams(file)?,
+                made: None,
+                is_stale: true,
+            }),
+            Err(error) if error.kind() == io::ErrorKind::NotFound => OutFile::make(rt, path),
+            Err(error) => Err(error),
+        }
+    }
+
+    /// Makes a file at a path that is no link, and where there is none.
+    fn make(rt: &HostRuntime, path: PathBuf) -> io::Result<OutFile> {
+        let made = File::options()
+            .write(true)
+            .create_new(true)
+            .open(rt, path.as_str())?;
+        match above_streams(made) {
+            Ok(file) => Ok(OutFile {
+                file,
+                made: Some(path),
+                is_stale: false,
+            }),
+            Err(error) => {
+                let _ = fs::remove_file(rt, path.as_str());
+                Err(error)
+            }
+        }
+    }
+
+    /// Cuts off what a regular file held after so many bytes, once.
+    fn cut(&mut self, len: u64) -> io::Result<()> {
+        if self.is_stale {
+            if self.file.metadata()?.is_file() {
+                self.file.set_len(len)?;
+            }
+            self.is_stale = false;
+        }
+        Ok(())
+    }
+
+    // The first bytes are written before the rest is cut off, so that a first write that fails
+    // changes nothing.
+    fn write(&mut self, from: &[u8]) -> io::Result<usize>
+        ensures { WritesAtMost result from.now }
+    {
+        let n = self.file.write(from)?;
+        if n > 0 {
+            self.cut(n as u64)?;
+        }
+        Ok(n)
+    }
+
+    /// Whether it still holds what it held, or nothing where it was made.
+    fn is_untouched(&self) -> bool {
+        match self.file.metadata() {
+            Ok(there) => self.is_stale || there.len() == 0,
+            Err(_) => self.is_stale,
+        }
+    }
+
+    /// Ends it with what was written.
+    fn close(mut self, rt: &HostRuntime, durability: Durability) -> io::Result<()> {
+        self.cut(0)?;
+        if durability == Durability::Synced && self.file.metadata()?.is_file() {
+            sync(&self.file)?;
+            if let Some(path) = &self.made {
+                sync_folder(rt, path)?;
+            }
+        }
+        Ok(())
+    }
+}
+
+impl HostOut {
+    fn new(target: Target) -> HostOut {
+        HostOut { target, failed: 0 }
+    }
+
+    /// Opens what a name stands for without emptying it, or makes a file where there is none, and
+    /// says which regular file it is. Nothing can be written to standard input.
+    pub(crate) fn open(
+        alloc: Global,
+        rt: &HostRuntime,
+        name: &str,
+    ) -> io::Result<(HostOut, Option<Identity>)> {
+        let stream = match place_of(alloc, rt, name)? {
+            Place::Path(path) => {
+                let out = OutFile::open(rt, name, path)?;
+                let identity = Identity::of(&out.file.metadata()?);
+                return Ok((HostOut::new(Target::File(out)), identity));
+            }
+            Place::Stream(stream) => stream,
+        };
+        stream.check(rt)?;
+        let target = match stream {
+            Stream::Input => return Err(io::Error::from(io::ErrorKind::Unsupported)),
+            Stream::Output => Target::Output(rt.stdout()),
+            Stream::Faults => Target::Faults(rt.stderr()),
+        };
+        Ok((HostOut::new(target), Identity::at(rt, stream.path())))
+    }
+
+    fn write(&mut self, from: &[u8]) -> io::Result<usize>
+        ensures bound { WritesAtMost result from.now }
+        ensures counted { self.new ≡ self.old }
+    {
+        match &mut self.target {
+            Target::File(out) => out.write(from),
+            Target::Output(output) => output.write(from),
+            Target::Faults(faults) => faults.write(from),
+        }
+    }
+
+    /// Whether puts were tried, and none took a byte.
+    fn has_only_failed(&self) -> bool {
+        match &self.target {
+            Target::File(out) => self.failed > 0 && out.is_untouched(),
+            _ => false,
+        }
+    }
+
+    /// Ends it with what was written. Where each put failed, it is as it was before it was opened.
+    pub(crate) fn close(self, rt: &HostRuntime, durability: Durability) -> io::Result<()> {
+        if self.has_only_failed() {
+            self.discard(rt);
+            return Ok(());
+        }
+        match self.target {
+            Target::File(out) => out.close(rt, durability),
+            Target::Output(_) => close_stream(rt, Stream::Output, durability),
+            Target::Faults(_) => close_stream(rt, Stream::Faults, durability),
+        }
+    }
+
+    /// Ends it where nothing was written, as it was before it was opened.
+    pub(crate) fn discard(self, rt: &HostRuntime) {
+        if let Target::File(
+            OutFile {
+                file,
+                made: Some(path),
+                is_stale: _,
+            },
+        ) = self.target
+        {
+            remove_made(rt, &file, &path);
+        }
+    }
+}
+
+/// A stream that leads to a regular file reaches the disk by another descriptor of that file, where
+/// one can be had.
+fn close_stream(rt: &HostRuntime, stream: Stream, durability: Durability) -> io::Result<()> {
+    if durability == Durability::Buffered || Identity::at(rt, stream.path()).is_none() {
+        return Ok(());
+    }
+    match File::open(rt, stream.path()) {
+        Ok(file) => sync(&file),
+        Err(_) => Ok(()),
+    }
+}
+
+impl Sink for HostOut {
+    ghost failed = { λ s. s };
+
+    fn put(&mut self, from: &[u8]) -> Result<usize, Failed> {
+        match self.write(from) {
+            Ok(n) if n > 0 || from.is_empty() => Ok(n),
+            _ => {
+                self.failed = self.failed.saturating_add(1);
+                Err(Failed)
+            }
+        }
+    }
+
+    // The machine's files have no buffer of the program's.
+    fn flush(&mut self) -> Result<(), Failed> {
+        Ok(())
+    }
+
+    fn failures(&self) -> u64 {
+        self.failed
+    }
+}

@@ -1,0 +1,136 @@
+//! Replaces a file of the machine as a whole.
+
+use crate::files::Durability;
+use crate::host_names::{Identity, Place, above_streams, place_of};
+use crate::host_out::{HostOut, sync_folder};
+use age_file::write_all;
+use std::alloc::Global;
+use std::fs::{self, File, Permissions};
+use std::io::{self, Write};
+use std::path::PathBuf;
+use std::rt::HostRuntime;
+
+/// How many names are tried for a new file.
+const TRIES: u32 = 1000;
+
+/// A file that was made beside another.
+#[derive(Drop)]
+struct Beside {
+    file: File,
+    path: PathBuf,
+}
+
+/// Makes a file beside another, at a path where there is none.
+fn make_beside(alloc: Global, rt: &HostRuntime, path: &PathBuf) -> io::Result<Beside> {
+    let name = path.as_str();
+    for n in 0..TRIES {
+        let text = format!(in alloc; "{name}.new-{n}")?;
+        let own = PathBuf::from_str(alloc, text.as_str())?;
+        match File::options()
+            .write(true)
+            .create_new(true)
+            .open(rt, own.as_str())
+        {
+            Ok(file) => {
+                return Ok(Beside {
+                    file: above_streams(file)?,
+                    path: own,
+                });
+            }
+            Err(error) if error.kind() == io::ErrorKind::AlreadyExists => {}
+            Err(error) => return Err(error),
+        }
+    }
+    Err(io::Error::from(io::ErrorKind::AlreadyExists))
+}
+
+/// Fills a new file, and puts it in the place of the old one.
+fn fill_and_rename(
+    rt: &HostRuntime,
+    new: &mut Beside,
+    path: &PathBuf,
+    bytes: &[u8],
+    durability: Durability,
+) -> io::Result<()> {
+    new.file.write_all(bytes)?;
+    if durability == Durability::Synced {
+        new.file.sync_all()?;
+    }
+    fs::rename(rt, new.path.as_str(), path.as_str())?;
+    match durability {
+        Durability::Synced => sync_folder(rt, path),
+        Durability::Buffered => Ok(()),
+    }
+}
+
+/// Who may do what with the file at a path, where there is one. Fails where that can't be written.
+fn permissions_at(rt: &HostRuntime, path: &PathBuf) -> io::Result<Option<Permissions>> {
+    match File::options().write(true).open(rt, path.as_str()) {
+        Ok(file) => Ok(Some(file.metadata()?.permissions())),
+        Err(error) if error.kind() == io::ErrorKind::NotFound => Ok(None),
+        Err(error) => Err(error),
+    }
+}
+
+/// Replaces the regular file at a path that is no link, or makes one.
+fn replace_file(
+    alloc: Global,
+    rt: &HostRuntime,
+    path: &PathBuf,
+    bytes: &[u8],
+    durability: Durability,
+) -> io::Result<()> {
+    let permissions = permissions_at(rt, path)?;
+    let mut new = make_beside(alloc, rt, path)?;
+    if let Some(permissions) = permissions {
+        let _ = new.file.set_permissions(permissions);
+    }
+    let done = fill_and_rename(rt, &mut new, path, bytes, durability);
+    if done.is_err() {
+        let _ = fs::remove_file(rt, new.path.as_str());
+    }
+    done
+}
+
+/// Writes to what is no regular file: a stream, a pipe or a device.
+fn write_directly(
+    alloc: Global,
+    rt: &HostRuntime,
+    name: &str,
+    bytes: &[u8],
+    durability: Durability,
+) -> io::Result<()> {
+    let (mut out, _) = HostOut::open(alloc, rt, name)?;
+    let mut written = 0;
+    let put = write_all(&mut out, bytes, &mut written);
+    out.close(rt, durability)?;
+    match put {
+        Ok(()) => Ok(()),
+        Err(_) => Err(io::Error::from(io::ErrorKind::Other)),
+    }
+}
+
+/// Whether a name leads to a regular file at this path, or to nothing yet.
+fn leads_to(rt: &HostRuntime, name: &str, path: &PathBuf) -> bool {
+    match fs::metadata(rt, name) {
+        Ok(there) => there.is_file() && Identity::of(&there) == Identity::at(rt, path.as_str()),
+        Err(_) => true,
+    }
+}
+
+/// Puts a file of these bytes in the place of the one of a name, which stays as it is until the new
+/// one is whole. What is no regular file is written directly.
+pub(crate) fn replace(
+    alloc: Global,
+    rt: &HostRuntime,
+    name: &str,
+    bytes: &[u8],
+    durability: Durability,
+) -> io::Result<()> {
+    match place_of(alloc, rt, name)? {
+        Place::Path(path) if leads_to(rt, name, &path) => {
+            replace_file(alloc, rt, &path, bytes, durability)
+        }
+        _ => write_directly(alloc, rt, name, bytes, durability),
+    }
+}

@@ -1,0 +1,269 @@
+//! Files over memory.
+
+ghost use Rattle.std.specs.Prelude.{◌≡◌, ◌≢◌, ◌↔◌, ◌⊎◌, ◌++◌, ◌∷◌, ◌<◌, ◌≤◌, IsTrue, ℕ, List, [], true, Some, None, OnOk, OnErr, IfOk, IsErrOf, IsOk, IfErr, IsOkUnless, Contains, is_some, option_map, length, MatchResult};
+ghost use Rattle.std.specs.Io.KnownBytes.{WriteAppends, Keeps};
+ghost use Rattle.age_io.specs.Memory.{one_more, Puts, Flushes};
+ghost use Rattle.age_fileset.specs.Entries.{entry_of, empty_with};
+ghost use Rattle.age_fileset.specs.FileSet.{IsMemoryOr, CreateFails};
+ghost use Rattle.age_fileset.specs.Events.{Opened, Created, Replaced, Closed};
+ghost use Rattle.age_fileset.specs.declared.files.CreateFault.TheVariants.{Fault};
+
+use crate::files::{CreateFault, Durability, FileSet};
+use crate::log::Log;
+use crate::mem_entry::{MemEntry, Name, bytes_of, put_entry};
+use age_file::{Failed, FileFault, MemSink, MemSource, Memory, Sink};
+use age_stanza::Bytes;
+use std::alloc::Global;
+use std::marker::Model;
+
+/// Files over memory, which tell their names and bytes. A contract sees the list of them, the names
+/// that can't be written, and how many bytes a file that is written can hold.
+#[derive(Debug, Drop)]
+pub struct MemFiles {
+    entries: Vec<MemEntry>,
+    refused: Vec<Name>,
+    room: usize,
+    log: Log,
+}
+
+impl Model for MemFiles {
+    ghost use Rattle.age_fileset.specs.Entries.{Shelf};
+
+    ghost Value = { Shelf };
+
+    ghost view = { λ f. record {
+      entries = f.entries.items;
+      refused = f.refused.items;
+      room = f.room;
+      events = f.log;
+    } };
+}
+
+/// A file over memory that is written. A contract sees its name and its sink.
+#[derive(Debug, Drop)]
+pub struct MemOut {
+    name: Name,
+    sink: MemSink,
+}
+
+impl Model for MemOut {
+    ghost use Rattle.std.specs.Prelude.{ℕ, List};
+    ghost use Rattle.age_io.specs.Memory.{Holding};
+
+    ghost Value = { List ℕ × Holding };
+
+    ghost view = { λ o. (o.name, o.sink) };
+}
+
+impl Sink for MemOut {
+    ghost taken = { λ o. Some o.1.held };
+
+    ghost failed = { λ o. o.1.failures };
+
+    ghost settled = { λ o. o.1.settled ≡ true };
+
+    ghost label = { λ o. o.0 };
+
+    fn put(&mut self, from: &[u8]) -> Result<usize, Failed>
+        ensures bound { IfOk result (λ n. (n ≤ length from.now) × (0 < length from.now → 0 < n)) }
+        ensures bytes { WriteAppends (Some self.old.1.held) (Some self.new.1.held) result from.now }
+        ensures named { self.new.0 ≡ self.old.0 }
+        ensures counted { MatchResult result (λ _. self.new.1.failures ≡ self.old.1.failures)
+            (λ _. self.new.1.failures ≡ one_more self.old.1.failures) }
+        ensures plan { Puts self.old.1 from.now result self.new.1 }
+    {
+        self.sink.put(from)
+    }
+
+    fn flush(&mut self) -> Result<(), Failed>
+        ensures settled { OnOk result (self.new.1.settled ≡ true) }
+        ensures bytes { Keeps (Some self.old.1.held) (Some self.new.1.held) }
+        ensures named { self.new.0 ≡ self.old.0 }
+        ensures counted { MatchResult result (λ _. self.new.1.failures ≡ self.old.1.failures)
+            (λ _. self.new.1.failures ≡ one_more self.old.1.failures) }
+        ensures plan { Flushes self.old.1 result self.new.1 }
+    {
+        self.sink.flush()
+    }
+
+    fn failures(&self) -> u64 {
+        self.sink.failures()
+    }
+}
+
+impl MemFiles {
+    /// No files. A file that is written can hold `room` bytes.
+    pub fn new(alloc: Global, room: usize) -> MemFiles
+        ensures { result ≡ record { entries = []; refused = []; room = room; events = [] } }
+    {
+        MemFiles {
+            entries: Vec::new(alloc),
+            refused: Vec::new(alloc),
+            room,
+            log: Log::new(),
+        }
+    }
+
+    /// Puts a file there, in place of one of its name. Where memory is refused nothing changes.
+    pub fn put(&mut self, alloc: Global, name: &str, bytes: Vec<u8>) -> Result<(), Memory>
+        ensures ok { OnOk result (entry_of self.new.entries name.now ≡ Some bytes.items) }
+        ensures others { (q : List ℕ) → q ≢ name.now
+            → entry_of self.new.entries q ≡ entry_of self.old.entries q }
+        ensures err { OnErr result (self.new ≡ self.old) }
+        ensures refused { self.new.refused ≡ self.old.refused }
+        ensures room { self.new.room ≡ self.old.room }
+    {
+        let Ok(name) = Name::new(alloc, name) else {
+            return Err(Memory);
+        };
+        match put_entry(&mut self.entries, name, Bytes::from_vec(bytes)) {
+            Ok(()) => Ok(()),
+            Err(_) => Err(Memory),
+        }
+    }
+
+    /// The bytes of a file, where it is there.
+    pub fn get(&self, name: &str) -> Option<&[u8]>
+        ensures { option_map (λ s. s.now) result ≡ entry_of self.now.entries name.now }
+    {
+        bytes_of(self.entries.as_slice(), name)
+    }
+
+    /// Lets no file of this name be made from now on. Where memory is refused nothing changes.
+    pub fn refuse(&mut self, alloc: Global, name: &str) -> Result<(), Memory>
+        ensures ok { OnOk result
+            (self.new ≡ record self.old { refused = self.old.refused ++ name.now ∷ [] }) }
+        ensures err { OnErr result (self.new ≡ self.old) }
+    {
+        let Ok(name) = Name::new(alloc, name) else {
+            return Err(Memory);
+        };
+        match self.refused.push(name) {
+            Ok(()) => Ok(()),
+            Err(_) => Err(Memory),
+        }
+    }
+}
+
+fn is_refused(refused: &[Name], name: &str) -> bool
+    ensures { IsTrue result ↔ Contains refused.now name.now }
+{
+    refused.iter().any(|r| r.as_str() == name)
+}
+
+/// A copy of a file's bytes, to be read.
+fn source_of(alloc: Global, bytes: &[u8]) -> Result<MemSource, FileFault>
+    ensures bytes { IfOk result (λ s. s.left ≡ bytes.now) }
+    ensures memory { OnErr result (result ≡ Err FileFault.Memory) }
+{
+    Ok(MemSource::new(bytes.to_vec(alloc)?, usize::MAX, None))
+}
+
+/// An empty sink for a file of this name.
+fn new_out(alloc: Global, name: &str, room: usize) -> Result<MemOut, FileFault>
+    ensures made { IfOk result (λ o. o ≡ (name.now, empty_with room)) }
+    ensures memory { OnErr result (result ≡ Err FileFault.Memory) }
+{
+    let sink = MemSink::new(alloc, room, usize::MAX, None)?;
+    let name = Name::new(alloc, name)?;
+    Ok(MemOut { name, sink })
+}
+
+impl FileSet for MemFiles {
+    type In = MemSource;
+
+    type Out = MemOut;
+
+    ghost tells = { λ _. true };
+
+    ghost entry = { λ f. entry_of f.entries };
+
+    ghost events = { λ f. f.events };
+
+    /// Opens a copy of a file's bytes. Refuses with `Read` (26) exactly where no file has the name.
+    fn open(&mut self, alloc: Global, name: &str) -> Result<MemSource, FileFault>
+        ensures kept { self.new ≡ record self.old { events = self.old.events ++ Opened name.now ∷ [] } }
+        ensures found { IfOk result (λ s. entry_of self.old.entries name.now ≡ Some s.left) }
+        ensures missing { IsErrOf result FileFault.Read
+            ↔ (entry_of self.old.entries name.now ≡ None) }
+        ensures faults { IfErr result (IsMemoryOr FileFault.Read) }
+    {
+        self.log.opened(name);
+        match bytes_of(self.entries.as_slice(), name) {
+            Some(bytes) => source_of(alloc, bytes),
+            None => Err(FileFault::Read),
+        }
+    }
+
+    /// Gives a sink with the room that was given for it; the entry is made when it is closed.
+    /// Refuses with `Write` (27) exactly where the name is one that can't be written.
+    fn create(&mut self, alloc: Global, name: &str) -> Result<MemOut, CreateFault>
+        ensures made { IfOk result (λ o. o ≡ (name.now, empty_with self.old.room)) }
+        ensures refused { IsErrOf result (Fault FileFault.Write) ↔ Contains self.old.refused name.now }
+        ensures kept { self.new ≡ record self.old { events = self.old.events ++ Created name.now ∷ [] } }
+        ensures faults { IfErr result (CreateFails true) }
+    {
+        self.log.created(name);
+        if is_refused(self.refused.as_slice(), name) {
+            return Err(CreateFault::Fault(FileFault::Write));
+        }
+        Ok(new_out(alloc, name, self.room)?)
+    }
+
+    /// Puts what the sink took under its name. That takes no memory where a file of the name is
+    /// there.
+    fn close(&mut self, out: MemOut, _durability: Durability) -> Result<(), FileFault>
+        ensures put { OnOk result (entry_of self.new.entries out.0 ≡ Some out.1.held) }
+        ensures others { (q : List ℕ) → q ≢ out.0
+            → entry_of self.new.entries q ≡ entry_of self.old.entries q }
+        ensures there { is_some (entry_of self.old.entries out.0) ≡ true → IsOk result }
+        ensures err { OnErr result (self.new.entries ≡ self.old.entries) }
+        ensures faults { IsOkUnless result FileFault.Write }
+        ensures kept { (self.new.refused ≡ self.old.refused) × (self.new.room ≡ self.old.room) }
+        ensures noted { self.new.events ≡ self.old.events ++ Closed ∷ [] }
+    {
+        self.log.closed();
+        let MemOut { name, sink } = out;
+        match put_entry(&mut self.entries, name, Bytes::from_vec(sink.into_bytes())) {
+            Ok(()) => Ok(()),
+            Err(_) => Err(FileFault::Write),
+        }
+    }
+
+    /// Drops what the sink took, whatever that is.
+    fn discard(&mut self, out: MemOut)
+        ensures kept { self.new ≡ record self.old { events = self.old.events ++ Closed ∷ [] } }
+    {
+        self.log.closed();
+        let _dropped = out;
+    }
+
+    /// Refuses with `Write` (27) exactly where the name is one that can't be written, or where the
+    /// bytes are more than there is room for.
+    fn replace(
+        &mut self,
+        alloc: Global,
+        name: &str,
+        bytes: &[u8],
+        _durability: Durability,
+    ) -> Result<(), FileFault>
+        ensures put { OnOk result (entry_of self.new.entries name.now ≡ Some bytes.now) }
+        ensures others { (q : List ℕ) → q ≢ name.now
+            → entry_of self.new.entries q ≡ entry_of self.old.entries q }
+        ensures err { OnErr result (self.new.entries ≡ self.old.entries) }
+        ensures refused { IsErrOf result FileFault.Write
+            ↔ (Contains self.old.refused name.now ⊎ (self.old.room < length bytes.now)) }
+        ensures faults { IfErr result (IsMemoryOr FileFault.Write) }
+        ensures kept { (self.new.refused ≡ self.old.refused) × (self.new.room ≡ self.old.room) }
+        ensures noted { self.new.events ≡ self.old.events ++ Replaced name.now ∷ [] }
+    {
+        self.log.replaced(name);
+        if is_refused(self.refused.as_slice(), name) || bytes.len() > self.room {
+            return Err(FileFault::Write);
+        }
+        let own = Name::new(alloc, name)?;
+        let copy = bytes.to_vec(alloc)?;
+        put_entry(&mut self.entries, own, Bytes::from_vec(copy))?;
+        Ok(())
+    }
+}

@@ -1,0 +1,18 @@
+//! Where the bytes of age files come from, and where they go.
+//!
+//! A `Source` gives bytes and a `Sink` takes them. Both count their failures. `Reading` and
+//! `Writing` are those over std's readers and writers, `MemSource` and `MemSink` those over memory,
+//! which also tell contracts their bytes, and fail at a call that is planned.
+#![tactic(auto)]
+
+mod failed;
+mod mem_sink;
+mod mem_source;
+mod sink;
+mod source;
+
+pub use failed::{Failed, Memory};
+pub use mem_sink::MemSink;
+pub use mem_source::MemSource;
+pub use sink::{Sink, Writing};
+pub use source::{Reading, Source};

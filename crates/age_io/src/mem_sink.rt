@@ -1,0 +1,139 @@
+//! A sink over memory, with a limit and a plan of failures.
+
+ghost use Rattle.std.specs.Prelude.{◌≡◌, ◌<◌, ◌≤◌, [], Some, true, false, length, IfOk, OnOk, MatchResult, vec_capacity};
+ghost use Rattle.std.specs.Io.KnownBytes.{WriteAppends, Keeps};
+ghost use Rattle.age_io.specs.Memory.{one_more, Holding, Puts, Flushes};
+
+use crate::failed::{Failed, Memory};
+use crate::sink::Sink;
+use std::alloc::Global;
+use std::marker::Model;
+
+/// A sink over memory. A contract sees what it holds, how much it holds at most, how much a put
+/// takes at most, which call fails, how many calls were made and have failed, and whether a flush
+/// came after the last put.
+#[derive(Debug, Drop)]
+pub struct MemSink {
+    held: Vec<u8>,
+    room: usize,
+    step: usize,
+    fail_call: Option<u64>,
+    calls: u64,
+    failed: u64,
+    settled: bool,
+}
+
+impl Model for MemSink {
+    ghost Value = { Holding };
+
+    ghost view = { λ s. record {
+      held = s.held.items;
+      room = s.room;
+      step = s.step;
+      fail_call = s.fail_call;
+      calls = s.calls;
+      failures = s.failed;
+      settled = s.settled;
+    } };
+
+    ghost invariant = { λ s. (length s.held.items ≤ s.room) × (s.room ≤ vec_capacity s.held)
+        × (0 < s.step) };
+}
+
+impl MemSink {
+    /// An empty sink that holds at most `room` bytes, which are reserved here, and takes at most
+    /// `step` a put. Puts and flushes are counted together from 0, and the one numbered `fail_call`
+    /// fails; later ones go on.
+    pub fn new(
+        alloc: Global,
+        room: usize,
+        step: usize,
+        fail_call: Option<u64>,
+    ) -> Result<MemSink, Memory>
+        requires { 0 < step }
+        ensures { IfOk result (λ s. s ≡ record {
+          held = [];
+          room = room;
+          step = step;
+          fail_call = fail_call;
+          calls = 0;
+          failures = 0;
+          settled = false;
+        }) }
+    {
+        let held = Vec::with_capacity(alloc, room).map_err(|_| Memory)?;
+        Ok(MemSink {
+            held,
+            room,
+            step,
+            fail_call,
+            calls: 0,
+            failed: 0,
+            settled: false,
+        })
+    }
+
+    /// What was taken.
+    pub fn bytes(&self) -> &[u8]
+        ensures { result.now ≡ self.now.held }
+    {
+        self.held.as_slice()
+    }
+
+    /// What was taken, without a copy.
+    pub fn into_bytes(self) -> Vec<u8>
+        ensures { result.items ≡ self.held }
+    {
+        let MemSink { held, .. } = self;
+        held
+    }
+}
+
+impl Sink for MemSink {
+    ghost taken = { λ s. Some s.held };
+
+    ghost failed = { λ s. s.failures };
+
+    ghost settled = { λ s. s.settled ≡ true };
+
+    fn put(&mut self, from: &[u8]) -> Result<usize, Failed>
+        ensures bound { IfOk result (λ n. (n ≤ length from.now) × (0 < length from.now → 0 < n)) }
+        ensures bytes { WriteAppends (Some self.old.held) (Some self.new.held) result from.now }
+        ensures counted { MatchResult result (λ _. self.new.failures ≡ self.old.failures)
+            (λ _. self.new.failures ≡ one_more self.old.failures) }
+        ensures plan { Puts self.old from.now result self.new }
+    {
+        let call = self.calls;
+        self.calls = call.saturating_add(1);
+        let n = self.step.min(from.len()).min(self.room - self.held.len());
+        if self.fail_call == Some(call) || (n == 0 && !from.is_empty()) {
+            self.failed = self.failed.saturating_add(1);
+            return Err(Failed);
+        }
+        // The room was reserved.
+        self.held.extend_from_slice(&from[..n]).unwrap();
+        self.settled = false;
+        Ok(n)
+    }
+
+    fn flush(&mut self) -> Result<(), Failed>
+        ensures settled { OnOk result (self.new.settled ≡ true) }
+        ensures bytes { Keeps (Some self.old.held) (Some self.new.held) }
+        ensures counted { MatchResult result (λ _. self.new.failures ≡ self.old.failures)
+            (λ _. self.new.failures ≡ one_more self.old.failures) }
+        ensures plan { Flushes self.old result self.new }
+    {
+        let call = self.calls;
+        self.calls = call.saturating_add(1);
+        if self.fail_call == Some(call) {
+            self.failed = self.failed.saturating_add(1);
+            return Err(Failed);
+        }
+        self.settled = true;
+        Ok(())
+    }
+
+    fn failures(&self) -> u64 {
+        self.failed
+    }
+}

@@ -1,0 +1,97 @@
+//! A source over memory, with a plan of failures.
+
+ghost use Rattle.std.specs.Prelude.{◌≡◌, ◌<◌, ◌≤◌, Some, length, take, IfOk, MatchResult, drop};
+ghost use Rattle.std.specs.Io.KnownBytes.{ReadConsumes};
+ghost use Rattle.age_io.specs.Memory.{one_more, Feeding, Pulls};
+
+use crate::failed::Failed;
+use crate::source::Source;
+use std::marker::Model;
+
+/// A source over memory. A contract sees what is still to come, how much a pull gives at most,
+/// which pull fails, and how many pulls were made and have failed.
+#[derive(Debug, Drop)]
+pub struct MemSource {
+    bytes: Vec<u8>,
+    at: usize,
+    step: usize,
+    fail_call: Option<u64>,
+    calls: u64,
+    failed: u64,
+}
+
+impl Model for MemSource {
+    ghost Value = { Feeding };
+
+    ghost view = { λ s. record {
+      left = drop s.at s.bytes.items;
+      step = s.step;
+      fail_call = s.fail_call;
+      calls = s.calls;
+      failures = s.failed;
+    } };
+
+    ghost invariant = { λ s. (s.at ≤ length s.bytes.items) × (0 < s.step) };
+}
+
+impl MemSource {
+    /// A source of these bytes, at most `step` a pull. The pull numbered `fail_call`, counted from
+    /// 0, fails; later ones go on.
+    pub fn new(bytes: Vec<u8>, step: usize, fail_call: Option<u64>) -> MemSource
+        requires { 0 < step }
+        ensures { result ≡ record {
+          left = bytes.items;
+          step = step;
+          fail_call = fail_call;
+          calls = 0;
+          failures = 0;
+        } }
+    {
+        MemSource {
+            bytes,
+            at: 0,
+            step,
+            fail_call,
+            calls: 0,
+            failed: 0,
+        }
+    }
+}
+
+fn copy_front(from: &[u8], into: &mut [u8], n: usize)
+    requires from { n ≤ length from.now }
+    requires into { n ≤ length into.old }
+    ensures { take n into.new ≡ take n from.now }
+{
+    into[..n].copy_from_slice(&from[..n]);
+}
+
+impl Source for MemSource {
+    ghost remaining = { λ s. Some s.left };
+
+    ghost failed = { λ s. s.failures };
+
+    fn pull(&mut self, into: &mut [u8]) -> Result<usize, Failed>
+        ensures bound { IfOk result (λ n. n ≤ length into.new) }
+        ensures bytes { ReadConsumes (Some self.old.left) (Some self.new.left) result into.new }
+        ensures counted { MatchResult result (λ _. self.new.failures ≡ self.old.failures)
+            (λ _. self.new.failures ≡ one_more self.old.failures) }
+        ensures plan { Pulls self.old (length into.new) result self.new }
+    {
+        let call = self.calls;
+        self.calls = call.saturating_add(1);
+        if self.fail_call == Some(call) {
+            self.failed = self.failed.saturating_add(1);
+            return Err(Failed);
+        }
+        let n = self.step.min(into.len()).min(self.bytes.len() - self.at);
+        let end = self.at + n;
+        copy_front(&self.bytes[self.at..], into, n);
+        self.at = end;
+        Ok(n)
+    }
+
+    fn failures(&self) -> u64 {
+        self.failed
+    }
+}

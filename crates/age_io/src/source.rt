@@ -1,0 +1,76 @@
+//! Where bytes come from.
+
+ghost use Rattle.std.specs.Prelude.{◌≡◌, ◌≤◌, ℕ, Option, List, length, None, IfOk, MatchResult};
+ghost use Rattle.std.specs.Io.KnownBytes.{ReadConsumes};
+ghost use Rattle.age_io.specs.Memory.{one_more};
+ghost use Rattle.std.specs.Coded.{coded_ℕ, coded×};
+
+use crate::failed::Failed;
+use std::io::Read;
+use std::marker::Model;
+
+/// Where bytes come from.
+pub trait Source {
+    // The bytes that are still to come, where they are told.
+    ghost remaining: { Self → Option (List ℕ) } = { λ _. None };
+
+    // How many pulls have failed; it stays at its greatest value.
+    ghost failed: { Self → ℕ };
+
+    /// Puts the next bytes into the front of a slice, and answers how many: none only at the end,
+    /// or where the slice is empty. A pull that fails moves no bytes.
+    fn pull(&mut self, into: &mut [u8]) -> Result<usize, Failed>
+        ensures bound { IfOk result (λ n. n ≤ length into.new) }
+        ensures bytes { ReadConsumes (remaining self.old) (remaining self.new) result into.new }
+        ensures counted { MatchResult result (λ _. failed self.new ≡ failed self.old)
+            (λ _. failed self.new ≡ one_more (failed self.old)) };
+
+    /// How many pulls have failed.
+    fn failures(&self) -> u64
+        ensures { result ≡ failed self.now };
+}
+
+/// A source over one of the machine's readers. It tells what the reader tells, which for a file, a
+/// pipe or a terminal is nothing. A contract sees the reader and how many pulls have failed.
+#[derive(Debug, Drop)]
+pub struct Reading<R: Read> {
+    inner: R,
+    failed: u64,
+}
+
+impl<R: Read> Model for Reading<R> {
+    ghost Value = { R × ℕ };
+
+    ghost coded = { coded× R.code coded_ℕ };
+
+    ghost view = { λ s. (s.inner, s.failed) };
+}
+
+impl<R: Read> Reading<R> {
+    /// A source of what this reader still has to give.
+    pub fn new(inner: R) -> Reading<R>
+        ensures { result ≡ (inner, 0) }
+    {
+        Reading { inner, failed: 0 }
+    }
+}
+
+impl<R: Read> Source for Reading<R> {
+    ghost remaining = { λ s. R.remaining s.0 };
+
+    ghost failed = { λ s. s.1 };
+
+    fn pull(&mut self, into: &mut [u8]) -> Result<usize, Failed> {
+        match self.inner.read(into) {
+            Ok(n) => Ok(n),
+            Err(_) => {
+                self.failed = self.failed.saturating_add(1);
+                Err(Failed)
+            }
+        }
+    }
+
+    fn failures(&self) -> u64 {
+        self.failed
+    }
+}

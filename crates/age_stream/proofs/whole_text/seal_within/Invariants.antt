@@ -1,0 +1,19 @@
+use Rattle.std.proofs.Common.{◌≡◌, ◌-◌, ◌≤◌, ◌++◌, length, take, false, vec_capacity}
+use Rattle.age_stream.specs.Sealing.{Holds}
+use Rattle.age_stream.specs.Payload.{sealed_before_last, block_bytes}
+use Rattle.age_stream.proofs.whole_text.seal_within.Given as goal
+
+abbrev pub invariant-loop-at : goal.invariant-loop-at
+invariant-loop-at g l =
+    record {
+      within : l.at ≤ length l.text;
+      open_ : l.sealer.finished ≡ false;
+      sound : l.sealer.failed ≡ false;
+      key : l.sealer.key ≡ l.key;
+      holds : Holds (g.row.SEALED - 16) l.sealer (take l.at l.text);
+      capacity : vec_capacity l.fn.out ≤ vec_capacity l.out;
+      blocks : l.out.items ≡ l.fn.out.items ++ block_bytes (sealed_before_last (g.B.ChunkBox.sealing l.key) (g.row.SEALED - 16) (take l.at l.text));
+    }
+
+abbrev pub decreases-loop-at : goal.decreases-loop-at
+decreases-loop-at g l = length l.text - l.at
