@@ -7,8 +7,8 @@ use Rattle.age_keys.specs.SharedSecret.{Shared}
 use Rattle.age_cli.specs.Held.{Held}
 use Rattle.age_cli.specs.Identities.{OpensBy, IsPassphraseIn, IsSharedIn}
 use Rattle.age_cli.specs.inner.IdentitySteps.{IsSecretIn, first_named, secret_name, options_asked}
-use Rattle.age_cli.specs.inner.Requests.{text_of}
-use Rattle.age_cli.specs.declared.request.Unlocking.{Unlocking}
+use Rattle.age_commands.specs.Requests.{text_of}
+use Rattle.age_commands.specs.declared.request.Unlocking.{Unlocking}
 use Rattle.age_cli.specs.declared.identity.Identity.TheVariants.{ByPassphrase, ByFileKey, ByShared}
 
 pub by_passphrase : (old : Held) (u : Unlocking) (name : Text) (held : Option (List ℕ)) (words : Words) → text_of u.pass ≡ Some name → text_of u.file_key ≡ None → text_of u.shared ≡ None

@@ -1,6 +1,3 @@
-pub mod Simple
-pub mod Numbers
-pub mod Literals
 pub mod Cuts
 pub mod EncryptionSteps
 pub mod IdentitySteps

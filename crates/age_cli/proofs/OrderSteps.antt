@@ -2,12 +2,12 @@
 use Rattle.std.proofs.Common.{◌≡◌, ◌∙◌, ap, sym, refl, codes, List, Option}
 use Rattle.std.specs.Option.{option_map_or}
 use Rattle.clap.specs.Words.{Row, Text, first_of}
-use Rattle.age_cli.specs.Asked.{Asks}
-use Rattle.age_cli.specs.inner.Requests.{Requests, IsRequest}
+use Rattle.age_commands.specs.Asked.{Asks}
+use Rattle.age_commands.specs.Requests.{Requests, IsRequest}
 use Rattle.age_cli.specs.Orders.{order_of, inspecting_order, encrypting_order, decrypting_order, resuming_order, drilling_order}
 use Rattle.age_cli.specs.inner.Asking.{order_asked}
-use Rattle.age_cli.specs.declared.request.Request.{Request}
-use Rattle.age_cli.specs.declared.request.Request.TheVariants.{Inspect, Decrypt, Resume, Encrypt, Drill}
+use Rattle.age_commands.specs.declared.request.Request.{Request}
+use Rattle.age_commands.specs.declared.request.Request.TheVariants.{Inspect, Decrypt, Resume, Encrypt, Drill}
 
 order_given : (name : Text) (rows : List Row) (r : Request) → IsRequest name rows r → order_of name rows ≡ order_asked r
 order_given name rows (Inspect file) is = ap (λ (n : Text). order_of n rows) is.0 ∙ ap inspecting_order (sym is.1)

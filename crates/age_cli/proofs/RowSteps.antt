@@ -2,12 +2,12 @@
 use Rattle.std.proofs.Common.{◌≡◌, ◌∙◌, ap, sym, subst, refl, codes, List, [], Option}
 use Rattle.std.specs.Option.{option_map_or}
 use Rattle.clap.specs.Words.{Row, Text}
-use Rattle.age_cli.specs.Asked.{Asks}
-use Rattle.age_cli.specs.inner.Requests.{IsUnlocking, IsDecrypting, IsResuming, Requests}
-use Rattle.age_cli.specs.declared.request.Request.TheVariants.{Decrypt, Resume}
-use Rattle.age_cli.specs.declared.request.Unlocking.{Unlocking}
-use Rattle.age_cli.specs.declared.request.Decrypting.{Decrypting}
-use Rattle.age_cli.specs.declared.request.Resuming.{Resuming}
+use Rattle.age_commands.specs.Asked.{Asks}
+use Rattle.age_commands.specs.Requests.{IsUnlocking, IsDecrypting, IsResuming, Requests}
+use Rattle.age_commands.specs.declared.request.Request.TheVariants.{Decrypt, Resume}
+use Rattle.age_commands.specs.declared.request.Unlocking.{Unlocking}
+use Rattle.age_commands.specs.declared.request.Decrypting.{Decrypting}
+use Rattle.age_commands.specs.declared.request.Resuming.{Resuming}
 use Rattle.age_cli.specs.Held.{Held}
 use Rattle.age_cli.specs.Identities.{Options, options_of}
 use Rattle.age_cli.specs.inner.IdentitySteps.{options_asked}

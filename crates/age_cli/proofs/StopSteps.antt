@@ -18,12 +18,12 @@ use Rattle.age_file.specs.declared.position.Position.{Position}
 use Rattle.age_file.specs.declared.position.Positions.{Positions}
 use Rattle.age_file.specs.declared.fault.FileFault.{FileFault}
 use Rattle.age_file.specs.declared.fault.FileFault.TheVariants as fault
-use Rattle.age_cli.specs.Asked.{Asks}
-use Rattle.age_cli.specs.inner.Requests.{IsEncrypting, IsDecrypting, IsResuming, Requests, text_of}
-use Rattle.age_cli.specs.declared.request.Request.TheVariants.{Encrypt, Decrypt, Resume}
-use Rattle.age_cli.specs.declared.request.Encrypting.{Encrypting}
-use Rattle.age_cli.specs.declared.request.Decrypting.{Decrypting}
-use Rattle.age_cli.specs.declared.request.Resuming.{Resuming}
+use Rattle.age_commands.specs.Asked.{Asks}
+use Rattle.age_commands.specs.Requests.{IsEncrypting, IsDecrypting, IsResuming, Requests, text_of}
+use Rattle.age_commands.specs.declared.request.Request.TheVariants.{Encrypt, Decrypt, Resume}
+use Rattle.age_commands.specs.declared.request.Encrypting.{Encrypting}
+use Rattle.age_commands.specs.declared.request.Decrypting.{Decrypting}
+use Rattle.age_commands.specs.declared.request.Resuming.{Resuming}
 use Rattle.age_cli.specs.Held.{Held}
 use Rattle.age_cli.specs.Identities.{Options}
 use Rattle.age_cli.specs.inner.IdentitySteps.{options_asked}

@@ -5,7 +5,7 @@ use Rattle.age_file.specs.Ports.{Ports}
 use Rattle.age_file.specs.Secrets.{SecretView, IsWithinLimits}
 use Rattle.age_file.specs.Encrypts.{Encrypts}
 use Rattle.age_file.specs.declared.encryption.Written.{Written}
-use Rattle.age_cli.specs.Requests.{number_or}
+use Rattle.age_commands.specs.Requests.{number_or}
 use Rattle.age_cli.specs.Identities.{IsPassphraseIn}
 use Rattle.age_cli.specs.Held.{Held, SparesBut}
 

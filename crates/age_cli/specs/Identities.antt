@@ -9,7 +9,7 @@ use Rattle.age_keys.specs.SharedSecret.{Shared, IsSharedKey, SharedRefuses}
 use Rattle.age_cli.specs.declared.identity.Identity.{Identity}
 use Rattle.age_cli.specs.declared.identity.Identity.TheVariants.{ByPassphrase, ByFileKey, ByShared}
 use Rattle.age_cli.specs.Held.{Held}
-use Rattle.age_cli.specs.Requests.{number_or}
+use Rattle.age_commands.specs.Requests.{number_or}
 
 -- the keys that a passphrase with its limit, a file key or a shared secret may find in a header,
 -- and the faults

@@ -1,8 +1,5 @@
 pub mod EventOrders
 pub mod Orders
-pub mod Commands
-pub mod Asked
-pub mod Requests
 pub mod Endings
 pub mod FaultLines
 pub mod ReportTexts

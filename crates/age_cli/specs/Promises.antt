@@ -4,7 +4,7 @@
 use Rattle.std.specs.Prelude.{◌≡◌, ℕ, Bool, true, List, [], ◌++◌, Option, codes}
 use Rattle.clap.specs.Words.{Row, Text, first_of}
 use Rattle.age_file.specs.Ports.{Ports}
-use Rattle.age_cli.specs.Asked.{Asks}
+use Rattle.age_commands.specs.Asked.{Asks}
 use Rattle.age_cli.specs.Held.{Held, Spares}
 use Rattle.age_cli.specs.Runs.{Inspects}
 use Rattle.age_cli.specs.Encryptions.{EncryptsRows}

@@ -14,7 +14,7 @@ use Rattle.age_file.specs.declared.position.Positions.TheVariants.{Kept, Dropped
 use Rattle.age_file.specs.declared.fault.FileFault.{FileFault}
 use Rattle.age_file.specs.declared.fault.FileFault.TheVariants.{Write, Memory, BadPosition}
 use Rattle.age_cli.specs.Encryptions.{MakesSecret}
-use Rattle.age_cli.specs.Requests.{number_or}
+use Rattle.age_commands.specs.Requests.{number_or}
 use Rattle.age_cli.specs.Endings.{EndsEarly, status_of}
 use Rattle.age_cli.specs.FaultLines.{TellsEnding}
 use Rattle.age_cli.specs.Held.{Held}

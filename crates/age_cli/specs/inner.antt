@@ -1,8 +1,6 @@
 pub mod Asking
-pub mod Commands
 pub mod Endings
 pub mod Fronts
 pub mod Held
 pub mod IdentitySteps
 pub mod Randoms
-pub mod Requests

@@ -5,9 +5,9 @@ ghost use Rattle.std.specs.Prelude.{◌≡◌, ◌⊎◌, [], ◌∷◌, ◌++�
 ghost use Rattle.age_fileset.specs.Events.{Closed};
 ghost use Rattle.age_cli.specs.EventOrders.{Follows};
 ghost use Rattle.age_cli.specs.inner.Asking.{order_asked};
-ghost use Rattle.age_cli.specs.declared.request.Request.TheVariants.{Decrypt};
+ghost use Rattle.age_commands.specs.declared.request.Request.TheVariants.{Decrypt};
 ghost use Rattle.clap.specs.Words.{Text};
-ghost use Rattle.age_cli.specs.inner.Requests.{text_of};
+ghost use Rattle.age_commands.specs.Requests.{text_of};
 ghost use Rattle.age_cli.specs.inner.IdentitySteps.{options_asked};
 ghost use Rattle.age_cli.specs.Decryptions.{DecryptsOut, DecryptsFile};
 ghost use Rattle.age_cli.specs.Endings.{EndsEarly, is_usage};
@@ -16,10 +16,11 @@ ghost use Rattle.age_cli.specs.Held.{SparesBut, SparesBoth};
 use crate::ending::{Ending, Usage};
 use crate::identity::{Identity, identity_of, read_secret, secret_file};
 use crate::output::{create_out, leave};
-use crate::request::Decrypting;
 use crate::stop::{Stop, end_of};
+use age_commands::Decrypting;
 use age_file::{Positions, decrypt_with};
-use age_fileset::{Durability, FileSet};
+use age_fileset::FileSet;
+use age_io::Durability;
 use std::alloc::Global;
 
 /// Decrypts the input into the output, and ends that. Where it stops before anything is written,

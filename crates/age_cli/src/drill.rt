@@ -4,15 +4,15 @@ ghost use Rattle.std.specs.Prelude.{◌≡◌, ◌≤◌, ◌++◌, ◌∷◌, [
 ghost use Rattle.age_fileset.specs.Events.{Opened};
 ghost use Rattle.age_cli.specs.EventOrders.{Follows};
 ghost use Rattle.age_cli.specs.inner.Asking.{order_asked};
-ghost use Rattle.age_cli.specs.declared.request.Request.TheVariants.{Drill};
+ghost use Rattle.age_commands.specs.declared.request.Request.TheVariants.{Drill};
 ghost use Rattle.age_stanza.specs.Grammar.{HasText};
 
 use crate::ending::{Ending, Usage};
 use crate::front::{fill_front, read_up_to};
 use crate::identity::{read_pass, trimmed};
 use crate::print::{flush, put_bytes};
-use crate::request::Drilling;
 use crate::script::{Line, SCRIPT_MAX, has_too_many_lines, read_lines};
+use age_commands::Drilling;
 use age_file::{FileFault, Sink};
 use age_fileset::FileSet;
 use age_keys::{Passphrase, PayloadKey, open_header, payload_key};

@@ -1,11 +1,11 @@
 //! The command that encrypts a file.
 
 ghost use Rattle.std.specs.Prelude.{◌≡◌, ◌⊎◌, [], ◌∷◌, ◌++◌, ℕ, List, Some, true, IfOk, IfErr, IfSome, OnOk};
-ghost use Rattle.age_cli.specs.inner.Requests.{text_of};
+ghost use Rattle.age_commands.specs.Requests.{text_of};
 ghost use Rattle.age_fileset.specs.Events.{Opened, Closed};
 ghost use Rattle.age_cli.specs.EventOrders.{Follows};
 ghost use Rattle.age_cli.specs.inner.Asking.{order_asked};
-ghost use Rattle.age_cli.specs.declared.request.Request.TheVariants.{Encrypt};
+ghost use Rattle.age_commands.specs.declared.request.Request.TheVariants.{Encrypt};
 ghost use Rattle.age_cli.specs.Encryptions.{random_name, EncryptsOut, EncryptsFile};
 ghost use Rattle.age_cli.specs.inner.Randoms.{IsRandom};
 ghost use Rattle.age_cli.specs.Endings.{EndsEarly, is_usage};
@@ -16,9 +16,10 @@ ghost use Rattle.age_file.specs.declared.fault.FileFault.TheVariants.{Memory};
 use crate::ending::{Ending, Usage};
 use crate::front::read_front;
 use crate::identity::{read_pass, trimmed};
-use crate::request::Encrypting;
+use age_commands::Encrypting;
 use age_file::{FileFault, Secret, encrypt};
-use age_fileset::{Durability, FileSet};
+use age_fileset::FileSet;
+use age_io::Durability;
 use std::alloc::Global;
 
 /// Where random bytes come from if no file is named.

@@ -10,11 +10,11 @@ ghost use Rattle.age_fileset.specs.FileSet.{IsMemoryOr};
 ghost use Rattle.age_cli.specs.Held.{Held};
 ghost use Rattle.age_cli.specs.Identities.{without_line_feed, IsPassphraseIn, IsSharedIn, OpensBy};
 ghost use Rattle.age_cli.specs.inner.IdentitySteps.{bytes_of, options_asked, secret_name, IsSecretIn};
-ghost use Rattle.age_cli.specs.inner.Requests.{text_of};
+ghost use Rattle.age_commands.specs.Requests.{text_of};
 
 use crate::ending::{Ending, Usage};
 use crate::front::read_up_to;
-use crate::request::Unlocking;
+use age_commands::Unlocking;
 use age_file::{FileFault, Source};
 use age_fileset::FileSet;
 use age_keys::{FileKey, KeyFault, KnownKey, Passphrase, SharedSecret, Unlock};

@@ -6,20 +6,16 @@
 //! program hands in the machine's.
 #![tactic(auto)]
 
-mod commands;
 mod decryption;
 mod drill;
 mod encryption;
 mod ending;
 mod front;
-mod help;
 mod identity;
 mod inspection;
 mod output;
 mod print;
 mod program;
-mod reading;
-mod request;
 mod resumption;
 mod script;
 mod stop;

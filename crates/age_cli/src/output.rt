@@ -7,7 +7,8 @@ ghost use Rattle.age_cli.specs.EventOrders.{Follows, making};
 ghost use Rattle.age_cli.specs.Stops.{Leaves};
 
 use crate::ending::{Ending, Usage};
-use age_fileset::{Durability, FileSet};
+use age_fileset::FileSet;
+use age_io::Durability;
 use std::alloc::Global;
 
 /// Whether the file of `--save` is one that is open, other than that of the position.

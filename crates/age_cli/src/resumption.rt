@@ -6,10 +6,10 @@ ghost use Rattle.age_cli.specs.EventOrders.{Follows};
 ghost use Rattle.age_cli.specs.inner.Asking.{order_asked};
 ghost use Rattle.age_fileset.specs.FileSet.{IsMemoryOr};
 ghost use Rattle.age_cli.specs.Stops.{ResumptionStop, ResumesStop, OutStops, PortsOf};
-ghost use Rattle.age_cli.specs.declared.request.Request.TheVariants.{Resume};
+ghost use Rattle.age_commands.specs.declared.request.Request.TheVariants.{Resume};
 ghost use Rattle.age_cli.specs.declared.ending.Ending.TheVariants.{Fault};
 ghost use Rattle.age_file.specs.declared.fault.FileFault.TheVariants.{Read, BadPosition};
-ghost use Rattle.age_cli.specs.inner.Requests.{text_of};
+ghost use Rattle.age_commands.specs.Requests.{text_of};
 ghost use Rattle.age_cli.specs.inner.IdentitySteps.{options_asked};
 ghost use Rattle.age_cli.specs.Resumptions.{IsPositionIn, ResumesOut, ResumesFile};
 ghost use Rattle.age_cli.specs.Endings.{EndsEarly, is_usage};
@@ -20,10 +20,11 @@ use crate::ending::{Ending, Usage};
 use crate::front::read_up_to;
 use crate::identity::{Identity, identity_of, read_secret, secret_file};
 use crate::output::{create_out, leave};
-use crate::request::Resuming;
 use crate::stop::{Stop, end_of};
+use age_commands::Resuming;
 use age_file::{FileFault, Position, Positions, resume_with};
-use age_fileset::{Durability, FileSet};
+use age_fileset::FileSet;
+use age_io::Durability;
 use std::alloc::Global;
 
 /// The position in a file.

@@ -1,7 +1,7 @@
 //! How a command that writes a text stops, and where its position goes.
 
 ghost use Rattle.std.specs.Prelude.{◌≡◌, true, false, None, OnOk, OnErr};
-ghost use Rattle.age_cli.specs.inner.Requests.{text_of};
+ghost use Rattle.age_commands.specs.Requests.{text_of};
 ghost use Rattle.age_cli.specs.Endings.{is_usage};
 ghost use Rattle.age_cli.specs.Stops.{SaveFails, EndsOf};
 ghost use Rattle.age_cli.specs.EventOrders.{Follows, replacing};
@@ -10,7 +10,8 @@ ghost use Rattle.age_cli.specs.inner.Held.{Saves};
 
 use crate::ending::Ending;
 use age_file::{FileFault, Position, Stopped};
-use age_fileset::{Durability, FileSet};
+use age_fileset::FileSet;
+use age_io::Durability;
 use std::alloc::Global;
 
 /// Why a command stopped, and the position to save.

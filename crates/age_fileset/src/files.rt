@@ -6,16 +6,8 @@ ghost use Rattle.age_fileset.specs.declared.files.CreateFault.TheVariants.{Fault
 ghost use Rattle.age_fileset.specs.Events.{Event, Opened, Created, Replaced, Closed};
 
 use age_file::{FileFault, Sink, Source};
+use age_io::Durability;
 use std::alloc::Global;
-
-/// When a file that was written reaches the disk.
-#[derive(Clone, Copy, Debug, PartialEq, Eq)]
-pub enum Durability {
-    /// Before the call that ends it returns, so that a loss of power undoes nothing of it.
-    Synced,
-    /// When the system writes it, some seconds later.
-    Buffered,
-}
 
 /// Why a file could not be created.
 #[derive(Clone, Copy, Debug, PartialEq, Eq)]

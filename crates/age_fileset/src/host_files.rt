@@ -5,13 +5,14 @@ ghost use Rattle.age_fileset.specs.FileSet.{IsMemoryOr, CreateFails};
 ghost use Rattle.age_fileset.specs.declared.files.CreateFault.TheVariants.{SameFile};
 ghost use Rattle.age_fileset.specs.declared.host_names.Identity.{Identity};
 
-use crate::files::{CreateFault, Durability, FileSet};
+use crate::files::{CreateFault, FileSet};
 use crate::host_in::HostIn;
 use crate::host_names::Identity;
 use crate::host_out::HostOut;
 use crate::host_replace::replace;
 use crate::log::Log;
 use age_file::FileFault;
+use age_io::Durability;
 use std::alloc::{AllocError, Global};
 use std::io;
 use std::rt::HostRuntime;

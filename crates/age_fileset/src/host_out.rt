@@ -3,9 +3,9 @@
 ghost use Rattle.std.specs.Prelude.{◌≡◌};
 ghost use Rattle.std.specs.Io.{WritesAtMost};
 
-use crate::files::Durability;
 use crate::host_names::{Identity, Place, Stream, above_streams, place_of};
 use age_file::{Failed, Sink};
+use age_io::Durability;
 use std::alloc::Global;
 use std::fs::{self, File};
 use std::io::{self, Write};

@@ -15,7 +15,7 @@ mod log;
 mod mem_entry;
 mod mem_files;
 
-pub use files::{CreateFault, Durability, FileSet};
+pub use files::{CreateFault, FileSet};
 pub use host_files::HostFiles;
 pub use host_in::HostIn;
 pub use host_out::HostOut;

@@ -5,12 +5,14 @@
 //! which also tell contracts their bytes, and fail at a call that is planned.
 #![tactic(auto)]
 
+mod durability;
 mod failed;
 mod mem_sink;
 mod mem_source;
 mod sink;
 mod source;
 
+pub use durability::Durability;
 pub use failed::{Failed, Memory};
 pub use mem_sink::MemSink;
 pub use mem_source::MemSource;

@@ -4,8 +4,8 @@ use Rattle.std.specs.declared.vec.Vec.{Vec}
 use Rattle.clap.specs.Words.{Text}
 use Rattle.age_cli.specs.Held.{Held}
 use Rattle.age_cli.specs.Identities.{Options}
-use Rattle.age_cli.specs.inner.Requests.{text_of}
-use Rattle.age_cli.specs.declared.request.Unlocking.{Unlocking}
+use Rattle.age_commands.specs.Requests.{text_of}
+use Rattle.age_commands.specs.declared.request.Unlocking.{Unlocking}
 
 abbrev pub options_asked : Unlocking → Options
 options_asked u = record {

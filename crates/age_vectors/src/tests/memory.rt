@@ -1,7 +1,8 @@
 //! Sources, sinks and files over memory, by their plans of failures.
 
 use age_file::{Failed, FileFault, MemSink, MemSource, Reading, Sink, Source, Writing, put_all};
-use age_fileset::{CreateFault, Durability, FileSet, MemFiles};
+use age_fileset::{CreateFault, FileSet, MemFiles};
+use age_io::Durability;
 use std::test::Fail;
 
 #[test]

@@ -2,7 +2,7 @@ use Rattle.age_file.specs.declared.position.Positions.{Positions}
 use Rattle.std.proofs.Common.{ℕ, List, Option, ◌≡◌, ◌∙◌, ◌++◌, ◌∷◌, [], inr, ap, sym, subst, true≢false, Some}
 use Rattle.clap.specs.Words.{Text}
 use Rattle.age_cli.specs.inner.IdentitySteps.{IsSecretIn, bytes_of}
-use Rattle.age_cli.specs.inner.Requests.{text_of}
+use Rattle.age_commands.specs.Requests.{text_of}
 use Rattle.age_cli.specs.Stops.{DecryptionStop, OutStops, PortsOf}
 use Rattle.age_cli.proofs.StopSteps.{ends_from}
 use Rattle.age_fileset.specs.Events.{Opened}

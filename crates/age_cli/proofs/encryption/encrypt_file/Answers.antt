@@ -4,7 +4,7 @@ use Rattle.age_file.specs.Secrets.{SecretView, IsWithinLimits}
 use Rattle.age_cli.specs.Encryptions.{EncryptsOut, random_name}
 use Rattle.age_cli.specs.Stops.{EncryptionStop, PortsOf, SealedOutStops}
 use Rattle.age_cli.specs.Identities.{without_line_feed}
-use Rattle.age_cli.specs.inner.Requests.{text_of}
+use Rattle.age_commands.specs.Requests.{text_of}
 use Rattle.age_cli.proofs.EncryptionSteps.{random_in}
 use Rattle.age_cli.proofs.encryption.encrypt_file.Goals as goal
 

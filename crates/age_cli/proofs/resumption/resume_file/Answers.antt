@@ -3,7 +3,7 @@ use Rattle.std.specs.Prelude.{is_some}
 use Rattle.age_cli.specs.Resumptions.{ResumesOut}
 use Rattle.clap.specs.Words.{Text}
 use Rattle.age_cli.specs.inner.IdentitySteps.{IsSecretIn, bytes_of}
-use Rattle.age_cli.specs.inner.Requests.{text_of}
+use Rattle.age_commands.specs.Requests.{text_of}
 use Rattle.age_fileset.specs.Events.{Opened}
 use Rattle.age_cli.specs.EventOrders.{Follows, making, replacing}
 use Rattle.age_cli.specs.Stops.{ResumptionStop, OutStops, PortsOf}

@@ -2,9 +2,9 @@ use Rattle.std.proofs.Common.{◌∙◌, ap, sym, not}
 use Rattle.std.specs.Str.Parse.{ParsesUnsigned, ExplainsUnsignedError, HasUnsignedDigitsIfOk}
 use Rattle.clap.specs.Words.{found_of, one_text}
 use Rattle.clap.proofs.WalkLemmas.{one_text-rows}
-use Rattle.age_cli.specs.Requests.{number_or}
-use Rattle.age_cli.proofs.Numbers.{number_read, no_number}
-use Rattle.age_cli.proofs.reading.number.Goals as goal
+use Rattle.age_commands.specs.Requests.{number_or}
+use Rattle.age_commands.proofs.Numbers.{number_read, no_number}
+use Rattle.age_commands.proofs.reading.number.Goals as goal
 
 pub returns-in-Some-clause-value : goal.returns-in-Some-clause-value
 returns-in-Some-clause-value c =

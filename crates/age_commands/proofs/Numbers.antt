@@ -6,7 +6,7 @@ use Rattle.clap.specs.Words.{Text, matched_of, one_text, one_of, rows_of, ReadsO
 use Rattle.clap.specs.declared.parser.matches.Found.{Found}
 use Rattle.clap.specs.declared.parser.matches.MatchedArg.{MatchedArg}
 use Rattle.clap.proofs.WalkLemmas.{one_text-rows}
-use Rattle.age_cli.specs.Requests.{number_or}
+use Rattle.age_commands.specs.Requests.{number_or}
 
 -- a number that was read is the one that its text spells
 pub number_read : {E : Type 0} (G : List ℕ → Result ℕ E → Type 0) (o : Option Text) (n default : ℕ) → (o ≡ None → Some n ≡ None)

@@ -3,10 +3,10 @@ use Rattle.std.proofs.lemmas.Result.{IfOk-weaker}
 use Rattle.clap.specs.Words.{App, app_of, is_simple, is_simple_and_free, subcommand_of, fault_of}
 use Rattle.clap.specs.Walk.{texts}
 use Rattle.clap.proofs.FaultLemmas.{fails_as}
-use Rattle.age_cli.specs.Commands.{age_tool}
-use Rattle.age_cli.specs.Asked.{named, refusals}
-use Rattle.age_cli.proofs.Simple.{is_simple-age_tool, is_free-age_tool}
-use Rattle.age_cli.proofs.commands.matches_of.Goals as goal
+use Rattle.age_commands.specs.Commands.{age_tool}
+use Rattle.age_commands.specs.Asked.{named, refusals}
+use Rattle.age_commands.proofs.Simple.{is_simple-age_tool, is_free-age_tool}
+use Rattle.age_commands.proofs.commands.matches_of.Goals as goal
 
 pub returns-clause-matches : goal.returns-clause-matches
 unfolding named

@@ -2,9 +2,9 @@
 use Rattle.std.proofs.Common.{◌≡◌, refl, codes, List, [], ◌∷◌, Option, Some, None, option_map, map}
 use Rattle.clap.specs.Words.{Row, Text, first_of, one_of}
 use Rattle.clap.proofs.OnLiterals.{clap_on_literals}
-use Rattle.age_cli.specs.Commands.{age_tool, encrypting, decrypting, resuming, inspecting, drilling}
-use Rattle.age_cli.specs.Asked.{refusals, named}
-use Rattle.age_cli.specs.Requests.{number_or}
+use Rattle.age_commands.specs.Commands.{age_tool, encrypting, decrypting, resuming, inspecting, drilling}
+use Rattle.age_commands.specs.Asked.{refusals, named}
+use Rattle.age_commands.specs.Requests.{number_or}
 use Rattle.std.specs.Prelude.{ℕ}
 
 abbrev words : List Text

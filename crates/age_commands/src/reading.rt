@@ -1,15 +1,14 @@
-//! Reads what the words ask for.
+//! Reads what the arguments ask for.
 
 ghost use Rattle.std.specs.Prelude.{◌≡◌, ◌≤◌, [], true, false, Some, None, IfOk, IfErr, IfSome, codes};
 ghost use Rattle.clap.specs.Words.{subcommand_rows_of, rows_of, found_of, one_of, first_of, FailsBy};
 ghost use Rattle.clap.specs.Walk.{texts};
-ghost use Rattle.age_cli.specs.Asked.{refusals};
-ghost use Rattle.age_cli.specs.Requests.{number_or};
-ghost use Rattle.age_cli.specs.inner.Requests.{text_of, IsDurability, IsEncrypting, IsUnlocking, IsDecrypting, IsResuming, IsDrilling, IsRequest, Requests};
+ghost use Rattle.age_commands.specs.Asked.{refusals};
+ghost use Rattle.age_commands.specs.Requests.{number_or, text_of, IsDurability, IsEncrypting, IsUnlocking, IsDecrypting, IsResuming, IsDrilling, IsRequest, Requests};
 
 use crate::commands::matches_of;
 use crate::request::{Decrypting, Drilling, Encrypting, Request, Resuming, Unlocking};
-use age_fileset::Durability;
+use age_io::Durability;
 use clap::{ArgMatches, Error};
 use std::alloc::Global;
 
@@ -136,13 +135,14 @@ fn request_of<'a>(name: &str, matches: &ArgMatches<'a>) -> Option<Request<'a>>
     }
 }
 
-/// What the words ask for. A request is there wherever the words are taken, since each word that is
-/// taken is of an argument that the command has; the parser of command lines doesn't promise this,
-/// so there is an answer for none.
-pub(crate) fn read_request<'a>(
-    alloc: Global,
-    words: &'a [&'a str],
-) -> Result<Option<Request<'a>>, Error>
+/// Reads what the arguments after the program's name ask for. It fails with the error of the parser
+/// of command lines: for arguments that no command takes, where help or the version is asked for,
+/// and where memory is refused.
+///
+/// `None` never comes up: each command has an argument for all that it takes, and numbers outside
+/// 1 to 22 are refused. The parser of command lines doesn't promise this, so callers have to answer
+/// it.
+pub fn read_request<'a>(alloc: Global, words: &'a [&'a str]) -> Result<Option<Request<'a>>, Error>
     ensures asked { IfOk result (λ o. IfSome o (Requests (texts words.now))) }
     ensures refusals { FailsBy (refusals (texts words.now)) result }
 {

@@ -4,7 +4,7 @@ use Rattle.std.specs.Prelude.{◌≡◌, ◌⊎◌, List, [], Option, Some}
 use Rattle.clap.specs.Words.{Row, Text, fault_of, subcommand_of}
 use Rattle.clap.specs.Kinds.{Kinds, IsAmong}
 use Rattle.clap.specs.declared.error.kind.ErrorKind.TheVariants.{DisplayHelp, DisplayVersion}
-use Rattle.age_cli.specs.Commands.{age_tool}
+use Rattle.age_commands.specs.Commands.{age_tool}
 
 -- the kinds of refusal of the words, none where they are taken
 unfoldable pub refusals : List Text → Kinds

@@ -1,18 +1,23 @@
 -- What a command asks for, by what stands for each of its arguments.
-use Rattle.std.specs.Prelude.{◌≡◌, true, false, List, Option, Some, None, codes, option_map}
+use Rattle.std.specs.Prelude.{◌≡◌, ℕ, true, false, List, Option, Some, None, codes, option_map}
 use Rattle.std.specs.Borrow.{Bor}
+use Rattle.std.specs.Option.{option_map_or}
+use Rattle.std.specs.Str.Parse.{digits_value, without_leading_plus}
 use Rattle.clap.specs.Words.{Row, Text, first_of, one_of}
-use Rattle.age_cli.specs.Asked.{Asks}
-use Rattle.age_fileset.specs.declared.files.Durability.{Durability}
-use Rattle.age_fileset.specs.declared.files.Durability.TheVariants.{Synced, Buffered}
-use Rattle.age_cli.specs.declared.request.Encrypting.{Encrypting}
-use Rattle.age_cli.specs.declared.request.Unlocking.{Unlocking}
-use Rattle.age_cli.specs.declared.request.Decrypting.{Decrypting}
-use Rattle.age_cli.specs.declared.request.Resuming.{Resuming}
-use Rattle.age_cli.specs.declared.request.Drilling.{Drilling}
-use Rattle.age_cli.specs.declared.request.Request.{Request}
-use Rattle.age_cli.specs.declared.request.Request.TheVariants.{Inspect, Decrypt, Resume, Encrypt, Drill}
-use Rattle.age_cli.specs.Requests.{number_or}
+use Rattle.age_commands.specs.Asked.{Asks}
+use Rattle.age_io.specs.declared.durability.Durability.{Durability}
+use Rattle.age_io.specs.declared.durability.Durability.TheVariants.{Synced, Buffered}
+use Rattle.age_commands.specs.declared.request.Encrypting.{Encrypting}
+use Rattle.age_commands.specs.declared.request.Unlocking.{Unlocking}
+use Rattle.age_commands.specs.declared.request.Decrypting.{Decrypting}
+use Rattle.age_commands.specs.declared.request.Resuming.{Resuming}
+use Rattle.age_commands.specs.declared.request.Drilling.{Drilling}
+use Rattle.age_commands.specs.declared.request.Request.{Request}
+use Rattle.age_commands.specs.declared.request.Request.TheVariants.{Inspect, Decrypt, Resume, Encrypt, Drill}
+
+-- the number that a text spells, or this one where there is no text
+abbrev pub number_or : ℕ → Option Text → ℕ
+number_or default text = option_map_or (λ t. digits_value 10 (without_leading_plus t)) text default
 
 abbrev pub text_of : Option (Bor Text) → Option Text
 text_of = option_map (λ s. s.now)

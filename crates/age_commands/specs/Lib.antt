@@ -1,0 +1,4 @@
+pub mod Commands
+pub mod Asked
+pub mod Requests
+pub mod inner

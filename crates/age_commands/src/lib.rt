@@ -1,0 +1,11 @@
+//! The command line of `age_tool`: its commands, their options and help, and what the arguments ask
+//! for.
+#![tactic(auto)]
+
+mod commands;
+mod help;
+mod reading;
+mod request;
+
+pub use reading::read_request;
+pub use request::{Decrypting, Drilling, Encrypting, Request, Resuming, Unlocking};

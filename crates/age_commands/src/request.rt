@@ -1,0 +1,89 @@
+//! What the arguments ask for.
+
+use age_io::Durability;
+
+/// What `encrypt` is asked.
+#[derive(Clone, Copy, Debug)]
+pub struct Encrypting<'a> {
+    /// The path of the passphrase file (`--pass`).
+    pub pass: &'a str,
+    /// The work factor's logarithm, 1 to 22; 18 where `--log` isn't given.
+    pub log: u32,
+    /// The path of the file of random bytes, where `--random` is given.
+    pub random: Option<&'a str>,
+    /// When OUT reaches the disk: later, where `--no-sync` is given.
+    pub durability: Durability,
+    /// The path of the plaintext (IN).
+    pub from: &'a str,
+    /// The path of the age file (OUT).
+    pub to: &'a str,
+}
+
+/// The options that say what opens a file. That exactly one of the first three is given isn't
+/// checked yet.
+#[derive(Clone, Copy, Debug)]
+pub struct Unlocking<'a> {
+    /// The path of the passphrase file, where `--pass` is given.
+    pub pass: Option<&'a str>,
+    /// The file key's digits, where `--file-key` is given; they may be malformed.
+    pub file_key: Option<&'a str>,
+    /// The path of the file of the shared secret, where `--shared` is given.
+    pub shared: Option<&'a str>,
+    /// The greatest work factor's logarithm that is accepted, 1 to 22; 22 where `--max-log` isn't
+    /// given.
+    pub max_log: u32,
+}
+
+/// What `decrypt` is asked.
+#[derive(Clone, Copy, Debug)]
+pub struct Decrypting<'a> {
+    /// What opens the file.
+    pub unlocking: Unlocking<'a>,
+    /// The path that a stop's position is saved to, where `--save` is given.
+    pub save: Option<&'a str>,
+    /// When OUT and the saved position reach the disk: later, where `--no-sync` is given.
+    pub durability: Durability,
+    /// The path of the age file (IN).
+    pub from: &'a str,
+    /// The path of the plaintext (OUT).
+    pub to: &'a str,
+}
+
+/// What `resume` is asked: a decryption that continues at a position, after an earlier output.
+#[derive(Clone, Copy, Debug)]
+pub struct Resuming<'a> {
+    /// The decryption.
+    pub decrypting: Decrypting<'a>,
+    /// The path of the saved position (`--position`).
+    pub position: &'a str,
+    /// The path of the earlier output (`--old`).
+    pub old: &'a str,
+}
+
+/// What `drill` is asked. That exactly one of the first two is given isn't checked yet.
+#[derive(Clone, Copy, Debug)]
+pub struct Drilling<'a> {
+    /// Whether the payload is in the clear (`--clear`).
+    pub clear: bool,
+    /// The path of the passphrase file, where `--pass` is given.
+    pub pass: Option<&'a str>,
+    /// The path of the script (SCRIPT).
+    pub script: &'a str,
+    /// The path of the age file or of the payload (IN).
+    pub from: &'a str,
+}
+
+/// What the program is asked.
+#[derive(Clone, Copy, Debug)]
+pub enum Request<'a> {
+    /// To encrypt a file.
+    Encrypt(Encrypting<'a>),
+    /// To decrypt a file.
+    Decrypt(Decrypting<'a>),
+    /// To continue a decryption.
+    Resume(Resuming<'a>),
+    /// To inspect the file at this path, or standard input.
+    Inspect(Option<&'a str>),
+    /// To deliver a payload by a script.
+    Drill(Drilling<'a>),
+}
