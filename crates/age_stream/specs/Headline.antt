@@ -1,10 +1,11 @@
 -- What the deliveries may hold, and what then holds of the text.
-use Rattle.std.specs.Prelude.{◌≡◌, ℕ, ◌+◌, ◌*◌, ◌/◌, ◌<◌, ◌≤◌, Bool, true, false, List, [], ◌∷◌, ◌++◌, length, take, drop, Contains, IsSome, Option, slice_index_or, ◌⊎◌, map}
+use Rattle.std.specs.Prelude.{◌≡◌, ℕ, ◌+◌, ◌*◌, ◌/◌, ◌<◌, ◌≤◌, Bool, true, false, List, [], ◌∷◌, ◌++◌, length, take, drop, Contains, IsSome, slice_index_or, ◌⊎◌, map}
 use Rattle.std.specs.List.{AllByRecursion, flat_map}
 use Rattle.age_stream.specs.declared.step.Status.{Status}
 use Rattle.age_stream.specs.declared.step.Status.TheVariants.{Done}
-use Rattle.age_stream.specs.Nonce.{nonce_bytes, chunk_limit}
 use Rattle.std.specs.Borrow.{Bor}
+use Rattle.age_stream.specs.Lawful.{Seals, Opens}
+use Rattle.age_stream.specs.Nonce.{nonce_bytes, chunk_limit}
 use Rattle.age_stream.specs.Payload.{sealed, payload, chunk_count}
 use Rattle.age_stream.specs.Segment.{Segment, front_texts, whole_blocks, rest_bytes}
 use Rattle.age_stream.specs.Places.{IsInPlace}
@@ -15,8 +16,7 @@ use Rattle.age_stream.specs.declared.delivery.Delivery.TheVariants.{Piece, End, 
 abbrev pub IsPrefixOf : List ℕ → List ℕ → Type 0
 IsPrefixOf xs ys = (rest : List ℕ) × (xs ++ rest ≡ ys)
 
-module _ (sealing : List ℕ → List ℕ → List ℕ) (opening : List ℕ → List ℕ → Option (List ℕ)) (n : ℕ)
-    (text : List ℕ) where
+module _ (sealing : Seals) (opening : Opens) (n : ℕ) (text : List ℕ) where
   -- if the block opens at the nonce, the writer of the text sealed it there
   abbrev pub IsWriters : List ℕ → List ℕ → Type 0
   IsWriters nonce block = IsSome (opening nonce block)
@@ -92,8 +92,7 @@ module _ (sealing : List ℕ → List ℕ → List ℕ) (opening : List ℕ → 
     pub whole : IsRest s → (take (s.start * n) text ++ released ≡ text) × (status ≡ Done)
     pub place : IsInPlace sealing opening n text s status
 
-module _ (sealing : List ℕ → List ℕ → List ℕ)
-    (opening : List ℕ → List ℕ → Option (List ℕ)) (n : ℕ) where
+module _ (sealing : Seals) (opening : Opens) (n : ℕ) where
   -- the headline: for every text of at most 2^48 chunks, while no delivered block opens except as
   -- its writer sealed it
   abbrev pub HoldsWritten : List Delivery → List ℕ → Status → Type 0

@@ -1,5 +1,5 @@
 pub mod ClearLaw
 pub mod OpenerSteps
-pub mod Replaying
+pub mod ReplaySteps
 pub mod SealerSteps
 pub mod SegmentSteps

@@ -35,8 +35,7 @@ impl<'k, B: ChunkBox, const SEALED: usize> OpenerState<'k, B, SEALED> {
     ghost use Rattle.age_stream.specs.Segment.{Segment, outcome, released, failed};
     ghost use Rattle.age_stream.specs.inner.SegmentSteps.{final_block, one_block, status_ended};
     ghost use Rattle.age_stream.specs.Deliveries.{with_piece, with_end};
-    ghost use Rattle.age_stream.specs.Opening.{Stands, given, handed, has_failed, text_at_end};
-    ghost use Rattle.age_stream.specs.OpenerSteps.{held_bytes, opener_view};
+    ghost use Rattle.age_stream.specs.Opening.{Stands, given, handed, has_failed, text_at_end, held_bytes, opener_view};
     ghost use Rattle.age_stream.specs.inner.OpenerSteps.{IsTried, TakesPart, TakesWhole, TakesNone, Ends, front_bytes};
 
     // Empties the buffer of a text that was lent.
@@ -273,8 +272,7 @@ pub struct Opener<'k, B: ChunkBox, const SEALED: usize> {
 }
 
 impl<'k, B: ChunkBox, const SEALED: usize> Model for Opener<'k, B, SEALED> {
-    ghost use Rattle.age_stream.specs.Opening.{OpenerView};
-    ghost use Rattle.age_stream.specs.OpenerSteps.{opener_view};
+    ghost use Rattle.age_stream.specs.Opening.{OpenerView, opener_view};
 
     ghost Value = { OpenerView B };
 
