@@ -49,6 +49,7 @@ module _ {B : Type 0} (sealing : B → Seals) (opening : B → Opens) (n : ℕ) 
     pub stands : (s : Segment) → Stands opening n old s → Stands opening n new (with_end s)
     pub fault : IfErr answer (λ fault. new.status ≡ Failed fault)
     pub done : OnOk answer (new.status ≡ Done)
+    pub nothing_held : OnOk answer (new.held ≡ [])
     -- at last the headline: while what opens is the writer's, Ok comes only with all of the text
     pub written : (s : Segment) → Stands opening n old s
         → ReleasesWritten (sealing old.key) (opening old.key) n (with_end s)
