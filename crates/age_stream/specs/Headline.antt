@@ -22,23 +22,28 @@ module _ (sealing : Seals) (opening : Opens) (n : ℕ) (text : List ℕ) where
   IsWriters nonce block = IsSome (opening nonce block)
       → Contains (sealed sealing n text) (nonce, block)
 
-  -- each block that the segment tries is the writer's, if it opens
+  -- how many blocks of the segment came whole, block j of them, and how many stand in front: they
+  -- open as not last
+  abbrev pub whole_count : Segment → ℕ
+  whole_count s = length s.bytes / (n + 16)
+
+  abbrev pub whole_block : Segment → ℕ → List ℕ
+  whole_block s j = slice_index_or (whole_blocks n s.bytes) j []
+
+  abbrev pub front_count : Segment → ℕ
+  front_count s = length (front_texts opening s.start (whole_blocks n s.bytes))
+
+  -- each block that the segment tries is the writer's, if it opens: those in front, the next one,
+  -- tried as not the last and as the last, and, where all whole ones are in front, what is left at
+  -- an end, unless it is shorter than a tag, or a tag alone after other chunks
   pub record IsAuthentic (s : Segment) : Type 0 where
-    pub front : (j : ℕ) → j < length (front_texts opening s.start (whole_blocks n s.bytes))
-        → IsWriters (nonce_bytes (s.start + j) false) (slice_index_or (whole_blocks n s.bytes) j [])
-    pub next : length (front_texts opening s.start (whole_blocks n s.bytes))
-        < length s.bytes / (n + 16)
-        → (last : Bool)
-        → IsWriters
-        (nonce_bytes (s.start + length (front_texts opening s.start (whole_blocks n s.bytes))) last)
-        (slice_index_or (whole_blocks n s.bytes)
-        (length (front_texts opening s.start (whole_blocks n s.bytes))) [])
-    pub rest : length (front_texts opening s.start (whole_blocks n s.bytes))
-        ≡ length s.bytes / (n + 16)
-        → s.ended ≡ true
-        → 16 ≤ length (rest_bytes n s.bytes)
-        → (length (rest_bytes n s.bytes) ≡ 16 → s.start + length s.bytes / (n + 16) ≡ 0)
-        → IsWriters (nonce_bytes (s.start + length s.bytes / (n + 16)) true) (rest_bytes n s.bytes)
+    pub front : (j : ℕ) → j < front_count s
+        → IsWriters (nonce_bytes (s.start + j) false) (whole_block s j)
+    pub next : front_count s < whole_count s → (last : Bool)
+        → IsWriters (nonce_bytes (s.start + front_count s) last) (whole_block s (front_count s))
+    pub rest : front_count s ≡ whole_count s → s.ended ≡ true → 16 ≤ length (rest_bytes n s.bytes)
+        → (length (rest_bytes n s.bytes) ≡ 16 → s.start + whole_count s ≡ 0)
+        → IsWriters (nonce_bytes (s.start + whole_count s) true) (rest_bytes n s.bytes)
 
   -- each segment of the deliveries is so, those that were given up too
   abbrev pub AreAuthentic : List Delivery → Type 0

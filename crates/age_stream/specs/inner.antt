@@ -1,3 +1,4 @@
+pub mod BytesLaw
 pub mod ClearLaw
 pub mod OpenerSteps
 pub mod ReplaySteps
