@@ -1,4 +1,4 @@
-pub mod BytesLaw
+pub mod Beyond
 pub mod ClearLaw
 pub mod OpenerSteps
 pub mod ReplaySteps
