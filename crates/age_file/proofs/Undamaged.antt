@@ -190,9 +190,8 @@ module _ (one : OneHeader) (Allows : Header → List ℕ → Type 0) (Refused : 
 pub own_authentic : (key nonce text : List ℕ) → chunk_count 65536 text ≤ 281474976710656 → IsClosed (box key nonce) (unbox key nonce) 65536 text → (k : ℕ) → k < chunk_count 65536 text
     → IsAuthentic (box key nonce) (unbox key nonce) 65536 text (segment k (drop (k * 65552) (payload (box key nonce) 65536 text)) true)
 own_authentic key nonce text few closed k below =
-    let lawful = box_lawful (payload_key key nonce) in
-    let positive : 0 < 65536 = omega arith in
-    rest_is_authentic (box key nonce) (unbox key nonce) lawful 65536 positive text few closed (segment k (drop (k * 65552) (payload (box key nonce) 65536 text)) true)
+    rest_is_authentic (box key nonce) (unbox key nonce) 65536 text (record { lawful = box_lawful (payload_key key nonce); some = omega arith; few = few; closed = closed })
+    (segment k (drop (k * 65552) (payload (box key nonce) 65536 text)) true)
     (record { below = below; bytes = refl; ended = refl; timely = refl })
 
 pub undamaged : (keep : Positions) → OneHeader → (Allows : Header → List ℕ → Type 0) (Refused : Header → KeyFault → Type 0) (old new : Ports) (written : ℕ) (position : Option Position) (fault : FileFault) (text : List ℕ)

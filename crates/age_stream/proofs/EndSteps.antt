@@ -10,8 +10,7 @@ use Rattle.age_stream.specs.Deliveries.{with_end}
 use Rattle.age_stream.specs.declared.opener.OpenerState.{OpenerState}
 use Rattle.age_stream.specs.declared.fault.StreamFault.{StreamFault}
 use Rattle.age_stream.specs.declared.step.Status.TheVariants.{Open, Failed}
-use Rattle.age_stream.specs.Opening.{Stands}
-use Rattle.age_stream.specs.OpenerSteps.{held_bytes, opener_view}
+use Rattle.age_stream.specs.Opening.{Stands, held_bytes, opener_view}
 use Rattle.age_stream.specs.inner.OpenerSteps.{Ends, front_bytes}
 use Rattle.age_stream.proofs.Going.{going, going_outcome, past_place, prepend_rest, after_end}
 

@@ -10,8 +10,7 @@ use Rattle.age_stream.specs.declared.opener.OpenerState.{OpenerState}
 use Rattle.age_stream.specs.declared.fault.StreamFault.{StreamFault}
 use Rattle.age_stream.specs.declared.step.Status.{Status}
 use Rattle.age_stream.specs.declared.step.Status.TheVariants.{Open, LastSeen, Done, Failed}
-use Rattle.age_stream.specs.Opening.{Stands, given, handed}
-use Rattle.age_stream.specs.OpenerSteps.{held_bytes, opener_view}
+use Rattle.age_stream.specs.Opening.{Stands, given, handed, held_bytes, opener_view}
 use Rattle.age_stream.specs.inner.OpenerSteps.{TakesPart, TakesWhole, TakesNone}
 use Rattle.age_stream.proofs.Going.{going, going_part, going_whole, after_piece, unended_piece, IsGoing, IsWhole}
 

@@ -27,18 +27,18 @@ use Rattle.age_stream.proofs.Going.{place, at_place, past_place}
 use Rattle.age_stream.proofs.Table.{rest_short}
 
 -- each pair is the sealing of its chunk
-abbrev Seals : (List ℕ → List ℕ → List ℕ) → List (List ℕ × List ℕ) → List (List ℕ) → Type 0
-Seals sealing [] chunks = Unit {0}
-Seals sealing (pair ∷ pairs) [] = ⊥
-Seals sealing (pair ∷ pairs) (chunk ∷ chunks) =
-    (pair.1 ≡ sealing pair.0 chunk) × ((length pair.0 ≡ 12) × Seals sealing pairs chunks)
+abbrev AreSealed : (List ℕ → List ℕ → List ℕ) → List (List ℕ × List ℕ) → List (List ℕ) → Type 0
+AreSealed sealing [] chunks = Unit {0}
+AreSealed sealing (pair ∷ pairs) [] = ⊥
+AreSealed sealing (pair ∷ pairs) (chunk ∷ chunks) =
+    (pair.1 ≡ sealing pair.0 chunk) × ((length pair.0 ≡ 12) × AreSealed sealing pairs chunks)
 
 seals_from : (sealing : List ℕ → List ℕ → List ℕ) (q i : ℕ) (last : List ℕ) (cs : List (List ℕ))
-    → Seals sealing (map (pair sealing false) (enumerate_from i cs) ++ pair sealing true (q, last) ∷ []) (cs ++ last ∷ [])
+    → AreSealed sealing (map (pair sealing false) (enumerate_from i cs) ++ pair sealing true (q, last) ∷ []) (cs ++ last ∷ [])
 seals_from sealing q i last [] = (refl, (nonce_bytes-length q true, tt))
 seals_from sealing q i last (c ∷ cs) = (refl, (nonce_bytes-length i false, seals_from sealing q (i + 1) last cs))
 
-seals_all : (sealing : List ℕ → List ℕ → List ℕ) (n : ℕ) (text : List ℕ) → Seals sealing (sealed sealing n text) (chunks n text)
+seals_all : (sealing : List ℕ → List ℕ → List ℕ) (n : ℕ) (text : List ℕ) → AreSealed sealing (sealed sealing n text) (chunks n text)
 seals_all sealing n text = seals_from sealing (last_index n text) 0 (last_chunk n text) (first_chunks n (last_index n text) text)
 
 abbrev is_pair : List ℕ → List ℕ → List ℕ × List ℕ → Bool
@@ -66,7 +66,7 @@ module _ (sealing : List ℕ → List ℕ → List ℕ) (opening : List ℕ → 
       ∙ (ap (opening p.0) seals ∙ lawful.opens p.0 chunk len)
   found_by false more p chunk nonce block rest is seals len f e = f e
 
-  found_opens : (pairs : List (List ℕ × List ℕ)) (chunks : List (List ℕ)) (nonce block : List ℕ) → Seals sealing pairs chunks → list_any (is_pair nonce block) pairs ≡ true
+  found_opens : (pairs : List (List ℕ × List ℕ)) (chunks : List (List ℕ)) (nonce block : List ℕ) → AreSealed sealing pairs chunks → list_any (is_pair nonce block) pairs ≡ true
       → opening nonce block ≡ sealed_as pairs chunks nonce block
   found_opens [] chunks nonce block h e = cc
   found_opens (p ∷ pairs) [] nonce block h e = absurd h

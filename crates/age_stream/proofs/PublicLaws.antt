@@ -43,7 +43,7 @@ pub sealed_grows : SealedGrows
 sealed_grows sealing n text more positive = sealings.payload_begins n positive sealing text more
 
 pub rest_is_authentic : RestIsAuthentic
-rest_is_authentic sealing opening lawful n positive text few closed s rest = authentic.rest_right sealing opening lawful n positive text few closed s rest
+rest_is_authentic sealing opening n text so = authentic.rest_right sealing opening so.lawful n so.some text so.few so.closed
 
 pub fresh_is_open : FreshIsOpen
 fresh_is_open = fresh_outcome

@@ -15,7 +15,7 @@ use Rattle.age_stream.proofs.Fresh.{fresh_outcome}
 use Rattle.age_stream.specs.Opening.{Stands, chunk_texts}
 use Rattle.age_stream.specs.Lent.{chunk_bytes}
 use Rattle.age_stream.specs.Replaying.{ReplayView, IsAt, Replays}
-use Rattle.age_stream.specs.inner.Replaying.{with_bytes}
+use Rattle.age_stream.specs.inner.ReplaySteps.{with_bytes}
 use Rattle.age_stream.specs.Lawful.{IsLawful}
 use Rattle.age_stream.specs.Headline.{HoldsWritten, IsHeldRight}
 use Rattle.age_stream.specs.declared.delivery.Delivery.{Delivery}

@@ -1,6 +1,7 @@
 -- What is held after a list of deliveries.
-use Rattle.std.specs.Prelude.{ℕ, ◌+◌, ◌*◌, Bool, true, false, ◌||◌, ◌&&◌, nat_lt, nat_le, min, List, [], ◌∷◌, ◌++◌, length, take, Option, if◌then◌else◌}
+use Rattle.std.specs.Prelude.{ℕ, ◌+◌, ◌*◌, Bool, true, false, ◌||◌, ◌&&◌, nat_lt, nat_le, min, List, [], ◌∷◌, ◌++◌, length, take, if◌then◌else◌}
 use Rattle.std.specs.List.{flat_map}
+use Rattle.age_stream.specs.Lawful.{Opens}
 use Rattle.age_stream.specs.Nonce.{chunk_limit}
 use Rattle.age_stream.specs.Segment.{Segment, outcome}
 use Rattle.age_stream.specs.declared.delivery.Delivery.{Delivery}
@@ -34,7 +35,12 @@ with_piece s piece =
 abbrev pub with_end : Segment → Segment
 with_end s = record { start = s.start; bytes = s.bytes; ended = true; late = s.late }
 
-module _ (opening : List ℕ → List ℕ → Option (List ℕ)) (n : ℕ) where
+-- the same, with another segment in place of the current one
+abbrev pub with_segment : Standing → Segment → Standing
+with_segment s segment =
+    record { given_up = s.given_up; base = s.base; segment = segment; refused = s.refused }
+
+module _ (opening : Opens) (n : ℕ) where
   -- the text before the current segment, and what that released
   abbrev pub text_held : Standing → List ℕ
   text_held s = s.base ++ flat_map (λ text. text) (outcome opening n s.segment).texts
@@ -43,18 +49,8 @@ module _ (opening : List ℕ → List ℕ → Option (List ℕ)) (n : ℕ) where
   accepts s k = nat_lt k chunk_limit && nat_le (k * n) (length (text_held s))
 
   abbrev pub after_delivery : Standing → Delivery → Standing
-  after_delivery s (Piece piece) = record {
-    given_up = s.given_up;
-    base = s.base;
-    segment = with_piece s.segment piece.now;
-    refused = s.refused;
-  }
-  after_delivery s End = record {
-    given_up = s.given_up;
-    base = s.base;
-    segment = with_end s.segment;
-    refused = s.refused;
-  }
+  after_delivery s (Piece piece) = with_segment s (with_piece s.segment piece.now)
+  after_delivery s End = with_segment s (with_end s.segment)
   after_delivery s (Restart k) =
       if accepts s k
       then record {

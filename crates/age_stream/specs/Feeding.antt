@@ -1,18 +1,18 @@
 -- What an opener is once a call returned and what was lent is back. A chunk has n bytes.
-use Rattle.std.specs.Prelude.{◌≡◌, ℕ, ◌+◌, ◌≤◌, List, [], ◌++◌, length, false, Option, Result, IfOk, IfErr, OnOk, IfSome, IfNone}
+use Rattle.std.specs.Prelude.{◌≡◌, ℕ, ◌+◌, ◌≤◌, List, [], ◌++◌, length, false, Result, IfOk, IfErr, OnOk, IfSome, IfNone}
 use Rattle.std.specs.List.{flat_map}
 use Rattle.std.specs.Borrow.{Bor}
 use Rattle.age_stream.specs.declared.step.Status.TheVariants.{Done, Failed}
 use Rattle.age_stream.specs.declared.step.Step.{Step}
 use Rattle.age_stream.specs.declared.fault.StreamFault.{StreamFault}
+use Rattle.age_stream.specs.Lawful.{Seals, Opens}
 use Rattle.age_stream.specs.Segment.{Segment, released}
 use Rattle.age_stream.specs.Deliveries.{with_piece, with_end}
 use Rattle.age_stream.specs.Opening.{OpenerView, Stands, given, handed, handed_bytes, chunk_texts, has_failed}
 use Rattle.age_stream.specs.Lent.{chunk_bytes}
 use Rattle.age_stream.specs.Headline.{ReleasesWritten}
 
-module _ {B : Type 0} (sealing : B → List ℕ → List ℕ → List ℕ)
-    (opening : B → List ℕ → List ℕ → Option (List ℕ)) (n : ℕ) (old : OpenerView B) where
+module _ {B : Type 0} (sealing : B → Seals) (opening : B → Opens) (n : ℕ) (old : OpenerView B) where
   -- the segment with what was taken of the piece
   abbrev pub fed : Segment → List ℕ → Result Step StreamFault → Segment
   fed s piece answer = with_piece s (given (λ (step : Step). step.taken) answer piece)
@@ -49,6 +49,7 @@ module _ {B : Type 0} (sealing : B → List ℕ → List ℕ → List ℕ)
     pub stands : (s : Segment) → Stands opening n old s → Stands opening n new (with_end s)
     pub fault : IfErr answer (λ fault. new.status ≡ Failed fault)
     pub done : OnOk answer (new.status ≡ Done)
+    pub nothing_held : OnOk answer (new.held ≡ [])
     -- at last the headline: while what opens is the writer's, Ok comes only with all of the text
     pub written : (s : Segment) → Stands opening n old s
         → ReleasesWritten (sealing old.key) (opening old.key) n (with_end s)

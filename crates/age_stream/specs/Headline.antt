@@ -1,10 +1,11 @@
 -- What the deliveries may hold, and what then holds of the text.
-use Rattle.std.specs.Prelude.{◌≡◌, ℕ, ◌+◌, ◌*◌, ◌/◌, ◌<◌, ◌≤◌, Bool, true, false, List, [], ◌∷◌, ◌++◌, length, take, drop, Contains, IsSome, Option, slice_index_or, ◌⊎◌, map}
+use Rattle.std.specs.Prelude.{◌≡◌, ℕ, ◌+◌, ◌*◌, ◌/◌, ◌<◌, ◌≤◌, Bool, true, false, List, [], ◌∷◌, ◌++◌, length, take, drop, Contains, IsSome, slice_index_or, ◌⊎◌, map}
 use Rattle.std.specs.List.{AllByRecursion, flat_map}
 use Rattle.age_stream.specs.declared.step.Status.{Status}
 use Rattle.age_stream.specs.declared.step.Status.TheVariants.{Done}
-use Rattle.age_stream.specs.Nonce.{nonce_bytes, chunk_limit}
 use Rattle.std.specs.Borrow.{Bor}
+use Rattle.age_stream.specs.Lawful.{Seals, Opens}
+use Rattle.age_stream.specs.Nonce.{nonce_bytes, chunk_limit}
 use Rattle.age_stream.specs.Payload.{sealed, payload, chunk_count}
 use Rattle.age_stream.specs.Segment.{Segment, front_texts, whole_blocks, rest_bytes}
 use Rattle.age_stream.specs.Places.{IsInPlace}
@@ -15,30 +16,34 @@ use Rattle.age_stream.specs.declared.delivery.Delivery.TheVariants.{Piece, End, 
 abbrev pub IsPrefixOf : List ℕ → List ℕ → Type 0
 IsPrefixOf xs ys = (rest : List ℕ) × (xs ++ rest ≡ ys)
 
-module _ (sealing : List ℕ → List ℕ → List ℕ) (opening : List ℕ → List ℕ → Option (List ℕ)) (n : ℕ)
-    (text : List ℕ) where
+module _ (sealing : Seals) (opening : Opens) (n : ℕ) (text : List ℕ) where
   -- if the block opens at the nonce, the writer of the text sealed it there
   abbrev pub IsWriters : List ℕ → List ℕ → Type 0
   IsWriters nonce block = IsSome (opening nonce block)
       → Contains (sealed sealing n text) (nonce, block)
 
-  -- each block that the segment tries is the writer's, if it opens
+  -- how many blocks of the segment came whole, block j of them, and how many stand in front: they
+  -- open as not last
+  abbrev pub whole_count : Segment → ℕ
+  whole_count s = length s.bytes / (n + 16)
+
+  abbrev pub whole_block : Segment → ℕ → List ℕ
+  whole_block s j = slice_index_or (whole_blocks n s.bytes) j []
+
+  abbrev pub front_count : Segment → ℕ
+  front_count s = length (front_texts opening s.start (whole_blocks n s.bytes))
+
+  -- each block that the segment tries is the writer's, if it opens: those in front, the next one,
+  -- tried as not the last and as the last, and, where all whole ones are in front, what is left at
+  -- an end, unless it is shorter than a tag, or a tag alone after other chunks
   pub record IsAuthentic (s : Segment) : Type 0 where
-    pub front : (j : ℕ) → j < length (front_texts opening s.start (whole_blocks n s.bytes))
-        → IsWriters (nonce_bytes (s.start + j) false) (slice_index_or (whole_blocks n s.bytes) j [])
-    pub next : length (front_texts opening s.start (whole_blocks n s.bytes))
-        < length s.bytes / (n + 16)
-        → (last : Bool)
-        → IsWriters
-        (nonce_bytes (s.start + length (front_texts opening s.start (whole_blocks n s.bytes))) last)
-        (slice_index_or (whole_blocks n s.bytes)
-        (length (front_texts opening s.start (whole_blocks n s.bytes))) [])
-    pub rest : length (front_texts opening s.start (whole_blocks n s.bytes))
-        ≡ length s.bytes / (n + 16)
-        → s.ended ≡ true
-        → 16 ≤ length (rest_bytes n s.bytes)
-        → (length (rest_bytes n s.bytes) ≡ 16 → s.start + length s.bytes / (n + 16) ≡ 0)
-        → IsWriters (nonce_bytes (s.start + length s.bytes / (n + 16)) true) (rest_bytes n s.bytes)
+    pub front : (j : ℕ) → j < front_count s
+        → IsWriters (nonce_bytes (s.start + j) false) (whole_block s j)
+    pub next : front_count s < whole_count s → (last : Bool)
+        → IsWriters (nonce_bytes (s.start + front_count s) last) (whole_block s (front_count s))
+    pub rest : front_count s ≡ whole_count s → s.ended ≡ true → 16 ≤ length (rest_bytes n s.bytes)
+        → (length (rest_bytes n s.bytes) ≡ 16 → s.start + whole_count s ≡ 0)
+        → IsWriters (nonce_bytes (s.start + whole_count s) true) (rest_bytes n s.bytes)
 
   -- each segment of the deliveries is so, those that were given up too
   abbrev pub AreAuthentic : List Delivery → Type 0
@@ -92,8 +97,7 @@ module _ (sealing : List ℕ → List ℕ → List ℕ) (opening : List ℕ → 
     pub whole : IsRest s → (take (s.start * n) text ++ released ≡ text) × (status ≡ Done)
     pub place : IsInPlace sealing opening n text s status
 
-module _ (sealing : List ℕ → List ℕ → List ℕ)
-    (opening : List ℕ → List ℕ → Option (List ℕ)) (n : ℕ) where
+module _ (sealing : Seals) (opening : Opens) (n : ℕ) where
   -- the headline: for every text of at most 2^48 chunks, while no delivered block opens except as
   -- its writer sealed it
   abbrev pub HoldsWritten : List Delivery → List ℕ → Status → Type 0

@@ -1,8 +1,8 @@
 -- Laws over the definitions. A chunk has n bytes.
-use Rattle.std.specs.Prelude.{◌≡◌, ◌≢◌, ℕ, ◌+◌, ◌-◌, ◌*◌, ◌<◌, ◌≤◌, Bool, false, List, [], ◌++◌, length, take, Option}
+use Rattle.std.specs.Prelude.{◌≡◌, ◌≢◌, ℕ, ◌+◌, ◌-◌, ◌*◌, ◌<◌, ◌≤◌, Bool, false, List, [], ◌++◌, length, take}
 use Rattle.std.specs.List.{flat_map}
 use Rattle.std.specs.Simd.{first_chunks}
-use Rattle.age_stream.specs.Lawful.{IsLawful}
+use Rattle.age_stream.specs.Lawful.{Opens, Seals, OfAllBoxes}
 use Rattle.age_stream.specs.Nonce.{nonce_bytes, chunk_limit}
 use Rattle.age_stream.specs.Payload.{last_index, chunk_count, sealed_before_last, block_bytes, payload}
 use Rattle.age_stream.specs.Segment.{Segment, Outcome, outcome, released}
@@ -18,10 +18,8 @@ NoncesDiffer = (i j : ℕ) (a b : Bool) → i < chunk_limit → j < chunk_limit
 
 -- different texts seal to different blocks
 abbrev pub SealingsDiffer : Type 0
-SealingsDiffer = (sealing : List ℕ → List ℕ → List ℕ) (opening : List ℕ → List ℕ → Option (List ℕ))
-    → IsLawful sealing opening
-    → (nonce text other : List ℕ) → length nonce ≡ 12
-    → sealing nonce text ≡ sealing nonce other → text ≡ other
+SealingsDiffer = OfAllBoxes (λ sealing opening. (nonce text other : List ℕ) → length nonce ≡ 12
+    → sealing nonce text ≡ sealing nonce other → text ≡ other)
 
 -- feeding two pieces equals feeding their concatenation
 abbrev pub PiecesJoin : Type 0
@@ -30,14 +28,14 @@ PiecesJoin = (s : Segment) (piece more : List ℕ)
 
 -- with more bytes the text that was released only grows, and the index never falls
 abbrev pub ReleasedGrows : Type 0
-ReleasedGrows = (opening : List ℕ → List ℕ → Option (List ℕ)) (n : ℕ) (s : Segment) (piece : List ℕ)
+ReleasedGrows = (opening : Opens) (n : ℕ) (s : Segment) (piece : List ℕ)
     → (s.ended ≡ false → s.late ≡ false)
     → IsPrefixOf (released opening n s) (released opening n (with_piece s piece))
     × ((outcome opening n s).index ≤ (outcome opening n (with_piece s piece)).index)
 
 -- a segment of no bytes and no end is open, and released nothing
 abbrev pub FreshIsOpen : Type 0
-FreshIsOpen = (opening : List ℕ → List ℕ → Option (List ℕ)) (n k : ℕ)
+FreshIsOpen = (opening : Opens) (n k : ℕ)
     → outcome opening n (fresh k) ≡ record { texts = []; index = k; status = Open }
 
 -- it released no more, and stands at the same chunk; a refusal stays
@@ -48,50 +46,41 @@ pub record IsSettled (old new : Outcome) : Type 0 where
 
 -- once a segment isn't open, it is settled, whatever comes
 abbrev pub ClosedStays : Type 0
-ClosedStays = (opening : List ℕ → List ℕ → Option (List ℕ)) (n : ℕ) (s : Segment)
-    → (s.ended ≡ false → s.late ≡ false)
-    → (outcome opening n s).status ≢ Open
+ClosedStays = (opening : Opens) (n : ℕ) (s : Segment)
+    → (s.ended ≡ false → s.late ≡ false) → (outcome opening n s).status ≢ Open
     → ((piece : List ℕ) → IsSettled (outcome opening n s) (outcome opening n (with_piece s piece)))
     × IsSettled (outcome opening n s) (outcome opening n (with_end s))
 
 -- after an end it isn't open, and it stands at the same chunk
 abbrev pub EndCloses : Type 0
-EndCloses = (opening : List ℕ → List ℕ → Option (List ℕ)) (n : ℕ) (s : Segment)
+EndCloses = (opening : Opens) (n : ℕ) (s : Segment)
     → ((outcome opening n (with_end s)).status ≢ Open)
     × ((outcome opening n (with_end s)).index ≡ (outcome opening n s).index)
 
 -- the headline of every segment, for every box
 abbrev pub ReleasedIsWritten : Type 0
-ReleasedIsWritten = (sealing : List ℕ → List ℕ → List ℕ)
-    (opening : List ℕ → List ℕ → Option (List ℕ))
-    → IsLawful sealing opening
-    → (n : ℕ) → 0 < n
-    → (s : Segment)
-    → ReleasesWritten sealing opening n s (released opening n s) (outcome opening n s).status
+ReleasedIsWritten = OfAllBoxes (λ sealing opening. (n : ℕ) → 0 < n → (s : Segment)
+    → ReleasesWritten sealing opening n s (released opening n s) (outcome opening n s).status)
 
 -- how long a payload is: each chunk is sealed with 16 bytes more
 abbrev pub PayloadIsLonger : Type 0
-PayloadIsLonger = (sealing : List ℕ → List ℕ → List ℕ)
-    (opening : List ℕ → List ℕ → Option (List ℕ))
-    → IsLawful sealing opening
-    → (n : ℕ) (text : List ℕ)
+PayloadIsLonger = OfAllBoxes (λ sealing opening. (n : ℕ) (text : List ℕ)
     → (length (payload sealing n text) ≡ length text + chunk_count n text * 16)
-    × (length (block_bytes (sealed_before_last sealing n text)) ≡ last_index n text * (n + 16))
+    × (length (block_bytes (sealed_before_last sealing n text)) ≡ last_index n text * (n + 16)))
 
 -- the payload without its last block of a text begins that of the text and more
 abbrev pub SealedGrows : Type 0
-SealedGrows = (sealing : List ℕ → List ℕ → List ℕ) (n : ℕ) (text more : List ℕ) → 0 < n
+SealedGrows = (sealing : Seals) (n : ℕ) (text more : List ℕ) → 0 < n
     → IsPrefixOf (block_bytes (sealed_before_last sealing n text))
     (block_bytes (sealed_before_last sealing n (text ++ more)))
 
 -- the chunks that a segment counts: what it released of its blocks before the last
-abbrev pub counted : (List ℕ → List ℕ → Option (List ℕ)) → ℕ → Segment → List (List ℕ)
+abbrev pub counted : Opens → ℕ → Segment → List (List ℕ)
 counted opening n s = take ((outcome opening n s).index - s.start) (outcome opening n s).texts
 
 -- after a base of so many whole chunks as stand before the segment, the chunks that it counts are
 -- the first of all text so far; while it is open they are all that it released
-pub record IsCounted (opening : List ℕ → List ℕ → Option (List ℕ)) (n : ℕ) (base : List ℕ)
-    (s : Segment) : Type 0 where
+pub record IsCounted (opening : Opens) (n : ℕ) (base : List ℕ) (s : Segment) : Type 0 where
   pub count : s.start + length (counted opening n s) ≡ (outcome opening n s).index
   pub within : (outcome opening n s).index * n ≤ length (base ++ released opening n s)
   pub join : base ++ flat_map (λ (chunk : List ℕ). chunk) (counted opening n s)
@@ -103,7 +92,5 @@ pub record IsCounted (opening : List ℕ → List ℕ → Option (List ℕ)) (n 
 
 -- so it is of every segment under a lawful box, whatever its blocks are
 abbrev pub ChunksAreCounted : Type 0
-ChunksAreCounted = (sealing : List ℕ → List ℕ → List ℕ)
-    (opening : List ℕ → List ℕ → Option (List ℕ))
-    → IsLawful sealing opening
-    → (n : ℕ) (base : List ℕ) (s : Segment) → length base ≡ s.start * n → IsCounted opening n base s
+ChunksAreCounted = OfAllBoxes (λ sealing opening. (n : ℕ) (base : List ℕ) (s : Segment)
+    → length base ≡ s.start * n → IsCounted opening n base s)

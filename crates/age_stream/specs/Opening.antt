@@ -1,9 +1,11 @@
 -- What an opener stands for, and what its calls answer. A chunk has n bytes.
-use Rattle.std.specs.Prelude.{◌≡◌, ℕ, ◌+◌, ◌-◌, ◌*◌, ◌/◌, List, [], ◌∷◌, length, take, Bool, true, false, Option, Some, None, Result, Ok, Err}
+use Rattle.std.specs.Prelude.{◌≡◌, ℕ, ◌+◌, ◌-◌, ◌*◌, ◌/◌, List, [], ◌∷◌, length, take, Bool, true, false, Option, Some, None, Result, Ok, Err, if◌then◌else◌}
 use Rattle.std.specs.Borrow.{Bor}
 use Rattle.age_stream.specs.declared.step.Status.{Status}
 use Rattle.age_stream.specs.declared.step.Status.TheVariants.{Open, Failed}
 use Rattle.age_stream.specs.declared.fault.StreamFault.{StreamFault}
+use Rattle.age_stream.specs.declared.opener.OpenerState.{OpenerState}
+use Rattle.age_stream.specs.Lawful.{Opens}
 use Rattle.age_stream.specs.Segment.{Segment, outcome, rest_bytes}
 
 -- its key, the bytes of the block that is open, the chunk at which it stands, and its status
@@ -13,14 +15,24 @@ pub record OpenerView (B : Type 0) : Type 0 where
   pub index : ℕ
   pub status : Status
 
+module _ {B : Type 0} {n : ℕ} {g : _} where
+  -- the bytes of the block that is open
+  abbrev pub held_bytes : OpenerState B n g → List ℕ
+  held_bytes o = if o.lent then [] else o.buffer.items
+
+  -- what a contract sees of an opener's state
+  abbrev pub opener_view : OpenerState B n g → OpenerView B
+  opener_view o =
+      record { key = o.key.now; held = held_bytes o; index = o.index; status = o.status }
+
 abbrev pub has_failed : Status → Bool
 has_failed (Failed fault) = true
 has_failed other = false
 
 -- it was given this segment: it stands where the outcome says, and holds what is left after all
 -- whole blocks
-pub record Stands {B : Type 0} (opening : B → List ℕ → List ℕ → Option (List ℕ)) (n : ℕ)
-    (o : OpenerView B) (s : Segment) : Type 0 where
+pub record Stands {B : Type 0} (opening : B → Opens) (n : ℕ) (o : OpenerView B)
+    (s : Segment) : Type 0 where
   pub index : o.index ≡ (outcome (opening o.key) n s).index
   pub status : o.status ≡ (outcome (opening o.key) n s).status
   pub held : o.status ≡ Open → o.held ≡ rest_bytes n s.bytes

@@ -1,6 +1,7 @@
 -- The chunks of a text, in the words of the standard. A chunk has n bytes.
 use Rattle.std.specs.Prelude.{◌≡◌, ℕ, ◌+◌, ◌<◌, ◌≤◌, ◌==◌, ◌⊎◌, List, [], ◌∷◌, ◌++◌, length, slice_index_or}
 use Rattle.std.specs.List.{AllByRecursion, flat_map}
+use Rattle.age_stream.specs.Lawful.{Seals}
 use Rattle.age_stream.specs.Nonce.{nonce_bytes}
 use Rattle.age_stream.specs.Payload.{chunks, sealed}
 
@@ -22,9 +23,8 @@ ChunksAreOne = (n : ℕ) (text : List ℕ) → 0 < n
 
 -- chunk number i is sealed at the nonce of i, and of whether it is the last
 abbrev pub SealsChunks : Type 0
-SealsChunks = (sealing : List ℕ → List ℕ → List ℕ) (n : ℕ) (text : List ℕ) (parts : List (List ℕ))
-    → 0 < n
-    → AreChunks n text parts
+SealsChunks = (sealing : Seals) (n : ℕ) (text : List ℕ) (parts : List (List ℕ))
+    → 0 < n → AreChunks n text parts
     → (length (sealed sealing n text) ≡ length parts)
     × ((i : ℕ) → i < length parts → slice_index_or (sealed sealing n text) i ([], [])
     ≡ (

@@ -1,8 +1,9 @@
 -- Each block in its place: what a segment gives where its blocks are compared with the writer's. A
 -- chunk has n bytes.
-use Rattle.std.specs.Prelude.{◌≡◌, ◌≢◌, ℕ, ◌+◌, ◌-◌, ◌<◌, Bool, true, false, ◌&&◌, List, [], ◌∷◌, Option, Some, None, if◌then◌else◌}
+use Rattle.std.specs.Prelude.{◌≡◌, ◌≢◌, ℕ, ◌+◌, ◌-◌, ◌<◌, Bool, true, false, ◌&&◌, List, [], ◌∷◌, Some, None, if◌then◌else◌}
 use Rattle.std.specs.List.{list_any}
 use Rattle.std.specs.Str.{bytes_eq}
+use Rattle.age_stream.specs.Lawful.{Seals, Opens}
 use Rattle.age_stream.specs.Nonce.{nonce_bytes}
 use Rattle.age_stream.specs.Payload.{chunks, sealed}
 use Rattle.age_stream.specs.Segment.{Segment, outcome, failed, block_at}
@@ -11,14 +12,14 @@ use Rattle.age_stream.specs.declared.fault.StreamKind.TheVariants.{ChunkDamaged,
 
 -- the chunk that was sealed as this block at this nonce, if any: blocks are compared, and none is
 -- opened
-abbrev pub sealed_as : List (List ℕ × List ℕ) → List (List ℕ) → List ℕ → List ℕ → Option (List ℕ)
+abbrev pub sealed_as : List (List ℕ × List ℕ) → List (List ℕ) → Opens
 sealed_as [] chunks nonce block = None
 sealed_as (pair ∷ pairs) [] nonce block = None
 sealed_as (pair ∷ pairs) (chunk ∷ chunks) nonce block =
     if bytes_eq pair.0 nonce && bytes_eq pair.1 block then Some chunk
     else sealed_as pairs chunks nonce block
 
-module _ (sealing : List ℕ → List ℕ → List ℕ) (n : ℕ) (text : List ℕ) where
+module _ (sealing : Seals) (n : ℕ) (text : List ℕ) where
   -- whether the writer of the text sealed a chunk as this block at this nonce
   abbrev pub is_writers : List ℕ → List ℕ → Bool
   is_writers nonce block =
@@ -26,7 +27,7 @@ module _ (sealing : List ℕ → List ℕ → List ℕ) (n : ℕ) (text : List �
       (sealed sealing n text)
 
   -- in place of opening, comparing with the writer's blocks
-  abbrev pub compared : List ℕ → List ℕ → Option (List ℕ)
+  abbrev pub compared : Opens
   compared = sealed_as (sealed sealing n text) (chunks n text)
 
   -- block number i is none of the writer's, and those before it are the writer's, each at its
@@ -37,8 +38,7 @@ module _ (sealing : List ℕ → List ℕ → List ℕ) (n : ℕ) (text : List �
     pub there : (last : Bool)
         → is_writers (nonce_bytes i last) (block_at n s.bytes (i - s.start)) ≡ false
 
-module _ (sealing : List ℕ → List ℕ → List ℕ) (opening : List ℕ → List ℕ → Option (List ℕ)) (n : ℕ)
-    (text : List ℕ) where
+module _ (sealing : Seals) (opening : Opens) (n : ℕ) (text : List ℕ) where
   -- the outcome is that of comparing blocks with the writer's; one is refused as damaged where it
   -- is the first that is none, and there are never too many
   pub record IsInPlace (s : Segment) (status : Status) : Type 0 where

@@ -1,9 +1,11 @@
 -- What a replay stands for. A chunk has n bytes.
-use Rattle.std.specs.Prelude.{◌≡◌, ◌<◌, ◌+◌, ℕ, List, [], length, Option}
+use Rattle.std.specs.Prelude.{◌≡◌, ◌<◌, ◌+◌, ℕ, List, [], length, vec_capacity}
+use Rattle.age_stream.specs.Lawful.{Opens}
 use Rattle.age_stream.specs.Deliveries.{Standing, standing, text_held}
 use Rattle.age_stream.specs.Opening.{OpenerView, Stands, text_of_piece, text_at_end}
 use Rattle.age_stream.specs.declared.delivery.Delivery.{Delivery}
 use Rattle.age_stream.specs.declared.delivery.Delivery.TheVariants.{Piece, End, Restart}
+use Rattle.age_stream.specs.declared.replay.ReplayState.{ReplayState}
 
 -- its key, the opener of the current segment, the text that is held, how many bytes there is room
 -- for with no more memory, and how many restarts were refused
@@ -14,7 +16,19 @@ pub record ReplayView (B : Type 0) : Type 0 where
   pub capacity : ℕ
   pub refused : ℕ
 
-module _ {B : Type 0} (opening : B → List ℕ → List ℕ → Option (List ℕ)) (n : ℕ) where
+-- what a contract sees of a replay's state
+module _ {B : Type 0} {n : _} {g : _} where
+  abbrev pub replay_view : ReplayState B n g → ReplayView B
+  replay_view r =
+      record {
+        key = r.key.now;
+        opener = r.opener;
+        text = r.text.items;
+        capacity = vec_capacity r.text;
+        refused = r.refused;
+      }
+
+module _ {B : Type 0} (opening : B → Opens) (n : ℕ) where
   -- it stands where the standing says
   pub record IsAt (r : ReplayView B) (s : Standing) : Type 0 where
     pub key : r.opener.key ≡ r.key

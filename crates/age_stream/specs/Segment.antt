@@ -3,6 +3,7 @@
 use Rattle.std.specs.Prelude.{ℕ, ◌+◌, ◌*◌, ◌/◌, Bool, true, false, not, ◌||◌, ◌&&◌, ◌==◌, nat_lt, List, [], ◌∷◌, ◌++◌, length, take, drop, Option, Some, None, is_some, is_none, if◌then◌else◌}
 use Rattle.std.specs.List.{flat_map}
 use Rattle.std.specs.Simd.{first_chunks}
+use Rattle.age_stream.specs.Lawful.{Opens}
 use Rattle.age_stream.specs.Nonce.{nonce_bytes, chunk_limit}
 use Rattle.age_stream.specs.declared.step.Status.{Status}
 use Rattle.age_stream.specs.declared.step.Status.TheVariants.{Open, LastSeen, Done, Failed}
@@ -76,7 +77,7 @@ abbrev pub unless_greatest : ℕ → Option (List ℕ) → Option (List ℕ)
 unless_greatest i None = None
 unless_greatest i (Some text) = if nat_lt (i + 1) chunk_limit then Some text else None
 
-module _ (opening : List ℕ → List ℕ → Option (List ℕ)) where
+module _ (opening : Opens) where
   -- the text of block number i as one before the last
   abbrev pub text_before_last : ℕ → List ℕ → Option (List ℕ)
   text_before_last i block = unless_greatest i (opening (nonce_bytes i false) block)

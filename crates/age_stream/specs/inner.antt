@@ -1,5 +1,6 @@
+pub mod Beyond
 pub mod ClearLaw
 pub mod OpenerSteps
-pub mod Replaying
+pub mod ReplaySteps
 pub mod SealerSteps
 pub mod SegmentSteps

@@ -1,6 +1,6 @@
 //! Laws over the definitions, for the layers above.
 ghost use Rattle.age_stream.specs.Laws.{ChunksAreCounted, ClosedStays, EndCloses, FreshIsOpen, NoncesDiffer, PayloadIsLonger, PiecesJoin, ReleasedGrows, ReleasedIsWritten, SealedGrows, SealingsDiffer};
-ghost use Rattle.age_stream.specs.Authentic.{ClearIsAuthentic, ClearRoundTrip, RestIsAuthentic, RoundTrip, UndamagedIsAuthentic, WholeIsAuthentic};
+ghost use Rattle.age_stream.specs.Authentic.{ClearIsSealable, RestIsAuthentic, RoundTrip, UndamagedIsAuthentic, WholeIsAuthentic};
 ghost use Rattle.age_stream.specs.Parts.{ChunksAreOne, SealsChunks};
 
 /// No two chunks of a payload have the same nonce.
@@ -67,18 +67,18 @@ pub fn undamaged_is_authentic()
     ensures behind { UndamagedIsAuthentic }
 {}
 
-/// With [`ClearBox`](crate::ClearBox) every payload meets it.
-pub fn clear_is_authentic()
-    ensures { ClearIsAuthentic }
+/// The payload of a text, delivered in any pieces and then an end, is held as
+/// that text, with the status [`Done`](crate::Status::Done), on the same
+/// condition.
+pub fn round_trip()
+    ensures { RoundTrip }
 {}
 
-/// The payload of a text, delivered in any pieces and then an end, is held as
-/// that text, with the status [`Done`](crate::Status::Done), if the last chunk
-/// is short or its block doesn't open as one before the last. With
-/// [`ClearBox`](crate::ClearBox) it always is.
-pub fn round_trip()
-    ensures lawful { RoundTrip }
-    ensures clear { ClearRoundTrip }
+/// With [`ClearBox`](crate::ClearBox) every text of at most 2^48 chunks meets
+/// that condition, so every payload meets the premise of the headline and gives
+/// its text back.
+pub fn clear_is_sealable()
+    ensures { ClearIsSealable }
 {}
 
 /// A text has exactly one list of chunks, and the payload seals each at the

@@ -34,7 +34,7 @@ pub use drilling::drill;
 pub use fault::{Memory, StreamFault, StreamKind};
 pub use headline::held_is_written;
 pub use laws::{
-    chunks_are_counted, chunks_are_one, clear_is_authentic, closed_stays, nonces_differ,
+    chunks_are_counted, chunks_are_one, clear_is_sealable, closed_stays, nonces_differ,
     payload_is_longer, pieces_join, released_grows, released_is_written, round_trip, sealed_grows,
     sealings_differ, undamaged_is_authentic,
 };

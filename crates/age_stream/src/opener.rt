@@ -6,7 +6,7 @@ ghost use Rattle.std.specs.Borrow.{sem};
 ghost use Rattle.std.specs.Io.BufRead.{Rests};
 ghost use Rattle.age_stream.specs.Headline.{ReleasesWritten};
 ghost use Rattle.age_stream.specs.Nonce.{nonce_bytes, chunk_limit};
-ghost use Rattle.age_stream.specs.declared.step.Status.TheVariants.{Open};
+ghost use Rattle.age_stream.specs.declared.step.Status.TheVariants.{Open, LastSeen, Done};
 ghost use Rattle.age_stream.specs.declared.fault.StreamFault.{StreamFault as StreamFaultValue};
 
 use crate::chunk_box::ChunkBox;
@@ -29,14 +29,15 @@ struct OpenerState<'k, B: ChunkBox, const SEALED: usize> {
     ghost sizes: { (17 ≤ SEALED) × (SEALED ≤ 65552) },
     ghost limit: { index < chunk_limit },
     ghost room: { status ≡ Open → lent ≡ false → length buffer.items < SEALED },
+    ghost last: { status ≡ LastSeen → (if lent then [] else buffer.items) ≡ [] },
+    ghost done: { status ≡ Done → (if lent then [] else buffer.items) ≡ [] },
 }
 
 impl<'k, B: ChunkBox, const SEALED: usize> OpenerState<'k, B, SEALED> {
     ghost use Rattle.age_stream.specs.Segment.{Segment, outcome, released, failed};
     ghost use Rattle.age_stream.specs.inner.SegmentSteps.{final_block, one_block, status_ended};
     ghost use Rattle.age_stream.specs.Deliveries.{with_piece, with_end};
-    ghost use Rattle.age_stream.specs.Opening.{Stands, given, handed, has_failed, text_at_end};
-    ghost use Rattle.age_stream.specs.OpenerSteps.{held_bytes, opener_view};
+    ghost use Rattle.age_stream.specs.Opening.{Stands, given, handed, has_failed, text_at_end, held_bytes, opener_view};
     ghost use Rattle.age_stream.specs.inner.OpenerSteps.{IsTried, TakesPart, TakesWhole, TakesNone, Ends, front_bytes};
 
     // Empties the buffer of a text that was lent.
@@ -174,6 +175,7 @@ impl<'k, B: ChunkBox, const SEALED: usize> OpenerState<'k, B, SEALED> {
         ensures ends { Ends (final_block (B.opening self.old.key.now) [] self.old.index
             (held_bytes self.old) false true) self.old result self.new }
         ensures done { OnOk result (self.new.status ≡ Status.Done) }
+        ensures none { OnOk result (held_bytes self.new ≡ []) }
         ensures len { IfOk result (λ len. len ≡ length (held_bytes self.old) - 16) }
     {
         self.settle();
@@ -205,6 +207,7 @@ impl<'k, B: ChunkBox, const SEALED: usize> OpenerState<'k, B, SEALED> {
             → self.old.status ≡ Status.Failed earlier → fault ≡ earlier) }
         ensures unfailed { OnOk result (has_failed self.old.status ≡ false) }
         ensures done { OnOk result (self.new.status ≡ Status.Done) }
+        ensures none { OnOk result (held_bytes self.new ≡ []) }
         ensures len { IfOk result (λ len. len ≡ 0) }
     {
         if let Status::Failed(fault) = self.status {
@@ -229,6 +232,7 @@ impl<'k, B: ChunkBox, const SEALED: usize> OpenerState<'k, B, SEALED> {
             ++ front_bytes result self.new.buffer.items) self.new.status }
         ensures fault { IfErr result (λ fault. self.new.status ≡ Status.Failed fault) }
         ensures done { OnOk result (self.new.status ≡ Status.Done) }
+        ensures none { OnOk result (held_bytes self.new ≡ []) }
         ensures again { IfErr result (λ fault. (earlier : StreamFaultValue)
             → self.old.status ≡ Status.Failed earlier → fault ≡ earlier) }
         ensures unfailed { OnOk result (has_failed self.old.status ≡ false) }
@@ -273,8 +277,7 @@ pub struct Opener<'k, B: ChunkBox, const SEALED: usize> {
 }
 
 impl<'k, B: ChunkBox, const SEALED: usize> Model for Opener<'k, B, SEALED> {
-    ghost use Rattle.age_stream.specs.Opening.{OpenerView};
-    ghost use Rattle.age_stream.specs.OpenerSteps.{opener_view};
+    ghost use Rattle.age_stream.specs.Opening.{OpenerView, opener_view};
 
     ghost Value = { OpenerView B };
 

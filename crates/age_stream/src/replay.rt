@@ -39,10 +39,9 @@ struct ReplayState<'k, B: ChunkBox, const SEALED: usize> {
 }
 
 impl<'k, B: ChunkBox, const SEALED: usize> ReplayState<'k, B, SEALED> {
-    ghost use Rattle.age_stream.specs.Replaying.{IsAt, IsCramped, Replays};
-    ghost use Rattle.age_stream.specs.inner.Replaying.{with_bytes};
+    ghost use Rattle.age_stream.specs.Replaying.{IsAt, IsCramped, Replays, replay_view};
+    ghost use Rattle.age_stream.specs.inner.ReplaySteps.{with_bytes};
     ghost use Rattle.age_stream.specs.Opening.{text_at_end, text_of_piece, whole_text};
-    ghost use Rattle.age_stream.specs.ReplaySteps.{replay_view};
     ghost use Rattle.age_stream.specs.Deliveries.{Standing, after_delivery};
     ghost use Rattle.age_stream.specs.declared.delivery.Delivery.TheVariants.{End, Restart};
 
@@ -233,8 +232,7 @@ pub struct Replay<'k, B: ChunkBox, const SEALED: usize> {
 }
 
 impl<'k, B: ChunkBox, const SEALED: usize> Model for Replay<'k, B, SEALED> {
-    ghost use Rattle.age_stream.specs.Replaying.{ReplayView};
-    ghost use Rattle.age_stream.specs.ReplaySteps.{replay_view};
+    ghost use Rattle.age_stream.specs.Replaying.{ReplayView, replay_view};
 
     ghost Value = { ReplayView B };
 

@@ -28,10 +28,9 @@ struct SealerState<'k, B: ChunkBox, const SEALED: usize> {
 }
 
 impl<'k, B: ChunkBox, const SEALED: usize> SealerState<'k, B, SEALED> {
-    ghost use Rattle.age_stream.specs.SealerSteps.{held_text, sealer_view};
+    ghost use Rattle.age_stream.specs.Sealing.{held_text, sealer_view, Holds, step_len, needs_too_many, too_many};
     ghost use Rattle.age_stream.specs.inner.SealerSteps.{bytes_of, IsStep};
     ghost use Rattle.age_stream.specs.SealerCalls.{IsRefused};
-    ghost use Rattle.age_stream.specs.Sealing.{Holds, step_len, needs_too_many, too_many};
     ghost use Rattle.age_stream.specs.Payload.{sealed_before_last, block_bytes, payload};
 
     // Empties the buffer of a block that was lent, and puts the byte beside it first.
@@ -177,8 +176,7 @@ pub struct Sealer<'k, B: ChunkBox, const SEALED: usize> {
 }
 
 impl<'k, B: ChunkBox, const SEALED: usize> Model for Sealer<'k, B, SEALED> {
-    ghost use Rattle.age_stream.specs.Sealing.{SealerView};
-    ghost use Rattle.age_stream.specs.SealerSteps.{sealer_view};
+    ghost use Rattle.age_stream.specs.Sealing.{SealerView, sealer_view};
 
     ghost Value = { SealerView B };
 

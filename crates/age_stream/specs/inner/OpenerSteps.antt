@@ -6,7 +6,7 @@ use Rattle.age_stream.specs.declared.fault.StreamFault.{StreamFault}
 use Rattle.age_stream.specs.declared.opener.OpenerState.{OpenerState}
 use Rattle.age_stream.specs.Segment.{Outcome}
 use Rattle.age_stream.specs.inner.SegmentSteps.{status_after}
-use Rattle.age_stream.specs.OpenerSteps.{held_bytes}
+use Rattle.age_stream.specs.Opening.{held_bytes}
 
 -- so many bytes in front of the buffer
 abbrev pub front_bytes : Result ℕ StreamFault → List ℕ → List ℕ

@@ -2,9 +2,8 @@ use Rattle.std.proofs.Common.{rules, ◌<◌, ◌≤◌, vec_len, vec_capacity, 
 use Rattle.std.proofs.lemmas.List.{take_rest, length-take, length-drop}
 use Rattle.age_stream.specs.Opening.{whole_text}
 use Rattle.age_stream.specs.declared.step.Status.TheVariants.{Open}
-use Rattle.age_stream.specs.ReplaySteps.{replay_view}
-use Rattle.age_stream.specs.Replaying.{IsAt}
-use Rattle.age_stream.specs.inner.Replaying.{with_bytes}
+use Rattle.age_stream.specs.Replaying.{replay_view, IsAt}
+use Rattle.age_stream.specs.inner.ReplaySteps.{with_bytes}
 use Rattle.age_stream.proofs.ReplaySteps.{with_bytes-append, with_bytes-nil}
 use Rattle.age_stream.proofs.replay.ReplayState.feed_all.Goals as goal
 

@@ -1,6 +1,6 @@
 use Rattle.std.proofs.lemmas.Result.{IfOk-weaker}
 use Rattle.std.proofs.Common.{◌-◌}
-use Rattle.age_stream.specs.SealerSteps.{sealer_view}
+use Rattle.age_stream.specs.Sealing.{sealer_view}
 use Rattle.age_stream.proofs.SealerSteps.{payload_is}
 use Rattle.age_stream.proofs.sealer.SealerState.close_text.Goals as goal
 

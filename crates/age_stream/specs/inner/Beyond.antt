@@ -1,0 +1,44 @@
+-- How a box that meets its law only on bytes, as one made of tables does, is continued to all lists
+-- of numbers. `proofs/BytesLaw.antt` proves that it then meets the law of `ChunkBox`. No code cites
+-- this: it shows that the law asks no more of a box than what it does with bytes.
+use Rattle.std.specs.Prelude.{◌≡◌, ℕ, ◌+◌, ◌-◌, List, ◌++◌, length, take, replicate, Some, None, nat_lt, nat_le, ◌&&◌, Bool, true, not, if◌then◌else◌}
+use Rattle.std.specs.List.{list_all}
+use Rattle.std.specs.Str.{bytes_eq}
+use Rattle.age_stream.specs.Lawful.{Seals, Opens}
+
+abbrev pub are_bytes : List ℕ → Bool
+are_bytes = list_all (λ (b : ℕ). nat_lt b 256)
+
+-- what a box is ever given: a text of at most 65,536 bytes, and a block of 16 bytes more
+abbrev pub is_text : List ℕ → Bool
+is_text text = are_bytes text && nat_le (length text) 65536
+
+abbrev pub is_block : List ℕ → Bool
+is_block block = are_bytes block && (nat_le 16 (length block) && nat_le (length block) 65552)
+
+-- the law of a box, of these alone
+pub record IsLawfulOnBytes (sealing : Seals) (opening : Opens) : Type 0 where
+  pub bytes : (nonce text : List ℕ) → length nonce ≡ 12 → is_text text ≡ true
+      → are_bytes (sealing nonce text) ≡ true
+  pub longer : (nonce text : List ℕ) → length nonce ≡ 12 → is_text text ≡ true
+      → length (sealing nonce text) ≡ length text + 16
+  pub opens : (nonce text : List ℕ) → length nonce ≡ 12 → is_text text ≡ true
+      → opening nonce (sealing nonce text) ≡ Some text
+  pub only : (nonce text block : List ℕ) → length nonce ≡ 12 → is_block block ≡ true
+      → opening nonce block ≡ Some text
+      → (is_text text ≡ true) × (sealing nonce text ≡ block)
+
+-- 16 numbers that are no bytes
+abbrev pub no_tag : List ℕ
+no_tag = replicate 16 256
+
+-- a list that is no text is sealed with them in place of a tag
+abbrev pub sealing_beyond : Seals → Seals
+sealing_beyond sealing nonce text =
+    if is_text text then sealing nonce text else text ++ no_tag
+
+abbrev pub opening_beyond : Opens → Opens
+opening_beyond opening nonce block =
+    let front = take (length block - 16) block in
+    if is_block block then opening nonce block
+    else (if not (is_text front) && bytes_eq (front ++ no_tag) block then Some front else None)
