@@ -10,10 +10,10 @@ ghost use Rattle.age_stanza.specs.Grammar.{HasText};
 use crate::ending::{Ending, Usage};
 use crate::front::{fill_front, read_up_to};
 use crate::identity::{read_pass, trimmed};
-use crate::print::{flush, put_bytes};
+use crate::print::put_bytes;
 use crate::script::{Line, SCRIPT_MAX, has_too_many_lines, read_lines};
 use age_commands::Drilling;
-use age_file::{FileFault, Sink};
+use age_file::{FileFault, Sink, flush_all};
 use age_fileset::FileSet;
 use age_keys::{Passphrase, PayloadKey, open_header, payload_key};
 use age_stanza::{HEAD_MAX, HeadParser, HeadStep, Header};
@@ -149,7 +149,7 @@ fn obey_lines<B: ChunkBox, const SEALED: usize, O: Sink>(
         let text = answer(alloc, i + 1, &replay, replay.refused() > refused)?;
         put_bytes(output, text.as_bytes())?;
     }
-    flush(output)
+    flush_all(output)
 }
 
 /// Checks the script whole, and then delivers a payload by it.

@@ -6,8 +6,8 @@ ghost use Rattle.age_fileset.specs.Events.{Opened};
 ghost use Rattle.age_cli.specs.Runs.{Reports, ReportsFile};
 
 use crate::ending::Ending;
-use crate::print::{flush, put_bytes, text_of};
-use age_file::{FileFault, Sink, Source, inspect};
+use crate::print::{put_bytes, text_of};
+use age_file::{FileFault, Sink, Source, flush_all, inspect};
 use age_fileset::FileSet;
 use std::alloc::Global;
 
@@ -24,7 +24,7 @@ pub(crate) fn report<I: Source, O: Sink>(
     let found = inspect(alloc, input)?;
     let text = text_of(alloc, &found)?;
     put_bytes(output, text.as_slice())?;
-    flush(output)
+    flush_all(output)
 }
 
 /// The same of a file by its name.

@@ -1,16 +1,16 @@
 //! Text into a sink, and the text of a report.
 
-ghost use Rattle.std.specs.Prelude.{◌≡◌, ◌++◌, IfOk, IsOkUnless, OnOk, OnErr};
+ghost use Rattle.std.specs.Prelude.{◌≡◌, ◌++◌, IfOk, OnOk, OnErr};
 ghost use Rattle.std.specs.String.{string_bytes};
 ghost use Rattle.std.specs.List.{flat_map};
-ghost use Rattle.std.specs.Io.KnownBytes.{Appends, Keeps};
+ghost use Rattle.std.specs.Io.KnownBytes.{Appends};
 ghost use Rattle.age_file.specs.Faults.{HasRisen};
 ghost use Rattle.age_cli.specs.ReportTexts.{stanza_line, plain_line, report_text};
 
-use age_file::{Failed, FileFault, Report, Sink, StanzaReport, put_all};
+use age_file::{FileFault, Report, Sink, StanzaReport, write_all};
 use std::alloc::{AllocError, Global};
 
-/// Writes all of some bytes.
+/// Writes all of some bytes, where nobody asks how many were written before a failure.
 pub(crate) fn put_bytes<O: Sink>(sink: &mut O, bytes: &[u8]) -> Result<(), FileFault>
     ensures ok { OnOk result (Appends (O.taken sink.old) (O.taken sink.new) bytes.now) }
     ensures same { OnOk result (O.failed sink.new ≡ O.failed sink.old) }
@@ -18,25 +18,7 @@ pub(crate) fn put_bytes<O: Sink>(sink: &mut O, bytes: &[u8]) -> Result<(), FileF
     ensures named { O.label sink.new ≡ O.label sink.old }
 {
     let mut written = 0;
-    match put_all(sink, bytes, &mut written) {
-        Ok(()) => Ok(()),
-        Err(Failed) => Err(FileFault::Write),
-    }
-}
-
-/// Sends on what a sink took.
-pub(crate) fn flush<O: Sink>(sink: &mut O) -> Result<(), FileFault>
-    ensures ok { OnOk result (Keeps (O.taken sink.old) (O.taken sink.new)) }
-    ensures same { OnOk result (O.failed sink.new ≡ O.failed sink.old) }
-    ensures err { OnErr result (HasRisen (O.failed sink.old) (O.failed sink.new)) }
-    ensures settled { OnOk result (O.settled sink.new) }
-    ensures named { O.label sink.new ≡ O.label sink.old }
-    ensures fault { IsOkUnless result FileFault.Write }
-{
-    match sink.flush() {
-        Ok(()) => Ok(()),
-        Err(Failed) => Err(FileFault::Write),
-    }
+    write_all(sink, bytes, &mut written)
 }
 
 fn put_stanza(alloc: Global, out: &mut Vec<u8>, stanza: &StanzaReport) -> Result<(), AllocError>

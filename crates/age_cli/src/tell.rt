@@ -6,8 +6,8 @@ ghost use Rattle.age_file.specs.Faults.{HasRisen, number_of, place_of};
 ghost use Rattle.age_cli.specs.FaultLines.{place_text, fault_line, TellsEnding};
 
 use crate::ending::{Ending, Usage};
-use crate::print::{flush, put_bytes};
-use age_file::{Failed, FileFault, Sink};
+use crate::print::put_bytes;
+use age_file::{Failed, FileFault, Sink, flush_all};
 use arrayvec::ArrayVec;
 use itoa::Buffer;
 
@@ -143,7 +143,7 @@ fn put_ending<E: Sink>(faults: &mut E, ending: &Ending) -> Result<(), FileFault>
             put_fault(faults, *second)?;
         }
     }
-    flush(faults)
+    flush_all(faults)
 }
 
 /// Reports why a run ended, where the sink takes it.
