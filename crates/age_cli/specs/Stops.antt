@@ -1,6 +1,7 @@
 -- What stands in the files where a command stopped.
 use Rattle.std.specs.Prelude.{◌≡◌, ◌⊎◌, ℕ, true, List, [], is_some, Option, Some, None, codes}
 use Rattle.clap.specs.Words.{Row, Text, first_of, one_of}
+use Rattle.age_io.specs.Views.{SourceView, SinkView}
 use Rattle.age_file.specs.Ports.{Ports, ports}
 use Rattle.age_file.specs.Secrets.{SecretView}
 use Rattle.age_file.specs.Encrypts.{EncryptFails}
@@ -72,11 +73,11 @@ SealedOutStops Engine old new fault =
     ⊎ ((new ≡ old) × (fault ≡ Write))
 
 -- the ports of a source and a sink of one set of files: what they tell, and how often they failed
-pub record PortsOf {In Out : Type 0} (remaining : In → Option (List ℕ)) (read_failed : In → ℕ)
-    (taken : Out → Option (List ℕ)) (write_failed : Out → ℕ) (p : Ports) : Type 0 where
+pub record PortsOf {In Out : Type 0} (read : In → SourceView) (wrote : Out → SinkView) (p : Ports)
+    : Type 0 where
   pub source : In
   pub sink : Out
-  pub is : p ≡ ports (remaining source) (read_failed source) (taken sink) (write_failed sink)
+  pub is : p ≡ ports (read source) (wrote sink)
 
 -- what an engine promises where it stops, of the bytes that the names stood for, whose ports are
 -- those of files of the set

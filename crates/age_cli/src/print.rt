@@ -1,6 +1,6 @@
 //! Text into a sink, and the text of a report.
 
-ghost use Rattle.std.specs.Prelude.{◌≡◌, ◌++◌, IfOk, IsOkUnless, OnOk, OnErr};
+ghost use Rattle.std.specs.Prelude.{◌≡◌, ◌++◌, IfOk, IsOkUnless, OnOk, OnErr, true};
 ghost use Rattle.std.specs.String.{string_bytes};
 ghost use Rattle.std.specs.List.{flat_map};
 ghost use Rattle.std.specs.Io.KnownBytes.{Appends, Keeps};
@@ -12,10 +12,10 @@ use std::alloc::{AllocError, Global};
 
 /// Writes all of some bytes.
 pub(crate) fn put_bytes<O: Sink>(sink: &mut O, bytes: &[u8]) -> Result<(), FileFault>
-    ensures ok { OnOk result (Appends (O.taken sink.old) (O.taken sink.new) bytes.now) }
-    ensures same { OnOk result (O.failed sink.new ≡ O.failed sink.old) }
-    ensures err { OnErr result (HasRisen (O.failed sink.old) (O.failed sink.new)) }
-    ensures named { O.label sink.new ≡ O.label sink.old }
+    ensures ok { OnOk result (Appends (O.view sink.old).taken (O.view sink.new).taken bytes.now) }
+    ensures same { OnOk result ((O.view sink.new).failed ≡ (O.view sink.old).failed) }
+    ensures err { OnErr result (HasRisen (O.view sink.old).failed (O.view sink.new).failed) }
+    ensures named { (O.view sink.new).label ≡ (O.view sink.old).label }
 {
     let mut written = 0;
     match put_all(sink, bytes, &mut written) {
@@ -26,11 +26,11 @@ pub(crate) fn put_bytes<O: Sink>(sink: &mut O, bytes: &[u8]) -> Result<(), FileF
 
 /// Sends on what a sink took.
 pub(crate) fn flush<O: Sink>(sink: &mut O) -> Result<(), FileFault>
-    ensures ok { OnOk result (Keeps (O.taken sink.old) (O.taken sink.new)) }
-    ensures same { OnOk result (O.failed sink.new ≡ O.failed sink.old) }
-    ensures err { OnErr result (HasRisen (O.failed sink.old) (O.failed sink.new)) }
-    ensures settled { OnOk result (O.settled sink.new) }
-    ensures named { O.label sink.new ≡ O.label sink.old }
+    ensures ok { OnOk result (Keeps (O.view sink.old).taken (O.view sink.new).taken) }
+    ensures same { OnOk result ((O.view sink.new).failed ≡ (O.view sink.old).failed) }
+    ensures err { OnErr result (HasRisen (O.view sink.old).failed (O.view sink.new).failed) }
+    ensures settled { OnOk result ((O.view sink.new).settled ≡ true) }
+    ensures named { (O.view sink.new).label ≡ (O.view sink.old).label }
     ensures fault { IsOkUnless result FileFault.Write }
 {
     match sink.flush() {

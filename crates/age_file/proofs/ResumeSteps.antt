@@ -36,6 +36,7 @@ use Rattle.age_file.specs.OldTexts.{BeginsWith, IsOldText}
 use Rattle.age_file.specs.ResumeFaults.{NeverEnd, StopsInOld, StopsInPassed, ResumeFails}
 use Rattle.age_file.specs.Starts.{StartFails}
 use Rattle.age_file.specs.inner.Starts.{Uses, StartsAt}
+use Rattle.age_io.specs.Views.{SourceView}
 use Rattle.age_file.specs.inner.Unread.{Unread}
 use Rattle.age_file.specs.declared.fault.FileFault.{FileFault}
 use Rattle.age_file.specs.declared.fault.FileFault.TheVariants.{Stream, OtherFile, ShortText, Read, Write, ReadNeverEnds, PositionForged, OldTextDiffers}
@@ -102,8 +103,8 @@ resumes_all p r limit whole done text auth = ap (λ (t : List ℕ). r.copied ++ 
 -- ---- a run that stopped in the old text, or before it
 
 module _ (keep : Positions) (Allows : Header → List ℕ → Type 0) (Refused : Header → KeyFault → Type 0) (p : Position) where
-  abbrev pub before : Option (List ℕ) → ℕ → Tally → Side → ResumePorts
-  before a i first x = record { main = record { coming = a; read_failed = i; taken = first.taken; write_failed = first.failed }; old_coming = x.coming; old_failed = x.failed }
+  abbrev pub before : SourceView → Tally → Side → ResumePorts
+  before a first x = record { main = record { coming = a.remaining; read_failed = a.failed; taken = first.taken; write_failed = first.failed }; old_coming = x.coming; old_failed = x.failed }
 
   abbrev pub after : Stage → Side → ResumePorts
   after new z = record { main = record { coming = new.coming; read_failed = new.read_failed; taken = new.tally.taken; write_failed = new.tally.failed }; old_coming = z.coming; old_failed = z.failed }
@@ -147,10 +148,10 @@ module _ (keep : Positions) (Allows : Header → List ℕ → Type 0) (Refused :
   accepts_of a b u unlocked s v c rest read = record { reads = reads_of a b u unlocked s c rest read; own = v.0 ∙ s.id; tagged = v.1 }
 
   -- the file was started, and the old text's pulls are counted on from there
-  module _ (a : Option (List ℕ)) (i : ℕ) (unlocked : Unlocked) (s1 : Stage) (u : Unread) (s : StartsAt Allows a s1.coming u unlocked) (v : IsVerified unlocked) (same : s1.read_failed ≡ i)
+  module _ (a : SourceView) (unlocked : Unlocked) (s1 : Stage) (u : Unread) (s : StartsAt Allows a.remaining s1.coming u unlocked) (v : IsVerified unlocked) (same : s1.read_failed ≡ a.failed)
       (first : Tally) (zero : first.progress.written ≡ 0) (x z : Side) (none : x.unread.bytes ≡ []) (pulls : x.unread.pulls ≡ u.pulls) where
     abbrev file : OpenedFile
-    file = opened a s1.coming u unlocked s
+    file = opened a.remaining s1.coming u unlocked s
 
     abbrev head : List ℕ
     head = s.front ++ unlocked.nonce
@@ -162,7 +163,7 @@ module _ (keep : Positions) (Allows : Header → List ℕ → Type 0) (Refused :
     -- what was used of the old text, from its start
     old_pulled : (used : List ℕ) → Uses x.coming z.coming x.unread z.unread used → Pulled (preceded started x.coming) z.coming z.unread.pulls (started ++ (used ++ z.unread.bytes))
     old_pulled used uses =
-        let none_used = counted_on a s1.coming x.coming u.pulls started s.pulled in
+        let none_used = counted_on a.remaining s1.coming x.coming u.pulls started s.pulled in
         let fresh = subst (λ (k : ℕ). Pulled (preceded started x.coming) x.coming k (started ++ [])) (sym pulls) none_used in
         uses (preceded started x.coming) started (subst (λ (t : List ℕ). Pulled (preceded started x.coming) x.coming x.unread.pulls (started ++ t)) (sym none) fresh)
 
@@ -175,11 +176,11 @@ module _ (keep : Positions) (Allows : Header → List ℕ → Type 0) (Refused :
 
     -- the copy of the old text stopped
     stops_in_old : (out pulled : List ℕ) → Appends first.taken s1.tally.taken out → s1.tally.progress.written ≡ first.progress.written + length out → length out < p.index * 65536
-        → Consumes x.coming z.coming pulled → IsPrefixOf out pulled → StopsInOld Allows p (before a i first x) (after s1 z) s1.tally.progress.written None
+        → Consumes x.coming z.coming pulled → IsPrefixOf out pulled → StopsInOld Allows p (before a first x) (after s1 z) s1.tally.progress.written None
     stops_in_old out pulled wrote count short read front = record {
       file = file;
       rest = u.bytes;
-      accepts = accepts_of a s1.coming u unlocked s v s1.coming u.bytes s.pulled.consumed;
+      accepts = accepts_of a.remaining s1.coming u unlocked s v s1.coming u.bytes s.pulled.consumed;
       copied = out;
       short = short;
       writes = record {
@@ -193,7 +194,7 @@ module _ (keep : Positions) (Allows : Header → List ℕ → Type 0) (Refused :
       none = refl;
     }
 
-    pub copy_fails : (fault : FileFault) → CopiesText keep 65536 p.index p.chain x z first s1.tally (Err fault) → ResumeFails keep Allows p Refused (before a i first x) (after s1 z) s1.tally.progress.written None fault
+    pub copy_fails : (fault : FileFault) → CopiesText keep 65536 p.index p.chain x z first s1.tally (Err fault) → ResumeFails keep Allows p Refused (before a first x) (after s1 z) s1.tally.progress.written None fault
     unfolding stops_in_old
     copy_fails ShortText c =
         let f = c.answered in
@@ -225,7 +226,7 @@ module _ (keep : Positions) (Allows : Header → List ℕ → Type 0) (Refused :
           refl,
           file,
           u.bytes,
-          accepts_of a s1.coming u unlocked s v s1.coming u.bytes s.pulled.consumed,
+          accepts_of a.remaining s1.coming u unlocked s v s1.coming u.bytes s.pulled.consumed,
           c.out,
           record {
             pulled = c.out ++ z.unread.bytes;
@@ -259,23 +260,23 @@ module _ (keep : Positions) (Allows : Header → List ℕ → Type 0) (Refused :
       old_is_read : Consumes x.coming z.coming old_bytes
       old_is_read = old_read old_bytes old_used
 
-      pub again : Pulled (preceded old_bytes a) s1.coming s1.unread.pulls ((old_bytes ++ head) ++ s1.unread.bytes)
+      pub again : Pulled (preceded old_bytes a.remaining) s1.coming s1.unread.pulls ((old_bytes ++ head) ++ s1.unread.bytes)
       again =
-          let back = counted_back a s1.coming x.coming z.coming u.pulls z.unread.pulls started old_bytes s.pulled old_used in
+          let back = counted_back a.remaining s1.coming x.coming z.coming u.pulls z.unread.pulls started old_bytes s.pulled old_used in
           let bytes = ap (λ (t : List ℕ). old_bytes ++ (head ++ t)) (sym kept) ∙ sym (append_assoc old_bytes head s1.unread.bytes) in
-          subst (λ (k : ℕ). Pulled (preceded old_bytes a) s1.coming k ((old_bytes ++ head) ++ s1.unread.bytes)) (sym on)
-          (subst (λ (t : List ℕ). Pulled (preceded old_bytes a) s1.coming z.unread.pulls t) bytes back)
+          subst (λ (k : ℕ). Pulled (preceded old_bytes a.remaining) s1.coming k ((old_bytes ++ head) ++ s1.unread.bytes)) (sym on)
+          (subst (λ (t : List ℕ). Pulled (preceded old_bytes a.remaining) s1.coming z.unread.pulls t) bytes back)
 
-      read_on : (s2 : Stage) (y : List ℕ) → Pulled (preceded old_bytes a) s2.coming s2.unread.pulls (old_bytes ++ y) → Consumes a s2.coming y
-      read_on s2 y h = preceded_consumed old_bytes y a s2.coming h.consumed
+      read_on : (s2 : Stage) (y : List ℕ) → Pulled (preceded old_bytes a.remaining) s2.coming s2.unread.pulls (old_bytes ++ y) → Consumes a.remaining s2.coming y
+      read_on s2 y h = preceded_consumed old_bytes y a.remaining s2.coming h.consumed
 
-      never_end : (s2 : Stage) (y : List ℕ) → Pulled (preceded old_bytes a) s2.coming s2.unread.pulls (old_bytes ++ y) → s2.unread.pulls ≡ 2 ^ 63 → NeverEnd (before a i first x) (after s2 z)
+      never_end : (s2 : Stage) (y : List ℕ) → Pulled (preceded old_bytes a.remaining) s2.coming s2.unread.pulls (old_bytes ++ y) → s2.unread.pulls ≡ 2 ^ 63 → NeverEnd (before a first x) (after s2 z)
       never_end s2 y h all =
           let both = length-append old_bytes y in
           (y, old_bytes, read_on s2 y h, old_is_read, (omega (arith, h.each_gave, all, both), omega (arith, h.small, all, both)))
 
       -- the old text, and no more, was written
-      writes_old : (s2 : Stage) → s2.tally ≡ s1.tally → WritesOld p (before a i first x) (after s2 z) s2.tally.progress.written c.out
+      writes_old : (s2 : Stage) → s2.tally ≡ s1.tally → WritesOld p (before a first x) (after s2 z) s2.tally.progress.written c.out
       writes_old s2 still =
           let le : length c.out ≤ p.index * 65536 = omega (arith, c.answered.0) in
           let front : IsPrefixOf c.out (c.out ++ z.unread.bytes) = (z.unread.bytes, refl) in
@@ -291,10 +292,10 @@ module _ (keep : Positions) (Allows : Header → List ℕ → Type 0) (Refused :
 
       -- the run stopped in the blocks that are passed over
       stops_in_passed : (s2 : Stage) (position : Option Position) (passed : List ℕ) → s2.tally ≡ s1.tally → Told keep (IsSame p) position → length passed < p.index * 65552
-          → Consumes a s2.coming (head ++ passed) → StopsInPassed keep Allows p (before a i first x) (after s2 z) s2.tally.progress.written position passed
+          → Consumes a.remaining s2.coming (head ++ passed) → StopsInPassed keep Allows p (before a first x) (after s2 z) s2.tally.progress.written position passed
       stops_in_passed s2 position passed still at short read = record {
         file = file;
-        accepts = accepts_of a s1.coming u unlocked s v s2.coming passed read;
+        accepts = accepts_of a.remaining s1.coming u unlocked s v s2.coming passed read;
         short = short;
         copied = c.out;
         old_text = old_text;
@@ -302,13 +303,13 @@ module _ (keep : Positions) (Allows : Header → List ℕ → Type 0) (Refused :
         here = at;
       }
 
-      dried : (s2 : Stage) (passed : List ℕ) → s2.unread.bytes ≡ [] → Uses s1.coming s2.coming s1.unread s2.unread passed → Pulled (preceded old_bytes a) s2.coming s2.unread.pulls (old_bytes ++ (head ++ passed))
+      dried : (s2 : Stage) (passed : List ℕ) → s2.unread.bytes ≡ [] → Uses s1.coming s2.coming s1.unread s2.unread passed → Pulled (preceded old_bytes a.remaining) s2.coming s2.unread.pulls (old_bytes ++ (head ++ passed))
       dried s2 passed empty uses =
           let bytes = ap (λ (t : List ℕ). (old_bytes ++ head) ++ t) (ap (λ (t : List ℕ). passed ++ t) empty ∙ append-nil passed) ∙ append_assoc old_bytes head passed in
-          subst (λ (t : List ℕ). Pulled (preceded old_bytes a) s2.coming s2.unread.pulls t) bytes (uses (preceded old_bytes a) (old_bytes ++ head) again)
+          subst (λ (t : List ℕ). Pulled (preceded old_bytes a.remaining) s2.coming s2.unread.pulls t) bytes (uses (preceded old_bytes a.remaining) (old_bytes ++ head) again)
 
       passed_fails : (s2 : Stage) (position : Option Position) (fault : FileFault) → s2.tally ≡ s1.tally → Told keep (IsSame p) position → SkipFails 65552 p.index (side_of s1) (side_of s2) fault
-          → ResumeFails keep Allows p Refused (before a i first x) (after s2 z) s2.tally.progress.written position fault
+          → ResumeFails keep Allows p Refused (before a first x) (after s2 z) s2.tally.progress.written position fault
       passed_fails s2 position (Stream fault) still at f =
           let e = f.2 in
           let all = read_on s2 (head ++ e.bytes) (dried s2 e.bytes e.used e.passes.uses) in
@@ -336,11 +337,11 @@ module _ (keep : Positions) (Allows : Header → List ℕ → Type 0) (Refused :
       record IsDecrypted (s2 : Stage) (result : Result (Unit {0}) FileFault) : Type 0 where
         run : Resumption
         file_is : run.file ≡ file
-        is : IsResumption Allows p (before a i first x) (after s2 z) s2.tally.progress.written run
-        pulled : Pulled (preceded old_bytes a) s2.coming s2.unread.pulls (old_bytes ++ (head ++ (run.passed ++ run.bytes)))
+        is : IsResumption Allows p (before a first x) (after s2 z) s2.tally.progress.written run
+        pulled : Pulled (preceded old_bytes a.remaining) s2.coming s2.unread.pulls (old_bytes ++ (head ++ (run.passed ++ run.bytes)))
         counts : HasCounted keep (unbox run.file.key run.file.nonce) 65536 (run.copied ++ run.out) (segment_at p run) s2.tally.progress
         mid : Stage
-        read_failed : mid.read_failed ≡ i
+        read_failed : mid.read_failed ≡ a.failed
         write_failed : mid.tally.failed ≡ first.failed
         answered : MatchResult result (λ _. PayloadDone (unbox run.file.key run.file.nonce) 65536 mid s2 (segment_at p run) run.out) (PayloadFails (unbox run.file.key run.file.nonce) 65536 mid s2 (segment_at p run) run.out)
 
@@ -349,14 +350,14 @@ module _ (keep : Positions) (Allows : Header → List ℕ → Type 0) (Refused :
       decrypted key s2 result key_is b =
           let q = subst (λ (t : List ℕ). DecryptsPayload (λ nonce block. opening t nonce [] block) 65536 p.index b.mid s2 result) key_is b.decrypts in
           let front = old_bytes ++ head in
-          let behind : Pulled (preceded old_bytes a) b.mid.coming b.mid.unread.pulls (front ++ (b.passed ++ b.mid.unread.bytes)) = b.passes.uses (preceded old_bytes a) front again in
-          let all : Pulled (preceded old_bytes a) s2.coming s2.unread.pulls ((front ++ (b.passed ++ b.mid.unread.bytes)) ++ q.fresh) = q.pulled (preceded old_bytes a) (front ++ (b.passed ++ b.mid.unread.bytes)) behind in
+          let behind : Pulled (preceded old_bytes a.remaining) b.mid.coming b.mid.unread.pulls (front ++ (b.passed ++ b.mid.unread.bytes)) = b.passes.uses (preceded old_bytes a.remaining) front again in
+          let all : Pulled (preceded old_bytes a.remaining) s2.coming s2.unread.pulls ((front ++ (b.passed ++ b.mid.unread.bytes)) ++ q.fresh) = q.pulled (preceded old_bytes a.remaining) (front ++ (b.passed ++ b.mid.unread.bytes)) behind in
           let parts : (front ++ (b.passed ++ b.mid.unread.bytes)) ++ q.fresh ≡ old_bytes ++ (head ++ (b.passed ++ q.bytes)) =
           append_assoc front (b.passed ++ b.mid.unread.bytes) q.fresh
           ∙ (ap (λ (t : List ℕ). front ++ t) (append_assoc b.passed b.mid.unread.bytes q.fresh ∙ ap (λ (t : List ℕ). b.passed ++ t) q.parts)
           ∙ append_assoc old_bytes head (b.passed ++ q.bytes)) in
-          let pulls : Pulled (preceded old_bytes a) s2.coming s2.unread.pulls (old_bytes ++ (head ++ (b.passed ++ q.bytes))) =
-          subst (λ (t : List ℕ). Pulled (preceded old_bytes a) s2.coming s2.unread.pulls t) parts all in
+          let pulls : Pulled (preceded old_bytes a.remaining) s2.coming s2.unread.pulls (old_bytes ++ (head ++ (b.passed ++ q.bytes))) =
+          subst (λ (t : List ℕ). Pulled (preceded old_bytes a.remaining) s2.coming s2.unread.pulls t) parts all in
           let wrote : Appends s1.tally.taken s2.tally.taken q.out = subst (λ (t : Option (List ℕ)). Appends t s2.tally.taken q.out) (ap (λ (t : Tally). t.taken) b.same) q.wrote in
           let written : b.mid.tally.progress.written ≡ s1.tally.progress.written = ap (λ (t : Tally). t.progress.written) b.same in
           let index : b.mid.tally.progress.index ≡ p.index = ap (λ (t : Tally). t.progress.index) b.same ∙ c.answered.3 in
@@ -367,7 +368,7 @@ module _ (keep : Positions) (Allows : Header → List ℕ → Type 0) (Refused :
             is = record {
               own = v.0 ∙ s.id;
               tagged = v.1;
-              reads = reads_of a s1.coming u unlocked s s2.coming (b.passed ++ q.bytes) (read_on s2 (head ++ (b.passed ++ q.bytes)) pulls);
+              reads = reads_of a.remaining s1.coming u unlocked s s2.coming (b.passed ++ q.bytes) (read_on s2 (head ++ (b.passed ++ q.bytes)) pulls);
               old_text = old_text;
               passed_size = b.size;
               more = z.unread.bytes;
@@ -385,7 +386,7 @@ module _ (keep : Positions) (Allows : Header → List ℕ → Type 0) (Refused :
             answered = q.answered;
           }
 
-      decrypted_done : (s2 : Stage) (b : IsDecrypted s2 (Ok tt)) → ResumeDone Allows p (before a i first x) (after s2 z) s2.tally.progress.written b.run
+      decrypted_done : (s2 : Stage) (b : IsDecrypted s2 (Ok tt)) → ResumeDone Allows p (before a first x) (after s2 z) s2.tally.progress.written b.run
       decrypted_done s2 b =
           let f = b.answered in
           record {
@@ -422,7 +423,7 @@ module _ (keep : Positions) (Allows : Header → List ℕ → Type 0) (Refused :
 
       decrypted_fails : (s2 : Stage) (position : Option Position) (fault : FileFault) (b : IsDecrypted s2 (Err fault)) → Told keep (IsNextPosition p b.run) position
           → PayloadFails (unbox b.run.file.key b.run.file.nonce) 65536 b.mid s2 (segment_at p b.run) b.run.out fault
-          → ResumeFails keep Allows p Refused (before a i first x) (after s2 z) s2.tally.progress.written position fault
+          → ResumeFails keep Allows p Refused (before a first x) (after s2 z) s2.tally.progress.written position fault
       decrypted_fails s2 position (Stream fault) b h f = (
         inr (b.run, record { is = b.is; whole = f.1; of = resumes_of p b.run limit b.is.prefix }, h, f.0),
         ((f.2.1 ∙ b.read_failed, f.2.0 ∙ b.write_failed), c.answered.1.unfailed),
@@ -446,7 +447,7 @@ module _ (keep : Positions) (Allows : Header → List ℕ → Type 0) (Refused :
       -- ---- the whole run
 
       pub resume_done : (key : List ℕ) (s2 : Stage) → key ≡ payload_key unlocked.key unlocked.nonce → ResumesPayload (λ nonce block. opening key nonce [] block) p.index s1 s2 (Ok tt)
-          → (r : Resumption) × ResumeDone Allows p (before a i first x) (after s2 z) s2.tally.progress.written r
+          → (r : Resumption) × ResumeDone Allows p (before a first x) (after s2 z) s2.tally.progress.written r
       resume_done key s2 key_is (inl stopped) = (let clash : Ok tt ≡ Err stopped.fault = stopped.is in absurd cc)
       resume_done key s2 key_is (inr behind) = (let b = decrypted key s2 (Ok tt) key_is behind in (b.run, decrypted_done s2 b))
 
@@ -477,7 +478,7 @@ module _ (keep : Positions) (Allows : Header → List ℕ → Type 0) (Refused :
 
       pub resume_fails : (key : List ℕ) (s2 : Stage) (position : Option Position) (fault : FileFault) → key ≡ payload_key unlocked.key unlocked.nonce
           → PositionAt unlocked s2.tally.progress.index s2.tally.progress.chain position
-          → ResumesPayload (λ nonce block. opening key nonce [] block) p.index s1 s2 (Err fault) → ResumeFails keep Allows p Refused (before a i first x) (after s2 z) s2.tally.progress.written position fault
+          → ResumesPayload (λ nonce block. opening key nonce [] block) p.index s1 s2 (Err fault) → ResumeFails keep Allows p Refused (before a first x) (after s2 z) s2.tally.progress.written position fault
       resume_fails key s2 position fault key_is at (inl stopped) =
           let is : Err fault ≡ Err stopped.fault = stopped.is in
           let e : stopped.fault ≡ fault = cc in

@@ -1,5 +1,6 @@
 -- What an engine's contract sees of its source and sink.
 use Rattle.std.specs.Prelude.{◌≡◌, ℕ, List, Option}
+use Rattle.age_io.specs.Views.{SourceView, SinkView}
 
 -- the bytes that are still to come, where they are told, and how many pulls have failed; the same
 -- of what was taken, and of puts and flushes
@@ -9,12 +10,12 @@ pub record Ports : Type 0 where
   pub taken : Option (List ℕ)
   pub write_failed : ℕ
 
-abbrev pub ports : Option (List ℕ) → ℕ → Option (List ℕ) → ℕ → Ports
-ports coming read_failed taken write_failed = record {
-  coming = coming;
-  read_failed = read_failed;
-  taken = taken;
-  write_failed = write_failed;
+abbrev pub ports : SourceView → SinkView → Ports
+ports source sink = record {
+  coming = source.remaining;
+  read_failed = source.failed;
+  taken = sink.taken;
+  write_failed = sink.failed;
 }
 
 abbrev pub NoneFailed : Ports → Ports → Type 0

@@ -2,6 +2,7 @@
 use Rattle.std.specs.Prelude.{◌≡◌, ℕ, ◌*◌, ◌/◌, ◌≤◌, min, List, ◌++◌, length, take, Option, Bool, true}
 use Rattle.std.specs.Simd.{first_chunks}
 use Rattle.std.specs.Io.KnownBytes.{Consumes, Appends, IsAtEnd}
+use Rattle.age_io.specs.Views.{SourceView}
 use Rattle.age_stanza.specs.declared.header.Header.{Header}
 use Rattle.age_stanza.specs.Grammar.{HeadText}
 use Rattle.age_stream.specs.declared.step.Status.TheVariants.{Done}
@@ -24,11 +25,11 @@ pub record ResumePorts : Type 0 where
   pub old_coming : Option (List ℕ)
   pub old_failed : ℕ
 
-abbrev pub resume_ports : Ports → Option (List ℕ) → ℕ → ResumePorts
-resume_ports main old_coming old_failed = record {
+abbrev pub resume_ports : Ports → SourceView → ResumePorts
+resume_ports main old = record {
   main = main;
-  old_coming = old_coming;
-  old_failed = old_failed;
+  old_coming = old.remaining;
+  old_failed = old.failed;
 }
 
 abbrev pub NoPortFailed : ResumePorts → ResumePorts → Type 0

@@ -2,6 +2,7 @@
 -- has n bytes.
 use Rattle.std.specs.Prelude.{◌≡◌, ℕ, ◌+◌, ◌*◌, ◌^◌, ◌<◌, ◌≤◌, List, [], ◌++◌, length, Option, Result, MatchResult, Bool, true, false}
 use Rattle.std.specs.Io.KnownBytes.{IsAtEnd}
+use Rattle.age_io.specs.Views.{SourceView}
 use Rattle.age_stream.specs.declared.step.Status.TheVariants.{Failed}
 use Rattle.age_stream.specs.Deliveries.{with_piece}
 use Rattle.age_stream.specs.Opening.{OpenerView}
@@ -21,12 +22,12 @@ pub record Flow (B : Type 0) : Type 0 where
   pub read_failed : ℕ
   pub unread : Unread
 
-abbrev pub flow : {B : Type 0} → OpenerView B → Tally → Option (List ℕ) → ℕ → Unread → Flow B
-flow opener tally coming read_failed unread = record {
+abbrev pub flow : {B : Type 0} → OpenerView B → Tally → SourceView → Unread → Flow B
+flow opener tally source unread = record {
   opener = opener;
   tally = tally;
-  coming = coming;
-  read_failed = read_failed;
+  coming = source.remaining;
+  read_failed = source.failed;
   unread = unread;
 }
 

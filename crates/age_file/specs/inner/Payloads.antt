@@ -2,6 +2,7 @@
 use Rattle.std.specs.Prelude.{◌≡◌, ℕ, ◌+◌, ◌*◌, ◌^◌, ◌≤◌, List, ◌++◌, length, Option, Result, MatchResult, Bool, true}
 use Rattle.std.specs.Simd.{first_chunks}
 use Rattle.std.specs.Io.KnownBytes.{Appends, IsAtEnd}
+use Rattle.age_io.specs.Views.{SourceView}
 use Rattle.age_stream.specs.declared.step.Status.TheVariants.{Failed, Done}
 use Rattle.age_stream.specs.Segment.{Segment, outcome, released}
 use Rattle.age_stream.specs.Headline.{IsPrefixOf}
@@ -23,11 +24,11 @@ pub record Stage : Type 0 where
   pub read_failed : ℕ
   pub unread : Unread
 
-abbrev pub stage : Tally → Option (List ℕ) → ℕ → Unread → Stage
-stage tally coming read_failed unread = record {
+abbrev pub stage : Tally → SourceView → Unread → Stage
+stage tally source unread = record {
   tally = tally;
-  coming = coming;
-  read_failed = read_failed;
+  coming = source.remaining;
+  read_failed = source.failed;
   unread = unread;
 }
 

@@ -2,6 +2,7 @@
 -- chunk has n bytes.
 use Rattle.std.specs.Prelude.{◌≡◌, ℕ, ◌+◌, ◌*◌, ◌<◌, ◌≤◌, List, [], ◌++◌, length, Option, Result, MatchResult}
 use Rattle.std.specs.Io.KnownBytes.{Appends}
+use Rattle.age_io.specs.Views.{SinkView}
 use Rattle.age_stream.specs.declared.step.Status.TheVariants.{Failed, Done}
 use Rattle.age_stream.specs.Segment.{Segment, released}
 use Rattle.age_stream.specs.Deliveries.{with_piece, with_end}
@@ -20,11 +21,11 @@ pub record Tally : Type 0 where
   pub label : List ℕ
   pub progress : Progress
 
-abbrev pub tally : Option (List ℕ) → ℕ → List ℕ → Progress → Tally
-tally taken failed label progress = record {
-  taken = taken;
-  failed = failed;
-  label = label;
+abbrev pub tally : SinkView → Progress → Tally
+tally sink progress = record {
+  taken = sink.taken;
+  failed = sink.failed;
+  label = sink.label;
   progress = progress;
 }
 

@@ -2,12 +2,12 @@
 -- this.
 use Rattle.std.specs.Prelude.{◌≡◌, ◌⊎◌, ℕ, ◌*◌, List, ◌++◌, length, Option, Result, Err}
 use Rattle.age_file.specs.inner.Intakes.{Pulled}
-use Rattle.age_file.specs.inner.Skips.{Side, side, Passes, SkipFails}
+use Rattle.age_file.specs.inner.Skips.{Side, Passes, SkipFails}
 use Rattle.age_file.specs.inner.Payloads.{Stage, DecryptsPayload}
 use Rattle.age_file.specs.declared.fault.FileFault.{FileFault}
 
 abbrev pub side_of : Stage → Side
-side_of s = side s.coming s.read_failed s.unread
+side_of s = record { coming = s.coming; failed = s.read_failed; unread = s.unread }
 
 -- what was pulled of a source, all told
 abbrev pub HasPulled : Stage → Type 0

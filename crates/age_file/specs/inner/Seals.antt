@@ -2,6 +2,7 @@
 -- engines cite.
 use Rattle.std.specs.Prelude.{◌≡◌, ℕ, ◌+◌, ◌-◌, ◌*◌, ◌^◌, ◌<◌, ◌≤◌, List, [], ◌++◌, length, Option, Result, MatchResult, false}
 use Rattle.std.specs.Io.KnownBytes.{Consumes, Appends, IsAtEnd}
+use Rattle.age_io.specs.Views.{SinkView}
 use Rattle.age_stream.specs.Nonce.{chunk_limit}
 use Rattle.age_stream.specs.Sealing.{SealerView, Holds, too_many}
 use Rattle.age_stream.specs.Payload.{sealed_before_last, block_bytes, payload, chunk_count}
@@ -17,8 +18,8 @@ pub record Tally : Type 0 where
   pub failures : ℕ
   pub written : ℕ
 
-abbrev pub tally : Option (List ℕ) → ℕ → ℕ → Tally
-tally taken failures written = record { taken = taken; failures = failures; written = written }
+abbrev pub tally : SinkView → ℕ → Tally
+tally sink written = record { taken = sink.taken; failures = sink.failed; written = written }
 
 -- so many bytes were written
 pub record Wrote (was now : Tally) (out : List ℕ) : Type 0 where

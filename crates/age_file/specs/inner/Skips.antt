@@ -2,6 +2,7 @@
 -- this.
 use Rattle.std.specs.Prelude.{◌≡◌, ℕ, ◌+◌, ◌*◌, ◌<◌, ◌≤◌, List, [], length, Option, Result, Ok, Err, Bool, true, false}
 use Rattle.std.specs.Io.KnownBytes.{IsAtEnd}
+use Rattle.age_io.specs.Views.{SourceView}
 use Rattle.age_stream.specs.declared.fault.StreamKind.TheVariants.{Truncated}
 use Rattle.age_file.specs.inner.Unread.{Unread}
 use Rattle.age_file.specs.inner.Intakes.{PullFails}
@@ -15,8 +16,8 @@ pub record Side : Type 0 where
   pub failed : ℕ
   pub unread : Unread
 
-abbrev pub side : Option (List ℕ) → ℕ → Unread → Side
-side coming failed unread = record { coming = coming; failed = failed; unread = unread }
+abbrev pub side : SourceView → Unread → Side
+side source unread = record { coming = source.remaining; failed = source.failed; unread = unread }
 
 -- these bytes of a source were used, and no pull failed
 pub record Passes (old new : Side) (bytes : List ℕ) : Type 0 where
