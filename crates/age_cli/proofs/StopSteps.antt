@@ -51,8 +51,8 @@ pub holds_nothing : (old new : Option (List ℕ)) (written : ℕ) (out : List �
 holds_nothing old new written out empty put none = none_out new out written (subst (λ (o : Option (List ℕ)). Appends o new out) empty put.0) put.1 none
 
 -- where memory was refused, an encryption wrote nothing
-pub sealed_nothing : (s : SecretView) (old new : Ports) (f : FileFault) → f ≡ fault.Memory → EncryptFails s old new f → new.taken ≡ old.taken
-sealed_nothing s old new f is fails = ap (λ (p : Ports). p.taken) (subst (λ (x : FileFault). EncryptFails s old new x) is fails)
+pub sealed_nothing : (s : SecretView) (old new : Ports) (f : FileFault) → f ≡ fault.Memory → EncryptFails s old new f → new.sink.taken ≡ old.sink.taken
+sealed_nothing s old new f is fails = ap (λ (p : Ports). p.sink.taken) (subst (λ (x : FileFault). EncryptFails s old new x) is fails)
 
 -- what a decryption wrote before it stopped; it begins the text of which each run is authentic
 module _ (keep : Positions) (A : Header → List ℕ → Type 0) (R : Header → KeyFault → Type 0) (old new : Ports) (written : ℕ) (position : Option Position) where
@@ -60,7 +60,7 @@ module _ (keep : Positions) (A : Header → List ℕ → Type 0) (R : Header →
   Begins out = (text : List ℕ) → ((r : Run) → IsRun A old new written r → IsAuthenticRun r text) → IsPrefixOf out text
 
   abbrev pub Wrote : Type 0
-  Wrote = (out : List ℕ) × Written old.taken new.taken written out × Begins out
+  Wrote = (out : List ℕ) × Written old.sink.taken new.sink.taken written out × Begins out
 
   of_none : WritesNone old new written position → Wrote
   of_none h = ([], (h.0, h.1), (λ text auth. (text, refl)))
@@ -88,10 +88,10 @@ module _ (keep : Positions) (A : Header → List ℕ → Type 0) (R : Header →
 -- each run is authentic
 module _ (keep : Positions) (A : Header → List ℕ → Type 0) (p : Position) (R : Header → KeyFault → Type 0) (old new : ResumePorts) (written : ℕ) (position : Option Position) where
   abbrev pub RewriteBegins : List ℕ → Type 0
-  RewriteBegins out = (text : List ℕ) → BeginsWith p old.old_coming text → ((r : Resumption) → IsResumption A p old new written r → IsAuthenticResumption p r text) → IsPrefixOf out text
+  RewriteBegins out = (text : List ℕ) → BeginsWith p old.old.remaining text → ((r : Resumption) → IsResumption A p old new written r → IsAuthenticResumption p r text) → IsPrefixOf out text
 
   abbrev pub Rewrote : Type 0
-  Rewrote = (out : List ℕ) × Written old.main.taken new.main.taken written out × RewriteBegins out
+  Rewrote = (out : List ℕ) × Written old.main.sink.taken new.main.sink.taken written out × RewriteBegins out
 
   none_new : WritesNone old.main new.main written position → Rewrote
   none_new h = ([], (h.0, h.1), (λ text begins auth. (text, refl)))

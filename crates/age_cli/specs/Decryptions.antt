@@ -13,10 +13,10 @@ pub record DecryptsOut (identity : Identity) (input output : Option (List ℕ)) 
   pub after : Ports
   pub run : Run
   pub written : ℕ
-  pub coming : input ≡ before.coming
-  pub empty : before.taken ≡ Some []
+  pub coming : input ≡ before.source.remaining
+  pub empty : before.sink.taken ≡ Some []
   pub done : DecryptDone (allows_by identity) before after written run
-  pub taken : output ≡ after.taken
+  pub taken : output ≡ after.sink.taken
 
 -- of what stands under these names
 pub record DecryptsFile (options : Options) (from to : Text) (old new : Held) : Type 0 where

@@ -27,10 +27,10 @@ pub record EncryptsOut (s : SecretView) (input output : Option (List ℕ)) : Typ
   pub before : Ports
   pub after : Ports
   pub written : Written
-  pub coming : input ≡ before.coming
-  pub empty : before.taken ≡ Some []
+  pub coming : input ≡ before.source.remaining
+  pub empty : before.sink.taken ≡ Some []
   pub done : Encrypts s before after written
-  pub taken : output ≡ after.taken
+  pub taken : output ≡ after.sink.taken
 
 -- the passphrase and the random bytes that stand under these names, and the work factor, make the
 -- secret

@@ -20,11 +20,11 @@ pub record ResumesOut (identity : Identity) (position : Position)
   pub after : ResumePorts
   pub run : Resumption
   pub written : ℕ
-  pub coming : input ≡ before.main.coming
-  pub old_coming : old_text ≡ before.old_coming
-  pub empty : before.main.taken ≡ Some []
+  pub coming : input ≡ before.main.source.remaining
+  pub old_coming : old_text ≡ before.old.remaining
+  pub empty : before.main.sink.taken ≡ Some []
   pub done : ResumeDone (allows_by identity) position before after written run
-  pub taken : output ≡ after.main.taken
+  pub taken : output ≡ after.main.sink.taken
 
 -- of what stands under these names
 pub record ResumesFile (options : Options) (position_name old_name from to : Text)

@@ -88,10 +88,10 @@ module _ (IsPorts : Ports → Type 0) where
     pub after : Ports
     pub before_is : IsPorts before
     pub after_is : IsPorts after
-    pub coming : input ≡ before.coming
-    pub empty : before.taken ≡ Some []
+    pub coming : input ≡ before.source.remaining
+    pub empty : before.sink.taken ≡ Some []
     pub fails : EncryptFails secret before after fault
-    pub took : taken ≡ after.taken
+    pub took : taken ≡ after.sink.taken
 
   pub record DecryptionStop (keep : Positions) (identity : Identity) (input : Option (List ℕ))
       (position : Option Position) (fault : FileFault) (written : ℕ) (taken : Option (List ℕ))
@@ -100,11 +100,11 @@ module _ (IsPorts : Ports → Type 0) where
     pub after : Ports
     pub before_is : IsPorts before
     pub after_is : IsPorts after
-    pub coming : input ≡ before.coming
-    pub empty : before.taken ≡ Some []
+    pub coming : input ≡ before.source.remaining
+    pub empty : before.sink.taken ≡ Some []
     pub fails : DecryptFails keep (allows_by identity) (refuses_by identity) before after written
         position fault
-    pub took : taken ≡ after.taken
+    pub took : taken ≡ after.sink.taken
 
   pub record ResumptionStop (keep : Positions) (identity : Identity) (from : Position)
       (input old_text : Option (List ℕ)) (position : Option Position) (fault : FileFault)
@@ -113,20 +113,14 @@ module _ (IsPorts : Ports → Type 0) where
     pub after : ResumePorts
     pub before_is : IsPorts before.main
     pub after_is : IsPorts after.main
-    pub old_before_is : IsPorts (record before.main {
-      coming = before.old_coming;
-      read_failed = before.old_failed;
-    })
-    pub old_after_is : IsPorts (record after.main {
-      coming = after.old_coming;
-      read_failed = after.old_failed;
-    })
-    pub coming : input ≡ before.main.coming
-    pub old_coming : old_text ≡ before.old_coming
-    pub empty : before.main.taken ≡ Some []
+    pub old_before_is : IsPorts (ports before.old before.main.sink)
+    pub old_after_is : IsPorts (ports after.old after.main.sink)
+    pub coming : input ≡ before.main.source.remaining
+    pub old_coming : old_text ≡ before.old.remaining
+    pub empty : before.main.sink.taken ≡ Some []
     pub fails : ResumeFails keep (allows_by identity) from (refuses_by identity) before after written
         position fault
-    pub took : taken ≡ after.main.taken
+    pub took : taken ≡ after.main.sink.taken
 
   -- `encrypt` stopped with its output created
   pub record EncryptsStop (pass : Text) (log : ℕ) (random : Option Text) (from to : Text)

@@ -88,8 +88,7 @@ pub fn decrypt<U: Unlock, S: Source, O: Sink>(
 ) -> Result<Done, Stopped>
     ensures { Decrypts Kept (U.allows unlock.now) (U.refuses unlock.now)
         (ports (S.view reader.old) (O.view writer.old))
-        (ports (S.view reader.new) (O.view writer.new))
-        ((O.view writer.new).settled ≡ true) (O.view writer.old).label (O.view writer.new).label result }
+        (ports (S.view reader.new) (O.view writer.new)) result }
 {
     decrypt_with(alloc, Positions::Kept, unlock, reader, writer)
 }
@@ -111,8 +110,7 @@ pub fn decrypt_with<U: Unlock, S: Source, O: Sink>(
 ) -> Result<Done, Stopped>
     ensures { Decrypts positions (U.allows unlock.now) (U.refuses unlock.now)
         (ports (S.view reader.old) (O.view writer.old))
-        (ports (S.view reader.new) (O.view writer.new))
-        ((O.view writer.new).settled ≡ true) (O.view writer.old).label (O.view writer.new).label result }
+        (ports (S.view reader.new) (O.view writer.new)) result }
 {
     one_header();
     let Ok(mut intake) = Intake::new(alloc) else {

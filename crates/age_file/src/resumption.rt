@@ -109,8 +109,7 @@ pub fn resume<U: Unlock, S: Source, L: Source, O: Sink>(
         (L.view old_reader.old))
         (resume_ports
         (ports (S.view reader.new) (O.view writer.new))
-        (L.view old_reader.new))
-        ((O.view writer.new).settled ≡ true) (O.view writer.old).label (O.view writer.new).label result }
+        (L.view old_reader.new)) result }
 {
     resume_with(
         alloc,
@@ -151,8 +150,7 @@ pub fn resume_with<U: Unlock, S: Source, L: Source, O: Sink>(
         (L.view old_reader.old))
         (resume_ports
         (ports (S.view reader.new) (O.view writer.new))
-        (L.view old_reader.new))
-        ((O.view writer.new).settled ≡ true) (O.view writer.old).label (O.view writer.new).label result }
+        (L.view old_reader.new)) result }
 {
     one_header();
     let (Ok(mut intake), Ok(mut old_intake)) = (Intake::new(alloc), Intake::new(alloc)) else {

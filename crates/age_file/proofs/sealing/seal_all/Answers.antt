@@ -40,7 +40,7 @@ returns-in_err-finish-clause-fails g c =
       out = front_of (seals a.key) n s.text ++ l.out;
       moved = record { read = s.moved.read; wrote = out.bytes; count = out.count; small = s.moved.small };
       prefix = last_begins seals n a b was mid now s.text s.key s.holds wrote l.out l.unwritten l.wrote l.blocks;
-      fails = subst (λ (f : FileFault). SealingFails n old new s.text f) (sym l.answered.0) (subst (λ (k : ℕ). HasRisen k new.write_failed) s.none_failed.1 l.answered.1);
+      fails = subst (λ (f : FileFault). SealingFails n old new s.text f) (sym l.answered.0) (subst (λ (k : ℕ). HasRisen k new.sink.failed) s.none_failed.1 l.answered.1);
     }))
 
 pub returns-clause-sealed : goal.returns-clause-sealed

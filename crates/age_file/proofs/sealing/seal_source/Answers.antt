@@ -21,7 +21,7 @@ pulls-init g c =
       unread = c.requires.unread.0;
       plain_is = refl;
       goes = record { key = refl; feeding = c.requires.fresh.0; holds = λ text h. rw (append-nil text) h };
-      wrote = subst (λ (t : List ℕ). Wrote now now t) (sym none) (record { bytes = Appends-nil now.taken; count = omega arith });
+      wrote = subst (λ (t : List ℕ). Wrote now now t) (sym none) (record { bytes = Appends-nil now.sink.taken; count = omega arith });
       read_failed = refl;
       write_failed = refl;
       named = refl;
@@ -91,7 +91,7 @@ returns-in_err-seal_piece-clause-fails g c =
     let now = tally (g.O.Sink.view c.seal_piece.new.sink) c.seal_piece.new.written in
     let old = ports (g.S.Source.view c.args.source.now) (g.O.Sink.view c.args.sink.now) in
     let new = ports (g.S.Source.view c.refill.new.source) (g.O.Sink.view c.seal_piece.new.sink) in
-    let all = rw (← c.bytes.ensures.bytes) at (r.pulled old.coming kept.text kept.pulled) in
+    let all = rw (← c.bytes.ensures.bytes) at (r.pulled old.source.remaining kept.text kept.pulled) in
     let unwritten = piece_cut seals n c.args.sealer.now c.pulls.sealer c.seal_piece.new.sealer was mid now kept.text piece s.fed s.left s.unwritten kept.goes c.requires.fresh.1 kept.wrote s.some positive in
     rw (p.1, p.2) (record {
       text = kept.text ++ piece;
