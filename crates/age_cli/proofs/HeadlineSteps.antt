@@ -15,7 +15,7 @@ use Rattle.age_file.specs.Decrypts.{Run, IsRun, IsAuthenticRun}
 use Rattle.age_file.specs.declared.position.Positions.{Positions}
 use Rattle.age_file.specs.declared.position.Position.{Position}
 use Rattle.age_file.specs.declared.fault.FileFault.{FileFault}
-use Rattle.age_cli.specs.Held.{Held}
+use Rattle.age_cli.specs.Files.{Files}
 use Rattle.age_cli.specs.declared.identity.Identity.{Identity}
 use Rattle.age_cli.specs.Identities.{allows_by, refuses_by}
 use Rattle.age_cli.specs.Decryptions.{DecryptsRows}
@@ -37,10 +37,10 @@ read_from None b bs t c = absurd (true≢false (sym t))
 read_from (Some x) None bs t c = absurd c
 read_from (Some x) (Some y) bs t c = (y, ap Some c, λ e. e)
 
-is_read : (identity : Identity) (input : Option (List ℕ)) (before after : Ports) (written : ℕ) (r : Run) → input ≡ before.coming → is_some input ≡ true
+is_read : (identity : Identity) (input : Option (List ℕ)) (before after : Ports) (written : ℕ) (r : Run) → input ≡ before.source.remaining → is_some input ≡ true
     → IsRun (allows_by identity) before after written r → IsRead identity input r
 is_read identity input before after written r coming told is =
-    let found = read_from before.coming after.coming ((r.front ++ r.nonce) ++ r.bytes) (ap is_some (sym coming) ∙ told) is.read in
+    let found = read_from before.source.remaining after.source.remaining ((r.front ++ r.nonce) ++ r.bytes) (ap is_some (sym coming) ∙ told) is.read in
     record {
       text = is.text;
       opens = is.opens;
@@ -57,14 +57,14 @@ held_stop : (IsPorts : Ports → Type 0) (keep : Positions) (identity : Identity
 held_stop IsPorts keep identity input old new position fault text told auth (inl (written, taken, s, leaves)) =
     let w = stop_wrote keep (allows_by identity) (refuses_by identity) s.before s.after written position fault s.fails in
     let begins : IsPrefixOf w.0 text = w.2 text (λ r is. auth r (is_read identity input s.before s.after written r s.coming told is)) in
-    ⊎_elim (λ at. inr (w.0, at ∙ (s.took ∙ appended s.before.taken s.after.taken w.0 s.empty w.1.0), begins)) (λ same. inl same) leaves.held
+    ⊎_elim (λ at. inr (w.0, at ∙ (s.took ∙ appended s.before.sink.taken s.after.sink.taken w.0 s.empty w.1.0), begins)) (λ same. inl same) leaves.held
 held_stop IsPorts keep identity input old new position fault text told auth (inr s) = inl s.0
 
 -- the name that stands there
 one_name : (a : Option Text) (x y : Text) → a ≡ Some x → a ≡ Some y → x ≡ y
 one_name a x y p q = ap (λ (o : Option Text). option_map_or (λ t. t) o []) (sym p ∙ q)
 
-pub kept_stop : (IsPorts : Ports → Type 0) (rows : List Row) (old new : Held) (e : Ending) (status : ℕ) (text : List ℕ) → (status ≡ 0 → ⊥) → IsWritersInput rows old text
+pub kept_stop : (IsPorts : Ports → Type 0) (rows : List Row) (old new : Files) (e : Ending) (status : ℕ) (text : List ℕ) → (status ≡ 0 → ⊥) → IsWritersInput rows old text
     → FailsToDecrypt IsPorts rows old new e → KeepsOut rows old new status text
 kept_stop IsPorts rows old new e status text failed auth (inl same) = record {
   safe = λ to is. inl (ap (λ f. f to) same.0);
@@ -79,13 +79,13 @@ kept_stop IsPorts rows old new e status text failed auth (inr s) =
       whole = λ to is zero. absurd (failed zero);
     }
 
-pub kept_done : (rows : List Row) (old new : Held) (status : ℕ) (text : List ℕ) → IsWritersInput rows old text → DecryptsRows rows old new → KeepsOut rows old new status text
+pub kept_done : (rows : List Row) (old new : Files) (status : ℕ) (text : List ℕ) → IsWritersInput rows old text → DecryptsRows rows old new → KeepsOut rows old new status text
 kept_done rows old new status text auth d =
     let t = d.decrypts in
     let o = t.output in
     let is = o.done.wrote.is in
     let all : o.run.out ≡ text = o.done.all text (auth d.from t.identity d.from_is t.opens o.run (is_read t.identity (old d.from) o.before o.after o.written o.run o.coming t.there is)) in
-    let holds : new d.to ≡ Some text = o.taken ∙ (appended o.before.taken o.after.taken o.run.out o.empty is.wrote ∙ ap Some all) in
+    let holds : new d.to ≡ Some text = o.taken ∙ (appended o.before.sink.taken o.after.sink.taken o.run.out o.empty is.wrote ∙ ap Some all) in
     record {
       safe = λ to is. inr (text, subst (λ (t : Text). new t ≡ Some text) (one_name (first_of (codes "OUT") rows) d.to to d.to_is is) holds, ([], append-nil text));
       whole = λ to is zero. subst (λ (t : Text). new t ≡ Some text) (one_name (first_of (codes "OUT") rows) d.to to d.to_is is) holds;
@@ -110,9 +110,9 @@ module _ (identity : Identity) (p : Position) (input old_text : Option (List ℕ
       let h = begins all.0 all.1 in
       record { all = all.0; told = sym same ∙ all.1; within = h.0; begins = h.1 }
 
-  read_on : (before after : ResumePorts) (written : ℕ) (r : Resumption) → input ≡ before.main.coming → IsResumption (allows_by identity) p before after written r → IsReadOn identity p input r
+  read_on : (before after : ResumePorts) (written : ℕ) (r : Resumption) → input ≡ before.main.source.remaining → IsResumption (allows_by identity) p before after written r → IsReadOn identity p input r
   read_on before after written r coming is =
-      let found = read_from before.main.coming after.main.coming ((r.file.front ++ r.file.nonce) ++ (r.passed ++ r.bytes)) (ap is_some (sym coming) ∙ told) is.reads.read in
+      let found = read_from before.main.source.remaining after.main.source.remaining ((r.file.front ++ r.file.nonce) ++ (r.passed ++ r.bytes)) (ap is_some (sym coming) ∙ told) is.reads.read in
       record {
         text = is.reads.text;
         opens = is.reads.opens;
@@ -125,11 +125,11 @@ module _ (identity : Identity) (p : Position) (input old_text : Option (List ℕ
         whole = λ ended. found.2 (is.at_end ended);
       }
 
-  authentic_resumption : (before after : ResumePorts) (written : ℕ) (r : Resumption) → input ≡ before.main.coming → old_text ≡ before.old_coming
+  authentic_resumption : (before after : ResumePorts) (written : ℕ) (r : Resumption) → input ≡ before.main.source.remaining → old_text ≡ before.old.remaining
       → IsResumption (allows_by identity) p before after written r → IsAuthenticResumption p r text
   authentic_resumption before after written r coming old_coming is =
-      let b = begins_with before.old_coming old_coming in
-      let found = read_from before.old_coming after.old_coming (r.copied ++ is.more) (ap is_some (sym old_coming) ∙ old_told) is.old_read in
+      let b = begins_with before.old.remaining old_coming in
+      let found = read_from before.old.remaining after.old.remaining (r.copied ++ is.more) (ap is_some (sym old_coming) ∙ old_told) is.old_read in
       let whole : (r.copied ++ is.more) ++ found.0 ≡ b.all = ap (λ (o : Option (List ℕ)). option_map_or (λ t. t) o []) (sym found.1 ∙ b.told) in
       let size : length (take (p.index * 65536) text) ≡ p.index * 65536 = omega (arith, length-take (p.index * 65536) text, b.within) in
       record {
@@ -145,11 +145,11 @@ module _ (identity : Identity) (p : Position) (input old_text : Option (List ℕ
       → OutStops (ResumptionStop IsPorts keep identity p input old_text position fault) old new position fault → HoldsNoMore old new text
   resumed_stop IsPorts keep old new position fault (inl (written, taken, s, leaves)) =
       let w = resume_wrote keep (allows_by identity) p (refuses_by identity) s.before s.after written position fault s.fails in
-      let front : IsPrefixOf w.0 text = w.2 text (begins_with s.before.old_coming s.old_coming) (λ r is. authentic_resumption s.before s.after written r s.coming s.old_coming is) in
-      ⊎_elim (λ at. inr (w.0, at ∙ (s.took ∙ appended s.before.main.taken s.after.main.taken w.0 s.empty w.1.0), front)) (λ same. inl same) leaves.held
+      let front : IsPrefixOf w.0 text = w.2 text (begins_with s.before.old.remaining s.old_coming) (λ r is. authentic_resumption s.before s.after written r s.coming s.old_coming is) in
+      ⊎_elim (λ at. inr (w.0, at ∙ (s.took ∙ appended s.before.main.sink.taken s.after.main.sink.taken w.0 s.empty w.1.0), front)) (λ same. inl same) leaves.held
   resumed_stop IsPorts keep old new position fault (inr s) = inl s.0
 
-pub kept_resumption_stop : (IsPorts : Ports → Type 0) (rows : List Row) (old new : Held) (e : Ending) (status : ℕ) (text : List ℕ) → (status ≡ 0 → ⊥) → IsWritersResumption rows old text
+pub kept_resumption_stop : (IsPorts : Ports → Type 0) (rows : List Row) (old new : Files) (e : Ending) (status : ℕ) (text : List ℕ) → (status ≡ 0 → ⊥) → IsWritersResumption rows old text
     → FailsToResume IsPorts rows old new e → KeepsOut rows old new status text
 kept_resumption_stop IsPorts rows old new e status text failed auth (inl same) = record {
   safe = λ to is. inl (ap (λ f. f to) same.0);
@@ -166,7 +166,7 @@ kept_resumption_stop IsPorts rows old new e status text failed auth (inr s) =
       whole = λ to is zero. absurd (failed zero);
     }
 
-pub kept_resumption_done : (rows : List Row) (old new : Held) (status : ℕ) (text : List ℕ) → IsWritersResumption rows old text → ResumesRows rows old new → KeepsOut rows old new status text
+pub kept_resumption_done : (rows : List Row) (old new : Files) (status : ℕ) (text : List ℕ) → IsWritersResumption rows old text → ResumesRows rows old new → KeepsOut rows old new status text
 kept_resumption_done rows old new status text auth d =
     let t = d.resumes in
     let o = t.output in
@@ -176,7 +176,7 @@ kept_resumption_done rows old new status text auth d =
     (auth.rest d.position_name t.position d.position_name_is t.position_is d.from t.identity d.from_is t.opens)
     o.before o.after o.written o.run o.coming o.old_coming is in
     let all : o.run.copied ++ o.run.out ≡ text = o.done.all text run in
-    let holds : new d.to ≡ Some text = o.taken ∙ (appended o.before.main.taken o.after.main.taken (o.run.copied ++ o.run.out) o.empty is.wrote ∙ ap Some all) in
+    let holds : new d.to ≡ Some text = o.taken ∙ (appended o.before.main.sink.taken o.after.main.sink.taken (o.run.copied ++ o.run.out) o.empty is.wrote ∙ ap Some all) in
     record {
       safe = λ to is. inr (text, subst (λ (t : Text). new t ≡ Some text) (one_name (first_of (codes "OUT") rows) d.to to d.to_is is) holds, ([], append-nil text));
       whole = λ to is zero. subst (λ (t : Text). new t ≡ Some text) (one_name (first_of (codes "OUT") rows) d.to to d.to_is is) holds;

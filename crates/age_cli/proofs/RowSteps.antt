@@ -8,7 +8,7 @@ use Rattle.age_commands.specs.declared.request.Request.TheVariants.{Decrypt, Res
 use Rattle.age_commands.specs.declared.request.Unlocking.{Unlocking}
 use Rattle.age_commands.specs.declared.request.Decrypting.{Decrypting}
 use Rattle.age_commands.specs.declared.request.Resuming.{Resuming}
-use Rattle.age_cli.specs.Held.{Held}
+use Rattle.age_cli.specs.Files.{Files}
 use Rattle.age_cli.specs.Identities.{Options, options_of}
 use Rattle.age_cli.specs.inner.IdentitySteps.{options_asked}
 use Rattle.age_cli.specs.Decryptions.{DecryptsFile, DecryptsRows}
@@ -23,7 +23,7 @@ one_command words name other rows given a b =
 pub options_same : (rows : List Row) (u : Unlocking) → IsUnlocking rows u → options_of rows ≡ options_asked u
 options_same rows u is = rw (sym is.pass, sym is.file_key, sym is.shared, sym is.max_log) refl
 
-decrypts_given : (rows : List Row) (d : Decrypting) (old new : Held) → IsDecrypting rows d → DecryptsFile (options_asked d.unlocking) d.from.now d.to.now old new → DecryptsRows rows old new
+decrypts_given : (rows : List Row) (d : Decrypting) (old new : Files) → IsDecrypting rows d → DecryptsFile (options_asked d.unlocking) d.from.now d.to.now old new → DecryptsRows rows old new
 decrypts_given rows d old new is did = record {
   from = d.from.now;
   to = d.to.now;
@@ -32,12 +32,12 @@ decrypts_given rows d old new is did = record {
   decrypts = subst (λ (o : Options). DecryptsFile o d.from.now d.to.now old new) (sym (options_same rows d.unlocking is.unlocking)) did;
 }
 
-pub decrypts_rows : (words : List Text) (rows : List Row) (d : Decrypting) (old new : Held) → Requests words (Decrypt d) → Asks words (codes "decrypt") rows
+pub decrypts_rows : (words : List Text) (rows : List Row) (d : Decrypting) (old new : Files) → Requests words (Decrypt d) → Asks words (codes "decrypt") rows
     → DecryptsFile (options_asked d.unlocking) d.from.now d.to.now old new → DecryptsRows rows old new
 decrypts_rows words rows d old new (name, given, asked, request) asks did =
     subst (λ (t : List Row). DecryptsRows t old new) (one_command words name (codes "decrypt") given rows asked asks) (decrypts_given given d old new request.1 did)
 
-resumes_given : (rows : List Row) (r : Resuming) (old new : Held) → IsResuming rows r
+resumes_given : (rows : List Row) (r : Resuming) (old new : Files) → IsResuming rows r
     → ResumesFile (options_asked r.decrypting.unlocking) r.position.now r.old.now r.decrypting.from.now r.decrypting.to.now old new → ResumesRows rows old new
 resumes_given rows r old new is did =
     let d = is.decrypting in
@@ -54,7 +54,7 @@ resumes_given rows r old new is did =
           (sym (options_same rows r.decrypting.unlocking d.unlocking)) did;
     }
 
-pub resumes_rows : (words : List Text) (rows : List Row) (r : Resuming) (old new : Held) → Requests words (Resume r) → Asks words (codes "resume") rows
+pub resumes_rows : (words : List Text) (rows : List Row) (r : Resuming) (old new : Files) → Requests words (Resume r) → Asks words (codes "resume") rows
     → ResumesFile (options_asked r.decrypting.unlocking) r.position.now r.old.now r.decrypting.from.now r.decrypting.to.now old new → ResumesRows rows old new
 resumes_rows words rows r old new (name, given, asked, request) asks did =
     subst (λ (t : List Row). ResumesRows t old new) (one_command words name (codes "resume") given rows asked asks) (resumes_given given r old new request.1 did)

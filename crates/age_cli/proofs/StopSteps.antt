@@ -24,7 +24,7 @@ use Rattle.age_commands.specs.declared.request.Request.TheVariants.{Encrypt, Dec
 use Rattle.age_commands.specs.declared.request.Encrypting.{Encrypting}
 use Rattle.age_commands.specs.declared.request.Decrypting.{Decrypting}
 use Rattle.age_commands.specs.declared.request.Resuming.{Resuming}
-use Rattle.age_cli.specs.Held.{Held}
+use Rattle.age_cli.specs.Files.{Files}
 use Rattle.age_cli.specs.Identities.{Options}
 use Rattle.age_cli.specs.inner.IdentitySteps.{options_asked}
 use Rattle.age_cli.specs.Endings.{EndsEarly}
@@ -51,8 +51,8 @@ pub holds_nothing : (old new : Option (List ℕ)) (written : ℕ) (out : List �
 holds_nothing old new written out empty put none = none_out new out written (subst (λ (o : Option (List ℕ)). Appends o new out) empty put.0) put.1 none
 
 -- where memory was refused, an encryption wrote nothing
-pub sealed_nothing : (s : SecretView) (old new : Ports) (f : FileFault) → f ≡ fault.Memory → EncryptFails s old new f → new.taken ≡ old.taken
-sealed_nothing s old new f is fails = ap (λ (p : Ports). p.taken) (subst (λ (x : FileFault). EncryptFails s old new x) is fails)
+pub sealed_nothing : (s : SecretView) (old new : Ports) (f : FileFault) → f ≡ fault.Memory → EncryptFails s old new f → new.sink.taken ≡ old.sink.taken
+sealed_nothing s old new f is fails = ap (λ (p : Ports). p.sink.taken) (subst (λ (x : FileFault). EncryptFails s old new x) is fails)
 
 -- what a decryption wrote before it stopped; it begins the text of which each run is authentic
 module _ (keep : Positions) (A : Header → List ℕ → Type 0) (R : Header → KeyFault → Type 0) (old new : Ports) (written : ℕ) (position : Option Position) where
@@ -60,7 +60,7 @@ module _ (keep : Positions) (A : Header → List ℕ → Type 0) (R : Header →
   Begins out = (text : List ℕ) → ((r : Run) → IsRun A old new written r → IsAuthenticRun r text) → IsPrefixOf out text
 
   abbrev pub Wrote : Type 0
-  Wrote = (out : List ℕ) × Written old.taken new.taken written out × Begins out
+  Wrote = (out : List ℕ) × Written old.sink.taken new.sink.taken written out × Begins out
 
   of_none : WritesNone old new written position → Wrote
   of_none h = ([], (h.0, h.1), (λ text auth. (text, refl)))
@@ -88,10 +88,10 @@ module _ (keep : Positions) (A : Header → List ℕ → Type 0) (R : Header →
 -- each run is authentic
 module _ (keep : Positions) (A : Header → List ℕ → Type 0) (p : Position) (R : Header → KeyFault → Type 0) (old new : ResumePorts) (written : ℕ) (position : Option Position) where
   abbrev pub RewriteBegins : List ℕ → Type 0
-  RewriteBegins out = (text : List ℕ) → BeginsWith p old.old_coming text → ((r : Resumption) → IsResumption A p old new written r → IsAuthenticResumption p r text) → IsPrefixOf out text
+  RewriteBegins out = (text : List ℕ) → BeginsWith p old.old.remaining text → ((r : Resumption) → IsResumption A p old new written r → IsAuthenticResumption p r text) → IsPrefixOf out text
 
   abbrev pub Rewrote : Type 0
-  Rewrote = (out : List ℕ) × Written old.main.taken new.main.taken written out × RewriteBegins out
+  Rewrote = (out : List ℕ) × Written old.main.sink.taken new.main.sink.taken written out × RewriteBegins out
 
   none_new : WritesNone old.main new.main written position → Rewrote
   none_new h = ([], (h.0, h.1), (λ text begins auth. (text, refl)))
@@ -123,7 +123,7 @@ module _ (keep : Positions) (A : Header → List ℕ → Type 0) (p : Position) 
   resume_wrote fault.Memory h = none_new h.0
 
 -- an ending is the same seen from before the output was made, where the position goes elsewhere
-pub ends_from : (f : FileFault) (name : Option Text) (p : Option Position) (old mid new : Held) (e : Ending) → ((q : Text) → name ≡ Some q → mid q ≡ old q)
+pub ends_from : (f : FileFault) (name : Option Text) (p : Option Position) (old mid new : Files) (e : Ending) → ((q : Text) → name ≡ Some q → mid q ≡ old q)
     → EndsOf f name p mid new e → EndsOf f name p old new e
 ends_from f (Some n) (Some p) old mid new (Fault x) same h = h
 ends_from f (Some n) None old mid new (Fault x) same h = (h.0, h.1 ∙ same n refl)
@@ -136,10 +136,10 @@ ends_from f name p old mid new (Usage u) same h = absurd h
 
 -- a stop, of the arguments that ask for it
 module _ (IsPorts : Ports → Type 0) where
-  abbrev SealsHere : Encrypting → Held → Held → Ending → Type 0
+  abbrev SealsHere : Encrypting → Files → Files → Ending → Type 0
   SealsHere e old new ending = EncryptsStop IsPorts e.pass.now e.log (text_of e.random) e.from.now e.to.now old new ending
 
-  sealing_stop_given : (rows : List Row) (e : Encrypting) (old new : Held) (ending : Ending) → IsEncrypting rows e → ((new ≡ old) × EndsEarly ending) ⊎ SealsHere e old new ending
+  sealing_stop_given : (rows : List Row) (e : Encrypting) (old new : Files) (ending : Ending) → IsEncrypting rows e → ((new ≡ old) × EndsEarly ending) ⊎ SealsHere e old new ending
       → FailsToEncrypt IsPorts rows old new ending
   sealing_stop_given rows e old new ending is (inl same) = inl same
   sealing_stop_given rows e old new ending is (inr did) = inr (record {
@@ -153,15 +153,15 @@ module _ (IsPorts : Ports → Type 0) where
         (subst (λ (random : Option Text). EncryptsStop IsPorts e.pass.now e.log random e.from.now e.to.now old new ending) is.random did);
   })
 
-  pub sealing_stop_rows : (words : List Text) (rows : List Row) (e : Encrypting) (old new : Held) (ending : Ending) → Requests words (Encrypt e) → Asks words (codes "encrypt") rows
+  pub sealing_stop_rows : (words : List Text) (rows : List Row) (e : Encrypting) (old new : Files) (ending : Ending) → Requests words (Encrypt e) → Asks words (codes "encrypt") rows
       → ((new ≡ old) × EndsEarly ending) ⊎ SealsHere e old new ending → FailsToEncrypt IsPorts rows old new ending
   sealing_stop_rows words rows e old new ending (name, given, asked, request) asks did =
       subst (λ (t : List Row). FailsToEncrypt IsPorts t old new ending) (one_command words name (codes "encrypt") given rows asked asks) (sealing_stop_given given e old new ending request.1 did)
 
-  abbrev StopsHere : Decrypting → Held → Held → Ending → Type 0
+  abbrev StopsHere : Decrypting → Files → Files → Ending → Type 0
   StopsHere d old new e = DecryptsStop IsPorts (options_asked d.unlocking) d.from.now d.to.now (text_of d.save) old new e
 
-  stops_given : (rows : List Row) (d : Decrypting) (old new : Held) (e : Ending) → IsDecrypting rows d → ((new ≡ old) × EndsEarly e) ⊎ StopsHere d old new e
+  stops_given : (rows : List Row) (d : Decrypting) (old new : Files) (e : Ending) → IsDecrypting rows d → ((new ≡ old) × EndsEarly e) ⊎ StopsHere d old new e
       → FailsToDecrypt IsPorts rows old new e
   stops_given rows d old new e is (inl same) = inl same
   stops_given rows d old new e is (inr did) = inr (record {
@@ -173,18 +173,18 @@ module _ (IsPorts : Ports → Type 0) where
         (subst (λ (save : Option Text). DecryptsStop IsPorts (options_asked d.unlocking) d.from.now d.to.now save old new e) is.save did);
   })
 
-  pub stops_rows : (words : List Text) (rows : List Row) (d : Decrypting) (old new : Held) (e : Ending) → Requests words (Decrypt d) → Asks words (codes "decrypt") rows
+  pub stops_rows : (words : List Text) (rows : List Row) (d : Decrypting) (old new : Files) (e : Ending) → Requests words (Decrypt d) → Asks words (codes "decrypt") rows
       → ((new ≡ old) × EndsEarly e) ⊎ StopsHere d old new e → FailsToDecrypt IsPorts rows old new e
   stops_rows words rows d old new e (name, given, asked, request) asks did =
       subst (λ (t : List Row). FailsToDecrypt IsPorts t old new e) (one_command words name (codes "decrypt") given rows asked asks) (stops_given given d old new e request.1 did)
 
-  abbrev ResumesHere : Resuming → Held → Held → Ending → Type 0
+  abbrev ResumesHere : Resuming → Files → Files → Ending → Type 0
   ResumesHere r old new e = ResumesStop IsPorts (options_asked r.decrypting.unlocking) r.position.now r.old.now r.decrypting.from.now r.decrypting.to.now (text_of r.decrypting.save) old new e
 
-  abbrev ResumeEarly : Held → Held → Ending → Type 0
+  abbrev ResumeEarly : Files → Files → Ending → Type 0
   ResumeEarly old new e = (new ≡ old) × (EndsEarly e ⊎ (e ≡ Fault fault.BadPosition))
 
-  resumes_stop_given : (rows : List Row) (r : Resuming) (old new : Held) (e : Ending) → IsResuming rows r → ResumeEarly old new e ⊎ ResumesHere r old new e
+  resumes_stop_given : (rows : List Row) (r : Resuming) (old new : Files) (e : Ending) → IsResuming rows r → ResumeEarly old new e ⊎ ResumesHere r old new e
       → FailsToResume IsPorts rows old new e
   resumes_stop_given rows r old new e is (inl same) = inl same
   resumes_stop_given rows r old new e is (inr did) =
@@ -204,7 +204,7 @@ module _ (IsPorts : Ports → Type 0) where
             d.save did);
       })
 
-  pub resumes_stop_rows : (words : List Text) (rows : List Row) (r : Resuming) (old new : Held) (e : Ending) → Requests words (Resume r) → Asks words (codes "resume") rows
+  pub resumes_stop_rows : (words : List Text) (rows : List Row) (r : Resuming) (old new : Files) (e : Ending) → Requests words (Resume r) → Asks words (codes "resume") rows
       → ResumeEarly old new e ⊎ ResumesHere r old new e → FailsToResume IsPorts rows old new e
   resumes_stop_rows words rows r old new e (name, given, asked, request) asks did =
       subst (λ (t : List Row). FailsToResume IsPorts t old new e) (one_command words name (codes "resume") given rows asked asks) (resumes_stop_given given r old new e request.1 did)

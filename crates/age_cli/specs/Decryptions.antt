@@ -5,7 +5,7 @@ use Rattle.age_file.specs.Ports.{Ports}
 use Rattle.age_file.specs.Decrypts.{Run, DecryptDone}
 use Rattle.age_cli.specs.declared.identity.Identity.{Identity}
 use Rattle.age_cli.specs.Identities.{Options, options_of, allows_by, OpensBy}
-use Rattle.age_cli.specs.Held.{Held, SparesBut}
+use Rattle.age_cli.specs.Files.{Files, SparesBut}
 
 -- the engine's promise for the input's bytes and what opens them, of what the output then holds
 pub record DecryptsOut (identity : Identity) (input output : Option (List ℕ)) : Type 0 where
@@ -13,13 +13,13 @@ pub record DecryptsOut (identity : Identity) (input output : Option (List ℕ)) 
   pub after : Ports
   pub run : Run
   pub written : ℕ
-  pub coming : input ≡ before.coming
-  pub empty : before.taken ≡ Some []
+  pub coming : input ≡ before.source.remaining
+  pub empty : before.sink.taken ≡ Some []
   pub done : DecryptDone (allows_by identity) before after written run
-  pub taken : output ≡ after.taken
+  pub taken : output ≡ after.sink.taken
 
 -- of what stands under these names
-pub record DecryptsFile (options : Options) (from to : Text) (old new : Held) : Type 0 where
+pub record DecryptsFile (options : Options) (from to : Text) (old new : Files) : Type 0 where
   pub identity : Identity
   pub opens : OpensBy old options identity
   pub there : is_some (old from) ≡ true
@@ -27,7 +27,7 @@ pub record DecryptsFile (options : Options) (from to : Text) (old new : Held) : 
   pub others : SparesBut to old new
 
 -- of what the arguments give
-pub record DecryptsRows (rows : List Row) (old new : Held) : Type 0 where
+pub record DecryptsRows (rows : List Row) (old new : Files) : Type 0 where
   pub from : Text
   pub to : Text
   pub from_is : first_of (codes "IN") rows ≡ Some from

@@ -7,7 +7,7 @@ use Rattle.age_file.specs.Encrypts.{Encrypts}
 use Rattle.age_file.specs.declared.encryption.Written.{Written}
 use Rattle.age_commands.specs.Requests.{number_or}
 use Rattle.age_cli.specs.Identities.{IsPassphraseIn}
-use Rattle.age_cli.specs.Held.{Held, SparesBut}
+use Rattle.age_cli.specs.Files.{Files, SparesBut}
 
 -- the first 48 bytes of a file: the file key, the stanza's salt and the payload nonce
 pub record IsRandomIn (held : Option (List ℕ)) (s : SecretView) : Type 0 where
@@ -27,14 +27,14 @@ pub record EncryptsOut (s : SecretView) (input output : Option (List ℕ)) : Typ
   pub before : Ports
   pub after : Ports
   pub written : Written
-  pub coming : input ≡ before.coming
-  pub empty : before.taken ≡ Some []
+  pub coming : input ≡ before.source.remaining
+  pub empty : before.sink.taken ≡ Some []
   pub done : Encrypts s before after written
-  pub taken : output ≡ after.taken
+  pub taken : output ≡ after.sink.taken
 
 -- the passphrase and the random bytes that stand under these names, and the work factor, make the
 -- secret
-pub record MakesSecret (pass : Text) (log : ℕ) (random : Option Text) (old : Held)
+pub record MakesSecret (pass : Text) (log : ℕ) (random : Option Text) (old : Files)
     (secret : SecretView) : Type 0 where
   pub passphrase : IsPassphraseIn (old pass) secret.pass
   pub log_is : secret.log ≡ log
@@ -43,7 +43,7 @@ pub record MakesSecret (pass : Text) (log : ℕ) (random : Option Text) (old : H
 
 -- of what stands under the names that are asked for
 pub record EncryptsFile (pass : Text) (log : ℕ) (random : Option Text) (from to : Text)
-    (old new : Held) : Type 0 where
+    (old new : Files) : Type 0 where
   pub secret : SecretView
   pub made : MakesSecret pass log random old secret
   pub there : is_some (old from) ≡ true
@@ -51,7 +51,7 @@ pub record EncryptsFile (pass : Text) (log : ℕ) (random : Option Text) (from t
   pub others : SparesBut to old new
 
 -- the same, of what the words give for each argument
-pub record EncryptsRows (rows : List Row) (old new : Held) : Type 0 where
+pub record EncryptsRows (rows : List Row) (old new : Files) : Type 0 where
   pub pass : Text
   pub from : Text
   pub to : Text

@@ -10,7 +10,7 @@ use Rattle.age_file.specs.Decrypts.{Run, IsAuthenticRun}
 use Rattle.age_file.specs.Verdicts.{HasId, HasTag}
 use Rattle.age_file.specs.Resumes.{Resumption, segment_at}
 use Rattle.age_file.specs.declared.position.Position.{Position}
-use Rattle.age_cli.specs.Held.{Held}
+use Rattle.age_cli.specs.Files.{Files}
 use Rattle.age_cli.specs.declared.identity.Identity.{Identity}
 use Rattle.age_cli.specs.Identities.{options_of, allows_by, OpensBy}
 use Rattle.age_cli.specs.Resumptions.{IsPositionIn}
@@ -26,7 +26,7 @@ pub record IsRead (identity : Identity) (input : Option (List ℕ)) (r : Run) : 
   pub whole : r.ended ≡ true → rest ≡ []
 
 -- no block of IN opens except as the writer of this text sealed it, however much of IN is read
-abbrev pub IsWritersInput : List Row → Held → List ℕ → Type 0
+abbrev pub IsWritersInput : List Row → Files → List ℕ → Type 0
 IsWritersInput rows old text =
     (from : Text) (identity : Identity) → first_of (codes "IN") rows ≡ Some from
     → OpensBy old (options_of rows) identity → (r : Run) → IsRead identity (old from) r → IsAuthenticRun r text
@@ -37,7 +37,7 @@ HoldsNoMore old new text =
     (new ≡ old) ⊎ ((held : List ℕ) × (new ≡ Some held) × IsPrefixOf held text)
 
 -- whatever the status, OUT is so; and with status 0 it holds all of the text
-pub record KeepsOut (rows : List Row) (old new : Held) (status : ℕ) (text : List ℕ) : Type 0 where
+pub record KeepsOut (rows : List Row) (old new : Files) (status : ℕ) (text : List ℕ) : Type 0 where
   pub safe : (to : Text) → first_of (codes "OUT") rows ≡ Some to
       → HoldsNoMore (old to) (new to) text
   pub whole : (to : Text) → first_of (codes "OUT") rows ≡ Some to → status ≡ 0
@@ -62,7 +62,7 @@ pub record IsReadOn (identity : Identity) (p : Position) (input : Option (List �
 
 -- no block of IN after the position opens except as the writer of this text sealed it, however much
 -- of IN is read
-abbrev pub IsWritersRest : List Row → Held → Position → List ℕ → Type 0
+abbrev pub IsWritersRest : List Row → Files → Position → List ℕ → Type 0
 IsWritersRest rows old p text =
     (from : Text) (identity : Identity) → first_of (codes "IN") rows ≡ Some from
     → OpensBy old (options_of rows) identity → (r : Resumption) → IsReadOn identity p (old from) r
@@ -70,13 +70,13 @@ IsWritersRest rows old p text =
     (segment_at p r)
 
 -- the file of `--old` begins with the chunks of this text before the position
-abbrev pub IsWritersOld : List Row → Held → Position → List ℕ → Type 0
+abbrev pub IsWritersOld : List Row → Files → Position → List ℕ → Type 0
 IsWritersOld rows old p text =
     (name : Text) (all : List ℕ) → first_of (codes "old") rows ≡ Some name → old name ≡ Some all
     → (p.index * 65536 ≤ length text) × IsPrefixOf (take (p.index * 65536) text) all
 
 -- both, for the position in the file of `--position`
-pub record IsWritersResumption (rows : List Row) (old : Held) (text : List ℕ) : Type 0 where
+pub record IsWritersResumption (rows : List Row) (old : Files) (text : List ℕ) : Type 0 where
   pub few : chunk_count 65536 text ≤ 281474976710656
   pub old_text : (name : Text) (p : Position) → first_of (codes "position") rows ≡ Some name
       → IsPositionIn (old name) p → IsWritersOld rows old p text

@@ -8,7 +8,7 @@ use Rattle.age_keys.specs.Passphrase.{IsAllowed, IsPassphraseKey, PassphraseRefu
 use Rattle.age_keys.specs.SharedSecret.{Shared, IsSharedKey, SharedRefuses}
 use Rattle.age_cli.specs.declared.identity.Identity.{Identity}
 use Rattle.age_cli.specs.declared.identity.Identity.TheVariants.{ByPassphrase, ByFileKey, ByShared}
-use Rattle.age_cli.specs.Held.{Held}
+use Rattle.age_cli.specs.Files.{Files}
 use Rattle.age_commands.specs.Requests.{number_or}
 
 -- the keys that a passphrase with its limit, a file key or a shared secret may find in a header,
@@ -40,7 +40,7 @@ pub record IsSharedIn (held : Option (List ℕ)) (shared : Shared) : Type 0 wher
   pub recipient_length : length shared.recipient ≡ 32
 
 -- the one option that says what opens the file, and the file that it names, make this
-abbrev pub IsIdentity : Held → Option Text → Option Text → Option Text → ℕ → Identity → Type 0
+abbrev pub IsIdentity : Files → Option Text → Option Text → Option Text → ℕ → Identity → Type 0
 IsIdentity old (Some pass) None None max_log (ByPassphrase words) = IsPassphraseIn (old pass) words.pass
     × (words.max_log ≡ max_log) × IsAllowed words.pass words.max_log
 IsIdentity old None (Some digits) None max_log (ByFileKey known) = SpellsKey digits known
@@ -63,5 +63,5 @@ options_of rows = record {
 }
 
 -- the options, and the file that they name, make what opens the input
-abbrev pub OpensBy : Held → Options → Identity → Type 0
+abbrev pub OpensBy : Files → Options → Identity → Type 0
 OpensBy old o identity = IsIdentity old o.pass o.file_key o.shared o.max_log identity

@@ -4,7 +4,7 @@ pub mod Endings
 pub mod FaultLines
 pub mod ReportTexts
 pub mod Runs
-pub mod Held
+pub mod Files
 pub mod Identities
 pub mod Encryptions
 pub mod Decryptions

@@ -5,7 +5,7 @@ use Rattle.std.specs.Prelude.{◌≡◌, ℕ, Bool, true, List, [], ◌++◌, Op
 use Rattle.clap.specs.Words.{Row, Text, first_of}
 use Rattle.age_file.specs.Ports.{Ports}
 use Rattle.age_commands.specs.Asked.{Asks}
-use Rattle.age_cli.specs.Held.{Held, Spares}
+use Rattle.age_cli.specs.Files.{Files, Spares}
 use Rattle.age_cli.specs.Runs.{Inspects}
 use Rattle.age_cli.specs.Encryptions.{EncryptsRows}
 use Rattle.age_cli.specs.Decryptions.{DecryptsRows}
@@ -17,7 +17,7 @@ use Rattle.age_cli.specs.Orders.{order_of}
 use Rattle.age_cli.specs.declared.ending.Ending.{Ending}
 
 -- of the entries, at the call and at the end
-module _ (words : List Text) (tells : Bool) (old new : Held) where
+module _ (words : List Text) (tells : Bool) (old new : Files) where
   abbrev pub Encrypting : (Type 0 → Type 0) → Type 0
   Encrypting Done = (rows : List Row) → Asks words (codes "encrypt") rows
       → Done (tells ≡ true → EncryptsRows rows old new)
@@ -35,7 +35,7 @@ module _ (words : List Text) (tells : Bool) (old new : Held) where
       → Spares rows old new
 
 -- and of what it stopped by, with the ports of the set's files
-module _ (words : List Text) (tells : Bool) (old new : Held) (IsPorts : Ports → Type 0)
+module _ (words : List Text) (tells : Bool) (old new : Files) (IsPorts : Ports → Type 0)
     (Stopped : (Ending → Type 0) → Type 0) where
   abbrev pub EncryptingStops : Type 0
   EncryptingStops = (rows : List Row) → Asks words (codes "encrypt") rows → tells ≡ true
@@ -50,7 +50,7 @@ module _ (words : List Text) (tells : Bool) (old new : Held) (IsPorts : Ports �
       → Stopped (FailsToResume IsPorts rows old new)
 
 -- of the report of a file, or of the input
-abbrev pub Inspecting : List Text → Bool → Held → Option (List ℕ) → Option (List ℕ) → Option (List ℕ)
+abbrev pub Inspecting : List Text → Bool → Files → Option (List ℕ) → Option (List ℕ) → Option (List ℕ)
     → Option (List ℕ) → (Type 0 → Type 0) → Type 0
 Inspecting words tells old input_old input_new output_old output_new Done =
     (rows : List Row) → Asks words (codes "inspect") rows

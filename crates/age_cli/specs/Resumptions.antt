@@ -6,7 +6,7 @@ use Rattle.age_file.specs.PositionTexts.{position_text}
 use Rattle.age_file.specs.Resumes.{ResumePorts, Resumption, ResumeDone}
 use Rattle.age_cli.specs.declared.identity.Identity.{Identity}
 use Rattle.age_cli.specs.Identities.{Options, options_of, allows_by, OpensBy}
-use Rattle.age_cli.specs.Held.{Held, SparesBut}
+use Rattle.age_cli.specs.Files.{Files, SparesBut}
 
 -- the position in a file
 abbrev pub IsPositionIn : Option (List ℕ) → Position → Type 0
@@ -20,15 +20,15 @@ pub record ResumesOut (identity : Identity) (position : Position)
   pub after : ResumePorts
   pub run : Resumption
   pub written : ℕ
-  pub coming : input ≡ before.main.coming
-  pub old_coming : old_text ≡ before.old_coming
-  pub empty : before.main.taken ≡ Some []
+  pub coming : input ≡ before.main.source.remaining
+  pub old_coming : old_text ≡ before.old.remaining
+  pub empty : before.main.sink.taken ≡ Some []
   pub done : ResumeDone (allows_by identity) position before after written run
-  pub taken : output ≡ after.main.taken
+  pub taken : output ≡ after.main.sink.taken
 
 -- of what stands under these names
 pub record ResumesFile (options : Options) (position_name old_name from to : Text)
-    (old new : Held) : Type 0 where
+    (old new : Files) : Type 0 where
   pub identity : Identity
   pub position : Position
   pub opens : OpensBy old options identity
@@ -39,7 +39,7 @@ pub record ResumesFile (options : Options) (position_name old_name from to : Tex
   pub others : SparesBut to old new
 
 -- of what the arguments give
-pub record ResumesRows (rows : List Row) (old new : Held) : Type 0 where
+pub record ResumesRows (rows : List Row) (old new : Files) : Type 0 where
   pub position_name : Text
   pub old_name : Text
   pub from : Text

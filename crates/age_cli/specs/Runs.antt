@@ -5,7 +5,7 @@ use Rattle.clap.specs.Words.{Text}
 use Rattle.age_file.specs.declared.report.Report.{Report}
 use Rattle.age_file.specs.Reports.{IsReport}
 use Rattle.age_file.specs.Reports as file
-use Rattle.age_cli.specs.Held.{Held}
+use Rattle.age_cli.specs.Files.{Files}
 use Rattle.age_cli.specs.ReportTexts.{report_text}
 
 -- the input was read to its end, and its report was written
@@ -25,7 +25,7 @@ ReportsFile tells held output_old output_new =
     × Appends output_old output_new (report_text r)
 
 -- the report of the input, or of the file of this name
-abbrev pub Inspects : Option Text → Bool → Held → Option (List ℕ) → Option (List ℕ)
+abbrev pub Inspects : Option Text → Bool → Files → Option (List ℕ) → Option (List ℕ)
     → Option (List ℕ) → Option (List ℕ) → Type 0
 Inspects None tells entry input_old input_new output_old output_new =
     Reports input_old input_new output_old output_new

@@ -1,6 +1,7 @@
 -- What stands in the files where a command stopped.
 use Rattle.std.specs.Prelude.{◌≡◌, ◌⊎◌, ℕ, true, List, [], is_some, Option, Some, None, codes}
 use Rattle.clap.specs.Words.{Row, Text, first_of, one_of}
+use Rattle.age_io.specs.Views.{SourceView, SinkView}
 use Rattle.age_file.specs.Ports.{Ports, ports}
 use Rattle.age_file.specs.Secrets.{SecretView}
 use Rattle.age_file.specs.Encrypts.{EncryptFails}
@@ -17,7 +18,7 @@ use Rattle.age_cli.specs.Encryptions.{MakesSecret}
 use Rattle.age_commands.specs.Requests.{number_or}
 use Rattle.age_cli.specs.Endings.{EndsEarly, status_of}
 use Rattle.age_cli.specs.FaultLines.{TellsEnding}
-use Rattle.age_cli.specs.Held.{Held}
+use Rattle.age_cli.specs.Files.{Files}
 use Rattle.age_cli.specs.declared.identity.Identity.{Identity}
 use Rattle.age_cli.specs.Identities.{Options, options_of, allows_by, refuses_by, OpensBy}
 use Rattle.age_cli.specs.Resumptions.{IsPositionIn}
@@ -36,19 +37,19 @@ kept_for (Some name) = Kept
 kept_for None = Dropped
 
 -- the file of `--save` holds the position; without a position it is as it was
-abbrev pub IsSaved : Option Text → Option Position → Held → Held → Type 0
+abbrev pub IsSaved : Option Text → Option Position → Files → Files → Type 0
 IsSaved (Some name) (Some position) old new = new name ≡ Some (position_text position)
 IsSaved (Some name) None old new = new name ≡ old name
 IsSaved None position old new = Unit {0}
 
 -- there is a position to save, and the file of `--save` is as it was
-abbrev pub SaveFails : Option Text → Option Position → Held → Held → Type 0
+abbrev pub SaveFails : Option Text → Option Position → Files → Files → Type 0
 SaveFails (Some name) (Some position) old new = new name ≡ old name
 SaveFails name position old new = ⊥
 
 -- the fault is reported, and the position is saved; or it is reported with that of a save that
 -- failed
-abbrev pub EndsOf : FileFault → Option Text → Option Position → Held → Held → Ending → Type 0
+abbrev pub EndsOf : FileFault → Option Text → Option Position → Files → Files → Ending → Type 0
 EndsOf fault name position old new (Fault f) = (f ≡ fault) × IsSaved name position old new
 EndsOf fault name position old new (Unsaved f second) = (f ≡ fault) × SaveFails name position old new
 EndsOf fault name position old new e = ⊥
@@ -72,11 +73,11 @@ SealedOutStops Engine old new fault =
     ⊎ ((new ≡ old) × (fault ≡ Write))
 
 -- the ports of a source and a sink of one set of files: what they tell, and how often they failed
-pub record PortsOf {In Out : Type 0} (remaining : In → Option (List ℕ)) (read_failed : In → ℕ)
-    (taken : Out → Option (List ℕ)) (write_failed : Out → ℕ) (p : Ports) : Type 0 where
+pub record PortsOf {In Out : Type 0} (read : In → SourceView) (wrote : Out → SinkView) (p : Ports)
+    : Type 0 where
   pub source : In
   pub sink : Out
-  pub is : p ≡ ports (remaining source) (read_failed source) (taken sink) (write_failed sink)
+  pub is : p ≡ ports (read source) (wrote sink)
 
 -- what an engine promises where it stops, of the bytes that the names stood for, whose ports are
 -- those of files of the set
@@ -87,10 +88,10 @@ module _ (IsPorts : Ports → Type 0) where
     pub after : Ports
     pub before_is : IsPorts before
     pub after_is : IsPorts after
-    pub coming : input ≡ before.coming
-    pub empty : before.taken ≡ Some []
+    pub coming : input ≡ before.source.remaining
+    pub empty : before.sink.taken ≡ Some []
     pub fails : EncryptFails secret before after fault
-    pub took : taken ≡ after.taken
+    pub took : taken ≡ after.sink.taken
 
   pub record DecryptionStop (keep : Positions) (identity : Identity) (input : Option (List ℕ))
       (position : Option Position) (fault : FileFault) (written : ℕ) (taken : Option (List ℕ))
@@ -99,11 +100,11 @@ module _ (IsPorts : Ports → Type 0) where
     pub after : Ports
     pub before_is : IsPorts before
     pub after_is : IsPorts after
-    pub coming : input ≡ before.coming
-    pub empty : before.taken ≡ Some []
+    pub coming : input ≡ before.source.remaining
+    pub empty : before.sink.taken ≡ Some []
     pub fails : DecryptFails keep (allows_by identity) (refuses_by identity) before after written
         position fault
-    pub took : taken ≡ after.taken
+    pub took : taken ≡ after.sink.taken
 
   pub record ResumptionStop (keep : Positions) (identity : Identity) (from : Position)
       (input old_text : Option (List ℕ)) (position : Option Position) (fault : FileFault)
@@ -112,24 +113,18 @@ module _ (IsPorts : Ports → Type 0) where
     pub after : ResumePorts
     pub before_is : IsPorts before.main
     pub after_is : IsPorts after.main
-    pub old_before_is : IsPorts (record before.main {
-      coming = before.old_coming;
-      read_failed = before.old_failed;
-    })
-    pub old_after_is : IsPorts (record after.main {
-      coming = after.old_coming;
-      read_failed = after.old_failed;
-    })
-    pub coming : input ≡ before.main.coming
-    pub old_coming : old_text ≡ before.old_coming
-    pub empty : before.main.taken ≡ Some []
+    pub old_before_is : IsPorts (ports before.old before.main.sink)
+    pub old_after_is : IsPorts (ports after.old after.main.sink)
+    pub coming : input ≡ before.main.source.remaining
+    pub old_coming : old_text ≡ before.old.remaining
+    pub empty : before.main.sink.taken ≡ Some []
     pub fails : ResumeFails keep (allows_by identity) from (refuses_by identity) before after written
         position fault
-    pub took : taken ≡ after.main.taken
+    pub took : taken ≡ after.main.sink.taken
 
   -- `encrypt` stopped with its output created
   pub record EncryptsStop (pass : Text) (log : ℕ) (random : Option Text) (from to : Text)
-      (old new : Held) (e : Ending) : Type 0 where
+      (old new : Files) (e : Ending) : Type 0 where
     pub secret : SecretView
     pub made : MakesSecret pass log random old secret
     pub there : is_some (old from) ≡ true
@@ -139,7 +134,7 @@ module _ (IsPorts : Ports → Type 0) where
 
   -- `decrypt` stopped with its output created
   pub record DecryptsStop (options : Options) (from to : Text) (save : Option Text)
-      (old new : Held) (e : Ending) : Type 0 where
+      (old new : Files) (e : Ending) : Type 0 where
     pub identity : Identity
     pub opens : OpensBy old options identity
     pub there : is_some (old from) ≡ true
@@ -151,7 +146,7 @@ module _ (IsPorts : Ports → Type 0) where
 
   -- `resume` stopped with its output created
   pub record ResumesStop (options : Options) (position_name old_name from to : Text)
-      (save : Option Text) (old new : Held) (e : Ending) : Type 0 where
+      (save : Option Text) (old new : Files) (e : Ending) : Type 0 where
     pub identity : Identity
     pub opens : OpensBy old options identity
     pub from_position : Position
@@ -167,7 +162,7 @@ module _ (IsPorts : Ports → Type 0) where
 
   -- nothing differs, where a command ends before its output is written; or it stopped there. Of
   -- what the arguments give
-  pub record EncryptsStopRows (rows : List Row) (old new : Held) (e : Ending) : Type 0 where
+  pub record EncryptsStopRows (rows : List Row) (old new : Files) (e : Ending) : Type 0 where
     pub pass : Text
     pub from : Text
     pub to : Text
@@ -177,14 +172,14 @@ module _ (IsPorts : Ports → Type 0) where
     pub stops : EncryptsStop pass (number_or 18 (one_of (codes "log") rows))
         (first_of (codes "random") rows) from to old new e
 
-  pub record DecryptsStopRows (rows : List Row) (old new : Held) (e : Ending) : Type 0 where
+  pub record DecryptsStopRows (rows : List Row) (old new : Files) (e : Ending) : Type 0 where
     pub from : Text
     pub to : Text
     pub from_is : first_of (codes "IN") rows ≡ Some from
     pub to_is : first_of (codes "OUT") rows ≡ Some to
     pub stops : DecryptsStop (options_of rows) from to (first_of (codes "save") rows) old new e
 
-  pub record ResumesStopRows (rows : List Row) (old new : Held) (e : Ending) : Type 0 where
+  pub record ResumesStopRows (rows : List Row) (old new : Files) (e : Ending) : Type 0 where
     pub position_name : Text
     pub old_name : Text
     pub from : Text
@@ -196,13 +191,13 @@ module _ (IsPorts : Ports → Type 0) where
     pub stops : ResumesStop (options_of rows) position_name old_name from to
         (first_of (codes "save") rows) old new e
 
-  abbrev pub FailsToEncrypt : List Row → Held → Held → Ending → Type 0
+  abbrev pub FailsToEncrypt : List Row → Files → Files → Ending → Type 0
   FailsToEncrypt rows old new e = ((new ≡ old) × EndsEarly e) ⊎ EncryptsStopRows rows old new e
 
-  abbrev pub FailsToDecrypt : List Row → Held → Held → Ending → Type 0
+  abbrev pub FailsToDecrypt : List Row → Files → Files → Ending → Type 0
   FailsToDecrypt rows old new e = ((new ≡ old) × EndsEarly e) ⊎ DecryptsStopRows rows old new e
 
-  abbrev pub FailsToResume : List Row → Held → Held → Ending → Type 0
+  abbrev pub FailsToResume : List Row → Files → Files → Ending → Type 0
   FailsToResume rows old new e = ((new ≡ old) × (EndsEarly e ⊎ (e ≡ Fault BadPosition)))
       ⊎ ResumesStopRows rows old new e
 

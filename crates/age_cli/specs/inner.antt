@@ -1,6 +1,6 @@
 pub mod Asking
 pub mod Endings
 pub mod Fronts
-pub mod Held
+pub mod Files
 pub mod IdentitySteps
 pub mod Randoms

@@ -11,7 +11,7 @@ ghost use Rattle.age_commands.specs.Requests.{text_of};
 ghost use Rattle.age_cli.specs.inner.IdentitySteps.{options_asked};
 ghost use Rattle.age_cli.specs.Decryptions.{DecryptsOut, DecryptsFile};
 ghost use Rattle.age_cli.specs.Endings.{EndsEarly, is_usage};
-ghost use Rattle.age_cli.specs.Held.{SparesBut, SparesBoth};
+ghost use Rattle.age_cli.specs.Files.{SparesBut, SparesBoth};
 
 use crate::ending::{Ending, Usage};
 use crate::identity::{Identity, identity_of, read_secret, secret_file};
@@ -35,16 +35,16 @@ fn write_out<F: FileSet>(
     durability: Durability,
 ) -> Result<(), Stop>
     ensures told { F.tells files.new ≡ F.tells files.old }
-    ensures done { OnOk result (F.tells files.old ≡ true → F.Out.taken out ≡ Some []
-        → DecryptsOut identity.now (F.In.remaining source.old)
-        (F.entry files.new (F.Out.label out))) }
-    ensures stops { IfErr result (λ stop. F.tells files.old ≡ true → F.Out.taken out ≡ Some []
+    ensures done { OnOk result (F.tells files.old ≡ true → (F.Out.view out).taken ≡ Some []
+        → DecryptsOut identity.now (F.In.view source.old).remaining
+        (F.entry files.new (F.Out.view out).label)) }
+    ensures stops { IfErr result (λ stop. F.tells files.old ≡ true → (F.Out.view out).taken ≡ Some []
         → OutStops
-        (DecryptionStop (PortsOf F.In.remaining F.In.failed F.Out.taken F.Out.failed) positions
-        identity.now (F.In.remaining source.old) stop.position stop.fault)
-        (F.entry files.old (F.Out.label out)) (F.entry files.new (F.Out.label out)) stop.position
+        (DecryptionStop (PortsOf F.In.view F.Out.view) positions
+        identity.now (F.In.view source.old).remaining stop.position stop.fault)
+        (F.entry files.old (F.Out.view out).label) (F.entry files.new (F.Out.view out).label) stop.position
         stop.fault) }
-    ensures others { SparesBut (F.Out.label out) (F.entry files.old) (F.entry files.new) }
+    ensures others { SparesBut (F.Out.view out).label (F.entry files.old) (F.entry files.new) }
     ensures noted { F.events files.new ≡ F.events files.old ++ Closed ∷ [] }
 {
     match decrypt_with(alloc, positions, identity, source, &mut out) {
@@ -125,7 +125,7 @@ pub(crate) fn decrypt_file<F: FileSet>(
         (F.entry files.old) (F.entry files.new)) }
     ensures stops { IfErr result (λ e. F.tells files.old ≡ true
         → ((F.entry files.new ≡ F.entry files.old) × EndsEarly e)
-        ⊎ DecryptsStop (PortsOf F.In.remaining F.In.failed F.Out.taken F.Out.failed)
+        ⊎ DecryptsStop (PortsOf F.In.view F.Out.view)
         (options_asked asked.now.unlocking) asked.now.from.now asked.now.to.now
         (text_of asked.now.save) (F.entry files.old) (F.entry files.new) e) }
     ensures usage { IfErr result (λ e. is_usage e ≡ true → F.entry files.new ≡ F.entry files.old) }

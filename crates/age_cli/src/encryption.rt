@@ -10,7 +10,7 @@ ghost use Rattle.age_cli.specs.Encryptions.{random_name, EncryptsOut, EncryptsFi
 ghost use Rattle.age_cli.specs.inner.Randoms.{IsRandom};
 ghost use Rattle.age_cli.specs.Endings.{EndsEarly, is_usage};
 ghost use Rattle.age_cli.specs.Stops.{EncryptionStop, EncryptsStop, Leaves, PortsOf, SealedOutStops};
-ghost use Rattle.age_cli.specs.Held.{SparesBut};
+ghost use Rattle.age_cli.specs.Files.{SparesBut};
 ghost use Rattle.age_file.specs.declared.fault.FileFault.TheVariants.{Memory};
 
 use crate::ending::{Ending, Usage};
@@ -68,10 +68,10 @@ fn read_random<F: FileSet>(alloc: Global, files: &mut F, name: &str) -> Result<R
 /// Ends the output of an encryption that stopped: as it was, where memory was refused, for nothing
 /// is written then; else with what was written.
 fn leave_sealed<F: FileSet>(files: &mut F, out: F::Out, fault: FileFault, durability: Durability)
-    ensures held { F.tells files.old ≡ true → (fault ≡ Memory → F.Out.taken out ≡ Some [])
-        → Leaves (fault ≡ Memory) (F.Out.taken out) (F.entry files.old (F.Out.label out))
-        (F.entry files.new (F.Out.label out)) }
-    ensures others { SparesBut (F.Out.label out) (F.entry files.old) (F.entry files.new) }
+    ensures held { F.tells files.old ≡ true → (fault ≡ Memory → (F.Out.view out).taken ≡ Some [])
+        → Leaves (fault ≡ Memory) (F.Out.view out).taken (F.entry files.old (F.Out.view out).label)
+        (F.entry files.new (F.Out.view out).label) }
+    ensures others { SparesBut (F.Out.view out).label (F.entry files.old) (F.entry files.new) }
     ensures noted { F.events files.new ≡ F.events files.old ++ Closed ∷ [] }
 {
     match fault {
@@ -91,15 +91,15 @@ fn write_out<F: FileSet>(
     mut out: F::Out,
     durability: Durability,
 ) -> Result<(), FileFault>
-    ensures done { OnOk result (F.tells files.old ≡ true → F.Out.taken out ≡ Some []
-        → EncryptsOut secret.now (F.In.remaining source.old)
-        (F.entry files.new (F.Out.label out))) }
-    ensures stops { IfErr result (λ fault. F.tells files.old ≡ true → F.Out.taken out ≡ Some []
+    ensures done { OnOk result (F.tells files.old ≡ true → (F.Out.view out).taken ≡ Some []
+        → EncryptsOut secret.now (F.In.view source.old).remaining
+        (F.entry files.new (F.Out.view out).label)) }
+    ensures stops { IfErr result (λ fault. F.tells files.old ≡ true → (F.Out.view out).taken ≡ Some []
         → SealedOutStops
-        (EncryptionStop (PortsOf F.In.remaining F.In.failed F.Out.taken F.Out.failed) secret.now
-        (F.In.remaining source.old) fault)
-        (F.entry files.old (F.Out.label out)) (F.entry files.new (F.Out.label out)) fault) }
-    ensures others { SparesBut (F.Out.label out) (F.entry files.old) (F.entry files.new) }
+        (EncryptionStop (PortsOf F.In.view F.Out.view) secret.now
+        (F.In.view source.old).remaining fault)
+        (F.entry files.old (F.Out.view out).label) (F.entry files.new (F.Out.view out).label) fault) }
+    ensures others { SparesBut (F.Out.view out).label (F.entry files.old) (F.entry files.new) }
     ensures noted { F.events files.new ≡ F.events files.old ++ Closed ∷ [] }
 {
     match encrypt(alloc, secret, source, &mut out) {
@@ -147,7 +147,7 @@ pub(crate) fn encrypt_file<F: FileSet>(
         asked.now.from.now asked.now.to.now (F.entry files.old) (F.entry files.new)) }
     ensures stops { IfErr result (λ e. F.tells files.old ≡ true
         → ((F.entry files.new ≡ F.entry files.old) × EndsEarly e)
-        ⊎ EncryptsStop (PortsOf F.In.remaining F.In.failed F.Out.taken F.Out.failed)
+        ⊎ EncryptsStop (PortsOf F.In.view F.Out.view)
         asked.now.pass.now asked.now.log (text_of asked.now.random) asked.now.from.now
         asked.now.to.now (F.entry files.old) (F.entry files.new) e) }
     ensures usage { IfErr result (λ e. is_usage e ≡ true → F.entry files.new ≡ F.entry files.old) }

@@ -22,8 +22,8 @@ fn pull_some<S: Source>(
     requires room { most ≤ 4096 }
     ensures count { IfOk result (λ n. n ≤ most) }
     ensures bytes { IfOk result
-        (λ n. Consumes (S.remaining source.old) (S.remaining source.new) (take n buffer.new)) }
-    ensures ended { IfOk result (λ n. n ≡ 0 → IsAtEnd (S.remaining source.new)) }
+        (λ n. Consumes (S.view source.old).remaining (S.view source.new).remaining (take n buffer.new)) }
+    ensures ended { IfOk result (λ n. n ≡ 0 → IsAtEnd (S.view source.new).remaining) }
     ensures fault { IfErr result (λ f. f ≡ Read) }
 {
     match source.pull(&mut buffer[..most]) {
@@ -42,7 +42,7 @@ pub(crate) fn fill_front<S: Source>(
 ) -> Result<(), FileFault>
     requires { held.old.items ≡ [] }
     ensures front { OnOk result
-        (IsFront (S.remaining source.old) (S.remaining source.new) most held.new.items) }
+        (IsFront (S.view source.old).remaining (S.view source.new).remaining most held.new.items) }
     ensures faults { IfErr result (IsMemoryOr Read) }
 {
     let mut buffer = [0; ROOM];
@@ -64,7 +64,7 @@ pub(crate) fn read_front<S: Source>(
     most: usize,
 ) -> Result<Vec<u8>, FileFault>
     ensures front { IfOk result
-        (λ v. IsFront (S.remaining source.old) (S.remaining source.new) most v.items) }
+        (λ v. IsFront (S.view source.old).remaining (S.view source.new).remaining most v.items) }
     ensures faults { IfErr result (IsMemoryOr Read) }
 {
     let mut held = Vec::new(alloc);
@@ -81,8 +81,8 @@ pub(crate) fn read_up_to<S: Source>(
 ) -> Result<Option<Vec<u8>>, FileFault>
     requires { most < 2 ^ 32 }
     ensures all { IfOk result
-        (λ o. IfSome o (λ v. Consumes (S.remaining source.old) (S.remaining source.new) v.items
-        × IsAtEnd (S.remaining source.new))) }
+        (λ o. IfSome o (λ v. Consumes (S.view source.old).remaining (S.view source.new).remaining v.items
+        × IsAtEnd (S.view source.new).remaining)) }
     ensures faults { IfErr result (IsMemoryOr Read) }
 {
     let front = read_front(alloc, source, most + 1)?;

@@ -7,7 +7,7 @@ ghost use Rattle.age_cli.specs.Endings.{EndsEarly};
 ghost use Rattle.age_fileset.specs.Events.{Opened};
 ghost use Rattle.age_cli.specs.EventOrders.{opening, identity_order};
 ghost use Rattle.age_fileset.specs.FileSet.{IsMemoryOr};
-ghost use Rattle.age_cli.specs.Held.{Held};
+ghost use Rattle.age_cli.specs.Files.{Files};
 ghost use Rattle.age_cli.specs.Identities.{without_line_feed, IsPassphraseIn, IsSharedIn, OpensBy};
 ghost use Rattle.age_cli.specs.inner.IdentitySteps.{bytes_of, options_asked, secret_name, IsSecretIn};
 ghost use Rattle.age_commands.specs.Requests.{text_of};
@@ -159,7 +159,7 @@ pub(crate) fn identity_of<'a>(
     asked: &Unlocking<'_>,
     secret: &'a Option<Vec<u8>>,
 ) -> Result<Identity<'a>, Usage>
-    ensures { IfOk result (λ identity. (old : Held)
+    ensures { IfOk result (λ identity. (old : Files)
         → IsSecretIn old (secret_name asked.now) (bytes_of secret.now)
         → OpensBy old (options_asked asked.now) identity) }
 {

@@ -18,8 +18,8 @@ pub(crate) fn report<I: Source, O: Sink>(
     output: &mut O,
 ) -> Result<(), FileFault>
     ensures { OnOk result
-        (Reports (I.remaining input.old) (I.remaining input.new) (O.taken output.old)
-        (O.taken output.new)) }
+        (Reports (I.view input.old).remaining (I.view input.new).remaining (O.view output.old).taken
+        (O.view output.new).taken) }
 {
     let found = inspect(alloc, input)?;
     let text = text_of(alloc, &found)?;
@@ -37,7 +37,7 @@ pub(crate) fn report_file<F: FileSet, O: Sink>(
     ensures kept { F.entry files.new ≡ F.entry files.old }
     ensures noted { F.events files.new ≡ F.events files.old ++ Opened name.now ∷ [] }
     ensures done { OnOk result (ReportsFile (F.tells files.old) (F.entry files.old name.now)
-        (O.taken output.old) (O.taken output.new)) }
+        (O.view output.old).taken (O.view output.new).taken) }
     ensures fault { IfErr result (λ e. is_usage e ≡ false) }
 {
     let mut source = files.open(alloc, name)?;

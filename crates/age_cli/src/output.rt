@@ -34,7 +34,7 @@ pub(crate) fn create_out<F: FileSet>(
     ensures told { F.tells files.new ≡ F.tells files.old }
     ensures kept { F.entry files.new ≡ F.entry files.old }
     ensures made { IfOk result (λ o. F.tells files.old ≡ true
-        → (F.Out.taken o ≡ Some []) × (F.Out.label o ≡ to.now)) }
+        → ((F.Out.view o).taken ≡ Some []) × ((F.Out.view o).label ≡ to.now)) }
     ensures noted { OnOk result (F.events files.new ≡ F.events files.old ++ Created to.now ∷ []) }
     ensures noted_err { OnErr result
         (Follows (making (Some to.now)) (F.events files.old) (F.events files.new)) }
@@ -52,10 +52,10 @@ pub(crate) fn create_out<F: FileSet>(
 /// Ends the output of a run that stopped: with what was written, or as it was, where nothing was.
 pub(crate) fn leave<F: FileSet>(files: &mut F, out: F::Out, written: u128, durability: Durability)
     ensures told { F.tells files.new ≡ F.tells files.old }
-    ensures held { F.tells files.old ≡ true → (written ≡ 0 → F.Out.taken out ≡ Some [])
-        → Leaves (written ≡ 0) (F.Out.taken out) (F.entry files.old (F.Out.label out))
-        (F.entry files.new (F.Out.label out)) }
-    ensures others { (q : List ℕ) → q ≢ F.Out.label out → F.entry files.new q ≡ F.entry files.old q }
+    ensures held { F.tells files.old ≡ true → (written ≡ 0 → (F.Out.view out).taken ≡ Some [])
+        → Leaves (written ≡ 0) (F.Out.view out).taken (F.entry files.old (F.Out.view out).label)
+        (F.entry files.new (F.Out.view out).label) }
+    ensures others { (q : List ℕ) → q ≢ (F.Out.view out).label → F.entry files.new q ≡ F.entry files.old q }
     ensures noted { F.events files.new ≡ F.events files.old ++ Closed ∷ [] }
 {
     if written == 0 {

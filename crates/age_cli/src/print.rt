@@ -12,10 +12,10 @@ use std::alloc::{AllocError, Global};
 
 /// Writes all of some bytes, where nobody asks how many were written before a failure.
 pub(crate) fn put_bytes<O: Sink>(sink: &mut O, bytes: &[u8]) -> Result<(), FileFault>
-    ensures ok { OnOk result (Appends (O.taken sink.old) (O.taken sink.new) bytes.now) }
-    ensures same { OnOk result (O.failed sink.new ≡ O.failed sink.old) }
-    ensures err { OnErr result (HasRisen (O.failed sink.old) (O.failed sink.new)) }
-    ensures named { O.label sink.new ≡ O.label sink.old }
+    ensures ok { OnOk result (Appends (O.view sink.old).taken (O.view sink.new).taken bytes.now) }
+    ensures same { OnOk result ((O.view sink.new).failed ≡ (O.view sink.old).failed) }
+    ensures err { OnErr result (HasRisen (O.view sink.old).failed (O.view sink.new).failed) }
+    ensures named { (O.view sink.new).label ≡ (O.view sink.old).label }
 {
     let mut written = 0;
     write_all(sink, bytes, &mut written)

@@ -56,10 +56,10 @@ fn obey<F: FileSet, I: Source, O: Sink>(
 ) -> Result<(), Ending>
     ensures served { OnOk result (IsServed (texts words.now)) }
     ensures report { words.now ≡ []
-        → OnOk result (Reports (I.remaining input.old) (I.remaining input.new) (O.taken output.old)
-        (O.taken output.new)) }
+        → OnOk result (Reports (I.view input.old).remaining (I.view input.new).remaining (O.view output.old).taken
+        (O.view output.new).taken) }
     ensures inspects { Inspecting (texts words.now) (F.tells files.old) (F.entry files.old)
-        (I.remaining input.old) (I.remaining input.new) (O.taken output.old) (O.taken output.new)
+        (I.view input.old).remaining (I.view input.new).remaining (O.view output.old).taken (O.view output.new).taken
         (OnOk result) }
     ensures encrypts { Encrypting (texts words.now) (F.tells files.old) (F.entry files.old)
         (F.entry files.new) (OnOk result) }
@@ -74,15 +74,15 @@ fn obey<F: FileSet, I: Source, O: Sink>(
         → F.entry files.new ≡ F.entry files.old }
     ensures encrypts_stop { EncryptingStops (texts words.now) (F.tells files.old) (F.entry files.old)
         (F.entry files.new)
-        (PortsOf F.In.remaining F.In.failed F.Out.taken F.Out.failed)
+        (PortsOf F.In.view F.Out.view)
         (λ Ends. IfErr result Ends) }
     ensures decrypts_stop { DecryptingStops (texts words.now) (F.tells files.old) (F.entry files.old)
         (F.entry files.new)
-        (PortsOf F.In.remaining F.In.failed F.Out.taken F.Out.failed)
+        (PortsOf F.In.view F.Out.view)
         (λ Ends. IfErr result Ends) }
     ensures resumes_stop { ResumingStops (texts words.now) (F.tells files.old) (F.entry files.old)
         (F.entry files.new)
-        (PortsOf F.In.remaining F.In.failed F.Out.taken F.Out.failed)
+        (PortsOf F.In.view F.Out.view)
         (λ Ends. IfErr result Ends) }
     ensures touches { Touching (texts words.now) (F.events files.old) (F.events files.new) }
     ensures finished { Finishing (texts words.now) (F.events files.old) (F.events files.new)
@@ -134,17 +134,17 @@ pub fn run<F: FileSet, I: Source, O: Sink, E: Sink>(
     // the sink fails.
     ensures quiet { result ≡ 0 → faults.new ≡ faults.old }
     ensures told { result ≡ 1
-        → TellsFault (E.taken faults.old) (E.taken faults.new) (E.failed faults.old)
-        (E.failed faults.new) }
+        → TellsFault (E.view faults.old).taken (E.view faults.new).taken (E.view faults.old).failed
+        (E.view faults.new).failed }
     // 0 comes only without words, for a command, and where help is asked for; never of words that
     // are refused.
     ensures served { result ≡ 0 → IsServed (texts words.now) }
     // 0 means that the input was read to its end, and that its report and nothing else was written.
     ensures report { words.now ≡ [] → result ≡ 0
-        → Reports (I.remaining input.old) (I.remaining input.new) (O.taken output.old)
-        (O.taken output.new) }
+        → Reports (I.view input.old).remaining (I.view input.new).remaining (O.view output.old).taken
+        (O.view output.new).taken }
     ensures inspects { Inspecting (texts words.now) (F.tells files.old) (F.entry files.old)
-        (I.remaining input.old) (I.remaining input.new) (O.taken output.old) (O.taken output.new)
+        (I.view input.old).remaining (I.view input.new).remaining (O.view output.old).taken (O.view output.new).taken
         (λ P. result ≡ 0 → P) }
     // 0 means that OUT holds what the engine promises for what the names stood for at the call.
     ensures encrypts { Encrypting (texts words.now) (F.tells files.old) (F.entry files.old)
@@ -164,19 +164,19 @@ pub fn run<F: FileSet, I: Source, O: Sink, E: Sink>(
     // of --save its position, and that the line which is told is that stop's.
     ensures encrypts_stop { EncryptingStops (texts words.now) (F.tells files.old) (F.entry files.old)
         (F.entry files.new)
-        (PortsOf F.In.remaining F.In.failed F.Out.taken F.Out.failed)
-        (λ Ends. result ≡ 1 → StopsTold Ends (E.taken faults.old) (E.taken faults.new)
-        (E.failed faults.old) (E.failed faults.new)) }
+        (PortsOf F.In.view F.Out.view)
+        (λ Ends. result ≡ 1 → StopsTold Ends (E.view faults.old).taken (E.view faults.new).taken
+        (E.view faults.old).failed (E.view faults.new).failed) }
     ensures decrypts_stop { DecryptingStops (texts words.now) (F.tells files.old) (F.entry files.old)
         (F.entry files.new)
-        (PortsOf F.In.remaining F.In.failed F.Out.taken F.Out.failed)
-        (λ Ends. result ≡ 1 → StopsTold Ends (E.taken faults.old) (E.taken faults.new)
-        (E.failed faults.old) (E.failed faults.new)) }
+        (PortsOf F.In.view F.Out.view)
+        (λ Ends. result ≡ 1 → StopsTold Ends (E.view faults.old).taken (E.view faults.new).taken
+        (E.view faults.old).failed (E.view faults.new).failed) }
     ensures resumes_stop { ResumingStops (texts words.now) (F.tells files.old) (F.entry files.old)
         (F.entry files.new)
-        (PortsOf F.In.remaining F.In.failed F.Out.taken F.Out.failed)
-        (λ Ends. result ≡ 1 → StopsTold Ends (E.taken faults.old) (E.taken faults.new)
-        (E.failed faults.old) (E.failed faults.new)) }
+        (PortsOf F.In.view F.Out.view)
+        (λ Ends. result ≡ 1 → StopsTold Ends (E.view faults.old).taken (E.view faults.new).taken
+        (E.view faults.old).failed (E.view faults.new).failed) }
     // The headline: whatever the status, OUT is as it was or holds a beginning of the plaintext,
     // while no block of IN opens except as its writer sealed it; and 0 means all of the plaintext.
     ensures headline { (rows : List Row) (text : List ℕ)

@@ -13,7 +13,7 @@ ghost use Rattle.age_commands.specs.Requests.{text_of};
 ghost use Rattle.age_cli.specs.inner.IdentitySteps.{options_asked};
 ghost use Rattle.age_cli.specs.Resumptions.{IsPositionIn, ResumesOut, ResumesFile};
 ghost use Rattle.age_cli.specs.Endings.{EndsEarly, is_usage};
-ghost use Rattle.age_cli.specs.Held.{SparesBut, SparesBoth};
+ghost use Rattle.age_cli.specs.Files.{SparesBut, SparesBoth};
 
 use crate::decryption::{is_given_as, names_a_file_twice, positions_for};
 use crate::ending::{Ending, Usage};
@@ -61,17 +61,17 @@ fn write_out<F: FileSet>(
     durability: Durability,
 ) -> Result<(), Stop>
     ensures told { F.tells files.new ≡ F.tells files.old }
-    ensures done { OnOk result (F.tells files.old ≡ true → F.Out.taken out ≡ Some []
-        → ResumesOut identity.now position.now (F.In.remaining source.old)
-        (F.In.remaining old.old) (F.entry files.new (F.Out.label out))) }
-    ensures stops { IfErr result (λ stop. F.tells files.old ≡ true → F.Out.taken out ≡ Some []
+    ensures done { OnOk result (F.tells files.old ≡ true → (F.Out.view out).taken ≡ Some []
+        → ResumesOut identity.now position.now (F.In.view source.old).remaining
+        (F.In.view old.old).remaining (F.entry files.new (F.Out.view out).label)) }
+    ensures stops { IfErr result (λ stop. F.tells files.old ≡ true → (F.Out.view out).taken ≡ Some []
         → OutStops
-        (ResumptionStop (PortsOf F.In.remaining F.In.failed F.Out.taken F.Out.failed) positions
-        identity.now position.now (F.In.remaining source.old) (F.In.remaining old.old)
+        (ResumptionStop (PortsOf F.In.view F.Out.view) positions
+        identity.now position.now (F.In.view source.old).remaining (F.In.view old.old).remaining
         stop.position stop.fault)
-        (F.entry files.old (F.Out.label out)) (F.entry files.new (F.Out.label out)) stop.position
+        (F.entry files.old (F.Out.view out).label) (F.entry files.new (F.Out.view out).label) stop.position
         stop.fault) }
-    ensures others { SparesBut (F.Out.label out) (F.entry files.old) (F.entry files.new) }
+    ensures others { SparesBut (F.Out.view out).label (F.entry files.old) (F.entry files.new) }
     ensures noted { F.events files.new ≡ F.events files.old ++ Closed ∷ [] }
 {
     match resume_with(alloc, positions, identity, position, source, old, &mut out) {
@@ -117,7 +117,7 @@ pub(crate) fn resume_file<F: FileSet>(
         (F.entry files.old) (F.entry files.new)) }
     ensures stops { IfErr result (λ e. F.tells files.old ≡ true
         → ((F.entry files.new ≡ F.entry files.old) × (EndsEarly e ⊎ (e ≡ Fault BadPosition)))
-        ⊎ ResumesStop (PortsOf F.In.remaining F.In.failed F.Out.taken F.Out.failed)
+        ⊎ ResumesStop (PortsOf F.In.view F.Out.view)
         (options_asked asked.now.decrypting.unlocking) asked.now.position.now asked.now.old.now
         asked.now.decrypting.from.now asked.now.decrypting.to.now
         (text_of asked.now.decrypting.save) (F.entry files.old) (F.entry files.new) e) }

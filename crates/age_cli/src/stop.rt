@@ -5,8 +5,8 @@ ghost use Rattle.age_commands.specs.Requests.{text_of};
 ghost use Rattle.age_cli.specs.Endings.{is_usage};
 ghost use Rattle.age_cli.specs.Stops.{SaveFails, EndsOf};
 ghost use Rattle.age_cli.specs.EventOrders.{Follows, replacing};
-ghost use Rattle.age_cli.specs.Held.{SparesBoth};
-ghost use Rattle.age_cli.specs.inner.Held.{Saves};
+ghost use Rattle.age_cli.specs.Files.{SparesBoth};
+ghost use Rattle.age_cli.specs.inner.Files.{Saves};
 
 use crate::ending::Ending;
 use age_file::{FileFault, Position, Stopped};

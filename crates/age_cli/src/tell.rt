@@ -1,6 +1,6 @@
 //! Reports why a run ended.
 
-ghost use Rattle.std.specs.Prelude.{◌≡◌, ◌++◌, [], decimal, OnOk, OnErr, Some};
+ghost use Rattle.std.specs.Prelude.{◌≡◌, ◌++◌, [], decimal, OnOk, OnErr, Some, true};
 ghost use Rattle.std.specs.Io.KnownBytes.{Appends};
 ghost use Rattle.age_file.specs.Faults.{HasRisen, number_of, place_of};
 ghost use Rattle.age_cli.specs.FaultLines.{place_text, fault_line, TellsEnding};
@@ -31,9 +31,12 @@ impl Line {
 }
 
 impl Sink for Line {
-    ghost taken = { λ line. Some line.bytes.items };
-
-    ghost failed = { λ line. line.failed };
+    ghost view = { λ line. record {
+      taken = Some line.bytes.items;
+      failed = line.failed;
+      label = [];
+      settled = true;
+    } };
 
     fn put(&mut self, from: &[u8]) -> Result<usize, Failed> {
         match self.bytes.try_extend_from_slice(from) {
@@ -57,9 +60,9 @@ impl Sink for Line {
 /// A word, and a number in decimal.
 fn put_number<E: Sink>(faults: &mut E, word: &str, number: u64) -> Result<(), FileFault>
     ensures ok { OnOk result
-        (Appends (E.taken faults.old) (E.taken faults.new) (word.now ++ decimal number)) }
-    ensures same { OnOk result (E.failed faults.new ≡ E.failed faults.old) }
-    ensures err { OnErr result (HasRisen (E.failed faults.old) (E.failed faults.new)) }
+        (Appends (E.view faults.old).taken (E.view faults.new).taken (word.now ++ decimal number)) }
+    ensures same { OnOk result ((E.view faults.new).failed ≡ (E.view faults.old).failed) }
+    ensures err { OnErr result (HasRisen (E.view faults.old).failed (E.view faults.new).failed) }
 {
     put_bytes(faults, word.as_bytes())?;
     let mut digits = Buffer::new();
@@ -69,10 +72,10 @@ fn put_number<E: Sink>(faults: &mut E, word: &str, number: u64) -> Result<(), Fi
 /// The line of a header's fault, or the chunk of a payload's.
 fn put_place<E: Sink>(faults: &mut E, fault: FileFault) -> Result<(), FileFault>
     ensures ok { OnOk result
-        (Appends (E.taken faults.old) (E.taken faults.new)
+        (Appends (E.view faults.old).taken (E.view faults.new).taken
         (place_text (number_of fault) (place_of fault))) }
-    ensures same { OnOk result (E.failed faults.new ≡ E.failed faults.old) }
-    ensures err { OnErr result (HasRisen (E.failed faults.old) (E.failed faults.new)) }
+    ensures same { OnOk result ((E.view faults.new).failed ≡ (E.view faults.old).failed) }
+    ensures err { OnErr result (HasRisen (E.view faults.old).failed (E.view faults.new).failed) }
 {
     match fault.place() {
         Some(line) if fault.number() <= 8 => put_number(faults, " line ", line),
@@ -85,9 +88,9 @@ fn put_place<E: Sink>(faults: &mut E, fault: FileFault) -> Result<(), FileFault>
 /// reported too.
 fn put_fault_line<E: Sink>(faults: &mut E, fault: FileFault) -> Result<(), FileFault>
     ensures ok { OnOk result
-        (Appends (E.taken faults.old) (E.taken faults.new) (fault_line fault)) }
-    ensures same { OnOk result (E.failed faults.new ≡ E.failed faults.old) }
-    ensures err { OnErr result (HasRisen (E.failed faults.old) (E.failed faults.new)) }
+        (Appends (E.view faults.old).taken (E.view faults.new).taken (fault_line fault)) }
+    ensures same { OnOk result ((E.view faults.new).failed ≡ (E.view faults.old).failed) }
+    ensures err { OnErr result (HasRisen (E.view faults.old).failed (E.view faults.new).failed) }
 {
     put_number(faults, "age_tool: ", fault.number() as u64)?;
     put_bytes(faults, b" ")?;
@@ -99,9 +102,9 @@ fn put_fault_line<E: Sink>(faults: &mut E, fault: FileFault) -> Result<(), FileF
 /// One line, in one put.
 fn put_fault<E: Sink>(faults: &mut E, fault: FileFault) -> Result<(), FileFault>
     ensures ok { OnOk result
-        (Appends (E.taken faults.old) (E.taken faults.new) (fault_line fault)) }
-    ensures same { OnOk result (E.failed faults.new ≡ E.failed faults.old) }
-    ensures err { OnErr result (HasRisen (E.failed faults.old) (E.failed faults.new)) }
+        (Appends (E.view faults.old).taken (E.view faults.new).taken (fault_line fault)) }
+    ensures same { OnOk result ((E.view faults.new).failed ≡ (E.view faults.old).failed) }
+    ensures err { OnErr result (HasRisen (E.view faults.old).failed (E.view faults.new).failed) }
 {
     let mut line = Line::new();
     match put_fault_line(&mut line, fault) {
@@ -131,8 +134,8 @@ fn put_usage<E: Sink>(faults: &mut E, usage: Usage) -> Result<(), FileFault> {
 }
 
 fn put_ending<E: Sink>(faults: &mut E, ending: &Ending) -> Result<(), FileFault>
-    ensures { TellsEnding ending.now (E.taken faults.old) (E.taken faults.new) (E.failed faults.old)
-        (E.failed faults.new) }
+    ensures { TellsEnding ending.now (E.view faults.old).taken (E.view faults.new).taken (E.view faults.old).failed
+        (E.view faults.new).failed }
 {
     match ending {
         Ending::Words(text) => put_bytes(faults, text.as_bytes())?,
@@ -148,8 +151,8 @@ fn put_ending<E: Sink>(faults: &mut E, ending: &Ending) -> Result<(), FileFault>
 
 /// Reports why a run ended, where the sink takes it.
 pub(crate) fn tell<E: Sink>(faults: &mut E, ending: &Ending)
-    ensures { TellsEnding ending.now (E.taken faults.old) (E.taken faults.new) (E.failed faults.old)
-        (E.failed faults.new) }
+    ensures { TellsEnding ending.now (E.view faults.old).taken (E.view faults.new).taken (E.view faults.old).failed
+        (E.view faults.new).failed }
 {
     let _ = put_ending(faults, ending);
 }

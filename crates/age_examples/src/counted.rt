@@ -41,9 +41,7 @@ impl<S: Source> Counted<S> {
 }
 
 impl<S: Source> Source for Counted<S> {
-    ghost remaining = { λ s. S.remaining s.0 };
-
-    ghost failed = { λ s. S.failed s.0 };
+    ghost view = { λ s. S.view s.0 };
 
     fn pull(&mut self, into: &mut [u8]) -> Result<usize, Failed> {
         let n = self.inner.pull(into)?;

@@ -1,6 +1,6 @@
 //! A sink of one's own.
 
-ghost use Rattle.std.specs.Prelude.{◌≡◌, ℕ};
+ghost use Rattle.std.specs.Prelude.{◌≡◌, ℕ, [], None, true};
 
 use age_file::{Failed, Sink};
 
@@ -11,7 +11,7 @@ pub struct Measure {
 }
 
 impl Sink for Measure {
-    ghost failed = { λ _. 0 };
+    ghost view = { λ _. record { taken = None; failed = 0; label = []; settled = true } };
 
     fn put(&mut self, from: &[u8]) -> Result<usize, Failed> {
         self.count = self.count.saturating_add(from.len() as u64);

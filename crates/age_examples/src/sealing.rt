@@ -20,7 +20,7 @@ fn bytes_of(chunk: Option<&[u8]>) -> &[u8]
 
 /// Writes all of some bytes.
 fn put<O: Sink>(sink: &mut O, bytes: &[u8]) -> Result<(), FileFault>
-    ensures { OnOk result (Appends (O.taken sink.old) (O.taken sink.new) bytes.now) }
+    ensures { OnOk result (Appends (O.view sink.old).taken (O.view sink.new).taken bytes.now) }
 {
     let mut written = 0;
     write_all(sink, bytes, &mut written)
@@ -28,7 +28,7 @@ fn put<O: Sink>(sink: &mut O, bytes: &[u8]) -> Result<(), FileFault>
 
 /// Writes the payload of a text (C2SP age.md, "Payload"), block by block.
 pub fn seal_to<B: ChunkBox, O: Sink>(key: &B, text: &[u8], sink: &mut O) -> Result<(), FileFault>
-    ensures sealed { OnOk result (Appends (O.taken sink.old) (O.taken sink.new)
+    ensures sealed { OnOk result (Appends (O.view sink.old).taken (O.view sink.new).taken
         (payload (B.sealing key.now) 65536 text.now)) }
 {
     let mut sealer = Sealer::<B, 65552>::new(key);

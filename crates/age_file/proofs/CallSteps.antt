@@ -57,22 +57,22 @@ abbrev Right : List ℕ → Option (List ℕ) → Option Position → Type 0
 Right text taken position = TookBeginning text taken × IfSome position (CarriesText text)
 
 -- nothing was written
-none_right : (text : List ℕ) (old new : Ports) (written : ℕ) (position : Option Position) → old.taken ≡ Some [] → WritesNone old new written position → Right text new.taken position
+none_right : (text : List ℕ) (old new : Ports) (written : ℕ) (position : Option Position) → old.sink.taken ≡ Some [] → WritesNone old new written position → Right text new.sink.taken position
 none_right text old new written position empty w =
-    (record { out = []; told = took old.taken new.taken [] empty w.0; begins = (text, refl) }, none_carries (CarriesText text) position w.2)
+    (record { out = []; told = took old.sink.taken new.sink.taken [] empty w.0; begins = (text, refl) }, none_carries (CarriesText text) position w.2)
 
 -- ---- a decryption
 
 module _ (text : List ℕ) (few : chunk_count 65536 text ≤ 281474976710656) (keep : Positions) (A : Header → List ℕ → Type 0) (R : Header → KeyFault → Type 0) where
-  run_right : (old new : Ports) (written : ℕ) (position : Option Position) (r : Run) → old.taken ≡ Some [] → IsRun A old new written r → WritesOf r → Told keep (IsPositionOf r) position
-      → IsTexts text r → Right text new.taken position
+  run_right : (old new : Ports) (written : ℕ) (position : Option Position) (r : Run) → old.sink.taken ≡ Some [] → IsRun A old new written r → WritesOf r → Told keep (IsPositionOf r) position
+      → IsTexts text r → Right text new.sink.taken position
   run_right old new written position r empty is of at auth = (
-    record { out = r.out; told = took old.taken new.taken r.out empty is.wrote; begins = of text (few, auth) },
+    record { out = r.out; told = took old.sink.taken new.sink.taken r.out empty is.wrote; begins = of text (few, auth) },
     some_told keep (IsPositionOf r) (CarriesText text) position at (λ p h. h.carries text (few, auth)),
   )
 
-  stop_right : (old new : Ports) (written : ℕ) (position : Option Position) (fault : FileFault) → old.taken ≡ Some [] → (f : DecryptFails keep A R old new written position fault)
-      → StopIsTexts text keep A R old new written position fault f → Right text new.taken position
+  stop_right : (old new : Ports) (written : ℕ) (position : Option Position) (fault : FileFault) → old.sink.taken ≡ Some [] → (f : DecryptFails keep A R old new written position fault)
+      → StopIsTexts text keep A R old new written position fault f → Right text new.sink.taken position
   stop_right old new written position (Stream x) empty f auth = run_right old new written position f.0 empty f.1.is f.1.of f.2 auth
   stop_right old new written position Write empty f auth = run_right old new written position f.0 empty f.1 f.2 f.3 auth
   stop_right old new written position Read empty (inl early, why) auth = none_right text old new written position empty early.0
@@ -92,34 +92,34 @@ module _ (text : List ℕ) (few : chunk_count 65536 text ≤ 281474976710656) (k
     authentic = auth;
   }
 
-  module _ (p : Position) (old new : ResumePorts) (written : ℕ) (position : Option Position) (empty : old.main.taken ≡ Some []) (before : TookBeginning text old.old_coming) where
+  module _ (p : Position) (old new : ResumePorts) (written : ℕ) (position : Option Position) (empty : old.main.sink.taken ≡ Some []) (before : TookBeginning text old.old.remaining) where
     copied_begins : (copied : List ℕ) → WritesOld p old new written copied → IsPrefixOf copied text
-    copied_begins copied w = prefix_trans copied w.pulled text w.front (pulled_begins text old.old_coming new.old_coming w.pulled before w.read)
+    copied_begins copied w = prefix_trans copied w.pulled text w.front (pulled_begins text old.old.remaining new.old.remaining w.pulled before w.read)
 
-    old_right : (copied : List ℕ) → WritesOld p old new written copied → TookBeginning text new.main.taken
-    old_right copied w = record { out = copied; told = took old.main.taken new.main.taken copied empty w.wrote; begins = copied_begins copied w }
+    old_right : (copied : List ℕ) → WritesOld p old new written copied → TookBeginning text new.main.sink.taken
+    old_right copied w = record { out = copied; told = took old.main.sink.taken new.main.sink.taken copied empty w.wrote; begins = copied_begins copied w }
 
-    in_old_right : StopsInOld A p old new written position → Right text new.main.taken position
+    in_old_right : StopsInOld A p old new written position → Right text new.main.sink.taken position
     in_old_right s = (old_right s.copied s.writes, none_carries (CarriesText text) position s.none)
 
-    in_passed_right : (passed : List ℕ) → StopsInPassed keep A p old new written position passed → Right text new.main.taken position
+    in_passed_right : (passed : List ℕ) → StopsInPassed keep A p old new written position passed → Right text new.main.sink.taken position
     in_passed_right passed s =
         (old_right s.copied s.writes, some_told keep (IsSame p) (CarriesText text) position s.here (λ q same. same_carries p q s.copied text s.old_text (copied_begins s.copied s.writes) same))
 
     run_begins : (r : Resumption) → IsResumption A p old new written r → IsPrefixOf r.copied text
-    run_begins r is = prefix_trans r.copied (r.copied ++ is.more) text (is.more, refl) (pulled_begins text old.old_coming new.old_coming (r.copied ++ is.more) before is.old_read)
+    run_begins r is = prefix_trans r.copied (r.copied ++ is.more) text (is.more, refl) (pulled_begins text old.old.remaining new.old.remaining (r.copied ++ is.more) before is.old_read)
 
     run_authentic : (r : Resumption) → IsResumption A p old new written r → IsTextsFrom text p r → IsAuthenticResumption p r text
     run_authentic r is auth = authentic_of p r is.old_text (run_begins r is) auth
 
-    rerun_right : (r : Resumption) → IsResumption A p old new written r → ResumesOf p r → Told keep (IsNextPosition p r) position → IsTextsFrom text p r → Right text new.main.taken position
+    rerun_right : (r : Resumption) → IsResumption A p old new written r → ResumesOf p r → Told keep (IsNextPosition p r) position → IsTextsFrom text p r → Right text new.main.sink.taken position
     rerun_right r is of at auth =
         let whole = run_authentic r is auth in (
-          record { out = r.copied ++ r.out; told = took old.main.taken new.main.taken (r.copied ++ r.out) empty is.wrote; begins = of text whole },
+          record { out = r.copied ++ r.out; told = took old.main.sink.taken new.main.sink.taken (r.copied ++ r.out) empty is.wrote; begins = of text whole },
           some_told keep (IsNextPosition p r) (CarriesText text) position at (λ q h. h.carries text whole),
         )
 
-    next_right : (fault : FileFault) (f : ResumeFails keep A p R old new written position fault) → NextStopIsTexts text keep A p R old new written position fault f → Right text new.main.taken position
+    next_right : (fault : FileFault) (f : ResumeFails keep A p R old new written position fault) → NextStopIsTexts text keep A p R old new written position fault f → Right text new.main.sink.taken position
     next_right OtherFile f auth = none_right text old.main new.main written position empty f.0
     next_right PositionForged f auth = none_right text old.main new.main written position empty f.0
     next_right ShortText f auth = in_old_right f.0
@@ -145,23 +145,23 @@ began text taken (Ok done) a = record { out = text; told = a; begins = ([], appe
 began text taken (Err stopped) a = a.0
 
 module _ (Who : Type 0) (Allows : Who → Header → List ℕ → Type 0) (Refused : Who → Header → KeyFault → Type 0) (text : List ℕ) (few : chunk_count 65536 text ≤ 281474976710656) where
-  first_right : (keep : Positions) (who : Who) (old new : Ports) (result : Result Done Stopped) → old.taken ≡ Some [] → (f : DecryptAnswers Who Allows Refused keep who old new result)
-      → AnswerIsTexts Who Allows Refused text keep who old new result f → AnswersRight text new.taken result
-  first_right keep who old new (Ok done) empty f auth = took old.taken new.taken f.0.out empty f.1.wrote.is.wrote ∙ ap Some (f.1.all text (few, auth))
+  first_right : (keep : Positions) (who : Who) (old new : Ports) (result : Result Done Stopped) → old.sink.taken ≡ Some [] → (f : DecryptAnswers Who Allows Refused keep who old new result)
+      → AnswerIsTexts Who Allows Refused text keep who old new result f → AnswersRight text new.sink.taken result
+  first_right keep who old new (Ok done) empty f auth = took old.sink.taken new.sink.taken f.0.out empty f.1.wrote.is.wrote ∙ ap Some (f.1.all text (few, auth))
   first_right keep who old new (Err s) empty f auth = stop_right text few keep (Allows who) (Refused who) old new s.written s.position s.fault empty f auth
 
-  call_right : (keep : Positions) (who : Who) (p : Position) (old new : ResumePorts) (result : Result Done Stopped) → old.main.taken ≡ Some [] → TookBeginning text old.old_coming
-      → (f : ResumeAnswers Who Allows Refused keep who p old new result) → NextAnswerIsTexts Who Allows Refused text keep who p old new result f → AnswersRight text new.main.taken result
+  call_right : (keep : Positions) (who : Who) (p : Position) (old new : ResumePorts) (result : Result Done Stopped) → old.main.sink.taken ≡ Some [] → TookBeginning text old.old.remaining
+      → (f : ResumeAnswers Who Allows Refused keep who p old new result) → NextAnswerIsTexts Who Allows Refused text keep who p old new result f → AnswersRight text new.main.sink.taken result
   call_right keep who p old new (Ok done) empty before f auth =
       let r = f.0 in
       let is = f.1.resumed.is in
       let whole = run_authentic text few keep (Allows who) (Refused who) p old new done.written None empty before r is auth in
-      took old.main.taken new.main.taken (r.copied ++ r.out) empty is.wrote ∙ ap Some (f.1.all text whole)
+      took old.main.sink.taken new.main.sink.taken (r.copied ++ r.out) empty is.wrote ∙ ap Some (f.1.all text whole)
   call_right keep who p old new (Err s) empty before f auth = next_right text few keep (Allows who) (Refused who) p old new s.written s.position empty before s.fault f auth
 
   last_began : (first : FirstCall Who Allows Refused) (calls : List (NextCall Who Allows Refused)) → AllAnswerRight Who Allows Refused text first calls → TookBeginning text (taken Who Allows Refused first calls)
-  last_began first [] a = began text first.new.taken first.result a
-  last_began first (c ∷ earlier) a = began text c.new.main.taken c.result a.0
+  last_began first [] a = began text first.new.sink.taken first.result a
+  last_began first (c ∷ earlier) a = began text c.new.main.sink.taken c.result a.0
 
   pub in_a_row : (first : FirstCall Who Allows Refused) (calls : List (NextCall Who Allows Refused)) → AreInARow Who Allows Refused first calls → AreTexts Who Allows Refused text first calls
       → AllAnswerRight Who Allows Refused text first calls

@@ -28,22 +28,22 @@ chain_more n i out chunk whole size =
     ∙ ap (λ (c : List ℕ). first_chunks n i out ++ c ∷ []) last)
     ∙ chain_on (first_chunks n i out) chunk
 
-copy_fails : (x y z : Side) (a b c : Tally) (p q : List ℕ) (fault : FileFault) → Passes x y p → b.failed ≡ a.failed → CopyFails y z b c q fault → CopyFails x z a c (p ++ q) fault
+copy_fails : (x y z : Side) (a b c : Tally) (p q : List ℕ) (fault : FileFault) → Passes x y p → b.sink.failed ≡ a.sink.failed → CopyFails y z b c q fault → CopyFails x z a c (p ++ q) fault
 copy_fails x y z a b c p q ShortText f same g = (passes_then x y z p q f g.0, g.1, g.2, g.3 ∙ same)
 copy_fails x y z a b c p q Write f same g =
     let more : IsPrefixOf (p ++ q) ((p ++ g.0) ++ z.unread.bytes) =
     (g.2.0, append_assoc p q g.2.0 ∙ ap (λ (t : List ℕ). p ++ t) g.2.1 ∙ sym (append_assoc p g.0 z.unread.bytes)) in
-    (p ++ g.0, passes_then x y z p g.0 f g.1, more, subst (λ (m : ℕ). HasRisen m c.failed) same g.3)
+    (p ++ g.0, passes_then x y z p g.0 f g.1, more, subst (λ (m : ℕ). HasRisen m c.sink.failed) same g.3)
 copy_fails x y z a b c p q Read f same g = (dries_then x y z p q Read f g.0, g.1 ∙ same)
 copy_fails x y z a b c p q ReadNeverEnds f same g = (dries_then x y z p q ReadNeverEnds f g.0, g.1 ∙ same)
 copy_fails x y z a b c p q other f same g = absurd g
 
 -- whole chunks, and then one that was not copied
-pub chunk_failed : (n chunks i : ℕ) (x y z : Side) (a b c : Tally) (p : List ℕ) (fault : FileFault) → length p ≡ i * n → i < chunks → Passes x y p → Appends a.taken b.taken p
-    → b.label ≡ a.label → b.failed ≡ a.failed → b.progress.written ≡ a.progress.written + length p → CopiesChunk n y z b c (Err fault) → CopiesAll n chunks x z a c (Err fault)
+pub chunk_failed : (n chunks i : ℕ) (x y z : Side) (a b c : Tally) (p : List ℕ) (fault : FileFault) → length p ≡ i * n → i < chunks → Passes x y p → Appends a.sink.taken b.sink.taken p
+    → b.sink.label ≡ a.sink.label → b.sink.failed ≡ a.sink.failed → b.progress.written ≡ a.progress.written + length p → CopiesChunk n y z b c (Err fault) → CopiesAll n chunks x z a c (Err fault)
 chunk_failed n chunks i x y z a b c p fault size lt f wrote named same count g = record {
   out = p ++ g.out;
-  wrote = Appends-then a.taken b.taken c.taken p g.out wrote g.wrote;
+  wrote = Appends-then a.sink.taken b.sink.taken c.sink.taken p g.out wrote g.wrote;
   named = g.named ∙ named;
   count = omega (arith, count, g.count, length-append p g.out);
   answered = (within n chunks i p g.out size lt g.answered.0, copy_fails x y z a b c p g.out fault f same g.answered.1);
@@ -58,7 +58,7 @@ front_written used out unwritten bytes n parts = (
 )
 
 -- a pull gave no more
-pub copy_dry : (x z : Side) (a b : Tally) (p : List ℕ) (fault : FileFault) → Dries x z p fault → b.failed ≡ a.failed → CopyFails x z a b p fault
+pub copy_dry : (x z : Side) (a b : Tally) (p : List ℕ) (fault : FileFault) → Dries x z p fault → b.sink.failed ≡ a.sink.failed → CopyFails x z a b p fault
 copy_dry x z a b p Read g same = (g, same)
 copy_dry x z a b p ReadNeverEnds g same = (g, same)
 copy_dry x z a b p other g same = absurd g.why

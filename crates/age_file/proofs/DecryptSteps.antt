@@ -11,6 +11,7 @@ use Rattle.age_cipher.specs.Opening.{opening}
 use Rattle.age_keys.specs.Keys.{payload_key, position_key}
 use Rattle.age_keys.specs.inner.PayloadBox.{box_lawful}
 use Rattle.age_file.specs.Faults.{HasRisen}
+use Rattle.age_io.specs.Views.{SourceView}
 use Rattle.age_file.specs.inner.Intakes.{Pulled}
 use Rattle.age_file.specs.AgeFile.{box, unbox}
 use Rattle.age_file.specs.inner.Payloads.{Stage, DecryptsPayload, PayloadFails, PayloadDone}
@@ -93,43 +94,43 @@ told_is Kept r unlocked index None key nonce id begins is at = absurd at
 told_is Dropped r unlocked index position key nonce id begins is at = at
 
 module _ (keep : Positions) (Allows : Header → List ℕ → Type 0) (Refused : Header → KeyFault → Type 0) where
-  abbrev pub before : Option (List ℕ) → ℕ → Stage → Ports
-  before a i old = record { coming = a; read_failed = i; taken = old.tally.taken; write_failed = old.tally.failed }
+  abbrev pub before : SourceView → Stage → Ports
+  before a old = record { source = a; sink = old.tally.sink }
 
   abbrev pub after : Stage → Ports
-  after new = record { coming = new.coming; read_failed = new.read_failed; taken = new.tally.taken; write_failed = new.tally.failed }
+  after new = record { source = new.source; sink = new.tally.sink }
 
-  fails : (a : Option (List ℕ)) (i : ℕ) (old new : Stage) (r : Run) (pulled : List ℕ) (p : Option Position) (fault : FileFault) → old.read_failed ≡ i → Pulled a new.coming new.unread.pulls pulled
-      → IsRun Allows (before a i old) (after new) new.tally.progress.written r → Told keep (IsPositionOf r) p
+  fails : (a : SourceView) (old new : Stage) (r : Run) (pulled : List ℕ) (p : Option Position) (fault : FileFault) → old.source.failed ≡ a.failed → Pulled a.remaining new.source.remaining new.unread.pulls pulled
+      → IsRun Allows (before a old) (after new) new.tally.progress.written r → Told keep (IsPositionOf r) p
       → PayloadFails (unbox r.key r.nonce) 65536 old new (segment_of r) r.out fault
-      → DecryptFails keep Allows Refused (before a i old) (after new) new.tally.progress.written p fault
-  fails a i old new r pulled p (Stream x) same h is at f = (r, record { is = is; whole = f.1; of = writes_of r is.prefix }, at, f.0, (f.2.1 ∙ same, f.2.0))
-  fails a i old new r pulled p Write same h is at f = (r, is, writes_of r is.prefix, at, f)
-  fails a i old new r pulled p Read same h is at f = (inr (r, record { is = is; whole = f.0; of = writes_of r is.prefix }, at), subst (λ (m : ℕ). HasRisen m new.read_failed) same f.1)
-  fails a i old new r pulled p ReadNeverEnds same h is at f = (inr (r, record { is = is; whole = f.0; of = writes_of r is.prefix }, at), (pulled, h.consumed, (omega (arith, h.each_gave, f.1), omega (arith, h.small, f.1))))
-  fails a i old new r pulled p other same h is at f = absurd f
+      → DecryptFails keep Allows Refused (before a old) (after new) new.tally.progress.written p fault
+  fails a old new r pulled p (Stream x) same h is at f = (r, record { is = is; whole = f.1; of = writes_of r is.prefix }, at, f.0, (f.2.1 ∙ same, f.2.0))
+  fails a old new r pulled p Write same h is at f = (r, is, writes_of r is.prefix, at, f)
+  fails a old new r pulled p Read same h is at f = (inr (r, record { is = is; whole = f.0; of = writes_of r is.prefix }, at), subst (λ (m : ℕ). HasRisen m new.source.failed) same f.1)
+  fails a old new r pulled p ReadNeverEnds same h is at f = (inr (r, record { is = is; whole = f.0; of = writes_of r is.prefix }, at), (pulled, h.consumed, (omega (arith, h.each_gave, f.1), omega (arith, h.small, f.1))))
+  fails a old new r pulled p other same h is at f = absurd f
 
   -- what was read and decrypted
-  pub record IsDecrypted (a : Option (List ℕ)) (i : ℕ) (unlocked : Unlocked) (old new : Stage) (result : Result (Unit {0}) FileFault) : Type 0 where
+  pub record IsDecrypted (a : SourceView) (unlocked : Unlocked) (old new : Stage) (result : Result (Unit {0}) FileFault) : Type 0 where
     pub run : Run
     pub key_is : run.key ≡ unlocked.key
     pub nonce_is : run.nonce ≡ unlocked.nonce
     pub id : unlocked.id ≡ file_id run.front run.nonce
-    pub is : IsRun Allows (before a i old) (after new) new.tally.progress.written run
-    pub pulled : Pulled a new.coming new.unread.pulls ((run.front ++ run.nonce) ++ run.bytes)
+    pub is : IsRun Allows (before a old) (after new) new.tally.progress.written run
+    pub pulled : Pulled a.remaining new.source.remaining new.unread.pulls ((run.front ++ run.nonce) ++ run.bytes)
     pub counts : HasCounted keep (unbox run.key run.nonce) 65536 run.out (segment_of run) new.tally.progress
     pub answered : MatchResult result (λ _. PayloadDone (unbox run.key run.nonce) 65536 old new (segment_of run) run.out) (PayloadFails (unbox run.key run.nonce) 65536 old new (segment_of run) run.out)
 
-  pub decrypted : (a : Option (List ℕ)) (i : ℕ) (unlocked : Unlocked) (key : List ℕ) (old new : Stage) (result : Result (Unit {0}) FileFault)
+  pub decrypted : (a : SourceView) (unlocked : Unlocked) (key : List ℕ) (old new : Stage) (result : Result (Unit {0}) FileFault)
       → old.tally.progress.written ≡ 0 → old.tally.progress.index ≡ 0 → old.tally.progress.chain ≡ chain_if keep []
-      → key ≡ payload_key unlocked.key unlocked.nonce → StartsAt Allows a old.coming old.unread unlocked
-      → DecryptsPayload (λ nonce block. opening key nonce [] block) 65536 0 old new result → IsDecrypted a i unlocked old new result
-  decrypted a i unlocked key old new result none index chain_none is s q =
+      → key ≡ payload_key unlocked.key unlocked.nonce → StartsAt Allows a.remaining old.source.remaining old.unread unlocked
+      → DecryptsPayload (λ nonce block. opening key nonce [] block) 65536 0 old new result → IsDecrypted a unlocked old new result
+  decrypted a unlocked key old new result none index chain_none is s q =
       let p = subst (λ (t : List ℕ). DecryptsPayload (λ nonce block. opening t nonce [] block) 65536 0 old new result) is q in
       let head = s.front ++ unlocked.nonce in
-      let all : Pulled a new.coming new.unread.pulls ((head ++ old.unread.bytes) ++ p.fresh) = p.pulled a (head ++ old.unread.bytes) s.pulled in
+      let all : Pulled a.remaining new.source.remaining new.unread.pulls ((head ++ old.unread.bytes) ++ p.fresh) = p.pulled a.remaining (head ++ old.unread.bytes) s.pulled in
       let parts : (head ++ old.unread.bytes) ++ p.fresh ≡ head ++ p.bytes = append_assoc head old.unread.bytes p.fresh ∙ ap (λ (t : List ℕ). head ++ t) p.parts in
-      let pulls : Pulled a new.coming new.unread.pulls (head ++ p.bytes) = subst (λ (t : List ℕ). Pulled a new.coming new.unread.pulls t) parts all in
+      let pulls : Pulled a.remaining new.source.remaining new.unread.pulls (head ++ p.bytes) = subst (λ (t : List ℕ). Pulled a.remaining new.source.remaining new.unread.pulls t) parts all in
       let zero_len : length {A = ℕ} [] ≡ 0 * 65536 = omega arith in
       record {
         run = record { header = s.header; front = s.front; key = unlocked.key; nonce = unlocked.nonce; bytes = p.bytes; ended = p.ended; out = p.out };
@@ -142,22 +143,22 @@ module _ (keep : Positions) (Allows : Header → List ℕ → Type 0) (Refused :
         answered = p.answered;
       }
 
-  pub decrypt_done : (a : Option (List ℕ)) (i : ℕ) (unlocked : Unlocked) (old new : Stage) → old.read_failed ≡ i → (p : IsDecrypted a i unlocked old new (Ok tt))
-      → DecryptDone Allows (before a i old) (after new) new.tally.progress.written p.run
-  decrypt_done a i unlocked old new same p =
+  pub decrypt_done : (a : SourceView) (unlocked : Unlocked) (old new : Stage) → old.source.failed ≡ a.failed → (p : IsDecrypted a unlocked old new (Ok tt))
+      → DecryptDone Allows (before a old) (after new) new.tally.progress.written p.run
+  decrypt_done a unlocked old new same p =
       let f = p.answered in
       record { wrote = record { is = p.is; whole = f.2; of = writes_of p.run p.is.prefix }; ended = f.0; done = f.1; all = writes_all p.run f.2 f.1; none_failed = (f.3.1 ∙ same, f.3.0) }
 
-  pub decrypt_fails : (a : Option (List ℕ)) (i : ℕ) (unlocked : Unlocked) (old new : Stage) (fault : FileFault) (position : Option Position) → old.read_failed ≡ i → IsDecrypted a i unlocked old new (Err fault)
+  pub decrypt_fails : (a : SourceView) (unlocked : Unlocked) (old new : Stage) (fault : FileFault) (position : Option Position) → old.source.failed ≡ a.failed → IsDecrypted a unlocked old new (Err fault)
       → PositionAt unlocked new.tally.progress.index new.tally.progress.chain position
-      → DecryptFails keep Allows Refused (before a i old) (after new) new.tally.progress.written position fault
-  decrypt_fails a i unlocked old new fault position same p at =
-      fails a i old new p.run ((p.run.front ++ p.run.nonce) ++ p.run.bytes) position fault same p.pulled p.is
+      → DecryptFails keep Allows Refused (before a old) (after new) new.tally.progress.written position fault
+  decrypt_fails a unlocked old new fault position same p at =
+      fails a old new p.run ((p.run.front ++ p.run.nonce) ++ p.run.bytes) position fault same p.pulled p.is
       (told_is keep p.run unlocked new.tally.progress.index position p.key_is p.nonce_is p.id p.is.prefix p.counts.index
       (subst (λ (c : Option (List ℕ)). PositionAt unlocked new.tally.progress.index c position) p.counts.chain_is at)) p.answered
 
   -- no payload came to be opened
-  pub start_fails : (old new : Ports) (fault : FileFault) → Appends old.taken new.taken [] → StartFails Allows Refused old.coming new.coming old.read_failed new.read_failed fault
+  pub start_fails : (old new : Ports) (fault : FileFault) → Appends old.sink.taken new.sink.taken [] → StartFails Allows Refused old.source.remaining new.source.remaining old.source.failed new.source.failed fault
       → DecryptFails keep Allows Refused old new 0 None fault
   start_fails old new Read none f = (inl ((none, refl, refl), f.0), f.1)
   start_fails old new ReadNeverEnds none f = (inl ((none, refl, refl), f.0), f.1)

@@ -33,7 +33,7 @@ module _ (s : SecretView) (front : List ℕ) (begins : BeginsFile s front) where
       }
 
   -- the sink failed in the front
-  pub front_cut : (old new : Ports) (coming : new.coming ≡ old.coming) (failed : HasRisen old.write_failed new.write_failed) (out unwritten : List ℕ) → front ≡ out ++ unwritten → Appends old.taken new.taken out
+  pub front_cut : (old new : Ports) (coming : new.source.remaining ≡ old.source.remaining) (failed : HasRisen old.sink.failed new.sink.failed) (out unwritten : List ℕ) → front ≡ out ++ unwritten → Appends old.sink.taken new.sink.taken out
       → EncryptsFront s old new Write
   front_cut old new coming failed out unwritten parts wrote =
       record {
@@ -41,15 +41,15 @@ module _ (s : SecretView) (front : List ℕ) (begins : BeginsFile s front) where
         file = front ++ payload (box s.key s.nonce) 65536 [];
         out = out;
         is = file_of [];
-        read = subst (λ t. Consumes old.coming t []) (sym coming) (Consumes-nil old.coming);
+        read = subst (λ t. Consumes old.source.remaining t []) (sym coming) (Consumes-nil old.source.remaining);
         wrote = wrote;
         prefix = (unwritten ++ payload (box s.key s.nonce) 65536 [], sym (append_assoc out unwritten (payload (box s.key s.nonce) 65536 [])) ∙ ap (λ (t : List ℕ). t ++ payload (box s.key s.nonce) 65536 []) (sym parts));
         why = failed;
       }
 
   -- the payload that followed
-  module _ (old mid new : Ports) (mid_written new_written : ℕ) (coming : mid.coming ≡ old.coming) (read_failed : mid.read_failed ≡ old.read_failed) (write_failed : mid.write_failed ≡ old.write_failed)
-      (wrote : Appends old.taken mid.taken front) (count : mid_written ≡ length front) where
+  module _ (old mid new : Ports) (mid_written new_written : ℕ) (coming : mid.source.remaining ≡ old.source.remaining) (read_failed : mid.source.failed ≡ old.source.failed) (write_failed : mid.sink.failed ≡ old.sink.failed)
+      (wrote : Appends old.sink.taken mid.sink.taken front) (count : mid_written ≡ length front) where
     pub sealed_all : (plain : ℕ) → SealsAll (box s.key s.nonce) 65536 mid new mid_written new_written plain → Encrypts s old new (record { plain = plain; file = new_written })
     sealed_all plain a =
         record {
@@ -57,9 +57,9 @@ module _ (s : SecretView) (front : List ℕ) (begins : BeginsFile s front) where
           file = front ++ payload (box s.key s.nonce) 65536 a.text;
           few = a.few;
           is = file_of a.text;
-          read = subst (λ t. Consumes t new.coming a.text) coming a.moved.read;
+          read = subst (λ t. Consumes t new.source.remaining a.text) coming a.moved.read;
           at_end = a.at_end;
-          wrote = Appends-then old.taken mid.taken new.taken front (payload (box s.key s.nonce) 65536 a.text) wrote a.moved.wrote;
+          wrote = Appends-then old.sink.taken mid.sink.taken new.sink.taken front (payload (box s.key s.nonce) 65536 a.text) wrote a.moved.wrote;
           plain_is = a.plain_is;
           file_is = omega (arith, a.moved.count, count, length-append front (payload (box s.key s.nonce) 65536 a.text));
           none_failed = (a.none_failed.0 ∙ read_failed, a.none_failed.1 ∙ write_failed);
@@ -67,8 +67,8 @@ module _ (s : SecretView) (front : List ℕ) (begins : BeginsFile s front) where
 
     why_stopped : (text : List ℕ) (fault : FileFault) → SealingFails 65536 mid new text fault → WhyStopped old new text fault
     why_stopped text (Stream fault) f = (omega (arith, f.0), f.1)
-    why_stopped text Read f = subst (λ (k : ℕ). HasRisen k new.read_failed) read_failed f
-    why_stopped text Write f = subst (λ (k : ℕ). HasRisen k new.write_failed) write_failed f
+    why_stopped text Read f = subst (λ (k : ℕ). HasRisen k new.source.failed) read_failed f
+    why_stopped text Write f = subst (λ (k : ℕ). HasRisen k new.sink.failed) write_failed f
     why_stopped text ReadNeverEnds f = f
     why_stopped text (Head fault) f = absurd f
     why_stopped text (Key fault) f = absurd f
@@ -87,8 +87,8 @@ module _ (s : SecretView) (front : List ℕ) (begins : BeginsFile s front) where
           file = front ++ payload (box s.key s.nonce) 65536 a.text;
           out = front ++ a.out;
           is = file_of a.text;
-          read = subst (λ t. Consumes t new.coming a.text) coming a.moved.read;
-          wrote = Appends-then old.taken mid.taken new.taken front a.out wrote a.moved.wrote;
+          read = subst (λ t. Consumes t new.source.remaining a.text) coming a.moved.read;
+          wrote = Appends-then old.sink.taken mid.sink.taken new.sink.taken front a.out wrote a.moved.wrote;
           prefix = (a.prefix.0, append_assoc front a.out a.prefix.0 ∙ ap (λ (t : List ℕ). front ++ t) a.prefix.1);
           why = why_stopped a.text fault a.fails;
         }

@@ -23,7 +23,7 @@ module _ {B : Type 0} (opening : B → List ℕ → List ℕ → Option (List �
         fresh = [];
         parts = append-nil f.unread.bytes;
         releases = releases_none opening n f.opener f.tally;
-        pulled = λ start bytes h. subst (λ (t : List ℕ). Pulled start f.coming f.unread.pulls t) (sym (append-nil bytes)) h;
+        pulled = λ start bytes h. subst (λ (t : List ℕ). Pulled start f.source.remaining f.unread.pulls t) (sym (append-nil bytes)) h;
       }
 
   pub flows_then : (old mid new : Flow B) (left unwritten : List ℕ) → Flows opening n old mid mid.unread.bytes [] → Flows opening n mid new left unwritten → Flows opening n old new left unwritten
@@ -33,19 +33,19 @@ module _ {B : Type 0} (opening : B → List ℕ → List ℕ → Option (List �
         fresh = p.fresh ++ q.fresh;
         parts = joined_parts old.unread.bytes p.fresh q.fresh p.fed q.fed mid.unread.bytes left p.parts q.parts;
         releases = releases_then opening n p.fed q.fed old.opener mid.opener new.opener old.tally mid.tally new.tally unwritten p.releases q.releases;
-        pulled = λ start bytes h. subst (λ (t : List ℕ). Pulled start new.coming new.unread.pulls t) (append_assoc bytes p.fresh q.fresh) (q.pulled start (bytes ++ p.fresh) (p.pulled start bytes h));
+        pulled = λ start bytes h. subst (λ (t : List ℕ). Pulled start new.source.remaining new.unread.pulls t) (append_assoc bytes p.fresh q.fresh) (q.pulled start (bytes ++ p.fresh) (p.pulled start bytes h));
       }
 
   -- the failures of a turn
-  pull_fails : (old new : Flow B) (pulls : ℕ) (fault : FileFault) → new.unread.bytes ≡ [] → new.unread.pulls ≡ pulls → new.tally.failed ≡ old.tally.failed
-      → PullFails pulls old.read_failed new.read_failed fault → (fault ≡ ReadNeverEnds → new.read_failed ≡ old.read_failed) → FlowFails old new new.unread.bytes [] fault
+  pull_fails : (old new : Flow B) (pulls : ℕ) (fault : FileFault) → new.unread.bytes ≡ [] → new.unread.pulls ≡ pulls → new.tally.sink.failed ≡ old.tally.sink.failed
+      → PullFails pulls old.source.failed new.source.failed fault → (fault ≡ ReadNeverEnds → new.source.failed ≡ old.source.failed) → FlowFails old new new.unread.bytes [] fault
   pull_fails old new pulls Read none count same h k = (none, refl, h)
   pull_fails old new pulls ReadNeverEnds none count same h k = (none, refl, count ∙ h, (same, k refl))
   pull_fails old new pulls other none count same h k = absurd h
 
   turn_answers : (old new : Flow B) (mid : Unread) (result : Result Bool FileFault) → mid.pulls ≡ old.unread.pulls → HasRoom old
-      → length new.opener.held + new.tally.progress.written ≤ length old.opener.held + old.tally.progress.written + length old.unread.bytes → new.tally.failed ≡ old.tally.failed
-      → Refilled new.coming old.read_failed new.read_failed mid new.unread result
+      → length new.opener.held + new.tally.progress.written ≤ length old.opener.held + old.tally.progress.written + length old.unread.bytes → new.tally.sink.failed ≡ old.tally.sink.failed
+      → Refilled new.source.remaining old.source.failed new.source.failed mid new.unread result
       → MatchResult result (TurnGoes old new new.unread.bytes []) (FlowFails old new new.unread.bytes [])
   turn_answers old new mid (Ok true) count room goes same h = (refl, refl, (same, h.4), (omega (arith, room.0, goes, h.1, h.3, count), h.2), h.3 ∙ ap (λ (k : ℕ). k + 1) count)
   turn_answers old new mid (Ok false) count room goes same h = (h.0, refl, (same, h.3), h.2, omega (arith, room.0, room.1, goes))
@@ -54,7 +54,7 @@ module _ {B : Type 0} (opening : B → List ℕ → List ℕ → Option (List �
   -- a piece was fed whole, and the next was pulled
   pub turned : (old new : Flow B) (mid : Unread) (piece : List ℕ) (result : Result Bool FileFault) → piece ≡ old.unread.bytes → mid.pulls ≡ old.unread.pulls → HasRoom old
       → FeedsPiece opening n old.opener new.opener old.tally new.tally piece (Ok tt)
-      → Refills old.coming new.coming old.read_failed new.read_failed mid new.unread result
+      → Refills old.source.remaining new.source.remaining old.source.failed new.source.failed mid new.unread result
       → Turns opening n old new result
   turned old new mid piece result is count room f r =
       let goes = f.answered.1 in
@@ -67,18 +67,18 @@ module _ {B : Type 0} (opening : B → List ℕ → List ℕ → Option (List �
           fresh = new.unread.bytes;
           parts = ap (λ (t : List ℕ). t ++ new.unread.bytes) (sym all);
           releases = subst (λ (t : List ℕ). Releases opening n (λ s. with_piece s f.fed) old.opener new.opener old.tally new.tally t) goes.1 f.releases;
-          pulled = λ start bytes h. r.pulled start bytes (subst (λ (k : ℕ). Pulled start old.coming k bytes) (sym count) h);
+          pulled = λ start bytes h. r.pulled start bytes (subst (λ (k : ℕ). Pulled start old.source.remaining k bytes) (sym count) h);
         };
         answered = turn_answers old new mid result count room (omega (arith, goes.0, ap length all)) goes.2 r.answered;
       }
 
-  feed_fails : (old new : Flow B) (left unwritten : List ℕ) (fault : FileFault) → new.read_failed ≡ old.read_failed → FeedFails opening n new.opener old.tally new.tally left unwritten fault → FlowFails old new left unwritten fault
+  feed_fails : (old new : Flow B) (left unwritten : List ℕ) (fault : FileFault) → new.source.failed ≡ old.source.failed → FeedFails opening n new.opener old.tally new.tally left unwritten fault → FlowFails old new left unwritten fault
   feed_fails old new left unwritten (Stream f) same h = (h.0, h.1, h.2, (h.3, same))
   feed_fails old new left unwritten Write same h = h
   feed_fails old new left unwritten other same h = absurd h
 
   -- a piece was refused, or the sink failed
-  pub stopped : (old new : Flow B) (piece : List ℕ) (fault : FileFault) → piece ≡ old.unread.bytes → new.coming ≡ old.coming → new.read_failed ≡ old.read_failed → new.unread ≡ old.unread
+  pub stopped : (old new : Flow B) (piece : List ℕ) (fault : FileFault) → piece ≡ old.unread.bytes → new.source.remaining ≡ old.source.remaining → new.source.failed ≡ old.source.failed → new.unread ≡ old.unread
       → FeedsPiece opening n old.opener new.opener old.tally new.tally piece (Err fault)
       → Turns opening n old new (Err fault)
   stopped old new piece fault is coming same unread f =
@@ -90,15 +90,15 @@ module _ {B : Type 0} (opening : B → List ℕ → List ℕ → Option (List �
           fresh = [];
           parts = append-nil old.unread.bytes ∙ (sym is ∙ f.parts);
           releases = f.releases;
-          pulled = λ start bytes h. subst (λ (t : List ℕ). Pulled start new.coming new.unread.pulls t) (sym (append-nil bytes)) (subst (λ (c : Option (List ℕ)). Pulled start c new.unread.pulls bytes) (sym coming) (subst (λ (u : Unread). Pulled start old.coming u.pulls bytes) (sym unread) h));
+          pulled = λ start bytes h. subst (λ (t : List ℕ). Pulled start new.source.remaining new.unread.pulls t) (sym (append-nil bytes)) (subst (λ (c : Option (List ℕ)). Pulled start c new.unread.pulls bytes) (sym coming) (subst (λ (u : Unread). Pulled start old.source.remaining u.pulls bytes) (sym unread) h));
         };
         answered = feed_fails old new f.left f.unwritten fault same f.answered;
       }
 
   flow_fails_then : (old mid new : Flow B) (left unwritten : List ℕ) (fault : FileFault) → SameFailures old mid → FlowFails mid new left unwritten fault → FlowFails old new left unwritten fault
   flow_fails_then old mid new left unwritten (Stream f) p h = (h.0, h.1, h.2, (h.3.0 ∙ p.0, h.3.1 ∙ p.1))
-  flow_fails_then old mid new left unwritten Write p h = subst (λ (k : ℕ). HasRisen k new.tally.failed) p.0 h
-  flow_fails_then old mid new left unwritten Read p h = (h.0, h.1, subst (λ (k : ℕ). HasRisen k new.read_failed) p.1 h.2)
+  flow_fails_then old mid new left unwritten Write p h = subst (λ (k : ℕ). HasRisen k new.tally.sink.failed) p.0 h
+  flow_fails_then old mid new left unwritten Read p h = (h.0, h.1, subst (λ (k : ℕ). HasRisen k new.source.failed) p.1 h.2)
   flow_fails_then old mid new left unwritten ReadNeverEnds p h = (h.0, h.1, h.2, (h.3.0 ∙ p.0, h.3.1 ∙ p.1))
   flow_fails_then old mid new left unwritten other p h = absurd h
 

@@ -36,7 +36,7 @@ module _ (op : List ℕ → List ℕ → Option (List ℕ)) (n k : ℕ) where
 
 module _ {B : Type 0} (sealing : B → List ℕ → List ℕ → List ℕ) (opening : B → List ℕ → List ℕ → Option (List ℕ)) (lawful : (key : B) → IsLawful (sealing key) (opening key)) (n : ℕ) (positive : 0 < n) where
   abbrev pub stage_of : Flow B → Stage
-  stage_of f = record { tally = f.tally; coming = f.coming; read_failed = f.read_failed; unread = f.unread }
+  stage_of f = record { tally = f.tally; source = f.source; unread = f.unread }
 
   module _ (K : B) (k : ℕ) where
     -- the text of a segment that an opener was given from its start
@@ -98,19 +98,19 @@ module _ {B : Type 0} (sealing : B → List ℕ → List ℕ → List ℕ) (open
 
     done_or_fails : (old mid : Flow B) (new : OpenerView B) (now : Tally) (bytes out unwritten : List ℕ) (result : Result (Unit {0}) FileFault) → SameFailures old mid
         → released (opening K) n (segment k bytes true) ≡ out ++ unwritten → new.status ≡ (outcome (opening K) n (segment k bytes true)).status
-        → MatchResult result (λ _. (new.status ≡ Done) × (unwritten ≡ []) × (now.failed ≡ mid.tally.failed)) (FeedFails opening n new mid.tally now [] unwritten)
-        → MatchResult result (λ _. PayloadDone (opening K) n (stage_of old) (record { tally = now; coming = mid.coming; read_failed = mid.read_failed; unread = mid.unread }) (segment k bytes true) out)
-        (PayloadFails (opening K) n (stage_of old) (record { tally = now; coming = mid.coming; read_failed = mid.read_failed; unread = mid.unread }) (segment k bytes true) out)
+        → MatchResult result (λ _. (new.status ≡ Done) × (unwritten ≡ []) × (now.sink.failed ≡ mid.tally.sink.failed)) (FeedFails opening n new mid.tally now [] unwritten)
+        → MatchResult result (λ _. PayloadDone (opening K) n (stage_of old) (record { tally = now; source = mid.source; unread = mid.unread }) (segment k bytes true) out)
+        (PayloadFails (opening K) n (stage_of old) (record { tally = now; source = mid.source; unread = mid.unread }) (segment k bytes true) out)
     done_or_fails old mid new now bytes out unwritten (Ok u) same e s h =
         (refl, sym s ∙ h.0, sym (append-nil out) ∙ (ap (λ (t : List ℕ). out ++ t) (sym h.1) ∙ sym e), (h.2 ∙ same.0, same.1))
     done_or_fails old mid new now bytes out unwritten (Err (Stream f)) same e s h =
         (sym s ∙ h.0, sym (append-nil out) ∙ (ap (λ (t : List ℕ). out ++ t) (sym h.2) ∙ sym e), (h.3 ∙ same.0, same.1))
-    done_or_fails old mid new now bytes out unwritten (Err Write) same e s h = subst (λ (x : ℕ). HasRisen x now.failed) same.0 h
+    done_or_fails old mid new now bytes out unwritten (Err Write) same e s h = subst (λ (x : ℕ). HasRisen x now.sink.failed) same.0 h
     done_or_fails old mid new now bytes out unwritten (Err other) same e s h = absurd h
 
     pub pour_ended : (old mid : Flow B) (new : OpenerView B) (now : Tally) (result : Result (Unit {0}) FileFault) → old.opener.key ≡ K → Stands opening n old.opener (fresh k)
         → OpensAll opening n old mid (Ok tt) → Closes opening n mid.opener new mid.tally now result
-        → DecryptsPayload (opening K) n k (stage_of old) (record { tally = now; coming = mid.coming; read_failed = mid.read_failed; unread = mid.unread }) result
+        → DecryptsPayload (opening K) n k (stage_of old) (record { tally = now; source = mid.source; unread = mid.unread }) result
     pour_ended old mid new now result key h a c =
         let f = a.flows in
         let go = a.answered in

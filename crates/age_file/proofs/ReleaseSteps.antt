@@ -46,7 +46,7 @@ module _ {B : Type 0} (opening : B → List ℕ → List ℕ → Option (List �
       record {
         out = [];
         key = refl;
-        wrote = Appends-nil was.taken;
+        wrote = Appends-nil was.sink.taken;
         named = refl;
         count = omega arith;
         stands = λ s h. subst (Stands opening n o) (sym (no_piece s)) h;
@@ -63,7 +63,7 @@ module _ {B : Type 0} (opening : B → List ℕ → List ℕ → Option (List �
       record {
         out = p.out ++ q.out;
         key = q.key ∙ p.key;
-        wrote = Appends-then was.taken between.taken now.taken p.out q.out p.wrote q.wrote;
+        wrote = Appends-then was.sink.taken between.sink.taken now.sink.taken p.out q.out p.wrote q.wrote;
         named = q.named ∙ p.named;
         count = omega (arith, p.count, q.count, length-append p.out q.out);
         stands = λ s h. subst (Stands opening n new) (same s) (q.stands (with_piece s a) (p.stands s h));
@@ -126,7 +126,7 @@ module _ {B : Type 0} (opening : B → List ℕ → List ℕ → Option (List �
       → new.key ≡ old.key
       → ((s : Segment) → Stands opening n old s → Stands opening n new (with_piece s (take taken piece)))
       → ((s : Segment) → Stands opening n old s → (outcome (opening old.key) n (with_piece s (take taken piece))).texts ≡ (outcome (opening old.key) n s).texts ++ chunk_texts chunk)
-      → chunk_bytes chunk ≡ out ++ unwritten → Appends was.taken now.taken out → now.label ≡ was.label → now.progress.written ≡ was.progress.written + length out
+      → chunk_bytes chunk ≡ out ++ unwritten → Appends was.sink.taken now.sink.taken out → now.sink.label ≡ was.sink.label → now.progress.written ≡ was.progress.written + length out
       → IsMarkedOn old (take taken piece) was.progress now.progress unwritten
       → Releases opening n (λ s. with_piece s (take taken piece)) old new was now unwritten
   fed_front old new was now piece taken chunk out unwritten key stands texts lent wrote named count counts =
@@ -144,7 +144,7 @@ module _ {B : Type 0} (opening : B → List ℕ → List ℕ → Option (List �
   -- how much it then holds and wrote
   pub goes_front : (old new : OpenerView B) (was now : Tally) (piece : List ℕ) (taken : ℕ) (chunk : Option (Bor (List ℕ))) (out unwritten : List ℕ)
       → taken ≤ length piece → length new.held + length (chunk_bytes chunk) ≤ length old.held + taken
-      → chunk_bytes chunk ≡ out ++ unwritten → now.progress.written ≡ was.progress.written + length out → unwritten ≡ [] → now.failed ≡ was.failed
+      → chunk_bytes chunk ≡ out ++ unwritten → now.progress.written ≡ was.progress.written + length out → unwritten ≡ [] → now.sink.failed ≡ was.sink.failed
       → (taken ≡ length (take taken piece)) × FeedGoes opening n old new was now (take taken piece) unwritten
   goes_front old new was now piece taken chunk out unwritten le room lent count whole failed =
       let len : length (chunk_bytes chunk) ≡ length out = ap length (lent ∙ (ap (λ (t : List ℕ). out ++ t) whole ∙ append-nil out)) in
@@ -172,5 +172,5 @@ module _ {B : Type 0} (opening : B → List ℕ → List ℕ → Option (List �
   pub fails_then : (a : List ℕ) (old mid new : OpenerView B) (was between now : Tally) (left unwritten : List ℕ) (fault : FileFault)
       → FeedGoes opening n old mid was between a [] → FeedFails opening n new between now left unwritten fault → FeedFails opening n new was now left unwritten fault
   fails_then a old mid new was between now left unwritten (Stream f) p h = (h.0, h.1, h.2, h.3 ∙ p.2)
-  fails_then a old mid new was between now left unwritten Write p h = subst (λ (k : ℕ). HasRisen k now.failed) p.2 h
+  fails_then a old mid new was between now left unwritten Write p h = subst (λ (k : ℕ). HasRisen k now.sink.failed) p.2 h
   fails_then a old mid new was between now left unwritten other p h = h

@@ -36,6 +36,7 @@ use Rattle.age_file.specs.OldTexts.{BeginsWith, IsOldText}
 use Rattle.age_file.specs.ResumeFaults.{NeverEnd, StopsInOld, StopsInPassed, ResumeFails}
 use Rattle.age_file.specs.Starts.{StartFails}
 use Rattle.age_file.specs.inner.Starts.{Uses, StartsAt}
+use Rattle.age_io.specs.Views.{SourceView}
 use Rattle.age_file.specs.inner.Unread.{Unread}
 use Rattle.age_file.specs.declared.fault.FileFault.{FileFault}
 use Rattle.age_file.specs.declared.fault.FileFault.TheVariants.{Stream, OtherFile, ShortText, Read, Write, ReadNeverEnds, PositionForged, OldTextDiffers}
@@ -102,11 +103,11 @@ resumes_all p r limit whole done text auth = ap (λ (t : List ℕ). r.copied ++ 
 -- ---- a run that stopped in the old text, or before it
 
 module _ (keep : Positions) (Allows : Header → List ℕ → Type 0) (Refused : Header → KeyFault → Type 0) (p : Position) where
-  abbrev pub before : Option (List ℕ) → ℕ → Tally → Side → ResumePorts
-  before a i first x = record { main = record { coming = a; read_failed = i; taken = first.taken; write_failed = first.failed }; old_coming = x.coming; old_failed = x.failed }
+  abbrev pub before : SourceView → Tally → Side → ResumePorts
+  before a first x = record { main = record { source = a; sink = first.sink }; old = x.source }
 
   abbrev pub after : Stage → Side → ResumePorts
-  after new z = record { main = record { coming = new.coming; read_failed = new.read_failed; taken = new.tally.taken; write_failed = new.tally.failed }; old_coming = z.coming; old_failed = z.failed }
+  after new z = record { main = record { source = new.source; sink = new.tally.sink }; old = z.source }
 
   abbrev opened : (a b : Option (List ℕ)) (u : Unread) (unlocked : Unlocked) → StartsAt Allows a b u unlocked → OpenedFile
   opened a b u unlocked s = record { header = s.header; front = s.front; key = unlocked.key; nonce = unlocked.nonce }
@@ -116,8 +117,8 @@ module _ (keep : Positions) (Allows : Header → List ℕ → Type 0) (Refused :
   reads_of a b u unlocked s c rest read = record { text = s.text; opens = s.opens; size = s.size; read = read }
 
   -- no payload came to be opened
-  pub start_fails : (old new : ResumePorts) (fault : FileFault) → Consumes old.old_coming new.old_coming [] → Appends old.main.taken new.main.taken []
-      → StartFails Allows Refused old.main.coming new.main.coming old.main.read_failed new.main.read_failed fault → ResumeFails keep Allows p Refused old new 0 None fault
+  pub start_fails : (old new : ResumePorts) (fault : FileFault) → Consumes old.old.remaining new.old.remaining [] → Appends old.main.sink.taken new.main.sink.taken []
+      → StartFails Allows Refused old.main.source.remaining new.main.source.remaining old.main.source.failed new.main.source.failed fault → ResumeFails keep Allows p Refused old new 0 None fault
   start_fails old new Read unread none f = inl ((none, refl, refl), f.0, f.1)
   start_fails old new ReadNeverEnds unread none f =
       inl ((none, refl, refl), f.0, (f.1.0, [], f.1.1, unread, (omega (arith, f.1.2.0), omega (arith, f.1.2.1))))
@@ -130,12 +131,12 @@ module _ (keep : Positions) (Allows : Header → List ℕ → Type 0) (Refused :
   start_fails old new other unread none f = ((none, refl, refl), f)
 
   -- the position was refused
-  pub verdict_fails : (old new : ResumePorts) (u : Unread) (unlocked : Unlocked) (fault : FileFault) → Appends old.main.taken new.main.taken []
-      → StartsAt Allows old.main.coming new.main.coming u unlocked → PositionRefused p unlocked.id unlocked.key unlocked.nonce fault → ResumeFails keep Allows p Refused old new 0 None fault
+  pub verdict_fails : (old new : ResumePorts) (u : Unread) (unlocked : Unlocked) (fault : FileFault) → Appends old.main.sink.taken new.main.sink.taken []
+      → StartsAt Allows old.main.source.remaining new.main.source.remaining u unlocked → PositionRefused p unlocked.id unlocked.key unlocked.nonce fault → ResumeFails keep Allows p Refused old new 0 None fault
   verdict_fails old new u unlocked OtherFile none s f =
-      ((none, refl, refl), opened old.main.coming new.main.coming u unlocked s, u.bytes, reads_of old.main.coming new.main.coming u unlocked s new.main.coming u.bytes s.pulled.consumed, λ own. f (own ∙ sym s.id))
+      ((none, refl, refl), opened old.main.source.remaining new.main.source.remaining u unlocked s, u.bytes, reads_of old.main.source.remaining new.main.source.remaining u unlocked s new.main.source.remaining u.bytes s.pulled.consumed, λ own. f (own ∙ sym s.id))
   verdict_fails old new u unlocked PositionForged none s f =
-      ((none, refl, refl), opened old.main.coming new.main.coming u unlocked s, u.bytes, reads_of old.main.coming new.main.coming u unlocked s new.main.coming u.bytes s.pulled.consumed, f.0 ∙ s.id, f.1)
+      ((none, refl, refl), opened old.main.source.remaining new.main.source.remaining u unlocked s, u.bytes, reads_of old.main.source.remaining new.main.source.remaining u unlocked s new.main.source.remaining u.bytes s.pulled.consumed, f.0 ∙ s.id, f.1)
   verdict_fails old new u unlocked other none s f = absurd f
 
   -- the position is this file's
@@ -147,10 +148,10 @@ module _ (keep : Positions) (Allows : Header → List ℕ → Type 0) (Refused :
   accepts_of a b u unlocked s v c rest read = record { reads = reads_of a b u unlocked s c rest read; own = v.0 ∙ s.id; tagged = v.1 }
 
   -- the file was started, and the old text's pulls are counted on from there
-  module _ (a : Option (List ℕ)) (i : ℕ) (unlocked : Unlocked) (s1 : Stage) (u : Unread) (s : StartsAt Allows a s1.coming u unlocked) (v : IsVerified unlocked) (same : s1.read_failed ≡ i)
+  module _ (a : SourceView) (unlocked : Unlocked) (s1 : Stage) (u : Unread) (s : StartsAt Allows a.remaining s1.source.remaining u unlocked) (v : IsVerified unlocked) (same : s1.source.failed ≡ a.failed)
       (first : Tally) (zero : first.progress.written ≡ 0) (x z : Side) (none : x.unread.bytes ≡ []) (pulls : x.unread.pulls ≡ u.pulls) where
     abbrev file : OpenedFile
-    file = opened a s1.coming u unlocked s
+    file = opened a.remaining s1.source.remaining u unlocked s
 
     abbrev head : List ℕ
     head = s.front ++ unlocked.nonce
@@ -160,26 +161,26 @@ module _ (keep : Positions) (Allows : Header → List ℕ → Type 0) (Refused :
     started = head ++ u.bytes
 
     -- what was used of the old text, from its start
-    old_pulled : (used : List ℕ) → Uses x.coming z.coming x.unread z.unread used → Pulled (preceded started x.coming) z.coming z.unread.pulls (started ++ (used ++ z.unread.bytes))
+    old_pulled : (used : List ℕ) → Uses x.source.remaining z.source.remaining x.unread z.unread used → Pulled (preceded started x.source.remaining) z.source.remaining z.unread.pulls (started ++ (used ++ z.unread.bytes))
     old_pulled used uses =
-        let none_used = counted_on a s1.coming x.coming u.pulls started s.pulled in
-        let fresh = subst (λ (k : ℕ). Pulled (preceded started x.coming) x.coming k (started ++ [])) (sym pulls) none_used in
-        uses (preceded started x.coming) started (subst (λ (t : List ℕ). Pulled (preceded started x.coming) x.coming x.unread.pulls (started ++ t)) (sym none) fresh)
+        let none_used = counted_on a.remaining s1.source.remaining x.source.remaining u.pulls started s.pulled in
+        let fresh = subst (λ (k : ℕ). Pulled (preceded started x.source.remaining) x.source.remaining k (started ++ [])) (sym pulls) none_used in
+        uses (preceded started x.source.remaining) started (subst (λ (t : List ℕ). Pulled (preceded started x.source.remaining) x.source.remaining x.unread.pulls (started ++ t)) (sym none) fresh)
 
-    old_dried : (used : List ℕ) → z.unread.bytes ≡ [] → Uses x.coming z.coming x.unread z.unread used → Pulled (preceded started x.coming) z.coming z.unread.pulls (started ++ used)
+    old_dried : (used : List ℕ) → z.unread.bytes ≡ [] → Uses x.source.remaining z.source.remaining x.unread z.unread used → Pulled (preceded started x.source.remaining) z.source.remaining z.unread.pulls (started ++ used)
     old_dried used empty uses =
-        subst (λ (t : List ℕ). Pulled (preceded started x.coming) z.coming z.unread.pulls (started ++ t)) (ap (λ (t : List ℕ). used ++ t) empty ∙ append-nil used) (old_pulled used uses)
+        subst (λ (t : List ℕ). Pulled (preceded started x.source.remaining) z.source.remaining z.unread.pulls (started ++ t)) (ap (λ (t : List ℕ). used ++ t) empty ∙ append-nil used) (old_pulled used uses)
 
-    old_read : (y : List ℕ) → Pulled (preceded started x.coming) z.coming z.unread.pulls (started ++ y) → Consumes x.coming z.coming y
-    old_read y h = preceded_consumed started y x.coming z.coming h.consumed
+    old_read : (y : List ℕ) → Pulled (preceded started x.source.remaining) z.source.remaining z.unread.pulls (started ++ y) → Consumes x.source.remaining z.source.remaining y
+    old_read y h = preceded_consumed started y x.source.remaining z.source.remaining h.consumed
 
     -- the copy of the old text stopped
-    stops_in_old : (out pulled : List ℕ) → Appends first.taken s1.tally.taken out → s1.tally.progress.written ≡ first.progress.written + length out → length out < p.index * 65536
-        → Consumes x.coming z.coming pulled → IsPrefixOf out pulled → StopsInOld Allows p (before a i first x) (after s1 z) s1.tally.progress.written None
+    stops_in_old : (out pulled : List ℕ) → Appends first.sink.taken s1.tally.sink.taken out → s1.tally.progress.written ≡ first.progress.written + length out → length out < p.index * 65536
+        → Consumes x.source.remaining z.source.remaining pulled → IsPrefixOf out pulled → StopsInOld Allows p (before a first x) (after s1 z) s1.tally.progress.written None
     stops_in_old out pulled wrote count short read front = record {
       file = file;
       rest = u.bytes;
-      accepts = accepts_of a s1.coming u unlocked s v s1.coming u.bytes s.pulled.consumed;
+      accepts = accepts_of a.remaining s1.source.remaining u unlocked s v s1.source.remaining u.bytes s.pulled.consumed;
       copied = out;
       short = short;
       writes = record {
@@ -188,12 +189,12 @@ module _ (keep : Positions) (Allows : Header → List ℕ → Type 0) (Refused :
         front = front;
         wrote = wrote;
         count = omega (arith, count, zero);
-        of = old_of p x.coming z.coming pulled out read front (omega (arith, short));
+        of = old_of p x.source.remaining z.source.remaining pulled out read front (omega (arith, short));
       };
       none = refl;
     }
 
-    pub copy_fails : (fault : FileFault) → CopiesText keep 65536 p.index p.chain x z first s1.tally (Err fault) → ResumeFails keep Allows p Refused (before a i first x) (after s1 z) s1.tally.progress.written None fault
+    pub copy_fails : (fault : FileFault) → CopiesText keep 65536 p.index p.chain x z first s1.tally (Err fault) → ResumeFails keep Allows p Refused (before a first x) (after s1 z) s1.tally.progress.written None fault
     unfolding stops_in_old
     copy_fails ShortText c =
         let f = c.answered in
@@ -225,7 +226,7 @@ module _ (keep : Positions) (Allows : Header → List ℕ → Type 0) (Refused :
           refl,
           file,
           u.bytes,
-          accepts_of a s1.coming u unlocked s v s1.coming u.bytes s.pulled.consumed,
+          accepts_of a.remaining s1.source.remaining u unlocked s v s1.source.remaining u.bytes s.pulled.consumed,
           c.out,
           record {
             pulled = c.out ++ z.unread.bytes;
@@ -233,7 +234,7 @@ module _ (keep : Positions) (Allows : Header → List ℕ → Type 0) (Refused :
             front = front;
             wrote = c.wrote;
             count = omega (arith, c.count, zero);
-            of = old_of p x.coming z.coming (c.out ++ z.unread.bytes) c.out read front le;
+            of = old_of p x.source.remaining z.source.remaining (c.out ++ z.unread.bytes) c.out read front le;
           },
           f.0.0,
           λ e. f.1 (f.0.4 ∙ ap Some e),
@@ -253,29 +254,29 @@ module _ (keep : Positions) (Allows : Header → List ℕ → Type 0) (Refused :
       abbrev old_bytes : List ℕ
       old_bytes = c.out ++ z.unread.bytes
 
-      old_used : Pulled (preceded started x.coming) z.coming z.unread.pulls (started ++ old_bytes)
+      old_used : Pulled (preceded started x.source.remaining) z.source.remaining z.unread.pulls (started ++ old_bytes)
       old_used = old_pulled c.out c.answered.1.uses
 
-      old_is_read : Consumes x.coming z.coming old_bytes
+      old_is_read : Consumes x.source.remaining z.source.remaining old_bytes
       old_is_read = old_read old_bytes old_used
 
-      pub again : Pulled (preceded old_bytes a) s1.coming s1.unread.pulls ((old_bytes ++ head) ++ s1.unread.bytes)
+      pub again : Pulled (preceded old_bytes a.remaining) s1.source.remaining s1.unread.pulls ((old_bytes ++ head) ++ s1.unread.bytes)
       again =
-          let back = counted_back a s1.coming x.coming z.coming u.pulls z.unread.pulls started old_bytes s.pulled old_used in
+          let back = counted_back a.remaining s1.source.remaining x.source.remaining z.source.remaining u.pulls z.unread.pulls started old_bytes s.pulled old_used in
           let bytes = ap (λ (t : List ℕ). old_bytes ++ (head ++ t)) (sym kept) ∙ sym (append_assoc old_bytes head s1.unread.bytes) in
-          subst (λ (k : ℕ). Pulled (preceded old_bytes a) s1.coming k ((old_bytes ++ head) ++ s1.unread.bytes)) (sym on)
-          (subst (λ (t : List ℕ). Pulled (preceded old_bytes a) s1.coming z.unread.pulls t) bytes back)
+          subst (λ (k : ℕ). Pulled (preceded old_bytes a.remaining) s1.source.remaining k ((old_bytes ++ head) ++ s1.unread.bytes)) (sym on)
+          (subst (λ (t : List ℕ). Pulled (preceded old_bytes a.remaining) s1.source.remaining z.unread.pulls t) bytes back)
 
-      read_on : (s2 : Stage) (y : List ℕ) → Pulled (preceded old_bytes a) s2.coming s2.unread.pulls (old_bytes ++ y) → Consumes a s2.coming y
-      read_on s2 y h = preceded_consumed old_bytes y a s2.coming h.consumed
+      read_on : (s2 : Stage) (y : List ℕ) → Pulled (preceded old_bytes a.remaining) s2.source.remaining s2.unread.pulls (old_bytes ++ y) → Consumes a.remaining s2.source.remaining y
+      read_on s2 y h = preceded_consumed old_bytes y a.remaining s2.source.remaining h.consumed
 
-      never_end : (s2 : Stage) (y : List ℕ) → Pulled (preceded old_bytes a) s2.coming s2.unread.pulls (old_bytes ++ y) → s2.unread.pulls ≡ 2 ^ 63 → NeverEnd (before a i first x) (after s2 z)
+      never_end : (s2 : Stage) (y : List ℕ) → Pulled (preceded old_bytes a.remaining) s2.source.remaining s2.unread.pulls (old_bytes ++ y) → s2.unread.pulls ≡ 2 ^ 63 → NeverEnd (before a first x) (after s2 z)
       never_end s2 y h all =
           let both = length-append old_bytes y in
           (y, old_bytes, read_on s2 y h, old_is_read, (omega (arith, h.each_gave, all, both), omega (arith, h.small, all, both)))
 
       -- the old text, and no more, was written
-      writes_old : (s2 : Stage) → s2.tally ≡ s1.tally → WritesOld p (before a i first x) (after s2 z) s2.tally.progress.written c.out
+      writes_old : (s2 : Stage) → s2.tally ≡ s1.tally → WritesOld p (before a first x) (after s2 z) s2.tally.progress.written c.out
       writes_old s2 still =
           let le : length c.out ≤ p.index * 65536 = omega (arith, c.answered.0) in
           let front : IsPrefixOf c.out (c.out ++ z.unread.bytes) = (z.unread.bytes, refl) in
@@ -284,17 +285,17 @@ module _ (keep : Positions) (Allows : Header → List ℕ → Type 0) (Refused :
             pulled = old_bytes;
             read = old_is_read;
             front = front;
-            wrote = subst (λ (t : Option (List ℕ)). Appends first.taken t c.out) (sym (ap (λ (t : Tally). t.taken) still)) c.wrote;
+            wrote = subst (λ (t : Option (List ℕ)). Appends first.sink.taken t c.out) (sym (ap (λ (t : Tally). t.sink.taken) still)) c.wrote;
             count = omega (arith, c.count, zero, written);
-            of = old_of p x.coming z.coming old_bytes c.out old_is_read front le;
+            of = old_of p x.source.remaining z.source.remaining old_bytes c.out old_is_read front le;
           }
 
       -- the run stopped in the blocks that are passed over
       stops_in_passed : (s2 : Stage) (position : Option Position) (passed : List ℕ) → s2.tally ≡ s1.tally → Told keep (IsSame p) position → length passed < p.index * 65552
-          → Consumes a s2.coming (head ++ passed) → StopsInPassed keep Allows p (before a i first x) (after s2 z) s2.tally.progress.written position passed
+          → Consumes a.remaining s2.source.remaining (head ++ passed) → StopsInPassed keep Allows p (before a first x) (after s2 z) s2.tally.progress.written position passed
       stops_in_passed s2 position passed still at short read = record {
         file = file;
-        accepts = accepts_of a s1.coming u unlocked s v s2.coming passed read;
+        accepts = accepts_of a.remaining s1.source.remaining u unlocked s v s2.source.remaining passed read;
         short = short;
         copied = c.out;
         old_text = old_text;
@@ -302,18 +303,18 @@ module _ (keep : Positions) (Allows : Header → List ℕ → Type 0) (Refused :
         here = at;
       }
 
-      dried : (s2 : Stage) (passed : List ℕ) → s2.unread.bytes ≡ [] → Uses s1.coming s2.coming s1.unread s2.unread passed → Pulled (preceded old_bytes a) s2.coming s2.unread.pulls (old_bytes ++ (head ++ passed))
+      dried : (s2 : Stage) (passed : List ℕ) → s2.unread.bytes ≡ [] → Uses s1.source.remaining s2.source.remaining s1.unread s2.unread passed → Pulled (preceded old_bytes a.remaining) s2.source.remaining s2.unread.pulls (old_bytes ++ (head ++ passed))
       dried s2 passed empty uses =
           let bytes = ap (λ (t : List ℕ). (old_bytes ++ head) ++ t) (ap (λ (t : List ℕ). passed ++ t) empty ∙ append-nil passed) ∙ append_assoc old_bytes head passed in
-          subst (λ (t : List ℕ). Pulled (preceded old_bytes a) s2.coming s2.unread.pulls t) bytes (uses (preceded old_bytes a) (old_bytes ++ head) again)
+          subst (λ (t : List ℕ). Pulled (preceded old_bytes a.remaining) s2.source.remaining s2.unread.pulls t) bytes (uses (preceded old_bytes a.remaining) (old_bytes ++ head) again)
 
       passed_fails : (s2 : Stage) (position : Option Position) (fault : FileFault) → s2.tally ≡ s1.tally → Told keep (IsSame p) position → SkipFails 65552 p.index (side_of s1) (side_of s2) fault
-          → ResumeFails keep Allows p Refused (before a i first x) (after s2 z) s2.tally.progress.written position fault
+          → ResumeFails keep Allows p Refused (before a first x) (after s2 z) s2.tally.progress.written position fault
       passed_fails s2 position (Stream fault) still at f =
           let e = f.2 in
           let all = read_on s2 (head ++ e.bytes) (dried s2 e.bytes e.used e.passes.uses) in
           let more : suc fault.chunk * 65552 ≤ p.index * 65552 = mul-le-mul_right 65552 f.1 in
-          let failed : s2.tally.failed ≡ first.failed = ap (λ (t : Tally). t.failed) still ∙ c.answered.2 in (
+          let failed : s2.tally.sink.failed ≡ first.sink.failed = ap (λ (t : Tally). t.sink.failed) still ∙ c.answered.2 in (
             inl (record {
               passed = e.bytes;
               stops = stops_in_passed s2 position e.bytes still at (omega (arith, e.most, more)) all;
@@ -326,7 +327,7 @@ module _ (keep : Positions) (Allows : Header → List ℕ → Type 0) (Refused :
           )
       passed_fails s2 position Read still at f =
           let all = read_on s2 (head ++ f.0) (dried s2 f.0 f.2.used f.2.uses) in
-          inr (inr (inl (f.0, stops_in_passed s2 position f.0 still at f.1 all, subst (λ (m : ℕ). HasRisen m s2.read_failed) same f.2.why)))
+          inr (inr (inl (f.0, stops_in_passed s2 position f.0 still at f.1 all, subst (λ (m : ℕ). HasRisen m s2.source.failed) same f.2.why)))
       passed_fails s2 position ReadNeverEnds still at f =
           let all = dried s2 f.0 f.2.used f.2.uses in
           inr (inr (inl (f.0, stops_in_passed s2 position f.0 still at f.1 (read_on s2 (head ++ f.0) all), never_end s2 (head ++ f.0) all f.2.why)))
@@ -336,12 +337,12 @@ module _ (keep : Positions) (Allows : Header → List ℕ → Type 0) (Refused :
       record IsDecrypted (s2 : Stage) (result : Result (Unit {0}) FileFault) : Type 0 where
         run : Resumption
         file_is : run.file ≡ file
-        is : IsResumption Allows p (before a i first x) (after s2 z) s2.tally.progress.written run
-        pulled : Pulled (preceded old_bytes a) s2.coming s2.unread.pulls (old_bytes ++ (head ++ (run.passed ++ run.bytes)))
+        is : IsResumption Allows p (before a first x) (after s2 z) s2.tally.progress.written run
+        pulled : Pulled (preceded old_bytes a.remaining) s2.source.remaining s2.unread.pulls (old_bytes ++ (head ++ (run.passed ++ run.bytes)))
         counts : HasCounted keep (unbox run.file.key run.file.nonce) 65536 (run.copied ++ run.out) (segment_at p run) s2.tally.progress
         mid : Stage
-        read_failed : mid.read_failed ≡ i
-        write_failed : mid.tally.failed ≡ first.failed
+        read_failed : mid.source.failed ≡ a.failed
+        write_failed : mid.tally.sink.failed ≡ first.sink.failed
         answered : MatchResult result (λ _. PayloadDone (unbox run.file.key run.file.nonce) 65536 mid s2 (segment_at p run) run.out) (PayloadFails (unbox run.file.key run.file.nonce) 65536 mid s2 (segment_at p run) run.out)
 
       decrypted : (key : List ℕ) (s2 : Stage) (result : Result (Unit {0}) FileFault) → key ≡ payload_key unlocked.key unlocked.nonce
@@ -349,15 +350,15 @@ module _ (keep : Positions) (Allows : Header → List ℕ → Type 0) (Refused :
       decrypted key s2 result key_is b =
           let q = subst (λ (t : List ℕ). DecryptsPayload (λ nonce block. opening t nonce [] block) 65536 p.index b.mid s2 result) key_is b.decrypts in
           let front = old_bytes ++ head in
-          let behind : Pulled (preceded old_bytes a) b.mid.coming b.mid.unread.pulls (front ++ (b.passed ++ b.mid.unread.bytes)) = b.passes.uses (preceded old_bytes a) front again in
-          let all : Pulled (preceded old_bytes a) s2.coming s2.unread.pulls ((front ++ (b.passed ++ b.mid.unread.bytes)) ++ q.fresh) = q.pulled (preceded old_bytes a) (front ++ (b.passed ++ b.mid.unread.bytes)) behind in
+          let behind : Pulled (preceded old_bytes a.remaining) b.mid.source.remaining b.mid.unread.pulls (front ++ (b.passed ++ b.mid.unread.bytes)) = b.passes.uses (preceded old_bytes a.remaining) front again in
+          let all : Pulled (preceded old_bytes a.remaining) s2.source.remaining s2.unread.pulls ((front ++ (b.passed ++ b.mid.unread.bytes)) ++ q.fresh) = q.pulled (preceded old_bytes a.remaining) (front ++ (b.passed ++ b.mid.unread.bytes)) behind in
           let parts : (front ++ (b.passed ++ b.mid.unread.bytes)) ++ q.fresh ≡ old_bytes ++ (head ++ (b.passed ++ q.bytes)) =
           append_assoc front (b.passed ++ b.mid.unread.bytes) q.fresh
           ∙ (ap (λ (t : List ℕ). front ++ t) (append_assoc b.passed b.mid.unread.bytes q.fresh ∙ ap (λ (t : List ℕ). b.passed ++ t) q.parts)
           ∙ append_assoc old_bytes head (b.passed ++ q.bytes)) in
-          let pulls : Pulled (preceded old_bytes a) s2.coming s2.unread.pulls (old_bytes ++ (head ++ (b.passed ++ q.bytes))) =
-          subst (λ (t : List ℕ). Pulled (preceded old_bytes a) s2.coming s2.unread.pulls t) parts all in
-          let wrote : Appends s1.tally.taken s2.tally.taken q.out = subst (λ (t : Option (List ℕ)). Appends t s2.tally.taken q.out) (ap (λ (t : Tally). t.taken) b.same) q.wrote in
+          let pulls : Pulled (preceded old_bytes a.remaining) s2.source.remaining s2.unread.pulls (old_bytes ++ (head ++ (b.passed ++ q.bytes))) =
+          subst (λ (t : List ℕ). Pulled (preceded old_bytes a.remaining) s2.source.remaining s2.unread.pulls t) parts all in
+          let wrote : Appends s1.tally.sink.taken s2.tally.sink.taken q.out = subst (λ (t : Option (List ℕ)). Appends t s2.tally.sink.taken q.out) (ap (λ (t : Tally). t.sink.taken) b.same) q.wrote in
           let written : b.mid.tally.progress.written ≡ s1.tally.progress.written = ap (λ (t : Tally). t.progress.written) b.same in
           let index : b.mid.tally.progress.index ≡ p.index = ap (λ (t : Tally). t.progress.index) b.same ∙ c.answered.3 in
           let links : b.mid.tally.progress.chain ≡ chain_if keep (first_chunks 65536 p.index c.out) = ap (λ (t : Tally). t.progress.chain) b.same ∙ c.answered.4 in
@@ -367,13 +368,13 @@ module _ (keep : Positions) (Allows : Header → List ℕ → Type 0) (Refused :
             is = record {
               own = v.0 ∙ s.id;
               tagged = v.1;
-              reads = reads_of a s1.coming u unlocked s s2.coming (b.passed ++ q.bytes) (read_on s2 (head ++ (b.passed ++ q.bytes)) pulls);
+              reads = reads_of a.remaining s1.source.remaining u unlocked s s2.source.remaining (b.passed ++ q.bytes) (read_on s2 (head ++ (b.passed ++ q.bytes)) pulls);
               old_text = old_text;
               passed_size = b.size;
               more = z.unread.bytes;
               old_read = old_is_read;
               at_end = q.at_end;
-              wrote = Appends-then first.taken s1.tally.taken s2.tally.taken c.out q.out c.wrote wrote;
+              wrote = Appends-then first.sink.taken s1.tally.sink.taken s2.tally.sink.taken c.out q.out c.wrote wrote;
               count = omega (arith, q.count, written, c.count, zero, length-append c.out q.out);
               prefix = q.prefix;
             };
@@ -381,11 +382,11 @@ module _ (keep : Positions) (Allows : Header → List ℕ → Type 0) (Refused :
             counts = q.counts keep c.out c.answered.0 index links;
             mid = b.mid;
             read_failed = b.passes.unfailed ∙ same;
-            write_failed = ap (λ (t : Tally). t.failed) b.same ∙ c.answered.2;
+            write_failed = ap (λ (t : Tally). t.sink.failed) b.same ∙ c.answered.2;
             answered = q.answered;
           }
 
-      decrypted_done : (s2 : Stage) (b : IsDecrypted s2 (Ok tt)) → ResumeDone Allows p (before a i first x) (after s2 z) s2.tally.progress.written b.run
+      decrypted_done : (s2 : Stage) (b : IsDecrypted s2 (Ok tt)) → ResumeDone Allows p (before a first x) (after s2 z) s2.tally.progress.written b.run
       decrypted_done s2 b =
           let f = b.answered in
           record {
@@ -422,18 +423,18 @@ module _ (keep : Positions) (Allows : Header → List ℕ → Type 0) (Refused :
 
       decrypted_fails : (s2 : Stage) (position : Option Position) (fault : FileFault) (b : IsDecrypted s2 (Err fault)) → Told keep (IsNextPosition p b.run) position
           → PayloadFails (unbox b.run.file.key b.run.file.nonce) 65536 b.mid s2 (segment_at p b.run) b.run.out fault
-          → ResumeFails keep Allows p Refused (before a i first x) (after s2 z) s2.tally.progress.written position fault
+          → ResumeFails keep Allows p Refused (before a first x) (after s2 z) s2.tally.progress.written position fault
       decrypted_fails s2 position (Stream fault) b h f = (
         inr (b.run, record { is = b.is; whole = f.1; of = resumes_of p b.run limit b.is.prefix }, h, f.0),
         ((f.2.1 ∙ b.read_failed, f.2.0 ∙ b.write_failed), c.answered.1.unfailed),
       )
       decrypted_fails s2 position Write b h f =
-          (inr (b.run, b.is, resumes_of p b.run limit b.is.prefix, h), subst (λ (m : ℕ). HasRisen m s2.tally.failed) b.write_failed f)
+          (inr (b.run, b.is, resumes_of p b.run limit b.is.prefix, h), subst (λ (m : ℕ). HasRisen m s2.tally.sink.failed) b.write_failed f)
       decrypted_fails s2 position Read b h f = inr (inr (inr (
         b.run,
         record { is = b.is; whole = f.0; of = resumes_of p b.run limit b.is.prefix },
         h,
-        subst (λ (m : ℕ). HasRisen m s2.read_failed) b.read_failed f.1,
+        subst (λ (m : ℕ). HasRisen m s2.source.failed) b.read_failed f.1,
       )))
       decrypted_fails s2 position ReadNeverEnds b h f = inr (inr (inr (
         b.run,
@@ -446,7 +447,7 @@ module _ (keep : Positions) (Allows : Header → List ℕ → Type 0) (Refused :
       -- ---- the whole run
 
       pub resume_done : (key : List ℕ) (s2 : Stage) → key ≡ payload_key unlocked.key unlocked.nonce → ResumesPayload (λ nonce block. opening key nonce [] block) p.index s1 s2 (Ok tt)
-          → (r : Resumption) × ResumeDone Allows p (before a i first x) (after s2 z) s2.tally.progress.written r
+          → (r : Resumption) × ResumeDone Allows p (before a first x) (after s2 z) s2.tally.progress.written r
       resume_done key s2 key_is (inl stopped) = (let clash : Ok tt ≡ Err stopped.fault = stopped.is in absurd cc)
       resume_done key s2 key_is (inr behind) = (let b = decrypted key s2 (Ok tt) key_is behind in (b.run, decrypted_done s2 b))
 
@@ -477,7 +478,7 @@ module _ (keep : Positions) (Allows : Header → List ℕ → Type 0) (Refused :
 
       pub resume_fails : (key : List ℕ) (s2 : Stage) (position : Option Position) (fault : FileFault) → key ≡ payload_key unlocked.key unlocked.nonce
           → PositionAt unlocked s2.tally.progress.index s2.tally.progress.chain position
-          → ResumesPayload (λ nonce block. opening key nonce [] block) p.index s1 s2 (Err fault) → ResumeFails keep Allows p Refused (before a i first x) (after s2 z) s2.tally.progress.written position fault
+          → ResumesPayload (λ nonce block. opening key nonce [] block) p.index s1 s2 (Err fault) → ResumeFails keep Allows p Refused (before a first x) (after s2 z) s2.tally.progress.written position fault
       resume_fails key s2 position fault key_is at (inl stopped) =
           let is : Err fault ≡ Err stopped.fault = stopped.is in
           let e : stopped.fault ≡ fault = cc in

@@ -12,11 +12,11 @@ use Rattle.age_file.specs.declared.fault.FileFault.{FileFault}
 -- there is room behind the blocks that were passed over
 pub place_behind : (old mid : Stage) (passed : List ℕ) → old.tally.progress.written ≤ 2 ^ 64 → mid.tally.progress.written ≡ old.tally.progress.written → HasPulled old → Passes (side_of old) (side_of mid) passed → HasPlace mid
 place_behind old mid passed room same (start, used, pulled) passes =
-    let all : Pulled start mid.coming mid.unread.pulls (used ++ (passed ++ mid.unread.bytes)) = passes.uses start used pulled in
+    let all : Pulled start mid.source.remaining mid.unread.pulls (used ++ (passed ++ mid.unread.bytes)) = passes.uses start used pulled in
     (omega (arith, all.small, same, room, length-append used (passed ++ mid.unread.bytes), length-append passed mid.unread.bytes), all.most)
 
 -- the sink goes by its name
 pub resumed_label : (opening : List ℕ → List ℕ → Option (List ℕ)) (index : ℕ) (old new : Stage) (result : Result (Unit {0}) FileFault) → ResumesPayload opening index old new result
-    → new.tally.label ≡ old.tally.label
-resumed_label opening index old new result (inl stopped) = ap (λ (t : Tally). t.label) stopped.same
-resumed_label opening index old new result (inr behind) = behind.decrypts.named ∙ ap (λ (t : Tally). t.label) behind.same
+    → new.tally.sink.label ≡ old.tally.sink.label
+resumed_label opening index old new result (inl stopped) = ap (λ (t : Tally). t.sink.label) stopped.same
+resumed_label opening index old new result (inr behind) = behind.decrypts.named ∙ ap (λ (t : Tally). t.sink.label) behind.same

@@ -45,13 +45,13 @@ pub record TookFile (s : SecretView) (text : List ℕ) (taken : Option (List ℕ
   pub few : chunk_count 65536 text ≤ 281474976710656
   pub is : AgeFile s text bytes
 
-took_file : (s : SecretView) (text : List ℕ) (old new : Ports) (written : Written) → WasEncrypted s text old new written → TookFile s text new.taken
+took_file : (s : SecretView) (text : List ℕ) (old new : Ports) (written : Written) → WasEncrypted s text old new written → TookFile s text new.sink.taken
 took_file s text old new written e =
     let d = e.done in
-    let t = told old.coming new.coming text d.text e.source d.read in
-    let none = none_left new.coming t.0 t.2 d.at_end in
+    let t = told old.source.remaining new.source.remaining text d.text e.source d.read in
+    let none = none_left new.source.remaining t.0 t.2 d.at_end in
     let same : d.text ≡ text = sym (t.1 ∙ (ap (λ (x : List ℕ). d.text ++ x) none ∙ append-nil d.text)) in
-    record { bytes = d.file; told_bytes = took old.taken new.taken d.file e.sink d.wrote; few = subst (λ (x : List ℕ). chunk_count 65536 x ≤ 281474976710656) same d.few; is = subst (λ (x : List ℕ). AgeFile s x d.file) same d.is }
+    record { bytes = d.file; told_bytes = took old.sink.taken new.sink.taken d.file e.sink d.wrote; few = subst (λ (x : List ℕ). chunk_count 65536 x ≤ 281474976710656) same d.few; is = subst (λ (x : List ℕ). AgeFile s x d.file) same d.is }
 
 undamaged_of : PassphraseOpens → (s : SecretView) (max_log : ℕ) (text : List ℕ) (coming : Option (List ℕ)) → IsSecret s → s.log ≤ max_log → chunk_count 65536 text ≤ 281474976710656
     → IsClosed (box s.key s.nonce) (unbox s.key s.nonce) 65536 text → TookFile s text coming → IsUndamaged (IsPassphraseKey (words_of s max_log)) (PassphraseRefuses (words_of s max_log)) coming text
@@ -73,15 +73,15 @@ undamaged_of opens s max_log text coming is within few closed f =
       closed = closed;
     }
 
-answered : (keep : Positions) → OneHeader → (w : Words) (text : List ℕ) (now last : Ports) (result : Result Done Stopped) → IsUndamaged (IsPassphraseKey w) (PassphraseRefuses w) now.coming text → now.taken ≡ Some []
-    → DecryptAnswers Words IsPassphraseKey PassphraseRefuses keep w now last result → MatchResult result (λ done. last.taken ≡ Some text) (λ stopped. StopsOutside stopped.fault)
-answered keep one w text now last (Ok done) u empty f = took now.taken last.taken text empty (undamaged_done one (IsPassphraseKey w) (PassphraseRefuses w) now last done.written f.0 text u f.1).0
+answered : (keep : Positions) → OneHeader → (w : Words) (text : List ℕ) (now last : Ports) (result : Result Done Stopped) → IsUndamaged (IsPassphraseKey w) (PassphraseRefuses w) now.source.remaining text → now.sink.taken ≡ Some []
+    → DecryptAnswers Words IsPassphraseKey PassphraseRefuses keep w now last result → MatchResult result (λ done. last.sink.taken ≡ Some text) (λ stopped. StopsOutside stopped.fault)
+answered keep one w text now last (Ok done) u empty f = took now.sink.taken last.sink.taken text empty (undamaged_done one (IsPassphraseKey w) (PassphraseRefuses w) now last done.written f.0 text u f.1).0
 answered keep one w text now last (Err s) u empty f = undamaged keep one (IsPassphraseKey w) (PassphraseRefuses w) now last s.written s.position s.fault text u f
 
 pub there_and_back : OneHeader → PassphraseOpens → (keep : Positions) (s : SecretView) (max_log : ℕ) (text : List ℕ) (was file now last : Ports) (written : Written) (result : Result Done Stopped) → IsSecret s → s.log ≤ max_log
-    → IsClosed (box s.key s.nonce) (unbox s.key s.nonce) 65536 text → WasEncrypted s text was file written → now.coming ≡ file.taken → now.taken ≡ Some []
-    → DecryptAnswers Words IsPassphraseKey PassphraseRefuses keep (words_of s max_log) now last result → MatchResult result (λ done. last.taken ≡ Some text) (λ stopped. StopsOutside stopped.fault)
+    → IsClosed (box s.key s.nonce) (unbox s.key s.nonce) 65536 text → WasEncrypted s text was file written → now.source.remaining ≡ file.sink.taken → now.sink.taken ≡ Some []
+    → DecryptAnswers Words IsPassphraseKey PassphraseRefuses keep (words_of s max_log) now last result → MatchResult result (λ done. last.sink.taken ≡ Some text) (λ stopped. StopsOutside stopped.fault)
 there_and_back one opens keep s max_log text was file now last written result is within closed e coming empty f =
     let took = took_file s text was file written e in
     let held = subst (TookFile s text) (sym coming) took in
-    answered keep one (words_of s max_log) text now last result (undamaged_of opens s max_log text now.coming is within took.few closed held) empty f
+    answered keep one (words_of s max_log) text now last result (undamaged_of opens s max_log text now.source.remaining is within took.few closed held) empty f

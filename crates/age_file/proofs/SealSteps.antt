@@ -78,7 +78,7 @@ module _ {B : Type 0} (sealing : B → List ℕ → List ℕ → List ℕ) (n : 
         out = p.out ++ q.out;
         parts = ap (λ (t : List ℕ). front ++ t) q.parts ∙ sym (append_assoc front fed left);
         wrote = record {
-          bytes = Appends-then was.taken mid.taken now.taken p.out q.out p.wrote.bytes q.wrote.bytes;
+          bytes = Appends-then was.sink.taken mid.sink.taken now.sink.taken p.out q.out p.wrote.bytes q.wrote.bytes;
           count = omega (arith, p.wrote.count, q.wrote.count, length-append p.out q.out);
         };
         blocks = λ text h.
@@ -111,11 +111,11 @@ module _ {B : Type 0} (sealing : B → List ℕ → List ℕ → List ℕ) (n : 
       let e : fed ≡ take taken (drop at piece) = sym (take_at fed left taken (sym len)) ∙ ap (take taken) (sym parts ∙ take_rest piece at) in
       ap (λ (t : List ℕ). take at piece ++ t) e ∙ sym (take-add at taken piece)
 
-  pub fails_then : (a b : SealerView B) (was mid now : Tally) (front rest : List ℕ) (fault : FileFault) → mid.failures ≡ was.failures → GoesOn sealing n a b front
+  pub fails_then : (a b : SealerView B) (was mid now : Tally) (front rest : List ℕ) (fault : FileFault) → mid.sink.failed ≡ was.sink.failed → GoesOn sealing n a b front
       → SealFails sealing n b mid now rest fault → SealFails sealing n a was now (front ++ rest) fault
   fails_then a b was mid now front rest (Stream fault) same goes f =
       (λ text h. subst (λ (t : List ℕ). 281474976710656 * n < length t) (append_assoc text front rest) (f.0 (text ++ front) (goes.holds text h)), f.1)
-  fails_then a b was mid now front rest Write same goes f = subst (λ (k : ℕ). HasRisen k now.failures) same f
+  fails_then a b was mid now front rest Write same goes f = subst (λ (k : ℕ). HasRisen k now.sink.failed) same f
   fails_then a b was mid now front rest (Head fault) same goes f = absurd f
   fails_then a b was mid now front rest (Key fault) same goes f = absurd f
   fails_then a b was mid now front rest NonceCut same goes f = absurd f

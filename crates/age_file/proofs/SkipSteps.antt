@@ -11,7 +11,7 @@ use Rattle.age_file.proofs.StartSteps.{uses_then}
 
 pub passes_then : (x y z : Side) (p q : List ℕ) → Passes x y p → Passes y z q → Passes x z (p ++ q)
 passes_then x y z p q f g = record {
-  uses = uses_then x.coming y.coming z.coming x.unread y.unread z.unread p q (p ++ q) refl f.uses g.uses;
+  uses = uses_then x.source.remaining y.source.remaining z.source.remaining x.unread y.unread z.unread p q (p ++ q) refl f.uses g.uses;
   unfailed = g.unfailed ∙ f.unfailed;
 }
 
@@ -26,9 +26,9 @@ pull_fails pulls i j k other e h = absurd h
 
 pub dries_then : (x y z : Side) (p q : List ℕ) (fault : FileFault) → Passes x y p → Dries y z q fault → Dries x z (p ++ q) fault
 dries_then x y z p q fault f g = record {
-  uses = uses_then x.coming y.coming z.coming x.unread y.unread z.unread p q (p ++ q) refl f.uses g.uses;
+  uses = uses_then x.source.remaining y.source.remaining z.source.remaining x.unread y.unread z.unread p q (p ++ q) refl f.uses g.uses;
   used = g.used;
-  why = pull_fails z.unread.pulls x.failed y.failed z.failed fault f.unfailed g.why;
+  why = pull_fails z.unread.pulls x.source.failed y.source.failed z.source.failed fault f.unfailed g.why;
 }
 
 -- where no byte came

@@ -43,7 +43,7 @@ module _ {B : Type 0} (sealing : B → List ℕ → List ℕ → List ℕ) (n : 
   both : Wrote was now (front_of (sealing a.key) n text ++ some.out)
   both =
       record {
-        bytes = Appends-then was.taken mid.taken now.taken (front_of (sealing a.key) n text) some.out wrote.bytes some.wrote.bytes;
+        bytes = Appends-then was.sink.taken mid.sink.taken now.sink.taken (front_of (sealing a.key) n text) some.out wrote.bytes some.wrote.bytes;
         count = omega (arith, wrote.count, some.wrote.count, length-append (front_of (sealing a.key) n text) some.out);
       }
 
@@ -70,9 +70,9 @@ module _ {B : Type 0} (sealing : B → List ℕ → List ℕ → List ℕ) (n : 
       (front_of key n text ++ some.out, both, prefix_trans _ _ _ first second)
 
 -- why no more came
-pub pull_fails : (n : ℕ) (old new : Ports) (text : List ℕ) (pulls failed_old failed_new : ℕ) (fault : FileFault) → failed_old ≡ old.read_failed → new.read_failed ≡ failed_new → pulls ≤ length text
+pub pull_fails : (n : ℕ) (old new : Ports) (text : List ℕ) (pulls failed_old failed_new : ℕ) (fault : FileFault) → failed_old ≡ old.source.failed → new.source.failed ≡ failed_new → pulls ≤ length text
     → PullFails pulls failed_old failed_new fault → SealingFails n old new text fault
-pull_fails n old new text pulls failed_old failed_new Read same is gave f = subst (λ (k : ℕ). HasRisen k new.read_failed) same (subst (λ (k : ℕ). HasRisen failed_old k) (sym is) f)
+pull_fails n old new text pulls failed_old failed_new Read same is gave f = subst (λ (k : ℕ). HasRisen k new.source.failed) same (subst (λ (k : ℕ). HasRisen failed_old k) (sym is) f)
 pull_fails n old new text pulls failed_old failed_new ReadNeverEnds same is gave f = omega (arith, gave, f)
 pull_fails n old new text pulls failed_old failed_new (Head fault) same is gave f = absurd f
 pull_fails n old new text pulls failed_old failed_new (Key fault) same is gave f = absurd f
@@ -88,9 +88,9 @@ pull_fails n old new text pulls failed_old failed_new OldTextDiffers same is gav
 
 -- why a piece wasn't sealed
 pub seal_fails : {B : Type 0} (sealing : B → List ℕ → List ℕ → List ℕ) (n : ℕ) (a b : SealerView B) (old new : Ports) (was now : Tally) (text piece : List ℕ) (fault : FileFault)
-    → was.failures ≡ old.write_failed → new.write_failed ≡ now.failures → GoesOn sealing n a b text → Holds n a [] → SealFails sealing n b was now piece fault → SealingFails n old new (text ++ piece) fault
+    → was.sink.failed ≡ old.sink.failed → new.sink.failed ≡ now.sink.failed → GoesOn sealing n a b text → Holds n a [] → SealFails sealing n b was now piece fault → SealingFails n old new (text ++ piece) fault
 seal_fails sealing n a b old new was now text piece (Stream fault) same is goes fresh f = (f.0 text (goes.holds [] fresh), f.1)
-seal_fails sealing n a b old new was now text piece Write same is goes fresh f = subst (λ (k : ℕ). HasRisen k new.write_failed) same (subst (λ (k : ℕ). HasRisen was.failures k) (sym is) f)
+seal_fails sealing n a b old new was now text piece Write same is goes fresh f = subst (λ (k : ℕ). HasRisen k new.sink.failed) same (subst (λ (k : ℕ). HasRisen was.sink.failed k) (sym is) f)
 seal_fails sealing n a b old new was now text piece (Head fault) same is goes fresh f = absurd f
 seal_fails sealing n a b old new was now text piece (Key fault) same is goes fresh f = absurd f
 seal_fails sealing n a b old new was now text piece NonceCut same is goes fresh f = absurd f
@@ -116,7 +116,7 @@ module _ {B : Type 0} (sealing : B → List ℕ → List ℕ → List ℕ) (n : 
   pub last_written : Wrote was now (front_of (sealing a.key) n text ++ out)
   last_written =
       record {
-        bytes = Appends-then was.taken mid.taken now.taken (front_of (sealing a.key) n text) out wrote.bytes last.bytes;
+        bytes = Appends-then was.sink.taken mid.sink.taken now.sink.taken (front_of (sealing a.key) n text) out wrote.bytes last.bytes;
         count = omega (arith, wrote.count, last.count, length-append (front_of (sealing a.key) n text) out);
       }
 

@@ -195,10 +195,10 @@ own_authentic key nonce text few closed k below =
     (record { below = below; bytes = refl; ended = refl; timely = refl })
 
 pub undamaged : (keep : Positions) → OneHeader → (Allows : Header → List ℕ → Type 0) (Refused : Header → KeyFault → Type 0) (old new : Ports) (written : ℕ) (position : Option Position) (fault : FileFault) (text : List ℕ)
-    → IsUndamaged Allows Refused old.coming text → DecryptFails keep Allows Refused old new written position fault → StopsOutside fault
-undamaged keep one Allows Refused old new written position (Head x) text u f = start_undamaged one Allows Refused old.coming text u.whole new.coming old.read_failed new.read_failed (Head x) f.1
-undamaged keep one Allows Refused old new written position (Key x) text u f = start_undamaged one Allows Refused old.coming text u.whole new.coming old.read_failed new.read_failed (Key x) f.1
-undamaged keep one Allows Refused old new written position NonceCut text u f = start_undamaged one Allows Refused old.coming text u.whole new.coming old.read_failed new.read_failed NonceCut f.1
+    → IsUndamaged Allows Refused old.source.remaining text → DecryptFails keep Allows Refused old new written position fault → StopsOutside fault
+undamaged keep one Allows Refused old new written position (Head x) text u f = start_undamaged one Allows Refused old.source.remaining text u.whole new.source.remaining old.source.failed new.source.failed (Head x) f.1
+undamaged keep one Allows Refused old new written position (Key x) text u f = start_undamaged one Allows Refused old.source.remaining text u.whole new.source.remaining old.source.failed new.source.failed (Key x) f.1
+undamaged keep one Allows Refused old new written position NonceCut text u f = start_undamaged one Allows Refused old.source.remaining text u.whole new.source.remaining old.source.failed new.source.failed NonceCut f.1
 undamaged keep one Allows Refused old new written position (Stream x) text u f =
     let r = f.0 in
     let is = f.1.is in
@@ -206,9 +206,9 @@ undamaged keep one Allows Refused old new written position (Stream x) text u f =
     let all = payload (box w.key w.nonce) 65536 text in
     let below : 0 < chunk_count 65536 text = omega arith in
     let authentic = own_authentic w.key w.nonce text w.few u.closed 0 below in
-    let o = opened_as one Allows Refused old.coming text w new.coming r.header r.front r.key r.nonce r.bytes is.text is.opens.allowed is.size is.read in
+    let o = opened_as one Allows Refused old.source.remaining text w new.source.remaining r.header r.front r.key r.nonce r.bytes is.text is.opens.allowed is.size is.read in
     let none : length {A = ℕ} [] ≡ 0 * 65552 = omega arith in
-    absurd (no_stream_fault one Allows Refused old.coming text w 0 below authentic new.coming r.key r.nonce [] r.bytes r.ended x o none is.at_end f.3)
+    absurd (no_stream_fault one Allows Refused old.source.remaining text w 0 below authentic new.source.remaining r.key r.nonce [] r.bytes r.ended x o none is.at_end f.3)
 undamaged keep one Allows Refused old new written position Read text u f = tt
 undamaged keep one Allows Refused old new written position Write text u f = tt
 undamaged keep one Allows Refused old new written position Memory text u f = tt
@@ -226,15 +226,15 @@ authentic_as text k key nonce own_key own_nonce bytes all ended keys nonces bloc
 
 -- an undamaged file that was read to its end gave its text
 pub undamaged_done : OneHeader → (Allows : Header → List ℕ → Type 0) (Refused : Header → KeyFault → Type 0) (old new : Ports) (written : ℕ) (r : Run) (text : List ℕ)
-    → IsUndamaged Allows Refused old.coming text → DecryptDone Allows old new written r → WritesText old.taken new.taken written text
+    → IsUndamaged Allows Refused old.source.remaining text → DecryptDone Allows old new written r → WritesText old.sink.taken new.sink.taken written text
 undamaged_done one Allows Refused old new written r text u d =
     let w = u.whole in
     let is = d.wrote.is in
     let all = payload (box w.key w.nonce) 65536 text in
-    let o = opened_as one Allows Refused old.coming text w new.coming r.header r.front r.key r.nonce r.bytes is.text is.opens.allowed is.size is.read in
-    let none = none_left new.coming o.left o.left_is (is.at_end d.ended) in
+    let o = opened_as one Allows Refused old.source.remaining text w new.source.remaining r.header r.front r.key r.nonce r.bytes is.text is.opens.allowed is.size is.read in
+    let none = none_left new.source.remaining o.left o.left_is (is.at_end d.ended) in
     let bytes_is : r.bytes ≡ all = sym (append-nil r.bytes) ∙ (ap (λ (t : List ℕ). r.bytes ++ t) (sym none) ∙ o.payload_is) in
     let below : 0 < chunk_count 65536 text = omega arith in
     let authentic = subst (λ (t : List ℕ). IsAuthentic (box w.key w.nonce) (unbox w.key w.nonce) 65536 text (segment 0 t true)) (sym (whole_dropped all)) (own_authentic w.key w.nonce text w.few u.closed 0 below) in
     let whole = d.all text (w.few, authentic_as text 0 r.key r.nonce w.key w.nonce r.bytes all r.ended o.key_is o.nonce_is bytes_is d.ended authentic) in
-    (subst (λ (t : List ℕ). Appends old.taken new.taken t) whole is.wrote, is.count ∙ ap length whole)
+    (subst (λ (t : List ℕ). Appends old.sink.taken new.sink.taken t) whole is.wrote, is.count ∙ ap length whole)

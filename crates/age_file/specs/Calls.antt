@@ -97,7 +97,7 @@ module _ (Who : Type 0) (Allows : Who → Header → List ℕ → Type 0)
     pub old : Ports
     pub new : Ports
     pub result : Result Done Stopped
-    pub empty : old.taken ≡ Some []
+    pub empty : old.sink.taken ≡ Some []
     pub answers : DecryptAnswers keep who old new result
 
   -- a call of `resume_with`, into a sink that had taken nothing
@@ -108,7 +108,7 @@ module _ (Who : Type 0) (Allows : Who → Header → List ℕ → Type 0)
     pub old : ResumePorts
     pub new : ResumePorts
     pub result : Result Done Stopped
-    pub empty : old.main.taken ≡ Some []
+    pub empty : old.main.sink.taken ≡ Some []
     pub answers : ResumeAnswers keep who from old new result
 
   abbrev pub AnswerIsTexts : List ℕ → (keep : Positions) (who : Who) (old new : Ports)
@@ -126,13 +126,13 @@ module _ (Who : Type 0) (Allows : Who → Header → List ℕ → Type 0)
 
   -- the last call comes first in the list
   abbrev pub taken : FirstCall → List NextCall → Option (List ℕ)
-  taken first [] = first.new.taken
-  taken first (c ∷ earlier) = c.new.main.taken
+  taken first [] = first.new.sink.taken
+  taken first (c ∷ earlier) = c.new.main.sink.taken
 
   -- what a call's sink took is the old text of the next call, from whatever position that begins
   abbrev pub AreInARow : FirstCall → List NextCall → Type 0
   AreInARow first [] = Unit {0}
-  AreInARow first (c ∷ earlier) = (c.old.old_coming ≡ taken first earlier) × AreInARow first earlier
+  AreInARow first (c ∷ earlier) = (c.old.old.remaining ≡ taken first earlier) × AreInARow first earlier
 
   -- and the run of each is authentic for one text
   abbrev pub AreTexts : List ℕ → FirstCall → List NextCall → Type 0
@@ -144,8 +144,8 @@ module _ (Who : Type 0) (Allows : Who → Header → List ℕ → Type 0)
 
   -- then each of the calls answers right
   abbrev pub AllAnswerRight : List ℕ → FirstCall → List NextCall → Type 0
-  AllAnswerRight text first [] = AnswersRight text first.new.taken first.result
-  AllAnswerRight text first (c ∷ earlier) = AnswersRight text c.new.main.taken c.result
+  AllAnswerRight text first [] = AnswersRight text first.new.sink.taken first.result
+  AllAnswerRight text first (c ∷ earlier) = AnswersRight text c.new.main.sink.taken c.result
       × AllAnswerRight text first earlier
 
   abbrev pub CallsInARow : Type 0

@@ -54,9 +54,9 @@ pub record IsRun (Allows : Header → List ℕ → Type 0) (old new : Ports) (wr
   pub text : HeadText r.header r.front
   pub opens : Opens Allows r.header r.key
   pub size : length r.nonce ≡ 16
-  pub read : Consumes old.coming new.coming ((r.front ++ r.nonce) ++ r.bytes)
-  pub at_end : r.ended ≡ true → IsAtEnd new.coming
-  pub wrote : Appends old.taken new.taken r.out
+  pub read : Consumes old.source.remaining new.source.remaining ((r.front ++ r.nonce) ++ r.bytes)
+  pub at_end : r.ended ≡ true → IsAtEnd new.source.remaining
+  pub wrote : Appends old.sink.taken new.sink.taken r.out
   pub count : written ≡ length r.out
   pub prefix : IsPrefixOf r.out (text_of r)
 
@@ -94,7 +94,7 @@ Told Dropped Is position = position ≡ None
 
 -- nothing was written, and there is no position
 abbrev pub WritesNone : Ports → Ports → ℕ → Option Position → Type 0
-WritesNone old new written position = Appends old.taken new.taken [] × (written ≡ 0)
+WritesNone old new written position = Appends old.sink.taken new.sink.taken [] × (written ≡ 0)
     × (position ≡ None)
 
 module _ (Allows : Header → List ℕ → Type 0) where
@@ -117,7 +117,7 @@ module _ (keep : Positions) (Allows : Header → List ℕ → Type 0) where
   -- than a header and a nonce
   abbrev pub WroteSoFar : Ports → Ports → ℕ → Option Position → Type 0
   WroteSoFar old new written position =
-      (WritesNone old new written position × IsShort old.coming new.coming)
+      (WritesNone old new written position × IsShort old.source.remaining new.source.remaining)
       ⊎ ((r : Run) × Wrote Allows old new written r × Told keep (IsPositionOf r) position)
 
   -- when each fault comes, and what was written then
@@ -129,14 +129,14 @@ module _ (keep : Positions) (Allows : Header → List ℕ → Type 0) where
       × NoneFailed old new
   DecryptFails Refused old new written position Write =
       (r : Run) × IsRun Allows old new written r × WritesOf r × Told keep (IsPositionOf r) position
-      × HasRisen old.write_failed new.write_failed
+      × HasRisen old.sink.failed new.sink.failed
   DecryptFails Refused old new written position Read = WroteSoFar old new written position
-      × HasRisen old.read_failed new.read_failed
+      × HasRisen old.source.failed new.source.failed
   DecryptFails Refused old new written position ReadNeverEnds = WroteSoFar old new written position
-      × NeverEnds old.coming new.coming
+      × NeverEnds old.source.remaining new.source.remaining
   DecryptFails Refused old new written position fault =
       WritesNone old new written position
-      × StartFails Allows Refused old.coming new.coming old.read_failed new.read_failed fault
+      × StartFails Allows Refused old.source.remaining new.source.remaining old.source.failed new.source.failed fault
 
 -- what a decryption promises of its answers: how it ended, and how it stopped
 abbrev pub DecryptEnds : (Header → List ℕ → Type 0) → Ports → Ports → Done → Type 0
@@ -184,12 +184,12 @@ StopsOutside other = ⊥
 -- that the text of an age file that is undamaged is written, unless reading, writing or memory
 -- fails; that the sink sent on what it took; and that the sink keeps its label
 pub record Decrypts (keep : Positions) (Allows : Header → List ℕ → Type 0)
-    (Refused : Header → KeyFault → Type 0) (old new : Ports) (Settled : Type 0)
-    (label_old label_new : List ℕ) (result : Result Done Stopped) : Type 0 where
+    (Refused : Header → KeyFault → Type 0) (old new : Ports) (result : Result Done Stopped)
+    : Type 0 where
   pub done : IfOk result (DecryptEnds Allows old new)
   pub stopped : IfErr result (DecryptStops keep Allows Refused old new)
-  pub undamaged : (text : List ℕ) → IsUndamaged Allows Refused old.coming text
-      → MatchResult result (λ done. WritesText old.taken new.taken done.written text)
+  pub undamaged : (text : List ℕ) → IsUndamaged Allows Refused old.source.remaining text
+      → MatchResult result (λ done. WritesText old.sink.taken new.sink.taken done.written text)
       (λ stopped. StopsOutside stopped.fault)
-  pub settled : OnOk result Settled
-  pub named : label_new ≡ label_old
+  pub settled : OnOk result (new.sink.settled ≡ true)
+  pub named : new.sink.label ≡ old.sink.label

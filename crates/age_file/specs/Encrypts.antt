@@ -25,9 +25,9 @@ pub record Encrypts (s : SecretView) (old new : Ports) (written : Written) : Typ
   pub file : List ℕ
   pub few : chunk_count 65536 text ≤ 281474976710656
   pub is : AgeFile s text file
-  pub read : Consumes old.coming new.coming text
-  pub at_end : IsAtEnd new.coming
-  pub wrote : Appends old.taken new.taken file
+  pub read : Consumes old.source.remaining new.source.remaining text
+  pub at_end : IsAtEnd new.source.remaining
+  pub wrote : Appends old.sink.taken new.sink.taken file
   pub plain_is : written.plain ≡ length text
   pub file_is : written.file ≡ length file
   pub none_failed : NoneFailed old new
@@ -35,8 +35,8 @@ pub record Encrypts (s : SecretView) (old new : Ports) (written : Written) : Typ
 -- why it stopped, after this text was read
 abbrev pub WhyStopped : Ports → Ports → List ℕ → FileFault → Type 0
 WhyStopped old new text (Stream fault) = (2 ^ 64 < length text) × (fault ≡ too_many (chunk_limit - 1))
-WhyStopped old new text Read = HasRisen old.read_failed new.read_failed
-WhyStopped old new text Write = HasRisen old.write_failed new.write_failed
+WhyStopped old new text Read = HasRisen old.source.failed new.source.failed
+WhyStopped old new text Write = HasRisen old.sink.failed new.sink.failed
 WhyStopped old new text ReadNeverEnds = 2 ^ 63 ≤ length text
 WhyStopped old new text other = ⊥
 
@@ -46,8 +46,8 @@ pub record EncryptsFront (s : SecretView) (old new : Ports) (fault : FileFault) 
   pub file : List ℕ
   pub out : List ℕ
   pub is : AgeFile s text file
-  pub read : Consumes old.coming new.coming text
-  pub wrote : Appends old.taken new.taken out
+  pub read : Consumes old.source.remaining new.source.remaining text
+  pub wrote : Appends old.sink.taken new.sink.taken out
   pub prefix : IsPrefixOf out file
   pub why : WhyStopped old new text fault
 

@@ -1,21 +1,13 @@
 -- What an engine's contract sees of its source and sink.
-use Rattle.std.specs.Prelude.{◌≡◌, ℕ, List, Option}
+use Rattle.std.specs.Prelude.{◌≡◌}
+use Rattle.age_io.specs.Views.{SourceView, SinkView}
 
--- the bytes that are still to come, where they are told, and how many pulls have failed; the same
--- of what was taken, and of puts and flushes
 pub record Ports : Type 0 where
-  pub coming : Option (List ℕ)
-  pub read_failed : ℕ
-  pub taken : Option (List ℕ)
-  pub write_failed : ℕ
+  pub source : SourceView
+  pub sink : SinkView
 
-abbrev pub ports : Option (List ℕ) → ℕ → Option (List ℕ) → ℕ → Ports
-ports coming read_failed taken write_failed = record {
-  coming = coming;
-  read_failed = read_failed;
-  taken = taken;
-  write_failed = write_failed;
-}
+abbrev pub ports : SourceView → SinkView → Ports
+ports source sink = record { source = source; sink = sink }
 
 abbrev pub NoneFailed : Ports → Ports → Type 0
-NoneFailed old new = (new.read_failed ≡ old.read_failed) × (new.write_failed ≡ old.write_failed)
+NoneFailed old new = (new.source.failed ≡ old.source.failed) × (new.sink.failed ≡ old.sink.failed)

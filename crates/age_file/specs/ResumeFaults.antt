@@ -26,7 +26,7 @@ use Rattle.age_file.specs.Resumes.{ResumePorts, NoPortFailed, Reads, WritesOld, 
 -- the file and the old text, together, gave so much that they are taken for ones that never end
 abbrev pub NeverEnd : ResumePorts → ResumePorts → Type 0
 NeverEnd old new = (bytes : List ℕ) × (texts : List ℕ)
-    × Consumes old.main.coming new.main.coming bytes × Consumes old.old_coming new.old_coming texts
+    × Consumes old.main.source.remaining new.main.source.remaining bytes × Consumes old.old.remaining new.old.remaining texts
     × IsByAllPulls (length bytes + length texts)
 
 module _ (Allows : Header → List ℕ → Type 0) (p : Position) where
@@ -36,7 +36,7 @@ module _ (Allows : Header → List ℕ → Type 0) (p : Position) where
       : Type 0 where
     pub file : OpenedFile
     pub rest : List ℕ
-    pub accepts : Accepts Allows p old.main.coming new.main.coming file rest
+    pub accepts : Accepts Allows p old.main.source.remaining new.main.source.remaining file rest
     pub copied : List ℕ
     pub short : length copied < p.index * 65536
     pub writes : WritesOld p old new written copied
@@ -52,7 +52,7 @@ module _ (keep : Positions) (Allows : Header → List ℕ → Type 0) (p : Posit
   pub record StopsInPassed (old new : ResumePorts) (written : ℕ) (position : Option Position)
       (passed : List ℕ) : Type 0 where
     pub file : OpenedFile
-    pub accepts : Accepts Allows p old.main.coming new.main.coming file passed
+    pub accepts : Accepts Allows p old.main.source.remaining new.main.source.remaining file passed
     pub short : length passed < p.index * 65552
     pub copied : List ℕ
     pub old_text : IsOldText p copied
@@ -67,13 +67,13 @@ module _ (keep : Positions) (Allows : Header → List ℕ → Type 0) (p : Posit
     pub kind : fault.kind ≡ Truncated
     pub least : fault.chunk * 65552 ≤ length passed
     pub most : length passed < fault.chunk * 65552 + 65552
-    pub at_end : IsAtEnd new.main.coming
+    pub at_end : IsAtEnd new.main.source.remaining
 
   -- why a source or a sink failed, by where the run stood
   abbrev pub FailsAt : (Main Old : Type 0) → ResumePorts → ResumePorts → ℕ → Option Position
       → Type 0
   FailsAt Main Old old new written position =
-      (WritesNone old.main new.main written position × IsShort old.main.coming new.main.coming
+      (WritesNone old.main new.main written position × IsShort old.main.source.remaining new.main.source.remaining
       × Main)
       ⊎ ((s : StopsInOld Allows p old new written position) × (s.copied ≡ s.writes.pulled) × Old)
       ⊎ ((passed : List ℕ) × StopsInPassed old new written position passed × Main)
@@ -86,16 +86,16 @@ module _ (keep : Positions) (Allows : Header → List ℕ → Type 0) (p : Posit
       → Option Position → FileFault → Type 0
   ResumeFails Refused old new written position OtherFile =
       WritesNone old.main new.main written position × (f : OpenedFile) × (rest : List ℕ)
-      × Reads Allows old.main.coming new.main.coming f rest × (HasId p f → ⊥)
+      × Reads Allows old.main.source.remaining new.main.source.remaining f rest × (HasId p f → ⊥)
   ResumeFails Refused old new written position PositionForged =
       WritesNone old.main new.main written position × (f : OpenedFile) × (rest : List ℕ)
-      × Reads Allows old.main.coming new.main.coming f rest × HasId p f × (HasTag p f → ⊥)
+      × Reads Allows old.main.source.remaining new.main.source.remaining f rest × HasId p f × (HasTag p f → ⊥)
   ResumeFails Refused old new written position ShortText =
       (s : StopsInOld Allows p old new written position) × (s.copied ≡ s.writes.pulled)
-      × IsAtEnd new.old_coming
+      × IsAtEnd new.old.remaining
   ResumeFails Refused old new written position OldTextDiffers =
       (position ≡ None) × (f : OpenedFile) × (rest : List ℕ)
-      × Accepts Allows p old.main.coming new.main.coming f rest
+      × Accepts Allows p old.main.source.remaining new.main.source.remaining f rest
       × (copied : List ℕ) × WritesOld p old new written copied × (length copied ≡ p.index * 65536)
       × (chain (first_chunks 65536 p.index copied) ≢ p.chain)
   ResumeFails Refused old new written position (Stream fault) =
@@ -108,15 +108,15 @@ module _ (keep : Positions) (Allows : Header → List ℕ → Type 0) (p : Posit
       (StopsInOld Allows p old new written position
       ⊎ ((r : Resumption) × IsResumption Allows p old new written r × ResumesOf p r
       × Told keep (IsNextPosition p r) position))
-      × HasRisen old.main.write_failed new.main.write_failed
+      × HasRisen old.main.sink.failed new.main.sink.failed
   ResumeFails Refused old new written position Read =
-      FailsAt (HasRisen old.main.read_failed new.main.read_failed)
-      (HasRisen old.old_failed new.old_failed) old new written position
+      FailsAt (HasRisen old.main.source.failed new.main.source.failed)
+      (HasRisen old.old.failed new.old.failed) old new written position
   ResumeFails Refused old new written position ReadNeverEnds =
       FailsAt (NeverEnd old new) (NeverEnd old new) old new written position
   ResumeFails Refused old new written position fault =
-      WritesNone old.main new.main written position × StartFails Allows Refused old.main.coming
-      new.main.coming old.main.read_failed new.main.read_failed fault
+      WritesNone old.main new.main written position × StartFails Allows Refused old.main.source.remaining
+      new.main.source.remaining old.main.source.failed new.main.source.failed fault
 
   -- what a resumed decryption promises where it stopped
   abbrev pub ResumeStops : (Header → KeyFault → Type 0) → ResumePorts → ResumePorts → Stopped

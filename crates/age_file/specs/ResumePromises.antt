@@ -1,5 +1,5 @@
 -- What a resumed decryption promises.
-use Rattle.std.specs.Prelude.{◌≡◌, ℕ, List, Result, IfOk, IfErr, OnOk, MatchResult}
+use Rattle.std.specs.Prelude.{◌≡◌, ℕ, List, true, Result, IfOk, IfErr, OnOk, MatchResult}
 use Rattle.age_stanza.specs.declared.header.Header.{Header}
 use Rattle.age_keys.specs.declared.fault.KeyFault.{KeyFault}
 use Rattle.age_file.specs.Decrypts.{WritesText, StopsOutside}
@@ -15,13 +15,13 @@ use Rattle.age_file.specs.declared.position.Positions.{Positions}
 -- file that is undamaged, from a position of it, is written whole, unless reading, writing or
 -- memory fails; that the sink sent on what it took; and that the sink keeps its label
 pub record ResumesText (keep : Positions) (Allows : Header → List ℕ → Type 0)
-    (Refused : Header → KeyFault → Type 0) (p : Position) (old new : ResumePorts) (Settled : Type 0)
-    (label_old label_new : List ℕ) (result : Result Done Stopped) : Type 0 where
+    (Refused : Header → KeyFault → Type 0) (p : Position) (old new : ResumePorts)
+    (result : Result Done Stopped) : Type 0 where
   pub done : IfOk result (ResumeEnds Allows p old new)
   pub stopped : IfErr result (ResumeStops keep Allows p Refused old new)
   pub undamaged : (text : List ℕ)
-      → IsUndamagedRest Allows Refused p old.main.coming old.old_coming text
-      → MatchResult result (λ done. WritesText old.main.taken new.main.taken done.written text)
+      → IsUndamagedRest Allows Refused p old.main.source.remaining old.old.remaining text
+      → MatchResult result (λ done. WritesText old.main.sink.taken new.main.sink.taken done.written text)
       (λ stopped. StopsOutside stopped.fault)
-  pub settled : OnOk result Settled
-  pub named : label_new ≡ label_old
+  pub settled : OnOk result (new.main.sink.settled ≡ true)
+  pub named : new.main.sink.label ≡ old.main.sink.label

@@ -2,6 +2,7 @@
 use Rattle.std.specs.Prelude.{◌≡◌, ℕ, ◌*◌, ◌/◌, ◌≤◌, min, List, ◌++◌, length, take, Option, Bool, true}
 use Rattle.std.specs.Simd.{first_chunks}
 use Rattle.std.specs.Io.KnownBytes.{Consumes, Appends, IsAtEnd}
+use Rattle.age_io.specs.Views.{SourceView}
 use Rattle.age_stanza.specs.declared.header.Header.{Header}
 use Rattle.age_stanza.specs.Grammar.{HeadText}
 use Rattle.age_stream.specs.declared.step.Status.TheVariants.{Done}
@@ -17,22 +18,16 @@ use Rattle.age_file.specs.declared.position.Position.{Position}
 use Rattle.age_file.specs.Verdicts.{OpenedFile, HasId, HasTag}
 use Rattle.age_file.specs.OldTexts.{BeginsWith, IsOldText}
 
--- the ports of a decryption, and those of the old text: what is to come of it, and how often its
--- pulls have failed
+-- the ports of a decryption, and what is seen of the old text's source
 pub record ResumePorts : Type 0 where
   pub main : Ports
-  pub old_coming : Option (List ℕ)
-  pub old_failed : ℕ
+  pub old : SourceView
 
-abbrev pub resume_ports : Ports → Option (List ℕ) → ℕ → ResumePorts
-resume_ports main old_coming old_failed = record {
-  main = main;
-  old_coming = old_coming;
-  old_failed = old_failed;
-}
+abbrev pub resume_ports : Ports → SourceView → ResumePorts
+resume_ports main old = record { main = main; old = old }
 
 abbrev pub NoPortFailed : ResumePorts → ResumePorts → Type 0
-NoPortFailed old new = NoneFailed old.main new.main × (new.old_failed ≡ old.old_failed)
+NoPortFailed old new = NoneFailed old.main new.main × (new.old.failed ≡ old.old.failed)
 
 -- these bytes were read of the file, and the rest behind its nonce
 pub record Reads (Allows : Header → List ℕ → Type 0) (old new : Option (List ℕ)) (f : OpenedFile)
@@ -47,11 +42,11 @@ pub record Reads (Allows : Header → List ℕ → Type 0) (old new : Option (Li
 pub record WritesOld (p : Position) (old new : ResumePorts) (written : ℕ) (copied : List ℕ)
     : Type 0 where
   pub pulled : List ℕ
-  pub read : Consumes old.old_coming new.old_coming pulled
+  pub read : Consumes old.old.remaining new.old.remaining pulled
   pub front : IsPrefixOf copied pulled
-  pub wrote : Appends old.main.taken new.main.taken copied
+  pub wrote : Appends old.main.sink.taken new.main.sink.taken copied
   pub count : written ≡ length copied
-  pub of : (text : List ℕ) → BeginsWith p old.old_coming text → IsPrefixOf copied text
+  pub of : (text : List ℕ) → BeginsWith p old.old.remaining text → IsPrefixOf copied text
 
 -- a resumed run: the file, the old text, the blocks that were passed over, the bytes behind them,
 -- whether the source ended there, and what was written behind the old text
@@ -74,13 +69,13 @@ pub record IsResumption (Allows : Header → List ℕ → Type 0) (p : Position)
     (written : ℕ) (r : Resumption) : Type 0 where
   pub own : HasId p r.file
   pub tagged : HasTag p r.file
-  pub reads : Reads Allows old.main.coming new.main.coming r.file (r.passed ++ r.bytes)
+  pub reads : Reads Allows old.main.source.remaining new.main.source.remaining r.file (r.passed ++ r.bytes)
   pub old_text : IsOldText p r.copied
   pub passed_size : length r.passed ≡ p.index * 65552
   pub more : List ℕ
-  pub old_read : Consumes old.old_coming new.old_coming (r.copied ++ more)
-  pub at_end : r.ended ≡ true → IsAtEnd new.main.coming
-  pub wrote : Appends old.main.taken new.main.taken (r.copied ++ r.out)
+  pub old_read : Consumes old.old.remaining new.old.remaining (r.copied ++ more)
+  pub at_end : r.ended ≡ true → IsAtEnd new.main.source.remaining
+  pub wrote : Appends old.main.sink.taken new.main.sink.taken (r.copied ++ r.out)
   pub count : written ≡ length (r.copied ++ r.out)
   pub prefix : IsPrefixOf r.out (fresh_text p r)
 

@@ -37,8 +37,8 @@ AgeFileIsWhole = (s : SecretView) (max_log : ℕ) (text bytes : List ℕ) → Is
 -- an encryption of a text came to its end, into a sink that had taken nothing
 pub record WasEncrypted (s : SecretView) (text : List ℕ) (old new : Ports) (written : Written)
     : Type 0 where
-  pub source : old.coming ≡ Some text
-  pub sink : old.taken ≡ Some []
+  pub source : old.source.remaining ≡ Some text
+  pub sink : old.sink.taken ≡ Some []
   pub done : Encrypts s old new written
 
 -- then a decryption of what the sink took, with the same passphrase, gives the text back, or stops
@@ -48,7 +48,7 @@ RoundTrip = (keep : Positions) (s : SecretView) (max_log : ℕ) (text : List ℕ
     (was file now last : Ports) (written : Written) (result : Result Done Stopped) → IsSecret s
     → s.log ≤ max_log
     → IsClosed (box s.key s.nonce) (unbox s.key s.nonce) 65536 text
-    → WasEncrypted s text was file written → now.coming ≡ file.taken → now.taken ≡ Some []
+    → WasEncrypted s text was file written → now.source.remaining ≡ file.sink.taken → now.sink.taken ≡ Some []
     → DecryptAnswers Words IsPassphraseKey PassphraseRefuses keep (words_of s max_log) now last
     result
-    → MatchResult result (λ done. last.taken ≡ Some text) (λ stopped. StopsOutside stopped.fault)
+    → MatchResult result (λ done. last.sink.taken ≡ Some text) (λ stopped. StopsOutside stopped.fault)

@@ -28,10 +28,10 @@ fn copy_chunk<S: Source, O: Sink>(
     requires room { progress.old.written ≤ 2 ^ 64 }
     requires limit { progress.old.index + 1 < 281474976710656 }
     requires kept { IsSome progress.old.chain }
-    ensures { CopiesChunk 65536 (side (S.remaining source.old) (S.failed source.old) intake.old)
-        (side (S.remaining source.new) (S.failed source.new) intake.new)
-        (tally (O.taken sink.old) (O.failed sink.old) (O.label sink.old) progress.old)
-        (tally (O.taken sink.new) (O.failed sink.new) (O.label sink.new) progress.new) result }
+    ensures { CopiesChunk 65536 (side (S.view source.old) intake.old)
+        (side (S.view source.new) intake.new)
+        (tally (O.view sink.old) progress.old)
+        (tally (O.view sink.new) progress.new) result }
 {
     let Some(chain) = progress.chain else {
         unreachable!();
@@ -65,11 +65,11 @@ pub(crate) fn copy_chunks<S: Source, O: Sink>(
     requires limit { chunks < 281474976710656 }
     requires fresh { (progress.old.written ≡ 0) × (progress.old.index ≡ 0)
         × (progress.old.chain ≡ chain_if Kept []) }
-    ensures { CopiesAll 65536 chunks (side (S.remaining source.old) (S.failed source.old)
+    ensures { CopiesAll 65536 chunks (side (S.view source.old)
         intake.old)
-        (side (S.remaining source.new) (S.failed source.new) intake.new)
-        (tally (O.taken sink.old) (O.failed sink.old) (O.label sink.old) progress.old)
-        (tally (O.taken sink.new) (O.failed sink.new) (O.label sink.new) progress.new) result }
+        (side (S.view source.new) intake.new)
+        (tally (O.view sink.old) progress.old)
+        (tally (O.view sink.new) progress.new) result }
 {
     for _copied in 0..chunks {
         copy_chunk(source, intake, sink, progress)?;

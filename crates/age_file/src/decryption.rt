@@ -1,6 +1,6 @@
 //! Decrypts a file.
 
-ghost use Rattle.std.specs.Prelude.{◌≡◌, None};
+ghost use Rattle.std.specs.Prelude.{◌≡◌, None, true};
 ghost use Rattle.age_file.specs.Ports.{ports};
 ghost use Rattle.age_file.specs.declared.position.Positions.TheVariants.{Kept};
 ghost use Rattle.age_file.specs.Decrypts.{Decrypts};
@@ -87,11 +87,8 @@ pub fn decrypt<U: Unlock, S: Source, O: Sink>(
     writer: &mut O,
 ) -> Result<Done, Stopped>
     ensures { Decrypts Kept (U.allows unlock.now) (U.refuses unlock.now)
-        (ports (S.remaining reader.old) (S.failed reader.old) (O.taken writer.old)
-        (O.failed writer.old))
-        (ports (S.remaining reader.new) (S.failed reader.new) (O.taken writer.new)
-        (O.failed writer.new))
-        (O.settled writer.new) (O.label writer.old) (O.label writer.new) result }
+        (ports (S.view reader.old) (O.view writer.old))
+        (ports (S.view reader.new) (O.view writer.new)) result }
 {
     decrypt_with(alloc, Positions::Kept, unlock, reader, writer)
 }
@@ -112,11 +109,8 @@ pub fn decrypt_with<U: Unlock, S: Source, O: Sink>(
     writer: &mut O,
 ) -> Result<Done, Stopped>
     ensures { Decrypts positions (U.allows unlock.now) (U.refuses unlock.now)
-        (ports (S.remaining reader.old) (S.failed reader.old) (O.taken writer.old)
-        (O.failed writer.old))
-        (ports (S.remaining reader.new) (S.failed reader.new) (O.taken writer.new)
-        (O.failed writer.new))
-        (O.settled writer.new) (O.label writer.old) (O.label writer.new) result }
+        (ports (S.view reader.old) (O.view writer.old))
+        (ports (S.view reader.new) (O.view writer.new)) result }
 {
     one_header();
     let Ok(mut intake) = Intake::new(alloc) else {

@@ -1,6 +1,6 @@
 //! Encrypts a file under a passphrase.
 
-ghost use Rattle.std.specs.Prelude.{◌≡◌, IfOk, OnOk, IfErr};
+ghost use Rattle.std.specs.Prelude.{◌≡◌, IfOk, OnOk, IfErr, true};
 ghost use Rattle.age_file.specs.Encrypts.{Encrypts, EncryptFails};
 ghost use Rattle.age_file.specs.inner.Encrypts.{BeginsFile};
 ghost use Rattle.age_file.specs.Ports.{ports};
@@ -52,17 +52,13 @@ pub fn encrypt<S: Source, O: Sink>(
     writer: &mut O,
 ) -> Result<Written, FileFault>
     ensures done { IfOk result (Encrypts secret.now
-        (ports (S.remaining reader.old) (S.failed reader.old) (O.taken writer.old)
-        (O.failed writer.old))
-        (ports (S.remaining reader.new) (S.failed reader.new) (O.taken writer.new)
-        (O.failed writer.new))) }
+        (ports (S.view reader.old) (O.view writer.old))
+        (ports (S.view reader.new) (O.view writer.new))) }
     ensures fails { IfErr result (EncryptFails secret.now
-        (ports (S.remaining reader.old) (S.failed reader.old) (O.taken writer.old)
-        (O.failed writer.old))
-        (ports (S.remaining reader.new) (S.failed reader.new) (O.taken writer.new)
-        (O.failed writer.new))) }
-    ensures settled { OnOk result (O.settled writer.new) }
-    ensures named { O.label writer.new ≡ O.label writer.old }
+        (ports (S.view reader.old) (O.view writer.old))
+        (ports (S.view reader.new) (O.view writer.new))) }
+    ensures settled { OnOk result ((O.view writer.new).settled ≡ true) }
+    ensures named { (O.view writer.new).label ≡ (O.view writer.old).label }
 {
     let front = front_of(alloc, secret)?;
     let mut intake = Intake::new(alloc)?;

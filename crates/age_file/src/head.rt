@@ -26,14 +26,14 @@ pub(crate) fn read_head<S: Source>(
     intake: &mut Intake,
 ) -> Result<Head, FileFault>
     requires { (intake.old.bytes ≡ []) × (intake.old.pulls ≡ 0) }
-    ensures found { IfOk result (ReadsHead (S.remaining source.old) (S.remaining source.new)
+    ensures found { IfOk result (ReadsHead (S.view source.old).remaining (S.view source.new).remaining
         intake.new) }
-    ensures last { OnOk result (StopsAtHeader (S.remaining source.old) (S.remaining source.new)) }
-    ensures unfailed { OnOk result (S.failed source.new ≡ S.failed source.old) }
-    ensures fails { IfErr result (HeadFails (S.remaining source.old) (S.remaining source.new)
-        (S.failed source.old) (S.failed source.new)) }
-    ensures early { IfErr result (λ fault. fault ≢ Memory → IsInHeader (S.remaining source.old)
-        (S.remaining source.new)) }
+    ensures last { OnOk result (StopsAtHeader (S.view source.old).remaining (S.view source.new).remaining) }
+    ensures unfailed { OnOk result ((S.view source.new).failed ≡ (S.view source.old).failed) }
+    ensures fails { IfErr result (HeadFails (S.view source.old).remaining (S.view source.new).remaining
+        (S.view source.old).failed (S.view source.new).failed) }
+    ensures early { IfErr result (λ fault. fault ≢ Memory → IsInHeader (S.view source.old).remaining
+        (S.view source.new).remaining) }
 {
     let mut parser = HeadParser::new(alloc);
     let mut len = 0;

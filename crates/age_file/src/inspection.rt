@@ -17,13 +17,13 @@ use std::alloc::{AllocError, Global};
 /// Counts the bytes that are left, to the end of the source.
 fn count_rest<S: Source>(source: &mut S, intake: &mut Intake) -> Result<u128, FileFault>
     requires { intake.old.pulls ≤ 2 ^ 63 }
-    ensures counts { IfOk result (CountsRest (S.remaining source.old) (S.remaining source.new)
+    ensures counts { IfOk result (CountsRest (S.view source.old).remaining (S.view source.new).remaining
         intake.old) }
-    ensures ended { OnOk result (IsAtEnd (S.remaining source.new)) }
+    ensures ended { OnOk result (IsAtEnd (S.view source.new).remaining) }
     ensures small { IfOk result (λ n. n ≤ 65536 * (2 ^ 63 + 1)) }
-    ensures unfailed { OnOk result (S.failed source.new ≡ S.failed source.old) }
-    ensures fails { IfErr result (RestFails (S.remaining source.old) (S.remaining source.new)
-        (S.failed source.old) (S.failed source.new) intake.old) }
+    ensures unfailed { OnOk result ((S.view source.new).failed ≡ (S.view source.old).failed) }
+    ensures fails { IfErr result (RestFails (S.view source.old).remaining (S.view source.new).remaining
+        (S.view source.old).failed (S.view source.new).failed intake.old) }
 {
     let mut count = intake.bytes().len() as u128;
     intake.use_all();
@@ -85,11 +85,11 @@ fn plain_of(rest: u128) -> Option<u128>
 ///
 /// Refuses with the header's fault (1 to 8), `Read` (26), `Memory` (28) and `ReadNeverEnds` (29).
 pub fn inspect<S: Source>(alloc: Global, source: &mut S) -> Result<Report, FileFault>
-    ensures ok { IfOk result (Inspects (S.remaining source.old) (S.remaining source.new)) }
-    ensures unfailed { OnOk result (S.failed source.new ≡ S.failed source.old) }
+    ensures ok { IfOk result (Inspects (S.view source.old).remaining (S.view source.new).remaining) }
+    ensures unfailed { OnOk result ((S.view source.new).failed ≡ (S.view source.old).failed) }
     // When each fault comes.
-    ensures fails { IfErr result (HeadFails (S.remaining source.old) (S.remaining source.new)
-        (S.failed source.old) (S.failed source.new)) }
+    ensures fails { IfErr result (HeadFails (S.view source.old).remaining (S.view source.new).remaining
+        (S.view source.old).failed (S.view source.new).failed) }
 {
     let mut intake = Intake::new(alloc)?;
     let head = read_head(alloc, source, &mut intake)?;

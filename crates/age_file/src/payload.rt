@@ -1,6 +1,6 @@
 //! Opens what a source gives, and writes each chunk once its tag was checked.
 
-ghost use Rattle.std.specs.Prelude.{◌≡◌, ◌+◌, ◌^◌, ◌<◌, ◌≤◌, length, IfOk, OnOk};
+ghost use Rattle.std.specs.Prelude.{◌≡◌, ◌+◌, ◌^◌, ◌<◌, ◌≤◌, length, IfOk, OnOk, true};
 ghost use Rattle.age_file.specs.inner.Boxes.{opens};
 ghost use Rattle.age_file.specs.inner.Releases.{tally, FeedsOnce, FeedsPiece, Closes};
 ghost use Rattle.age_file.specs.inner.Flows.{flow, HasRoom, Turns, OpensAll};
@@ -26,8 +26,8 @@ fn feed_once<O: Sink>(
 ) -> Result<usize, FileFault>
     requires small { length opener.old.held + progress.old.written + length piece.now < 2 ^ 128 }
     ensures fed { FeedsOnce opens 65536 opener.old opener.new
-        (tally (O.taken sink.old) (O.failed sink.old) (O.label sink.old) progress.old)
-        (tally (O.taken sink.new) (O.failed sink.new) (O.label sink.new) progress.new) piece.now
+        (tally (O.view sink.old) progress.old)
+        (tally (O.view sink.new) progress.new) piece.now
         result }
     ensures some { IfOk result (λ n. 0 < length piece.now → 0 < n) }
 {
@@ -50,8 +50,8 @@ fn feed_piece<O: Sink>(
 ) -> Result<(), FileFault>
     requires small { length opener.old.held + progress.old.written + length piece.now < 2 ^ 128 }
     ensures fed { FeedsPiece opens 65536 opener.old opener.new
-        (tally (O.taken sink.old) (O.failed sink.old) (O.label sink.old) progress.old)
-        (tally (O.taken sink.new) (O.failed sink.new) (O.label sink.new) progress.new) piece.now
+        (tally (O.view sink.old) progress.old)
+        (tally (O.view sink.new) progress.new) piece.now
         result }
 {
     let mut at = 0;
@@ -69,16 +69,15 @@ fn turn<S: Source, O: Sink>(
     sink: &mut O,
     progress: &mut Progress,
 ) -> Result<bool, FileFault>
-    requires { HasRoom (flow opener.old (tally (O.taken sink.old) (O.failed sink.old)
-        (O.label sink.old) progress.old)
-        (S.remaining source.old) (S.failed source.old) intake.old) }
+    requires { HasRoom (flow opener.old (tally (O.view sink.old) progress.old)
+        (S.view source.old) intake.old) }
     ensures { Turns opens 65536
-        (flow opener.old (tally (O.taken sink.old) (O.failed sink.old) (O.label sink.old)
+        (flow opener.old (tally (O.view sink.old)
         progress.old)
-        (S.remaining source.old) (S.failed source.old) intake.old)
-        (flow opener.new (tally (O.taken sink.new) (O.failed sink.new) (O.label sink.new)
+        (S.view source.old) intake.old)
+        (flow opener.new (tally (O.view sink.new)
         progress.new)
-        (S.remaining source.new) (S.failed source.new) intake.new) result }
+        (S.view source.new) intake.new) result }
 {
     feed_piece(opener, intake.bytes(), sink, progress)?;
     intake.use_all();
@@ -93,16 +92,15 @@ fn open_all<S: Source, O: Sink>(
     sink: &mut O,
     progress: &mut Progress,
 ) -> Result<(), FileFault>
-    requires { HasRoom (flow opener.old (tally (O.taken sink.old) (O.failed sink.old)
-        (O.label sink.old) progress.old)
-        (S.remaining source.old) (S.failed source.old) intake.old) }
+    requires { HasRoom (flow opener.old (tally (O.view sink.old) progress.old)
+        (S.view source.old) intake.old) }
     ensures { OpensAll opens 65536
-        (flow opener.old (tally (O.taken sink.old) (O.failed sink.old) (O.label sink.old)
+        (flow opener.old (tally (O.view sink.old)
         progress.old)
-        (S.remaining source.old) (S.failed source.old) intake.old)
-        (flow opener.new (tally (O.taken sink.new) (O.failed sink.new) (O.label sink.new)
+        (S.view source.old) intake.old)
+        (flow opener.new (tally (O.view sink.new)
         progress.new)
-        (S.remaining source.new) (S.failed source.new) intake.new) result }
+        (S.view source.new) intake.new) result }
 {
     'turns: while turn(opener, source, intake, sink, progress)? {}
     Ok(())
@@ -116,8 +114,8 @@ fn close<O: Sink>(
 ) -> Result<(), FileFault>
     requires { length opener.old.held + progress.old.written < 2 ^ 128 }
     ensures { Closes opens 65536 opener.old opener.new
-        (tally (O.taken sink.old) (O.failed sink.old) (O.label sink.old) progress.old)
-        (tally (O.taken sink.new) (O.failed sink.new) (O.label sink.new) progress.new) result }
+        (tally (O.view sink.old) progress.old)
+        (tally (O.view sink.new) progress.new) result }
 {
     let text = opener.end()?;
     write_all(sink, text, &mut progress.written)
@@ -131,9 +129,9 @@ fn finish<O: Sink>(
 ) -> Result<(), FileFault>
     requires { length opener.old.held + progress.old.written < 2 ^ 128 }
     ensures closes { Closes opens 65536 opener.old opener.new
-        (tally (O.taken sink.old) (O.failed sink.old) (O.label sink.old) progress.old)
-        (tally (O.taken sink.new) (O.failed sink.new) (O.label sink.new) progress.new) result }
-    ensures settled { OnOk result (O.settled sink.new) }
+        (tally (O.view sink.old) progress.old)
+        (tally (O.view sink.new) progress.new) result }
+    ensures settled { OnOk result ((O.view sink.new).settled ≡ true) }
 {
     close(opener, sink, progress)?;
     flush_all(sink)
@@ -150,15 +148,15 @@ pub(crate) fn decrypt_payload<S: Source, O: Sink>(
     progress: &mut Progress,
 ) -> Result<(), FileFault>
     requires limit { index < 281474976710656 }
-    requires room { HasPlace (stage (tally (O.taken sink.old) (O.failed sink.old) (O.label sink.old)
+    requires room { HasPlace (stage (tally (O.view sink.old)
         progress.old)
-        (S.remaining source.old) (S.failed source.old) intake.old) }
+        (S.view source.old) intake.old) }
     ensures decrypts { DecryptsPayload (opens key.now) 65536 index
-        (stage (tally (O.taken sink.old) (O.failed sink.old) (O.label sink.old) progress.old)
-        (S.remaining source.old) (S.failed source.old) intake.old)
-        (stage (tally (O.taken sink.new) (O.failed sink.new) (O.label sink.new) progress.new)
-        (S.remaining source.new) (S.failed source.new) intake.new) result }
-    ensures settled { OnOk result (O.settled sink.new) }
+        (stage (tally (O.view sink.old) progress.old)
+        (S.view source.old) intake.old)
+        (stage (tally (O.view sink.new) progress.new)
+        (S.view source.new) intake.new) result }
+    ensures settled { OnOk result ((O.view sink.new).settled ≡ true) }
 {
     let mut opener = PayloadOpener::at(key, index);
     open_all(&mut opener, source, intake, sink, progress)?;

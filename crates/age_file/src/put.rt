@@ -1,6 +1,6 @@
 //! Writes all of some bytes, and counts them; flushes.
 
-ghost use Rattle.std.specs.Prelude.{◌≡◌, ◌+◌, ◌^◌, ◌<◌, length, IfErr, OnOk, MatchResult};
+ghost use Rattle.std.specs.Prelude.{◌≡◌, ◌+◌, ◌^◌, ◌<◌, length, IfErr, OnOk, MatchResult, true};
 ghost use Rattle.std.specs.Io.KnownBytes.{Keeps};
 ghost use Rattle.age_io.specs.Memory.{one_more};
 ghost use Rattle.age_file.specs.Writes.{Writes};
@@ -13,9 +13,9 @@ use age_io::{Failed, Sink};
 /// that it took before are counted.
 pub fn put_all<O: Sink>(sink: &mut O, bytes: &[u8], written: &mut u128) -> Result<(), Failed>
     requires { written.old + length bytes.now < 2 ^ 128 }
-    ensures writes { Writes (O.taken sink.old) (O.taken sink.new) (O.failed sink.old)
-        (O.failed sink.new) written.old written.new bytes.now result }
-    ensures named { O.label sink.new ≡ O.label sink.old }
+    ensures writes { Writes (O.view sink.old).taken (O.view sink.new).taken (O.view sink.old).failed
+        (O.view sink.new).failed written.old written.new bytes.now result }
+    ensures named { (O.view sink.new).label ≡ (O.view sink.old).label }
 {
     let mut at = 0;
     while at < bytes.len() {
@@ -29,22 +29,22 @@ pub fn put_all<O: Sink>(sink: &mut O, bytes: &[u8], written: &mut u128) -> Resul
 /// Writes all of some bytes, and counts them in the same way. It refuses with `Write` (27) alone.
 pub fn write_all<O: Sink>(sink: &mut O, bytes: &[u8], written: &mut u128) -> Result<(), FileFault>
     requires { written.old + length bytes.now < 2 ^ 128 }
-    ensures writes { Writes (O.taken sink.old) (O.taken sink.new) (O.failed sink.old)
-        (O.failed sink.new) written.old written.new bytes.now result }
+    ensures writes { Writes (O.view sink.old).taken (O.view sink.new).taken (O.view sink.old).failed
+        (O.view sink.new).failed written.old written.new bytes.now result }
     ensures fault { IfErr result (λ fault. fault ≡ Write) }
-    ensures named { O.label sink.new ≡ O.label sink.old }
+    ensures named { (O.view sink.new).label ≡ (O.view sink.old).label }
 {
     put_all(sink, bytes, written).map_err(|_| FileFault::Write)
 }
 
 /// Sends on what a sink took. It refuses with `Write` (27) alone.
 pub fn flush_all<O: Sink>(sink: &mut O) -> Result<(), FileFault>
-    ensures settled { OnOk result (O.settled sink.new) }
-    ensures bytes { Keeps (O.taken sink.old) (O.taken sink.new) }
-    ensures named { O.label sink.new ≡ O.label sink.old }
+    ensures settled { OnOk result ((O.view sink.new).settled ≡ true) }
+    ensures bytes { Keeps (O.view sink.old).taken (O.view sink.new).taken }
+    ensures named { (O.view sink.new).label ≡ (O.view sink.old).label }
     ensures fault { IfErr result (λ fault. fault ≡ Write) }
-    ensures counted { MatchResult result (λ _. O.failed sink.new ≡ O.failed sink.old)
-        (λ _. O.failed sink.new ≡ one_more (O.failed sink.old)) }
+    ensures counted { MatchResult result (λ _. (O.view sink.new).failed ≡ (O.view sink.old).failed)
+        (λ _. (O.view sink.new).failed ≡ one_more (O.view sink.old).failed) }
 {
     sink.flush().map_err(|_| FileFault::Write)
 }

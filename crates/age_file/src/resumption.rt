@@ -1,6 +1,6 @@
 //! Goes on with a decryption that stopped.
 
-ghost use Rattle.std.specs.Prelude.{◌≡◌, ◌^◌, ◌<◌, ◌≤◌, [], OnOk};
+ghost use Rattle.std.specs.Prelude.{◌≡◌, ◌^◌, ◌<◌, ◌≤◌, [], OnOk, true};
 ghost use Rattle.age_file.specs.inner.Releases.{tally};
 ghost use Rattle.age_file.specs.inner.Skips.{side};
 ghost use Rattle.age_file.specs.inner.Copies.{CopiesText};
@@ -55,10 +55,10 @@ fn copy_old<L: Source, O: Sink>(
     requires fresh { (progress.old.written ≡ 0) × (progress.old.index ≡ 0)
         × (progress.old.chain ≡ chain_if Kept []) }
     ensures { CopiesText positions 65536 position.now.index position.now.chain
-        (side (L.remaining old_reader.old) (L.failed old_reader.old) intake.old)
-        (side (L.remaining old_reader.new) (L.failed old_reader.new) intake.new)
-        (tally (O.taken writer.old) (O.failed writer.old) (O.label writer.old) progress.old)
-        (tally (O.taken writer.new) (O.failed writer.new) (O.label writer.new) progress.new)
+        (side (L.view old_reader.old) intake.old)
+        (side (L.view old_reader.new) intake.new)
+        (tally (O.view writer.old) progress.old)
+        (tally (O.view writer.new) progress.new)
         result }
 {
     copy_chunks(old_reader, intake, position.index, writer, progress)?;
@@ -80,15 +80,14 @@ fn open_rest<S: Source, O: Sink>(
 ) -> Result<(), FileFault>
     requires limit { index < 281474976710656 }
     requires room { progress.old.written ≤ 2 ^ 64 }
-    requires pulled { HasPulled (stage (tally (O.taken writer.old) (O.failed writer.old)
-        (O.label writer.old) progress.old)
-        (S.remaining reader.old) (S.failed reader.old) intake.old) }
+    requires pulled { HasPulled (stage (tally (O.view writer.old) progress.old)
+        (S.view reader.old) intake.old) }
     ensures resumes { ResumesPayload (λ nonce block. opening key.now nonce [] block) index
-        (stage (tally (O.taken writer.old) (O.failed writer.old) (O.label writer.old) progress.old)
-        (S.remaining reader.old) (S.failed reader.old) intake.old)
-        (stage (tally (O.taken writer.new) (O.failed writer.new) (O.label writer.new) progress.new)
-        (S.remaining reader.new) (S.failed reader.new) intake.new) result }
-    ensures settled { OnOk result (O.settled writer.new) }
+        (stage (tally (O.view writer.old) progress.old)
+        (S.view reader.old) intake.old)
+        (stage (tally (O.view writer.new) progress.new)
+        (S.view reader.new) intake.new) result }
+    ensures settled { OnOk result ((O.view writer.new).settled ≡ true) }
 {
     skip_blocks(reader, intake, index)?;
     decrypt_payload(key, index, reader, intake, writer, progress)
@@ -106,14 +105,11 @@ pub fn resume<U: Unlock, S: Source, L: Source, O: Sink>(
 ) -> Result<Done, Stopped>
     ensures { ResumesText Kept (U.allows unlock.now) (U.refuses unlock.now) position.now
         (resume_ports
-        (ports (S.remaining reader.old) (S.failed reader.old) (O.taken writer.old)
-        (O.failed writer.old))
-        (L.remaining old_reader.old) (L.failed old_reader.old))
+        (ports (S.view reader.old) (O.view writer.old))
+        (L.view old_reader.old))
         (resume_ports
-        (ports (S.remaining reader.new) (S.failed reader.new) (O.taken writer.new)
-        (O.failed writer.new))
-        (L.remaining old_reader.new) (L.failed old_reader.new))
-        (O.settled writer.new) (O.label writer.old) (O.label writer.new) result }
+        (ports (S.view reader.new) (O.view writer.new))
+        (L.view old_reader.new)) result }
 {
     resume_with(
         alloc,
@@ -150,14 +146,11 @@ pub fn resume_with<U: Unlock, S: Source, L: Source, O: Sink>(
 ) -> Result<Done, Stopped>
     ensures { ResumesText positions (U.allows unlock.now) (U.refuses unlock.now) position.now
         (resume_ports
-        (ports (S.remaining reader.old) (S.failed reader.old) (O.taken writer.old)
-        (O.failed writer.old))
-        (L.remaining old_reader.old) (L.failed old_reader.old))
+        (ports (S.view reader.old) (O.view writer.old))
+        (L.view old_reader.old))
         (resume_ports
-        (ports (S.remaining reader.new) (S.failed reader.new) (O.taken writer.new)
-        (O.failed writer.new))
-        (L.remaining old_reader.new) (L.failed old_reader.new))
-        (O.settled writer.new) (O.label writer.old) (O.label writer.new) result }
+        (ports (S.view reader.new) (O.view writer.new))
+        (L.view old_reader.new)) result }
 {
     one_header();
     let (Ok(mut intake), Ok(mut old_intake)) = (Intake::new(alloc), Intake::new(alloc)) else {

@@ -1,6 +1,6 @@
 //! Seals what a source gives, and writes each block.
 
-ghost use Rattle.std.specs.Prelude.{◌≡◌, ◌^◌, ◌≤◌, [], length, IfOk, OnOk, IfErr};
+ghost use Rattle.std.specs.Prelude.{◌≡◌, ◌^◌, ◌≤◌, [], length, IfOk, OnOk, IfErr, true};
 ghost use Rattle.age_stream.specs.Sealing.{Holds};
 ghost use Rattle.age_file.specs.Ports.{ports};
 ghost use Rattle.age_file.specs.inner.Boxes.{seals};
@@ -26,9 +26,9 @@ fn seal_once<O: Sink>(
     requires feeding { IsFeeding sealer.old }
     requires room { written.old ≤ 2 ^ 127 }
     ensures sealed { SealsOnce seals 65536 sealer.old sealer.new
-        (tally (O.taken sink.old) (O.failed sink.old) written.old)
-        (tally (O.taken sink.new) (O.failed sink.new) written.new) piece.now result }
-    ensures named { O.label sink.new ≡ O.label sink.old }
+        (tally (O.view sink.old) written.old)
+        (tally (O.view sink.new) written.new) piece.now result }
+    ensures named { (O.view sink.new).label ≡ (O.view sink.old).label }
 {
     let step = sealer.feed(piece)?;
     let taken = step.taken;
@@ -48,9 +48,9 @@ fn seal_piece<O: Sink>(
     requires feeding { IsFeeding sealer.old }
     requires room { HasRoom seals 65536 sealer.old written.old (length piece.now) }
     ensures sealed { SealsPiece seals 65536 sealer.old sealer.new
-        (tally (O.taken sink.old) (O.failed sink.old) written.old)
-        (tally (O.taken sink.new) (O.failed sink.new) written.new) piece.now result }
-    ensures named { O.label sink.new ≡ O.label sink.old }
+        (tally (O.view sink.old) written.old)
+        (tally (O.view sink.new) written.new) piece.now result }
+    ensures named { (O.view sink.new).label ≡ (O.view sink.old).label }
 {
     let mut at = 0;
     while at < piece.len() {
@@ -68,9 +68,9 @@ fn seal_last<O: Sink>(
     requires feeding { IsFeeding sealer.old }
     requires room { written.old ≤ 2 ^ 127 }
     ensures sealed { SealsLast seals 65536 sealer.old
-        (tally (O.taken sink.old) (O.failed sink.old) written.old)
-        (tally (O.taken sink.new) (O.failed sink.new) written.new) result }
-    ensures named { O.label sink.new ≡ O.label sink.old }
+        (tally (O.view sink.old) written.old)
+        (tally (O.view sink.new) written.new) result }
+    ensures named { (O.view sink.new).label ≡ (O.view sink.old).label }
 {
     let block = sealer.finish()?;
     write_all(sink, block, written)
@@ -85,10 +85,10 @@ fn finish<O: Sink>(
     requires feeding { IsFeeding sealer.old }
     requires room { written.old ≤ 2 ^ 127 }
     ensures sealed { SealsLast seals 65536 sealer.old
-        (tally (O.taken sink.old) (O.failed sink.old) written.old)
-        (tally (O.taken sink.new) (O.failed sink.new) written.new) result }
-    ensures settled { OnOk result (O.settled sink.new) }
-    ensures named { O.label sink.new ≡ O.label sink.old }
+        (tally (O.view sink.old) written.old)
+        (tally (O.view sink.new) written.new) result }
+    ensures settled { OnOk result ((O.view sink.new).settled ≡ true) }
+    ensures named { (O.view sink.new).label ≡ (O.view sink.old).label }
 {
     seal_last(sealer, sink, written)?;
     flush_all(sink)
@@ -107,16 +107,12 @@ fn seal_source<S: Source, O: Sink>(
     requires unread { (intake.old.bytes ≡ []) × (intake.old.pulls ≡ 0) }
     requires room { written.old ≤ 2 ^ 126 }
     ensures sealed { IfOk result (SealsSource seals 65536 sealer.old sealer.new
-        (ports (S.remaining source.old) (S.failed source.old) (O.taken sink.old)
-        (O.failed sink.old))
-        (ports (S.remaining source.new) (S.failed source.new) (O.taken sink.new)
-        (O.failed sink.new)) written.old written.new) }
+        (ports (S.view source.old) (O.view sink.old))
+        (ports (S.view source.new) (O.view sink.new)) written.old written.new) }
     ensures fails { IfErr result (SealsFront (seals sealer.old.key) 65536
-        (ports (S.remaining source.old) (S.failed source.old) (O.taken sink.old)
-        (O.failed sink.old))
-        (ports (S.remaining source.new) (S.failed source.new) (O.taken sink.new)
-        (O.failed sink.new)) written.old written.new) }
-    ensures named { O.label sink.new ≡ O.label sink.old }
+        (ports (S.view source.old) (O.view sink.old))
+        (ports (S.view source.new) (O.view sink.new)) written.old written.new) }
+    ensures named { (O.view sink.new).label ≡ (O.view sink.old).label }
 {
     let mut plain = 0;
     'pulls: while intake.refill(source)? {
@@ -139,17 +135,13 @@ pub(crate) fn seal_all<S: Source, O: Sink>(
     requires unread { (intake.old.bytes ≡ []) × (intake.old.pulls ≡ 0) }
     requires room { written.old ≤ 2 ^ 126 }
     ensures sealed { IfOk result (SealsAll (seals key.now) 65536
-        (ports (S.remaining source.old) (S.failed source.old) (O.taken sink.old)
-        (O.failed sink.old))
-        (ports (S.remaining source.new) (S.failed source.new) (O.taken sink.new)
-        (O.failed sink.new)) written.old written.new) }
+        (ports (S.view source.old) (O.view sink.old))
+        (ports (S.view source.new) (O.view sink.new)) written.old written.new) }
     ensures fails { IfErr result (SealsFront (seals key.now) 65536
-        (ports (S.remaining source.old) (S.failed source.old) (O.taken sink.old)
-        (O.failed sink.old))
-        (ports (S.remaining source.new) (S.failed source.new) (O.taken sink.new)
-        (O.failed sink.new)) written.old written.new) }
-    ensures settled { OnOk result (O.settled sink.new) }
-    ensures named { O.label sink.new ≡ O.label sink.old }
+        (ports (S.view source.old) (O.view sink.old))
+        (ports (S.view source.new) (O.view sink.new)) written.old written.new) }
+    ensures settled { OnOk result ((O.view sink.new).settled ≡ true) }
+    ensures named { (O.view sink.new).label ≡ (O.view sink.old).label }
 {
     let mut sealer = PayloadSealer::new(key);
     let plain = seal_source(&mut sealer, source, intake, sink, written)?;

@@ -13,8 +13,8 @@ const BLOCK: usize = 65_552;
 
 /// Passes over a block. False: the source ended within it.
 fn skip_block<S: Source>(source: &mut S, intake: &mut Intake) -> Result<bool, FileFault>
-    ensures { SkipsBlock 65552 (side (S.remaining source.old) (S.failed source.old) intake.old)
-        (side (S.remaining source.new) (S.failed source.new) intake.new) result }
+    ensures { SkipsBlock 65552 (side (S.view source.old) intake.old)
+        (side (S.view source.new) intake.new) result }
 {
     let mut left = BLOCK;
     'parts: while left > 0 {
@@ -34,9 +34,9 @@ pub(crate) fn skip_blocks<S: Source>(
     intake: &mut Intake,
     blocks: u64,
 ) -> Result<(), FileFault>
-    ensures { SkipsBlocks 65552 blocks (side (S.remaining source.old) (S.failed source.old)
+    ensures { SkipsBlocks 65552 blocks (side (S.view source.old)
         intake.old)
-        (side (S.remaining source.new) (S.failed source.new) intake.new) result }
+        (side (S.view source.new) intake.new) result }
 {
     for block in 0..blocks {
         if !skip_block(source, intake)? {

@@ -24,9 +24,9 @@ pub(crate) struct Unlocked {
 
 /// Sees that some byte is there. False: the source is at its end.
 pub(crate) fn some_bytes<S: Source>(source: &mut S, intake: &mut Intake) -> Result<bool, FileFault>
-    ensures answers { SomeAnswers (S.remaining source.new) (S.failed source.old)
-        (S.failed source.new) intake.new result }
-    ensures uses { Uses (S.remaining source.old) (S.remaining source.new) intake.old intake.new [] }
+    ensures answers { SomeAnswers (S.view source.new).remaining (S.view source.old).failed
+        (S.view source.new).failed intake.new result }
+    ensures uses { Uses (S.view source.old).remaining (S.view source.new).remaining intake.old intake.new [] }
 {
     if !intake.bytes().is_empty() {
         return Ok(true);
@@ -47,11 +47,11 @@ fn copy_some(from: &[u8], into: &mut [u8; 16], have: usize) -> usize
 
 /// Reads the payload nonce.
 fn take_nonce<S: Source>(source: &mut S, intake: &mut Intake) -> Result<[u8; 16], FileFault>
-    ensures found { IfOk result (Uses (S.remaining source.old) (S.remaining source.new) intake.old
+    ensures found { IfOk result (Uses (S.view source.old).remaining (S.view source.new).remaining intake.old
         intake.new) }
-    ensures unfailed { OnOk result (S.failed source.new ≡ S.failed source.old) }
-    ensures fails { IfErr result (NonceFails (S.remaining source.old) (S.remaining source.new)
-        (S.failed source.old) (S.failed source.new) intake.old intake.new) }
+    ensures unfailed { OnOk result ((S.view source.new).failed ≡ (S.view source.old).failed) }
+    ensures fails { IfErr result (NonceFails (S.view source.old).remaining (S.view source.new).remaining
+        (S.view source.old).failed (S.view source.new).failed intake.old intake.new) }
 {
     let mut nonce = [0; 16];
     let mut have = 0;
@@ -74,12 +74,12 @@ pub(crate) fn start<U: Unlock, S: Source>(
     intake: &mut Intake,
 ) -> Result<Unlocked, FileFault>
     requires { (intake.old.bytes ≡ []) × (intake.old.pulls ≡ 0) }
-    ensures found { IfOk result (StartsAt (U.allows unlock.now) (S.remaining source.old)
-        (S.remaining source.new) intake.new) }
-    ensures unfailed { OnOk result (S.failed source.new ≡ S.failed source.old) }
+    ensures found { IfOk result (StartsAt (U.allows unlock.now) (S.view source.old).remaining
+        (S.view source.new).remaining intake.new) }
+    ensures unfailed { OnOk result ((S.view source.new).failed ≡ (S.view source.old).failed) }
     ensures fails { IfErr result (StartFails (U.allows unlock.now) (U.refuses unlock.now)
-        (S.remaining source.old) (S.remaining source.new) (S.failed source.old)
-        (S.failed source.new)) }
+        (S.view source.old).remaining (S.view source.new).remaining (S.view source.old).failed
+        (S.view source.new).failed) }
 {
     one_header();
     let header = read_head(alloc, source, intake)?.header;

@@ -76,7 +76,7 @@ pub trait FileSet {
         ensures noted { events self.new ≡ events self.old ++ Opened name.now ∷ [] }
         ensures found { IfOk result (λ s. tells self.old ≡ true
             → (is_some (entry self.old name.now) ≡ true)
-            × (Self.In.remaining s ≡ entry self.old name.now)) }
+            × ((Self.In.view s).remaining ≡ entry self.old name.now)) }
         ensures faults { IfErr result (IsMemoryOr FileFault.Read) };
 
     /// Opens a file to be written, and makes it where there is none. No entry changes until it is
@@ -87,7 +87,7 @@ pub trait FileSet {
         ensures told { tells self.new ≡ tells self.old }
         ensures kept { entry self.new ≡ entry self.old }
         ensures made { IfOk result (λ o. tells self.old ≡ true
-            → (Self.Out.taken o ≡ Some []) × (Self.Out.label o ≡ name.now)) }
+            → ((Self.Out.view o).taken ≡ Some []) × ((Self.Out.view o).label ≡ name.now)) }
         ensures noted { events self.new ≡ events self.old ++ Created name.now ∷ [] }
         ensures faults { IfErr result (CreateFails (tells self.old)) };
 
@@ -96,8 +96,8 @@ pub trait FileSet {
     fn close(&mut self, out: Self::Out, durability: Durability) -> Result<(), FileFault>
         ensures told { tells self.new ≡ tells self.old }
         ensures put { OnOk result (tells self.old ≡ true
-            → entry self.new (Self.Out.label out) ≡ Self.Out.taken out) }
-        ensures others { (q : List ℕ) → q ≢ Self.Out.label out
+            → entry self.new (Self.Out.view out).label ≡ (Self.Out.view out).taken) }
+        ensures others { (q : List ℕ) → q ≢ (Self.Out.view out).label
             → entry self.new q ≡ entry self.old q }
         ensures err { OnErr result (entry self.new ≡ entry self.old) }
         ensures noted { events self.new ≡ events self.old ++ Closed ∷ [] }
@@ -107,9 +107,9 @@ pub trait FileSet {
     /// `create`, and where there was none, there is none.
     fn discard(&mut self, out: Self::Out)
         ensures told { tells self.new ≡ tells self.old }
-        ensures kept { (tells self.old ≡ true → Self.Out.taken out ≡ Some [])
+        ensures kept { (tells self.old ≡ true → (Self.Out.view out).taken ≡ Some [])
             → entry self.new ≡ entry self.old }
-        ensures others { (q : List ℕ) → q ≢ Self.Out.label out
+        ensures others { (q : List ℕ) → q ≢ (Self.Out.view out).label
             → entry self.new q ≡ entry self.old q }
         ensures noted { events self.new ≡ events self.old ++ Closed ∷ [] };
 

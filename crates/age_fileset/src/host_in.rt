@@ -1,6 +1,6 @@
 //! A file of the machine that is read.
 
-ghost use Rattle.std.specs.Prelude.{◌≡◌};
+ghost use Rattle.std.specs.Prelude.{◌≡◌, None};
 ghost use Rattle.std.specs.Io.{ReadsAtMost};
 
 use crate::host_names::{Identity, Place, Stream, above_streams, place_of};
@@ -81,7 +81,7 @@ impl HostIn {
 }
 
 impl Source for HostIn {
-    ghost failed = { λ s. s };
+    ghost view = { λ s. record { remaining = None; failed = s } };
 
     fn pull(&mut self, into: &mut [u8]) -> Result<usize, Failed> {
         match self.read(into) {

@@ -1,6 +1,6 @@
 //! A file of the machine that is written.
 
-ghost use Rattle.std.specs.Prelude.{◌≡◌};
+ghost use Rattle.std.specs.Prelude.{◌≡◌, [], None, true};
 ghost use Rattle.std.specs.Io.{WritesAtMost};
 
 use crate::host_names::{Identity, Place, Stream, above_streams, place_of};
@@ -247,7 +247,7 @@ fn close_stream(rt: &HostRuntime, stream: Stream, durability: Durability) -> io:
 }
 
 impl Sink for HostOut {
-    ghost failed = { λ s. s };
+    ghost view = { λ s. record { taken = None; failed = s; label = []; settled = true } };
 
     fn put(&mut self, from: &[u8]) -> Result<usize, Failed> {
         match self.write(from) {

@@ -57,13 +57,12 @@ impl Model for MemOut {
 }
 
 impl Sink for MemOut {
-    ghost taken = { λ o. Some o.1.held };
-
-    ghost failed = { λ o. o.1.failures };
-
-    ghost settled = { λ o. o.1.settled ≡ true };
-
-    ghost label = { λ o. o.0 };
+    ghost view = { λ o. record {
+      taken = Some o.1.held;
+      failed = o.1.failures;
+      label = o.0;
+      settled = o.1.settled;
+    } };
 
     fn put(&mut self, from: &[u8]) -> Result<usize, Failed>
         ensures bound { IfOk result (λ n. (n ≤ length from.now) × (0 < length from.now → 0 < n)) }

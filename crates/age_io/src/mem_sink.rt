@@ -90,11 +90,12 @@ impl MemSink {
 }
 
 impl Sink for MemSink {
-    ghost taken = { λ s. Some s.held };
-
-    ghost failed = { λ s. s.failures };
-
-    ghost settled = { λ s. s.settled ≡ true };
+    ghost view = { λ s. record {
+      taken = Some s.held;
+      failed = s.failures;
+      label = [];
+      settled = s.settled;
+    } };
 
     fn put(&mut self, from: &[u8]) -> Result<usize, Failed>
         ensures bound { IfOk result (λ n. (n ≤ length from.now) × (0 < length from.now → 0 < n)) }

@@ -67,9 +67,7 @@ fn copy_front(from: &[u8], into: &mut [u8], n: usize)
 }
 
 impl Source for MemSource {
-    ghost remaining = { λ s. Some s.left };
-
-    ghost failed = { λ s. s.failures };
+    ghost view = { λ s. record { remaining = Some s.left; failed = s.failures } };
 
     fn pull(&mut self, into: &mut [u8]) -> Result<usize, Failed>
         ensures bound { IfOk result (λ n. n ≤ length into.new) }

@@ -1,8 +1,9 @@
 //! Where bytes go.
 
-ghost use Rattle.std.specs.Prelude.{◌≡◌, ◌<◌, ◌≤◌, ℕ, Option, List, [], length, None, ⊤, IfOk, OnOk, MatchResult};
+ghost use Rattle.std.specs.Prelude.{◌≡◌, ◌<◌, ◌≤◌, ℕ, [], length, true, IfOk, OnOk, MatchResult};
 ghost use Rattle.std.specs.Io.KnownBytes.{WriteAppends, Keeps};
 ghost use Rattle.age_io.specs.Memory.{one_more};
+ghost use Rattle.age_io.specs.Views.{SinkView};
 ghost use Rattle.std.specs.Coded.{coded_ℕ, coded×};
 
 use crate::failed::Failed;
@@ -11,39 +12,33 @@ use std::marker::Model;
 
 /// Where bytes go.
 pub trait Sink {
-    // The bytes that were taken, where they are told.
-    ghost taken: { Self → Option (List ℕ) } = { λ _. None };
-
-    // How many puts and flushes have failed; it stays at its greatest value.
-    ghost failed: { Self → ℕ };
-
-    // Whether what was taken was sent on; a put may undo it. True of each sink that does not say.
-    ghost settled: { Self → Type 0 } = { λ _. ⊤ };
-
-    // The name that the sink goes by, which stays with it, so that a set of files can say where its
-    // bytes end up.
-    ghost label: { Self → List ℕ } = { λ _. [] };
+    // The bytes that were taken, where they are told, how many puts and flushes have failed, the
+    // name that the sink goes by, so that a set of files can say where its bytes end up, and
+    // whether what was taken was sent on; a put may undo that.
+    ghost view: { Self → SinkView };
 
     /// Takes bytes from the front of a slice, and answers how many: at least one, where the slice
     /// isn't empty. A put that fails takes no bytes.
     fn put(&mut self, from: &[u8]) -> Result<usize, Failed>
         ensures bound { IfOk result (λ n. (n ≤ length from.now) × (0 < length from.now → 0 < n)) }
-        ensures bytes { WriteAppends (taken self.old) (taken self.new) result from.now }
-        ensures named { label self.new ≡ label self.old }
-        ensures counted { MatchResult result (λ _. failed self.new ≡ failed self.old)
-            (λ _. failed self.new ≡ one_more (failed self.old)) };
+        ensures bytes { WriteAppends (view self.old).taken (view self.new).taken result from.now }
+        ensures named { (view self.new).label ≡ (view self.old).label }
+        ensures counted { MatchResult result
+            (λ _. (view self.new).failed ≡ (view self.old).failed)
+            (λ _. (view self.new).failed ≡ one_more (view self.old).failed) };
 
     /// Sends on what was taken.
     fn flush(&mut self) -> Result<(), Failed>
-        ensures settled { OnOk result (settled self.new) }
-        ensures bytes { Keeps (taken self.old) (taken self.new) }
-        ensures named { label self.new ≡ label self.old }
-        ensures counted { MatchResult result (λ _. failed self.new ≡ failed self.old)
-            (λ _. failed self.new ≡ one_more (failed self.old)) };
+        ensures settled { OnOk result ((view self.new).settled ≡ true) }
+        ensures bytes { Keeps (view self.old).taken (view self.new).taken }
+        ensures named { (view self.new).label ≡ (view self.old).label }
+        ensures counted { MatchResult result
+            (λ _. (view self.new).failed ≡ (view self.old).failed)
+            (λ _. (view self.new).failed ≡ one_more (view self.old).failed) };
 
     /// How many puts and flushes have failed.
     fn failures(&self) -> u64
-        ensures { result ≡ failed self.now };
+        ensures { result ≡ (view self.now).failed };
 }
 
 /// A sink over one of the machine's writers. It tells what the writer tells, which for a file, a
@@ -73,9 +68,12 @@ impl<W: Write> Writing<W> {
 }
 
 impl<W: Write> Sink for Writing<W> {
-    ghost taken = { λ s. W.contents s.0 };
-
-    ghost failed = { λ s. s.1 };
+    ghost view = { λ s. record {
+      taken = W.contents s.0;
+      failed = s.1;
+      label = [];
+      settled = true;
+    } };
 
     fn put(&mut self, from: &[u8]) -> Result<usize, Failed> {
         match self.inner.write(from) {

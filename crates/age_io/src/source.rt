@@ -1,8 +1,9 @@
 //! Where bytes come from.
 
-ghost use Rattle.std.specs.Prelude.{◌≡◌, ◌≤◌, ℕ, Option, List, length, None, IfOk, MatchResult};
+ghost use Rattle.std.specs.Prelude.{◌≡◌, ◌≤◌, ℕ, length, IfOk, MatchResult};
 ghost use Rattle.std.specs.Io.KnownBytes.{ReadConsumes};
 ghost use Rattle.age_io.specs.Memory.{one_more};
+ghost use Rattle.age_io.specs.Views.{SourceView};
 ghost use Rattle.std.specs.Coded.{coded_ℕ, coded×};
 
 use crate::failed::Failed;
@@ -11,23 +12,22 @@ use std::marker::Model;
 
 /// Where bytes come from.
 pub trait Source {
-    // The bytes that are still to come, where they are told.
-    ghost remaining: { Self → Option (List ℕ) } = { λ _. None };
-
-    // How many pulls have failed; it stays at its greatest value.
-    ghost failed: { Self → ℕ };
+    // The bytes that are still to come, where they are told, and how many pulls have failed.
+    ghost view: { Self → SourceView };
 
     /// Puts the next bytes into the front of a slice, and answers how many: none only at the end,
     /// or where the slice is empty. A pull that fails moves no bytes.
     fn pull(&mut self, into: &mut [u8]) -> Result<usize, Failed>
         ensures bound { IfOk result (λ n. n ≤ length into.new) }
-        ensures bytes { ReadConsumes (remaining self.old) (remaining self.new) result into.new }
-        ensures counted { MatchResult result (λ _. failed self.new ≡ failed self.old)
-            (λ _. failed self.new ≡ one_more (failed self.old)) };
+        ensures bytes { ReadConsumes (view self.old).remaining (view self.new).remaining result
+            into.new }
+        ensures counted { MatchResult result
+            (λ _. (view self.new).failed ≡ (view self.old).failed)
+            (λ _. (view self.new).failed ≡ one_more (view self.old).failed) };
 
     /// How many pulls have failed.
     fn failures(&self) -> u64
-        ensures { result ≡ failed self.now };
+        ensures { result ≡ (view self.now).failed };
 }
 
 /// A source over one of the machine's readers. It tells what the reader tells, which for a file, a
@@ -56,9 +56,7 @@ impl<R: Read> Reading<R> {
 }
 
 impl<R: Read> Source for Reading<R> {
-    ghost remaining = { λ s. R.remaining s.0 };
-
-    ghost failed = { λ s. s.1 };
+    ghost view = { λ s. record { remaining = R.remaining s.0; failed = s.1 } };
 
     fn pull(&mut self, into: &mut [u8]) -> Result<usize, Failed> {
         match self.inner.read(into) {

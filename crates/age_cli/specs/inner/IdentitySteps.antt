@@ -2,7 +2,7 @@
 use Rattle.std.specs.Prelude.{◌≡◌, ℕ, List, Option, Some, None, option_map}
 use Rattle.std.specs.declared.vec.Vec.{Vec}
 use Rattle.clap.specs.Words.{Text}
-use Rattle.age_cli.specs.Held.{Held}
+use Rattle.age_cli.specs.Files.{Files}
 use Rattle.age_cli.specs.Identities.{Options}
 use Rattle.age_commands.specs.Requests.{text_of}
 use Rattle.age_commands.specs.declared.request.Unlocking.{Unlocking}
@@ -20,7 +20,7 @@ abbrev pub bytes_of : {Z : Type 0} → Option (Vec ℕ Z) → Option (List ℕ)
 bytes_of = option_map (λ v. v.items)
 
 -- these bytes are what the file of this name holds, where there are such
-abbrev pub IsSecretIn : Held → Option Text → Option (List ℕ) → Type 0
+abbrev pub IsSecretIn : Files → Option Text → Option (List ℕ) → Type 0
 IsSecretIn old (Some name) (Some bytes) = old name ≡ Some bytes
 IsSecretIn old name bytes = Unit {0}
 

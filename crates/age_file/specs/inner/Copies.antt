@@ -17,32 +17,32 @@ use Rattle.age_file.specs.declared.fault.FileFault.TheVariants.{ShortText, Read,
 -- or its front where the sink failed
 abbrev pub CopyFails : Side → Side → Tally → Tally → List ℕ → FileFault → Type 0
 CopyFails old new was now out ShortText = Passes old new out × (new.unread.bytes ≡ [])
-    × IsAtEnd new.coming × (now.failed ≡ was.failed)
+    × IsAtEnd new.source.remaining × (now.sink.failed ≡ was.sink.failed)
 CopyFails old new was now out Write = (used : List ℕ) × Passes old new used
-    × IsPrefixOf out (used ++ new.unread.bytes) × HasRisen was.failed now.failed
-CopyFails old new was now out Read = Dries old new out Read × (now.failed ≡ was.failed)
+    × IsPrefixOf out (used ++ new.unread.bytes) × HasRisen was.sink.failed now.sink.failed
+CopyFails old new was now out Read = Dries old new out Read × (now.sink.failed ≡ was.sink.failed)
 CopyFails old new was now out ReadNeverEnds = Dries old new out ReadNeverEnds
-    × (now.failed ≡ was.failed)
+    × (now.sink.failed ≡ was.sink.failed)
 CopyFails old new was now out other = ⊥
 
 -- a chunk was copied, and counted with its link
 abbrev pub ChunkGoes : ℕ → Side → Side → Tally → Tally → List ℕ → Type 0
-ChunkGoes n old new was now out = (length out ≡ n) × Passes old new out × (now.failed ≡ was.failed)
+ChunkGoes n old new was now out = (length out ≡ n) × Passes old new out × (now.sink.failed ≡ was.sink.failed)
     × (now.progress.index ≡ was.progress.index + 1)
     × (now.progress.chain ≡ link_if was.progress.chain out)
 
 -- so many chunks were copied, and the chain is over them
 abbrev pub ChunksGo : ℕ → ℕ → Side → Side → Tally → Tally → List ℕ → Type 0
 ChunksGo n chunks old new was now out = (length out ≡ chunks * n) × Passes old new out
-    × (now.failed ≡ was.failed)
+    × (now.sink.failed ≡ was.sink.failed)
     × (now.progress.index ≡ chunks)
     × (now.progress.chain ≡ chain_if Kept (first_chunks n chunks out))
 
 pub record Copies (Goes : List ℕ → Type 0) (size : ℕ) (old new : Side) (was now : Tally)
     (result : Result (Unit {0}) FileFault) : Type 0 where
   pub out : List ℕ
-  pub wrote : Appends was.taken now.taken out
-  pub named : now.label ≡ was.label
+  pub wrote : Appends was.sink.taken now.sink.taken out
+  pub named : now.sink.label ≡ was.sink.label
   pub count : now.progress.written ≡ was.progress.written + length out
   pub answered : MatchResult result (λ _. Goes out)
       (λ fault. (length out < size) × CopyFails old new was now out fault)
@@ -66,7 +66,7 @@ TextFails n chunks links old new was now out fault = (length out < chunks * n)
 -- so many chunks were copied, which have this chain; it goes on where positions are kept
 abbrev pub TextGoes : Positions → ℕ → ℕ → List ℕ → Side → Side → Tally → Tally → List ℕ → Type 0
 TextGoes keep n chunks links old new was now out = (length out ≡ chunks * n) × Passes old new out
-    × (now.failed ≡ was.failed) × (now.progress.index ≡ chunks)
+    × (now.sink.failed ≡ was.sink.failed) × (now.progress.index ≡ chunks)
     × (now.progress.chain ≡ chain_if keep (first_chunks n chunks out))
     × (chain (first_chunks n chunks out) ≡ links)
 
@@ -74,8 +74,8 @@ TextGoes keep n chunks links old new was now out = (length out ≡ chunks * n) �
 pub record CopiesText (keep : Positions) (n chunks : ℕ) (links : List ℕ) (old new : Side)
     (was now : Tally) (result : Result (Unit {0}) FileFault) : Type 0 where
   pub out : List ℕ
-  pub wrote : Appends was.taken now.taken out
-  pub named : now.label ≡ was.label
+  pub wrote : Appends was.sink.taken now.sink.taken out
+  pub named : now.sink.label ≡ was.sink.label
   pub count : now.progress.written ≡ was.progress.written + length out
   pub answered : MatchResult result (λ _. TextGoes keep n chunks links old new was now out)
       (TextFails n chunks links old new was now out)

@@ -2,6 +2,7 @@
 -- has n bytes.
 use Rattle.std.specs.Prelude.{◌≡◌, ℕ, ◌+◌, ◌*◌, ◌^◌, ◌<◌, ◌≤◌, List, [], ◌++◌, length, Option, Result, MatchResult, Bool, true, false}
 use Rattle.std.specs.Io.KnownBytes.{IsAtEnd}
+use Rattle.age_io.specs.Views.{SourceView}
 use Rattle.age_stream.specs.declared.step.Status.TheVariants.{Failed}
 use Rattle.age_stream.specs.Deliveries.{with_piece}
 use Rattle.age_stream.specs.Opening.{OpenerView}
@@ -12,21 +13,18 @@ use Rattle.age_file.specs.inner.Releases.{Tally, Releases}
 use Rattle.age_file.specs.declared.fault.FileFault.{FileFault}
 use Rattle.age_file.specs.declared.fault.FileFault.TheVariants.{Stream, Read, Write, ReadNeverEnds}
 
--- an opener, what was written, what a source has to come and how often it failed, and what was
--- pulled and not used
+-- an opener, what was written, what is seen of a source, and what was pulled and not used
 pub record Flow (B : Type 0) : Type 0 where
   pub opener : OpenerView B
   pub tally : Tally
-  pub coming : Option (List ℕ)
-  pub read_failed : ℕ
+  pub source : SourceView
   pub unread : Unread
 
-abbrev pub flow : {B : Type 0} → OpenerView B → Tally → Option (List ℕ) → ℕ → Unread → Flow B
-flow opener tally coming read_failed unread = record {
+abbrev pub flow : {B : Type 0} → OpenerView B → Tally → SourceView → Unread → Flow B
+flow opener tally source unread = record {
   opener = opener;
   tally = tally;
-  coming = coming;
-  read_failed = read_failed;
+  source = source;
   unread = unread;
 }
 
@@ -38,15 +36,15 @@ module _ {B : Type 0} where
       ≤ 2 ^ 64 + 65536 * f.unread.pulls) × (f.unread.pulls ≤ 2 ^ 63)
 
   abbrev pub SameFailures : Flow B → Flow B → Type 0
-  SameFailures old new = (new.tally.failed ≡ old.tally.failed) × (new.read_failed ≡ old.read_failed)
+  SameFailures old new = (new.tally.sink.failed ≡ old.tally.sink.failed) × (new.source.failed ≡ old.source.failed)
 
   -- why it stopped, with what was left and not written
   abbrev pub FlowFails : Flow B → Flow B → List ℕ → List ℕ → FileFault → Type 0
   FlowFails old new left unwritten (Stream fault) = (new.opener.status ≡ Failed fault) × (left ≡ [])
       × (unwritten ≡ []) × SameFailures old new
-  FlowFails old new left unwritten Write = HasRisen old.tally.failed new.tally.failed
+  FlowFails old new left unwritten Write = HasRisen old.tally.sink.failed new.tally.sink.failed
   FlowFails old new left unwritten Read = (left ≡ []) × (unwritten ≡ [])
-      × HasRisen old.read_failed new.read_failed
+      × HasRisen old.source.failed new.source.failed
   FlowFails old new left unwritten ReadNeverEnds = (left ≡ []) × (unwritten ≡ [])
       × (new.unread.pulls ≡ 2 ^ 63)
       × SameFailures old new
@@ -57,7 +55,7 @@ module _ {B : Type 0} where
       × SameFailures old new
       × HasRoom new × (new.unread.pulls ≡ old.unread.pulls + 1)
   TurnGoes old new left unwritten false = (left ≡ []) × (unwritten ≡ []) × SameFailures old new
-      × IsAtEnd new.coming × (length new.opener.held + new.tally.progress.written < 2 ^ 128)
+      × IsAtEnd new.source.remaining × (length new.opener.held + new.tally.progress.written < 2 ^ 128)
 
   module _ (opening : B → List ℕ → List ℕ → Option (List ℕ)) (n : ℕ) where
     -- of what was unread and what was pulled, so much was fed, and the rest was left
@@ -68,8 +66,8 @@ module _ {B : Type 0} where
       pub releases : Releases opening n (λ s. with_piece s fed) old.opener new.opener old.tally
           new.tally unwritten
       pub pulled : (start : Option (List ℕ)) (bytes : List ℕ)
-          → Pulled start old.coming old.unread.pulls bytes
-          → Pulled start new.coming new.unread.pulls (bytes ++ fresh)
+          → Pulled start old.source.remaining old.unread.pulls bytes
+          → Pulled start new.source.remaining new.unread.pulls (bytes ++ fresh)
 
     -- a piece was fed and the next was pulled; false where the source is at its end
     pub record Turns (old new : Flow B) (result : Result Bool FileFault) : Type 0 where

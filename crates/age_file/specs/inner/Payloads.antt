@@ -2,6 +2,7 @@
 use Rattle.std.specs.Prelude.{◌≡◌, ℕ, ◌+◌, ◌*◌, ◌^◌, ◌≤◌, List, ◌++◌, length, Option, Result, MatchResult, Bool, true}
 use Rattle.std.specs.Simd.{first_chunks}
 use Rattle.std.specs.Io.KnownBytes.{Appends, IsAtEnd}
+use Rattle.age_io.specs.Views.{SourceView}
 use Rattle.age_stream.specs.declared.step.Status.TheVariants.{Failed, Done}
 use Rattle.age_stream.specs.Segment.{Segment, outcome, released}
 use Rattle.age_stream.specs.Headline.{IsPrefixOf}
@@ -16,36 +17,30 @@ use Rattle.age_file.specs.Decrypts.{segment}
 use Rattle.age_file.specs.declared.fault.FileFault.{FileFault}
 use Rattle.age_file.specs.declared.fault.FileFault.TheVariants.{Stream, Read, Write, ReadNeverEnds}
 
--- where a run stands: what was written, what is still to come, what was pulled and not used
+-- where a run stands: what was written, what is seen of a source, what was pulled and not used
 pub record Stage : Type 0 where
   pub tally : Tally
-  pub coming : Option (List ℕ)
-  pub read_failed : ℕ
+  pub source : SourceView
   pub unread : Unread
 
-abbrev pub stage : Tally → Option (List ℕ) → ℕ → Unread → Stage
-stage tally coming read_failed unread = record {
-  tally = tally;
-  coming = coming;
-  read_failed = read_failed;
-  unread = unread;
-}
+abbrev pub stage : Tally → SourceView → Unread → Stage
+stage tally source unread = record { tally = tally; source = source; unread = unread }
 
 abbrev pub HasPlace : Stage → Type 0
 HasPlace s = (s.tally.progress.written + length s.unread.bytes ≤ 2 ^ 64 + 65536 * s.unread.pulls)
     × (s.unread.pulls ≤ 2 ^ 63)
 
 abbrev pub NoneFailed : Stage → Stage → Type 0
-NoneFailed old new = (new.tally.failed ≡ old.tally.failed) × (new.read_failed ≡ old.read_failed)
+NoneFailed old new = (new.tally.sink.failed ≡ old.tally.sink.failed) × (new.source.failed ≡ old.source.failed)
 
 module _ (opening : List ℕ → List ℕ → Option (List ℕ)) (n : ℕ) where
   -- all of the text was written, and the fault is where the segment stands; unless the sink failed
   abbrev pub PayloadFails : Stage → Stage → Segment → List ℕ → FileFault → Type 0
   PayloadFails old new s out (Stream fault) = ((outcome opening n s).status ≡ Failed fault)
       × (out ≡ released opening n s) × NoneFailed old new
-  PayloadFails old new s out Write = HasRisen old.tally.failed new.tally.failed
+  PayloadFails old new s out Write = HasRisen old.tally.sink.failed new.tally.sink.failed
   PayloadFails old new s out Read = (out ≡ released opening n s)
-      × HasRisen old.read_failed new.read_failed
+      × HasRisen old.source.failed new.source.failed
   PayloadFails old new s out ReadNeverEnds = (out ≡ released opening n s)
       × (new.unread.pulls ≡ 2 ^ 63)
       × NoneFailed old new
@@ -64,11 +59,11 @@ module _ (opening : List ℕ → List ℕ → Option (List ℕ)) (n : ℕ) where
     pub fresh : List ℕ
     pub parts : old.unread.bytes ++ fresh ≡ bytes
     pub pulled : (from : Option (List ℕ)) (all : List ℕ)
-        → Pulled from old.coming old.unread.pulls all
-        → Pulled from new.coming new.unread.pulls (all ++ fresh)
-    pub at_end : ended ≡ true → IsAtEnd new.coming
-    pub wrote : Appends old.tally.taken new.tally.taken out
-    pub named : new.tally.label ≡ old.tally.label
+        → Pulled from old.source.remaining old.unread.pulls all
+        → Pulled from new.source.remaining new.unread.pulls (all ++ fresh)
+    pub at_end : ended ≡ true → IsAtEnd new.source.remaining
+    pub wrote : Appends old.tally.sink.taken new.tally.sink.taken out
+    pub named : new.tally.sink.label ≡ old.tally.sink.label
     pub count : new.tally.progress.written ≡ old.tally.progress.written + length out
     pub prefix : IsPrefixOf out (released opening n (segment start bytes ended))
     pub counts : (keep : Positions) (base : List ℕ) → length base ≡ start * n

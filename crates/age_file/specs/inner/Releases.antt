@@ -2,6 +2,7 @@
 -- chunk has n bytes.
 use Rattle.std.specs.Prelude.{◌≡◌, ℕ, ◌+◌, ◌*◌, ◌<◌, ◌≤◌, List, [], ◌++◌, length, Option, Result, MatchResult}
 use Rattle.std.specs.Io.KnownBytes.{Appends}
+use Rattle.age_io.specs.Views.{SinkView}
 use Rattle.age_stream.specs.declared.step.Status.TheVariants.{Failed, Done}
 use Rattle.age_stream.specs.Segment.{Segment, released}
 use Rattle.age_stream.specs.Deliveries.{with_piece, with_end}
@@ -13,20 +14,13 @@ use Rattle.age_file.specs.declared.progress.Progress.{Progress}
 use Rattle.age_file.specs.declared.fault.FileFault.{FileFault}
 use Rattle.age_file.specs.declared.fault.FileFault.TheVariants.{Stream, Write}
 
--- what a sink took, how often it failed, its name, and how far the run has come
+-- what is seen of a sink, and how far the run has come
 pub record Tally : Type 0 where
-  pub taken : Option (List ℕ)
-  pub failed : ℕ
-  pub label : List ℕ
+  pub sink : SinkView
   pub progress : Progress
 
-abbrev pub tally : Option (List ℕ) → ℕ → List ℕ → Progress → Tally
-tally taken failed label progress = record {
-  taken = taken;
-  failed = failed;
-  label = label;
-  progress = progress;
-}
+abbrev pub tally : SinkView → Progress → Tally
+tally sink progress = record { sink = sink; progress = progress }
 
 module _ {B : Type 0} (opening : B → List ℕ → List ℕ → Option (List ℕ)) (n : ℕ) where
   -- for each segment that the opener stood for, it stands for the next, whose text is more by what
@@ -36,8 +30,8 @@ module _ {B : Type 0} (opening : B → List ℕ → List ℕ → Option (List �
       (unwritten : List ℕ) : Type 0 where
     pub out : List ℕ
     pub key : new.key ≡ old.key
-    pub wrote : Appends was.taken now.taken out
-    pub named : now.label ≡ was.label
+    pub wrote : Appends was.sink.taken now.sink.taken out
+    pub named : now.sink.label ≡ was.sink.label
     pub count : now.progress.written ≡ was.progress.written + length out
     pub stands : (s : Segment) → Stands opening n old s → Stands opening n new (next s)
     pub text : (s : Segment) → Stands opening n old s → released (opening old.key) n (next s)
@@ -51,8 +45,8 @@ module _ {B : Type 0} (opening : B → List ℕ → List ℕ → Option (List �
   -- a fault of the opener, or of the sink, with what was left of the piece and not written
   abbrev pub FeedFails : OpenerView B → Tally → Tally → List ℕ → List ℕ → FileFault → Type 0
   FeedFails new was now left unwritten (Stream fault) = (new.status ≡ Failed fault) × (left ≡ [])
-      × (unwritten ≡ []) × (now.failed ≡ was.failed)
-  FeedFails new was now left unwritten Write = HasRisen was.failed now.failed
+      × (unwritten ≡ []) × (now.sink.failed ≡ was.sink.failed)
+  FeedFails new was now left unwritten Write = HasRisen was.sink.failed now.sink.failed
   FeedFails new was now left unwritten other = ⊥
 
   -- what the opener holds and what was written is no more than what it held, and was fed
@@ -60,7 +54,7 @@ module _ {B : Type 0} (opening : B → List ℕ → List ℕ → Option (List �
   FeedGoes old new was now fed unwritten =
       (length new.held + now.progress.written
       ≤ length old.held + was.progress.written + length fed) × (unwritten ≡ [])
-      × (now.failed ≡ was.failed)
+      × (now.sink.failed ≡ was.sink.failed)
 
   -- one call: the opener took the front of the piece
   pub record FeedsOnce (old new : OpenerView B) (was now : Tally) (piece : List ℕ)
@@ -91,5 +85,5 @@ module _ {B : Type 0} (opening : B → List ℕ → List ℕ → Option (List �
     pub unwritten : List ℕ
     pub releases : Releases with_end old new was now unwritten
     pub answered : MatchResult result
-        (λ _. (new.status ≡ Done) × (unwritten ≡ []) × (now.failed ≡ was.failed))
+        (λ _. (new.status ≡ Done) × (unwritten ≡ []) × (now.sink.failed ≡ was.sink.failed))
         (FeedFails new was now [] unwritten)

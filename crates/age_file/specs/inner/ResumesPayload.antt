@@ -7,12 +7,12 @@ use Rattle.age_file.specs.inner.Payloads.{Stage, DecryptsPayload}
 use Rattle.age_file.specs.declared.fault.FileFault.{FileFault}
 
 abbrev pub side_of : Stage → Side
-side_of s = side s.coming s.read_failed s.unread
+side_of s = side s.source s.unread
 
 -- what was pulled of a source, all told
 abbrev pub HasPulled : Stage → Type 0
 HasPulled s = (start : Option (List ℕ)) × (used : List ℕ)
-    × Pulled start s.coming s.unread.pulls (used ++ s.unread.bytes)
+    × Pulled start s.source.remaining s.unread.pulls (used ++ s.unread.bytes)
 
 -- the blocks before were not all passed over, and nothing more was written
 pub record StopsBefore (index : ℕ) (old new : Stage) (result : Result (Unit {0}) FileFault)

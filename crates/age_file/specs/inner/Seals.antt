@@ -2,6 +2,7 @@
 -- engines cite.
 use Rattle.std.specs.Prelude.{◌≡◌, ℕ, ◌+◌, ◌-◌, ◌*◌, ◌^◌, ◌<◌, ◌≤◌, List, [], ◌++◌, length, Option, Result, MatchResult, false}
 use Rattle.std.specs.Io.KnownBytes.{Consumes, Appends, IsAtEnd}
+use Rattle.age_io.specs.Views.{SinkView}
 use Rattle.age_stream.specs.Nonce.{chunk_limit}
 use Rattle.age_stream.specs.Sealing.{SealerView, Holds, too_many}
 use Rattle.age_stream.specs.Payload.{sealed_before_last, block_bytes, payload, chunk_count}
@@ -11,18 +12,17 @@ use Rattle.age_file.specs.Ports.{Ports, NoneFailed}
 use Rattle.age_file.specs.declared.fault.FileFault.{FileFault}
 use Rattle.age_file.specs.declared.fault.FileFault.TheVariants.{Stream, Read, Write, ReadNeverEnds}
 
--- what a sink took, its count of failures, and the count of what was written
+-- what is seen of a sink, and the count of what was written
 pub record Tally : Type 0 where
-  pub taken : Option (List ℕ)
-  pub failures : ℕ
+  pub sink : SinkView
   pub written : ℕ
 
-abbrev pub tally : Option (List ℕ) → ℕ → ℕ → Tally
-tally taken failures written = record { taken = taken; failures = failures; written = written }
+abbrev pub tally : SinkView → ℕ → Tally
+tally sink written = record { sink = sink; written = written }
 
 -- so many bytes were written
 pub record Wrote (was now : Tally) (out : List ℕ) : Type 0 where
-  pub bytes : Appends was.taken now.taken out
+  pub bytes : Appends was.sink.taken now.sink.taken out
   pub count : now.written ≡ was.written + length out
 
 -- the blocks before the last, joined
@@ -57,7 +57,7 @@ module _ {B : Type 0} (sealing : B → List ℕ → List ℕ → List ℕ) (n : 
   abbrev pub SealFails : SealerView B → Tally → Tally → List ℕ → FileFault → Type 0
   SealFails old was now piece (Stream fault) = IsTooLong n old piece
       × (fault ≡ too_many (chunk_limit - 1))
-  SealFails old was now piece Write = HasRisen was.failures now.failures
+  SealFails old was now piece Write = HasRisen was.sink.failed now.sink.failed
   SealFails old was now piece other = ⊥
 
   -- of a piece the sealer was fed the front; its blocks grew by what was written, and by what
@@ -79,7 +79,7 @@ module _ {B : Type 0} (sealing : B → List ℕ → List ℕ → List ℕ) (n : 
     pub some : SealsSome old new was now piece fed left unwritten
     pub answered : MatchResult result
         (λ taken. (taken ≡ length fed) × (0 < length piece → 0 < taken) × (unwritten ≡ [])
-        × (now.failures ≡ was.failures) × GoesOn old new fed)
+        × (now.sink.failed ≡ was.sink.failed) × GoesOn old new fed)
         (SealFails old was now piece)
 
   -- a whole piece
@@ -90,7 +90,7 @@ module _ {B : Type 0} (sealing : B → List ℕ → List ℕ → List ℕ) (n : 
     pub unwritten : List ℕ
     pub some : SealsSome old new was now piece fed left unwritten
     pub answered : MatchResult result
-        (λ _. (left ≡ []) × (unwritten ≡ []) × (now.failures ≡ was.failures) × GoesOn old new fed)
+        (λ _. (left ≡ []) × (unwritten ≡ []) × (now.sink.failed ≡ was.sink.failed) × GoesOn old new fed)
         (SealFails old was now piece)
 
 -- the last block of what the sealer holds: what of it was written, and what wasn't where the sink
@@ -104,16 +104,16 @@ module _ {B : Type 0} (sealing : B → List ℕ → List ℕ → List ℕ) (n : 
     pub wrote : Wrote was now out
     pub blocks : (text : List ℕ) → Holds n old text → payload (sealing old.key) n text
         ≡ front_of (sealing old.key) n text ++ (out ++ unwritten)
-    pub answered : MatchResult result (λ _. (unwritten ≡ []) × (now.failures ≡ was.failures))
-        (λ fault. (fault ≡ Write) × HasRisen was.failures now.failures)
+    pub answered : MatchResult result (λ _. (unwritten ≡ []) × (now.sink.failed ≡ was.sink.failed))
+        (λ fault. (fault ≡ Write) × HasRisen was.sink.failed now.sink.failed)
 
 -- ---- a whole source
 
 -- so much was read from a source, and so much written
 pub record ReadsWrites (old new : Ports) (written_old written_new : ℕ) (text out : List ℕ)
     : Type 0 where
-  pub read : Consumes old.coming new.coming text
-  pub wrote : Appends old.taken new.taken out
+  pub read : Consumes old.source.remaining new.source.remaining text
+  pub wrote : Appends old.sink.taken new.sink.taken out
   pub count : written_new ≡ written_old + length out
   pub small : length text ≤ 2 ^ 80
 
@@ -121,8 +121,8 @@ pub record ReadsWrites (old new : Ports) (written_old written_new : ℕ) (text o
 abbrev pub SealingFails : ℕ → Ports → Ports → List ℕ → FileFault → Type 0
 SealingFails n old new text (Stream fault) = (chunk_limit * n < length text)
     × (fault ≡ too_many (chunk_limit - 1))
-SealingFails n old new text Read = HasRisen old.read_failed new.read_failed
-SealingFails n old new text Write = HasRisen old.write_failed new.write_failed
+SealingFails n old new text Read = HasRisen old.source.failed new.source.failed
+SealingFails n old new text Write = HasRisen old.sink.failed new.sink.failed
 SealingFails n old new text ReadNeverEnds = 2 ^ 63 ≤ length text
 SealingFails n old new text other = ⊥
 
@@ -133,7 +133,7 @@ module _ {B : Type 0} (sealing : B → List ℕ → List ℕ → List ℕ) (n : 
     pub text : List ℕ
     pub moved : ReadsWrites old new written_old written_new text
         (front_of (sealing before.key) n text)
-    pub at_end : IsAtEnd new.coming
+    pub at_end : IsAtEnd new.source.remaining
     pub plain_is : plain ≡ length text
     pub none_failed : NoneFailed old new
     pub key : after.key ≡ before.key
@@ -146,7 +146,7 @@ module _ (sealing : List ℕ → List ℕ → List ℕ) (n : ℕ) where
     pub text : List ℕ
     pub few : chunk_count n text ≤ chunk_limit
     pub moved : ReadsWrites old new written_old written_new text (payload sealing n text)
-    pub at_end : IsAtEnd new.coming
+    pub at_end : IsAtEnd new.source.remaining
     pub plain_is : plain ≡ length text
     pub none_failed : NoneFailed old new
 

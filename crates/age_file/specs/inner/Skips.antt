@@ -2,6 +2,7 @@
 -- this.
 use Rattle.std.specs.Prelude.{◌≡◌, ℕ, ◌+◌, ◌*◌, ◌<◌, ◌≤◌, List, [], length, Option, Result, Ok, Err, Bool, true, false}
 use Rattle.std.specs.Io.KnownBytes.{IsAtEnd}
+use Rattle.age_io.specs.Views.{SourceView}
 use Rattle.age_stream.specs.declared.fault.StreamKind.TheVariants.{Truncated}
 use Rattle.age_file.specs.inner.Unread.{Unread}
 use Rattle.age_file.specs.inner.Intakes.{PullFails}
@@ -9,31 +10,30 @@ use Rattle.age_file.specs.inner.Starts.{Uses}
 use Rattle.age_file.specs.declared.fault.FileFault.{FileFault}
 use Rattle.age_file.specs.declared.fault.FileFault.TheVariants.{Stream, Read, ReadNeverEnds}
 
--- a source, how often it failed, and what was pulled and not used
+-- what is seen of a source, and what was pulled and not used
 pub record Side : Type 0 where
-  pub coming : Option (List ℕ)
-  pub failed : ℕ
+  pub source : SourceView
   pub unread : Unread
 
-abbrev pub side : Option (List ℕ) → ℕ → Unread → Side
-side coming failed unread = record { coming = coming; failed = failed; unread = unread }
+abbrev pub side : SourceView → Unread → Side
+side source unread = record { source = source; unread = unread }
 
 -- these bytes of a source were used, and no pull failed
 pub record Passes (old new : Side) (bytes : List ℕ) : Type 0 where
-  pub uses : Uses old.coming new.coming old.unread new.unread bytes
-  pub unfailed : new.failed ≡ old.failed
+  pub uses : Uses old.source.remaining new.source.remaining old.unread new.unread bytes
+  pub unfailed : new.source.failed ≡ old.source.failed
 
 -- a pull gave no more, and all that was pulled was used
 pub record Dries (old new : Side) (bytes : List ℕ) (fault : FileFault) : Type 0 where
-  pub uses : Uses old.coming new.coming old.unread new.unread bytes
+  pub uses : Uses old.source.remaining new.source.remaining old.unread new.unread bytes
   pub used : new.unread.bytes ≡ []
-  pub why : PullFails new.unread.pulls old.failed new.failed fault
+  pub why : PullFails new.unread.pulls old.source.failed new.source.failed fault
 
 -- so many bytes were passed over, or the source ended before, or failed
 abbrev pub SkipsBlock : ℕ → Side → Side → Result Bool FileFault → Type 0
 SkipsBlock n old new (Ok true) = (bytes : List ℕ) × (length bytes ≡ n) × Passes old new bytes
 SkipsBlock n old new (Ok false) = (bytes : List ℕ) × (length bytes < n) × Passes old new bytes
-    × (new.unread.bytes ≡ []) × IsAtEnd new.coming
+    × (new.unread.bytes ≡ []) × IsAtEnd new.source.remaining
 SkipsBlock n old new (Err fault) = (bytes : List ℕ) × (length bytes < n)
     × Dries old new bytes fault
 
@@ -44,7 +44,7 @@ pub record EndsAfter (n j : ℕ) (old new : Side) : Type 0 where
   pub most : length bytes < j * n + n
   pub passes : Passes old new bytes
   pub used : new.unread.bytes ≡ []
-  pub at_end : IsAtEnd new.coming
+  pub at_end : IsAtEnd new.source.remaining
 
 abbrev pub SkipFails : ℕ → ℕ → Side → Side → FileFault → Type 0
 SkipFails n blocks old new (Stream fault) = (fault.kind ≡ Truncated) × (fault.chunk < blocks)

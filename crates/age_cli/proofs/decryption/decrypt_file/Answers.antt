@@ -30,7 +30,7 @@ returns-in-Ok-clause-done g c = λ told.
       opens = c.in_ok-identity.ensures (entry c.args.files.now) (subst (λ (n : Option Text). IsSecretIn (entry c.args.files.now) n (bytes_of c.in_ok-secret.secret)) c.in_ok-name.ensures.name (c.in_ok-secret.ensures.read told));
       there = ap (λ f. is_some (f d.from.now)) (sym k1) ∙ (c.in_ok-source.ensures.found t1).0;
       output = subst (λ o. DecryptsOut identity o (entry c.write_out.new.files d.to.now)) (sym input)
-          (subst (λ l. DecryptsOut identity (g.F.In.Source.remaining c.in_ok-source.source) (entry c.write_out.new.files l)) made.1 (c.in-Ok.ensures.done t3 made.0));
+          (subst (λ l. DecryptsOut identity (g.F.In.Source.view c.in_ok-source.source).remaining (entry c.write_out.new.files l)) made.1 (c.in-Ok.ensures.done t3 made.0));
       others = λ q other. c.in-Ok.ensures.others q (λ e. other (e ∙ made.1)) ∙ ap (λ f. f q) k3;
     }
 
@@ -45,7 +45,7 @@ returns-in-Ok-clause-spares g c = λ told q other none.
 pub returns-clause-stops : goal.returns-clause-stops
 returns-clause-stops g c = λ told.
     let entry = g.F.FileSet.entry in
-    let remaining = g.F.In.Source.remaining c.in_ok-source.source in
+    let remaining = (g.F.In.Source.view c.in_ok-source.source).remaining in
     let d = c.args.asked.now in
     let old = entry c.args.files.now in
     let made_in = entry c.create_out.new.files in
@@ -64,7 +64,7 @@ returns-clause-stops g c = λ told.
     let elsewhere : text_of d.save ≡ Some d.to.now → ⊥ = λ same. true≢false (sym (c.if-names_a_file_twice.ensures.saved_to same)) in
     let spared : new d.to.now ≡ mid d.to.now = c.end_of.ensures.others t4 d.to.now (λ e. cc) elsewhere in
     let Engine : Positions → Option (List ℕ) → ℕ → Option (List ℕ) → Type 0 =
-    λ keep read. DecryptionStop (PortsOf g.F.In.Source.remaining g.F.In.Source.failed g.F.Out.Sink.taken g.F.Out.Sink.failed) keep identity read stop.position stop.fault in
+    λ keep read. DecryptionStop (PortsOf g.F.In.Source.view g.F.Out.Sink.view) keep identity read stop.position stop.fault in
     let out = subst (λ l. OutStops (Engine c.positions_for.result remaining) (made_in l) (mid l) stop.position stop.fault) made.1 (c.in-Err.ensures.stops t3 made.0) in
     inr (record {
       identity = identity;

@@ -13,13 +13,13 @@ returns-in-Err-clause-stops g c = λ told empty.
     let Out = g.F.Out.Sink in
     let stopped = c.in-Err.stopped in
     let identity = c.args.identity.now in
-    let label = Out.label c.args.out in
-    let new = Out.taken c.decrypt_with.new.writer in
-    let before = ports (In.remaining c.args.source.now) (In.failed c.args.source.now) (Out.taken c.args.out) (Out.failed c.args.out) in
-    let after = ports (In.remaining c.decrypt_with.new.reader) (In.failed c.decrypt_with.new.reader) new (Out.failed c.decrypt_with.new.writer) in
+    let label = (Out.view c.args.out).label in
+    let new = (Out.view c.decrypt_with.new.writer).taken in
+    let before = ports (In.view c.args.source.now) (Out.view c.args.out) in
+    let after = ports (In.view c.decrypt_with.new.reader) (Out.view c.decrypt_with.new.writer) in
     let wrote = stop_wrote c.args.positions (allows_by identity) (refuses_by identity) before after stopped.written stopped.position stopped.fault c.in-Err.ensures.stopped in
-    let none : stopped.written ≡ 0 → new ≡ Some [] = λ zero. holds_nothing (Out.taken c.args.out) new stopped.written wrote.0 empty wrote.1 zero in
-    subst (λ (s : Stop). OutStops (DecryptionStop (PortsOf In.remaining In.failed Out.taken Out.failed) c.args.positions identity (In.remaining c.args.source.now) s.position s.fault)
+    let none : stopped.written ≡ 0 → new ≡ Some [] = λ zero. holds_nothing (Out.view c.args.out).taken new stopped.written wrote.0 empty wrote.1 zero in
+    subst (λ (s : Stop). OutStops (DecryptionStop (PortsOf In.view Out.view) c.args.positions identity (In.view c.args.source.now).remaining s.position s.fault)
     (entry c.args.files.now label) (entry c.leave.new.files label) s.position s.fault) (sym c.from.ensures)
     (inl (
       stopped.written,

@@ -35,7 +35,7 @@ returns-in-Ok-clause-done g c = λ told.
       };
       there = ap (λ f. is_some (f c.args.asked.now.from.now)) (sym k2) ∙ (c.in_ok-source.ensures.found t2).0;
       output = subst (λ o. EncryptsOut secret o (entry c.write_out.new.files c.args.asked.now.to.now)) (sym input)
-          (subst (λ l. EncryptsOut secret (g.F.In.Source.remaining c.in_ok-source.source) (entry c.write_out.new.files l)) made.1 (c.in-Ok.ensures.done t4 made.0));
+          (subst (λ l. EncryptsOut secret (g.F.In.Source.view c.in_ok-source.source).remaining (entry c.write_out.new.files l)) made.1 (c.in-Ok.ensures.done t4 made.0));
       others = λ q other. c.in-Ok.ensures.others q (λ e. other (e ∙ made.1)) ∙ ap (λ f. f q) k4;
     }
 
@@ -62,8 +62,8 @@ returns-clause-stops g c = λ told.
     let input = ap (λ f. f e.from.now) (sym k2) ∙ sym (c.in_ok-source.ensures.found t2).1 in
     let fault = c.in-Err.fault in
     let Engine : Option (List ℕ) → Option (List ℕ) → Type 0 =
-    λ read. EncryptionStop (PortsOf g.F.In.Source.remaining g.F.In.Source.failed g.F.Out.Sink.taken g.F.Out.Sink.failed) secret read fault in
-    let out = subst (λ l. SealedOutStops (Engine (g.F.In.Source.remaining c.in_ok-source.source)) (made_in l) (new l) fault) made.1 (c.in-Err.ensures.stops t4 made.0) in
+    λ read. EncryptionStop (PortsOf g.F.In.Source.view g.F.Out.Sink.view) secret read fault in
+    let out = subst (λ l. SealedOutStops (Engine (g.F.In.Source.view c.in_ok-source.source).remaining) (made_in l) (new l) fault) made.1 (c.in-Err.ensures.stops t4 made.0) in
     inr (record {
       secret = secret;
       made = record {
@@ -75,6 +75,6 @@ returns-clause-stops g c = λ told.
       there = ap (λ f. is_some (f e.from.now)) (sym k2) ∙ (c.in_ok-source.ensures.found t2).0;
       fault = fault;
       output = subst (λ o. SealedOutStops (Engine o) (old e.to.now) (new e.to.now) fault) (sym input)
-          (subst (λ o. SealedOutStops (Engine (g.F.In.Source.remaining c.in_ok-source.source)) o (new e.to.now) fault) (ap (λ f. f e.to.now) k4) out);
+          (subst (λ o. SealedOutStops (Engine (g.F.In.Source.view c.in_ok-source.source).remaining) o (new e.to.now) fault) (ap (λ f. f e.to.now) k4) out);
       ends = refl;
     })

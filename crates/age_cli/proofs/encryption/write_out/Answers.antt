@@ -11,9 +11,9 @@ returns-in-Err-clause-stops g c = λ told empty.
     let In = g.F.In.Source in
     let Out = g.F.Out.Sink in
     let fault = c.in-Err.fault in
-    let new = Out.taken c.encrypt.new.writer in
-    let before = ports (In.remaining c.args.source.now) (In.failed c.args.source.now) (Out.taken c.args.out) (Out.failed c.args.out) in
-    let after = ports (In.remaining c.encrypt.new.reader) (In.failed c.encrypt.new.reader) new (Out.failed c.encrypt.new.writer) in
+    let new = (Out.view c.encrypt.new.writer).taken in
+    let before = ports (In.view c.args.source.now) (Out.view c.args.out) in
+    let after = ports (In.view c.encrypt.new.reader) (Out.view c.encrypt.new.writer) in
     let none : fault ≡ Memory → new ≡ Some [] = λ is. sealed_nothing c.args.secret.now before after fault is c.in-Err.ensures.fails ∙ empty in
     inl (
       new,

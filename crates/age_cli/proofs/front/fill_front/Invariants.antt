@@ -5,7 +5,7 @@ use Rattle.age_cli.proofs.front.fill_front.Given as goal
 -- what was read so far
 abbrev pub invariant-pieces : goal.invariant-pieces
 invariant-pieces g l = record {
-  read : Consumes (g.S.Source.remaining l.fn.source) (g.S.Source.remaining l.source) l.held.items;
+  read : Consumes (g.S.Source.view l.fn.source).remaining (g.S.Source.view l.source).remaining l.held.items;
   within : length l.held.items ≤ l.most;
   room : length l.buffer ≡ 4096;
 }

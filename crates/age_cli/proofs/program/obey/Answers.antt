@@ -55,21 +55,21 @@ returns-in-Ok-Some-Encrypt-clause-encrypts_stop g c = λ rows asks told.
     let w = texts c.args.words.now in
     let here = c.in-Ok-Some-Encrypt in
     let request = subst (λ (o : Option Request). IfSome o (Requests w)) (here.field-0-is ∙ ap Some here.field-0-0-is) here.ensures.asked in
-    IfErr-weaker c.encrypt_file.result _ _ (λ e did. sealing_stop_rows (PortsOf g.F.In.Source.remaining g.F.In.Source.failed g.F.Out.Sink.taken g.F.Out.Sink.failed) w rows here.asked _ _ e request asks (did told)) c.encrypt_file.ensures.stops
+    IfErr-weaker c.encrypt_file.result _ _ (λ e did. sealing_stop_rows (PortsOf g.F.In.Source.view g.F.Out.Sink.view) w rows here.asked _ _ e request asks (did told)) c.encrypt_file.ensures.stops
 
 pub returns-in-Ok-Some-Decrypt-clause-decrypts_stop : goal.returns-in-Ok-Some-Decrypt-clause-decrypts_stop
 returns-in-Ok-Some-Decrypt-clause-decrypts_stop g c = λ rows asks told.
     let w = texts c.args.words.now in
     let here = c.in-Ok-Some-Decrypt in
     let request = subst (λ (o : Option Request). IfSome o (Requests w)) (here.field-0-is ∙ ap Some here.field-0-0-is) here.ensures.asked in
-    IfErr-weaker c.decrypt_file.result _ _ (λ e did. stops_rows (PortsOf g.F.In.Source.remaining g.F.In.Source.failed g.F.Out.Sink.taken g.F.Out.Sink.failed) w rows here.asked _ _ e request asks (did told)) c.decrypt_file.ensures.stops
+    IfErr-weaker c.decrypt_file.result _ _ (λ e did. stops_rows (PortsOf g.F.In.Source.view g.F.Out.Sink.view) w rows here.asked _ _ e request asks (did told)) c.decrypt_file.ensures.stops
 
 pub returns-in-Ok-Some-Resume-clause-resumes_stop : goal.returns-in-Ok-Some-Resume-clause-resumes_stop
 returns-in-Ok-Some-Resume-clause-resumes_stop g c = λ rows asks told.
     let w = texts c.args.words.now in
     let here = c.in-Ok-Some-Resume in
     let request = subst (λ (o : Option Request). IfSome o (Requests w)) (here.field-0-is ∙ ap Some here.field-0-0-is) here.ensures.asked in
-    IfErr-weaker c.resume_file.result _ _ (λ e did. resumes_stop_rows (PortsOf g.F.In.Source.remaining g.F.In.Source.failed g.F.Out.Sink.taken g.F.Out.Sink.failed) w rows here.asked _ _ e request asks (did told)) c.resume_file.ensures.stops
+    IfErr-weaker c.resume_file.result _ _ (λ e did. resumes_stop_rows (PortsOf g.F.In.Source.view g.F.Out.Sink.view) w rows here.asked _ _ e request asks (did told)) c.resume_file.ensures.stops
 
 pub returns-in-Ok-Some-Encrypt-clause-touches : goal.returns-in-Ok-Some-Encrypt-clause-touches
 returns-in-Ok-Some-Encrypt-clause-touches g c = λ name rows asks.

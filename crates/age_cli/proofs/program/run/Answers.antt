@@ -37,7 +37,7 @@ returns-in-Ok-clause-headline g c = λ rows text asks told auth.
 
 pub returns-in-Err-clause-headline : goal.returns-in-Err-clause-headline
 returns-in-Err-clause-headline g c = λ rows text asks told auth.
-    kept_stop (PortsOf g.F.In.Source.remaining g.F.In.Source.failed g.F.Out.Sink.taken g.F.Out.Sink.failed) rows _ _ c.in-Err.ending c.status.result text
+    kept_stop (PortsOf g.F.In.Source.view g.F.Out.Sink.view) rows _ _ c.in-Err.ending c.status.result text
     (λ zero. failed_status c.in-Err.ending (sym c.status.ensures ∙ zero)) auth (c.in-Err.ensures.decrypts_stop rows asks told)
 
 pub returns-in-Ok-clause-headline_resumed : goal.returns-in-Ok-clause-headline_resumed
@@ -46,7 +46,7 @@ returns-in-Ok-clause-headline_resumed g c = λ rows text asks told auth.
 
 pub returns-in-Err-clause-headline_resumed : goal.returns-in-Err-clause-headline_resumed
 returns-in-Err-clause-headline_resumed g c = λ rows text asks told auth.
-    kept_resumption_stop (PortsOf g.F.In.Source.remaining g.F.In.Source.failed g.F.Out.Sink.taken g.F.Out.Sink.failed) rows _ _ c.in-Err.ending c.status.result text
+    kept_resumption_stop (PortsOf g.F.In.Source.view g.F.Out.Sink.view) rows _ _ c.in-Err.ending c.status.result text
     (λ zero. failed_status c.in-Err.ending (sym c.status.ensures ∙ zero)) auth (c.in-Err.ensures.resumes_stop rows asks told)
 
 pub returns-in-Err-clause-judged : goal.returns-in-Err-clause-judged

@@ -40,8 +40,8 @@ returns-in-Ok-clause-done g c = λ told.
       there = ap (λ f. is_some (f r.decrypting.from.now)) (sym k3) ∙ (c.in_ok-source.ensures.found t3).0;
       old_there = ap (λ f. is_some (f r.old.now)) (sym k2) ∙ (c.in_ok-old.ensures.found t2).0;
       output = subst (λ o. ResumesOut identity position o (entry c.args.files.now r.old.now) out) (sym input)
-          (subst (λ o. ResumesOut identity position (g.F.In.Source.remaining c.in_ok-source.source) o out) (sym old_text)
-          (subst (λ l. ResumesOut identity position (g.F.In.Source.remaining c.in_ok-source.source) (g.F.In.Source.remaining c.in_ok-old.old) (entry c.write_out.new.files l)) made.1 (c.in-Ok.ensures.done t5 made.0)));
+          (subst (λ o. ResumesOut identity position (g.F.In.Source.view c.in_ok-source.source).remaining o out) (sym old_text)
+          (subst (λ l. ResumesOut identity position (g.F.In.Source.view c.in_ok-source.source).remaining (g.F.In.Source.view c.in_ok-old.old).remaining (entry c.write_out.new.files l)) made.1 (c.in-Ok.ensures.done t5 made.0)));
       others = λ q other. c.in-Ok.ensures.others q (λ e. other (e ∙ made.1)) ∙ ap (λ f. f q) k5;
     }
 
@@ -76,15 +76,15 @@ returns-clause-stops g c = λ told.
     let k5 = c.in_ok-out.ensures.kept ∙ (c.in_ok-source.ensures.kept ∙ k3) in
     let identity = c.in_ok-identity.identity in
     let position = c.in_ok-position.position in
-    let read = g.F.In.Source.remaining c.in_ok-source.source in
-    let old_read = g.F.In.Source.remaining c.in_ok-old.old in
+    let read = (g.F.In.Source.view c.in_ok-source.source).remaining in
+    let old_read = (g.F.In.Source.view c.in_ok-old.old).remaining in
     let input = ap (λ f. f d.from.now) (sym k3) ∙ sym (c.in_ok-source.ensures.found t3).1 in
     let old_text = ap (λ f. f r.old.now) (sym k2) ∙ sym (c.in_ok-old.ensures.found t2).1 in
     let stop = c.in-Err.stop in
     let elsewhere : text_of d.save ≡ Some d.to.now → ⊥ = λ same. true≢false (sym (c.if-names_one_twice.ensures.saved_to same)) in
     let spared : new d.to.now ≡ mid d.to.now = c.end_of.ensures.others t6 d.to.now (λ e. cc) elsewhere in
     let Engine : Positions → Option (List ℕ) → Option (List ℕ) → ℕ → Option (List ℕ) → Type 0 =
-    λ keep i o. ResumptionStop (PortsOf g.F.In.Source.remaining g.F.In.Source.failed g.F.Out.Sink.taken g.F.Out.Sink.failed) keep identity position i o stop.position stop.fault in
+    λ keep i o. ResumptionStop (PortsOf g.F.In.Source.view g.F.Out.Sink.view) keep identity position i o stop.position stop.fault in
     let kept = c.positions_for.result in
     let out = subst (λ l. OutStops (Engine kept read old_read) (made_in l) (mid l) stop.position stop.fault) made.1 (c.in-Err.ensures.stops t5 made.0) in
     inr (record {

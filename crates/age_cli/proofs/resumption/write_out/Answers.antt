@@ -15,22 +15,22 @@ returns-in-Err-clause-stops g c = λ told empty.
     let stopped = c.in-Err.stopped in
     let identity = c.args.identity.now in
     let from = c.args.position.now in
-    let label = Out.label c.args.out in
+    let label = (Out.view c.args.out).label in
     let source = c.args.source.now in
     let old = c.args.old.now in
     let reader = c.resume_with.new.reader in
     let old_reader = c.resume_with.new.old_reader in
     let writer = c.resume_with.new.writer in
-    let before = resume_ports (ports (In.remaining source) (In.failed source) (Out.taken c.args.out) (Out.failed c.args.out)) (In.remaining old) (In.failed old) in
-    let after = resume_ports (ports (In.remaining reader) (In.failed reader) (Out.taken writer) (Out.failed writer)) (In.remaining old_reader) (In.failed old_reader) in
+    let before = resume_ports (ports (In.view source) (Out.view c.args.out)) (In.view old) in
+    let after = resume_ports (ports (In.view reader) (Out.view writer)) (In.view old_reader) in
     let wrote = resume_wrote c.args.positions (allows_by identity) from (refuses_by identity) before after stopped.written stopped.position stopped.fault c.in-Err.ensures.stopped in
-    let none : stopped.written ≡ 0 → Out.taken writer ≡ Some [] = λ zero. holds_nothing (Out.taken c.args.out) (Out.taken writer) stopped.written wrote.0 empty wrote.1 zero in
+    let none : stopped.written ≡ 0 → (Out.view writer).taken ≡ Some [] = λ zero. holds_nothing (Out.view c.args.out).taken (Out.view writer).taken stopped.written wrote.0 empty wrote.1 zero in
     subst (λ (s : Stop). OutStops
-    (ResumptionStop (PortsOf In.remaining In.failed Out.taken Out.failed) c.args.positions identity from (In.remaining source) (In.remaining old) s.position s.fault)
+    (ResumptionStop (PortsOf In.view Out.view) c.args.positions identity from (In.view source).remaining (In.view old).remaining s.position s.fault)
     (entry c.args.files.now label) (entry c.leave.new.files label) s.position s.fault) (sym c.from.ensures)
     (inl (
       stopped.written,
-      Out.taken writer,
+      (Out.view writer).taken,
       (record {
         before = before;
         after = after;
@@ -44,5 +44,5 @@ returns-in-Err-clause-stops g c = λ told empty.
         fails = c.in-Err.ensures.stopped;
         took = refl;
       }),
-      subst (λ l. Leaves (stopped.written ≡ 0) (Out.taken writer) (entry c.args.files.now l) (entry c.leave.new.files l)) c.in-Err.ensures.named (c.leave.ensures.held told none),
+      subst (λ l. Leaves (stopped.written ≡ 0) (Out.view writer).taken (entry c.args.files.now l) (entry c.leave.new.files l)) c.in-Err.ensures.named (c.leave.ensures.held told none),
     ))

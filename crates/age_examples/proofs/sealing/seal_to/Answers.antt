@@ -32,15 +32,15 @@ loop-at-preserved g c =
     let chunk : blocks (take at text ++ take taken piece) ≡ blocks (take at text) ++ chunk_bytes c.in_ok-step.step.chunk = rw ekey at chunk0 in
     let grown : blocks (take at text) ++ chunk_bytes c.in_ok-step.step.chunk ≡ blocks (take (at + taken) text) = sym chunk ∙ ap blocks on in
     let lent = c.bytes_of.ensures in
-    let put : Appends (g.O.Sink.taken c.loop-at.sink) (g.O.Sink.taken c.put.new.sink) (chunk_bytes c.in_ok-step.step.chunk) =
-    subst (λ (t : List ℕ). Appends (g.O.Sink.taken c.loop-at.sink) (g.O.Sink.taken c.put.new.sink) t) lent c.in_ok-put.ensures in
+    let put : Appends (g.O.Sink.view c.loop-at.sink).taken (g.O.Sink.view c.put.new.sink).taken (chunk_bytes c.in_ok-step.step.chunk) =
+    subst (λ (t : List ℕ). Appends (g.O.Sink.view c.loop-at.sink).taken (g.O.Sink.view c.put.new.sink).taken t) lent c.in_ok-put.ensures in
     record {
       within = omega (arith, short, len, len2, c.loop-at-test.true);
       unfinished = after.unfinished;
       unfailed = after.unfailed;
       key = after.key ∙ ekey;
       holds = subst (λ (t : List ℕ). Holds 65536 c.feed.follows.lender-at-none t) on (after.holds (take at text) inv.holds);
-      wrote = subst (λ (t : List ℕ). Appends (g.O.Sink.taken c.args.sink.now) (g.O.Sink.taken c.put.new.sink) t) grown (Appends-then _ _ _ _ _ inv.wrote put);
+      wrote = subst (λ (t : List ℕ). Appends (g.O.Sink.view c.args.sink.now).taken (g.O.Sink.view c.put.new.sink).taken t) grown (Appends-then _ _ _ _ _ inv.wrote put);
     }
 
 pub returns : goal.returns
@@ -52,4 +52,4 @@ returns g c =
     let whole = payload (g.B.ChunkBox.sealing c.args.key.now) 65536 in
     let last0 = c.in_ok-finish.ensures.chunk here inv.holds in
     let last = rw inv.key at last0 in
-    record { sealed = subst (λ (t : List ℕ). Appends (g.O.Sink.taken c.args.sink.now) (g.O.Sink.taken c.put-2.new.sink) t) (sym last ∙ ap whole all) (Appends-then _ _ _ _ _ inv.wrote c.in_ok-put-2.ensures) }
+    record { sealed = subst (λ (t : List ℕ). Appends (g.O.Sink.view c.args.sink.now).taken (g.O.Sink.view c.put-2.new.sink).taken t) (sym last ∙ ap whole all) (Appends-then _ _ _ _ _ inv.wrote c.in_ok-put-2.ensures) }

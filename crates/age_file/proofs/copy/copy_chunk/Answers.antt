@@ -21,7 +21,7 @@ parts-init g c =
       copied = [];
       size = omega arith;
       passes = record { uses = λ start used h. h; unfailed = refl };
-      wrote = Appends-nil (g.O.Sink.taken c.args.sink.now);
+      wrote = Appends-nil (g.O.Sink.view c.args.sink.now).taken;
       failures = refl;
       named = refl;
       count = omega arith;
@@ -38,9 +38,9 @@ pub returns-then-not-branch : goal.returns-then-not-branch
 returns-then-not-branch g c =
     let kept = c.parts.invariant in
     let r = rw c.if-not-branch.true at c.in_ok-some_bytes.ensures.answers in
-    let old = side (g.S.Source.remaining c.args.source.now) (g.S.Source.failed c.args.source.now) c.args.intake.now in
-    let mid = side (g.S.Source.remaining c.parts.source) (g.S.Source.failed c.parts.source) c.parts.intake in
-    let new = side (g.S.Source.remaining c.some_bytes.new.source) (g.S.Source.failed c.some_bytes.new.source) c.some_bytes.new.intake in
+    let old = side (g.S.Source.view c.args.source.now) c.args.intake.now in
+    let mid = side (g.S.Source.view c.parts.source) c.parts.intake in
+    let new = side (g.S.Source.view c.some_bytes.new.source) c.some_bytes.new.intake in
     let passes = passes_same old mid new kept.copied kept.passes (record { uses = c.some_bytes.ensures.uses; unfailed = r.2 }) in
     record {
       out = kept.copied;
@@ -55,11 +55,11 @@ returns-in_err-some_bytes g c =
     let p = err_from_is_err_and c.from_residual.result c.from_residual.ensures.1 in
     let kept = c.parts.invariant in
     let a = c.in_err-some_bytes.ensures.answers in
-    let old = side (g.S.Source.remaining c.args.source.now) (g.S.Source.failed c.args.source.now) c.args.intake.now in
-    let mid = side (g.S.Source.remaining c.parts.source) (g.S.Source.failed c.parts.source) c.parts.intake in
-    let new = side (g.S.Source.remaining c.some_bytes.new.source) (g.S.Source.failed c.some_bytes.new.source) c.some_bytes.new.intake in
-    let was = tally (g.O.Sink.taken c.args.sink.now) (g.O.Sink.failed c.args.sink.now) (g.O.Sink.label c.args.sink.now) c.args.progress.now in
-    let now = tally (g.O.Sink.taken c.parts.sink) (g.O.Sink.failed c.parts.sink) (g.O.Sink.label c.parts.sink) c.parts.progress in
+    let old = side (g.S.Source.view c.args.source.now) c.args.intake.now in
+    let mid = side (g.S.Source.view c.parts.source) c.parts.intake in
+    let new = side (g.S.Source.view c.some_bytes.new.source) c.some_bytes.new.intake in
+    let was = tally (g.O.Sink.view c.args.sink.now) c.args.progress.now in
+    let now = tally (g.O.Sink.view c.parts.sink) c.parts.progress in
     let dries = dries_same old mid new kept.copied c.in_err-some_bytes.field-0.0 kept.passes (record { uses = c.some_bytes.ensures.uses; used = a.0; why = a.1 }) in
     record {
       out = kept.copied;
@@ -75,20 +75,20 @@ returns-in_err-write_all g c =
     let kept = c.parts.invariant in
     let r = rw c.if-not-branch.false at c.in_ok-some_bytes.ensures.answers in
     let put = c.in_err-write_all.ensures.writes in
-    let old = side (g.S.Source.remaining c.args.source.now) (g.S.Source.failed c.args.source.now) c.args.intake.now in
-    let mid = side (g.S.Source.remaining c.parts.source) (g.S.Source.failed c.parts.source) c.parts.intake in
-    let new = side (g.S.Source.remaining c.some_bytes.new.source) (g.S.Source.failed c.some_bytes.new.source) c.some_bytes.new.intake in
+    let old = side (g.S.Source.view c.args.source.now) c.args.intake.now in
+    let mid = side (g.S.Source.view c.parts.source) c.parts.intake in
+    let new = side (g.S.Source.view c.some_bytes.new.source) c.some_bytes.new.intake in
     let used = passes_same old mid new kept.copied kept.passes (record { uses = c.some_bytes.ensures.uses; unfailed = r.1 }) in
     let n = c.min-n.result in
     let bytes = c.bytes-in-parts.result.now in
     record {
       out = kept.copied ++ put.out;
-      wrote = Appends-then (g.O.Sink.taken c.args.sink.now) (g.O.Sink.taken c.parts.sink) (g.O.Sink.taken c.write_all.new.sink) kept.copied put.out kept.wrote put.wrote;
+      wrote = Appends-then (g.O.Sink.view c.args.sink.now).taken (g.O.Sink.view c.parts.sink).taken (g.O.Sink.view c.write_all.new.sink).taken kept.copied put.out kept.wrote put.wrote;
       named = c.in_err-write_all.ensures.named ∙ kept.named;
       count = omega (arith, kept.count, put.count, length-append kept.copied put.out);
       answered = rw (p.1, p.2, c.in_err-write_all.ensures.fault) (
         omega (arith, kept.size, put.stopped, ap length put.parts, length-append put.out put.unwritten, length-take n bytes, c.min-n.ensures, length-append kept.copied put.out),
-        (kept.copied, used, subst (λ (t : List ℕ). IsPrefixOf (kept.copied ++ put.out) (kept.copied ++ t)) c.bytes-in-parts.ensures.bytes (front_written kept.copied put.out put.unwritten bytes n put.parts), subst (λ (m : ℕ). HasRisen m (g.O.Sink.failed c.write_all.new.sink)) kept.failures put.answered),
+        (kept.copied, used, subst (λ (t : List ℕ). IsPrefixOf (kept.copied ++ put.out) (kept.copied ++ t)) c.bytes-in-parts.ensures.bytes (front_written kept.copied put.out put.unwritten bytes n put.parts), subst (λ (m : ℕ). HasRisen m (g.O.Sink.view c.write_all.new.sink).failed) kept.failures put.answered),
       );
     }
 
@@ -96,21 +96,21 @@ pub parts-preserved : goal.parts-preserved
 parts-preserved g c =
     let kept = c.parts.invariant in
     let r = rw c.if-not-branch.false at c.in_ok-some_bytes.ensures.answers in
-    let old = side (g.S.Source.remaining c.args.source.now) (g.S.Source.failed c.args.source.now) c.args.intake.now in
-    let mid = side (g.S.Source.remaining c.parts.source) (g.S.Source.failed c.parts.source) c.parts.intake in
-    let there = side (g.S.Source.remaining c.some_bytes.new.source) (g.S.Source.failed c.some_bytes.new.source) c.some_bytes.new.intake in
-    let new = side (g.S.Source.remaining c.some_bytes.new.source) (g.S.Source.failed c.some_bytes.new.source) c.use_front.new.self in
+    let old = side (g.S.Source.view c.args.source.now) c.args.intake.now in
+    let mid = side (g.S.Source.view c.parts.source) c.parts.intake in
+    let there = side (g.S.Source.view c.some_bytes.new.source) c.some_bytes.new.intake in
+    let new = side (g.S.Source.view c.some_bytes.new.source) c.use_front.new.self in
     let n = c.min-n.result in
     let bytes = c.bytes-in-parts.result.now in
     let put = c.in_ok-write_all.ensures.writes in
     let whole : put.out ≡ take n bytes = all_out (take n bytes) put.out put.unwritten put.parts put.answered.0 in
-    let wrote = subst (λ (t : List ℕ). Appends (g.O.Sink.taken c.parts.sink) (g.O.Sink.taken c.write_all.new.sink) t) whole put.wrote in
-    let front = uses_front (g.S.Source.remaining c.some_bytes.new.source) c.some_bytes.new.intake c.use_front.new.self bytes n c.use_front.ensures.pulls c.bytes-in-parts.ensures.bytes c.use_front.ensures.bytes in
+    let wrote = subst (λ (t : List ℕ). Appends (g.O.Sink.view c.parts.sink).taken (g.O.Sink.view c.write_all.new.sink).taken t) whole put.wrote in
+    let front = uses_front (g.S.Source.view c.some_bytes.new.source).remaining c.some_bytes.new.intake c.use_front.new.self bytes n c.use_front.ensures.pulls c.bytes-in-parts.ensures.bytes c.use_front.ensures.bytes in
     record {
       copied = kept.copied ++ take n bytes;
       size = omega (arith, kept.size, c.min-n.ensures, length-append kept.copied (take n bytes), length-take n bytes, ap length c.bytes.ensures.bytes, ap length c.bytes-in-parts.ensures.bytes);
       passes = passes_then old there new kept.copied (take n bytes) (passes_same old mid there kept.copied kept.passes (record { uses = c.some_bytes.ensures.uses; unfailed = r.1 })) (record { uses = front; unfailed = refl });
-      wrote = Appends-then (g.O.Sink.taken c.args.sink.now) (g.O.Sink.taken c.parts.sink) (g.O.Sink.taken c.write_all.new.sink) kept.copied (take n bytes) kept.wrote wrote;
+      wrote = Appends-then (g.O.Sink.view c.args.sink.now).taken (g.O.Sink.view c.parts.sink).taken (g.O.Sink.view c.write_all.new.sink).taken kept.copied (take n bytes) kept.wrote wrote;
       failures = put.answered.1 ∙ kept.failures;
       named = c.in_ok-write_all.ensures.named ∙ kept.named;
       count = omega (arith, kept.count, put.count, ap length whole, length-append kept.copied (take n bytes));

@@ -9,10 +9,10 @@ abbrev pub invariant-parts : goal.invariant-parts
 invariant-parts g l = record {
   copied : List ℕ;
   size : length copied + l.left ≡ 65536;
-  passes : Passes (side (g.S.Source.remaining l.fn.source) (g.S.Source.failed l.fn.source) l.fn.intake) (side (g.S.Source.remaining l.source) (g.S.Source.failed l.source) l.intake) copied;
-  wrote : Appends (g.O.Sink.taken l.fn.sink) (g.O.Sink.taken l.sink) copied;
-  failures : g.O.Sink.failed l.sink ≡ g.O.Sink.failed l.fn.sink;
-  named : g.O.Sink.label l.sink ≡ g.O.Sink.label l.fn.sink;
+  passes : Passes (side (g.S.Source.view l.fn.source) l.fn.intake) (side (g.S.Source.view l.source) l.intake) copied;
+  wrote : Appends (g.O.Sink.view l.fn.sink).taken (g.O.Sink.view l.sink).taken copied;
+  failures : (g.O.Sink.view l.sink).failed ≡ (g.O.Sink.view l.fn.sink).failed;
+  named : (g.O.Sink.view l.sink).label ≡ (g.O.Sink.view l.fn.sink).label;
   count : l.progress.written ≡ l.fn.progress.written + length copied;
   index : l.progress.index ≡ l.fn.progress.index;
   chain : l.progress.chain ≡ l.fn.progress.chain;

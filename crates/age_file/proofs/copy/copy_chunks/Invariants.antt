@@ -11,10 +11,10 @@ abbrev pub invariant-loop-copied : goal.invariant-loop-copied
 invariant-loop-copied g l = record {
   out : List ℕ;
   size : length out ≡ l._copied * 65536;
-  passes : Passes (side (g.S.Source.remaining l.fn.source) (g.S.Source.failed l.fn.source) l.fn.intake) (side (g.S.Source.remaining l.source) (g.S.Source.failed l.source) l.intake) out;
-  wrote : Appends (g.O.Sink.taken l.fn.sink) (g.O.Sink.taken l.sink) out;
-  failures : g.O.Sink.failed l.sink ≡ g.O.Sink.failed l.fn.sink;
-  named : g.O.Sink.label l.sink ≡ g.O.Sink.label l.fn.sink;
+  passes : Passes (side (g.S.Source.view l.fn.source) l.fn.intake) (side (g.S.Source.view l.source) l.intake) out;
+  wrote : Appends (g.O.Sink.view l.fn.sink).taken (g.O.Sink.view l.sink).taken out;
+  failures : (g.O.Sink.view l.sink).failed ≡ (g.O.Sink.view l.fn.sink).failed;
+  named : (g.O.Sink.view l.sink).label ≡ (g.O.Sink.view l.fn.sink).label;
   count : l.progress.written ≡ length out;
   index : l.progress.index ≡ l._copied;
   chain_is : l.progress.chain ≡ chain_if Kept (first_chunks 65536 l._copied out);

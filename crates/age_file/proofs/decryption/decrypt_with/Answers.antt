@@ -19,8 +19,8 @@ returns-in_default g c = record {
 
 pub returns-in-Err : goal.returns-in-Err
 returns-in-Err g c =
-    let old = ports (g.S.Source.remaining c.args.reader.now) (g.S.Source.failed c.args.reader.now) (g.O.Sink.taken c.args.writer.now) (g.O.Sink.failed c.args.writer.now) in
-    let new = ports (g.S.Source.remaining c.start.new.source) (g.S.Source.failed c.start.new.source) (g.O.Sink.taken c.args.writer.now) (g.O.Sink.failed c.args.writer.now) in
+    let old = ports (g.S.Source.view c.args.reader.now) (g.O.Sink.view c.args.writer.now) in
+    let new = ports (g.S.Source.view c.start.new.source) (g.O.Sink.view c.args.writer.now) in
     let fails = start_fails c.args.positions (g.U.Unlock.allows c.args.unlock.now) (g.U.Unlock.refuses c.args.unlock.now) old new c.in-Err.fault (Appends-nil _) c.in-Err.ensures.fails in
     record {
       done = tt;
@@ -33,15 +33,15 @@ returns-in-Err g c =
 
 pub returns-in-Ok-decrypt_payload : goal.returns-in-Ok-decrypt_payload
 returns-in-Ok-decrypt_payload g c =
-    let old = stage (tally (g.O.Sink.taken c.args.writer.now) (g.O.Sink.failed c.args.writer.now) (g.O.Sink.label c.args.writer.now) c.new-progress.result) (g.S.Source.remaining c.start.new.source) (g.S.Source.failed c.start.new.source) c.start.new.intake in
-    let new = stage (tally (g.O.Sink.taken c.decrypt_payload.new.sink) (g.O.Sink.failed c.decrypt_payload.new.sink) (g.O.Sink.label c.decrypt_payload.new.sink) c.decrypt_payload.new.progress) (g.S.Source.remaining c.decrypt_payload.new.source) (g.S.Source.failed c.decrypt_payload.new.source) c.decrypt_payload.new.intake in
-    let before = ports (g.S.Source.remaining c.args.reader.now) (g.S.Source.failed c.args.reader.now) (g.O.Sink.taken c.args.writer.now) (g.O.Sink.failed c.args.writer.now) in
-    let after = ports (g.S.Source.remaining c.decrypt_payload.new.source) (g.S.Source.failed c.decrypt_payload.new.source) (g.O.Sink.taken c.decrypt_payload.new.sink) (g.O.Sink.failed c.decrypt_payload.new.sink) in
+    let old = stage (tally (g.O.Sink.view c.args.writer.now) c.new-progress.result) (g.S.Source.view c.start.new.source) c.start.new.intake in
+    let new = stage (tally (g.O.Sink.view c.decrypt_payload.new.sink) c.decrypt_payload.new.progress) (g.S.Source.view c.decrypt_payload.new.source) c.decrypt_payload.new.intake in
+    let before = ports (g.S.Source.view c.args.reader.now) (g.O.Sink.view c.args.writer.now) in
+    let after = ports (g.S.Source.view c.decrypt_payload.new.source) (g.O.Sink.view c.decrypt_payload.new.sink) in
     let Allows = g.U.Unlock.allows c.args.unlock.now in
     let Refused = g.U.Unlock.refuses c.args.unlock.now in
-    let ran = decrypted c.args.positions Allows Refused (g.S.Source.remaining c.args.reader.now) (g.S.Source.failed c.args.reader.now) c.in-Ok-start.unlocked c.payload_key-key.result old new _
+    let ran = decrypted c.args.positions Allows Refused (g.S.Source.view c.args.reader.now) c.in-Ok-start.unlocked c.payload_key-key.result old new _
     c.new-progress.ensures.written c.new-progress.ensures.index c.new-progress.ensures.chain c.payload_key-key.ensures c.in-Ok-start.ensures.found c.in-Ok-decrypt_payload.ensures.decrypts in
-    let done = decrypt_done c.args.positions Allows Refused (g.S.Source.remaining c.args.reader.now) (g.S.Source.failed c.args.reader.now) c.in-Ok-start.unlocked old new c.in-Ok-start.ensures.unfailed ran in
+    let done = decrypt_done c.args.positions Allows Refused (g.S.Source.view c.args.reader.now) c.in-Ok-start.unlocked old new c.in-Ok-start.ensures.unfailed ran in
     record {
       done = (ran.run, done);
       stopped = tt;
@@ -52,15 +52,15 @@ returns-in-Ok-decrypt_payload g c =
 
 pub returns : goal.returns
 returns g c =
-    let old = stage (tally (g.O.Sink.taken c.args.writer.now) (g.O.Sink.failed c.args.writer.now) (g.O.Sink.label c.args.writer.now) c.new-progress.result) (g.S.Source.remaining c.start.new.source) (g.S.Source.failed c.start.new.source) c.start.new.intake in
-    let new = stage (tally (g.O.Sink.taken c.decrypt_payload.new.sink) (g.O.Sink.failed c.decrypt_payload.new.sink) (g.O.Sink.label c.decrypt_payload.new.sink) c.decrypt_payload.new.progress) (g.S.Source.remaining c.decrypt_payload.new.source) (g.S.Source.failed c.decrypt_payload.new.source) c.decrypt_payload.new.intake in
-    let before = ports (g.S.Source.remaining c.args.reader.now) (g.S.Source.failed c.args.reader.now) (g.O.Sink.taken c.args.writer.now) (g.O.Sink.failed c.args.writer.now) in
-    let after = ports (g.S.Source.remaining c.decrypt_payload.new.source) (g.S.Source.failed c.decrypt_payload.new.source) (g.O.Sink.taken c.decrypt_payload.new.sink) (g.O.Sink.failed c.decrypt_payload.new.sink) in
+    let old = stage (tally (g.O.Sink.view c.args.writer.now) c.new-progress.result) (g.S.Source.view c.start.new.source) c.start.new.intake in
+    let new = stage (tally (g.O.Sink.view c.decrypt_payload.new.sink) c.decrypt_payload.new.progress) (g.S.Source.view c.decrypt_payload.new.source) c.decrypt_payload.new.intake in
+    let before = ports (g.S.Source.view c.args.reader.now) (g.O.Sink.view c.args.writer.now) in
+    let after = ports (g.S.Source.view c.decrypt_payload.new.source) (g.O.Sink.view c.decrypt_payload.new.sink) in
     let Allows = g.U.Unlock.allows c.args.unlock.now in
     let Refused = g.U.Unlock.refuses c.args.unlock.now in
-    let ran = decrypted c.args.positions Allows Refused (g.S.Source.remaining c.args.reader.now) (g.S.Source.failed c.args.reader.now) c.in-Ok-start.unlocked c.payload_key-key.result old new _
+    let ran = decrypted c.args.positions Allows Refused (g.S.Source.view c.args.reader.now) c.in-Ok-start.unlocked c.payload_key-key.result old new _
     c.new-progress.ensures.written c.new-progress.ensures.index c.new-progress.ensures.chain c.payload_key-key.ensures c.in-Ok-start.ensures.found c.in-Err-decrypt_payload.ensures.decrypts in
-    let fails = decrypt_fails c.args.positions Allows Refused (g.S.Source.remaining c.args.reader.now) (g.S.Source.failed c.args.reader.now) c.in-Ok-start.unlocked old new c.in-Err-decrypt_payload.fault c.position_of-next.result c.in-Ok-start.ensures.unfailed ran c.position_of-next.ensures in
+    let fails = decrypt_fails c.args.positions Allows Refused (g.S.Source.view c.args.reader.now) c.in-Ok-start.unlocked old new c.in-Err-decrypt_payload.fault c.position_of-next.result c.in-Ok-start.ensures.unfailed ran c.position_of-next.ensures in
     record {
       done = tt;
       stopped = rw c.behind.ensures fails;

@@ -33,9 +33,9 @@ returns-clause-done g c =
     c.payload_key-key.ensures ∙ (ap (λ k. payload_key k c.secret.inside.payload_nonce) c.new-2.ensures ∙ ap (λ v. payload_key v.key v.nonce) c.secret.view_is) in
     let len = whole_length front put.out put.unwritten put.parts put.answered.0 in
     let count : c.write_all.new.written ≡ length front = omega (arith, put.count, len) in
-    let old = ports (g.S.Source.remaining c.args.reader.now) (g.S.Source.failed c.args.reader.now) (g.O.Sink.taken c.args.writer.now) (g.O.Sink.failed c.args.writer.now) in
-    let mid = ports (g.S.Source.remaining c.args.reader.now) (g.S.Source.failed c.args.reader.now) (g.O.Sink.taken c.write_all.new.sink) (g.O.Sink.failed c.write_all.new.sink) in
-    let new = ports (g.S.Source.remaining c.seal_all.new.source) (g.S.Source.failed c.seal_all.new.source) (g.O.Sink.taken c.seal_all.new.sink) (g.O.Sink.failed c.seal_all.new.sink) in
+    let old = ports (g.S.Source.view c.args.reader.now) (g.O.Sink.view c.args.writer.now) in
+    let mid = ports (g.S.Source.view c.args.reader.now) (g.O.Sink.view c.write_all.new.sink) in
+    let new = ports (g.S.Source.view c.seal_all.new.source) (g.O.Sink.view c.seal_all.new.sink) in
     sealed_all s front begins old mid new c.write_all.new.written c.seal_all.new.written refl refl put.answered.1 (whole _ _ front put.out put.unwritten put.parts put.answered.0 put.wrote)
     count c.in_ok-plain.plain
     (subst (λ (k : List ℕ). SealsAll (λ nonce text. sealing k nonce [] text) 65536 mid new c.write_all.new.written c.seal_all.new.written c.in_ok-plain.plain) is c.in_ok-plain.ensures.sealed)
@@ -51,9 +51,9 @@ returns-in_err-plain-clause-fails g c =
     c.payload_key-key.ensures ∙ (ap (λ k. payload_key k c.secret.inside.payload_nonce) c.new-2.ensures ∙ ap (λ v. payload_key v.key v.nonce) c.secret.view_is) in
     let len = whole_length front put.out put.unwritten put.parts put.answered.0 in
     let count : c.write_all.new.written ≡ length front = omega (arith, put.count, len) in
-    let old = ports (g.S.Source.remaining c.args.reader.now) (g.S.Source.failed c.args.reader.now) (g.O.Sink.taken c.args.writer.now) (g.O.Sink.failed c.args.writer.now) in
-    let mid = ports (g.S.Source.remaining c.args.reader.now) (g.S.Source.failed c.args.reader.now) (g.O.Sink.taken c.write_all.new.sink) (g.O.Sink.failed c.write_all.new.sink) in
-    let new = ports (g.S.Source.remaining c.seal_all.new.source) (g.S.Source.failed c.seal_all.new.source) (g.O.Sink.taken c.seal_all.new.sink) (g.O.Sink.failed c.seal_all.new.sink) in
+    let old = ports (g.S.Source.view c.args.reader.now) (g.O.Sink.view c.args.writer.now) in
+    let mid = ports (g.S.Source.view c.args.reader.now) (g.O.Sink.view c.write_all.new.sink) in
+    let new = ports (g.S.Source.view c.seal_all.new.source) (g.O.Sink.view c.seal_all.new.sink) in
     rw (p.1, p.2) (sealing_stopped s front begins old mid new c.write_all.new.written c.seal_all.new.written refl refl put.answered.1 (whole _ _ front put.out put.unwritten put.parts put.answered.0 put.wrote)
     count c.in_err-plain.field-0.0
     (subst (λ (k : List ℕ). SealsFront (λ nonce text. sealing k nonce [] text) 65536 mid new c.write_all.new.written c.seal_all.new.written c.in_err-plain.field-0.0) is c.in_err-plain.ensures.fails))

@@ -12,9 +12,9 @@ invariant-pieces g l = record {
   short : length held < 1048576;
   none : HasHeader held → ⊥;
   sound : NoFault held;
-  pulled : Pulled (g.S.Source.remaining l.fn.source) (g.S.Source.remaining l.source) l.intake.pulls held;
+  pulled : Pulled (g.S.Source.view l.fn.source).remaining (g.S.Source.view l.source).remaining l.intake.pulls held;
   unread : l.intake.bytes ≡ [];
-  unfailed : g.S.Source.failed l.source ≡ g.S.Source.failed l.fn.source;
+  unfailed : (g.S.Source.view l.source).failed ≡ (g.S.Source.view l.fn.source).failed;
 }
 
 abbrev pub decreases-pieces : goal.decreases-pieces

@@ -9,10 +9,10 @@ invariant-pulls g l = record {
   count_is : l.count ≡ length passed;
   small : l.count ≤ 65536 * (l.intake.pulls + 1);
   most : l.intake.pulls ≤ 2 ^ 63;
-  pulled : (start : Option (List ℕ)) (used : List ℕ) → Pulled start (g.S.Source.remaining l.fn.source) l.fn.intake.pulls (used ++ l.fn.intake.bytes)
-      → Pulled start (g.S.Source.remaining l.source) l.intake.pulls (used ++ passed);
+  pulled : (start : Option (List ℕ)) (used : List ℕ) → Pulled start (g.S.Source.view l.fn.source).remaining l.fn.intake.pulls (used ++ l.fn.intake.bytes)
+      → Pulled start (g.S.Source.view l.source).remaining l.intake.pulls (used ++ passed);
   unread : l.intake.bytes ≡ [];
-  unfailed : g.S.Source.failed l.source ≡ g.S.Source.failed l.fn.source;
+  unfailed : (g.S.Source.view l.source).failed ≡ (g.S.Source.view l.fn.source).failed;
 }
 
 abbrev pub decreases-pulls : goal.decreases-pulls

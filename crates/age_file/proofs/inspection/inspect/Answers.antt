@@ -6,12 +6,12 @@ use Rattle.age_file.proofs.inspection.inspect.Goals as goal
 pub returns-in_err-intake-clause-fails : goal.returns-in_err-intake-clause-fails
 returns-in_err-intake-clause-fails g c =
     let p = err_from_is_err_and c.from_residual.result c.from_residual.ensures.1 in
-    rw (p.1, p.2) (stops_unread (g.S.Source.remaining c.args.source.now))
+    rw (p.1, p.2) (stops_unread (g.S.Source.view c.args.source.now).remaining)
 
 pub returns-clause-ok : goal.returns-clause-ok
 returns-clause-ok g c =
     let head = c.in_ok-head.ensures.found in
-    let counted = c.in_ok-rest.ensures.counts (g.S.Source.remaining c.args.source.now) head.front head.pulled in
+    let counted = c.in_ok-rest.ensures.counts (g.S.Source.view c.args.source.now).remaining head.front head.pulled in
     let reports = rw c.in_ok-stanzas.was at c.reports_of.ensures in (
       head.front ++ counted.0,
       counted.2,

@@ -10,15 +10,15 @@ use Rattle.age_file.proofs.payload.decrypt_payload.Goals as goal
 pub returns-clause-decrypts : goal.returns-clause-decrypts
 returns-clause-decrypts g c =
     let positive : 0 < 65536 = omega arith in
-    let old = flow c.at-opener.result (tally (g.O.Sink.taken c.args.sink.now) (g.O.Sink.failed c.args.sink.now) (g.O.Sink.label c.args.sink.now) c.args.progress.now) (g.S.Source.remaining c.args.source.now) (g.S.Source.failed c.args.source.now) c.args.intake.now in
-    let mid = flow c.open_all.new.opener (tally (g.O.Sink.taken c.open_all.new.sink) (g.O.Sink.failed c.open_all.new.sink) (g.O.Sink.label c.open_all.new.sink) c.open_all.new.progress) (g.S.Source.remaining c.open_all.new.source) (g.S.Source.failed c.open_all.new.source) c.open_all.new.intake in
-    let now = tally (g.O.Sink.taken c.finish.new.sink) (g.O.Sink.failed c.finish.new.sink) (g.O.Sink.label c.finish.new.sink) c.finish.new.progress in
+    let old = flow c.at-opener.result (tally (g.O.Sink.view c.args.sink.now) c.args.progress.now) (g.S.Source.view c.args.source.now) c.args.intake.now in
+    let mid = flow c.open_all.new.opener (tally (g.O.Sink.view c.open_all.new.sink) c.open_all.new.progress) (g.S.Source.view c.open_all.new.source) c.open_all.new.intake in
+    let now = tally (g.O.Sink.view c.finish.new.sink) c.finish.new.progress in
     pour_ended seals opens box_lawful 65536 positive c.args.key.now c.args.index old mid c.finish.new.opener now c.finish.result (ap (λ o. o.key) c.at-opener.ensures.view) c.at-opener.ensures.stands c.in_ok-open_all.ensures c.finish.ensures.closes
 
 pub returns-in_err-open_all-clause-decrypts : goal.returns-in_err-open_all-clause-decrypts
 returns-in_err-open_all-clause-decrypts g c =
     let p = err_from_is_err_and c.from_residual.result c.from_residual.ensures.1 in
     let positive : 0 < 65536 = omega arith in
-    let old = flow c.at-opener.result (tally (g.O.Sink.taken c.args.sink.now) (g.O.Sink.failed c.args.sink.now) (g.O.Sink.label c.args.sink.now) c.args.progress.now) (g.S.Source.remaining c.args.source.now) (g.S.Source.failed c.args.source.now) c.args.intake.now in
-    let new = flow c.open_all.new.opener (tally (g.O.Sink.taken c.open_all.new.sink) (g.O.Sink.failed c.open_all.new.sink) (g.O.Sink.label c.open_all.new.sink) c.open_all.new.progress) (g.S.Source.remaining c.open_all.new.source) (g.S.Source.failed c.open_all.new.source) c.open_all.new.intake in
+    let old = flow c.at-opener.result (tally (g.O.Sink.view c.args.sink.now) c.args.progress.now) (g.S.Source.view c.args.source.now) c.args.intake.now in
+    let new = flow c.open_all.new.opener (tally (g.O.Sink.view c.open_all.new.sink) c.open_all.new.progress) (g.S.Source.view c.open_all.new.source) c.open_all.new.intake in
     rw (p.1, p.2) (pour_stopped seals opens box_lawful 65536 positive c.args.key.now c.args.index old new c.in_err-open_all.field-0.0 (ap (λ o. o.key) c.at-opener.ensures.view) c.at-opener.ensures.stands c.in_err-open_all.ensures)

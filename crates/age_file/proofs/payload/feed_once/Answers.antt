@@ -43,7 +43,7 @@ returns-in_default-clause-fed g c =
     let piece = c.args.piece.now in
     let key = c.args.opener.now.key in
     let new = c.feed.follows.lender-at-none in
-    let was = tally (g.O.Sink.taken c.args.sink.now) (g.O.Sink.failed c.args.sink.now) (g.O.Sink.label c.args.sink.now) c.args.progress.now in
+    let was = tally (g.O.Sink.view c.args.sink.now) c.args.progress.now in
     let texts = rw c.in_default.is at ok.texts in
     let room = rw c.in_default.is at after.fits in
     record {
@@ -68,7 +68,7 @@ returns-in_err-write_all-clause-fed g c =
     let key = c.args.opener.now.key in
     let texts = rw c.in-Some.is at ok.texts in
     let chunk = Some c.in-Some.chunk in
-    let was = tally (g.O.Sink.taken c.args.sink.now) (g.O.Sink.failed c.args.sink.now) (g.O.Sink.label c.args.sink.now) c.args.progress.now in
+    let was = tally (g.O.Sink.view c.args.sink.now) c.args.progress.now in
     record {
       fed = take step.taken piece;
       left = drop step.taken piece;
@@ -93,8 +93,8 @@ returns-clause-fed g c =
     let room = rw c.in-Some.is at after.fits in
     let none : [] ≡ [] = refl in
     let count = c.count.ensures.same ∙ put.count in
-    let was = tally (g.O.Sink.taken c.args.sink.now) (g.O.Sink.failed c.args.sink.now) (g.O.Sink.label c.args.sink.now) c.args.progress.now in
-    let now = tally (g.O.Sink.taken c.write_all.new.sink) (g.O.Sink.failed c.write_all.new.sink) (g.O.Sink.label c.write_all.new.sink) c.count.new.self in
+    let was = tally (g.O.Sink.view c.args.sink.now) c.args.progress.now in
+    let now = tally (g.O.Sink.view c.write_all.new.sink) c.count.new.self in
     record {
       fed = take step.taken piece;
       left = drop step.taken piece;

@@ -19,7 +19,7 @@ all_of piece fed left at parts =
 
 pub loop-at-init : goal.loop-at-init
 loop-at-init g c =
-    let was = tally (g.O.Sink.taken c.args.sink.now) (g.O.Sink.failed c.args.sink.now) (g.O.Sink.label c.args.sink.now) c.args.progress.now in
+    let was = tally (g.O.Sink.view c.args.sink.now) c.args.progress.now in
     record {
       within = omega arith;
       releases = releases_none opens 65536 c.args.opener.now was;
@@ -33,9 +33,9 @@ loop-at-preserved g c =
     let piece = c.args.piece.now in
     let at = c.loop-at.at in
     let both = both_then opens 65536 (take at piece) fed.fed (take (at + c.in_ok-at.field-0) piece) c.args.opener.now c.loop-at.opener c.feed_once.new.opener
-    (tally (g.O.Sink.taken c.args.sink.now) (g.O.Sink.failed c.args.sink.now) (g.O.Sink.label c.args.sink.now) c.args.progress.now)
-    (tally (g.O.Sink.taken c.loop-at.sink) (g.O.Sink.failed c.loop-at.sink) (g.O.Sink.label c.loop-at.sink) c.loop-at.progress)
-    (tally (g.O.Sink.taken c.feed_once.new.sink) (g.O.Sink.failed c.feed_once.new.sink) (g.O.Sink.label c.feed_once.new.sink) c.feed_once.new.progress) fed.unwritten
+    (tally (g.O.Sink.view c.args.sink.now) c.args.progress.now)
+    (tally (g.O.Sink.view c.loop-at.sink) c.loop-at.progress)
+    (tally (g.O.Sink.view c.feed_once.new.sink) c.feed_once.new.progress) fed.unwritten
     (on piece fed.fed fed.left at c.in_ok-at.field-0 fed.parts fed.answered.0) kept.releases kept.goes fed.releases fed.answered.1 in
     record {
       within = omega (arith, ap length fed.parts, length-append fed.fed fed.left, fed.answered.0, length-drop at piece, ap length (take_rest piece at), kept.within);
@@ -50,9 +50,9 @@ returns-in_err-at g c =
     let fed = c.in_err-at.ensures.fed in
     let piece = c.args.piece.now in
     let at = c.loop-at.at in
-    let was = tally (g.O.Sink.taken c.args.sink.now) (g.O.Sink.failed c.args.sink.now) (g.O.Sink.label c.args.sink.now) c.args.progress.now in
-    let mid = tally (g.O.Sink.taken c.loop-at.sink) (g.O.Sink.failed c.loop-at.sink) (g.O.Sink.label c.loop-at.sink) c.loop-at.progress in
-    let now = tally (g.O.Sink.taken c.feed_once.new.sink) (g.O.Sink.failed c.feed_once.new.sink) (g.O.Sink.label c.feed_once.new.sink) c.feed_once.new.progress in
+    let was = tally (g.O.Sink.view c.args.sink.now) c.args.progress.now in
+    let mid = tally (g.O.Sink.view c.loop-at.sink) c.loop-at.progress in
+    let now = tally (g.O.Sink.view c.feed_once.new.sink) c.feed_once.new.progress in
     record {
       fed = record {
         fed = take at piece ++ fed.fed;

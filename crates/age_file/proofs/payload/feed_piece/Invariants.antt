@@ -6,8 +6,8 @@ use Rattle.age_file.proofs.payload.feed_piece.Given as goal
 
 abbrev pub invariant-loop-at : goal.invariant-loop-at
 invariant-loop-at g l =
-    let was = tally (g.O.Sink.taken l.fn.sink) (g.O.Sink.failed l.fn.sink) (g.O.Sink.label l.fn.sink) l.fn.progress in
-    let now = tally (g.O.Sink.taken l.sink) (g.O.Sink.failed l.sink) (g.O.Sink.label l.sink) l.progress in
+    let was = tally (g.O.Sink.view l.fn.sink) l.fn.progress in
+    let now = tally (g.O.Sink.view l.sink) l.progress in
     record {
       within : l.at ≤ length l.piece;
       releases : Releases opens 65536 (λ s. with_piece s (take l.at l.piece)) l.fn.opener l.opener was now [];

@@ -6,8 +6,8 @@ use Rattle.age_file.proofs.payload.open_all.Given as goal
 
 abbrev pub invariant-turns : goal.invariant-turns
 invariant-turns g l =
-    let old = flow l.fn.opener (tally (g.O.Sink.taken l.fn.sink) (g.O.Sink.failed l.fn.sink) (g.O.Sink.label l.fn.sink) l.fn.progress) (g.S.Source.remaining l.fn.source) (g.S.Source.failed l.fn.source) l.fn.intake in
-    let now = flow l.opener (tally (g.O.Sink.taken l.sink) (g.O.Sink.failed l.sink) (g.O.Sink.label l.sink) l.progress) (g.S.Source.remaining l.source) (g.S.Source.failed l.source) l.intake in
+    let old = flow l.fn.opener (tally (g.O.Sink.view l.fn.sink) l.fn.progress) (g.S.Source.view l.fn.source) l.fn.intake in
+    let now = flow l.opener (tally (g.O.Sink.view l.sink) l.progress) (g.S.Source.view l.source) l.intake in
     record {
       flows : Flows opens 65536 old now l.intake.bytes [];
       same : SameFailures old now;

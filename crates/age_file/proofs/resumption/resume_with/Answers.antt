@@ -23,8 +23,8 @@ returns-in_default g c = record {
 
 pub returns-in-Err : goal.returns-in-Err
 returns-in-Err g c =
-    let old = resume_ports (ports (g.S.Source.remaining c.args.reader.now) (g.S.Source.failed c.args.reader.now) (g.O.Sink.taken c.args.writer.now) (g.O.Sink.failed c.args.writer.now)) (g.L.Source.remaining c.args.old_reader.now) (g.L.Source.failed c.args.old_reader.now) in
-    let new = resume_ports (ports (g.S.Source.remaining c.start.new.source) (g.S.Source.failed c.start.new.source) (g.O.Sink.taken c.args.writer.now) (g.O.Sink.failed c.args.writer.now)) (g.L.Source.remaining c.args.old_reader.now) (g.L.Source.failed c.args.old_reader.now) in
+    let old = resume_ports (ports (g.S.Source.view c.args.reader.now) (g.O.Sink.view c.args.writer.now)) (g.L.Source.view c.args.old_reader.now) in
+    let new = resume_ports (ports (g.S.Source.view c.start.new.source) (g.O.Sink.view c.args.writer.now)) (g.L.Source.view c.args.old_reader.now) in
     let Allows = g.U.Unlock.allows c.args.unlock.now in
     let Refused = g.U.Unlock.refuses c.args.unlock.now in
     let fails = start_fails c.args.positions Allows Refused c.args.position.now old new c.in-Err.fault (Consumes-nil _) (Appends-nil _) c.in-Err.ensures.fails in
@@ -39,8 +39,8 @@ returns-in-Err g c =
 
 pub returns-in-Err-verify : goal.returns-in-Err-verify
 returns-in-Err-verify g c =
-    let old = resume_ports (ports (g.S.Source.remaining c.args.reader.now) (g.S.Source.failed c.args.reader.now) (g.O.Sink.taken c.args.writer.now) (g.O.Sink.failed c.args.writer.now)) (g.L.Source.remaining c.args.old_reader.now) (g.L.Source.failed c.args.old_reader.now) in
-    let new = resume_ports (ports (g.S.Source.remaining c.start.new.source) (g.S.Source.failed c.start.new.source) (g.O.Sink.taken c.args.writer.now) (g.O.Sink.failed c.args.writer.now)) (g.L.Source.remaining c.args.old_reader.now) (g.L.Source.failed c.args.old_reader.now) in
+    let old = resume_ports (ports (g.S.Source.view c.args.reader.now) (g.O.Sink.view c.args.writer.now)) (g.L.Source.view c.args.old_reader.now) in
+    let new = resume_ports (ports (g.S.Source.view c.start.new.source) (g.O.Sink.view c.args.writer.now)) (g.L.Source.view c.args.old_reader.now) in
     let Allows = g.U.Unlock.allows c.args.unlock.now in
     let Refused = g.U.Unlock.refuses c.args.unlock.now in
     let fails = verdict_fails c.args.positions Allows Refused c.args.position.now old new c.start.new.intake c.in-Ok.unlocked c.in-Err-verify.fault
@@ -56,15 +56,15 @@ returns-in-Err-verify g c =
 
 pub returns-in-Err-copy_old : goal.returns-in-Err-copy_old
 returns-in-Err-copy_old g c =
-    let first = tally (g.O.Sink.taken c.args.writer.now) (g.O.Sink.failed c.args.writer.now) (g.O.Sink.label c.args.writer.now) c.new-progress.result in
-    let x = side (g.L.Source.remaining c.args.old_reader.now) (g.L.Source.failed c.args.old_reader.now) c.count_on.new.self in
-    let z = side (g.L.Source.remaining c.copy_old.new.old_reader) (g.L.Source.failed c.copy_old.new.old_reader) c.copy_old.new.intake in
-    let s1 = stage (tally (g.O.Sink.taken c.copy_old.new.writer) (g.O.Sink.failed c.copy_old.new.writer) (g.O.Sink.label c.copy_old.new.writer) c.copy_old.new.progress) (g.S.Source.remaining c.start.new.source) (g.S.Source.failed c.start.new.source) c.start.new.intake in
-    let old = resume_ports (ports (g.S.Source.remaining c.args.reader.now) (g.S.Source.failed c.args.reader.now) (g.O.Sink.taken c.args.writer.now) (g.O.Sink.failed c.args.writer.now)) (g.L.Source.remaining c.args.old_reader.now) (g.L.Source.failed c.args.old_reader.now) in
-    let new = resume_ports (ports (g.S.Source.remaining c.start.new.source) (g.S.Source.failed c.start.new.source) (g.O.Sink.taken c.copy_old.new.writer) (g.O.Sink.failed c.copy_old.new.writer)) (g.L.Source.remaining c.copy_old.new.old_reader) (g.L.Source.failed c.copy_old.new.old_reader) in
+    let first = tally (g.O.Sink.view c.args.writer.now) c.new-progress.result in
+    let x = side (g.L.Source.view c.args.old_reader.now) c.count_on.new.self in
+    let z = side (g.L.Source.view c.copy_old.new.old_reader) c.copy_old.new.intake in
+    let s1 = stage (tally (g.O.Sink.view c.copy_old.new.writer) c.copy_old.new.progress) (g.S.Source.view c.start.new.source) c.start.new.intake in
+    let old = resume_ports (ports (g.S.Source.view c.args.reader.now) (g.O.Sink.view c.args.writer.now)) (g.L.Source.view c.args.old_reader.now) in
+    let new = resume_ports (ports (g.S.Source.view c.start.new.source) (g.O.Sink.view c.copy_old.new.writer)) (g.L.Source.view c.copy_old.new.old_reader) in
     let Allows = g.U.Unlock.allows c.args.unlock.now in
     let Refused = g.U.Unlock.refuses c.args.unlock.now in
-    let fails = copy_fails c.args.positions Allows Refused c.args.position.now (g.S.Source.remaining c.args.reader.now) (g.S.Source.failed c.args.reader.now) c.in-Ok.unlocked
+    let fails = copy_fails c.args.positions Allows Refused c.args.position.now (g.S.Source.view c.args.reader.now) c.in-Ok.unlocked
     s1 c.start.new.intake c.in-Ok.ensures.found c.in-Ok-verify.ensures c.in-Ok.ensures.unfailed first c.new-progress.ensures.written x z (c.count_on.ensures.bytes ∙ c.in-Ok-Ok.ensures'.0) c.count_on.ensures.pulls
     c.in-Err-copy_old.fault c.in-Err-copy_old.ensures in
     record {
@@ -78,31 +78,31 @@ returns-in-Err-copy_old g c =
 
 pub open_rest-requires-clause-pulled : goal.open_rest-requires-clause-pulled
 open_rest-requires-clause-pulled g c =
-    let first = tally (g.O.Sink.taken c.args.writer.now) (g.O.Sink.failed c.args.writer.now) (g.O.Sink.label c.args.writer.now) c.new-progress.result in
-    let x = side (g.L.Source.remaining c.args.old_reader.now) (g.L.Source.failed c.args.old_reader.now) c.count_on.new.self in
-    let z = side (g.L.Source.remaining c.copy_old.new.old_reader) (g.L.Source.failed c.copy_old.new.old_reader) c.copy_old.new.intake in
-    let s1 = stage (tally (g.O.Sink.taken c.copy_old.new.writer) (g.O.Sink.failed c.copy_old.new.writer) (g.O.Sink.label c.copy_old.new.writer) c.copy_old.new.progress) (g.S.Source.remaining c.start.new.source) (g.S.Source.failed c.start.new.source) c.count_on-2.new.self in
+    let first = tally (g.O.Sink.view c.args.writer.now) c.new-progress.result in
+    let x = side (g.L.Source.view c.args.old_reader.now) c.count_on.new.self in
+    let z = side (g.L.Source.view c.copy_old.new.old_reader) c.copy_old.new.intake in
+    let s1 = stage (tally (g.O.Sink.view c.copy_old.new.writer) c.copy_old.new.progress) (g.S.Source.view c.start.new.source) c.count_on-2.new.self in
     let found = c.in-Ok.ensures.found in
     let copied = c.in-Ok-copy_old.ensures in (
-      preceded (copied.out ++ z.unread.bytes) (g.S.Source.remaining c.args.reader.now),
+      preceded (copied.out ++ z.unread.bytes) (g.S.Source.view c.args.reader.now).remaining,
       (copied.out ++ z.unread.bytes) ++ (found.front ++ c.in-Ok.unlocked.nonce),
-      again c.args.positions (g.U.Unlock.allows c.args.unlock.now) (g.U.Unlock.refuses c.args.unlock.now) c.args.position.now (g.S.Source.remaining c.args.reader.now) (g.S.Source.failed c.args.reader.now) c.in-Ok.unlocked
+      again c.args.positions (g.U.Unlock.allows c.args.unlock.now) (g.U.Unlock.refuses c.args.unlock.now) c.args.position.now (g.S.Source.view c.args.reader.now) c.in-Ok.unlocked
           s1 c.start.new.intake found c.in-Ok-verify.ensures c.in-Ok.ensures.unfailed first c.new-progress.ensures.written x z (c.count_on.ensures.bytes ∙ c.in-Ok-Ok.ensures'.0) c.count_on.ensures.pulls
           copied c.args.position.now.within c.count_on-2.ensures.bytes c.count_on-2.ensures.pulls,
     )
 
 pub returns-in-Ok-open_rest : goal.returns-in-Ok-open_rest
 returns-in-Ok-open_rest g c =
-    let first = tally (g.O.Sink.taken c.args.writer.now) (g.O.Sink.failed c.args.writer.now) (g.O.Sink.label c.args.writer.now) c.new-progress.result in
-    let x = side (g.L.Source.remaining c.args.old_reader.now) (g.L.Source.failed c.args.old_reader.now) c.count_on.new.self in
-    let z = side (g.L.Source.remaining c.copy_old.new.old_reader) (g.L.Source.failed c.copy_old.new.old_reader) c.copy_old.new.intake in
-    let s1 = stage (tally (g.O.Sink.taken c.copy_old.new.writer) (g.O.Sink.failed c.copy_old.new.writer) (g.O.Sink.label c.copy_old.new.writer) c.copy_old.new.progress) (g.S.Source.remaining c.start.new.source) (g.S.Source.failed c.start.new.source) c.count_on-2.new.self in
-    let s2 = stage (tally (g.O.Sink.taken c.open_rest.new.writer) (g.O.Sink.failed c.open_rest.new.writer) (g.O.Sink.label c.open_rest.new.writer) c.open_rest.new.progress) (g.S.Source.remaining c.open_rest.new.reader) (g.S.Source.failed c.open_rest.new.reader) c.open_rest.new.intake in
-    let old = resume_ports (ports (g.S.Source.remaining c.args.reader.now) (g.S.Source.failed c.args.reader.now) (g.O.Sink.taken c.args.writer.now) (g.O.Sink.failed c.args.writer.now)) (g.L.Source.remaining c.args.old_reader.now) (g.L.Source.failed c.args.old_reader.now) in
-    let new = resume_ports (ports (g.S.Source.remaining c.open_rest.new.reader) (g.S.Source.failed c.open_rest.new.reader) (g.O.Sink.taken c.open_rest.new.writer) (g.O.Sink.failed c.open_rest.new.writer)) (g.L.Source.remaining c.copy_old.new.old_reader) (g.L.Source.failed c.copy_old.new.old_reader) in
+    let first = tally (g.O.Sink.view c.args.writer.now) c.new-progress.result in
+    let x = side (g.L.Source.view c.args.old_reader.now) c.count_on.new.self in
+    let z = side (g.L.Source.view c.copy_old.new.old_reader) c.copy_old.new.intake in
+    let s1 = stage (tally (g.O.Sink.view c.copy_old.new.writer) c.copy_old.new.progress) (g.S.Source.view c.start.new.source) c.count_on-2.new.self in
+    let s2 = stage (tally (g.O.Sink.view c.open_rest.new.writer) c.open_rest.new.progress) (g.S.Source.view c.open_rest.new.reader) c.open_rest.new.intake in
+    let old = resume_ports (ports (g.S.Source.view c.args.reader.now) (g.O.Sink.view c.args.writer.now)) (g.L.Source.view c.args.old_reader.now) in
+    let new = resume_ports (ports (g.S.Source.view c.open_rest.new.reader) (g.O.Sink.view c.open_rest.new.writer)) (g.L.Source.view c.copy_old.new.old_reader) in
     let Allows = g.U.Unlock.allows c.args.unlock.now in
     let Refused = g.U.Unlock.refuses c.args.unlock.now in
-    let done = resume_done c.args.positions Allows Refused c.args.position.now (g.S.Source.remaining c.args.reader.now) (g.S.Source.failed c.args.reader.now) c.in-Ok.unlocked
+    let done = resume_done c.args.positions Allows Refused c.args.position.now (g.S.Source.view c.args.reader.now) c.in-Ok.unlocked
     s1 c.start.new.intake c.in-Ok.ensures.found c.in-Ok-verify.ensures c.in-Ok.ensures.unfailed first c.new-progress.ensures.written x z (c.count_on.ensures.bytes ∙ c.in-Ok-Ok.ensures'.0) c.count_on.ensures.pulls
     c.in-Ok-copy_old.ensures c.args.position.now.within c.count_on-2.ensures.bytes c.count_on-2.ensures.pulls c.payload_key-key.result s2 c.payload_key-key.ensures c.in-Ok-open_rest.ensures.resumes in
     record {
@@ -115,16 +115,16 @@ returns-in-Ok-open_rest g c =
 
 pub returns : goal.returns
 returns g c =
-    let first = tally (g.O.Sink.taken c.args.writer.now) (g.O.Sink.failed c.args.writer.now) (g.O.Sink.label c.args.writer.now) c.new-progress.result in
-    let x = side (g.L.Source.remaining c.args.old_reader.now) (g.L.Source.failed c.args.old_reader.now) c.count_on.new.self in
-    let z = side (g.L.Source.remaining c.copy_old.new.old_reader) (g.L.Source.failed c.copy_old.new.old_reader) c.copy_old.new.intake in
-    let s1 = stage (tally (g.O.Sink.taken c.copy_old.new.writer) (g.O.Sink.failed c.copy_old.new.writer) (g.O.Sink.label c.copy_old.new.writer) c.copy_old.new.progress) (g.S.Source.remaining c.start.new.source) (g.S.Source.failed c.start.new.source) c.count_on-2.new.self in
-    let s2 = stage (tally (g.O.Sink.taken c.open_rest.new.writer) (g.O.Sink.failed c.open_rest.new.writer) (g.O.Sink.label c.open_rest.new.writer) c.open_rest.new.progress) (g.S.Source.remaining c.open_rest.new.reader) (g.S.Source.failed c.open_rest.new.reader) c.open_rest.new.intake in
-    let old = resume_ports (ports (g.S.Source.remaining c.args.reader.now) (g.S.Source.failed c.args.reader.now) (g.O.Sink.taken c.args.writer.now) (g.O.Sink.failed c.args.writer.now)) (g.L.Source.remaining c.args.old_reader.now) (g.L.Source.failed c.args.old_reader.now) in
-    let new = resume_ports (ports (g.S.Source.remaining c.open_rest.new.reader) (g.S.Source.failed c.open_rest.new.reader) (g.O.Sink.taken c.open_rest.new.writer) (g.O.Sink.failed c.open_rest.new.writer)) (g.L.Source.remaining c.copy_old.new.old_reader) (g.L.Source.failed c.copy_old.new.old_reader) in
+    let first = tally (g.O.Sink.view c.args.writer.now) c.new-progress.result in
+    let x = side (g.L.Source.view c.args.old_reader.now) c.count_on.new.self in
+    let z = side (g.L.Source.view c.copy_old.new.old_reader) c.copy_old.new.intake in
+    let s1 = stage (tally (g.O.Sink.view c.copy_old.new.writer) c.copy_old.new.progress) (g.S.Source.view c.start.new.source) c.count_on-2.new.self in
+    let s2 = stage (tally (g.O.Sink.view c.open_rest.new.writer) c.open_rest.new.progress) (g.S.Source.view c.open_rest.new.reader) c.open_rest.new.intake in
+    let old = resume_ports (ports (g.S.Source.view c.args.reader.now) (g.O.Sink.view c.args.writer.now)) (g.L.Source.view c.args.old_reader.now) in
+    let new = resume_ports (ports (g.S.Source.view c.open_rest.new.reader) (g.O.Sink.view c.open_rest.new.writer)) (g.L.Source.view c.copy_old.new.old_reader) in
     let Allows = g.U.Unlock.allows c.args.unlock.now in
     let Refused = g.U.Unlock.refuses c.args.unlock.now in
-    let fails = resume_fails c.args.positions Allows Refused c.args.position.now (g.S.Source.remaining c.args.reader.now) (g.S.Source.failed c.args.reader.now) c.in-Ok.unlocked
+    let fails = resume_fails c.args.positions Allows Refused c.args.position.now (g.S.Source.view c.args.reader.now) c.in-Ok.unlocked
     s1 c.start.new.intake c.in-Ok.ensures.found c.in-Ok-verify.ensures c.in-Ok.ensures.unfailed first c.new-progress.ensures.written x z (c.count_on.ensures.bytes ∙ c.in-Ok-Ok.ensures'.0) c.count_on.ensures.pulls
     c.in-Ok-copy_old.ensures c.args.position.now.within c.count_on-2.ensures.bytes c.count_on-2.ensures.pulls c.payload_key-key.result s2 c.position_of-next.result c.in-Err-open_rest.fault c.payload_key-key.ensures
     c.position_of-next.ensures c.in-Err-open_rest.ensures.resumes in

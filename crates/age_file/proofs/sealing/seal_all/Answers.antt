@@ -28,11 +28,11 @@ returns-in_err-finish-clause-fails g c =
     let n : ℕ = 65536 in
     let a = c.new-sealer.result in
     let b = c.seal_source.new.sealer in
-    let was = tally (g.O.Sink.taken c.args.sink.now) (g.O.Sink.failed c.args.sink.now) c.args.written.now in
-    let mid = tally (g.O.Sink.taken c.seal_source.new.sink) (g.O.Sink.failed c.seal_source.new.sink) c.seal_source.new.written in
-    let now = tally (g.O.Sink.taken c.finish.new.sink) (g.O.Sink.failed c.finish.new.sink) c.finish.new.written in
-    let old = ports (g.S.Source.remaining c.args.source.now) (g.S.Source.failed c.args.source.now) (g.O.Sink.taken c.args.sink.now) (g.O.Sink.failed c.args.sink.now) in
-    let new = ports (g.S.Source.remaining c.seal_source.new.source) (g.S.Source.failed c.seal_source.new.source) (g.O.Sink.taken c.finish.new.sink) (g.O.Sink.failed c.finish.new.sink) in
+    let was = tally (g.O.Sink.view c.args.sink.now) c.args.written.now in
+    let mid = tally (g.O.Sink.view c.seal_source.new.sink) c.seal_source.new.written in
+    let now = tally (g.O.Sink.view c.finish.new.sink) c.finish.new.written in
+    let old = ports (g.S.Source.view c.args.source.now) (g.O.Sink.view c.args.sink.now) in
+    let new = ports (g.S.Source.view c.seal_source.new.source) (g.O.Sink.view c.finish.new.sink) in
     let wrote : Wrote was mid (front_of (seals a.key) n s.text) = record { bytes = s.moved.wrote; count = s.moved.count } in
     let out = last_written seals n a b was mid now s.text s.key s.holds wrote l.out l.unwritten l.wrote l.blocks in
     rw (p.1, p.2) (subst (λ k. SealsFront (seals k) n old new c.args.written.now c.finish.new.written c.in_err-finish.field-0.0) (ap (λ v. v.key) c.new-sealer.ensures) (record {
@@ -40,7 +40,7 @@ returns-in_err-finish-clause-fails g c =
       out = front_of (seals a.key) n s.text ++ l.out;
       moved = record { read = s.moved.read; wrote = out.bytes; count = out.count; small = s.moved.small };
       prefix = last_begins seals n a b was mid now s.text s.key s.holds wrote l.out l.unwritten l.wrote l.blocks;
-      fails = subst (λ (f : FileFault). SealingFails n old new s.text f) (sym l.answered.0) (subst (λ (k : ℕ). HasRisen k new.write_failed) s.none_failed.1 l.answered.1);
+      fails = subst (λ (f : FileFault). SealingFails n old new s.text f) (sym l.answered.0) (subst (λ (k : ℕ). HasRisen k new.sink.failed) s.none_failed.1 l.answered.1);
     }))
 
 pub returns-clause-sealed : goal.returns-clause-sealed
@@ -50,11 +50,11 @@ returns-clause-sealed g c =
     let n : ℕ = 65536 in
     let a = c.new-sealer.result in
     let b = c.seal_source.new.sealer in
-    let was = tally (g.O.Sink.taken c.args.sink.now) (g.O.Sink.failed c.args.sink.now) c.args.written.now in
-    let mid = tally (g.O.Sink.taken c.seal_source.new.sink) (g.O.Sink.failed c.seal_source.new.sink) c.seal_source.new.written in
-    let now = tally (g.O.Sink.taken c.finish.new.sink) (g.O.Sink.failed c.finish.new.sink) c.finish.new.written in
-    let old = ports (g.S.Source.remaining c.args.source.now) (g.S.Source.failed c.args.source.now) (g.O.Sink.taken c.args.sink.now) (g.O.Sink.failed c.args.sink.now) in
-    let new = ports (g.S.Source.remaining c.seal_source.new.source) (g.S.Source.failed c.seal_source.new.source) (g.O.Sink.taken c.finish.new.sink) (g.O.Sink.failed c.finish.new.sink) in
+    let was = tally (g.O.Sink.view c.args.sink.now) c.args.written.now in
+    let mid = tally (g.O.Sink.view c.seal_source.new.sink) c.seal_source.new.written in
+    let now = tally (g.O.Sink.view c.finish.new.sink) c.finish.new.written in
+    let old = ports (g.S.Source.view c.args.source.now) (g.O.Sink.view c.args.sink.now) in
+    let new = ports (g.S.Source.view c.seal_source.new.source) (g.O.Sink.view c.finish.new.sink) in
     let wrote : Wrote was mid (front_of (seals a.key) n s.text) = record { bytes = s.moved.wrote; count = s.moved.count } in
     let out = last_whole seals n a b was mid now s.text s.key s.holds wrote l.out l.unwritten l.wrote l.blocks l.answered.0 in
     subst (λ k. SealsAll (seals k) n old new c.args.written.now c.finish.new.written c.in_ok-plain.plain) (ap (λ v. v.key) c.new-sealer.ensures) (record {

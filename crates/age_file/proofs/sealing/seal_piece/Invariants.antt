@@ -7,11 +7,11 @@ use Rattle.age_file.proofs.sealing.seal_piece.Given as goal
 abbrev pub invariant-loop-at : goal.invariant-loop-at
 invariant-loop-at g l = record {
   within : l.at ≤ length l.piece;
-  some : SealsSome seals 65536 l.fn.sealer l.sealer (tally (g.O.Sink.taken l.fn.sink) (g.O.Sink.failed l.fn.sink) l.fn.written)
-      (tally (g.O.Sink.taken l.sink) (g.O.Sink.failed l.sink) l.written) (take l.at l.piece) (take l.at l.piece) [] [];
+  some : SealsSome seals 65536 l.fn.sealer l.sealer (tally (g.O.Sink.view l.fn.sink) l.fn.written)
+      (tally (g.O.Sink.view l.sink) l.written) (take l.at l.piece) (take l.at l.piece) [] [];
   goes : GoesOn seals 65536 l.fn.sealer l.sealer (take l.at l.piece);
-  failures : g.O.Sink.failed l.sink ≡ g.O.Sink.failed l.fn.sink;
-  named : g.O.Sink.label l.sink ≡ g.O.Sink.label l.fn.sink;
+  failures : (g.O.Sink.view l.sink).failed ≡ (g.O.Sink.view l.fn.sink).failed;
+  named : (g.O.Sink.view l.sink).label ≡ (g.O.Sink.view l.fn.sink).label;
 }
 
 abbrev pub decreases-loop-at : goal.decreases-loop-at

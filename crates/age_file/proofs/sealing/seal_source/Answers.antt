@@ -14,14 +14,14 @@ pub pulls-init : goal.pulls-init
 pulls-init g c =
     let n : ℕ = 65536 in
     let none = no_front (seals c.args.sealer.now.key) n (omega arith) in
-    let now = tally (g.O.Sink.taken c.args.sink.now) (g.O.Sink.failed c.args.sink.now) c.args.written.now in
+    let now = tally (g.O.Sink.view c.args.sink.now) c.args.written.now in
     record {
       text = [];
       pulled = record { consumed = Consumes-nil _; each_gave = omega (arith, c.requires.unread.1); small = omega (arith, c.requires.unread.1); most = omega (arith, c.requires.unread.1) };
       unread = c.requires.unread.0;
       plain_is = refl;
       goes = record { key = refl; feeding = c.requires.fresh.0; holds = λ text h. rw (append-nil text) h };
-      wrote = subst (λ (t : List ℕ). Wrote now now t) (sym none) (record { bytes = Appends-nil now.taken; count = omega arith });
+      wrote = subst (λ (t : List ℕ). Wrote now now t) (sym none) (record { bytes = Appends-nil now.sink.taken; count = omega arith });
       read_failed = refl;
       write_failed = refl;
       named = refl;
@@ -55,8 +55,8 @@ returns-in_err-refill-clause-fails g c =
       out = front_of (seals c.args.sealer.now.key) n kept.text;
       moved = record { read = all.consumed; wrote = kept.wrote.bytes; count = kept.wrote.count; small = omega (arith, all.small, all.most) };
       prefix = front_begins (seals c.args.sealer.now.key) n kept.text;
-      fails = pull_fails n (ports (g.S.Source.remaining c.args.source.now) (g.S.Source.failed c.args.source.now) (g.O.Sink.taken c.args.sink.now) (g.O.Sink.failed c.args.sink.now))
-          (ports (g.S.Source.remaining c.refill.new.source) (g.S.Source.failed c.refill.new.source) (g.O.Sink.taken c.pulls.sink) (g.O.Sink.failed c.pulls.sink)) kept.text _ _ _ c.in_err-refill.field-0.0 kept.read_failed refl kept.pulled.each_gave r.answered.2;
+      fails = pull_fails n (ports (g.S.Source.view c.args.source.now) (g.O.Sink.view c.args.sink.now))
+          (ports (g.S.Source.view c.refill.new.source) (g.O.Sink.view c.pulls.sink)) kept.text _ _ _ c.in_err-refill.field-0.0 kept.read_failed refl kept.pulled.each_gave r.answered.2;
     })
 
 pub seal_piece-requires : goal.seal_piece-requires
@@ -86,12 +86,12 @@ returns-in_err-seal_piece-clause-fails g c =
     let n : ℕ = 65536 in
     let positive : 0 < n = omega arith in
     let piece = c.bytes.result.now in
-    let was = tally (g.O.Sink.taken c.args.sink.now) (g.O.Sink.failed c.args.sink.now) c.args.written.now in
-    let mid = tally (g.O.Sink.taken c.pulls.sink) (g.O.Sink.failed c.pulls.sink) c.pulls.written in
-    let now = tally (g.O.Sink.taken c.seal_piece.new.sink) (g.O.Sink.failed c.seal_piece.new.sink) c.seal_piece.new.written in
-    let old = ports (g.S.Source.remaining c.args.source.now) (g.S.Source.failed c.args.source.now) (g.O.Sink.taken c.args.sink.now) (g.O.Sink.failed c.args.sink.now) in
-    let new = ports (g.S.Source.remaining c.refill.new.source) (g.S.Source.failed c.refill.new.source) (g.O.Sink.taken c.seal_piece.new.sink) (g.O.Sink.failed c.seal_piece.new.sink) in
-    let all = rw (← c.bytes.ensures.bytes) at (r.pulled old.coming kept.text kept.pulled) in
+    let was = tally (g.O.Sink.view c.args.sink.now) c.args.written.now in
+    let mid = tally (g.O.Sink.view c.pulls.sink) c.pulls.written in
+    let now = tally (g.O.Sink.view c.seal_piece.new.sink) c.seal_piece.new.written in
+    let old = ports (g.S.Source.view c.args.source.now) (g.O.Sink.view c.args.sink.now) in
+    let new = ports (g.S.Source.view c.refill.new.source) (g.O.Sink.view c.seal_piece.new.sink) in
+    let all = rw (← c.bytes.ensures.bytes) at (r.pulled old.source.remaining kept.text kept.pulled) in
     let unwritten = piece_cut seals n c.args.sealer.now c.pulls.sealer c.seal_piece.new.sealer was mid now kept.text piece s.fed s.left s.unwritten kept.goes c.requires.fresh.1 kept.wrote s.some positive in
     rw (p.1, p.2) (record {
       text = kept.text ++ piece;
@@ -109,14 +109,14 @@ pulls-preserved g c =
     let n : ℕ = 65536 in
     let positive : 0 < n = omega arith in
     let piece = c.bytes.result.now in
-    let was = tally (g.O.Sink.taken c.args.sink.now) (g.O.Sink.failed c.args.sink.now) c.args.written.now in
-    let mid = tally (g.O.Sink.taken c.pulls.sink) (g.O.Sink.failed c.pulls.sink) c.pulls.written in
-    let now = tally (g.O.Sink.taken c.seal_piece.new.sink) (g.O.Sink.failed c.seal_piece.new.sink) c.seal_piece.new.written in
-    let all = rw (← c.bytes.ensures.bytes) at (r.pulled (g.S.Source.remaining c.args.source.now) kept.text kept.pulled) in
+    let was = tally (g.O.Sink.view c.args.sink.now) c.args.written.now in
+    let mid = tally (g.O.Sink.view c.pulls.sink) c.pulls.written in
+    let now = tally (g.O.Sink.view c.seal_piece.new.sink) c.seal_piece.new.written in
+    let all = rw (← c.bytes.ensures.bytes) at (r.pulled (g.S.Source.view c.args.source.now).remaining kept.text kept.pulled) in
     let done = piece_done seals n c.args.sealer.now c.pulls.sealer c.seal_piece.new.sealer was mid now kept.text piece s.fed s.left s.unwritten kept.goes c.requires.fresh.1 kept.wrote s.some positive s.answered.0 s.answered.1 s.answered.3 in
     record {
       text = kept.text ++ piece;
-      pulled = subst (λ (k : ℕ). Pulled (g.S.Source.remaining c.args.source.now) (g.S.Source.remaining c.refill.new.source) k (kept.text ++ piece)) (sym c.use_all.ensures.pulls) all;
+      pulled = subst (λ (k : ℕ). Pulled (g.S.Source.view c.args.source.now).remaining (g.S.Source.view c.refill.new.source).remaining k (kept.text ++ piece)) (sym c.use_all.ensures.pulls) all;
       unread = c.use_all.ensures.bytes;
       plain_is = omega (arith, kept.plain_is, length-append kept.text c.bytes.result.now, ap length (c.bytes.ensures.bytes ∙ sym c.bytes-in-pulls.ensures.bytes));
       goes = done.0;

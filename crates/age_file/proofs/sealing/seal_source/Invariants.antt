@@ -8,15 +8,15 @@ use Rattle.age_file.proofs.sealing.seal_source.Given as goal
 abbrev pub invariant-pulls : goal.invariant-pulls
 invariant-pulls g l = record {
   text : List ℕ;
-  pulled : Pulled (g.S.Source.remaining l.fn.source) (g.S.Source.remaining l.source) l.intake.pulls text;
+  pulled : Pulled (g.S.Source.view l.fn.source).remaining (g.S.Source.view l.source).remaining l.intake.pulls text;
   unread : l.intake.bytes ≡ [];
   plain_is : l.plain ≡ length text;
   goes : GoesOn seals 65536 l.fn.sealer l.sealer text;
-  wrote : Wrote (tally (g.O.Sink.taken l.fn.sink) (g.O.Sink.failed l.fn.sink) l.fn.written) (tally (g.O.Sink.taken l.sink) (g.O.Sink.failed l.sink) l.written)
+  wrote : Wrote (tally (g.O.Sink.view l.fn.sink) l.fn.written) (tally (g.O.Sink.view l.sink) l.written)
       (front_of (seals l.fn.sealer.key) 65536 text);
-  read_failed : g.S.Source.failed l.source ≡ g.S.Source.failed l.fn.source;
-  write_failed : g.O.Sink.failed l.sink ≡ g.O.Sink.failed l.fn.sink;
-  named : g.O.Sink.label l.sink ≡ g.O.Sink.label l.fn.sink;
+  read_failed : (g.S.Source.view l.source).failed ≡ (g.S.Source.view l.fn.source).failed;
+  write_failed : (g.O.Sink.view l.sink).failed ≡ (g.O.Sink.view l.fn.sink).failed;
+  named : (g.O.Sink.view l.sink).label ≡ (g.O.Sink.view l.fn.sink).label;
 }
 
 abbrev pub decreases-pulls : goal.decreases-pulls

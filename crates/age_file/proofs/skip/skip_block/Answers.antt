@@ -10,9 +10,9 @@ pub returns-then-not-branch : goal.returns-then-not-branch
 returns-then-not-branch g c =
     let kept = c.parts.invariant in
     let r = rw c.if-not-branch.true at c.in_ok-some_bytes.ensures.answers in
-    let old = side (g.S.Source.remaining c.args.source.now) (g.S.Source.failed c.args.source.now) c.args.intake.now in
-    let mid = side (g.S.Source.remaining c.parts.source) (g.S.Source.failed c.parts.source) c.parts.intake in
-    let new = side (g.S.Source.remaining c.some_bytes.new.source) (g.S.Source.failed c.some_bytes.new.source) c.some_bytes.new.intake in (
+    let old = side (g.S.Source.view c.args.source.now) c.args.intake.now in
+    let mid = side (g.S.Source.view c.parts.source) c.parts.intake in
+    let new = side (g.S.Source.view c.some_bytes.new.source) c.some_bytes.new.intake in (
       kept.passed,
       omega (arith, kept.size, c.parts-test.true),
       passes_same old mid new kept.passed kept.passes (record { uses = c.some_bytes.ensures.uses; unfailed = r.2 }),
@@ -25,9 +25,9 @@ returns-in_err-some_bytes g c =
     let p = err_from_is_err_and c.from_residual.result c.from_residual.ensures.1 in
     let kept = c.parts.invariant in
     let a = c.in_err-some_bytes.ensures.answers in
-    let old = side (g.S.Source.remaining c.args.source.now) (g.S.Source.failed c.args.source.now) c.args.intake.now in
-    let mid = side (g.S.Source.remaining c.parts.source) (g.S.Source.failed c.parts.source) c.parts.intake in
-    let new = side (g.S.Source.remaining c.some_bytes.new.source) (g.S.Source.failed c.some_bytes.new.source) c.some_bytes.new.intake in
+    let old = side (g.S.Source.view c.args.source.now) c.args.intake.now in
+    let mid = side (g.S.Source.view c.parts.source) c.parts.intake in
+    let new = side (g.S.Source.view c.some_bytes.new.source) c.some_bytes.new.intake in
     rw (p.1, p.2) (
       kept.passed,
       omega (arith, kept.size, c.parts-test.true),
@@ -38,13 +38,13 @@ pub parts-preserved : goal.parts-preserved
 parts-preserved g c =
     let kept = c.parts.invariant in
     let r = rw c.if-not-branch.false at c.in_ok-some_bytes.ensures.answers in
-    let old = side (g.S.Source.remaining c.args.source.now) (g.S.Source.failed c.args.source.now) c.args.intake.now in
-    let mid = side (g.S.Source.remaining c.parts.source) (g.S.Source.failed c.parts.source) c.parts.intake in
-    let there = side (g.S.Source.remaining c.some_bytes.new.source) (g.S.Source.failed c.some_bytes.new.source) c.some_bytes.new.intake in
-    let new = side (g.S.Source.remaining c.some_bytes.new.source) (g.S.Source.failed c.some_bytes.new.source) c.use_front.new.self in
+    let old = side (g.S.Source.view c.args.source.now) c.args.intake.now in
+    let mid = side (g.S.Source.view c.parts.source) c.parts.intake in
+    let there = side (g.S.Source.view c.some_bytes.new.source) c.some_bytes.new.intake in
+    let new = side (g.S.Source.view c.some_bytes.new.source) c.use_front.new.self in
     let n = c.min-n.result in
     let piece = c.bytes.result.now in
-    let front = uses_front (g.S.Source.remaining c.some_bytes.new.source) c.some_bytes.new.intake c.use_front.new.self piece n c.use_front.ensures.pulls c.bytes.ensures.bytes c.use_front.ensures.bytes in
+    let front = uses_front (g.S.Source.view c.some_bytes.new.source).remaining c.some_bytes.new.intake c.use_front.new.self piece n c.use_front.ensures.pulls c.bytes.ensures.bytes c.use_front.ensures.bytes in
     record {
       passed = kept.passed ++ take n piece;
       size = omega (arith, kept.size, c.min-n.ensures, length-append kept.passed (take n piece), length-take n piece);

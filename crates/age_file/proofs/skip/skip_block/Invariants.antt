@@ -6,7 +6,7 @@ abbrev pub invariant-parts : goal.invariant-parts
 invariant-parts g l = record {
   passed : List ℕ;
   size : length passed + l.left ≡ 65552;
-  passes : Passes (side (g.S.Source.remaining l.fn.source) (g.S.Source.failed l.fn.source) l.fn.intake) (side (g.S.Source.remaining l.source) (g.S.Source.failed l.source) l.intake) passed;
+  passes : Passes (side (g.S.Source.view l.fn.source) l.fn.intake) (side (g.S.Source.view l.source) l.intake) passed;
 }
 
 abbrev pub decreases-parts : goal.decreases-parts

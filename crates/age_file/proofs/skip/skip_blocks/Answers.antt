@@ -9,27 +9,27 @@ pub returns-then-not-branch : goal.returns-then-not-branch
 returns-then-not-branch g c =
     let kept = c.loop-block.invariant in
     let r = rw c.if-not-branch.true at c.in_ok-skip_block.ensures in
-    let old = side (g.S.Source.remaining c.args.source.now) (g.S.Source.failed c.args.source.now) c.args.intake.now in
-    let mid = side (g.S.Source.remaining c.loop-block.source) (g.S.Source.failed c.loop-block.source) c.loop-block.intake in
-    let new = side (g.S.Source.remaining c.skip_block.new.source) (g.S.Source.failed c.skip_block.new.source) c.skip_block.new.intake in
+    let old = side (g.S.Source.view c.args.source.now) c.args.intake.now in
+    let mid = side (g.S.Source.view c.loop-block.source) c.loop-block.intake in
+    let new = side (g.S.Source.view c.skip_block.new.source) c.skip_block.new.intake in
     (refl, omega arith, ends_after 65552 c.loop-block.block old mid new kept.passed kept.size kept.passes r)
 
 pub returns-in_err-skip_block : goal.returns-in_err-skip_block
 returns-in_err-skip_block g c =
     let p = err_from_is_err_and c.from_residual.result c.from_residual.ensures.1 in
     let kept = c.loop-block.invariant in
-    let old = side (g.S.Source.remaining c.args.source.now) (g.S.Source.failed c.args.source.now) c.args.intake.now in
-    let mid = side (g.S.Source.remaining c.loop-block.source) (g.S.Source.failed c.loop-block.source) c.loop-block.intake in
-    let new = side (g.S.Source.remaining c.skip_block.new.source) (g.S.Source.failed c.skip_block.new.source) c.skip_block.new.intake in
+    let old = side (g.S.Source.view c.args.source.now) c.args.intake.now in
+    let mid = side (g.S.Source.view c.loop-block.source) c.loop-block.intake in
+    let new = side (g.S.Source.view c.skip_block.new.source) c.skip_block.new.intake in
     rw (p.1, p.2) (pass_fails 65552 c.args.blocks c.loop-block.block old mid new kept.passed c.in_err-skip_block.field-0.0 kept.size (omega arith) kept.passes c.in_err-skip_block.ensures)
 
 pub loop-block-preserved : goal.loop-block-preserved
 loop-block-preserved g c =
     let kept = c.loop-block.invariant in
     let r = rw c.if-not-branch.false at c.in_ok-skip_block.ensures in
-    let old = side (g.S.Source.remaining c.args.source.now) (g.S.Source.failed c.args.source.now) c.args.intake.now in
-    let mid = side (g.S.Source.remaining c.loop-block.source) (g.S.Source.failed c.loop-block.source) c.loop-block.intake in
-    let new = side (g.S.Source.remaining c.skip_block.new.source) (g.S.Source.failed c.skip_block.new.source) c.skip_block.new.intake in
+    let old = side (g.S.Source.view c.args.source.now) c.args.intake.now in
+    let mid = side (g.S.Source.view c.loop-block.source) c.loop-block.intake in
+    let new = side (g.S.Source.view c.skip_block.new.source) c.skip_block.new.intake in
     record {
       passed = kept.passed ++ r.0;
       size = omega (arith, kept.size, r.1, length-append kept.passed r.0);

@@ -6,5 +6,5 @@ abbrev pub invariant-loop-block : goal.invariant-loop-block
 invariant-loop-block g l = record {
   passed : List ℕ;
   size : length passed ≡ l.block * 65552;
-  passes : Passes (side (g.S.Source.remaining l.fn.source) (g.S.Source.failed l.fn.source) l.fn.intake) (side (g.S.Source.remaining l.source) (g.S.Source.failed l.source) l.intake) passed;
+  passes : Passes (side (g.S.Source.view l.fn.source) l.fn.intake) (side (g.S.Source.view l.source) l.intake) passed;
 }

@@ -6,8 +6,8 @@ abbrev pub invariant-parts : goal.invariant-parts
 invariant-parts g l = record {
   most : l.have ≤ 16;
   room : length l.nonce ≡ 16;
-  uses : Uses (g.S.Source.remaining l.fn.source) (g.S.Source.remaining l.source) l.fn.intake l.intake (take l.have l.nonce);
-  unfailed : g.S.Source.failed l.source ≡ g.S.Source.failed l.fn.source;
+  uses : Uses (g.S.Source.view l.fn.source).remaining (g.S.Source.view l.source).remaining l.fn.intake l.intake (take l.have l.nonce);
+  unfailed : (g.S.Source.view l.source).failed ≡ (g.S.Source.view l.fn.source).failed;
 }
 
 abbrev pub decreases-parts : goal.decreases-parts

@@ -2,18 +2,18 @@
 use Rattle.std.specs.Prelude.{◌≡◌, ℕ, List, Option, Some, codes}
 use Rattle.clap.specs.Words.{Row, Text, first_of}
 
-abbrev pub Held : Type 0
-Held = Text → Option (List ℕ)
+abbrev pub Files : Type 0
+Files = Text → Option (List ℕ)
 
 -- only what stands under this name may differ
-abbrev pub SparesBut : Text → Held → Held → Type 0
+abbrev pub SparesBut : Text → Files → Files → Type 0
 SparesBut to old new = (q : Text) → (q ≡ to → ⊥) → new q ≡ old q
 
 -- only what stands under these two names may differ, where they are given
-abbrev pub SparesBoth : Option Text → Option Text → Held → Held → Type 0
+abbrev pub SparesBoth : Option Text → Option Text → Files → Files → Type 0
 SparesBoth to save old new = (q : Text) → (to ≡ Some q → ⊥) → (save ≡ Some q → ⊥) → new q ≡ old q
 
 -- only the output and the file of `--save`
-abbrev pub Spares : List Row → Held → Held → Type 0
+abbrev pub Spares : List Row → Files → Files → Type 0
 Spares rows old new =
     SparesBoth (first_of (codes "OUT") rows) (first_of (codes "save") rows) old new
