@@ -168,6 +168,7 @@ fn program<'a>(alloc: Global) -> Result<Command<'a>, AllocError>
         .after_help(help::AFTER_PROGRAM)
         .version(help::VERSION)
         .bin_name("age_tool")?
+        .override_usage(help::USAGE)
         .no_binary_name(true)
         .subcommand_required(true);
     let first = enter(bare, encrypt(alloc)?)?;

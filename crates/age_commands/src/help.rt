@@ -5,6 +5,9 @@ pub(crate) const VERSION: &str = "0.1.0";
 
 pub(crate) const PROGRAM: &str = "Encrypt, decrypt and inspect age files (age-encryption.org/v1).";
 
+/// The program may be run without arguments, which `clap` wouldn't say of one that has commands.
+pub(crate) const USAGE: &str = "age_tool [COMMAND]";
+
 pub(crate) const AFTER_PROGRAM: &str =
     "Without arguments it inspects standard input, as `age_tool inspect` does.
 
