@@ -21,7 +21,7 @@ use Rattle.age_file.specs.inner.Bindings.{chain_if}
 use Rattle.age_file.specs.declared.position.Positions.TheVariants.{Kept, Dropped}
 use Rattle.age_file.specs.inner.Copies.{CopiesText}
 use Rattle.age_file.specs.Faults.{HasRisen}
-use Rattle.age_file.specs.inner.ResumesPayload.{side_of, ResumesPayload, DecryptsBehind}
+use Rattle.age_file.specs.inner.ResumesPayload.{side_at, ResumesPayload, DecryptsBehind}
 use Rattle.age_file.specs.inner.Intakes.{Pulled}
 use Rattle.age_file.specs.Decrypts.{Told}
 use Rattle.age_file.specs.inner.Decrypts.{IsPositionAt, PositionAt}
@@ -308,7 +308,7 @@ module _ (keep : Positions) (Allows : Header → List ℕ → Type 0) (Refused :
           let bytes = ap (λ (t : List ℕ). (old_bytes ++ head) ++ t) (ap (λ (t : List ℕ). passed ++ t) empty ∙ append-nil passed) ∙ append_assoc old_bytes head passed in
           subst (λ (t : List ℕ). Pulled (preceded old_bytes a.remaining) s2.source.remaining s2.unread.pulls t) bytes (uses (preceded old_bytes a.remaining) (old_bytes ++ head) again)
 
-      passed_fails : (s2 : Stage) (position : Option Position) (fault : FileFault) → s2.tally ≡ s1.tally → Told keep (IsSame p) position → SkipFails 65552 p.index (side_of s1) (side_of s2) fault
+      passed_fails : (s2 : Stage) (position : Option Position) (fault : FileFault) → s2.tally ≡ s1.tally → Told keep (IsSame p) position → SkipFails 65552 p.index (side_at s1) (side_at s2) fault
           → ResumeFails keep Allows p Refused (before a first x) (after s2 z) s2.tally.progress.written position fault
       passed_fails s2 position (Stream fault) still at f =
           let e = f.2 in
@@ -484,7 +484,7 @@ module _ (keep : Positions) (Allows : Header → List ℕ → Type 0) (Refused :
           let e : stopped.fault ≡ fault = cc in
           let links : s2.tally.progress.chain ≡ chain_if keep (first_chunks 65536 p.index c.out) = ap (λ (t : Tally). t.progress.chain) stopped.same ∙ c.answered.4 in
           passed_fails s2 position fault stopped.same (told_same keep s2 position stopped.same (subst (λ (l : Option (List ℕ)). PositionAt unlocked s2.tally.progress.index l position) links at))
-          (subst (λ (f : FileFault). SkipFails 65552 p.index (side_of s1) (side_of s2) f) e stopped.fails)
+          (subst (λ (f : FileFault). SkipFails 65552 p.index (side_at s1) (side_at s2) f) e stopped.fails)
       resume_fails key s2 position fault key_is at (inr behind) =
           let b = decrypted key s2 (Err fault) key_is behind in
           let told = told_next keep s2 (Err fault) position b (subst (λ (l : Option (List ℕ)). PositionAt unlocked s2.tally.progress.index l position) b.counts.chain_is at) in

@@ -9,6 +9,7 @@ pub mod Flows
 pub mod Intakes
 pub mod Payloads
 pub mod PositionTexts
+pub mod Readers
 pub mod Releases
 pub mod ResumesPayload
 pub mod Seals

@@ -3,14 +3,12 @@
 ghost use Rattle.std.specs.Prelude.{◌≡◌, ◌+◌, ◌^◌, ◌<◌, ◌≤◌, [], IsSome};
 ghost use Rattle.age_file.specs.declared.position.Positions.TheVariants.{Kept};
 ghost use Rattle.age_file.specs.inner.Bindings.{chain_if};
-ghost use Rattle.age_file.specs.inner.Releases.{tally};
-ghost use Rattle.age_file.specs.inner.Skips.{side};
+ghost use Rattle.age_file.specs.inner.Readers.{side_of, tally_of, SameReader, SameWriter};
 ghost use Rattle.age_file.specs.inner.Copies.{CopiesChunk, CopiesAll};
 
 use crate::fault::FileFault;
-use crate::intake::Intake;
-use crate::progress::Progress;
 use crate::put::write_all;
+use crate::reader::{Reader, Writer};
 use crate::start::some_bytes;
 use age_io::{Sink, Source};
 use sha2::{Digest, Sha256};
@@ -20,59 +18,59 @@ const CHUNK: usize = 65_536;
 
 /// Copies a chunk, and counts it.
 fn copy_chunk<S: Source, O: Sink>(
-    source: &mut S,
-    intake: &mut Intake,
-    sink: &mut O,
-    progress: &mut Progress,
+    reader: &mut Reader<'_, S>,
+    writer: &mut Writer<'_, O>,
 ) -> Result<(), FileFault>
-    requires room { progress.old.written ≤ 2 ^ 64 }
-    requires limit { progress.old.index + 1 < 281474976710656 }
-    requires kept { IsSome progress.old.chain }
-    ensures { CopiesChunk 65536 (side (S.view source.old) intake.old)
-        (side (S.view source.new) intake.new)
-        (tally (O.view sink.old) progress.old)
-        (tally (O.view sink.new) progress.new) result }
+    requires room { writer.old.progress.written ≤ 2 ^ 64 }
+    requires limit { writer.old.progress.index + 1 < 281474976710656 }
+    requires kept { IsSome writer.old.progress.chain }
+    ensures copied { CopiesChunk 65536 (side_of S.view reader.old)
+        (side_of S.view reader.new)
+        (tally_of O.view writer.old)
+        (tally_of O.view writer.new) result }
+    ensures same_reader { SameReader reader.old reader.new }
+    ensures same_writer { SameWriter writer.old writer.new }
 {
-    let Some(chain) = progress.chain else {
+    let Some(chain) = writer.progress.chain else {
         unreachable!();
     };
     let mut digest = Sha256::new();
     digest.update(&chain);
     let mut left = CHUNK;
     'parts: while left > 0 {
-        if !some_bytes(source, intake)? {
+        if !some_bytes(reader)? {
             return Err(FileFault::ShortText);
         }
-        let n = left.min(intake.bytes().len());
-        let piece = &intake.bytes()[..n];
-        write_all(sink, piece, &mut progress.written)?;
+        let n = left.min(reader.intake.bytes().len());
+        let piece = &reader.intake.bytes()[..n];
+        write_all(writer.sink, piece, &mut writer.progress.written)?;
         digest.update(piece);
-        intake.use_front(n);
+        reader.intake.use_front(n);
         left -= n;
     }
-    progress.advance(progress.index + 1, Some(digest.finalize()));
+    let index = writer.progress.index + 1;
+    writer.progress.advance(index, Some(digest.finalize()));
     Ok(())
 }
 
 /// Copies so many chunks of an old text from its start.
 pub(crate) fn copy_chunks<S: Source, O: Sink>(
-    source: &mut S,
-    intake: &mut Intake,
+    reader: &mut Reader<'_, S>,
     chunks: u64,
-    sink: &mut O,
-    progress: &mut Progress,
+    writer: &mut Writer<'_, O>,
 ) -> Result<(), FileFault>
     requires limit { chunks < 281474976710656 }
-    requires fresh { (progress.old.written ≡ 0) × (progress.old.index ≡ 0)
-        × (progress.old.chain ≡ chain_if Kept []) }
-    ensures { CopiesAll 65536 chunks (side (S.view source.old)
-        intake.old)
-        (side (S.view source.new) intake.new)
-        (tally (O.view sink.old) progress.old)
-        (tally (O.view sink.new) progress.new) result }
+    requires fresh { (writer.old.progress.written ≡ 0) × (writer.old.progress.index ≡ 0)
+        × (writer.old.progress.chain ≡ chain_if Kept []) }
+    ensures copied { CopiesAll 65536 chunks (side_of S.view reader.old)
+        (side_of S.view reader.new)
+        (tally_of O.view writer.old)
+        (tally_of O.view writer.new) result }
+    ensures same_reader { SameReader reader.old reader.new }
+    ensures same_writer { SameWriter writer.old writer.new }
 {
     for _copied in 0..chunks {
-        copy_chunk(source, intake, sink, progress)?;
+        copy_chunk(reader, writer)?;
     }
     Ok(())
 }

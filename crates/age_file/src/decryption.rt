@@ -11,6 +11,7 @@ use crate::intake::Intake;
 use crate::payload::decrypt_payload;
 use crate::position::{Position, Positions};
 use crate::progress::Progress;
+use crate::reader::{Reader, Writer};
 use crate::start::{Unlocked, start};
 use age_io::{Sink, Source};
 use age_keys::{Unlock, payload_key, position_key};
@@ -116,19 +117,27 @@ pub fn decrypt_with<U: Unlock, S: Source, O: Sink>(
     let Ok(mut intake) = Intake::new(alloc) else {
         return Err(Stopped::early(FileFault::Memory));
     };
-    let unlocked = match start(alloc, unlock, reader, &mut intake) {
+    let mut reader = Reader {
+        source: reader,
+        intake: &mut intake,
+    };
+    let unlocked = match start(alloc, unlock, &mut reader) {
         Ok(unlocked) => unlocked,
         Err(fault) => return Err(Stopped::early(fault)),
     };
     let key = payload_key(&unlocked.key, &unlocked.nonce);
-    let mut progress = Progress::new(positions);
-    match decrypt_payload(&key, 0, reader, &mut intake, writer, &mut progress) {
+    let progress = Progress::new(positions);
+    let mut writer = Writer {
+        sink: writer,
+        progress,
+    };
+    match decrypt_payload(&key, 0, &mut reader, &mut writer) {
         Ok(()) => Ok(Done {
-            written: progress.written,
+            written: writer.progress.written,
         }),
         Err(fault) => {
-            let next = position_of(&unlocked, &progress);
-            Err(Stopped::behind(fault, &progress, next))
+            let next = position_of(&unlocked, &writer.progress);
+            Err(Stopped::behind(fault, &writer.progress, next))
         }
     }
 }

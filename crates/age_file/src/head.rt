@@ -4,10 +4,11 @@ ghost use Rattle.std.specs.Prelude.{◌≡◌, ◌≢◌, [], IfOk, IfErr, OnOk}
 ghost use Rattle.age_file.specs.declared.fault.FileFault.TheVariants.{Memory};
 ghost use Rattle.age_file.specs.Faults.{HeadFails, StopsAtHeader};
 ghost use Rattle.age_file.specs.inner.Faults.{IsInHeader};
+ghost use Rattle.age_file.specs.inner.Readers.{SameReader};
 ghost use Rattle.age_file.specs.inner.Intakes.{ReadsHead};
 
 use crate::fault::FileFault;
-use crate::intake::Intake;
+use crate::reader::Reader;
 use age_io::Source;
 use age_stanza::{HeadParser, HeadStep, Header};
 use std::alloc::Global;
@@ -22,30 +23,30 @@ pub(crate) struct Head {
 /// Reads a header. The bytes that follow it and were pulled with it are left in the intake.
 pub(crate) fn read_head<S: Source>(
     alloc: Global,
-    source: &mut S,
-    intake: &mut Intake,
+    reader: &mut Reader<'_, S>,
 ) -> Result<Head, FileFault>
-    requires { (intake.old.bytes ≡ []) × (intake.old.pulls ≡ 0) }
-    ensures found { IfOk result (ReadsHead (S.view source.old).remaining (S.view source.new).remaining
-        intake.new) }
-    ensures last { OnOk result (StopsAtHeader (S.view source.old).remaining (S.view source.new).remaining) }
-    ensures unfailed { OnOk result ((S.view source.new).failed ≡ (S.view source.old).failed) }
-    ensures fails { IfErr result (HeadFails (S.view source.old).remaining (S.view source.new).remaining
-        (S.view source.old).failed (S.view source.new).failed) }
-    ensures early { IfErr result (λ fault. fault ≢ Memory → IsInHeader (S.view source.old).remaining
-        (S.view source.new).remaining) }
+    requires { (reader.old.intake.now.bytes ≡ []) × (reader.old.intake.now.pulls ≡ 0) }
+    ensures found { IfOk result (ReadsHead (S.view reader.old.source.now).remaining (S.view reader.new.source.now).remaining
+        reader.new.intake.now) }
+    ensures last { OnOk result (StopsAtHeader (S.view reader.old.source.now).remaining (S.view reader.new.source.now).remaining) }
+    ensures unfailed { OnOk result ((S.view reader.new.source.now).failed ≡ (S.view reader.old.source.now).failed) }
+    ensures fails { IfErr result (HeadFails (S.view reader.old.source.now).remaining (S.view reader.new.source.now).remaining
+        (S.view reader.old.source.now).failed (S.view reader.new.source.now).failed) }
+    ensures early { IfErr result (λ fault. fault ≢ Memory → IsInHeader (S.view reader.old.source.now).remaining
+        (S.view reader.new.source.now).remaining) }
+    ensures same { SameReader reader.old reader.new }
 {
     let mut parser = HeadParser::new(alloc);
     let mut len = 0;
-    'pieces: while intake.refill(source)? {
-        match parser.feed(intake.bytes())? {
+    'pieces: while reader.intake.refill(reader.source)? {
+        match parser.feed(reader.intake.bytes())? {
             HeadStep::More => {
-                len += intake.bytes().len() as u64;
-                intake.use_all();
+                len += reader.intake.bytes().len() as u64;
+                reader.intake.use_all();
             }
             HeadStep::Ready { taken, header } => {
                 len += taken as u64;
-                intake.use_front(taken);
+                reader.intake.use_front(taken);
                 return Ok(Head { header, len });
             }
         }

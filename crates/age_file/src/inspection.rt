@@ -3,33 +3,36 @@
 ghost use Rattle.std.specs.Prelude.{◌≡◌, ◌+◌, ◌^◌, ◌<◌, ◌≤◌, ◌*◌, IfOk, IfErr, OnOk, map};
 ghost use Rattle.std.specs.Io.KnownBytes.{IsAtEnd};
 ghost use Rattle.age_file.specs.Faults.{HeadFails};
+ghost use Rattle.age_file.specs.inner.Readers.{SameReader};
 ghost use Rattle.age_file.specs.inner.Intakes.{CountsRest, RestFails};
 ghost use Rattle.age_file.specs.Reports.{stanza_report, IsPlainOf, Inspects};
 
 use crate::fault::FileFault;
 use crate::head::read_head;
 use crate::intake::Intake;
+use crate::reader::Reader;
 use crate::report::{Report, StanzaReport, StanzaReports};
 use age_io::Source;
 use age_stanza::{Bytes, Stanza};
 use std::alloc::{AllocError, Global};
 
 /// Counts the bytes that are left, to the end of the source.
-fn count_rest<S: Source>(source: &mut S, intake: &mut Intake) -> Result<u128, FileFault>
-    requires { intake.old.pulls ≤ 2 ^ 63 }
-    ensures counts { IfOk result (CountsRest (S.view source.old).remaining (S.view source.new).remaining
-        intake.old) }
-    ensures ended { OnOk result (IsAtEnd (S.view source.new).remaining) }
+fn count_rest<S: Source>(reader: &mut Reader<'_, S>) -> Result<u128, FileFault>
+    requires { reader.old.intake.now.pulls ≤ 2 ^ 63 }
+    ensures counts { IfOk result (CountsRest (S.view reader.old.source.now).remaining (S.view reader.new.source.now).remaining
+        reader.old.intake.now) }
+    ensures ended { OnOk result (IsAtEnd (S.view reader.new.source.now).remaining) }
     ensures small { IfOk result (λ n. n ≤ 65536 * (2 ^ 63 + 1)) }
-    ensures unfailed { OnOk result ((S.view source.new).failed ≡ (S.view source.old).failed) }
-    ensures fails { IfErr result (RestFails (S.view source.old).remaining (S.view source.new).remaining
-        (S.view source.old).failed (S.view source.new).failed intake.old) }
+    ensures unfailed { OnOk result ((S.view reader.new.source.now).failed ≡ (S.view reader.old.source.now).failed) }
+    ensures fails { IfErr result (RestFails (S.view reader.old.source.now).remaining (S.view reader.new.source.now).remaining
+        (S.view reader.old.source.now).failed (S.view reader.new.source.now).failed reader.old.intake.now) }
+    ensures same { SameReader reader.old reader.new }
 {
-    let mut count = intake.bytes().len() as u128;
-    intake.use_all();
-    'pulls: while intake.refill(source)? {
-        count += intake.bytes().len() as u128;
-        intake.use_all();
+    let mut count = reader.intake.bytes().len() as u128;
+    reader.intake.use_all();
+    'pulls: while reader.intake.refill(reader.source)? {
+        count += reader.intake.bytes().len() as u128;
+        reader.intake.use_all();
     }
     Ok(count)
 }
@@ -92,10 +95,14 @@ pub fn inspect<S: Source>(alloc: Global, source: &mut S) -> Result<Report, FileF
         (S.view source.old).failed (S.view source.new).failed) }
 {
     let mut intake = Intake::new(alloc)?;
-    let head = read_head(alloc, source, &mut intake)?;
+    let mut reader = Reader {
+        source,
+        intake: &mut intake,
+    };
+    let head = read_head(alloc, &mut reader)?;
     // all memory is taken before the rest is read
     let stanzas = reports_of(alloc, head.header.stanzas.as_slice())?;
-    let rest = count_rest(source, &mut intake)?;
+    let rest = count_rest(&mut reader)?;
     Ok(Report {
         header: head.len,
         stanzas,

@@ -23,6 +23,7 @@ mod position;
 mod position_text;
 mod progress;
 mod put;
+mod reader;
 mod report;
 mod resumption;
 mod sealing;

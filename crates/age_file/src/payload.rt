@@ -2,14 +2,14 @@
 
 ghost use Rattle.std.specs.Prelude.{◌≡◌, ◌+◌, ◌^◌, ◌<◌, ◌≤◌, length, IfOk, OnOk, true};
 ghost use Rattle.age_file.specs.inner.Boxes.{opens};
-ghost use Rattle.age_file.specs.inner.Releases.{tally, FeedsOnce, FeedsPiece, Closes};
-ghost use Rattle.age_file.specs.inner.Flows.{flow, HasRoom, Turns, OpensAll};
-ghost use Rattle.age_file.specs.inner.Payloads.{stage, HasPlace, DecryptsPayload};
+ghost use Rattle.age_file.specs.inner.Releases.{FeedsOnce, FeedsPiece, Closes};
+ghost use Rattle.age_file.specs.inner.Flows.{HasRoom, Turns, OpensAll};
+ghost use Rattle.age_file.specs.inner.Payloads.{HasPlace, DecryptsPayload};
+ghost use Rattle.age_file.specs.inner.Readers.{tally_of, flow_of, stage_of, SameReader, SameWriter};
 
 use crate::fault::FileFault;
-use crate::intake::Intake;
-use crate::progress::Progress;
 use crate::put::{flush_all, write_all};
+use crate::reader::{Reader, Writer};
 use age_io::{Sink, Source};
 use age_keys::PayloadKey;
 use age_stream::Opener;
@@ -21,23 +21,22 @@ type PayloadOpener<'a> = Opener<'a, PayloadKey, 65552>;
 fn feed_once<O: Sink>(
     opener: &mut PayloadOpener<'_>,
     piece: &[u8],
-    sink: &mut O,
-    progress: &mut Progress,
+    writer: &mut Writer<'_, O>,
 ) -> Result<usize, FileFault>
-    requires small { length opener.old.held + progress.old.written + length piece.now < 2 ^ 128 }
-    ensures fed { FeedsOnce opens 65536 opener.old opener.new
-        (tally (O.view sink.old) progress.old)
-        (tally (O.view sink.new) progress.new) piece.now
-        result }
+    requires small { length opener.old.held + writer.old.progress.written + length piece.now
+        < 2 ^ 128 }
+    ensures fed { FeedsOnce opens 65536 opener.old opener.new (tally_of O.view writer.old)
+        (tally_of O.view writer.new) piece.now result }
     ensures some { IfOk result (λ n. 0 < length piece.now → 0 < n) }
+    ensures same { SameWriter writer.old writer.new }
 {
     let step = opener.feed(piece)?;
     let taken = step.taken;
     let Some(chunk) = step.chunk else {
         return Ok(taken);
     };
-    write_all(sink, chunk, &mut progress.written)?;
-    progress.count(step.index, chunk);
+    write_all(writer.sink, chunk, &mut writer.progress.written)?;
+    writer.progress.count(step.index, chunk);
     Ok(taken)
 }
 
@@ -45,18 +44,17 @@ fn feed_once<O: Sink>(
 fn feed_piece<O: Sink>(
     opener: &mut PayloadOpener<'_>,
     piece: &[u8],
-    sink: &mut O,
-    progress: &mut Progress,
+    writer: &mut Writer<'_, O>,
 ) -> Result<(), FileFault>
-    requires small { length opener.old.held + progress.old.written + length piece.now < 2 ^ 128 }
-    ensures fed { FeedsPiece opens 65536 opener.old opener.new
-        (tally (O.view sink.old) progress.old)
-        (tally (O.view sink.new) progress.new) piece.now
-        result }
+    requires small { length opener.old.held + writer.old.progress.written + length piece.now
+        < 2 ^ 128 }
+    ensures fed { FeedsPiece opens 65536 opener.old opener.new (tally_of O.view writer.old)
+        (tally_of O.view writer.new) piece.now result }
+    ensures same { SameWriter writer.old writer.new }
 {
     let mut at = 0;
     while at < piece.len() {
-        at += feed_once(opener, &piece[at..], sink, progress)?;
+        at += feed_once(opener, &piece[at..], writer)?;
     }
     Ok(())
 }
@@ -64,77 +62,63 @@ fn feed_piece<O: Sink>(
 /// Feeds what was pulled, and pulls again. False: the source is at its end.
 fn turn<S: Source, O: Sink>(
     opener: &mut PayloadOpener<'_>,
-    source: &mut S,
-    intake: &mut Intake,
-    sink: &mut O,
-    progress: &mut Progress,
+    reader: &mut Reader<'_, S>,
+    writer: &mut Writer<'_, O>,
 ) -> Result<bool, FileFault>
-    requires { HasRoom (flow opener.old (tally (O.view sink.old) progress.old)
-        (S.view source.old) intake.old) }
-    ensures { Turns opens 65536
-        (flow opener.old (tally (O.view sink.old)
-        progress.old)
-        (S.view source.old) intake.old)
-        (flow opener.new (tally (O.view sink.new)
-        progress.new)
-        (S.view source.new) intake.new) result }
+    requires { HasRoom (flow_of S.view O.view opener.old reader.old writer.old) }
+    ensures turned { Turns opens 65536 (flow_of S.view O.view opener.old reader.old writer.old)
+        (flow_of S.view O.view opener.new reader.new writer.new) result }
+    ensures same_reader { SameReader reader.old reader.new }
+    ensures same_writer { SameWriter writer.old writer.new }
 {
-    feed_piece(opener, intake.bytes(), sink, progress)?;
-    intake.use_all();
-    intake.refill(source)
+    feed_piece(opener, reader.intake.bytes(), writer)?;
+    reader.intake.use_all();
+    reader.intake.refill(reader.source)
 }
 
 /// Opens what a source gives, up to its end.
 fn open_all<S: Source, O: Sink>(
     opener: &mut PayloadOpener<'_>,
-    source: &mut S,
-    intake: &mut Intake,
-    sink: &mut O,
-    progress: &mut Progress,
+    reader: &mut Reader<'_, S>,
+    writer: &mut Writer<'_, O>,
 ) -> Result<(), FileFault>
-    requires { HasRoom (flow opener.old (tally (O.view sink.old) progress.old)
-        (S.view source.old) intake.old) }
-    ensures { OpensAll opens 65536
-        (flow opener.old (tally (O.view sink.old)
-        progress.old)
-        (S.view source.old) intake.old)
-        (flow opener.new (tally (O.view sink.new)
-        progress.new)
-        (S.view source.new) intake.new) result }
+    requires { HasRoom (flow_of S.view O.view opener.old reader.old writer.old) }
+    ensures opened { OpensAll opens 65536 (flow_of S.view O.view opener.old reader.old writer.old)
+        (flow_of S.view O.view opener.new reader.new writer.new) result }
+    ensures same_reader { SameReader reader.old reader.new }
+    ensures same_writer { SameWriter writer.old writer.new }
 {
-    'turns: while turn(opener, source, intake, sink, progress)? {}
+    'turns: while turn(opener, reader, writer)? {}
     Ok(())
 }
 
 /// Ends the opener, and writes the chunk that comes out.
 fn close<O: Sink>(
     opener: &mut PayloadOpener<'_>,
-    sink: &mut O,
-    progress: &mut Progress,
+    writer: &mut Writer<'_, O>,
 ) -> Result<(), FileFault>
-    requires { length opener.old.held + progress.old.written < 2 ^ 128 }
-    ensures { Closes opens 65536 opener.old opener.new
-        (tally (O.view sink.old) progress.old)
-        (tally (O.view sink.new) progress.new) result }
+    requires { length opener.old.held + writer.old.progress.written < 2 ^ 128 }
+    ensures closed { Closes opens 65536 opener.old opener.new (tally_of O.view writer.old)
+        (tally_of O.view writer.new) result }
+    ensures same { SameWriter writer.old writer.new }
 {
     let text = opener.end()?;
-    write_all(sink, text, &mut progress.written)
+    write_all(writer.sink, text, &mut writer.progress.written)
 }
 
 /// The same, and then flushes.
 fn finish<O: Sink>(
     opener: &mut PayloadOpener<'_>,
-    sink: &mut O,
-    progress: &mut Progress,
+    writer: &mut Writer<'_, O>,
 ) -> Result<(), FileFault>
-    requires { length opener.old.held + progress.old.written < 2 ^ 128 }
-    ensures closes { Closes opens 65536 opener.old opener.new
-        (tally (O.view sink.old) progress.old)
-        (tally (O.view sink.new) progress.new) result }
-    ensures settled { OnOk result ((O.view sink.new).settled ≡ true) }
+    requires { length opener.old.held + writer.old.progress.written < 2 ^ 128 }
+    ensures closed { Closes opens 65536 opener.old opener.new (tally_of O.view writer.old)
+        (tally_of O.view writer.new) result }
+    ensures settled { OnOk result ((O.view writer.new.sink.now).settled ≡ true) }
+    ensures same { SameWriter writer.old writer.new }
 {
-    close(opener, sink, progress)?;
-    flush_all(sink)
+    close(opener, writer)?;
+    flush_all(writer.sink)
 }
 
 /// Opens what a source gives from a chunk on, up to its end, and writes each chunk once its tag was
@@ -142,23 +126,19 @@ fn finish<O: Sink>(
 pub(crate) fn decrypt_payload<S: Source, O: Sink>(
     key: &PayloadKey,
     index: u64,
-    source: &mut S,
-    intake: &mut Intake,
-    sink: &mut O,
-    progress: &mut Progress,
+    reader: &mut Reader<'_, S>,
+    writer: &mut Writer<'_, O>,
 ) -> Result<(), FileFault>
     requires limit { index < 281474976710656 }
-    requires room { HasPlace (stage (tally (O.view sink.old)
-        progress.old)
-        (S.view source.old) intake.old) }
+    requires room { HasPlace (stage_of S.view O.view reader.old writer.old) }
     ensures decrypts { DecryptsPayload (opens key.now) 65536 index
-        (stage (tally (O.view sink.old) progress.old)
-        (S.view source.old) intake.old)
-        (stage (tally (O.view sink.new) progress.new)
-        (S.view source.new) intake.new) result }
-    ensures settled { OnOk result ((O.view sink.new).settled ≡ true) }
+        (stage_of S.view O.view reader.old writer.old)
+        (stage_of S.view O.view reader.new writer.new) result }
+    ensures settled { OnOk result ((O.view writer.new.sink.now).settled ≡ true) }
+    ensures same_reader { SameReader reader.old reader.new }
+    ensures same_writer { SameWriter writer.old writer.new }
 {
     let mut opener = PayloadOpener::at(key, index);
-    open_all(&mut opener, source, intake, sink, progress)?;
-    finish(&mut opener, sink, progress)
+    open_all(&mut opener, reader, writer)?;
+    finish(&mut opener, writer)
 }

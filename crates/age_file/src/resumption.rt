@@ -1,10 +1,8 @@
 //! Goes on with a decryption that stopped.
 
 ghost use Rattle.std.specs.Prelude.{◌≡◌, ◌^◌, ◌<◌, ◌≤◌, [], OnOk, true};
-ghost use Rattle.age_file.specs.inner.Releases.{tally};
-ghost use Rattle.age_file.specs.inner.Skips.{side};
+ghost use Rattle.age_file.specs.inner.Readers.{side_of, tally_of, stage_of, SameReader, SameWriter};
 ghost use Rattle.age_file.specs.inner.Copies.{CopiesText};
-ghost use Rattle.age_file.specs.inner.Payloads.{stage};
 ghost use Rattle.age_file.specs.inner.ResumesPayload.{HasPulled, ResumesPayload};
 ghost use Rattle.age_file.specs.Ports.{ports};
 ghost use Rattle.age_file.specs.declared.position.Positions.TheVariants.{Kept};
@@ -21,6 +19,7 @@ use crate::intake::Intake;
 use crate::payload::decrypt_payload;
 use crate::position::{Position, Positions, tag_of};
 use crate::progress::Progress;
+use crate::reader::{Reader, Writer};
 use crate::skip::skip_blocks;
 use crate::start::{Unlocked, start};
 use age_io::{Sink, Source};
@@ -47,25 +46,25 @@ fn verify(unlocked: &Unlocked, position: &Position) -> Result<(), FileFault>
 fn copy_old<L: Source, O: Sink>(
     positions: Positions,
     position: &Position,
-    old_reader: &mut L,
-    intake: &mut Intake,
-    writer: &mut O,
-    progress: &mut Progress,
+    reader: &mut Reader<'_, L>,
+    writer: &mut Writer<'_, O>,
 ) -> Result<(), FileFault>
-    requires fresh { (progress.old.written ≡ 0) × (progress.old.index ≡ 0)
-        × (progress.old.chain ≡ chain_if Kept []) }
-    ensures { CopiesText positions 65536 position.now.index position.now.chain
-        (side (L.view old_reader.old) intake.old)
-        (side (L.view old_reader.new) intake.new)
-        (tally (O.view writer.old) progress.old)
-        (tally (O.view writer.new) progress.new)
+    requires fresh { (writer.old.progress.written ≡ 0) × (writer.old.progress.index ≡ 0)
+        × (writer.old.progress.chain ≡ chain_if Kept []) }
+    ensures copied { CopiesText positions 65536 position.now.index position.now.chain
+        (side_of L.view reader.old)
+        (side_of L.view reader.new)
+        (tally_of O.view writer.old)
+        (tally_of O.view writer.new)
         result }
+    ensures same_reader { SameReader reader.old reader.new }
+    ensures same_writer { SameWriter writer.old writer.new }
 {
-    copy_chunks(old_reader, intake, position.index, writer, progress)?;
-    if progress.chain != Some(position.chain) {
+    copy_chunks(reader, position.index, writer)?;
+    if writer.progress.chain != Some(position.chain) {
         return Err(FileFault::OldTextDiffers);
     }
-    progress.keep(positions);
+    writer.progress.keep(positions);
     Ok(())
 }
 
@@ -73,24 +72,21 @@ fn copy_old<L: Source, O: Sink>(
 fn open_rest<S: Source, O: Sink>(
     key: &PayloadKey,
     index: u64,
-    reader: &mut S,
-    intake: &mut Intake,
-    writer: &mut O,
-    progress: &mut Progress,
+    reader: &mut Reader<'_, S>,
+    writer: &mut Writer<'_, O>,
 ) -> Result<(), FileFault>
     requires limit { index < 281474976710656 }
-    requires room { progress.old.written ≤ 2 ^ 64 }
-    requires pulled { HasPulled (stage (tally (O.view writer.old) progress.old)
-        (S.view reader.old) intake.old) }
+    requires room { writer.old.progress.written ≤ 2 ^ 64 }
+    requires pulled { HasPulled (stage_of S.view O.view reader.old writer.old) }
     ensures resumes { ResumesPayload (λ nonce block. opening key.now nonce [] block) index
-        (stage (tally (O.view writer.old) progress.old)
-        (S.view reader.old) intake.old)
-        (stage (tally (O.view writer.new) progress.new)
-        (S.view reader.new) intake.new) result }
-    ensures settled { OnOk result ((O.view writer.new).settled ≡ true) }
+        (stage_of S.view O.view reader.old writer.old)
+        (stage_of S.view O.view reader.new writer.new) result }
+    ensures settled { OnOk result ((O.view writer.new.sink.now).settled ≡ true) }
+    ensures same_reader { SameReader reader.old reader.new }
+    ensures same_writer { SameWriter writer.old writer.new }
 {
-    skip_blocks(reader, intake, index)?;
-    decrypt_payload(key, index, reader, intake, writer, progress)
+    skip_blocks(reader, index)?;
+    decrypt_payload(key, index, reader, writer)
 }
 
 /// Goes on with a decryption that stopped, and hands out the position of a stop: [`resume_with`],
@@ -156,7 +152,11 @@ pub fn resume_with<U: Unlock, S: Source, L: Source, O: Sink>(
     let (Ok(mut intake), Ok(mut old_intake)) = (Intake::new(alloc), Intake::new(alloc)) else {
         return Err(Stopped::early(FileFault::Memory));
     };
-    let unlocked = match start(alloc, unlock, reader, &mut intake) {
+    let mut reader = Reader {
+        source: reader,
+        intake: &mut intake,
+    };
+    let unlocked = match start(alloc, unlock, &mut reader) {
         Ok(unlocked) => unlocked,
         Err(fault) => return Err(Stopped::early(fault)),
     };
@@ -164,35 +164,29 @@ pub fn resume_with<U: Unlock, S: Source, L: Source, O: Sink>(
         Ok(()) => {}
         Err(fault) => return Err(Stopped::early(fault)),
     }
-    old_intake.count_on(&intake);
-    let mut progress = Progress::new(Positions::Kept);
-    match copy_old(
-        positions,
-        position,
-        old_reader,
-        &mut old_intake,
-        writer,
-        &mut progress,
-    ) {
+    let mut old_reader = Reader {
+        source: old_reader,
+        intake: &mut old_intake,
+    };
+    let progress = Progress::new(Positions::Kept);
+    let mut writer = Writer {
+        sink: writer,
+        progress,
+    };
+    old_reader.intake.count_on(reader.intake);
+    match copy_old(positions, position, &mut old_reader, &mut writer) {
         Ok(()) => {}
-        Err(fault) => return Err(Stopped::behind(fault, &progress, None)),
+        Err(fault) => return Err(Stopped::behind(fault, &writer.progress, None)),
     }
-    intake.count_on(&old_intake);
+    reader.intake.count_on(old_reader.intake);
     let key = payload_key(&unlocked.key, &unlocked.nonce);
-    match open_rest(
-        &key,
-        position.index,
-        reader,
-        &mut intake,
-        writer,
-        &mut progress,
-    ) {
+    match open_rest(&key, position.index, &mut reader, &mut writer) {
         Ok(()) => Ok(Done {
-            written: progress.written,
+            written: writer.progress.written,
         }),
         Err(fault) => {
-            let next = position_of(&unlocked, &progress);
-            Err(Stopped::behind(fault, &progress, next))
+            let next = position_of(&unlocked, &writer.progress);
+            Err(Stopped::behind(fault, &writer.progress, next))
         }
     }
 }

@@ -1,9 +1,10 @@
 //! Passes over the blocks of a payload that were opened before.
 
-ghost use Rattle.age_file.specs.inner.Skips.{side, SkipsBlock, SkipsBlocks};
+ghost use Rattle.age_file.specs.inner.Skips.{SkipsBlock, SkipsBlocks};
+ghost use Rattle.age_file.specs.inner.Readers.{side_of, SameReader};
 
 use crate::fault::FileFault;
-use crate::intake::Intake;
+use crate::reader::Reader;
 use crate::start::some_bytes;
 use age_io::Source;
 use age_stream::{StreamFault, StreamKind};
@@ -12,17 +13,18 @@ use age_stream::{StreamFault, StreamKind};
 const BLOCK: usize = 65_552;
 
 /// Passes over a block. False: the source ended within it.
-fn skip_block<S: Source>(source: &mut S, intake: &mut Intake) -> Result<bool, FileFault>
-    ensures { SkipsBlock 65552 (side (S.view source.old) intake.old)
-        (side (S.view source.new) intake.new) result }
+fn skip_block<S: Source>(reader: &mut Reader<'_, S>) -> Result<bool, FileFault>
+    ensures skipped { SkipsBlock 65552 (side_of S.view reader.old)
+        (side_of S.view reader.new) result }
+    ensures same { SameReader reader.old reader.new }
 {
     let mut left = BLOCK;
     'parts: while left > 0 {
-        if !some_bytes(source, intake)? {
+        if !some_bytes(reader)? {
             return Ok(false);
         }
-        let n = left.min(intake.bytes().len());
-        intake.use_front(n);
+        let n = left.min(reader.intake.bytes().len());
+        reader.intake.use_front(n);
         left -= n;
     }
     Ok(true)
@@ -30,16 +32,15 @@ fn skip_block<S: Source>(source: &mut S, intake: &mut Intake) -> Result<bool, Fi
 
 /// Passes over so many blocks, unopened.
 pub(crate) fn skip_blocks<S: Source>(
-    source: &mut S,
-    intake: &mut Intake,
+    reader: &mut Reader<'_, S>,
     blocks: u64,
 ) -> Result<(), FileFault>
-    ensures { SkipsBlocks 65552 blocks (side (S.view source.old)
-        intake.old)
-        (side (S.view source.new) intake.new) result }
+    ensures skipped { SkipsBlocks 65552 blocks (side_of S.view reader.old)
+        (side_of S.view reader.new) result }
+    ensures same { SameReader reader.old reader.new }
 {
     for block in 0..blocks {
-        if !skip_block(source, intake)? {
+        if !skip_block(reader)? {
             return Err(FileFault::Stream(StreamFault {
                 kind: StreamKind::Truncated,
                 chunk: block,

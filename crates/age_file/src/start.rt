@@ -2,12 +2,13 @@
 
 ghost use Rattle.std.specs.Prelude.{◌≡◌, ◌+◌, ◌-◌, ◌≤◌, [], ◌++◌, length, take, min, IfOk, IfErr, OnOk};
 ghost use Rattle.age_file.specs.Starts.{StartFails};
+ghost use Rattle.age_file.specs.inner.Readers.{SameReader};
 ghost use Rattle.age_file.specs.inner.Starts.{Uses, SomeAnswers, NonceFails, StartsAt};
 
 use crate::fault::FileFault;
 use crate::head::read_head;
-use crate::intake::Intake;
 use crate::position::file_id;
+use crate::reader::Reader;
 use age_io::Source;
 use age_keys::{FileKey, Unlock, open_header};
 use age_stanza::{encode_head, one_header};
@@ -23,15 +24,16 @@ pub(crate) struct Unlocked {
 }
 
 /// Sees that some byte is there. False: the source is at its end.
-pub(crate) fn some_bytes<S: Source>(source: &mut S, intake: &mut Intake) -> Result<bool, FileFault>
-    ensures answers { SomeAnswers (S.view source.new).remaining (S.view source.old).failed
-        (S.view source.new).failed intake.new result }
-    ensures uses { Uses (S.view source.old).remaining (S.view source.new).remaining intake.old intake.new [] }
+pub(crate) fn some_bytes<S: Source>(reader: &mut Reader<'_, S>) -> Result<bool, FileFault>
+    ensures answers { SomeAnswers (S.view reader.new.source.now).remaining (S.view reader.old.source.now).failed
+        (S.view reader.new.source.now).failed reader.new.intake.now result }
+    ensures uses { Uses (S.view reader.old.source.now).remaining (S.view reader.new.source.now).remaining reader.old.intake.now reader.new.intake.now [] }
+    ensures same { SameReader reader.old reader.new }
 {
-    if !intake.bytes().is_empty() {
+    if !reader.intake.bytes().is_empty() {
         return Ok(true);
     }
-    intake.refill(source)
+    reader.intake.refill(reader.source)
 }
 
 /// Copies as much as there is room for, and says how much.
@@ -46,21 +48,22 @@ fn copy_some(from: &[u8], into: &mut [u8; 16], have: usize) -> usize
 }
 
 /// Reads the payload nonce.
-fn take_nonce<S: Source>(source: &mut S, intake: &mut Intake) -> Result<[u8; 16], FileFault>
-    ensures found { IfOk result (Uses (S.view source.old).remaining (S.view source.new).remaining intake.old
-        intake.new) }
-    ensures unfailed { OnOk result ((S.view source.new).failed ≡ (S.view source.old).failed) }
-    ensures fails { IfErr result (NonceFails (S.view source.old).remaining (S.view source.new).remaining
-        (S.view source.old).failed (S.view source.new).failed intake.old intake.new) }
+fn take_nonce<S: Source>(reader: &mut Reader<'_, S>) -> Result<[u8; 16], FileFault>
+    ensures found { IfOk result (Uses (S.view reader.old.source.now).remaining (S.view reader.new.source.now).remaining reader.old.intake.now
+        reader.new.intake.now) }
+    ensures unfailed { OnOk result ((S.view reader.new.source.now).failed ≡ (S.view reader.old.source.now).failed) }
+    ensures fails { IfErr result (NonceFails (S.view reader.old.source.now).remaining (S.view reader.new.source.now).remaining
+        (S.view reader.old.source.now).failed (S.view reader.new.source.now).failed reader.old.intake.now reader.new.intake.now) }
+    ensures same { SameReader reader.old reader.new }
 {
     let mut nonce = [0; 16];
     let mut have = 0;
     'parts: while have < 16 {
-        if !some_bytes(source, intake)? {
+        if !some_bytes(reader)? {
             return Err(FileFault::NonceCut);
         }
-        let n = copy_some(intake.bytes(), &mut nonce, have);
-        intake.use_front(n);
+        let n = copy_some(reader.intake.bytes(), &mut nonce, have);
+        reader.intake.use_front(n);
         have += n;
     }
     Ok(nonce)
@@ -70,22 +73,22 @@ fn take_nonce<S: Source>(source: &mut S, intake: &mut Intake) -> Result<[u8; 16]
 pub(crate) fn start<U: Unlock, S: Source>(
     alloc: Global,
     unlock: &U,
-    source: &mut S,
-    intake: &mut Intake,
+    reader: &mut Reader<'_, S>,
 ) -> Result<Unlocked, FileFault>
-    requires { (intake.old.bytes ≡ []) × (intake.old.pulls ≡ 0) }
-    ensures found { IfOk result (StartsAt (U.allows unlock.now) (S.view source.old).remaining
-        (S.view source.new).remaining intake.new) }
-    ensures unfailed { OnOk result ((S.view source.new).failed ≡ (S.view source.old).failed) }
+    requires { (reader.old.intake.now.bytes ≡ []) × (reader.old.intake.now.pulls ≡ 0) }
+    ensures found { IfOk result (StartsAt (U.allows unlock.now) (S.view reader.old.source.now).remaining
+        (S.view reader.new.source.now).remaining reader.new.intake.now) }
+    ensures unfailed { OnOk result ((S.view reader.new.source.now).failed ≡ (S.view reader.old.source.now).failed) }
     ensures fails { IfErr result (StartFails (U.allows unlock.now) (U.refuses unlock.now)
-        (S.view source.old).remaining (S.view source.new).remaining (S.view source.old).failed
-        (S.view source.new).failed) }
+        (S.view reader.old.source.now).remaining (S.view reader.new.source.now).remaining (S.view reader.old.source.now).failed
+        (S.view reader.new.source.now).failed) }
+    ensures same { SameReader reader.old reader.new }
 {
     one_header();
-    let header = read_head(alloc, source, intake)?.header;
+    let header = read_head(alloc, reader)?.header;
     let key = open_header(alloc, &header, unlock)?;
     let front = encode_head(alloc, &header)?;
-    let nonce = take_nonce(source, intake)?;
+    let nonce = take_nonce(reader)?;
     let id = file_id(front.as_slice(), &nonce);
     Ok(Unlocked { key, nonce, id })
 }

@@ -6,8 +6,8 @@ use Rattle.age_file.specs.inner.Skips.{Side, side, Passes, SkipFails}
 use Rattle.age_file.specs.inner.Payloads.{Stage, DecryptsPayload}
 use Rattle.age_file.specs.declared.fault.FileFault.{FileFault}
 
-abbrev pub side_of : Stage → Side
-side_of s = side s.source s.unread
+abbrev pub side_at : Stage → Side
+side_at s = side s.source s.unread
 
 -- what was pulled of a source, all told
 abbrev pub HasPulled : Stage → Type 0
@@ -19,7 +19,7 @@ pub record StopsBefore (index : ℕ) (old new : Stage) (result : Result (Unit {0
     : Type 0 where
   pub fault : FileFault
   pub is : result ≡ Err fault
-  pub fails : SkipFails 65552 index (side_of old) (side_of new) fault
+  pub fails : SkipFails 65552 index (side_at old) (side_at new) fault
   pub same : new.tally ≡ old.tally
 
 -- they were, and the bytes behind them were decrypted
@@ -28,7 +28,7 @@ pub record DecryptsBehind (opening : List ℕ → List ℕ → Option (List ℕ)
   pub mid : Stage
   pub passed : List ℕ
   pub size : length passed ≡ index * 65552
-  pub passes : Passes (side_of old) (side_of mid) passed
+  pub passes : Passes (side_at old) (side_at mid) passed
   pub same : mid.tally ≡ old.tally
   pub decrypts : DecryptsPayload opening 65536 index mid new result
 

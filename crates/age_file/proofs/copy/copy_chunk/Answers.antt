@@ -8,20 +8,22 @@ use Rattle.age_stream.specs.Headline.{IsPrefixOf}
 use Rattle.age_file.specs.Faults.{HasRisen}
 use Rattle.age_file.specs.inner.Bindings.{link_if}
 use Rattle.age_file.specs.inner.Skips.{side}
-use Rattle.age_file.specs.inner.Releases.{tally}
 use Rattle.age_file.proofs.Bytes.{Appends-then}
 use Rattle.age_file.proofs.StartSteps.{uses_front}
 use Rattle.age_file.proofs.SkipSteps.{passes_then, passes_same, dries_same}
 use Rattle.age_file.proofs.CopySteps.{copy_dry, all_out, front_written}
+use Rattle.age_file.specs.inner.Readers.{tally_of, side_of}
 use Rattle.age_file.proofs.copy.copy_chunk.Goals as goal
 
 pub parts-init : goal.parts-init
 parts-init g c =
     record {
+      same_reader = (refl, refl);
+      same_writer = refl;
       copied = [];
       size = omega arith;
       passes = record { uses = λ start used h. h; unfailed = refl };
-      wrote = Appends-nil (g.O.Sink.view c.args.sink.now).taken;
+      wrote = Appends-nil (g.O.Sink.view c.args.writer.now.sink.now).taken;
       failures = refl;
       named = refl;
       count = omega arith;
@@ -34,13 +36,13 @@ parts-init g c =
           subst (λ (t : List ℕ). Holds256 c.update.new.self t) (same ∙ sym (append-nil links)) start;
     }
 
-pub returns-then-not-branch : goal.returns-then-not-branch
-returns-then-not-branch g c =
+pub returns-then-not-branch-clause-copied : goal.returns-then-not-branch-clause-copied
+returns-then-not-branch-clause-copied g c =
     let kept = c.parts.invariant in
     let r = rw c.if-not-branch.true at c.in_ok-some_bytes.ensures.answers in
-    let old = side (g.S.Source.view c.args.source.now) c.args.intake.now in
-    let mid = side (g.S.Source.view c.parts.source) c.parts.intake in
-    let new = side (g.S.Source.view c.some_bytes.new.source) c.some_bytes.new.intake in
+    let old = side_of g.S.Source.view c.args.reader.now in
+    let mid = side_of g.S.Source.view c.parts.reader in
+    let new = side_of g.S.Source.view c.some_bytes.new.reader in
     let passes = passes_same old mid new kept.copied kept.passes (record { uses = c.some_bytes.ensures.uses; unfailed = r.2 }) in
     record {
       out = kept.copied;
@@ -50,16 +52,16 @@ returns-then-not-branch g c =
       answered = (omega (arith, kept.size, c.parts-test.true), (passes, r.0, r.1, kept.failures));
     }
 
-pub returns-in_err-some_bytes : goal.returns-in_err-some_bytes
-returns-in_err-some_bytes g c =
+pub returns-in_err-some_bytes-clause-copied : goal.returns-in_err-some_bytes-clause-copied
+returns-in_err-some_bytes-clause-copied g c =
     let p = err_from_is_err_and c.from_residual.result c.from_residual.ensures.1 in
     let kept = c.parts.invariant in
     let a = c.in_err-some_bytes.ensures.answers in
-    let old = side (g.S.Source.view c.args.source.now) c.args.intake.now in
-    let mid = side (g.S.Source.view c.parts.source) c.parts.intake in
-    let new = side (g.S.Source.view c.some_bytes.new.source) c.some_bytes.new.intake in
-    let was = tally (g.O.Sink.view c.args.sink.now) c.args.progress.now in
-    let now = tally (g.O.Sink.view c.parts.sink) c.parts.progress in
+    let old = side_of g.S.Source.view c.args.reader.now in
+    let mid = side_of g.S.Source.view c.parts.reader in
+    let new = side_of g.S.Source.view c.some_bytes.new.reader in
+    let was = tally_of g.O.Sink.view c.args.writer.now in
+    let now = tally_of g.O.Sink.view c.parts.writer in
     let dries = dries_same old mid new kept.copied c.in_err-some_bytes.field-0.0 kept.passes (record { uses = c.some_bytes.ensures.uses; used = a.0; why = a.1 }) in
     record {
       out = kept.copied;
@@ -69,21 +71,21 @@ returns-in_err-some_bytes g c =
       answered = rw (p.1, p.2) (omega (arith, kept.size, c.parts-test.true), copy_dry old new was now kept.copied c.in_err-some_bytes.field-0.0 dries kept.failures);
     }
 
-pub returns-in_err-write_all : goal.returns-in_err-write_all
-returns-in_err-write_all g c =
+pub returns-in_err-write_all-clause-copied : goal.returns-in_err-write_all-clause-copied
+returns-in_err-write_all-clause-copied g c =
     let p = err_from_is_err_and c.from_residual-in_err-write_all.result c.from_residual-in_err-write_all.ensures.1 in
     let kept = c.parts.invariant in
     let r = rw c.if-not-branch.false at c.in_ok-some_bytes.ensures.answers in
     let put = c.in_err-write_all.ensures.writes in
-    let old = side (g.S.Source.view c.args.source.now) c.args.intake.now in
-    let mid = side (g.S.Source.view c.parts.source) c.parts.intake in
-    let new = side (g.S.Source.view c.some_bytes.new.source) c.some_bytes.new.intake in
+    let old = side_of g.S.Source.view c.args.reader.now in
+    let mid = side_of g.S.Source.view c.parts.reader in
+    let new = side_of g.S.Source.view c.some_bytes.new.reader in
     let used = passes_same old mid new kept.copied kept.passes (record { uses = c.some_bytes.ensures.uses; unfailed = r.1 }) in
     let n = c.min-n.result in
     let bytes = c.bytes-in-parts.result.now in
     record {
       out = kept.copied ++ put.out;
-      wrote = Appends-then (g.O.Sink.view c.args.sink.now).taken (g.O.Sink.view c.parts.sink).taken (g.O.Sink.view c.write_all.new.sink).taken kept.copied put.out kept.wrote put.wrote;
+      wrote = Appends-then (g.O.Sink.view c.args.writer.now.sink.now).taken (g.O.Sink.view c.parts.writer.sink.now).taken (g.O.Sink.view c.write_all.new.sink).taken kept.copied put.out kept.wrote put.wrote;
       named = c.in_err-write_all.ensures.named ∙ kept.named;
       count = omega (arith, kept.count, put.count, length-append kept.copied put.out);
       answered = rw (p.1, p.2, c.in_err-write_all.ensures.fault) (
@@ -96,21 +98,23 @@ pub parts-preserved : goal.parts-preserved
 parts-preserved g c =
     let kept = c.parts.invariant in
     let r = rw c.if-not-branch.false at c.in_ok-some_bytes.ensures.answers in
-    let old = side (g.S.Source.view c.args.source.now) c.args.intake.now in
-    let mid = side (g.S.Source.view c.parts.source) c.parts.intake in
-    let there = side (g.S.Source.view c.some_bytes.new.source) c.some_bytes.new.intake in
-    let new = side (g.S.Source.view c.some_bytes.new.source) c.use_front.new.self in
+    let old = side_of g.S.Source.view c.args.reader.now in
+    let mid = side_of g.S.Source.view c.parts.reader in
+    let there = side_of g.S.Source.view c.some_bytes.new.reader in
+    let new = side (g.S.Source.view c.some_bytes.new.reader.source.now) c.use_front.new.self in
     let n = c.min-n.result in
     let bytes = c.bytes-in-parts.result.now in
     let put = c.in_ok-write_all.ensures.writes in
     let whole : put.out ≡ take n bytes = all_out (take n bytes) put.out put.unwritten put.parts put.answered.0 in
-    let wrote = subst (λ (t : List ℕ). Appends (g.O.Sink.view c.parts.sink).taken (g.O.Sink.view c.write_all.new.sink).taken t) whole put.wrote in
-    let front = uses_front (g.S.Source.view c.some_bytes.new.source).remaining c.some_bytes.new.intake c.use_front.new.self bytes n c.use_front.ensures.pulls c.bytes-in-parts.ensures.bytes c.use_front.ensures.bytes in
+    let wrote = subst (λ (t : List ℕ). Appends (g.O.Sink.view c.parts.writer.sink.now).taken (g.O.Sink.view c.write_all.new.sink).taken t) whole put.wrote in
+    let front = uses_front (g.S.Source.view c.some_bytes.new.reader.source.now).remaining c.some_bytes.new.reader.intake.now c.use_front.new.self bytes n c.use_front.ensures.pulls c.bytes-in-parts.ensures.bytes c.use_front.ensures.bytes in
     record {
+      same_reader = (c.in_ok-some_bytes.ensures.same.0 ∙ kept.same_reader.0, c.in_ok-some_bytes.ensures.same.1 ∙ kept.same_reader.1);
+      same_writer = kept.same_writer;
       copied = kept.copied ++ take n bytes;
       size = omega (arith, kept.size, c.min-n.ensures, length-append kept.copied (take n bytes), length-take n bytes, ap length c.bytes.ensures.bytes, ap length c.bytes-in-parts.ensures.bytes);
       passes = passes_then old there new kept.copied (take n bytes) (passes_same old mid there kept.copied kept.passes (record { uses = c.some_bytes.ensures.uses; unfailed = r.1 })) (record { uses = front; unfailed = refl });
-      wrote = Appends-then (g.O.Sink.view c.args.sink.now).taken (g.O.Sink.view c.parts.sink).taken (g.O.Sink.view c.write_all.new.sink).taken kept.copied (take n bytes) kept.wrote wrote;
+      wrote = Appends-then (g.O.Sink.view c.args.writer.now.sink.now).taken (g.O.Sink.view c.parts.writer.sink.now).taken (g.O.Sink.view c.write_all.new.sink).taken kept.copied (take n bytes) kept.wrote wrote;
       failures = put.answered.1 ∙ kept.failures;
       named = c.in_ok-write_all.ensures.named ∙ kept.named;
       count = omega (arith, kept.count, put.count, ap length whole, length-append kept.copied (take n bytes));
@@ -119,10 +123,10 @@ parts-preserved g c =
       hashed = λ links kept_is. subst (λ (t : List ℕ). Holds256 c.update-in-parts.new.self t) (append_assoc links kept.copied (take n bytes)) (c.update-in-parts.ensures (links ++ kept.copied) (kept.hashed links kept_is));
     }
 
-pub returns : goal.returns
-returns g c =
+pub returns-clause-copied : goal.returns-clause-copied
+returns-clause-copied g c =
     let kept = c.parts.invariant in
-    let risen : c.parts.progress.index < c.parts.progress.index + 1 = omega arith in
+    let risen : c.parts.writer.progress.index < c.parts.writer.progress.index + 1 = omega arith in
     let further = c.advance.ensures.counted.further risen in
     record {
       out = kept.copied;

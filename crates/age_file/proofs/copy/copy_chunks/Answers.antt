@@ -4,12 +4,11 @@ use Rattle.std.proofs.lemmas.List.{length-append}
 use Rattle.std.specs.Simd.{first_chunks}
 use Rattle.age_file.specs.inner.Bindings.{chain_if, link_if}
 use Rattle.age_file.specs.declared.position.Positions.TheVariants.{Kept}
-use Rattle.age_file.specs.inner.Skips.{side}
-use Rattle.age_file.specs.inner.Releases.{tally}
 use Rattle.age_file.proofs.Bytes.{Appends-then}
 use Rattle.age_file.proofs.SkipSteps.{passes_then}
 use Rattle.age_file.proofs.CopySteps.{chain_more, chunk_failed}
 use Rattle.std.proofs.KnownBytes.{Appends-nil}
+use Rattle.age_file.specs.inner.Readers.{tally_of, side_of}
 use Rattle.age_file.proofs.copy.copy_chunks.Goals as goal
 
 pub copy_chunk-requires-clause-room : goal.copy_chunk-requires-clause-room
@@ -18,24 +17,26 @@ copy_chunk-requires-clause-room g c = let kept = c.loop-copied.invariant in omeg
 pub copy_chunk-requires-clause-limit : goal.copy_chunk-requires-clause-limit
 copy_chunk-requires-clause-limit g c = omega (arith, c.loop-copied.invariant.index, c.requires.limit, c.loop-copied-test.true)
 
-pub returns-in_err-copy_chunk : goal.returns-in_err-copy_chunk
-returns-in_err-copy_chunk g c =
+pub returns-in_err-copy_chunk-clause-copied : goal.returns-in_err-copy_chunk-clause-copied
+returns-in_err-copy_chunk-clause-copied g c =
     let p = err_from_is_err_and c.from_residual.result c.from_residual.ensures.1 in
     let kept = c.loop-copied.invariant in
-    let old = side (g.S.Source.view c.args.source.now) c.args.intake.now in
-    let mid = side (g.S.Source.view c.loop-copied.source) c.loop-copied.intake in
-    let new = side (g.S.Source.view c.copy_chunk.new.source) c.copy_chunk.new.intake in
-    let was = tally (g.O.Sink.view c.args.sink.now) c.args.progress.now in
-    let between = tally (g.O.Sink.view c.loop-copied.sink) c.loop-copied.progress in
-    let now = tally (g.O.Sink.view c.copy_chunk.new.sink) c.copy_chunk.new.progress in
-    rw (p.1, p.2) (chunk_failed 65536 c.args.chunks c.loop-copied._copied old mid new was between now kept.out c.in_err-copy_chunk.field-0.0 kept.size (omega arith) kept.passes kept.wrote kept.named kept.failures (omega (arith, kept.count, c.requires.fresh.0)) c.in_err-copy_chunk.ensures)
+    let old = side_of g.S.Source.view c.args.reader.now in
+    let mid = side_of g.S.Source.view c.loop-copied.reader in
+    let new = side_of g.S.Source.view c.copy_chunk.new.reader in
+    let was = tally_of g.O.Sink.view c.args.writer.now in
+    let between = tally_of g.O.Sink.view c.loop-copied.writer in
+    let now = tally_of g.O.Sink.view c.copy_chunk.new.writer in
+    rw (p.1, p.2) (chunk_failed 65536 c.args.chunks c.loop-copied._copied old mid new was between now kept.out c.in_err-copy_chunk.field-0.0 kept.size (omega arith) kept.passes kept.wrote kept.named kept.failures (omega (arith, kept.count, c.requires.fresh.0)) c.in_err-copy_chunk.ensures.copied)
 
 pub loop-copied-init : goal.loop-copied-init
 loop-copied-init g c = record {
+  same_reader = (refl, refl);
+  same_writer = refl;
   out = [];
   size = omega arith;
   passes = record { uses = λ start used h. h; unfailed = refl };
-  wrote = Appends-nil (g.O.Sink.view c.args.sink.now).taken;
+  wrote = Appends-nil (g.O.Sink.view c.args.writer.now.sink.now).taken;
   failures = refl;
   named = refl;
   count = c.requires.fresh.0;
@@ -46,20 +47,22 @@ loop-copied-init g c = record {
 pub loop-copied-preserved : goal.loop-copied-preserved
 loop-copied-preserved g c =
     let kept = c.loop-copied.invariant in
-    let step = c.in_ok-copy_chunk.ensures in
+    let step = c.in_ok-copy_chunk.ensures.copied in
     let goes = step.answered in
     let i = c.loop-copied._copied in
-    let old = side (g.S.Source.view c.args.source.now) c.args.intake.now in
-    let mid = side (g.S.Source.view c.loop-copied.source) c.loop-copied.intake in
-    let new = side (g.S.Source.view c.copy_chunk.new.source) c.copy_chunk.new.intake in
+    let old = side_of g.S.Source.view c.args.reader.now in
+    let mid = side_of g.S.Source.view c.loop-copied.reader in
+    let new = side_of g.S.Source.view c.copy_chunk.new.reader in
     let next : suc i ≡ i + 1 = omega arith in
-    let links : c.copy_chunk.new.progress.chain ≡ chain_if Kept (first_chunks 65536 (i + 1) (kept.out ++ step.out)) =
+    let links : c.copy_chunk.new.writer.progress.chain ≡ chain_if Kept (first_chunks 65536 (i + 1) (kept.out ++ step.out)) =
     goes.4 ∙ ap (λ (xs : Option (List ℕ)). link_if xs step.out) kept.chain_is ∙ ap Some (sym (chain_more 65536 i kept.out step.out kept.size goes.0)) ∙ ap (λ (k : ℕ). chain_if Kept (first_chunks 65536 k (kept.out ++ step.out))) next in
     record {
+      same_reader = (c.in_ok-copy_chunk.ensures.same_reader.0 ∙ kept.same_reader.0, c.in_ok-copy_chunk.ensures.same_reader.1 ∙ kept.same_reader.1);
+      same_writer = c.in_ok-copy_chunk.ensures.same_writer ∙ kept.same_writer;
       out = kept.out ++ step.out;
       size = omega (arith, kept.size, goes.0, length-append kept.out step.out);
       passes = passes_then old mid new kept.out step.out kept.passes goes.1;
-      wrote = Appends-then (g.O.Sink.view c.args.sink.now).taken (g.O.Sink.view c.loop-copied.sink).taken (g.O.Sink.view c.copy_chunk.new.sink).taken kept.out step.out kept.wrote step.wrote;
+      wrote = Appends-then (g.O.Sink.view c.args.writer.now.sink.now).taken (g.O.Sink.view c.loop-copied.writer.sink.now).taken (g.O.Sink.view c.copy_chunk.new.writer.sink.now).taken kept.out step.out kept.wrote step.wrote;
       failures = goes.2 ∙ kept.failures;
       named = step.named ∙ kept.named;
       count = omega (arith, kept.count, step.count, length-append kept.out step.out);

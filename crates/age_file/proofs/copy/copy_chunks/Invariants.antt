@@ -3,19 +3,22 @@ use Rattle.std.specs.Io.KnownBytes.{Appends}
 use Rattle.std.specs.Simd.{first_chunks}
 use Rattle.age_file.specs.inner.Bindings.{chain_if}
 use Rattle.age_file.specs.declared.position.Positions.TheVariants.{Kept}
-use Rattle.age_file.specs.inner.Skips.{side, Passes}
+use Rattle.age_file.specs.inner.Skips.{Passes}
+use Rattle.age_file.specs.inner.Readers.{side_of, SameReader, SameWriter}
 use Rattle.age_file.proofs.copy.copy_chunks.Given as goal
 
 -- the chunks that were copied so far
 abbrev pub invariant-loop-copied : goal.invariant-loop-copied
 invariant-loop-copied g l = record {
+  same_reader : SameReader l.fn.reader l.reader;
+  same_writer : SameWriter l.fn.writer l.writer;
   out : List ℕ;
   size : length out ≡ l._copied * 65536;
-  passes : Passes (side (g.S.Source.view l.fn.source) l.fn.intake) (side (g.S.Source.view l.source) l.intake) out;
-  wrote : Appends (g.O.Sink.view l.fn.sink).taken (g.O.Sink.view l.sink).taken out;
-  failures : (g.O.Sink.view l.sink).failed ≡ (g.O.Sink.view l.fn.sink).failed;
-  named : (g.O.Sink.view l.sink).label ≡ (g.O.Sink.view l.fn.sink).label;
-  count : l.progress.written ≡ length out;
-  index : l.progress.index ≡ l._copied;
-  chain_is : l.progress.chain ≡ chain_if Kept (first_chunks 65536 l._copied out);
+  passes : Passes (side_of g.S.Source.view l.fn.reader) (side_of g.S.Source.view l.reader) out;
+  wrote : Appends (g.O.Sink.view l.fn.writer.sink.now).taken (g.O.Sink.view l.writer.sink.now).taken out;
+  failures : (g.O.Sink.view l.writer.sink.now).failed ≡ (g.O.Sink.view l.fn.writer.sink.now).failed;
+  named : (g.O.Sink.view l.writer.sink.now).label ≡ (g.O.Sink.view l.fn.writer.sink.now).label;
+  count : l.writer.progress.written ≡ length out;
+  index : l.writer.progress.index ≡ l._copied;
+  chain_is : l.writer.progress.chain ≡ chain_if Kept (first_chunks 65536 l._copied out);
 }

@@ -61,6 +61,7 @@ pieces-preserved g c =
     let all = rw (← c.bytes.ensures.bytes) at (c.refill.ensures.pulled _ kept.held kept.pulled) in
     let same : c.bytes-in-More.result.now ≡ piece = c.bytes-in-More.ensures.bytes ∙ sym c.bytes.ensures.bytes in
     record {
+      same = kept.same;
       held = kept.held ++ piece;
       parser_is = feeds.0;
       len_is = omega (arith, kept.len_is, ap length same, length-append kept.held piece);

@@ -2,20 +2,22 @@ use Rattle.std.proofs.Common.{◌-◌, ◌^◌, ◌≡◌, ◌<◌, ℕ, [], Lis
 use Rattle.age_stanza.specs.Faults.{HasHeader, NoFault}
 use Rattle.age_stanza.specs.Parsing.{reading}
 use Rattle.age_file.specs.inner.Intakes.{Pulled}
+use Rattle.age_file.specs.inner.Readers.{SameReader}
 use Rattle.age_file.proofs.head.read_head.Given as goal
 
 abbrev pub invariant-pieces : goal.invariant-pieces
 invariant-pieces g l = record {
+  same : SameReader l.fn.reader l.reader;
   held : List ℕ;
   parser_is : l.parser ≡ reading held;
   len_is : l.len ≡ length held;
   short : length held < 1048576;
   none : HasHeader held → ⊥;
   sound : NoFault held;
-  pulled : Pulled (g.S.Source.view l.fn.source).remaining (g.S.Source.view l.source).remaining l.intake.pulls held;
-  unread : l.intake.bytes ≡ [];
-  unfailed : (g.S.Source.view l.source).failed ≡ (g.S.Source.view l.fn.source).failed;
+  pulled : Pulled (g.S.Source.view l.fn.reader.source.now).remaining (g.S.Source.view l.reader.source.now).remaining l.reader.intake.now.pulls held;
+  unread : l.reader.intake.now.bytes ≡ [];
+  unfailed : (g.S.Source.view l.reader.source.now).failed ≡ (g.S.Source.view l.fn.reader.source.now).failed;
 }
 
 abbrev pub decreases-pieces : goal.decreases-pieces
-decreases-pieces g l = 2 ^ 63 - l.intake.pulls
+decreases-pieces g l = 2 ^ 63 - l.reader.intake.now.pulls

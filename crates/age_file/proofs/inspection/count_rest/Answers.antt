@@ -13,6 +13,7 @@ pulls-preserved g c =
     let fresh = c.bytes-in-pulls.result.now in
     let same = c.use_all-in-pulls.ensures.pulls in
     record {
+      same = kept.same;
       passed = kept.passed ++ fresh;
       count_is = omega (arith, kept.count_is, length-append kept.passed fresh);
       small = omega (arith, kept.small, c.bytes-in-pulls.ensures.most, same, r.answered.3);

@@ -1,21 +1,47 @@
-use Rattle.std.proofs.Common.{◌++◌, refl}
+use Rattle.std.proofs.Common.{◌≡◌, ◌++◌, ℕ, List, Option, refl, subst, rules}
 use Rattle.std.proofs.lemmas.Result.{err_from_is_err_and}
+use Rattle.std.specs.Io.KnownBytes.{Consumes, IsAtEnd}
+use Rattle.age_file.specs.Faults.{HasRisen, HeadFails}
+use Rattle.age_file.specs.inner.Intakes.{Pulled, RestFails}
+use Rattle.age_file.specs.inner.Unread.{Unread}
+use Rattle.age_file.specs.declared.fault.FileFault.{FileFault}
+use Rattle.age_file.specs.declared.fault.FileFault.TheVariants.{Read, ReadNeverEnds}
 use Rattle.age_file.proofs.Bytes.{stops_unread}
+use Rattle.age_file.proofs.ReaderSteps.{read_last}
 use Rattle.age_file.proofs.inspection.inspect.Goals as goal
+
+-- a rest that could not be read, behind a header that was
+rest_to_head : (start mid now : Option (List ℕ)) (failed_old failed_mid failed_new : ℕ) (u : Unread) (front : List ℕ) (fault : FileFault) → failed_mid ≡ failed_old
+    → Pulled start mid u.pulls (front ++ u.bytes) → RestFails mid now failed_mid failed_new u fault → HeadFails start now failed_old failed_new fault
+rest_to_head start mid now a b d u front Read same h f = subst (λ (k : ℕ). HasRisen k d) same f
+rest_to_head start mid now a b d u front ReadNeverEnds same h f = f start front h
+rest_to_head start mid now a b d u front other same h f = absurd f
 
 pub returns-in_err-intake-clause-fails : goal.returns-in_err-intake-clause-fails
 returns-in_err-intake-clause-fails g c =
     let p = err_from_is_err_and c.from_residual.result c.from_residual.ensures.1 in
     rw (p.1, p.2) (stops_unread (g.S.Source.view c.args.source.now).remaining)
 
+pub returns-in_err-rest-clause-fails : goal.returns-in_err-rest-clause-fails
+returns-in_err-rest-clause-fails g c =
+    let p = err_from_is_err_and c.from_residual-in_err-rest.result c.from_residual-in_err-rest.ensures.1 in
+    let head = c.in_ok-head.ensures.found in
+    let first = g.S.Source.view c.args.source.now in
+    let mid = g.S.Source.view c.read_head.new.reader.source.now in
+    let last = g.S.Source.view c.count_rest.new.reader.source.now in
+    let fails = rest_to_head first.remaining mid.remaining last.remaining first.failed mid.failed last.failed c.read_head.new.reader.intake.now head.front c.in_err-rest.field-0.0
+    c.in_ok-head.ensures.unfailed head.pulled c.in_err-rest.ensures.fails in
+    rw (p.1, p.2) (read_last g.S.Source.view (λ v. HeadFails first.remaining v.remaining first.failed v.failed c.in_err-rest.field-0.0) _ c.count_rest.new.reader.source.now (search rules) fails)
+
 pub returns-clause-ok : goal.returns-clause-ok
 returns-clause-ok g c =
     let head = c.in_ok-head.ensures.found in
-    let counted = c.in_ok-rest.ensures.counts (g.S.Source.view c.args.source.now).remaining head.front head.pulled in
+    let first = g.S.Source.view c.args.source.now in
+    let counted = c.in_ok-rest.ensures.counts first.remaining head.front head.pulled in
     let reports = rw c.in_ok-stanzas.was at c.reports_of.ensures in (
       head.front ++ counted.0,
-      counted.2,
-      c.in_ok-rest.ensures.ended,
+      read_last g.S.Source.view (λ v. Consumes first.remaining v.remaining (head.front ++ counted.0)) _ c.count_rest.new.reader.source.now (search rules) counted.2,
+      read_last g.S.Source.view (λ v. IsAtEnd v.remaining) _ c.count_rest.new.reader.source.now (search rules) c.in_ok-rest.ensures.ended,
       record {
         h = c.in_ok-head.head.header;
         front = head.front;

@@ -8,8 +8,8 @@ use Rattle.age_file.proofs.Bytes.{answer_as}
 use Rattle.age_file.proofs.CountSteps.{mark_end}
 use Rattle.age_file.proofs.payload.close.Goals as goal
 
-pub returns-in_err-text : goal.returns-in_err-text
-returns-in_err-text g c =
+pub returns-in_err-text-clause-closed : goal.returns-in_err-text-clause-closed
+returns-in_err-text-clause-closed g c =
     let p = err_from_is_err_and c.from_residual.result c.from_residual.ensures.1 in
     let after = rw c.in_err-text.was at c.end.follows.holds-at-none in
     record {
@@ -27,8 +27,8 @@ returns-in_err-text g c =
       answered = rw (p.1, p.2) (after.fault, refl, refl, refl);
     }
 
-pub returns : goal.returns
-returns g c =
+pub returns-clause-closed : goal.returns-clause-closed
+returns-clause-closed g c =
     let after = rw c.in_ok-text.was at c.end.follows.holds-at-none in
     let put = c.write_all.ensures.writes in
     record {

@@ -3,7 +3,7 @@ use Rattle.std.proofs.lemmas.Result.{err_from_is_err_and}
 use Rattle.std.proofs.lemmas.List.{take_rest, take-append-drop, length-append, length-drop, append_assoc, take_at, take_all}
 use Rattle.age_file.specs.inner.Boxes.{opens}
 use Rattle.age_file.proofs.ReleaseSteps.{both_then, releases_none, releases_then, fails_then}
-use Rattle.age_file.specs.inner.Releases.{tally}
+use Rattle.age_file.specs.inner.Readers.{tally_of}
 use Rattle.age_file.proofs.payload.feed_piece.Goals as goal
 
 -- the front of what is left of a piece
@@ -19,8 +19,9 @@ all_of piece fed left at parts =
 
 pub loop-at-init : goal.loop-at-init
 loop-at-init g c =
-    let was = tally (g.O.Sink.view c.args.sink.now) c.args.progress.now in
+    let was = tally_of g.O.Sink.view c.args.writer.now in
     record {
+      same = refl;
       within = omega arith;
       releases = releases_none opens 65536 c.args.opener.now was;
       goes = (omega arith, refl, refl);
@@ -33,11 +34,12 @@ loop-at-preserved g c =
     let piece = c.args.piece.now in
     let at = c.loop-at.at in
     let both = both_then opens 65536 (take at piece) fed.fed (take (at + c.in_ok-at.field-0) piece) c.args.opener.now c.loop-at.opener c.feed_once.new.opener
-    (tally (g.O.Sink.view c.args.sink.now) c.args.progress.now)
-    (tally (g.O.Sink.view c.loop-at.sink) c.loop-at.progress)
-    (tally (g.O.Sink.view c.feed_once.new.sink) c.feed_once.new.progress) fed.unwritten
+    (tally_of g.O.Sink.view c.args.writer.now)
+    (tally_of g.O.Sink.view c.loop-at.writer)
+    (tally_of g.O.Sink.view c.feed_once.new.writer) fed.unwritten
     (on piece fed.fed fed.left at c.in_ok-at.field-0 fed.parts fed.answered.0) kept.releases kept.goes fed.releases fed.answered.1 in
     record {
+      same = c.in_ok-at.ensures.same ∙ kept.same;
       within = omega (arith, ap length fed.parts, length-append fed.fed fed.left, fed.answered.0, length-drop at piece, ap length (take_rest piece at), kept.within);
       releases = both.releases;
       goes = both.goes;
@@ -50,9 +52,9 @@ returns-in_err-at g c =
     let fed = c.in_err-at.ensures.fed in
     let piece = c.args.piece.now in
     let at = c.loop-at.at in
-    let was = tally (g.O.Sink.view c.args.sink.now) c.args.progress.now in
-    let mid = tally (g.O.Sink.view c.loop-at.sink) c.loop-at.progress in
-    let now = tally (g.O.Sink.view c.feed_once.new.sink) c.feed_once.new.progress in
+    let was = tally_of g.O.Sink.view c.args.writer.now in
+    let mid = tally_of g.O.Sink.view c.loop-at.writer in
+    let now = tally_of g.O.Sink.view c.feed_once.new.writer in
     record {
       fed = record {
         fed = take at piece ++ fed.fed;
@@ -62,6 +64,7 @@ returns-in_err-at g c =
         releases = releases_then opens 65536 (take at piece) fed.fed c.args.opener.now c.loop-at.opener c.feed_once.new.opener was mid now fed.unwritten kept.releases fed.releases;
         answered = rw (p.1, p.2) (fails_then opens 65536 (take at piece) c.args.opener.now c.loop-at.opener c.feed_once.new.opener was mid now fed.left fed.unwritten c.in_err-at.field-0.0 kept.goes fed.answered);
       };
+      same = c.in_err-at.ensures.same ∙ kept.same;
     }
 
 pub returns : goal.returns
@@ -78,4 +81,5 @@ returns g c =
         releases = kept.releases;
         answered = (refl, kept.goes);
       };
+      same = kept.same;
     }

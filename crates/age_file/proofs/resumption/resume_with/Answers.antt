@@ -1,4 +1,4 @@
-use Rattle.std.proofs.Common.{◌∙◌, ◌++◌, [], None, refl}
+use Rattle.std.proofs.Common.{◌∙◌, ◌++◌, [], None, refl, rules, Ok, Err}
 use Rattle.age_cipher.specs.Opening.{opening}
 use Rattle.std.proofs.KnownBytes.{Appends-nil, Consumes-nil}
 use Rattle.age_file.specs.inner.Releases.{tally}
@@ -6,6 +6,9 @@ use Rattle.age_file.specs.inner.Skips.{side}
 use Rattle.age_file.specs.inner.Payloads.{stage}
 use Rattle.age_file.specs.Ports.{ports}
 use Rattle.age_file.specs.Resumes.{resume_ports}
+use Rattle.age_file.specs.inner.Readers.{side_of, tally_of, stage_of}
+use Rattle.age_file.specs.ResumePromises.{ResumesText}
+use Rattle.age_file.proofs.ReaderSteps.{read_last, resume_last}
 use Rattle.age_file.proofs.Bytes.{stops_unread, preceded}
 use Rattle.age_file.proofs.ResumesPayloadSteps.{resumed_label}
 use Rattle.age_file.proofs.ResumeSteps.{again, start_fails, verdict_fails, copy_fails, resume_done, resume_fails}
@@ -24,70 +27,74 @@ returns-in_default g c = record {
 pub returns-in-Err : goal.returns-in-Err
 returns-in-Err g c =
     let old = resume_ports (ports (g.S.Source.view c.args.reader.now) (g.O.Sink.view c.args.writer.now)) (g.L.Source.view c.args.old_reader.now) in
-    let new = resume_ports (ports (g.S.Source.view c.start.new.source) (g.O.Sink.view c.args.writer.now)) (g.L.Source.view c.args.old_reader.now) in
+    let new = resume_ports (ports (g.S.Source.view c.start.new.reader.source.now) (g.O.Sink.view c.args.writer.now)) (g.L.Source.view c.args.old_reader.now) in
     let Allows = g.U.Unlock.allows c.args.unlock.now in
     let Refused = g.U.Unlock.refuses c.args.unlock.now in
     let fails = start_fails c.args.positions Allows Refused c.args.position.now old new c.in-Err.fault (Consumes-nil _) (Appends-nil _) c.in-Err.ensures.fails in
-    record {
+    read_last g.S.Source.view (λ v. ResumesText c.args.positions (g.U.Unlock.allows c.args.unlock.now) (g.U.Unlock.refuses c.args.unlock.now) c.args.position.now old (resume_ports (ports v (g.O.Sink.view c.args.writer.now)) (g.L.Source.view c.args.old_reader.now)) (Err c.early-in-Err.result)) _ c.start.new.reader.source.now (search rules)
+    (record {
       done = tt;
       stopped = rw c.early-in-Err.ensures fails;
       undamaged = λ text whole.
           rw c.early-in-Err.ensures (undamaged_rest c.one_header.ensures Allows Refused c.args.position.now old new text whole c.args.positions 0 None c.in-Err.fault fails);
       settled = tt;
       named = refl;
-    }
+    })
 
 pub returns-in-Err-verify : goal.returns-in-Err-verify
 returns-in-Err-verify g c =
     let old = resume_ports (ports (g.S.Source.view c.args.reader.now) (g.O.Sink.view c.args.writer.now)) (g.L.Source.view c.args.old_reader.now) in
-    let new = resume_ports (ports (g.S.Source.view c.start.new.source) (g.O.Sink.view c.args.writer.now)) (g.L.Source.view c.args.old_reader.now) in
+    let new = resume_ports (ports (g.S.Source.view c.start.new.reader.source.now) (g.O.Sink.view c.args.writer.now)) (g.L.Source.view c.args.old_reader.now) in
     let Allows = g.U.Unlock.allows c.args.unlock.now in
     let Refused = g.U.Unlock.refuses c.args.unlock.now in
-    let fails = verdict_fails c.args.positions Allows Refused c.args.position.now old new c.start.new.intake c.in-Ok.unlocked c.in-Err-verify.fault
+    let fails = verdict_fails c.args.positions Allows Refused c.args.position.now old new c.start.new.reader.intake.now c.in-Ok.unlocked c.in-Err-verify.fault
     (Appends-nil _) c.in-Ok.ensures.found c.in-Err-verify.ensures in
-    record {
+    read_last g.S.Source.view (λ v. ResumesText c.args.positions (g.U.Unlock.allows c.args.unlock.now) (g.U.Unlock.refuses c.args.unlock.now) c.args.position.now old (resume_ports (ports v (g.O.Sink.view c.args.writer.now)) (g.L.Source.view c.args.old_reader.now)) (Err c.early-in-Err-verify.result)) _ c.start.new.reader.source.now (search rules)
+    (record {
       done = tt;
       stopped = rw c.early-in-Err-verify.ensures fails;
       undamaged = λ text whole.
           rw c.early-in-Err-verify.ensures (undamaged_rest c.one_header.ensures Allows Refused c.args.position.now old new text whole c.args.positions 0 None c.in-Err-verify.fault fails);
       settled = tt;
       named = refl;
-    }
+    })
 
 pub returns-in-Err-copy_old : goal.returns-in-Err-copy_old
 returns-in-Err-copy_old g c =
     let first = tally (g.O.Sink.view c.args.writer.now) c.new-progress.result in
     let x = side (g.L.Source.view c.args.old_reader.now) c.count_on.new.self in
-    let z = side (g.L.Source.view c.copy_old.new.old_reader) c.copy_old.new.intake in
-    let s1 = stage (tally (g.O.Sink.view c.copy_old.new.writer) c.copy_old.new.progress) (g.S.Source.view c.start.new.source) c.start.new.intake in
+    let z = side_of g.L.Source.view c.copy_old.new.reader in
+    let s1 = stage (tally_of g.O.Sink.view c.copy_old.new.writer) (g.S.Source.view c.start.new.reader.source.now) c.start.new.reader.intake.now in
     let old = resume_ports (ports (g.S.Source.view c.args.reader.now) (g.O.Sink.view c.args.writer.now)) (g.L.Source.view c.args.old_reader.now) in
-    let new = resume_ports (ports (g.S.Source.view c.start.new.source) (g.O.Sink.view c.copy_old.new.writer)) (g.L.Source.view c.copy_old.new.old_reader) in
+    let new = resume_ports (ports (g.S.Source.view c.start.new.reader.source.now) (g.O.Sink.view c.copy_old.new.writer.sink.now)) (g.L.Source.view c.copy_old.new.reader.source.now) in
     let Allows = g.U.Unlock.allows c.args.unlock.now in
     let Refused = g.U.Unlock.refuses c.args.unlock.now in
     let fails = copy_fails c.args.positions Allows Refused c.args.position.now (g.S.Source.view c.args.reader.now) c.in-Ok.unlocked
-    s1 c.start.new.intake c.in-Ok.ensures.found c.in-Ok-verify.ensures c.in-Ok.ensures.unfailed first c.new-progress.ensures.written x z (c.count_on.ensures.bytes ∙ c.in-Ok-Ok.ensures'.0) c.count_on.ensures.pulls
-    c.in-Err-copy_old.fault c.in-Err-copy_old.ensures in
-    record {
+    s1 c.start.new.reader.intake.now c.in-Ok.ensures.found c.in-Ok-verify.ensures c.in-Ok.ensures.unfailed first c.new-progress.ensures.written x z (c.count_on.ensures.bytes ∙ c.in-Ok-Ok.ensures'.0) c.count_on.ensures.pulls
+    c.in-Err-copy_old.fault c.in-Err-copy_old.ensures.copied in
+    resume_last g.S.Source.view g.O.Sink.view g.L.Source.view (λ p. ResumesText c.args.positions (g.U.Unlock.allows c.args.unlock.now) (g.U.Unlock.refuses c.args.unlock.now) c.args.position.now old p (Err c.behind.result))
+    _ c.start.new.reader.source.now _ c.copy_old.new.writer.sink.now _ c.copy_old.new.reader.source.now (search rules) (search rules) (search rules)
+    (record {
       done = tt;
       stopped = rw c.behind.ensures fails;
       undamaged = λ text whole.
-          rw c.behind.ensures (undamaged_rest c.one_header.ensures Allows Refused c.args.position.now old new text whole c.args.positions c.copy_old.new.progress.written None c.in-Err-copy_old.fault fails);
+          rw c.behind.ensures (undamaged_rest c.one_header.ensures Allows Refused c.args.position.now old new text whole c.args.positions c.copy_old.new.writer.progress.written None c.in-Err-copy_old.fault fails);
       settled = tt;
-      named = c.in-Err-copy_old.ensures.named;
-    }
+      named = c.in-Err-copy_old.ensures.copied.named;
+    })
 
 pub open_rest-requires-clause-pulled : goal.open_rest-requires-clause-pulled
 open_rest-requires-clause-pulled g c =
     let first = tally (g.O.Sink.view c.args.writer.now) c.new-progress.result in
     let x = side (g.L.Source.view c.args.old_reader.now) c.count_on.new.self in
-    let z = side (g.L.Source.view c.copy_old.new.old_reader) c.copy_old.new.intake in
-    let s1 = stage (tally (g.O.Sink.view c.copy_old.new.writer) c.copy_old.new.progress) (g.S.Source.view c.start.new.source) c.count_on-2.new.self in
+    let z = side_of g.L.Source.view c.copy_old.new.reader in
+    let s1 = stage (tally_of g.O.Sink.view c.copy_old.new.writer) (g.S.Source.view c.start.new.reader.source.now) c.count_on-2.new.self in
     let found = c.in-Ok.ensures.found in
-    let copied = c.in-Ok-copy_old.ensures in (
+    let copied = c.in-Ok-copy_old.ensures.copied in (
       preceded (copied.out ++ z.unread.bytes) (g.S.Source.view c.args.reader.now).remaining,
       (copied.out ++ z.unread.bytes) ++ (found.front ++ c.in-Ok.unlocked.nonce),
       again c.args.positions (g.U.Unlock.allows c.args.unlock.now) (g.U.Unlock.refuses c.args.unlock.now) c.args.position.now (g.S.Source.view c.args.reader.now) c.in-Ok.unlocked
-          s1 c.start.new.intake found c.in-Ok-verify.ensures c.in-Ok.ensures.unfailed first c.new-progress.ensures.written x z (c.count_on.ensures.bytes ∙ c.in-Ok-Ok.ensures'.0) c.count_on.ensures.pulls
+          s1 c.start.new.reader.intake.now found c.in-Ok-verify.ensures c.in-Ok.ensures.unfailed first c.new-progress.ensures.written x z (c.count_on.ensures.bytes ∙ c.in-Ok-Ok.ensures'.0) c.count_on.ensures.pulls
           copied c.args.position.now.within c.count_on-2.ensures.bytes c.count_on-2.ensures.pulls,
     )
 
@@ -95,44 +102,48 @@ pub returns-in-Ok-open_rest : goal.returns-in-Ok-open_rest
 returns-in-Ok-open_rest g c =
     let first = tally (g.O.Sink.view c.args.writer.now) c.new-progress.result in
     let x = side (g.L.Source.view c.args.old_reader.now) c.count_on.new.self in
-    let z = side (g.L.Source.view c.copy_old.new.old_reader) c.copy_old.new.intake in
-    let s1 = stage (tally (g.O.Sink.view c.copy_old.new.writer) c.copy_old.new.progress) (g.S.Source.view c.start.new.source) c.count_on-2.new.self in
-    let s2 = stage (tally (g.O.Sink.view c.open_rest.new.writer) c.open_rest.new.progress) (g.S.Source.view c.open_rest.new.reader) c.open_rest.new.intake in
+    let z = side_of g.L.Source.view c.copy_old.new.reader in
+    let s1 = stage (tally_of g.O.Sink.view c.copy_old.new.writer) (g.S.Source.view c.start.new.reader.source.now) c.count_on-2.new.self in
+    let s2 = stage_of g.S.Source.view g.O.Sink.view c.open_rest.new.reader c.open_rest.new.writer in
     let old = resume_ports (ports (g.S.Source.view c.args.reader.now) (g.O.Sink.view c.args.writer.now)) (g.L.Source.view c.args.old_reader.now) in
-    let new = resume_ports (ports (g.S.Source.view c.open_rest.new.reader) (g.O.Sink.view c.open_rest.new.writer)) (g.L.Source.view c.copy_old.new.old_reader) in
+    let new = resume_ports (ports (g.S.Source.view c.open_rest.new.reader.source.now) (g.O.Sink.view c.open_rest.new.writer.sink.now)) (g.L.Source.view c.copy_old.new.reader.source.now) in
     let Allows = g.U.Unlock.allows c.args.unlock.now in
     let Refused = g.U.Unlock.refuses c.args.unlock.now in
     let done = resume_done c.args.positions Allows Refused c.args.position.now (g.S.Source.view c.args.reader.now) c.in-Ok.unlocked
-    s1 c.start.new.intake c.in-Ok.ensures.found c.in-Ok-verify.ensures c.in-Ok.ensures.unfailed first c.new-progress.ensures.written x z (c.count_on.ensures.bytes ∙ c.in-Ok-Ok.ensures'.0) c.count_on.ensures.pulls
-    c.in-Ok-copy_old.ensures c.args.position.now.within c.count_on-2.ensures.bytes c.count_on-2.ensures.pulls c.payload_key-key.result s2 c.payload_key-key.ensures c.in-Ok-open_rest.ensures.resumes in
-    record {
+    s1 c.start.new.reader.intake.now c.in-Ok.ensures.found c.in-Ok-verify.ensures c.in-Ok.ensures.unfailed first c.new-progress.ensures.written x z (c.count_on.ensures.bytes ∙ c.in-Ok-Ok.ensures'.0) c.count_on.ensures.pulls
+    c.in-Ok-copy_old.ensures.copied c.args.position.now.within c.count_on-2.ensures.bytes c.count_on-2.ensures.pulls c.payload_key-key.result s2 c.payload_key-key.ensures c.in-Ok-open_rest.ensures.resumes in
+    resume_last g.S.Source.view g.O.Sink.view g.L.Source.view (λ p. ResumesText c.args.positions (g.U.Unlock.allows c.args.unlock.now) (g.U.Unlock.refuses c.args.unlock.now) c.args.position.now old p (Ok (record { written = c.open_rest.new.writer.progress.written })))
+    _ c.open_rest.new.reader.source.now _ c.open_rest.new.writer.sink.now _ c.copy_old.new.reader.source.now (search rules) (search rules) (search rules)
+    (record {
       done = done;
       stopped = tt;
       undamaged = λ text whole. undamaged_rest_done c.one_header.ensures Allows Refused c.args.position.now old new text whole _ done.0 done.1;
       settled = c.in-Ok-open_rest.ensures.settled;
-      named = resumed_label (λ nonce block. opening c.payload_key-key.result nonce [] block) c.args.position.now.index s1 s2 _ c.in-Ok-open_rest.ensures.resumes ∙ c.in-Ok-copy_old.ensures.named;
-    }
+      named = resumed_label (λ nonce block. opening c.payload_key-key.result nonce [] block) c.args.position.now.index s1 s2 _ c.in-Ok-open_rest.ensures.resumes ∙ c.in-Ok-copy_old.ensures.copied.named;
+    })
 
 pub returns : goal.returns
 returns g c =
     let first = tally (g.O.Sink.view c.args.writer.now) c.new-progress.result in
     let x = side (g.L.Source.view c.args.old_reader.now) c.count_on.new.self in
-    let z = side (g.L.Source.view c.copy_old.new.old_reader) c.copy_old.new.intake in
-    let s1 = stage (tally (g.O.Sink.view c.copy_old.new.writer) c.copy_old.new.progress) (g.S.Source.view c.start.new.source) c.count_on-2.new.self in
-    let s2 = stage (tally (g.O.Sink.view c.open_rest.new.writer) c.open_rest.new.progress) (g.S.Source.view c.open_rest.new.reader) c.open_rest.new.intake in
+    let z = side_of g.L.Source.view c.copy_old.new.reader in
+    let s1 = stage (tally_of g.O.Sink.view c.copy_old.new.writer) (g.S.Source.view c.start.new.reader.source.now) c.count_on-2.new.self in
+    let s2 = stage_of g.S.Source.view g.O.Sink.view c.open_rest.new.reader c.open_rest.new.writer in
     let old = resume_ports (ports (g.S.Source.view c.args.reader.now) (g.O.Sink.view c.args.writer.now)) (g.L.Source.view c.args.old_reader.now) in
-    let new = resume_ports (ports (g.S.Source.view c.open_rest.new.reader) (g.O.Sink.view c.open_rest.new.writer)) (g.L.Source.view c.copy_old.new.old_reader) in
+    let new = resume_ports (ports (g.S.Source.view c.open_rest.new.reader.source.now) (g.O.Sink.view c.open_rest.new.writer.sink.now)) (g.L.Source.view c.copy_old.new.reader.source.now) in
     let Allows = g.U.Unlock.allows c.args.unlock.now in
     let Refused = g.U.Unlock.refuses c.args.unlock.now in
     let fails = resume_fails c.args.positions Allows Refused c.args.position.now (g.S.Source.view c.args.reader.now) c.in-Ok.unlocked
-    s1 c.start.new.intake c.in-Ok.ensures.found c.in-Ok-verify.ensures c.in-Ok.ensures.unfailed first c.new-progress.ensures.written x z (c.count_on.ensures.bytes ∙ c.in-Ok-Ok.ensures'.0) c.count_on.ensures.pulls
-    c.in-Ok-copy_old.ensures c.args.position.now.within c.count_on-2.ensures.bytes c.count_on-2.ensures.pulls c.payload_key-key.result s2 c.position_of-next.result c.in-Err-open_rest.fault c.payload_key-key.ensures
+    s1 c.start.new.reader.intake.now c.in-Ok.ensures.found c.in-Ok-verify.ensures c.in-Ok.ensures.unfailed first c.new-progress.ensures.written x z (c.count_on.ensures.bytes ∙ c.in-Ok-Ok.ensures'.0) c.count_on.ensures.pulls
+    c.in-Ok-copy_old.ensures.copied c.args.position.now.within c.count_on-2.ensures.bytes c.count_on-2.ensures.pulls c.payload_key-key.result s2 c.position_of-next.result c.in-Err-open_rest.fault c.payload_key-key.ensures
     c.position_of-next.ensures c.in-Err-open_rest.ensures.resumes in
-    record {
+    resume_last g.S.Source.view g.O.Sink.view g.L.Source.view (λ p. ResumesText c.args.positions (g.U.Unlock.allows c.args.unlock.now) (g.U.Unlock.refuses c.args.unlock.now) c.args.position.now old p (Err c.behind-in-Err-open_rest.result))
+    _ c.open_rest.new.reader.source.now _ c.open_rest.new.writer.sink.now _ c.copy_old.new.reader.source.now (search rules) (search rules) (search rules)
+    (record {
       done = tt;
       stopped = rw c.behind-in-Err-open_rest.ensures fails;
       undamaged = λ text whole.
-          rw c.behind-in-Err-open_rest.ensures (undamaged_rest c.one_header.ensures Allows Refused c.args.position.now old new text whole c.args.positions c.open_rest.new.progress.written c.position_of-next.result c.in-Err-open_rest.fault fails);
+          rw c.behind-in-Err-open_rest.ensures (undamaged_rest c.one_header.ensures Allows Refused c.args.position.now old new text whole c.args.positions c.open_rest.new.writer.progress.written c.position_of-next.result c.in-Err-open_rest.fault fails);
       settled = tt;
-      named = resumed_label (λ nonce block. opening c.payload_key-key.result nonce [] block) c.args.position.now.index s1 s2 _ c.in-Err-open_rest.ensures.resumes ∙ c.in-Ok-copy_old.ensures.named;
-    }
+      named = resumed_label (λ nonce block. opening c.payload_key-key.result nonce [] block) c.args.position.now.index s1 s2 _ c.in-Err-open_rest.ensures.resumes ∙ c.in-Ok-copy_old.ensures.copied.named;
+    })

@@ -1,18 +1,19 @@
-use Rattle.std.proofs.Common.{◌++◌, refl, take, arith}
+use Rattle.std.proofs.Common.{◌++◌, ◌∙◌, refl, take, arith}
 use Rattle.std.proofs.lemmas.Result.{err_from_is_err_and}
 use Rattle.std.proofs.lemmas.List.{length-append, length-take}
 use Rattle.age_file.specs.inner.Skips.{side}
 use Rattle.age_file.proofs.StartSteps.{uses_front}
 use Rattle.age_file.proofs.SkipSteps.{passes_then, passes_same, dries_same}
+use Rattle.age_file.specs.inner.Readers.{side_of}
 use Rattle.age_file.proofs.skip.skip_block.Goals as goal
 
-pub returns-then-not-branch : goal.returns-then-not-branch
-returns-then-not-branch g c =
+pub returns-then-not-branch-clause-skipped : goal.returns-then-not-branch-clause-skipped
+returns-then-not-branch-clause-skipped g c =
     let kept = c.parts.invariant in
     let r = rw c.if-not-branch.true at c.in_ok-some_bytes.ensures.answers in
-    let old = side (g.S.Source.view c.args.source.now) c.args.intake.now in
-    let mid = side (g.S.Source.view c.parts.source) c.parts.intake in
-    let new = side (g.S.Source.view c.some_bytes.new.source) c.some_bytes.new.intake in (
+    let old = side_of g.S.Source.view c.args.reader.now in
+    let mid = side_of g.S.Source.view c.parts.reader in
+    let new = side_of g.S.Source.view c.some_bytes.new.reader in (
       kept.passed,
       omega (arith, kept.size, c.parts-test.true),
       passes_same old mid new kept.passed kept.passes (record { uses = c.some_bytes.ensures.uses; unfailed = r.2 }),
@@ -20,14 +21,14 @@ returns-then-not-branch g c =
       r.1,
     )
 
-pub returns-in_err-some_bytes : goal.returns-in_err-some_bytes
-returns-in_err-some_bytes g c =
+pub returns-in_err-some_bytes-clause-skipped : goal.returns-in_err-some_bytes-clause-skipped
+returns-in_err-some_bytes-clause-skipped g c =
     let p = err_from_is_err_and c.from_residual.result c.from_residual.ensures.1 in
     let kept = c.parts.invariant in
     let a = c.in_err-some_bytes.ensures.answers in
-    let old = side (g.S.Source.view c.args.source.now) c.args.intake.now in
-    let mid = side (g.S.Source.view c.parts.source) c.parts.intake in
-    let new = side (g.S.Source.view c.some_bytes.new.source) c.some_bytes.new.intake in
+    let old = side_of g.S.Source.view c.args.reader.now in
+    let mid = side_of g.S.Source.view c.parts.reader in
+    let new = side_of g.S.Source.view c.some_bytes.new.reader in
     rw (p.1, p.2) (
       kept.passed,
       omega (arith, kept.size, c.parts-test.true),
@@ -38,14 +39,15 @@ pub parts-preserved : goal.parts-preserved
 parts-preserved g c =
     let kept = c.parts.invariant in
     let r = rw c.if-not-branch.false at c.in_ok-some_bytes.ensures.answers in
-    let old = side (g.S.Source.view c.args.source.now) c.args.intake.now in
-    let mid = side (g.S.Source.view c.parts.source) c.parts.intake in
-    let there = side (g.S.Source.view c.some_bytes.new.source) c.some_bytes.new.intake in
-    let new = side (g.S.Source.view c.some_bytes.new.source) c.use_front.new.self in
+    let old = side_of g.S.Source.view c.args.reader.now in
+    let mid = side_of g.S.Source.view c.parts.reader in
+    let there = side_of g.S.Source.view c.some_bytes.new.reader in
+    let new = side (g.S.Source.view c.some_bytes.new.reader.source.now) c.use_front.new.self in
     let n = c.min-n.result in
     let piece = c.bytes.result.now in
-    let front = uses_front (g.S.Source.view c.some_bytes.new.source).remaining c.some_bytes.new.intake c.use_front.new.self piece n c.use_front.ensures.pulls c.bytes.ensures.bytes c.use_front.ensures.bytes in
+    let front = uses_front (g.S.Source.view c.some_bytes.new.reader.source.now).remaining c.some_bytes.new.reader.intake.now c.use_front.new.self piece n c.use_front.ensures.pulls c.bytes.ensures.bytes c.use_front.ensures.bytes in
     record {
+      same = (c.in_ok-some_bytes.ensures.same.0 ∙ kept.same.0, c.in_ok-some_bytes.ensures.same.1 ∙ kept.same.1);
       passed = kept.passed ++ take n piece;
       size = omega (arith, kept.size, c.min-n.ensures, length-append kept.passed (take n piece), length-take n piece);
       passes = passes_then old there new kept.passed (take n piece) (passes_same old mid there kept.passed kept.passes (record { uses = c.some_bytes.ensures.uses; unfailed = r.1 })) (record { uses = front; unfailed = refl });

@@ -1,10 +1,12 @@
 use Rattle.std.proofs.Common.{◌≡◌, ◌*◌, ℕ, List, length}
-use Rattle.age_file.specs.inner.Skips.{side, Passes}
+use Rattle.age_file.specs.inner.Skips.{Passes}
+use Rattle.age_file.specs.inner.Readers.{side_of, SameReader}
 use Rattle.age_file.proofs.skip.skip_blocks.Given as goal
 
 abbrev pub invariant-loop-block : goal.invariant-loop-block
 invariant-loop-block g l = record {
+  same : SameReader l.fn.reader l.reader;
   passed : List ℕ;
   size : length passed ≡ l.block * 65552;
-  passes : Passes (side (g.S.Source.view l.fn.source) l.fn.intake) (side (g.S.Source.view l.source) l.intake) passed;
+  passes : Passes (side_of g.S.Source.view l.fn.reader) (side_of g.S.Source.view l.reader) passed;
 }

@@ -13,7 +13,7 @@ returns-then-not-branch-clause-fails g c =
       (
         short,
         omega (arith, length-take c.parts.have c.parts.nonce),
-        uses_then (g.S.Source.view c.args.source.now).remaining (g.S.Source.view c.parts.source).remaining (g.S.Source.view c.some_bytes.new.source).remaining c.args.intake.now c.parts.intake c.some_bytes.new.intake short [] short (append-nil short) kept.uses c.some_bytes.ensures.uses,
+        uses_then (g.S.Source.view c.args.reader.now.source.now).remaining (g.S.Source.view c.parts.reader.source.now).remaining (g.S.Source.view c.some_bytes.new.reader.source.now).remaining c.args.reader.now.intake.now c.parts.reader.intake.now c.some_bytes.new.reader.intake.now short [] short (append-nil short) kept.uses c.some_bytes.ensures.uses,
         r.0,
       ),
       r.1,
@@ -23,7 +23,7 @@ pub returns-in_err-some_bytes-clause-fails : goal.returns-in_err-some_bytes-clau
 returns-in_err-some_bytes-clause-fails g c =
     let p = err_from_is_err_and c.from_residual.result c.from_residual.ensures.1 in
     let kept = c.parts.invariant in
-    rw (p.1, p.2) (nonce_fails (g.S.Source.view c.args.source.now).remaining (g.S.Source.view c.parts.source).remaining (g.S.Source.view c.some_bytes.new.source).remaining _ _ _ c.args.intake.now c.parts.intake c.some_bytes.new.intake (take c.parts.have c.parts.nonce) c.in_err-some_bytes.field-0.0 (omega (arith, length-take c.parts.have c.parts.nonce)) kept.unfailed kept.uses c.some_bytes.ensures.uses c.in_err-some_bytes.ensures.answers.0 c.in_err-some_bytes.ensures.answers.1)
+    rw (p.1, p.2) (nonce_fails (g.S.Source.view c.args.reader.now.source.now).remaining (g.S.Source.view c.parts.reader.source.now).remaining (g.S.Source.view c.some_bytes.new.reader.source.now).remaining _ _ _ c.args.reader.now.intake.now c.parts.reader.intake.now c.some_bytes.new.reader.intake.now (take c.parts.have c.parts.nonce) c.in_err-some_bytes.field-0.0 (omega (arith, length-take c.parts.have c.parts.nonce)) kept.unfailed kept.uses c.some_bytes.ensures.uses c.in_err-some_bytes.ensures.answers.0 c.in_err-some_bytes.ensures.answers.1)
 
 pub parts-preserved : goal.parts-preserved
 parts-preserved g c =
@@ -32,12 +32,13 @@ parts-preserved g c =
     let n = c.copy_some-n.result in
     let piece = c.bytes.result.now in
     let short = take c.parts.have c.parts.nonce in
-    let there = uses_then (g.S.Source.view c.args.source.now).remaining (g.S.Source.view c.parts.source).remaining (g.S.Source.view c.some_bytes.new.source).remaining c.args.intake.now c.parts.intake c.some_bytes.new.intake short [] short (append-nil short) kept.uses c.some_bytes.ensures.uses in
+    let there = uses_then (g.S.Source.view c.args.reader.now.source.now).remaining (g.S.Source.view c.parts.reader.source.now).remaining (g.S.Source.view c.some_bytes.new.reader.source.now).remaining c.args.reader.now.intake.now c.parts.reader.intake.now c.some_bytes.new.reader.intake.now short [] short (append-nil short) kept.uses c.some_bytes.ensures.uses in
     record {
+      same = (c.in_ok-some_bytes.ensures.same.0 ∙ kept.same.0, c.in_ok-some_bytes.ensures.same.1 ∙ kept.same.1);
       most = omega (arith, kept.most, c.copy_some-n.ensures.count);
       room = c.copy_some-n.array_long;
-      uses = uses_then (g.S.Source.view c.args.source.now).remaining (g.S.Source.view c.some_bytes.new.source).remaining (g.S.Source.view c.some_bytes.new.source).remaining c.args.intake.now c.some_bytes.new.intake c.use_front.new.self short (take n piece) (take (c.parts.have + n) c.copy_some-n.new.into)
-          (sym c.copy_some-n.ensures.bytes) there (uses_front (g.S.Source.view c.some_bytes.new.source).remaining c.some_bytes.new.intake c.use_front.new.self piece n c.use_front.ensures.pulls c.bytes.ensures.bytes c.use_front.ensures.bytes);
+      uses = uses_then (g.S.Source.view c.args.reader.now.source.now).remaining (g.S.Source.view c.some_bytes.new.reader.source.now).remaining (g.S.Source.view c.some_bytes.new.reader.source.now).remaining c.args.reader.now.intake.now c.some_bytes.new.reader.intake.now c.use_front.new.self short (take n piece) (take (c.parts.have + n) c.copy_some-n.new.into)
+          (sym c.copy_some-n.ensures.bytes) there (uses_front (g.S.Source.view c.some_bytes.new.reader.source.now).remaining c.some_bytes.new.reader.intake.now c.use_front.new.self piece n c.use_front.ensures.pulls c.bytes.ensures.bytes c.use_front.ensures.bytes);
       unfailed = r.1 ∙ kept.unfailed;
     }
 
@@ -45,4 +46,4 @@ pub returns-clause-found : goal.returns-clause-found
 returns-clause-found g c =
     let kept = c.parts.invariant in
     let whole : take c.parts.have c.parts.nonce ≡ c.parts.nonce = take_all c.parts.have c.parts.nonce (omega (arith, kept.room)) in
-    subst (λ (t : List ℕ). Uses (g.S.Source.view c.args.source.now).remaining (g.S.Source.view c.parts.source).remaining c.args.intake.now c.parts.intake t) whole kept.uses
+    subst (λ (t : List ℕ). Uses (g.S.Source.view c.args.reader.now.source.now).remaining (g.S.Source.view c.parts.reader.source.now).remaining c.args.reader.now.intake.now c.parts.reader.intake.now t) whole kept.uses

@@ -1,13 +1,15 @@
 use Rattle.std.proofs.Common.{◌-◌, ◌≡◌, ◌≤◌, take, length}
 use Rattle.age_file.specs.inner.Starts.{Uses}
+use Rattle.age_file.specs.inner.Readers.{SameReader}
 use Rattle.age_file.proofs.start.take_nonce.Given as goal
 
 abbrev pub invariant-parts : goal.invariant-parts
 invariant-parts g l = record {
+  same : SameReader l.fn.reader l.reader;
   most : l.have ≤ 16;
   room : length l.nonce ≡ 16;
-  uses : Uses (g.S.Source.view l.fn.source).remaining (g.S.Source.view l.source).remaining l.fn.intake l.intake (take l.have l.nonce);
-  unfailed : (g.S.Source.view l.source).failed ≡ (g.S.Source.view l.fn.source).failed;
+  uses : Uses (g.S.Source.view l.fn.reader.source.now).remaining (g.S.Source.view l.reader.source.now).remaining l.fn.reader.intake.now l.reader.intake.now (take l.have l.nonce);
+  unfailed : (g.S.Source.view l.reader.source.now).failed ≡ (g.S.Source.view l.fn.reader.source.now).failed;
 }
 
 abbrev pub decreases-parts : goal.decreases-parts
