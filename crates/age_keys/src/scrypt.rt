@@ -13,7 +13,7 @@ use crate::key::FileKey;
 use crate::open::{is_scrypt, mac_of};
 use crate::wrap::wrapped;
 use age_scrypt::Steps;
-use age_stanza::{Arguments, Bytes, Header, Stanza, Stanzas, read_base64};
+use age_stanza::{Argument, Arguments, Bytes, Header, Stanza, Stanzas, read_base64};
 use base64::engine::general_purpose::STANDARD_NO_PAD;
 use std::alloc::{AllocError, Global};
 
@@ -118,9 +118,9 @@ fn scrypt_stanza(
     ensures { IfOk result (λ stanza. stanza ≡ scrypt_stanza salt.now log body.now) }
 {
     let mut args = Arguments::new(alloc);
-    args.push(Bytes::from_vec(b"scrypt".to_vec(alloc)?))?;
-    args.push(Bytes::from_vec(STANDARD_NO_PAD.encode(alloc, salt)?.into_bytes()))?;
-    args.push(Bytes::from_vec(log.to_string(alloc)?.into_bytes()))?;
+    args.push(Argument::from_slice(alloc, b"scrypt")?)?;
+    args.push(Argument::from_slice(alloc, STANDARD_NO_PAD.encode(alloc, salt)?.as_bytes())?)?;
+    args.push(Argument::from_slice(alloc, log.to_string(alloc)?.as_bytes())?)?;
     Ok(Stanza {
         args,
         body: Bytes::from_vec(body.to_vec(alloc)?),

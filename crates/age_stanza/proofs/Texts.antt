@@ -1,11 +1,12 @@
 -- The text of bytes, and the bytes of a text.
-use Rattle.std.proofs.Common.{◌≡◌, ℕ, zero, suc, ◌+◌, ◌*◌, ◌/◌, ◌%◌, true, not, ltb, eqb, List, [], ◌∷◌, ◌++◌, length, get_or, take, drop, Option, Some, None, Result, Ok, Err, refl, sym, ap, ◌∙◌, arith}
+use Rattle.std.proofs.Common.{◌≡◌, ℕ, zero, suc, ◌+◌, ◌≤◌, ◌*◌, ◌/◌, ◌%◌, true, not, ltb, eqb, List, [], ◌∷◌, ◌++◌, length, get_or, take, drop, Option, Some, None, Result, Ok, Err, refl, sym, ap, subst, ◌∙◌, arith}
 use Rattle.std.specs.List.{list_all, AllByRecursion}
+use Rattle.std.specs.Prelude.{IfOk, IfErr, IfSome, IfNone}
 use Rattle.std.specs.Result.{result_ok}
 use Rattle.std.proofs.lemmas.Bool.{ltb-true, lt-ltb, and_parts, and_from, eqb-false, not-true}
 use Rattle.std.proofs.lemmas.List.{append-nil, get_or-drop, take-append-drop}
 use Rattle.std.proofs.lemmas.Option.{cond_some}
-use Rattle.base64.specs.GeneralPurpose.{IsBytes, decode_of, encode_of, engine_symbols}
+use Rattle.base64.specs.GeneralPurpose.{IsBytes, IsDecodedInto, decode_of, encode_of, engine_symbols}
 use Rattle.base64.specs.Engines.{standard_no_pad}
 use Rattle.base64.specs.Rfc4648.{encode_symbols}
 use Rattle.base64.specs.declared.decode.DecodeError.{DecodeError}
@@ -28,6 +29,22 @@ bytes_from_pass (x ∷ xs) h (suc i) = bytes_from_pass xs (and_parts (ltb x 256)
 pub decoded_is : (s b : List ℕ) → decode_of standard_no_pad s ≡ Ok b → IsBytes b → Some b ≡ decoded s
 unfolding decoded
 decoded_is s b e fits = rw (e, bytes_pass b fits) refl
+
+not_decoded : (s : List ℕ) (error : DecodeError) → decode_of standard_no_pad s ≡ Err error → decoded s ≡ None
+unfolding decoded
+not_decoded s error e = rw e refl
+
+-- what a line that was read into some room decodes to
+pub line_read : (s old out : List ℕ) (r : Result ℕ DecodeError) → IsBytes out → length old ≡ 48 → IfOk r (λ n. IsDecodedInto standard_no_pad s n old out)
+    → IfSome (result_ok r) (λ n. (n ≤ 48) × (decoded s ≡ Some (take n out)))
+line_read s old out (Ok n) fits size h =
+    let front : IsBytes (take n out) = front_bytes (take n out) (drop n out) (subst IsBytes (sym (take-append-drop n out)) fits) in
+    (omega (arith, h.2, size), sym (decoded_is s (take n out) h.0 front))
+line_read s old out (Err e) fits size h = tt
+
+pub line_refused : (s : List ℕ) (r : Result ℕ DecodeError) → IfErr r (λ e. decode_of standard_no_pad s ≡ Err e) → IfNone (result_ok r) (decoded s ≡ None)
+line_refused s (Ok n) h = tt
+line_refused s (Err e) h = not_decoded s e h
 
 -- ---- lists of bytes
 

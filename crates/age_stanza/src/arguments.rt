@@ -5,7 +5,8 @@ ghost use Rattle.std.specs.List.{position};
 ghost use Rattle.age_stanza.specs.Grammar.{IsArgument};
 ghost use Rattle.age_stanza.specs.inner.LineMachine.{arguments_from, arguments_of as spec_arguments_of};
 
-use crate::bytes::{Arguments, Bytes};
+use crate::argument::Argument;
+use crate::bytes::Arguments;
 use crate::lawful::is_argument;
 use std::alloc::{AllocError, Global};
 
@@ -18,7 +19,7 @@ fn push_lawful(alloc: Global, args: &mut Arguments, characters: &[u8]) -> Result
     if !is_argument(characters) {
         return Ok(false);
     }
-    args.push(Bytes::from_slice(alloc, characters)?)?;
+    args.push(Argument::from_slice(alloc, characters)?)?;
     Ok(true)
 }
 

@@ -8,7 +8,7 @@ ghost use Rattle.age_stanza.specs.Grammar.{IsArgument, HasText, in_lines};
 ghost use Rattle.age_stanza.specs.inner.Lengths.{HasArguments, Leaves, LeavesBehindStanza, IsTextLength};
 
 use crate::HEAD_MAX;
-use crate::bytes::Bytes;
+use crate::argument::Argument;
 use crate::header::{Header, Stanza};
 
 /// Whether all bytes are visible ASCII characters.
@@ -35,7 +35,7 @@ fn has_arguments(stanza: &Stanza) -> bool
 }
 
 /// What arguments leave of some room, each with the space before it.
-fn room_behind_arguments(room: usize, args: &[Bytes]) -> Option<usize>
+fn room_behind_arguments(room: usize, args: &[Argument]) -> Option<usize>
     ensures { Leaves room (length (flat_map (λ a. 32 ∷ a) args.now)) result }
 {
     let mut left = room;

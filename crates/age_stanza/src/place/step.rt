@@ -7,7 +7,7 @@ use crate::arguments::arguments_of;
 use crate::bytes::{Arguments, Bytes};
 use crate::fault::HeadKind;
 use crate::header::{Header, Stanza, Stanzas};
-use crate::text::{decode, mac_of};
+use crate::text::{LINE_BYTES, decode_line, mac_of};
 use std::alloc::Global;
 
 /// The first line: the version, an armored file's first line, or that of no age file.
@@ -50,7 +50,6 @@ fn begin(alloc: Global, stanzas: Stanzas, line: &[u8]) -> Result<Next, HeadKind>
 /// A line of a body. One of fewer than 64 characters is its last.
 #[tactic(auto, unfolding(crate::specs::inner::LineMachine::step))]
 fn body_line(
-    alloc: Global,
     mut stanzas: Stanzas,
     args: Arguments,
     mut body: Bytes,
@@ -61,10 +60,11 @@ fn body_line(
     if line.len() > 64 {
         return Err(HeadKind::BadBody);
     }
-    let Some(more) = decode(alloc, line)? else {
+    let mut room = [0; LINE_BYTES];
+    let Some(len) = decode_line(line, &mut room) else {
         return Err(HeadKind::BadBody);
     };
-    body.extend_from_slice(more.as_slice())?;
+    body.extend_from_slice(&room[..len])?;
     if line.len() == 64 {
         return Ok(Next::Go(Place::InBody(stanzas, args, body)));
     }
@@ -86,6 +86,6 @@ pub(crate) fn step(alloc: Global, place: Place, line: &[u8]) -> Result<Next, Hea
                 begin(alloc, stanzas, line)
             }
         }
-        Place::InBody(stanzas, args, body) => body_line(alloc, stanzas, args, body, line),
+        Place::InBody(stanzas, args, body) => body_line(stanzas, args, body, line),
     }
 }
