@@ -1,11 +1,13 @@
 //! Which headers have a text, and how long it is.
 
-ghost use Rattle.std.specs.Prelude.{◌≡◌, ◌↔◌, ◌≤◌, ◌+◌, ◌*◌, ◌/◌, ◌∷◌, ◌&&◌, IsTrue, length, nat_le};
+ghost use Rattle.std.specs.Prelude.{◌≡◌, ◌↔◌, ◌≤◌, ◌+◌, ◌*◌, ◌/◌, ◌∷◌, ◌&&◌, IsTrue, length};
+ghost use Rattle.std.specs.Prelude.{nat_le};
 ghost use Rattle.std.specs.List.{flat_map, list_all};
 ghost use Rattle.base64.specs.GeneralPurpose.{IsBytes};
 ghost use Rattle.age_stanza.specs.Text.{text};
 ghost use Rattle.age_stanza.specs.Grammar.{IsArgument, HasText, in_lines};
-ghost use Rattle.age_stanza.specs.inner.Lengths.{HasArguments, Leaves, LeavesBehindStanza, IsTextLength};
+ghost use Rattle.age_stanza.specs.inner.Lengths.{HasArguments, Leaves, LeavesBehindStanza};
+ghost use Rattle.age_stanza.specs.inner.Lengths.{IsTextLength};
 
 use crate::HEAD_MAX;
 use crate::argument::Argument;

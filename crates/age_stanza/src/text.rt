@@ -1,10 +1,11 @@
 //! Base64 without padding, and canonical: the unused low bits of the last
 //! character are zero (RFC 4648, sections 3.5 and 4).
 
-ghost use Rattle.std.specs.Prelude.{◌≡◌, ◌≢◌, ◌≤◌, ℕ, List, length, take, Some, None, IfSome, IfNone};
+ghost use Rattle.std.specs.Prelude.{◌≡◌, ◌≢◌, ◌≤◌, ℕ, List, length, take, Some, None, IfSome};
+ghost use Rattle.std.specs.Prelude.{IfNone};
 ghost use Rattle.std.specs.Bool.{OnTrue, OnFalse};
 ghost use Rattle.base64.specs.GeneralPurpose.{IsBytes};
-ghost use Rattle.age_stanza.specs.inner.LineMachine.{decoded, mac_of as spec_mac_of};
+ghost use Rattle.age_stanza.specs.inner.LineMachine.{base64_bytes, mac_of as spec_mac_of};
 ghost use Rattle.age_stanza.specs.Text.{text};
 
 use base64::engine::general_purpose::STANDARD_NO_PAD;
@@ -18,8 +19,8 @@ pub(crate) fn decode_line(line: &[u8], room: &mut [u8]) -> Option<usize>
     requires line { length line.now ≤ 64 }
     requires room { length room.old ≡ 48 }
     ensures read { IfSome result (λ len. (len ≤ 48)
-        × (decoded line.now ≡ Some (take len room.new))) }
-    ensures refused { IfNone result (decoded line.now ≡ None) }
+        × (base64_bytes line.now ≡ Some (take len room.new))) }
+    ensures refused { IfNone result (base64_bytes line.now ≡ None) }
 {
     STANDARD_NO_PAD.decode_slice_unchecked(line, room).ok()
 }

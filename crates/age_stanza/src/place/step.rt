@@ -1,6 +1,8 @@
 //! Where a line leads, by its place.
 
-ghost use Rattle.age_stanza.specs.inner.LineMachine.{Gives, step as step_of, ended as ended_of, begun as begun_of, mac_of as spec_mac_of, arguments_of as spec_arguments_of};
+ghost use Rattle.age_stanza.specs.inner.LineMachine.{Gives, step as step_of, end_line_result};
+ghost use Rattle.age_stanza.specs.inner.LineMachine.{argument_line_result, mac_of as spec_mac_of};
+ghost use Rattle.age_stanza.specs.inner.LineMachine.{arguments_of as spec_arguments_of};
 
 use super::{ARMOR, ARMOR_CR, Next, Place, VERSION};
 use crate::arguments::arguments_of;
@@ -26,7 +28,7 @@ fn first(alloc: Global, line: &[u8]) -> Result<Next, HeadKind>
 
 /// A line that begins with `---`: the end line, behind one or more stanzas.
 fn end(stanzas: Stanzas, line: &[u8]) -> Result<Next, HeadKind>
-    ensures { Gives result (ended_of stanzas (spec_mac_of line.now)) }
+    ensures { Gives result (end_line_result stanzas (spec_mac_of line.now)) }
 {
     let Some(mac) = mac_of(line) else {
         return Err(HeadKind::BadEndLine);
@@ -39,7 +41,7 @@ fn end(stanzas: Stanzas, line: &[u8]) -> Result<Next, HeadKind>
 
 /// Any other line behind a whole stanza: the next one's argument line.
 fn begin(alloc: Global, stanzas: Stanzas, line: &[u8]) -> Result<Next, HeadKind>
-    ensures { Gives result (begun_of stanzas (spec_arguments_of line.now)) }
+    ensures { Gives result (argument_line_result stanzas (spec_arguments_of line.now)) }
 {
     let Some(args) = arguments_of(alloc, line)? else {
         return Err(HeadKind::BadStanzaLine);
