@@ -1,17 +1,19 @@
 //! The scrypt stanza (C2SP age.md, "The scrypt recipient type"): read and written.
 
-ghost use Rattle.std.specs.Prelude.{◌≡◌, ◌≤◌, ◌↔◌, ℕ, List, [], ◌∷◌, length, min, IsTrue, IfSome, IfNone, IfOk, IfErr};
+ghost use Rattle.std.specs.Prelude.{◌≡◌, ◌≤◌, ◌↔◌, ℕ, List, [], ◌∷◌, length, min, IsTrue, IfSome};
+ghost use Rattle.std.specs.Prelude.{IfNone, IfOk, IfErr};
 ghost use Rattle.std.specs.Char.{is_ascii_digit};
 ghost use Rattle.std.specs.List.{list_all};
 ghost use Rattle.std.specs.Str.Parse.{digits_value};
 ghost use Rattle.age_stanza.specs.Grammar.{HasText};
-ghost use Rattle.age_keys.specs.Scrypt.{IsWorkFactor, IsScryptStanza, wrap_key, scrypt_stanza, scrypt_head};
+ghost use Rattle.age_keys.specs.Scrypt.{IsWorkFactor, IsScryptStanza, wrap_key, scrypt_stanza};
+ghost use Rattle.age_keys.specs.Scrypt.{scrypt_head};
 ghost use Rattle.age_keys.specs.declared.fault.KeyFault.TheVariants.{Memory};
 
 use crate::fault::KeyFault;
 use crate::key::FileKey;
 use crate::open::{is_scrypt, mac_of};
-use crate::wrap::wrapped;
+use crate::wrap::wrapped_key;
 use age_scrypt::Steps;
 use age_stanza::{Argument, Arguments, Bytes, Header, Stanza, Stanzas, read_base64};
 use base64::engine::general_purpose::STANDARD_NO_PAD;
@@ -169,7 +171,7 @@ pub fn scrypt_header(
     ensures memory { IfErr result (λ fault. fault ≡ Memory) }
 {
     let wrap_key = wrap_key(alloc, pass, salt, log)?;
-    let Ok(mut header) = header_of(alloc, salt, log, &wrapped(&wrap_key, key)) else {
+    let Ok(mut header) = header_of(alloc, salt, log, &wrapped_key(&wrap_key, key)) else {
         return Err(KeyFault::Memory);
     };
     header.mac = mac_of(alloc, &header, key)?;

@@ -4,12 +4,13 @@ ghost use Rattle.std.specs.Prelude.{◌≡◌, ◌++◌, Any, IfSome, IfNone, Ma
 ghost use Rattle.std.specs.Bool.{OnTrue, OnFalse};
 ghost use Rattle.std.specs.List.{list_any, AllByRecursion};
 ghost use Rattle.age_keys.specs.X25519.{is_x25519};
-ghost use Rattle.age_keys.specs.SharedSecret.{shared_wrap_key, OpensTo, StaysShut, IsBadStanza, IsFirstKey, IsSharedKey, SharedRefuses};
+ghost use Rattle.age_keys.specs.SharedSecret.{shared_wrap_key, OpensTo, StaysShut, IsBadStanza};
+ghost use Rattle.age_keys.specs.SharedSecret.{IsFirstKey, IsSharedKey, SharedRefuses};
 
 use crate::fault::KeyFault;
 use crate::key::FileKey;
 use crate::unlock::Unlock;
-use crate::wrap::unwrapped;
+use crate::wrap::unwrapped_key;
 use crate::x25519::{X25519Stanza, is_x25519};
 use age_stanza::{Header, Stanza};
 use std::alloc::Global;
@@ -103,7 +104,7 @@ impl SharedSecret {
         ensures none { IfNone result (StaysShut self.now stanza.now) }
     {
         match X25519Stanza::read(stanza) {
-            Ok(read) => unwrapped(&self.wrap_key(&read.share), &read.body),
+            Ok(read) => unwrapped_key(&self.wrap_key(&read.share), &read.body),
             Err(_) => None,
         }
     }
