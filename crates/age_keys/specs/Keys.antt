@@ -19,11 +19,11 @@ header_mac key h = hmac (hkdf32 key [] (codes "header")) (mac_text h)
 abbrev pub IsMacOf : Header → List ℕ → Type 0
 IsMacOf h key = h.mac ≡ header_mac key h
 
--- the key of the payload behind a nonce
+-- the key of the payload that follows a nonce
 unfoldable pub payload_key : List ℕ → List ℕ → List ℕ
 payload_key key nonce = hkdf32 key nonce (codes "payload")
 
--- the key of the tags of positions in the payload behind a nonce (not of the age format)
+-- the key of the tags of positions in the payload that follows a nonce (not of the age format)
 unfoldable pub position_key : List ℕ → List ℕ → List ℕ
 position_key key nonce = hkdf32 key nonce (codes "age-tool position v2")
 

@@ -39,7 +39,7 @@ has_x25519 h = list_any is_x25519 h.stanzas
 abbrev pub IsZero : Shared → Type 0
 IsZero x = x.secret ≡ replicate 32 0
 
--- a stanza of type X25519 that isn't of the lawful shape
+-- a stanza of type X25519 that isn't valid
 abbrev pub IsBadStanza : Stanza → Type 0
 IsBadStanza s = ReadRefuses s BadX25519
 

@@ -31,7 +31,9 @@ pub(crate) fn has_scrypt(stanzas: &[Stanza]) -> bool
     stanzas.iter().any(is_scrypt)
 }
 
-/// Whether a scrypt stanza stands beside another stanza.
+/// Whether a scrypt stanza stands beside another stanza, which is refused: who opens a file by a
+/// passphrase takes it that only those who know the passphrase could have written it, and whoever
+/// can open another stanza could have, too.
 pub(crate) fn scrypt_not_alone(header: &Header) -> bool
     ensures { result ≡ scrypt_not_alone header.now }
 {

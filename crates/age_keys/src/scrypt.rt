@@ -85,7 +85,8 @@ pub(crate) struct ScryptStanza {
 }
 
 impl ScryptStanza {
-    /// Reads a stanza of type `scrypt`; `None` where it isn't of the lawful shape.
+    /// Reads a stanza of type `scrypt`; `None` where it isn't valid. The body's length is checked
+    /// before it is opened, so that no body opens under many passphrases.
     pub(crate) fn read(stanza: &Stanza) -> Option<ScryptStanza>
         ensures read { IfSome result (λ read. (log : ℕ) × (read.log ≡ min log 4294967295)
             × IsScryptStanza stanza.now read.salt log read.body) }

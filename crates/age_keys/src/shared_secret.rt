@@ -47,13 +47,13 @@ fn has_bad(stanzas: &[Stanza]) -> bool
     false
 }
 
-/// Twice 32 bytes.
-fn joined(first: &[u8; 32], second: &[u8; 32]) -> [u8; 64]
-    ensures { result ≡ first.now ++ second.now }
+/// The salt of HKDF: the share, and then the recipient.
+fn hkdf_salt(share: &[u8; 32], recipient: &[u8; 32]) -> [u8; 64]
+    ensures { result ≡ share.now ++ recipient.now }
 {
     let mut both = [0; 64];
-    both[..32].copy_from_slice(first);
-    both[32..].copy_from_slice(second);
+    both[..32].copy_from_slice(share);
+    both[32..].copy_from_slice(recipient);
     both
 }
 
@@ -94,7 +94,7 @@ impl SharedSecret {
     fn wrap_key(&self, share: &[u8; 32]) -> [u8; 32]
         ensures { result ≡ shared_wrap_key self.now share.now }
     {
-        let salt = joined(share, &self.recipient);
+        let salt = hkdf_salt(share, &self.recipient);
         age_kdf::hkdf32(&self.secret, &salt, b"age-encryption.org/v1/X25519")
     }
 

@@ -1,5 +1,6 @@
 //! A file key in the body of a stanza: sealed under a wrap key, with a nonce of zeros and no
-//! associated data.
+//! associated data. Zeros serve, since a wrap key comes of a salt or a share that is the stanza's
+//! own, and so seals one file key.
 
 ghost use Rattle.std.specs.Prelude.{◌≡◌, ◌≢◌, ℕ, List, IfSome, IfNone};
 ghost use Rattle.age_keys.specs.Keys.{wrapped_key};
@@ -9,7 +10,7 @@ use age_cipher::{open_in_place, seal_in_place};
 
 const NONCE: &[u8; 12] = &[0; 12];
 
-/// A file key, wrapped.
+/// The body that wraps a file key.
 pub(crate) fn wrapped_key(wrap_key: &[u8; 32], key: &FileKey) -> [u8; 32]
     ensures { result ≡ wrapped_key wrap_key.now key.now }
 {

@@ -35,7 +35,7 @@ use romix::{block_count, romix};
 use std::alloc::Global;
 pub use steps::Steps;
 
-/// The key, in memory that is lent: an empty table with room for all blocks, and two blocks.
+/// The key, in memory that the caller has: an empty table with room for all blocks, and two blocks.
 fn derive_in(
     pass: &[u8],
     salt: &[u8],

@@ -1,4 +1,4 @@
--- How a fault is numbered among all faults, and the line that it tells.
+-- How a fault is numbered among all faults, and the line that it reports.
 use Rattle.std.specs.Prelude.{ℕ, Option, Some, None}
 use Rattle.age_stanza.specs.declared.fault.HeadKind.{HeadKind}
 use Rattle.age_stanza.specs.declared.fault.HeadKind.TheVariants.{NotAge, Armored, BadStanzaLine}

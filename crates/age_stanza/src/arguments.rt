@@ -11,7 +11,7 @@ use crate::bytes::Arguments;
 use crate::lawful::is_argument;
 use std::alloc::{AllocError, Global};
 
-/// Adds an argument. False where its characters aren't lawful; then nothing changes.
+/// Adds an argument. False where its characters aren't valid; then nothing changes.
 fn push_lawful(alloc: Global, args: &mut Arguments, characters: &[u8]) -> Result<bool, AllocError>
     ensures pushed { IfOk result (λ r. r ≡ true → IsArgument characters.now
         × (args.new ≡ args.old ++ characters.now ∷ [])) }
@@ -32,7 +32,7 @@ fn argument_end(letters: &[u8]) -> Option<usize>
 }
 
 /// The arguments that letters hold, parted by single spaces, or `None` where one
-/// isn't lawful.
+/// isn't valid.
 fn arguments_in(alloc: Global, letters: &[u8]) -> Result<Option<Arguments>, AllocError>
     ensures { IfOk result (λ r. r ≡ arguments_from [] [] letters.now) }
 {

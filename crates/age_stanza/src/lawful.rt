@@ -20,7 +20,7 @@ fn are_visible(bytes: &[u8]) -> bool
     bytes.iter().all(|c| b'!' <= *c && *c <= b'~')
 }
 
-/// Whether some bytes are a lawful argument of a stanza: one or more visible
+/// Whether some bytes are a valid argument of a stanza: one or more visible
 /// ASCII characters, from `!` to `~` (C2SP age.md, "Header").
 pub fn is_argument(bytes: &[u8]) -> bool
     ensures { IsTrue result ↔ IsArgument bytes.now }
@@ -28,7 +28,7 @@ pub fn is_argument(bytes: &[u8]) -> bool
     !bytes.is_empty() && are_visible(bytes)
 }
 
-/// Whether a stanza has one or more arguments, which are all lawful.
+/// Whether a stanza has one or more arguments, which are all valid.
 fn has_arguments(stanza: &Stanza) -> bool
     ensures { IsTrue result ↔ HasArguments stanza.now }
 {
@@ -95,7 +95,7 @@ pub(crate) fn text_len(header: &Header) -> Option<usize>
 }
 
 /// Whether a header has a text: one or more stanzas, each with one or more
-/// arguments, which are all lawful ([`is_argument`]), and a text of no more
+/// arguments, which are all valid ([`is_argument`]), and a text of no more
 /// than [`HEAD_MAX`] bytes.
 pub fn is_header(header: &Header) -> bool
     ensures { IsTrue result ↔ HasText header.now }

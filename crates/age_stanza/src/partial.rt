@@ -97,7 +97,7 @@ impl PartialHeader {
         Ok(())
     }
 
-    /// Takes what is left of the line, and its LF. A header, or a fault, leaves nothing behind.
+    /// Takes what is left of the line, and its LF. A header, or a fault, leaves no state.
     pub(crate) fn end_line(&mut self, characters: &[u8]) -> Result<Option<Header>, HeadFault>
         requires one_line { IsLine characters.now }
         requires within { length self.old + length characters.now < 1048576 }

@@ -31,7 +31,7 @@ only_bytes (Some xs) = if list_all (λ x. nat_lt x 256) xs then Some xs else Non
 unfoldable pub base64_bytes : List ℕ → Option (List ℕ)
 base64_bytes s = only_bytes (result_ok (decode_of standard_no_pad s))
 
--- the arguments of what is left of a line, behind those that are done and the letters of the next
+-- the arguments of what is left of a line, after those that are done and the letters of the next
 unfoldable pub arguments_from : List (List ℕ) → List ℕ → List ℕ → Option (List (List ℕ))
 arguments_from done word [] = if length word == 0 then None else Some (done ++ word ∷ [])
 arguments_from done word (c ∷ cs) =
@@ -73,7 +73,8 @@ step Start l =
     else if bytes_eq l armor || bytes_eq l (armor ++ 13 ∷ []) then Err Armored
     else Err NotAge
 step (Between ss) l =
-    if starts_with nat_eq l (codes "---") then end_line_result ss (mac_of l) else argument_line_result ss (arguments_of l)
+    if starts_with nat_eq l (codes "---") then end_line_result ss (mac_of l)
+    else argument_line_result ss (arguments_of l)
 step (InBody ss args body) l =
     if nat_lt 64 (length l) then Err BadBody
     else body_line_result ss args body (length l == 64) (base64_bytes l)

@@ -12,7 +12,7 @@ use Rattle.age_stanza.specs.Faults.{HasHeader, IsFault, memory_fault}
 use Rattle.age_stanza.specs.inner.LineMachine.{walk, ready, faulty}
 use Rattle.age_stanza.specs.inner.Retelling.{IsUnderWay}
 
--- the LF behind some bytes
+-- the LF after some bytes
 abbrev pub EndsLine : List ℕ → Result (Option Header) HeadFault → List ℕ → Type 0
 EndsLine held (Ok None) new = new ≡ held ++ 10 ∷ []
 EndsLine held (Ok (Some h)) new = (rest : List ℕ)

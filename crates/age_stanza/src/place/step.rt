@@ -26,7 +26,7 @@ fn first(alloc: Global, line: &[u8]) -> Result<Next, HeadKind>
     Err(HeadKind::NotAge)
 }
 
-/// A line that begins with `---`: the end line, behind one or more stanzas.
+/// A line that begins with `---`: the end line, after one or more stanzas.
 fn end(stanzas: Stanzas, line: &[u8]) -> Result<Next, HeadKind>
     ensures { Gives result (end_line_result stanzas (spec_mac_of line.now)) }
 {
@@ -39,7 +39,7 @@ fn end(stanzas: Stanzas, line: &[u8]) -> Result<Next, HeadKind>
     Ok(Next::Done(Header { stanzas, mac }))
 }
 
-/// Any other line behind a whole stanza: the next one's argument line.
+/// Any other line after a whole stanza: the next one's argument line.
 fn begin(alloc: Global, stanzas: Stanzas, line: &[u8]) -> Result<Next, HeadKind>
     ensures { Gives result (argument_line_result stanzas (spec_arguments_of line.now)) }
 {
