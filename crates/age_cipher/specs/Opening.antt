@@ -6,7 +6,7 @@ use Rattle.std.specs.Str.{bytes_eq}
 use Rattle.age_cipher.specs.Keystream.{ciphertext}
 use Rattle.age_cipher.specs.Aead.{sealing}
 
--- the front is deciphered and sealed again, and the block compared with that
+-- all but the last 16 bytes is deciphered and sealed again, and the block compared with that
 unfoldable pub opening : List ℕ → List ℕ → List ℕ → List ℕ → Option (List ℕ)
 opening key nonce aad block =
     let text = ciphertext key nonce 1 (take (length block - 16) block) in

@@ -9,7 +9,7 @@ ghost use Rattle.age_cipher.specs.Aead.{one_time_key, padding, tag, sealing, IsS
 use crate::authenticator::poly1305;
 use crate::keystream::xor_stream;
 
-/// The front of block 0 is the one-time key, and the text is enciphered from block 1 on.
+/// The first 32 bytes of block 0 are the one-time key; the text is enciphered from block 1 on.
 const KEY_BLOCK: u32 = 0;
 
 const TEXT_BLOCK: u32 = 1;
@@ -32,7 +32,7 @@ fn one_time_key(key: &[u8; 32], nonce: &[u8; 12]) -> [u8; 32]
     block
 }
 
-/// The tag of six parts, all lent for as long.
+/// The tag of six parts, which are borrowed for one lifetime.
 fn tag_of_parts<'a>(
     key: &[u8; 32],
     aad: &'a [u8],
@@ -106,6 +106,8 @@ fn is_tag(tag: &[u8; 16], bytes: &[u8]) -> bool
 /// Opens a block of 16 to 65,552 bytes, which is asked, in place (RFC 8439, 2.8). It answers true
 /// exactly where the block is the sealing of some text. That text then stands before the tag, whose
 /// 16 bytes stay. False leaves the whole block as it was.
+///
+/// It doesn't commit to a key: whoever knows two keys can make a block that opens under both.
 pub fn open_in_place(key: &[u8; 32], nonce: &[u8; 12], aad: &[u8], block: &mut [u8]) -> bool
     requires { (16 ≤ length block.old) × (length block.old ≤ 65552) }
     ensures exact { IsTrue result ↔ IsSealing key.now nonce.now aad.now block.old }
@@ -114,10 +116,10 @@ pub fn open_in_place(key: &[u8; 32], nonce: &[u8; 12], aad: &[u8], block: &mut [
     ensures end { drop (length block.old - 16) block.new ≡ drop (length block.old - 16) block.old }
     ensures kept { OnFalse result (block.new ≡ block.old) }
 {
-    let (front, end) = block.split_at_mut(block.len() - 16);
-    let same = is_tag(&tag(key, nonce, aad, front), end);
+    let (cipher, end) = block.split_at_mut(block.len() - 16);
+    let same = is_tag(&tag(key, nonce, aad, cipher), end);
     if same {
-        xor_stream(key, nonce, TEXT_BLOCK, front);
+        xor_stream(key, nonce, TEXT_BLOCK, cipher);
     }
     same
 }

@@ -5,7 +5,7 @@
 //! enciphers a text, and once more gives the text back. Poly1305 reads a message as a polynomial
 //! whose coefficients are its 16-byte blocks: the tag is the polynomial's value at a secret point,
 //! modulo 2^130 - 5, plus a secret number. A sealing joins the two. The text is enciphered from
-//! block 1 on, and the tag is over the ciphertext, under a key that is the front of block 0.
+//! block 1 on, and the tag is over the ciphertext, under a key that is half of block 0.
 //!
 //! No call takes memory. No claim is made of constant time, and no key is wiped.
 #![tactic(auto)]

@@ -11,7 +11,7 @@
 
 ghost use Rattle.std.specs.Prelude.{◌≡◌, ℕ, map, length, ◌≤◌, List};
 ghost use Rattle.std.specs.List.{concat};
-ghost use Rattle.age_kdf.specs.Hmac.{zero_filled, key_block, xor_pad, hmac};
+ghost use Rattle.age_kdf.specs.Hmac.{key_with_zeros, key_block, xor_pad, hmac};
 ghost use Rattle.age_kdf.specs.Hkdf.{hkdf32};
 ghost use Rattle.age_kdf.specs.Pbkdf2.{pbkdf2_block, pbkdf2_once};
 
@@ -26,9 +26,9 @@ const INNER_PAD: u8 = 0x36;
 const OUTER_PAD: u8 = 0x5c;
 
 /// At most 64 bytes, followed by zeros up to a block of SHA-256.
-fn zero_filled(key: &[u8]) -> [u8; 64]
+fn key_with_zeros(key: &[u8]) -> [u8; 64]
     requires { length key.now ≤ 64 }
-    ensures { result ≡ zero_filled key.now }
+    ensures { result ≡ key_with_zeros key.now }
 {
     let mut block = [0; 64];
     block[..key.len()].copy_from_slice(key);
@@ -41,9 +41,9 @@ fn key_block(key: &[u8]) -> [u8; 64]
     ensures { result ≡ key_block key.now }
 {
     if key.len() <= 64 {
-        zero_filled(key)
+        key_with_zeros(key)
     } else {
-        zero_filled(&Sha256::digest(key))
+        key_with_zeros(&Sha256::digest(key))
     }
 }
 

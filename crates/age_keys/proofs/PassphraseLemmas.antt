@@ -12,19 +12,19 @@ use Rattle.age_stanza.specs.Text.{text}
 use Rattle.age_cipher.proofs.SealingLemmas.{length-sealing, one_text as one_sealed}
 use Rattle.age_keys.specs.declared.fault.KeyFault.{KeyFault}
 use Rattle.age_keys.specs.declared.fault.KeyFault.TheVariants.{ScryptNotAlone, BadScrypt, WorkTooHigh, NoMatch, WrongKey, MacMismatch, BadX25519, Memory}
-use Rattle.age_keys.specs.Keys.{header_mac, wrapped, has_scrypt, IsMacOf}
+use Rattle.age_keys.specs.Keys.{header_mac, wrapped_key, has_scrypt, IsMacOf}
 use Rattle.age_keys.specs.Opened.{AllowsAlone}
 use Rattle.age_keys.specs.Passphrase.{Words, IsPassphraseKey, PassphraseRefuses}
 use Rattle.age_keys.specs.Scrypt.{wrap_key, IsWorkFactor, IsScryptStanza, HasScryptStanza, scrypt_stanza, scrypt_head}
 use Rattle.age_keys.proofs.Base64Lemmas.{one_text}
 use Rattle.age_keys.proofs.StanzaLemmas.{not_beside}
 
-length-wrapped : (wrap key : List ℕ) → length (wrapped wrap key) ≡ length key + 16
-unfolding wrapped
+length-wrapped : (wrap key : List ℕ) → length (wrapped_key wrap key) ≡ length key + 16
+unfolding wrapped_key
 length-wrapped wrap key = length-sealing wrap (replicate 12 0) [] key
 
-one_wrapped : (wrap key other : List ℕ) → wrapped wrap key ≡ wrapped wrap other → key ≡ other
-unfolding wrapped
+one_wrapped : (wrap key other : List ℕ) → wrapped_key wrap key ≡ wrapped_key wrap other → key ≡ other
+unfolding wrapped_key
 one_wrapped wrap key other e = one_sealed wrap (replicate 12 0) [] key other e
 
 -- ---- a stanza as it is written is lawful
@@ -70,13 +70,13 @@ same_parts h salt other log more body rest a b =
 -- ---- the law
 
 abbrev has_own : Words → ℕ → List ℕ → List ℕ → Type 0
-has_own w log salt key = HasScryptStanza (scrypt_head w.pass log salt key) salt log (wrapped (wrap_key w.pass salt log) key)
+has_own w log salt key = HasScryptStanza (scrypt_head w.pass log salt key) salt log (wrapped_key (wrap_key w.pass salt log) key)
 
 own : (w : Words) (log : ℕ) (salt key : List ℕ) → 1 ≤ log → log ≤ 22 → length salt ≡ 16 → IsBytes salt → length key ≡ 16 → has_own w log salt key
 unfolding scrypt_head
 own w log salt key some few size fits key_size =
     let wrap = wrap_key w.pass salt log in
-    let body = wrapped wrap key in
+    let body = wrapped_key wrap key in
     let long : length body ≡ 32 = omega (arith, length-wrapped wrap key) in
     record { stanza = scrypt_stanza salt log body; alone = refl; lawful = stanza_is salt body log some few size fits long }
 
@@ -89,27 +89,27 @@ unfolding scrypt_head scrypt_stanza
 own_type w log salt key = refl
 
 -- the same parts open to the same key
-other_key : (w : Words) (h : Header) (log : ℕ) (salt key other : List ℕ) → HasScryptStanza h salt log (wrapped (wrap_key w.pass salt log) key)
+other_key : (w : Words) (h : Header) (log : ℕ) (salt key other : List ℕ) → HasScryptStanza h salt log (wrapped_key (wrap_key w.pass salt log) key)
     → IsPassphraseKey w h other → other ≡ key
 other_key w h log salt key other has found =
-    let same = same_parts h found.salt salt found.log log found.body (wrapped (wrap_key w.pass salt log) key) found.stanza has in
+    let same = same_parts h found.salt salt found.log log found.body (wrapped_key (wrap_key w.pass salt log) key) found.stanza has in
     let wrap : wrap_key w.pass found.salt found.log ≡ wrap_key w.pass salt log = ap₂ (wrap_key w.pass) same.salts same.logs in
     one_wrapped (wrap_key w.pass salt log) other key
-    (ap (λ (k : List ℕ). wrapped k other) (sym wrap) ∙ sym found.opens ∙ same.bodies)
+    (ap (λ (k : List ℕ). wrapped_key k other) (sym wrap) ∙ sym found.opens ∙ same.bodies)
 
 only_memory : (w : Words) (h : Header) (log : ℕ) (salt key : List ℕ) → log ≤ w.max_log → has_scrypt h ≡ true
-    → HasScryptStanza h salt log (wrapped (wrap_key w.pass salt log) key) → (fault : KeyFault) → PassphraseRefuses w h fault → fault ≡ Memory
+    → HasScryptStanza h salt log (wrapped_key (wrap_key w.pass salt log) key) → (fault : KeyFault) → PassphraseRefuses w h fault → fault ≡ Memory
 only_memory w h log salt key within typed has ScryptNotAlone r = absurd (not_beside h has.stanza has.alone r)
 only_memory w h log salt key within typed has NoMatch r = absurd (false≢true (sym r ∙ typed))
-only_memory w h log salt key within typed has BadScrypt r = absurd (r.2 salt log (wrapped (wrap_key w.pass salt log) key) has)
+only_memory w h log salt key within typed has BadScrypt r = absurd (r.2 salt log (wrapped_key (wrap_key w.pass salt log) key) has)
 only_memory w h log salt key within typed has WorkTooHigh r =
-    let same = same_parts h r.0 salt r.1 log r.2 (wrapped (wrap_key w.pass salt log) key) r.3 has in
+    let same = same_parts h r.0 salt r.1 log r.2 (wrapped_key (wrap_key w.pass salt log) key) r.3 has in
     let above = r.4 in
     let logs = same.logs in
     absurd (omega arith)
 only_memory w h log salt key within typed has WrongKey r =
-    let same = same_parts h r.0 salt r.1 log r.2 (wrapped (wrap_key w.pass salt log) key) r.3 has in
-    absurd (r.5 key (same.bodies ∙ ap (λ (k : List ℕ). wrapped k key) (sym (ap₂ (wrap_key w.pass) same.salts same.logs))))
+    let same = same_parts h r.0 salt r.1 log r.2 (wrapped_key (wrap_key w.pass salt log) key) r.3 has in
+    absurd (r.5 key (same.bodies ∙ ap (λ (k : List ℕ). wrapped_key k key) (sym (ap₂ (wrap_key w.pass) same.salts same.logs))))
 only_memory w h log salt key within typed has MacMismatch r = absurd r
 only_memory w h log salt key within typed has BadX25519 r = absurd r
 only_memory w h log salt key within typed has Memory r = refl
@@ -121,7 +121,7 @@ opens_alone w log salt key some few within size fits key_size =
     let has : has_own w log salt key = own w log salt key some few size fits key_size in
     record {
       alone = not_beside h has.stanza has.alone;
-      allowed = record { salt = salt; log = log; body = wrapped (wrap_key w.pass salt log) key; stanza = has; within = within; opens = refl };
+      allowed = record { salt = salt; log = log; body = wrapped_key (wrap_key w.pass salt log) key; stanza = has; within = within; opens = refl };
       no_other = λ other found. other_key w h log salt key other has found;
       never = only_memory w h log salt key within (own_type w log salt key) has;
       mac = own_mac w log salt key;

@@ -16,7 +16,7 @@ use Rattle.age_stanza.specs.Grammar.{line, in_lines, stanza_text, head_text, IsS
 use Rattle.age_stanza.proofs.Elements.{visible_from_test}
 use Rattle.age_stanza.proofs.TextLengths.{length-body, length-head}
 use Rattle.age_stanza.proofs.Texts.{the_symbols, text-symbols, length-text}
-use Rattle.age_keys.specs.Keys.{header_mac, wrapped}
+use Rattle.age_keys.specs.Keys.{header_mac, wrapped_key}
 use Rattle.age_keys.specs.Scrypt.{wrap_key, scrypt_stanza, scrypt_head}
 
 abbrev pub IsVisible : ℕ → Type 0
@@ -133,11 +133,11 @@ other_mac h mac has mac_size mac_fits =
     )
 
 -- the MAC covers the stanzas alone
-pub scrypt_head_is : (pass salt key wrap body mac : List ℕ) (log : ℕ) (h : Header) → wrap ≡ wrap_key pass salt log → body ≡ wrapped wrap key
+pub scrypt_head_is : (pass salt key wrap body mac : List ℕ) (log : ℕ) (h : Header) → wrap ≡ wrap_key pass salt log → body ≡ wrapped_key wrap key
     → h.stanzas ≡ scrypt_stanza salt log body ∷ [] → mac ≡ header_mac key h → record { stanzas = h.stanzas; mac = mac } ≡ scrypt_head pass log salt key
 unfolding scrypt_head header_mac
 scrypt_head_is pass salt key wrap body mac log h wrap_is body_is stanzas_are mac_is =
-    let same : h.stanzas ≡ scrypt_stanza salt log (wrapped (wrap_key pass salt log) key) ∷ [] = cc in
+    let same : h.stanzas ≡ scrypt_stanza salt log (wrapped_key (wrap_key pass salt log) key) ∷ [] = cc in
     let over_none : header_mac key h ≡ header_mac key (record { stanzas = h.stanzas; mac = [] }) = refl in
     ap₂ (λ (ss : List Stanza) (m : List ℕ). let made : Header = record { stanzas = ss; mac = m } in made) same
     (mac_is ∙ over_none ∙ ap (λ (ss : List Stanza). header_mac key (record { stanzas = ss; mac = [] })) same)

@@ -5,7 +5,7 @@ use Rattle.std.specs.List.{AllByRecursion}
 use Rattle.std.proofs.lemmas.List.{take_more, drop_more, take-append-drop}
 use Rattle.age_stanza.specs.declared.header.Stanza.{Stanza}
 use Rattle.age_stanza.proofs.Lines.{All-append}
-use Rattle.age_keys.specs.Keys.{wrapped}
+use Rattle.age_keys.specs.Keys.{wrapped_key}
 use Rattle.age_keys.specs.X25519.{IsX25519Stanza}
 use Rattle.age_keys.specs.SharedSecret.{Shared, shared_wrap_key, StaysShut}
 use Rattle.age_keys.proofs.Base64Lemmas.{one_text}
@@ -29,11 +29,11 @@ one_share s share other body rest is is_too =
 
 -- a stanza whose body opens to no key
 pub shut : (x : Shared) (s : Stanza) (share body : List ℕ) → IsX25519Stanza s share body
-    → ((key : List ℕ) → body ≢ wrapped (shared_wrap_key x share) key) → StaysShut x s
+    → ((key : List ℕ) → body ≢ wrapped_key (shared_wrap_key x share) key) → StaysShut x s
 shut x s share body is none key opened =
     none key
     (sym is.body_is ∙ opened.stanza.body_is ∙ opened.opens
-    ∙ ap (λ (sh : List ℕ). wrapped (shared_wrap_key x sh) key) (one_share s opened.share share opened.body body opened.stanza is))
+    ∙ ap (λ (sh : List ℕ). wrapped_key (shared_wrap_key x sh) key) (one_share s opened.share share opened.body body opened.stanza is))
 
 pub if_none : {X A B : Type 0} (o : Option X) → (A → B) → IfNone o A → IfNone o B
 if_none None f h = f h

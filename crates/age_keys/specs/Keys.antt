@@ -1,5 +1,6 @@
 -- The keys of an age file (C2SP age.md, "File key", "Header MAC", "Payload", "Recipient stanza").
-use Rattle.std.specs.Prelude.{◌≡◌, ℕ, Bool, true, false, nat_lt, ◌&&◌, List, [], ◌∷◌, length, codes, replicate, Ok}
+use Rattle.std.specs.Prelude.{◌≡◌, ℕ, Bool, true, false, nat_lt, ◌&&◌, List, [], ◌∷◌, length, codes}
+use Rattle.std.specs.Prelude.{replicate, Ok}
 use Rattle.std.specs.List.{list_any}
 use Rattle.std.specs.Str.{bytes_eq}
 use Rattle.hex.specs.Hex.{decode_sized}
@@ -18,17 +19,17 @@ header_mac key h = hmac (hkdf32 key [] (codes "header")) (mac_text h)
 abbrev pub IsMacOf : Header → List ℕ → Type 0
 IsMacOf h key = h.mac ≡ header_mac key h
 
--- the key of the payload behind a nonce
+-- the key of the payload that follows a nonce
 unfoldable pub payload_key : List ℕ → List ℕ → List ℕ
 payload_key key nonce = hkdf32 key nonce (codes "payload")
 
--- the key of the tags of positions in the payload behind a nonce (not of the age format)
+-- the key of the tags of positions in the payload that follows a nonce (not of the age format)
 unfoldable pub position_key : List ℕ → List ℕ → List ℕ
 position_key key nonce = hkdf32 key nonce (codes "age-tool position v2")
 
 -- a file key in the body of a stanza: sealed under the wrap key, with a nonce of zeros
-unfoldable pub wrapped : List ℕ → List ℕ → List ℕ
-wrapped wrap_key key = sealing wrap_key (replicate 12 0) [] key
+unfoldable pub wrapped_key : List ℕ → List ℕ → List ℕ
+wrapped_key wrap_key key = sealing wrap_key (replicate 12 0) [] key
 
 -- ---- types of stanzas
 
@@ -44,11 +45,11 @@ abbrev pub has_scrypt : Header → Bool
 has_scrypt h = list_any is_scrypt h.stanzas
 
 -- a scrypt stanza stands beside another stanza
-abbrev pub is_scrypt_beside : Header → Bool
-is_scrypt_beside h = nat_lt 1 (length h.stanzas) && has_scrypt h
+abbrev pub scrypt_not_alone : Header → Bool
+scrypt_not_alone h = nat_lt 1 (length h.stanzas) && has_scrypt h
 
 abbrev pub IsScryptBeside : Header → Type 0
-IsScryptBeside h = is_scrypt_beside h ≡ true
+IsScryptBeside h = scrypt_not_alone h ≡ true
 
 -- ---- a file key as text
 

@@ -2,8 +2,10 @@
 use Rattle.std.specs.Prelude.{◌≡◌, ◌≢◌, ℕ, ◌<◌, ◌≤◌, true, false, List, length}
 use Rattle.age_stanza.specs.declared.header.Header.{Header}
 use Rattle.age_keys.specs.declared.fault.KeyFault.{KeyFault}
-use Rattle.age_keys.specs.declared.fault.KeyFault.TheVariants.{ScryptNotAlone, BadScrypt, WorkTooHigh, NoMatch, WrongKey, Memory}
-use Rattle.age_keys.specs.Keys.{IsScryptBeside, has_scrypt, wrapped}
+use Rattle.age_keys.specs.declared.fault.KeyFault.TheVariants.{ScryptNotAlone, BadScrypt}
+use Rattle.age_keys.specs.declared.fault.KeyFault.TheVariants.{WorkTooHigh, NoMatch, WrongKey}
+use Rattle.age_keys.specs.declared.fault.KeyFault.TheVariants.{Memory}
+use Rattle.age_keys.specs.Keys.{IsScryptBeside, has_scrypt, wrapped_key}
 use Rattle.age_keys.specs.Scrypt.{wrap_key, HasScryptStanza}
 
 -- a passphrase, and the greatest work factor that is accepted with it
@@ -25,7 +27,7 @@ pub record IsPassphraseKey (w : Words) (h : Header) (key : List ℕ) : Type 0 wh
   pub body : List ℕ
   pub stanza : HasScryptStanza h salt log body
   pub within : log ≤ w.max_log
-  pub opens : body ≡ wrapped (wrap_key w.pass salt log) key
+  pub opens : body ≡ wrapped_key (wrap_key w.pass salt log) key
 
 -- the faults that a passphrase may answer for it: the first that applies
 abbrev pub PassphraseRefuses : Words → Header → KeyFault → Type 0
@@ -43,5 +45,5 @@ PassphraseRefuses w h Memory =
 PassphraseRefuses w h WrongKey =
     (salt : List ℕ) × (log : ℕ) × (body : List ℕ) × HasScryptStanza h salt log body
     × (log ≤ w.max_log)
-    × ((key : List ℕ) → body ≢ wrapped (wrap_key w.pass salt log) key)
+    × ((key : List ℕ) → body ≢ wrapped_key (wrap_key w.pass salt log) key)
 PassphraseRefuses w h other = ⊥

@@ -7,7 +7,7 @@ use Rattle.age_stanza.specs.declared.header.Stanza.{Stanza}
 use Rattle.age_stanza.specs.declared.header.Header.{Header}
 use Rattle.age_stanza.specs.Text.{text}
 use Rattle.age_scrypt.specs.Scrypt.{scrypt}
-use Rattle.age_keys.specs.Keys.{header_mac, wrapped}
+use Rattle.age_keys.specs.Keys.{header_mac, wrapped_key}
 
 -- the key that a file key is wrapped under: scrypt of the passphrase, salted with a label and the
 -- stanza's salt
@@ -46,5 +46,5 @@ scrypt_stanza salt log body =
 -- file key's MAC, which covers the stanza alone
 unfoldable pub scrypt_head : List ℕ → ℕ → List ℕ → List ℕ → Header
 scrypt_head pass log salt key =
-    let stanzas = scrypt_stanza salt log (wrapped (wrap_key pass salt log) key) ∷ [] in
+    let stanzas = scrypt_stanza salt log (wrapped_key (wrap_key pass salt log) key) ∷ [] in
     record { stanzas = stanzas; mac = header_mac key (record { stanzas = stanzas; mac = [] }) }

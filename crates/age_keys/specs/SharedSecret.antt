@@ -1,13 +1,14 @@
 -- What a shared secret finds in a header, and what it refuses (C2SP age.md, "The X25519 recipient
 -- type").
-use Rattle.std.specs.Prelude.{◌≡◌, ◌⊎◌, ℕ, Bool, true, false, List, ◌∷◌, ◌++◌, Any, replicate, codes}
+use Rattle.std.specs.Prelude.{◌≡◌, ◌⊎◌, ℕ, Bool, true, false, List, ◌∷◌, ◌++◌, Any, replicate}
+use Rattle.std.specs.Prelude.{codes}
 use Rattle.std.specs.List.{list_any, AllByRecursion}
 use Rattle.age_stanza.specs.declared.header.Stanza.{Stanza}
 use Rattle.age_stanza.specs.declared.header.Header.{Header}
 use Rattle.age_kdf.specs.Hkdf.{hkdf32}
 use Rattle.age_keys.specs.declared.fault.KeyFault.{KeyFault}
 use Rattle.age_keys.specs.declared.fault.KeyFault.TheVariants.{NoMatch, WrongKey, BadX25519}
-use Rattle.age_keys.specs.Keys.{wrapped}
+use Rattle.age_keys.specs.Keys.{wrapped_key}
 use Rattle.age_keys.specs.X25519.{is_x25519, IsX25519Stanza, ReadRefuses}
 
 -- a shared secret, and the recipient for whom the stanzas are
@@ -26,7 +27,7 @@ pub record OpensTo (x : Shared) (s : Stanza) (key : List ℕ) : Type 0 where
   pub share : List ℕ
   pub body : List ℕ
   pub stanza : IsX25519Stanza s share body
-  pub opens : body ≡ wrapped (shared_wrap_key x share) key
+  pub opens : body ≡ wrapped_key (shared_wrap_key x share) key
 
 -- it opens to no key
 abbrev pub StaysShut : Shared → Stanza → Type 0
@@ -38,7 +39,7 @@ has_x25519 h = list_any is_x25519 h.stanzas
 abbrev pub IsZero : Shared → Type 0
 IsZero x = x.secret ≡ replicate 32 0
 
--- a stanza of type X25519 that isn't of the lawful shape
+-- a stanza of type X25519 that isn't valid
 abbrev pub IsBadStanza : Stanza → Type 0
 IsBadStanza s = ReadRefuses s BadX25519
 

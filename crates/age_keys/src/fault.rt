@@ -11,7 +11,7 @@ pub enum KeyFault {
     /// A stanza of type `scrypt` stands beside another stanza.
     #[error("scrypt stanza not alone")]
     ScryptNotAlone,
-    /// The scrypt stanza isn't of the lawful shape.
+    /// The scrypt stanza isn't valid: its arguments, or the length of its body.
     #[error("bad scrypt stanza")]
     BadScrypt,
     /// The scrypt stanza's work factor is above the limit.
@@ -26,7 +26,7 @@ pub enum KeyFault {
     /// The header's MAC isn't that of the file key.
     #[error("header MAC mismatch")]
     MacMismatch,
-    /// An X25519 stanza isn't of the lawful shape, or the shared secret is zero.
+    /// An X25519 stanza isn't valid, or the shared secret is zero.
     #[error("bad X25519 stanza")]
     BadX25519,
     /// A growth of memory was refused.

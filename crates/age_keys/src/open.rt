@@ -4,7 +4,7 @@ ghost use Rattle.std.specs.Prelude.{◌≡◌, IfOk, IfErr};
 ghost use Rattle.std.specs.List.{list_any};
 ghost use Rattle.base64.specs.GeneralPurpose.{IsBytes};
 ghost use Rattle.age_stanza.specs.Grammar.{HasText};
-ghost use Rattle.age_keys.specs.Keys.{is_scrypt, is_scrypt_beside, header_mac};
+ghost use Rattle.age_keys.specs.Keys.{is_scrypt, scrypt_not_alone, header_mac};
 ghost use Rattle.age_keys.specs.Opened.{Opens, Refuses};
 ghost use Rattle.age_keys.specs.declared.fault.KeyFault.TheVariants.{Memory};
 
@@ -31,9 +31,11 @@ pub(crate) fn has_scrypt(stanzas: &[Stanza]) -> bool
     stanzas.iter().any(is_scrypt)
 }
 
-/// Whether a scrypt stanza stands beside another stanza.
-pub(crate) fn is_scrypt_beside(header: &Header) -> bool
-    ensures { result ≡ is_scrypt_beside header.now }
+/// Whether a scrypt stanza stands beside another stanza, which is refused: who opens a file by a
+/// passphrase takes it that only those who know the passphrase could have written it, and whoever
+/// can open another stanza could have, too.
+pub(crate) fn scrypt_not_alone(header: &Header) -> bool
+    ensures { result ≡ scrypt_not_alone header.now }
 {
     let stanzas = header.stanzas.as_slice();
     stanzas.len() > 1 && has_scrypt(stanzas)
@@ -70,7 +72,7 @@ pub fn open_header<U: Unlock>(
     ensures refused { IfErr result
         (Refuses (U.allows unlock.now) (U.refuses unlock.now) header.now) }
 {
-    if is_scrypt_beside(header) {
+    if scrypt_not_alone(header) {
         return Err(KeyFault::ScryptNotAlone);
     }
     let key = unlock.unlock(alloc, header)?;

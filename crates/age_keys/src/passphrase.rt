@@ -8,7 +8,7 @@ use crate::key::FileKey;
 use crate::open::has_scrypt;
 use crate::scrypt::{ScryptStanza, wrap_key};
 use crate::unlock::Unlock;
-use crate::wrap::unwrapped;
+use crate::wrap::unwrapped_key;
 use age_stanza::Header;
 use std::alloc::Global;
 use std::marker::Model;
@@ -72,6 +72,6 @@ impl<'a> Unlock for Passphrase<'a> {
             return Err(KeyFault::WorkTooHigh);
         }
         let wrap_key = wrap_key(alloc, self.bytes, &read.salt, read.log)?;
-        unwrapped(&wrap_key, &read.body).ok_or(KeyFault::WrongKey)
+        unwrapped_key(&wrap_key, &read.body).ok_or(KeyFault::WrongKey)
     }
 }

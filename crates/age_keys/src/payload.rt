@@ -1,4 +1,4 @@
-//! The keys behind a header: that of the payload, and that of positions in it.
+//! The keys of what follows a header: that of the payload, and that of positions in it.
 
 ghost use Rattle.std.specs.Prelude.{◌≡◌, []};
 ghost use Rattle.age_cipher.specs.Aead.{sealing as sealing_with};
@@ -42,8 +42,8 @@ impl ChunkBox for PayloadKey {
     }
 }
 
-/// The key of the payload behind a nonce: HKDF of the file key, salted with the nonce, under the
-/// label `payload` (C2SP age.md, "Payload").
+/// The key of the payload that follows a nonce: HKDF of the file key, salted with the nonce, under
+/// the label `payload` (C2SP age.md, "Payload").
 pub fn payload_key(key: &FileKey, nonce: &[u8; 16]) -> PayloadKey
     ensures { result ≡ payload_key key.now nonce.now }
 {

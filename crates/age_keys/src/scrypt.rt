@@ -1,19 +1,21 @@
 //! The scrypt stanza (C2SP age.md, "The scrypt recipient type"): read and written.
 
-ghost use Rattle.std.specs.Prelude.{◌≡◌, ◌≤◌, ◌↔◌, ℕ, List, [], ◌∷◌, length, min, IsTrue, IfSome, IfNone, IfOk, IfErr};
+ghost use Rattle.std.specs.Prelude.{◌≡◌, ◌≤◌, ◌↔◌, ℕ, List, [], ◌∷◌, length, min, IsTrue, IfSome};
+ghost use Rattle.std.specs.Prelude.{IfNone, IfOk, IfErr};
 ghost use Rattle.std.specs.Char.{is_ascii_digit};
 ghost use Rattle.std.specs.List.{list_all};
 ghost use Rattle.std.specs.Str.Parse.{digits_value};
 ghost use Rattle.age_stanza.specs.Grammar.{HasText};
-ghost use Rattle.age_keys.specs.Scrypt.{IsWorkFactor, IsScryptStanza, wrap_key, scrypt_stanza, scrypt_head};
+ghost use Rattle.age_keys.specs.Scrypt.{IsWorkFactor, IsScryptStanza, wrap_key, scrypt_stanza};
+ghost use Rattle.age_keys.specs.Scrypt.{scrypt_head};
 ghost use Rattle.age_keys.specs.declared.fault.KeyFault.TheVariants.{Memory};
 
 use crate::fault::KeyFault;
 use crate::key::FileKey;
 use crate::open::{is_scrypt, mac_of};
-use crate::wrap::wrapped;
+use crate::wrap::wrapped_key;
 use age_scrypt::Steps;
-use age_stanza::{Arguments, Bytes, Header, Stanza, Stanzas, read_base64};
+use age_stanza::{Argument, Arguments, Bytes, Header, Stanza, Stanzas, read_base64};
 use base64::engine::general_purpose::STANDARD_NO_PAD;
 use std::alloc::{AllocError, Global};
 
@@ -83,7 +85,8 @@ pub(crate) struct ScryptStanza {
 }
 
 impl ScryptStanza {
-    /// Reads a stanza of type `scrypt`; `None` where it isn't of the lawful shape.
+    /// Reads a stanza of type `scrypt`; `None` where it isn't valid. The body's length is checked
+    /// before it is opened, so that no body opens under many passphrases.
     pub(crate) fn read(stanza: &Stanza) -> Option<ScryptStanza>
         ensures read { IfSome result (λ read. (log : ℕ) × (read.log ≡ min log 4294967295)
             × IsScryptStanza stanza.now read.salt log read.body) }
@@ -118,9 +121,9 @@ fn scrypt_stanza(
     ensures { IfOk result (λ stanza. stanza ≡ scrypt_stanza salt.now log body.now) }
 {
     let mut args = Arguments::new(alloc);
-    args.push(Bytes::from_vec(b"scrypt".to_vec(alloc)?))?;
-    args.push(Bytes::from_vec(STANDARD_NO_PAD.encode(alloc, salt)?.into_bytes()))?;
-    args.push(Bytes::from_vec(log.to_string(alloc)?.into_bytes()))?;
+    args.push(Argument::from_slice(alloc, b"scrypt")?)?;
+    args.push(Argument::from_slice(alloc, STANDARD_NO_PAD.encode(alloc, salt)?.as_bytes())?)?;
+    args.push(Argument::from_slice(alloc, log.to_string(alloc)?.as_bytes())?)?;
     Ok(Stanza {
         args,
         body: Bytes::from_vec(body.to_vec(alloc)?),
@@ -169,7 +172,7 @@ pub fn scrypt_header(
     ensures memory { IfErr result (λ fault. fault ≡ Memory) }
 {
     let wrap_key = wrap_key(alloc, pass, salt, log)?;
-    let Ok(mut header) = header_of(alloc, salt, log, &wrapped(&wrap_key, key)) else {
+    let Ok(mut header) = header_of(alloc, salt, log, &wrapped_key(&wrap_key, key)) else {
         return Err(KeyFault::Memory);
     };
     header.mac = mac_of(alloc, &header, key)?;

@@ -4,12 +4,13 @@ ghost use Rattle.std.specs.Prelude.{◌≡◌, ◌++◌, Any, IfSome, IfNone, Ma
 ghost use Rattle.std.specs.Bool.{OnTrue, OnFalse};
 ghost use Rattle.std.specs.List.{list_any, AllByRecursion};
 ghost use Rattle.age_keys.specs.X25519.{is_x25519};
-ghost use Rattle.age_keys.specs.SharedSecret.{shared_wrap_key, OpensTo, StaysShut, IsBadStanza, IsFirstKey, IsSharedKey, SharedRefuses};
+ghost use Rattle.age_keys.specs.SharedSecret.{shared_wrap_key, OpensTo, StaysShut, IsBadStanza};
+ghost use Rattle.age_keys.specs.SharedSecret.{IsFirstKey, IsSharedKey, SharedRefuses};
 
 use crate::fault::KeyFault;
 use crate::key::FileKey;
 use crate::unlock::Unlock;
-use crate::wrap::unwrapped;
+use crate::wrap::unwrapped_key;
 use crate::x25519::{X25519Stanza, is_x25519};
 use age_stanza::{Header, Stanza};
 use std::alloc::Global;
@@ -46,13 +47,13 @@ fn has_bad(stanzas: &[Stanza]) -> bool
     false
 }
 
-/// Twice 32 bytes.
-fn joined(first: &[u8; 32], second: &[u8; 32]) -> [u8; 64]
-    ensures { result ≡ first.now ++ second.now }
+/// The salt of HKDF: the share, and then the recipient.
+fn hkdf_salt(share: &[u8; 32], recipient: &[u8; 32]) -> [u8; 64]
+    ensures { result ≡ share.now ++ recipient.now }
 {
     let mut both = [0; 64];
-    both[..32].copy_from_slice(first);
-    both[32..].copy_from_slice(second);
+    both[..32].copy_from_slice(share);
+    both[32..].copy_from_slice(recipient);
     both
 }
 
@@ -93,7 +94,7 @@ impl SharedSecret {
     fn wrap_key(&self, share: &[u8; 32]) -> [u8; 32]
         ensures { result ≡ shared_wrap_key self.now share.now }
     {
-        let salt = joined(share, &self.recipient);
+        let salt = hkdf_salt(share, &self.recipient);
         age_kdf::hkdf32(&self.secret, &salt, b"age-encryption.org/v1/X25519")
     }
 
@@ -103,7 +104,7 @@ impl SharedSecret {
         ensures none { IfNone result (StaysShut self.now stanza.now) }
     {
         match X25519Stanza::read(stanza) {
-            Ok(read) => unwrapped(&self.wrap_key(&read.share), &read.body),
+            Ok(read) => unwrapped_key(&self.wrap_key(&read.share), &read.body),
             Err(_) => None,
         }
     }

@@ -1,17 +1,18 @@
 //! A file key in the body of a stanza: sealed under a wrap key, with a nonce of zeros and no
-//! associated data.
+//! associated data. Zeros serve, since a wrap key comes of a salt or a share that is the stanza's
+//! own, and so seals one file key.
 
 ghost use Rattle.std.specs.Prelude.{◌≡◌, ◌≢◌, ℕ, List, IfSome, IfNone};
-ghost use Rattle.age_keys.specs.Keys.{wrapped};
+ghost use Rattle.age_keys.specs.Keys.{wrapped_key};
 
 use crate::key::FileKey;
 use age_cipher::{open_in_place, seal_in_place};
 
 const NONCE: &[u8; 12] = &[0; 12];
 
-/// A file key, wrapped.
-pub(crate) fn wrapped(wrap_key: &[u8; 32], key: &FileKey) -> [u8; 32]
-    ensures { result ≡ wrapped wrap_key.now key.now }
+/// The body that wraps a file key.
+pub(crate) fn wrapped_key(wrap_key: &[u8; 32], key: &FileKey) -> [u8; 32]
+    ensures { result ≡ wrapped_key wrap_key.now key.now }
 {
     let mut block = [0; 32];
     block[..16].copy_from_slice(key.bytes());
@@ -20,9 +21,9 @@ pub(crate) fn wrapped(wrap_key: &[u8; 32], key: &FileKey) -> [u8; 32]
 }
 
 /// The file key of which this is the wrapping; `None` where there is no such key.
-pub(crate) fn unwrapped(wrap_key: &[u8; 32], body: &[u8; 32]) -> Option<FileKey>
-    ensures key { IfSome result (λ key. body.now ≡ wrapped wrap_key.now key) }
-    ensures none { IfNone result ((key : List ℕ) → body.now ≢ wrapped wrap_key.now key) }
+pub(crate) fn unwrapped_key(wrap_key: &[u8; 32], body: &[u8; 32]) -> Option<FileKey>
+    ensures key { IfSome result (λ key. body.now ≡ wrapped_key wrap_key.now key) }
+    ensures none { IfNone result ((key : List ℕ) → body.now ≢ wrapped_key wrap_key.now key) }
 {
     let mut block = *body;
     if !open_in_place(wrap_key, NONCE, &[], &mut block) {

@@ -4,7 +4,7 @@ use Rattle.std.proofs.Math.Nat.{add-mul-mod_self_left, mul_assoc, div-add-mod, m
 use Rattle.std.proofs.lemmas.List.{get_or-drop}
 use Rattle.std.proofs.lemmas.Nat.{pow-add}
 use Rattle.age_scrypt.specs.BlockMix.{part, xor_words, block_mix}
-use Rattle.age_scrypt.specs.Romix.{mixed_times, number, integerify, looked_up}
+use Rattle.age_scrypt.specs.Romix.{v_block, number, integerify, x_block}
 use Rattle.age_scrypt.specs.inner.Table.{IsTable}
 use Rattle.age_scrypt.specs.inner.Turned.{IsTurned}
 use Rattle.age_scrypt.proofs.PartLemmas.{part-append_left, part-append_right}
@@ -42,25 +42,25 @@ power_whole log h = omega (arith, power_few log h)
 
 -- one more block of the table
 pub table_more : (b : List ℕ) (i : ℕ) (table x : List ℕ) → length table ≡ 256 * i → length x ≡ 256 → IsTable b i table
-    → IsTurned (mixed_times b i) x → IsTable b (i + 1) (table ++ x)
+    → IsTurned (v_block b i) x → IsTable b (i + 1) (table ++ x)
 table_more b i table x len x_len t e = record {
   at = below_more _ _
-      (λ j below. subst (IsTurned (mixed_times b j)) (sym (part-append_left 256 table x j (omega arith))) (t.at j below))
-      (subst (IsTurned (mixed_times b i)) (sym (part-append_right 256 table x i len x_len)) e);
+      (λ j below. subst (IsTurned (v_block b j)) (sym (part-append_left 256 table x j (omega arith))) (t.at j below))
+      (subst (IsTurned (v_block b i)) (sym (part-append_right 256 table x i len x_len)) e);
 }
 
-pub mixed_times_more : (b y : List ℕ) (i : ℕ) → IsTurned (block_mix (mixed_times b i)) y → IsTurned (mixed_times b (i + 1)) y
-unfolding mixed_times
+pub mixed_times_more : (b y : List ℕ) (i : ℕ) → IsTurned (block_mix (v_block b i)) y → IsTurned (v_block b (i + 1)) y
+unfolding v_block
 mixed_times_more b y i t = rw add-one t
 
 pub looked_up_more : (n : ℕ) (b y : List ℕ) (i : ℕ)
-    → IsTurned (block_mix (xor_words (looked_up n b i) (mixed_times b (integerify (looked_up n b i) % n)))) y → IsTurned (looked_up n b (i + 1)) y
-unfolding looked_up
+    → IsTurned (block_mix (xor_words (x_block n b i) (v_block b (integerify (x_block n b i) % n)))) y → IsTurned (x_block n b (i + 1)) y
+unfolding x_block
 looked_up_more n b y i t = rw add-one t
 
 -- the block of the table that a turned block asks for
 pub table_at : (n : ℕ) (b table x : List ℕ) (at : ℕ) → IsTable b n table → 0 < n → at ≡ integerify x % n
-    → IsTurned (mixed_times b (integerify x % n)) (part 256 table at)
+    → IsTurned (v_block b (integerify x % n)) (part 256 table at)
 table_at n b table x at t some place =
     let within : at < n = omega (arith, place, mod-lt (integerify x) some) in
-    subst (λ k. IsTurned (mixed_times b k) (part 256 table at)) place (t.at at within)
+    subst (λ k. IsTurned (v_block b k) (part 256 table at)) place (t.at at within)

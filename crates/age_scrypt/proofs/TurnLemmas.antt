@@ -6,7 +6,7 @@ use Rattle.std.proofs.lemmas.List.{length-append, get_or-drop, get_or-take, take
 use Rattle.std.proofs.Math.Seq.{drop-append-add}
 use Rattle.std.proofs.lemmas.Simd.{length-zip2}
 use Rattle.age_scrypt.specs.Salsa.{add32, salsa20_8, double_rounds}
-use Rattle.age_scrypt.specs.BlockMix.{part, xor_words, chained, block_mix}
+use Rattle.age_scrypt.specs.BlockMix.{part, xor_words, x_part, block_mix}
 use Rattle.age_scrypt.specs.inner.Lanes.{words, at_places, IsDiagonals}
 use Rattle.age_scrypt.specs.inner.Turned.{turned, IsTurned}
 use Rattle.age_scrypt.specs.declared.part.Part.{Part}
@@ -49,13 +49,13 @@ length-salsa20_8 x len =
     let mixed = length-double_rounds 4 x len in
     length-zip2 add32 (double_rounds 4 x) x (mixed ∙ sym len) ∙ mixed
 
-pub length-chained : (b : List ℕ) (i : ℕ) → length b ≡ 256 → i ≤ 16 → length (chained b i) ≡ 16
-unfolding chained
+pub length-chained : (b : List ℕ) (i : ℕ) → length b ≡ 256 → i ≤ 16 → length (x_part b i) ≡ 16
+unfolding x_part
 length-chained b zero len below = length-part b 15 len (omega arith)
 length-chained b (suc i) len below =
     let x = length-chained b i len (omega arith) in
     let y = length-part b i len (omega arith) in
-    length-salsa20_8 _ (length-zip2 bit_xor (chained b i) (part 16 b i) (x ∙ sym y) ∙ x)
+    length-salsa20_8 _ (length-zip2 bit_xor (x_part b i) (part 16 b i) (x ∙ sym y) ∙ x)
 
 -- what holds of each number below sixteen
 each_of_sixteen : (P : ℕ → Type 0) → P 0 → P 1 → P 2 → P 3 → P 4 → P 5 → P 6 → P 7 → P 8 → P 9 → P 10 → P 11 → P 12 → P 13 → P 14 → P 15 → (k : ℕ) → k < 16 → P k
@@ -86,19 +86,19 @@ length-pieces f (x ∷ xs) len =
 abbrev order : List ℕ
 order = 0 ∷ 2 ∷ 4 ∷ 6 ∷ 8 ∷ 10 ∷ 12 ∷ 14 ∷ 1 ∷ 3 ∷ 5 ∷ 7 ∷ 9 ∷ 11 ∷ 13 ∷ 15 ∷ []
 
-lengths_of_outputs : (b : List ℕ) → length b ≡ 256 → (m : ℕ) → m < 16 → length (chained b (get_or order m 0 + 1)) ≡ 16
+lengths_of_outputs : (b : List ℕ) → length b ≡ 256 → (m : ℕ) → m < 16 → length (x_part b (get_or order m 0 + 1)) ≡ 16
 lengths_of_outputs b len =
-    each_of_sixteen (λ m. length (chained b (get_or order m 0 + 1)) ≡ 16)
+    each_of_sixteen (λ m. length (x_part b (get_or order m 0 + 1)) ≡ 16)
     (length-chained b 1 len (omega arith)) (length-chained b 3 len (omega arith)) (length-chained b 5 len (omega arith)) (length-chained b 7 len (omega arith)) (length-chained b 9 len (omega arith)) (length-chained b 11 len (omega arith)) (length-chained b 13 len (omega arith)) (length-chained b 15 len (omega arith)) (length-chained b 2 len (omega arith)) (length-chained b 4 len (omega arith)) (length-chained b 6 len (omega arith)) (length-chained b 8 len (omega arith)) (length-chained b 10 len (omega arith)) (length-chained b 12 len (omega arith)) (length-chained b 14 len (omega arith)) (length-chained b 16 len (omega arith))
 
 -- outputs that are turned, each at its place, are the turned block
-pub mixed_turned : (b to : List ℕ) → length b ≡ 256 → ((j : ℕ) → j < 16 → part 16 to (j / 2 + j % 2 * 8) ≡ turned (chained b (j + 1)))
+pub mixed_turned : (b to : List ℕ) → length b ≡ 256 → ((j : ℕ) → j < 16 → part 16 to (j / 2 + j % 2 * 8) ≡ turned (x_part b (j + 1)))
     → IsTurned (block_mix b) to
 unfolding block_mix
 mixed_turned b to len h =
-    let f : ℕ → List ℕ = λ j. chained b (j + 1) in
-    let placed : (i : ℕ) → i < 16 → part 16 to i ≡ turned (chained b (get_or order i 0 + 1)) =
-    each_of_sixteen (λ i. part 16 to i ≡ turned (chained b (get_or order i 0 + 1)))
+    let f : ℕ → List ℕ = λ j. x_part b (j + 1) in
+    let placed : (i : ℕ) → i < 16 → part 16 to i ≡ turned (x_part b (get_or order i 0 + 1)) =
+    each_of_sixteen (λ i. part 16 to i ≡ turned (x_part b (get_or order i 0 + 1)))
     (h 0 (omega arith)) (h 2 (omega arith)) (h 4 (omega arith)) (h 6 (omega arith)) (h 8 (omega arith)) (h 10 (omega arith)) (h 12 (omega arith)) (h 14 (omega arith)) (h 1 (omega arith)) (h 3 (omega arith)) (h 5 (omega arith)) (h 7 (omega arith)) (h 9 (omega arith)) (h 11 (omega arith)) (h 13 (omega arith)) (h 15 (omega arith)) in
     record {
       len = length-pieces f order (lengths_of_outputs b len);

@@ -4,9 +4,9 @@ use Rattle.std.specs.Prelude.{ℕ, zero, suc, ◌+◌, ◌*◌, ◌%◌, ◌^◌
 use Rattle.age_scrypt.specs.BlockMix.{part, xor_words, block_mix}
 
 -- V i: BlockMix applied i times to the block b
-unfoldable pub mixed_times : List ℕ → ℕ → List ℕ
-mixed_times b zero = b
-mixed_times b (suc i) = block_mix (mixed_times b i)
+unfoldable pub v_block : List ℕ → ℕ → List ℕ
+v_block b zero = b
+v_block b (suc i) = block_mix (v_block b i)
 
 -- the number of which these are the words, the lowest first
 unfoldable pub number : List ℕ → ℕ
@@ -18,12 +18,12 @@ unfoldable pub integerify : List ℕ → ℕ
 integerify x = number (part 16 x 15)
 
 -- X: at first V n, and then BlockMix of X xor V (Integerify(X) mod n), i times
-unfoldable pub looked_up : ℕ → List ℕ → ℕ → List ℕ
-looked_up n b zero = mixed_times b n
-looked_up n b (suc i) =
-    let x = looked_up n b i in
-    block_mix (xor_words x (mixed_times b (integerify x % n)))
+unfoldable pub x_block : ℕ → List ℕ → ℕ → List ℕ
+x_block n b zero = v_block b n
+x_block n b (suc i) =
+    let x = x_block n b i in
+    block_mix (xor_words x (v_block b (integerify x % n)))
 
 -- the block b after all of the n
 abbrev pub romix : ℕ → List ℕ → List ℕ
-romix n b = looked_up n b n
+romix n b = x_block n b n

@@ -14,7 +14,8 @@
 //! A count of steps for contracts alone says that the work was done: a step is one BlockMix.
 #![tactic(auto)]
 
-ghost use Rattle.std.specs.Prelude.{◌≡◌, ◌+◌, ◌*◌, ◌^◌, ◌≤◌, length, vec_len, vec_capacity, IfOk, OnOk, OnErr};
+ghost use Rattle.std.specs.Prelude.{◌≡◌, ◌+◌, ◌*◌, ◌^◌, ◌≤◌, length, vec_len, vec_capacity, IfOk};
+ghost use Rattle.std.specs.Prelude.{OnOk, OnErr};
 ghost use Rattle.age_scrypt.specs.Scrypt.{scrypt};
 
 mod fault;
@@ -34,7 +35,7 @@ use romix::{block_count, romix};
 use std::alloc::Global;
 pub use steps::Steps;
 
-/// The key, in memory that is lent: an empty table with room for all blocks, and two blocks.
+/// The key, in memory that the caller has: an empty table with room for all blocks, and two blocks.
 fn derive_in(
     pass: &[u8],
     salt: &[u8],

@@ -1,8 +1,9 @@
 //! ROMix with r = 8 (RFC 7914, section 5), over one flat table of words.
 
-ghost use Rattle.std.specs.Prelude.{◌≡◌, ℕ, ◌+◌, ◌*◌, ◌%◌, ◌^◌, ◌<◌, ◌≤◌, List, length, vec_len, vec_capacity};
+ghost use Rattle.std.specs.Prelude.{◌≡◌, ℕ, ◌+◌, ◌*◌, ◌%◌, ◌^◌, ◌<◌, ◌≤◌, List, length, vec_len};
+ghost use Rattle.std.specs.Prelude.{vec_capacity};
 ghost use Rattle.age_scrypt.specs.BlockMix.{xor_words};
-ghost use Rattle.age_scrypt.specs.Romix.{mixed_times, integerify, romix};
+ghost use Rattle.age_scrypt.specs.Romix.{v_block, integerify, romix};
 ghost use Rattle.age_scrypt.specs.inner.Table.{IsTable};
 ghost use Rattle.age_scrypt.specs.inner.Turned.{IsTurned};
 
@@ -54,7 +55,7 @@ fn fill(table: &mut Vec<u32>, x: &mut [u32], n: usize, steps: &mut Steps)
     requires x { length x.old ≡ 256 }
     ensures len { vec_len table.new ≡ 256 * n }
     ensures table { (b : List ℕ) → IsTurned b x.old → IsTable b n table.new.items }
-    ensures x { (b : List ℕ) → IsTurned b x.old → IsTurned (mixed_times b n) x.new }
+    ensures x { (b : List ℕ) → IsTurned b x.old → IsTurned (v_block b n) x.new }
     ensures counted { steps.new ≡ steps.old + n }
 {
     for i in 0..n {
@@ -71,7 +72,7 @@ fn look_up(table: &[u32], x: &mut [u32], y: &mut [u32], n: usize, steps: &mut St
     requires y { length y.old ≡ 256 }
     requires n { 2 ^ 32 % n ≡ 0 }
     requires some { 0 < n }
-    ensures x { (b : List ℕ) → IsTable b n table.now → IsTurned (mixed_times b n) x.old
+    ensures x { (b : List ℕ) → IsTable b n table.now → IsTurned (v_block b n) x.old
         → IsTurned (romix n b) x.new }
     ensures counted { steps.new ≡ steps.old + n }
 {

@@ -11,7 +11,7 @@ use Rattle.age_stanza.specs.declared.place.Place.{Place}
 use Rattle.age_stanza.specs.declared.place.Place.TheVariants.{Start, Between, InBody}
 use Rattle.age_stanza.specs.declared.place.Next.TheVariants.{Go, Done}
 use Rattle.age_stanza.specs.Text.{text}
-use Rattle.age_stanza.specs.inner.LineMachine.{decoded, ready, walk, after, step}
+use Rattle.age_stanza.specs.inner.LineMachine.{base64_bytes, ready, walk, after, step}
 use Rattle.age_stanza.specs.Grammar.{line, version, IsArgument, argument_line, in_lines, stanza_text, end_line, head_text, IsStanza, IsHeader}
 use Rattle.age_stanza.proofs.Texts.{text-append, length-text, decoded-text, IsBytes-take, IsBytes-drop, IsLine, IsLine-append, text_line, line_from_test}
 use Rattle.age_stanza.proofs.Lines.{IsVisible, in_lines-full, in_lines-short, read_argument_line, read_end_line}
@@ -66,12 +66,12 @@ unfolding step
 step_arguments ss [] some lawful = absurd (omega arith)
 step_arguments ss (a ∷ args) some lawful = rw (read_argument_line (a ∷ args) some lawful) refl
 
-step_full : (ss : List Stanza) (args : List (List ℕ)) (body l more : List ℕ) → length l ≡ 64 → decoded l ≡ Some more
+step_full : (ss : List Stanza) (args : List (List ℕ)) (body l more : List ℕ) → length l ≡ 64 → base64_bytes l ≡ Some more
     → step (InBody ss args body) l ≡ Ok (Go (InBody ss args (body ++ more)))
 unfolding step
 step_full ss args body l more long is = rw (le-ltb 64 (length l) (omega arith), eq-eqb (length l) 64 long, is) refl
 
-pub step_last : (ss : List Stanza) (args : List (List ℕ)) (body l more : List ℕ) → length l < 64 → decoded l ≡ Some more
+pub step_last : (ss : List Stanza) (args : List (List ℕ)) (body l more : List ℕ) → length l < 64 → base64_bytes l ≡ Some more
     → step (InBody ss args body) l ≡ Ok (Go (Between (ss ++ (record { args = args; body = body ++ more }) ∷ [])))
 unfolding step
 step_last ss args body l more short is = rw (le-ltb 64 (length l) (omega arith), ne_eqb (length l) 64 (λ e. omega arith), is) refl

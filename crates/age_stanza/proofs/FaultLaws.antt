@@ -19,7 +19,7 @@ use Rattle.age_stanza.specs.declared.place.Place.TheVariants.{Start, Between, In
 use Rattle.age_stanza.specs.declared.place.Next.{Next}
 use Rattle.age_stanza.specs.declared.place.Next.TheVariants.{Go, Done}
 use Rattle.age_stanza.specs.Text.{text}
-use Rattle.age_stanza.specs.inner.LineMachine.{decoded, unfinished, ready, faulty, walk, after, step, ended, begun, continued, arguments_of, mac_of, fault_at}
+use Rattle.age_stanza.specs.inner.LineMachine.{base64_bytes, unfinished, ready, faulty, walk, after, step, end_line_result, argument_line_result, body_line_result, arguments_of, mac_of, fault_at}
 use Rattle.age_stanza.specs.Grammar.{line, version, in_lines, stanza_text, end_line, head_text, IsStanza, IsHeader}
 use Rattle.age_stanza.specs.Faults.{armor, Begins, IsLine, AreLines, stanzas_text, IsEndLine, RefusesBetween, Refuses, line_after, NoFault, IsLineFault}
 use Rattle.age_stanza.proofs.Texts.{bytes_from_pass, IsBytes-append, IsBytes-tail, IsLine-append, decoded-text, text-nil, line_from_test}
@@ -219,7 +219,7 @@ told_first l kind e = elim (chosen (bytes_eq l version) (Ok (Go (Between []))) _
   ]
 ]
 
-told_ended : (ss : List Stanza) (l : List ℕ) (kind : HeadKind) (o : Option (List ℕ)) → IsBytes l → mac_of l ≡ o → ended ss o ≡ Err kind
+told_ended : (ss : List Stanza) (l : List ℕ) (kind : HeadKind) (o : Option (List ℕ)) → IsBytes l → mac_of l ≡ o → end_line_result ss o ≡ Err kind
     → (IsEndLine l → kind ≡ NoStanza) × ((IsEndLine l → ⊥) → kind ≡ BadEndLine)
 told_ended ss l kind None fits is e =
     let not_end : IsEndLine l → ⊥ = λ has. none-some has.0 (sym is ∙ ap mac_of has.3 ∙ read_end_line has.0 has.1 has.2) in
@@ -229,7 +229,7 @@ told_ended [] l kind (Some mac) fits is e =
     (λ _. cc, λ not. absurd (not (mac, read.1, read.2, read.0)))
 told_ended (s ∷ ss) l kind (Some mac) fits is e = absurd cc
 
-told_begun : (ss : List Stanza) (kind : HeadKind) (o : Option (List (List ℕ))) → begun ss o ≡ Err kind → kind ≡ BadStanzaLine
+told_begun : (ss : List Stanza) (kind : HeadKind) (o : Option (List (List ℕ))) → argument_line_result ss o ≡ Err kind → kind ≡ BadStanzaLine
 told_begun ss kind None e = cc
 told_begun ss kind (Some args) e = absurd cc
 
@@ -241,7 +241,7 @@ true_false b t f = cc
 
 told_between : (ss : List Stanza) (l : List ℕ) (kind : HeadKind) → IsBytes l → step (Between ss) l ≡ Err kind → RefusesBetween l kind
 unfolding step
-told_between ss l kind fits e = elim (chosen (starts_with nat_eq l (codes "---")) (ended ss (mac_of l)) (begun ss (arguments_of l)) (Err kind) e) [
+told_between ss l kind fits e = elim (chosen (starts_with nat_eq l (codes "---")) (end_line_result ss (mac_of l)) (argument_line_result ss (arguments_of l)) (Err kind) e) [
   | inl h ↦
       let told = told_ended ss l kind (mac_of l) fits refl h.1 in
       record { no_stanza = told.0; bad_end = λ _ not. told.1 not; bad_stanza = λ f. absurd (true_false _ h.0 f) }
@@ -250,7 +250,7 @@ told_between ss l kind fits e = elim (chosen (starts_with nat_eq l (codes "---")
       record { no_stanza = λ has. absurd (true_false _ (end_starts l has) h.0); bad_end = λ t _. absurd (true_false _ t h.0); bad_stanza = λ _. told }
 ]
 
-told_continued : (ss : List Stanza) (args : List (List ℕ)) (body : List ℕ) (kind : HeadKind) (full : Bool) (o : Option (List ℕ)) → continued ss args body full o ≡ Err kind → kind ≡ BadBody
+told_continued : (ss : List Stanza) (args : List (List ℕ)) (body : List ℕ) (kind : HeadKind) (full : Bool) (o : Option (List ℕ)) → body_line_result ss args body full o ≡ Err kind → kind ≡ BadBody
 told_continued ss args body kind true None e = cc
 told_continued ss args body kind false None e = cc
 told_continued ss args body kind true (Some more) e = absurd cc
@@ -258,9 +258,9 @@ told_continued ss args body kind false (Some more) e = absurd cc
 
 told_body : (ss : List Stanza) (args : List (List ℕ)) (body l : List ℕ) (kind : HeadKind) → step (InBody ss args body) l ≡ Err kind → kind ≡ BadBody
 unfolding step
-told_body ss args body l kind e = elim (chosen (ltb 64 (length l)) (Err BadBody) (continued ss args body (eqb (length l) 64) (decoded l)) (Err kind) e) [
+told_body ss args body l kind e = elim (chosen (ltb 64 (length l)) (Err BadBody) (body_line_result ss args body (eqb (length l) 64) (base64_bytes l)) (Err kind) e) [
   | inl h ↦ cc (h.1)
-  | inr h ↦ told_continued ss args body kind (eqb (length l) 64) (decoded l) h.1
+  | inr h ↦ told_continued ss args body kind (eqb (length l) 64) (base64_bytes l) h.1
 ]
 
 -- ---- which place it is
@@ -282,7 +282,7 @@ no_text ss e = cc
 -- an empty line goes on in a body
 empty_goes : (ss : List Stanza) (args : List (List ℕ)) (body : List ℕ) (n : ℕ) → walk (InBody ss args body) n [] (line [] ++ []) ≡ unfinished
 unfolding walk
-empty_goes ss args body n = walk_go (InBody ss args body) _ n [] [] tt (step_last ss args body [] [] (omega arith) (subst (λ (t : List ℕ). decoded t ≡ Some []) text-nil (decoded-text [] no_bytes)))
+empty_goes ss args body n = walk_go (InBody ss args body) _ n [] [] tt (step_last ss args body [] [] (omega arith) (subst (λ (t : List ℕ). base64_bytes t ≡ Some []) text-nil (decoded-text [] no_bytes)))
 
 empty_refused : (ss : List Stanza) (n : ℕ) → walk (Between ss) n [] (line [] ++ []) ≡ faulty (fault_at BadStanzaLine n)
 unfolding walk step arguments_of
@@ -345,16 +345,16 @@ no_text_goes_on before l place n kind at lined e has =
     let refused = at.reaches (line l ++ r) ∙ walk_text place n [] l r lined ∙ ap (after n r (λ q. walk q (n + 1) [] r)) e in
     not_ready (fault_at kind n) h [] (sym refused ∙ sym (ap (walk Start 1 []) whole) ∙ text_walk h [] has.2.lawful)
 
-never_ended : (ss : List Stanza) (o : Option (List ℕ)) → ended ss o ≡ Err Memory → ⊥
+never_ended : (ss : List Stanza) (o : Option (List ℕ)) → end_line_result ss o ≡ Err Memory → ⊥
 never_ended ss None e = cc
 never_ended [] (Some mac) e = cc
 never_ended (s ∷ ss) (Some mac) e = cc
 
-never_begun : (ss : List Stanza) (o : Option (List (List ℕ))) → begun ss o ≡ Err Memory → ⊥
+never_begun : (ss : List Stanza) (o : Option (List (List ℕ))) → argument_line_result ss o ≡ Err Memory → ⊥
 never_begun ss None e = cc
 never_begun ss (Some args) e = cc
 
-never_continued : (ss : List Stanza) (args : List (List ℕ)) (body : List ℕ) (full : Bool) (o : Option (List ℕ)) → continued ss args body full o ≡ Err Memory → ⊥
+never_continued : (ss : List Stanza) (args : List (List ℕ)) (body : List ℕ) (full : Bool) (o : Option (List ℕ)) → body_line_result ss args body full o ≡ Err Memory → ⊥
 never_continued ss args body true None e = cc
 never_continued ss args body false None e = cc
 never_continued ss args body true (Some more) e = cc
@@ -369,13 +369,13 @@ never_memory Start l e = elim (chosen (bytes_eq l version) (Ok (Go (Between []))
     | inr g ↦ cc (g.1)
   ]
 ]
-never_memory (Between ss) l e = elim (chosen (starts_with nat_eq l (codes "---")) (ended ss (mac_of l)) (begun ss (arguments_of l)) (Err Memory) e) [
+never_memory (Between ss) l e = elim (chosen (starts_with nat_eq l (codes "---")) (end_line_result ss (mac_of l)) (argument_line_result ss (arguments_of l)) (Err Memory) e) [
   | inl h ↦ never_ended ss (mac_of l) h.1
   | inr h ↦ never_begun ss (arguments_of l) h.1
 ]
-never_memory (InBody ss args body) l e = elim (chosen (ltb 64 (length l)) (Err BadBody) (continued ss args body (eqb (length l) 64) (decoded l)) (Err Memory) e) [
+never_memory (InBody ss args body) l e = elim (chosen (ltb 64 (length l)) (Err BadBody) (body_line_result ss args body (eqb (length l) 64) (base64_bytes l)) (Err Memory) e) [
   | inl h ↦ cc (h.1)
-  | inr h ↦ never_continued ss args body (eqb (length l) 64) (decoded l) h.1
+  | inr h ↦ never_continued ss args body (eqb (length l) 64) (base64_bytes l) h.1
 ]
 
 named : (kind : HeadKind) (n : ℕ) → (kind ≡ Memory → ⊥) → ((fault_at kind n).line ≡ n) × ((fault_at kind n).kind ≡ kind)

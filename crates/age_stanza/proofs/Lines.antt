@@ -9,7 +9,7 @@ use Rattle.std.proofs.lemmas.List.Concat.{flat_map-append}
 use Rattle.std.proofs.lemmas.Slice.Eq.{starts_is}
 use Rattle.std.proofs.lemmas.Option.{cond_some}
 use Rattle.base64.specs.GeneralPurpose.{IsBytes}
-use Rattle.age_stanza.specs.inner.LineMachine.{decoded, arguments_from, arguments_of, mac_of, whole_mac}
+use Rattle.age_stanza.specs.inner.LineMachine.{base64_bytes, arguments_from, arguments_of, mac_of, whole_mac}
 use Rattle.age_stanza.specs.Text.{text}
 use Rattle.age_stanza.specs.Grammar.{line, IsArgument, argument_line, in_lines, end_line}
 use Rattle.age_stanza.proofs.Texts.{text_of_decoded, decoded-text, IsBytes-drop}
@@ -211,10 +211,10 @@ whole_is (Some m) mac e =
 
 pub end_line_read : (l mac : List ℕ) → IsBytes l → mac_of l ≡ Some mac → (l ≡ end_line mac) × (length mac ≡ 32) × IsBytes mac
 unfolding mac_of
-end_line_read l mac fits e = elim (chosen (starts_with nat_eq l (codes "--- ")) (whole_mac (decoded (drop 4 l))) None (Some mac) e) [
+end_line_read l mac fits e = elim (chosen (starts_with nat_eq l (codes "--- ")) (whole_mac (base64_bytes (drop 4 l))) None (Some mac) e) [
   | inl h ↦
       let front = starts_at l (codes "--- ") h.0 in
-      let whole = whole_is (decoded (drop 4 l)) mac h.1 in
+      let whole = whole_is (base64_bytes (drop 4 l)) mac h.1 in
       let is = text_of_decoded (drop 4 l) mac (IsBytes-drop 4 l fits) whole.0 in
       (front ∙ ap (λ (xs : List ℕ). codes "--- " ++ xs) is.0, whole.1, is.1)
   | inr h ↦ absurd (cc (h.1))

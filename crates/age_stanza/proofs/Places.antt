@@ -17,7 +17,7 @@ use Rattle.age_stanza.specs.declared.place.Place.TheVariants.{Start, Between, In
 use Rattle.age_stanza.specs.declared.place.Next.{Next}
 use Rattle.age_stanza.specs.declared.place.Next.TheVariants.{Go, Done}
 use Rattle.age_stanza.specs.Text.{text}
-use Rattle.age_stanza.specs.inner.LineMachine.{decoded, ready, walk, after, step, ended, begun, continued, arguments_of, mac_of}
+use Rattle.age_stanza.specs.inner.LineMachine.{base64_bytes, ready, walk, after, step, end_line_result, argument_line_result, body_line_result, arguments_of, mac_of}
 use Rattle.age_stanza.specs.Grammar.{line, version, IsArgument, argument_line, in_lines, stanza_text, end_line, head_text, IsStanza, IsHeader}
 use Rattle.age_stanza.specs.Faults.{armor}
 use Rattle.age_stanza.proofs.Texts.{text-append, length-text, text_of_decoded, IsBytes-append, IsBytes-tail}
@@ -64,7 +64,7 @@ leads_start l next e = elim (chosen (bytes_eq l version) (Ok (Go (Between []))) 
   ]
 ]
 
-pub not_ended : (ss : List Stanza) (o : Option (List ℕ)) (next : Place) → ended ss o ≡ Ok (Go next) → ⊥
+pub not_ended : (ss : List Stanza) (o : Option (List ℕ)) (next : Place) → end_line_result ss o ≡ Ok (Go next) → ⊥
 not_ended ss None next e = cc
 not_ended [] (Some mac) next e = cc
 not_ended (s ∷ ss) (Some mac) next e = cc
@@ -77,7 +77,7 @@ stanza_front args body more mac =
     ∙ sym (append_assoc (stanza_text s) (flat_map stanza_text more) (line (end_line mac)))
 
 leads_begun : (ss : List Stanza) (l : List ℕ) (next : Place) (o : Option (List (List ℕ))) → AllByRecursion IsStanza ss → arguments_of l ≡ o
-    → begun ss o ≡ Ok (Go next) → Leads (Between ss) l next
+    → argument_line_result ss o ≡ Ok (Go next) → Leads (Between ss) l next
 leads_begun ss l next None known is e = absurd cc
 leads_begun ss l next (Some args) known is e =
     let read = argument_line_read l args is in
@@ -89,7 +89,7 @@ leads_begun ss l next (Some args) known is e =
 
 leads_between : (ss : List Stanza) (l : List ℕ) (next : Place) → AllByRecursion IsStanza ss → step (Between ss) l ≡ Ok (Go next) → Leads (Between ss) l next
 unfolding step
-leads_between ss l next known e = elim (chosen (starts_with nat_eq l (codes "---")) (ended ss (mac_of l)) (begun ss (arguments_of l)) (Ok (Go next)) e) [
+leads_between ss l next known e = elim (chosen (starts_with nat_eq l (codes "---")) (end_line_result ss (mac_of l)) (argument_line_result ss (arguments_of l)) (Ok (Go next)) e) [
   | inl h ↦ absurd (not_ended ss (mac_of l) next h.1)
   | inr h ↦ leads_begun ss l next (arguments_of l) known refl h.1
 ]
@@ -102,8 +102,8 @@ body_split l more rest is long =
     rw (text-append more rest whole, ← is) (in_lines-full 0 l (text rest) (omega arith) (omega arith))
 
 leads_continued : (ss : List Stanza) (args : List (List ℕ)) (body l : List ℕ) (next : Place) (full : Bool) (o : Option (List ℕ))
-    → IsPlace (InBody ss args body) → IsBytes l → length l ≤ 64 → eqb (length l) 64 ≡ full → decoded l ≡ o
-    → continued ss args body full o ≡ Ok (Go next) → Leads (InBody ss args body) l next
+    → IsPlace (InBody ss args body) → IsBytes l → length l ≤ 64 → eqb (length l) 64 ≡ full → base64_bytes l ≡ o
+    → body_line_result ss args body full o ≡ Ok (Go next) → Leads (InBody ss args body) l next
 leads_continued ss args body l next true None known fits le long is e = absurd cc
 leads_continued ss args body l next false None known fits le long is e = absurd cc
 leads_continued ss args body l next true (Some more) known fits le long is e =
@@ -136,9 +136,9 @@ leads_continued ss args body l next false (Some more) known fits le long is e =
 leads_body : (ss : List Stanza) (args : List (List ℕ)) (body l : List ℕ) (next : Place) → IsPlace (InBody ss args body) → IsBytes l
     → step (InBody ss args body) l ≡ Ok (Go next) → Leads (InBody ss args body) l next
 unfolding step
-leads_body ss args body l next known fits e = elim (chosen (ltb 64 (length l)) (Err BadBody) (continued ss args body (eqb (length l) 64) (decoded l)) (Ok (Go next)) e) [
+leads_body ss args body l next known fits e = elim (chosen (ltb 64 (length l)) (Err BadBody) (body_line_result ss args body (eqb (length l) 64) (base64_bytes l)) (Ok (Go next)) e) [
   | inl h ↦ absurd (cc (h.1))
-  | inr h ↦ leads_continued ss args body l next (eqb (length l) 64) (decoded l) known fits (ltb-false 64 (length l) h.0) refl refl h.1
+  | inr h ↦ leads_continued ss args body l next (eqb (length l) 64) (base64_bytes l) known fits (ltb-false 64 (length l) h.0) refl refl h.1
 ]
 
 pub leads : (place next : Place) (l : List ℕ) → IsPlace place → IsBytes l → step place l ≡ Ok (Go next) → Leads place l next
@@ -167,12 +167,12 @@ ends_start l h e = elim (chosen (bytes_eq l version) (Ok (Go (Between []))) _ (O
   ]
 ]
 
-not_begun : (ss : List Stanza) (o : Option (List (List ℕ))) (h : Header) → begun ss o ≡ Ok (Done h) → ⊥
+not_begun : (ss : List Stanza) (o : Option (List (List ℕ))) (h : Header) → argument_line_result ss o ≡ Ok (Done h) → ⊥
 not_begun ss None h e = cc
 not_begun ss (Some args) h e = cc
 
 ends_ended : (ss : List Stanza) (l : List ℕ) (h : Header) (o : Option (List ℕ)) → AllByRecursion IsStanza ss → IsBytes l → mac_of l ≡ o
-    → ended ss o ≡ Ok (Done h) → Ends (Between ss) l h
+    → end_line_result ss o ≡ Ok (Done h) → Ends (Between ss) l h
 ends_ended ss l h None known fits is e = absurd cc
 ends_ended [] l h (Some mac) known fits is e = absurd cc
 ends_ended (s ∷ ss) l h (Some mac) known fits is e =
@@ -185,12 +185,12 @@ ends_ended (s ∷ ss) l h (Some mac) known fits is e =
 
 ends_between : (ss : List Stanza) (l : List ℕ) (h : Header) → AllByRecursion IsStanza ss → IsBytes l → step (Between ss) l ≡ Ok (Done h) → Ends (Between ss) l h
 unfolding step
-ends_between ss l h known fits e = elim (chosen (starts_with nat_eq l (codes "---")) (ended ss (mac_of l)) (begun ss (arguments_of l)) (Ok (Done h)) e) [
+ends_between ss l h known fits e = elim (chosen (starts_with nat_eq l (codes "---")) (end_line_result ss (mac_of l)) (argument_line_result ss (arguments_of l)) (Ok (Done h)) e) [
   | inl g ↦ ends_ended ss l h (mac_of l) known fits refl g.1
   | inr g ↦ absurd (not_begun ss (arguments_of l) h g.1)
 ]
 
-not_continued : (ss : List Stanza) (args : List (List ℕ)) (body : List ℕ) (h : Header) (full : Bool) (o : Option (List ℕ)) → continued ss args body full o ≡ Ok (Done h) → ⊥
+not_continued : (ss : List Stanza) (args : List (List ℕ)) (body : List ℕ) (h : Header) (full : Bool) (o : Option (List ℕ)) → body_line_result ss args body full o ≡ Ok (Done h) → ⊥
 not_continued ss args body h true None e = cc
 not_continued ss args body h false None e = cc
 not_continued ss args body h true (Some more) e = cc
@@ -198,9 +198,9 @@ not_continued ss args body h false (Some more) e = cc
 
 ends_body : (ss : List Stanza) (args : List (List ℕ)) (body l : List ℕ) (h : Header) → step (InBody ss args body) l ≡ Ok (Done h) → ⊥
 unfolding step
-ends_body ss args body l h e = elim (chosen (ltb 64 (length l)) (Err BadBody) (continued ss args body (eqb (length l) 64) (decoded l)) (Ok (Done h)) e) [
+ends_body ss args body l h e = elim (chosen (ltb 64 (length l)) (Err BadBody) (body_line_result ss args body (eqb (length l) 64) (base64_bytes l)) (Ok (Done h)) e) [
   | inl g ↦ cc (g.1)
-  | inr g ↦ not_continued ss args body h (eqb (length l) 64) (decoded l) g.1
+  | inr g ↦ not_continued ss args body h (eqb (length l) 64) (base64_bytes l) g.1
 ]
 
 ends : (place : Place) (l : List ℕ) (h : Header) → IsPlace place → IsBytes l → step place l ≡ Ok (Done h) → Ends place l h

@@ -14,10 +14,10 @@ use Rattle.age_stanza.specs.declared.place.Place.{Place}
 use Rattle.age_stanza.specs.declared.place.Place.TheVariants.{Start, Between, InBody}
 use Rattle.age_stanza.specs.declared.place.Next.TheVariants.{Go}
 use Rattle.age_stanza.specs.Text.{text}
-use Rattle.age_stanza.specs.inner.LineMachine.{decoded, step, ended, begun, continued, arguments_of, mac_of}
+use Rattle.age_stanza.specs.inner.LineMachine.{base64_bytes, step, end_line_result, argument_line_result, body_line_result, arguments_of, mac_of}
 use Rattle.age_stanza.specs.Grammar.{line, version, argument_line, in_lines, stanza_text}
 use Rattle.age_stanza.specs.Faults.{stanzas_text, armor}
-use Rattle.age_stanza.specs.inner.Retelling.{whole_lines, retold, IsWhole}
+use Rattle.age_stanza.specs.inner.Retelling.{whole_lines, bytes_before, IsWhole}
 use Rattle.age_stanza.proofs.Texts.{text-append, text-nil, length-text, text_of_decoded}
 use Rattle.age_stanza.proofs.Lines.{chosen, in_lines-short, argument_line_read}
 use Rattle.age_stanza.proofs.Places.{same_go, not_ended}
@@ -68,9 +68,9 @@ whole_line k (c ∷ d ∷ ds) e some =
     rw (ne_eqb k 63 before) (ap (λ (xs : List ℕ). c ∷ xs) (whole_line (k + 1) (d ∷ ds) (omega arith) (omega arith)))
 
 abbrev Retells : Place → List ℕ → Place → Type 0
-Retells place l next = (retold next ≡ retold place ++ line l) × IsWhole next
+Retells place l next = (bytes_before next ≡ bytes_before place ++ line l) × IsWhole next
 
-retells_begun : (ss : List Stanza) (l : List ℕ) (next : Place) (o : Option (List (List ℕ))) → arguments_of l ≡ o → begun ss o ≡ Ok (Go next) → Retells (Between ss) l next
+retells_begun : (ss : List Stanza) (l : List ℕ) (next : Place) (o : Option (List (List ℕ))) → arguments_of l ≡ o → argument_line_result ss o ≡ Ok (Go next) → Retells (Between ss) l next
 unfolding whole_lines
 retells_begun ss l next None is e = absurd cc
 retells_begun ss l next (Some args) is e =
@@ -79,8 +79,8 @@ retells_begun ss l next (Some args) is e =
     (rw (text-nil, read.0) (ap (λ (t : List ℕ). stanzas_text ss ++ t) (append-nil (line (argument_line args)))), refl)
 
 retells_continued : (ss : List Stanza) (args : List (List ℕ)) (body l : List ℕ) (next : Place) (full : Bool) (o : Option (List ℕ))
-    → length body % 48 ≡ 0 → IsBytes l → length l ≤ 64 → eqb (length l) 64 ≡ full → decoded l ≡ o
-    → continued ss args body full o ≡ Ok (Go next) → Retells (InBody ss args body) l next
+    → length body % 48 ≡ 0 → IsBytes l → length l ≤ 64 → eqb (length l) 64 ≡ full → base64_bytes l ≡ o
+    → body_line_result ss args body full o ≡ Ok (Go next) → Retells (InBody ss args body) l next
 retells_continued ss args body l next true None whole fits le long is e = absurd cc
 retells_continued ss args body l next false None whole fits le long is e = absurd cc
 retells_continued ss args body l next true (Some more) whole fits le long is e =
@@ -124,11 +124,11 @@ retells Start next l whole fits e = elim (chosen (bytes_eq l version) (Ok (Go (B
     | inr g ↦ absurd (cc (g.1))
   ]
 ]
-retells (Between ss) next l whole fits e = elim (chosen (starts_with nat_eq l (codes "---")) (ended ss (mac_of l)) (begun ss (arguments_of l)) (Ok (Go next)) e) [
+retells (Between ss) next l whole fits e = elim (chosen (starts_with nat_eq l (codes "---")) (end_line_result ss (mac_of l)) (argument_line_result ss (arguments_of l)) (Ok (Go next)) e) [
   | inl h ↦ absurd (not_ended ss (mac_of l) next h.1)
   | inr h ↦ retells_begun ss l next (arguments_of l) refl h.1
 ]
-retells (InBody ss args body) next l whole fits e = elim (chosen (ltb 64 (length l)) (Err BadBody) (continued ss args body (eqb (length l) 64) (decoded l)) (Ok (Go next)) e) [
+retells (InBody ss args body) next l whole fits e = elim (chosen (ltb 64 (length l)) (Err BadBody) (body_line_result ss args body (eqb (length l) 64) (base64_bytes l)) (Ok (Go next)) e) [
   | inl h ↦ absurd (cc (h.1))
-  | inr h ↦ retells_continued ss args body l next (eqb (length l) 64) (decoded l) whole fits (ltb-false 64 (length l) h.0) refl refl h.1
+  | inr h ↦ retells_continued ss args body l next (eqb (length l) 64) (base64_bytes l) whole fits (ltb-false 64 (length l) h.0) refl refl h.1
 ]

@@ -1,11 +1,12 @@
 -- The text of bytes, and the bytes of a text.
-use Rattle.std.proofs.Common.{◌≡◌, ℕ, zero, suc, ◌+◌, ◌*◌, ◌/◌, ◌%◌, true, not, ltb, eqb, List, [], ◌∷◌, ◌++◌, length, get_or, take, drop, Option, Some, None, Result, Ok, Err, refl, sym, ap, ◌∙◌, arith}
+use Rattle.std.proofs.Common.{◌≡◌, ℕ, zero, suc, ◌+◌, ◌≤◌, ◌*◌, ◌/◌, ◌%◌, true, not, ltb, eqb, List, [], ◌∷◌, ◌++◌, length, get_or, take, drop, Option, Some, None, Result, Ok, Err, refl, sym, ap, subst, ◌∙◌, arith}
 use Rattle.std.specs.List.{list_all, AllByRecursion}
+use Rattle.std.specs.Prelude.{IfOk, IfErr, IfSome, IfNone}
 use Rattle.std.specs.Result.{result_ok}
 use Rattle.std.proofs.lemmas.Bool.{ltb-true, lt-ltb, and_parts, and_from, eqb-false, not-true}
 use Rattle.std.proofs.lemmas.List.{append-nil, get_or-drop, take-append-drop}
 use Rattle.std.proofs.lemmas.Option.{cond_some}
-use Rattle.base64.specs.GeneralPurpose.{IsBytes, decode_of, encode_of, engine_symbols}
+use Rattle.base64.specs.GeneralPurpose.{IsBytes, IsDecodedInto, decode_of, encode_of, engine_symbols}
 use Rattle.base64.specs.Engines.{standard_no_pad}
 use Rattle.base64.specs.Rfc4648.{encode_symbols}
 use Rattle.base64.specs.declared.decode.DecodeError.{DecodeError}
@@ -13,7 +14,7 @@ use Rattle.base64.proofs.EngineFacts.{decode_of-encode_of, decode_of_strict, enc
 use Rattle.base64.proofs.RoundTrip.{length-encode_symbols}
 use Rattle.age_stanza.specs.Text.{text}
 use Rattle.age_stanza.specs.Laws.{character}
-use Rattle.age_stanza.specs.inner.LineMachine.{decoded, only_bytes}
+use Rattle.age_stanza.specs.inner.LineMachine.{base64_bytes, only_bytes}
 
 pub bytes_pass : (b : List ℕ) → IsBytes b → list_all (λ x. ltb x 256) b ≡ true
 bytes_pass [] h = refl
@@ -25,9 +26,25 @@ bytes_from_pass (x ∷ xs) h zero = ltb-true x 256 (and_parts (ltb x 256) (list_
 bytes_from_pass (x ∷ xs) h (suc i) = bytes_from_pass xs (and_parts (ltb x 256) (list_all (λ y. ltb y 256) xs) h).1 i
 
 -- what decoding answers is what is decoded
-pub decoded_is : (s b : List ℕ) → decode_of standard_no_pad s ≡ Ok b → IsBytes b → Some b ≡ decoded s
-unfolding decoded
+pub decoded_is : (s b : List ℕ) → decode_of standard_no_pad s ≡ Ok b → IsBytes b → Some b ≡ base64_bytes s
+unfolding base64_bytes
 decoded_is s b e fits = rw (e, bytes_pass b fits) refl
+
+not_decoded : (s : List ℕ) (error : DecodeError) → decode_of standard_no_pad s ≡ Err error → base64_bytes s ≡ None
+unfolding base64_bytes
+not_decoded s error e = rw e refl
+
+-- what a line that was read into some room decodes to
+pub line_read : (s old out : List ℕ) (r : Result ℕ DecodeError) → IsBytes out → length old ≡ 48 → IfOk r (λ n. IsDecodedInto standard_no_pad s n old out)
+    → IfSome (result_ok r) (λ n. (n ≤ 48) × (base64_bytes s ≡ Some (take n out)))
+line_read s old out (Ok n) fits size h =
+    let front : IsBytes (take n out) = front_bytes (take n out) (drop n out) (subst IsBytes (sym (take-append-drop n out)) fits) in
+    (omega (arith, h.2, size), sym (decoded_is s (take n out) h.0 front))
+line_read s old out (Err e) fits size h = tt
+
+pub line_refused : (s : List ℕ) (r : Result ℕ DecodeError) → IfErr r (λ e. decode_of standard_no_pad s ≡ Err e) → IfNone (result_ok r) (base64_bytes s ≡ None)
+line_refused s (Ok n) h = tt
+line_refused s (Err e) h = not_decoded s e h
 
 -- ---- lists of bytes
 
@@ -92,14 +109,14 @@ ok_if_some (Ok x) b e = cc
 ok_if_some (Err d) b e = absurd cc
 
 -- a text that is decoded is the text of those bytes
-pub text_of_decoded : (s b : List ℕ) → IsBytes s → decoded s ≡ Some b → (s ≡ text b) × IsBytes b
-unfolding decoded text
+pub text_of_decoded : (s b : List ℕ) → IsBytes s → base64_bytes s ≡ Some b → (s ≡ text b) × IsBytes b
+unfolding base64_bytes text
 text_of_decoded s b fits e =
     let parts = some_if_bytes (result_ok (decode_of standard_no_pad s)) b e in
     (decode_of_strict standard_no_pad s b (refl, refl) fits (ok_if_some (decode_of standard_no_pad s) b parts.0), parts.1)
 
 -- the text of bytes is decoded to them
-pub decoded-text : (b : List ℕ) → IsBytes b → decoded (text b) ≡ Some b
+pub decoded-text : (b : List ℕ) → IsBytes b → base64_bytes (text b) ≡ Some b
 unfolding text
 decoded-text b fits = sym (decoded_is (encode_of standard_no_pad b) b (decode_of-encode_of standard_no_pad b refl fits) fits)
 

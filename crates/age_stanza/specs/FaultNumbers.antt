@@ -1,7 +1,9 @@
--- How a fault is numbered among all faults, and the line that it tells.
+-- How a fault is numbered among all faults, and the line that it reports.
 use Rattle.std.specs.Prelude.{ℕ, Option, Some, None}
 use Rattle.age_stanza.specs.declared.fault.HeadKind.{HeadKind}
-use Rattle.age_stanza.specs.declared.fault.HeadKind.TheVariants.{NotAge, Armored, BadStanzaLine, BadBody, BadEndLine, NoStanza, HeadTooLong, HeadCut, Memory}
+use Rattle.age_stanza.specs.declared.fault.HeadKind.TheVariants.{NotAge, Armored, BadStanzaLine}
+use Rattle.age_stanza.specs.declared.fault.HeadKind.TheVariants.{BadBody, BadEndLine, NoStanza}
+use Rattle.age_stanza.specs.declared.fault.HeadKind.TheVariants.{HeadTooLong, HeadCut, Memory}
 use Rattle.age_stanza.specs.declared.fault.HeadFault.{HeadFault}
 
 abbrev pub number_of : HeadKind → ℕ

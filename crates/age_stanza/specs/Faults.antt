@@ -1,16 +1,20 @@
 -- The first fault of bytes that begin no header (C2SP age.md, "Header"): a line is faulty where no
--- header's text goes on behind it. Which kind is told of it is this crate's own, and follows from
--- where the line stands.
-use Rattle.std.specs.Prelude.{◌≡◌, ◌≢◌, ◌⊎◌, ℕ, ◌+◌, ◌==◌, nat_eq, ◌||◌, true, false, if◌then◌else◌, List, [], ◌∷◌, ◌++◌, length, take, codes, count_by}
+-- header's text goes on after it. Which kind is reported is this crate's own choice, and follows
+-- from where the line stands.
+use Rattle.std.specs.Prelude.{◌≡◌, ◌≢◌, ◌⊎◌, ℕ, ◌+◌, ◌==◌, nat_eq, ◌||◌, true, false, if◌then◌else◌}
+use Rattle.std.specs.Prelude.{List, [], ◌∷◌, ◌++◌, length, take, codes, count_by}
 use Rattle.std.specs.List.{flat_map, AllByRecursion, starts_with}
 use Rattle.std.specs.Str.{bytes_eq}
 use Rattle.base64.specs.GeneralPurpose.{IsBytes}
 use Rattle.age_stanza.specs.declared.header.Stanza.{Stanza}
 use Rattle.age_stanza.specs.declared.header.Header.{Header}
 use Rattle.age_stanza.specs.declared.fault.HeadKind.{HeadKind}
-use Rattle.age_stanza.specs.declared.fault.HeadKind.TheVariants.{NotAge, Armored, BadStanzaLine, BadBody, BadEndLine, NoStanza, HeadTooLong, Memory}
+use Rattle.age_stanza.specs.declared.fault.HeadKind.TheVariants.{NotAge, Armored, BadStanzaLine}
+use Rattle.age_stanza.specs.declared.fault.HeadKind.TheVariants.{BadBody, BadEndLine, NoStanza}
+use Rattle.age_stanza.specs.declared.fault.HeadKind.TheVariants.{HeadTooLong, Memory}
 use Rattle.age_stanza.specs.declared.fault.HeadFault.{HeadFault}
-use Rattle.age_stanza.specs.Grammar.{line, version, stanza_text, end_line, IsStanza, Spells, HeadText}
+use Rattle.age_stanza.specs.Grammar.{line, version, stanza_text, end_line, IsStanza, Spells}
+use Rattle.age_stanza.specs.Grammar.{HeadText}
 
 -- some header's text begins with these bytes
 abbrev pub Begins : List ℕ → Type 0
@@ -22,9 +26,9 @@ IsLine l = AllByRecursion (λ c. c ≢ 10) l
 
 -- nothing, or whole lines
 abbrev pub AreLines : List ℕ → Type 0
-AreLines bytes = (bytes ≡ []) ⊎ ((front : List ℕ) × (bytes ≡ line front))
+AreLines bytes = (bytes ≡ []) ⊎ ((lines : List ℕ) × (bytes ≡ line lines))
 
--- l is the first line, behind the lines before it, with which no header's text begins
+-- l is the first line, after the lines before it, with which no header's text begins
 pub record FirstFault (bytes before l : List ℕ) : Type 0 where
   pub rest : List ℕ
   pub parts : bytes ≡ before ++ (line l ++ rest)
@@ -37,11 +41,11 @@ pub record FirstFault (bytes before l : List ℕ) : Type 0 where
 abbrev pub stanzas_text : List Stanza → List ℕ
 stanzas_text ss = line version ++ flat_map stanza_text ss
 
--- the text of some MAC behind the mark of an end line
+-- the text of some MAC after the mark of an end line
 abbrev pub IsEndLine : List ℕ → Type 0
 IsEndLine l = (mac : List ℕ) × (length mac ≡ 32) × IsBytes mac × (l ≡ end_line mac)
 
--- what is told of such a line between stanzas
+-- what is reported of such a line between stanzas
 pub record RefusesBetween (l : List ℕ) (kind : HeadKind) : Type 0 where
   pub no_stanza : IsEndLine l → kind ≡ NoStanza
   pub bad_end : starts_with nat_eq l (codes "---") ≡ true → (IsEndLine l → ⊥) → kind ≡ BadEndLine
@@ -51,7 +55,7 @@ pub record RefusesBetween (l : List ℕ) (kind : HeadKind) : Type 0 where
 abbrev pub armor : List ℕ
 armor = codes "-----BEGIN AGE ENCRYPTED FILE-----"
 
--- what is told of such a line, by its place
+-- what is reported of such a line, by its place
 pub record Refuses (before l : List ℕ) (kind : HeadKind) : Type 0 where
   pub first : before ≡ []
       → kind ≡ (if bytes_eq l armor || bytes_eq l (armor ++ 13 ∷ []) then Armored else NotAge)
@@ -65,10 +69,10 @@ pub record Refuses (before l : List ℕ) (kind : HeadKind) : Type 0 where
 abbrev pub line_after : List ℕ → ℕ
 line_after bytes = 1 + count_by (λ c. c == 10) bytes
 
--- a header stands in front of the bytes
+-- the bytes begin with a header
 abbrev pub HasHeader : List ℕ → Type 0
-HasHeader bytes = (h : Header) × (front : List ℕ) × (rest : List ℕ) × HeadText h front
-    × (bytes ≡ front ++ rest)
+HasHeader bytes = (h : Header) × (header : List ℕ) × (rest : List ℕ) × HeadText h header
+    × (bytes ≡ header ++ rest)
 
 -- no line of the bytes is faulty
 abbrev pub NoFault : List ℕ → Type 0
@@ -79,7 +83,7 @@ abbrev pub IsLineFault : List ℕ → HeadFault → Type 0
 IsLineFault bytes fault = (before : List ℕ) × (l : List ℕ) × FirstFault bytes before l
     × (fault.line ≡ line_after before) × Refuses before l fault.kind
 
--- what is told of bytes that have no header in front, by their first 1,048,576: the first faulty
+-- what is reported of bytes that begin with no header, by their first 1,048,576: the first faulty
 -- line; else, where there are so many, that the header is too long, on the line of the last of them
 abbrev pub IsFault : List ℕ → HeadFault → Type 0
 IsFault bytes fault = IsLineFault (take 1048576 bytes) fault

@@ -1,5 +1,6 @@
 -- Laws over the definitions alone.
-use Rattle.std.specs.Prelude.{◌≡◌, ◌<◌, ◌+◌, ◌*◌, ◌/◌, ◌%◌, ◌++◌, ◌∷◌, [], ℕ, List, length, codes, slice_index}
+use Rattle.std.specs.Prelude.{◌≡◌, ◌<◌, ◌+◌, ◌*◌, ◌/◌, ◌%◌, ◌++◌, ◌∷◌, [], ℕ, List, length, codes}
+use Rattle.std.specs.Prelude.{slice_index}
 use Rattle.base64.specs.GeneralPurpose.{IsBytes, engine_symbols}
 use Rattle.base64.specs.Engines.{standard_no_pad}
 use Rattle.age_stanza.specs.declared.header.Header.{Header}
@@ -26,10 +27,11 @@ Alphabet =
     engine_symbols standard_no_pad
     ≡ codes "ABCDEFGHIJKLMNOPQRSTUVWXYZabcdefghijklmnopqrstuvwxyz0123456789+/"
 
--- what is told of a front of some bytes is told of them all
+-- what is reported of a prefix of some bytes is reported of them all
 abbrev pub FaultsStay : Type 0
-FaultsStay = (front rest : List ℕ) (fault : HeadFault) → (HasHeader front → ⊥) → IsFault front fault
-    → (HasHeader (front ++ rest) → ⊥) × IsFault (front ++ rest) fault
+FaultsStay = (prefix rest : List ℕ) (fault : HeadFault)
+    → (HasHeader prefix → ⊥) → IsFault prefix fault
+    → (HasHeader (prefix ++ rest) → ⊥) × IsFault (prefix ++ rest) fault
 
 -- what the MAC covers is the header's text without its last 45 bytes
 abbrev pub MacTextIsFront : Type 0

@@ -8,5 +8,5 @@ pub mod Parsing
 pub mod Pieces
 pub mod Laws
 -- What only private code cites
-pub mod Steps
+pub mod Views
 pub mod inner

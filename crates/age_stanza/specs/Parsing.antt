@@ -14,17 +14,18 @@ pub data Parsing : Type 0 where
   complete : Parsing
   refused : HeadFault → Parsing
 
--- what is true of every parser: the bytes so far of one that reads on are fewer than the limit, no
--- header stands in front of them, and none of their lines is faulty
+-- what is true of every parser: the bytes so far of one that reads on are fewer than the limit,
+-- they begin with no header, and none of their lines is faulty
 abbrev pub IsParsing : Parsing → Type 0
-IsParsing (reading held) = (length held < 1048576) × IsBytes held × (¬ HasHeader held) × NoFault held
+IsParsing (reading held) = (length held < 1048576) × IsBytes held × (¬ HasHeader held)
+    × NoFault held
 IsParsing complete = Unit {0}
 IsParsing (refused fault) = Unit {0}
 
 abbrev pub IsOpen : Parsing → Type 0
 IsOpen parsing = parsing ≢ complete
 
--- what is answered to a piece, and what the parser then is: a header exactly where a front of the
+-- what is answered to a piece, and what the parser then is: a header exactly where a prefix of the
 -- joined bytes is its text; else the first fault of the joined bytes; else more is asked for. A
 -- fault stays
 abbrev pub Feeds : Parsing → List ℕ → Result HeadStep HeadFault → Parsing → Type 0

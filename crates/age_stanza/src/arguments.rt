@@ -3,13 +3,15 @@
 ghost use Rattle.std.specs.Prelude.{◌≡◌, ◌==◌, ◌++◌, ◌∷◌, [], true, false, IfOk};
 ghost use Rattle.std.specs.List.{position};
 ghost use Rattle.age_stanza.specs.Grammar.{IsArgument};
-ghost use Rattle.age_stanza.specs.inner.LineMachine.{arguments_from, arguments_of as spec_arguments_of};
+ghost use Rattle.age_stanza.specs.inner.LineMachine.{arguments_from};
+ghost use Rattle.age_stanza.specs.inner.LineMachine.{arguments_of as spec_arguments_of};
 
-use crate::bytes::{Arguments, Bytes};
+use crate::argument::Argument;
+use crate::bytes::Arguments;
 use crate::lawful::is_argument;
 use std::alloc::{AllocError, Global};
 
-/// Adds an argument. False where its characters aren't lawful; then nothing changes.
+/// Adds an argument. False where its characters aren't valid; then nothing changes.
 fn push_lawful(alloc: Global, args: &mut Arguments, characters: &[u8]) -> Result<bool, AllocError>
     ensures pushed { IfOk result (λ r. r ≡ true → IsArgument characters.now
         × (args.new ≡ args.old ++ characters.now ∷ [])) }
@@ -18,7 +20,7 @@ fn push_lawful(alloc: Global, args: &mut Arguments, characters: &[u8]) -> Result
     if !is_argument(characters) {
         return Ok(false);
     }
-    args.push(Bytes::from_slice(alloc, characters)?)?;
+    args.push(Argument::from_slice(alloc, characters)?)?;
     Ok(true)
 }
 
@@ -30,7 +32,7 @@ fn argument_end(letters: &[u8]) -> Option<usize>
 }
 
 /// The arguments that letters hold, parted by single spaces, or `None` where one
-/// isn't lawful.
+/// isn't valid.
 fn arguments_in(alloc: Global, letters: &[u8]) -> Result<Option<Arguments>, AllocError>
     ensures { IfOk result (λ r. r ≡ arguments_from [] [] letters.now) }
 {

@@ -7,15 +7,13 @@ ghost use Rattle.age_stanza.specs.Grammar.{in_lines, stanza_text, head_text, Hea
 ghost use Rattle.age_stanza.specs.Encoding.{mac_text};
 ghost use Rattle.age_stanza.specs.Faults.{memory_fault};
 
-use crate::bytes::Bytes;
+use crate::argument::Argument;
 use crate::fault::HeadFault;
 use crate::header::{Header, Stanza};
 use crate::lawful::text_len;
+use crate::text::LINE_BYTES;
 use base64::engine::general_purpose::STANDARD_NO_PAD;
 use std::alloc::{AllocError, Global};
-
-/// The bytes that a line of 64 characters spells.
-const LINE_BYTES: usize = 48;
 
 /// How many bytes of a header's text follow what its MAC covers: a space, the
 /// MAC's 43 characters and LF.
@@ -50,7 +48,7 @@ fn put_body(out: &mut Vec<u8>, body: &[u8]) -> Result<(), AllocError>
 }
 
 /// Writes arguments, each with the space before it.
-fn put_args(out: &mut Vec<u8>, args: &[Bytes]) -> Result<(), AllocError>
+fn put_args(out: &mut Vec<u8>, args: &[Argument]) -> Result<(), AllocError>
     ensures { OnOk result (out.new.items ≡ out.old.items ++ flat_map (λ a. 32 ∷ a) args.now) }
 {
     for argument in args {

@@ -16,14 +16,14 @@ pub enum HeadKind {
     /// The first line is that of an armored file, which isn't read.
     #[error("armored")]
     Armored,
-    /// A line after the version line or a whole stanza is neither a lawful
+    /// A line after the version line or a whole stanza is neither a valid
     /// argument line nor begins with `---`.
     #[error("bad stanza line")]
     BadStanzaLine,
     /// A line of a body isn't canonical base64 of at most 64 characters.
     #[error("bad body")]
     BadBody,
-    /// A line that begins with `---` isn't a lawful end line.
+    /// A line that begins with `---` isn't a valid end line.
     #[error("bad end line")]
     BadEndLine,
     /// The end line came before any stanza.

@@ -1,14 +1,16 @@
 //! Which headers have a text, and how long it is.
 
-ghost use Rattle.std.specs.Prelude.{◌≡◌, ◌↔◌, ◌≤◌, ◌+◌, ◌*◌, ◌/◌, ◌∷◌, ◌&&◌, IsTrue, length, nat_le};
+ghost use Rattle.std.specs.Prelude.{◌≡◌, ◌↔◌, ◌≤◌, ◌+◌, ◌*◌, ◌/◌, ◌∷◌, ◌&&◌, IsTrue, length};
+ghost use Rattle.std.specs.Prelude.{nat_le};
 ghost use Rattle.std.specs.List.{flat_map, list_all};
 ghost use Rattle.base64.specs.GeneralPurpose.{IsBytes};
 ghost use Rattle.age_stanza.specs.Text.{text};
 ghost use Rattle.age_stanza.specs.Grammar.{IsArgument, HasText, in_lines};
-ghost use Rattle.age_stanza.specs.inner.Lengths.{HasArguments, Leaves, LeavesBehindStanza, IsTextLength};
+ghost use Rattle.age_stanza.specs.inner.Lengths.{HasArguments, Leaves, LeavesBehindStanza};
+ghost use Rattle.age_stanza.specs.inner.Lengths.{IsTextLength};
 
 use crate::HEAD_MAX;
-use crate::bytes::Bytes;
+use crate::argument::Argument;
 use crate::header::{Header, Stanza};
 
 /// Whether all bytes are visible ASCII characters.
@@ -18,7 +20,7 @@ fn are_visible(bytes: &[u8]) -> bool
     bytes.iter().all(|c| b'!' <= *c && *c <= b'~')
 }
 
-/// Whether some bytes are a lawful argument of a stanza: one or more visible
+/// Whether some bytes are a valid argument of a stanza: one or more visible
 /// ASCII characters, from `!` to `~` (C2SP age.md, "Header").
 pub fn is_argument(bytes: &[u8]) -> bool
     ensures { IsTrue result ↔ IsArgument bytes.now }
@@ -26,7 +28,7 @@ pub fn is_argument(bytes: &[u8]) -> bool
     !bytes.is_empty() && are_visible(bytes)
 }
 
-/// Whether a stanza has one or more arguments, which are all lawful.
+/// Whether a stanza has one or more arguments, which are all valid.
 fn has_arguments(stanza: &Stanza) -> bool
     ensures { IsTrue result ↔ HasArguments stanza.now }
 {
@@ -35,7 +37,7 @@ fn has_arguments(stanza: &Stanza) -> bool
 }
 
 /// What arguments leave of some room, each with the space before it.
-fn room_behind_arguments(room: usize, args: &[Bytes]) -> Option<usize>
+fn room_behind_arguments(room: usize, args: &[Argument]) -> Option<usize>
     ensures { Leaves room (length (flat_map (λ a. 32 ∷ a) args.now)) result }
 {
     let mut left = room;
@@ -93,7 +95,7 @@ pub(crate) fn text_len(header: &Header) -> Option<usize>
 }
 
 /// Whether a header has a text: one or more stanzas, each with one or more
-/// arguments, which are all lawful ([`is_argument`]), and a text of no more
+/// arguments, which are all valid ([`is_argument`]), and a text of no more
 /// than [`HEAD_MAX`] bytes.
 pub fn is_header(header: &Header) -> bool
     ensures { IsTrue result ↔ HasText header.now }

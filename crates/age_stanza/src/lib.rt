@@ -16,6 +16,7 @@
 //! bytes of an argument out of its base64.
 #![tactic(auto)]
 
+mod argument;
 mod arguments;
 mod bytes;
 mod encode;
@@ -29,6 +30,7 @@ mod piece;
 mod place;
 mod text;
 
+pub use argument::Argument;
 pub use bytes::{Arguments, Bytes};
 pub use encode::{encode_head, mac_text};
 pub use fault::{HeadFault, HeadKind};

@@ -2,7 +2,8 @@
 
 ghost use Rattle.std.specs.Prelude.{◌≡◌, ◌++◌, ◌+◌, ◌<◌, ◌≤◌, [], length, take, OnOk, IfErr};
 ghost use Rattle.age_stanza.specs.Faults.{line_after, memory_fault, IsLine};
-ghost use Rattle.age_stanza.specs.inner.LineMachine.{fault_at as spec_fault_at, Gives, step as step_of};
+ghost use Rattle.age_stanza.specs.inner.LineMachine.{fault_at as spec_fault_at, Gives};
+ghost use Rattle.age_stanza.specs.inner.LineMachine.{step as step_of};
 ghost use Rattle.age_stanza.specs.inner.Retelling.{IsUnderWay};
 
 use crate::fault::{HeadFault, HeadKind, MEMORY};
@@ -25,11 +26,11 @@ pub(crate) struct PartialHeader {
 
 impl Model for PartialHeader {
     ghost use Rattle.std.specs.Prelude.{ℕ, List, ◌++◌};
-    ghost use Rattle.age_stanza.specs.inner.Retelling.{retold, IsPartial};
+    ghost use Rattle.age_stanza.specs.inner.Retelling.{bytes_before, IsPartial};
 
     ghost Value = { List ℕ };
 
-    ghost view = { λ p. retold p.place ++ p.line.items };
+    ghost view = { λ p. bytes_before p.place ++ p.line.items };
 
     ghost invariant = { λ p. IsPartial p.place p.line.items p.bytes p.finished_lines };
 }
@@ -96,7 +97,7 @@ impl PartialHeader {
         Ok(())
     }
 
-    /// Takes what is left of the line, and its LF. A header, or a fault, leaves nothing behind.
+    /// Takes what is left of the line, and its LF. A header, or a fault, leaves no state.
     pub(crate) fn end_line(&mut self, characters: &[u8]) -> Result<Option<Header>, HeadFault>
         requires one_line { IsLine characters.now }
         requires within { length self.old + length characters.now < 1048576 }

@@ -16,8 +16,8 @@ fn line_end(bytes: &[u8]) -> Option<usize>
     bytes.iter().position(|c| *c == b'\n')
 }
 
-/// As much of the front of a piece as there is room for.
-fn front(piece: &[u8], room: usize) -> &[u8]
+/// The first bytes of a piece, as many as there is room for.
+fn first_bytes(piece: &[u8], room: usize) -> &[u8]
     ensures { result.now ≡ take room piece.now }
 {
     if piece.len() <= room {
@@ -52,7 +52,7 @@ pub(crate) fn take_piece(partial: &mut PartialHeader, piece: &[u8]) -> Result<He
     ensures { TakesPiece partial.old piece.now result partial.new }
 {
     let room = HEAD_MAX - partial.len();
-    match read_lines(partial, front(piece, room))? {
+    match read_lines(partial, first_bytes(piece, room))? {
         HeadStep::Ready { taken, header } => Ok(HeadStep::Ready { taken, header }),
         HeadStep::More => {
             if partial.len() == HEAD_MAX {

@@ -1,27 +1,28 @@
 //! Base64 without padding, and canonical: the unused low bits of the last
 //! character are zero (RFC 4648, sections 3.5 and 4).
 
-ghost use Rattle.std.specs.Prelude.{◌≡◌, ◌≢◌, ◌≤◌, ℕ, List, length, IfOk};
+ghost use Rattle.std.specs.Prelude.{◌≡◌, ◌≢◌, ◌≤◌, ℕ, List, length, take, Some, None, IfSome};
+ghost use Rattle.std.specs.Prelude.{IfNone};
 ghost use Rattle.std.specs.Bool.{OnTrue, OnFalse};
-ghost use Rattle.std.specs.Option.{option_map};
 ghost use Rattle.base64.specs.GeneralPurpose.{IsBytes};
-ghost use Rattle.age_stanza.specs.inner.LineMachine.{decoded, mac_of as spec_mac_of};
+ghost use Rattle.age_stanza.specs.inner.LineMachine.{base64_bytes, mac_of as spec_mac_of};
 ghost use Rattle.age_stanza.specs.Text.{text};
 
-use base64::DecodeAllocError;
 use base64::engine::general_purpose::STANDARD_NO_PAD;
-use std::alloc::{AllocError, Global};
 
-/// The bytes of a text, or `None` where it is no canonical text.
-#[tactic(auto, unfolding(crate::specs::inner::LineMachine::decoded))]
-pub(crate) fn decode(alloc: Global, text: &[u8]) -> Result<Option<Vec<u8>>, AllocError>
-    ensures { IfOk result (λ r. option_map (λ v. v.items) r ≡ decoded text.now) }
+/// The most bytes that a line of a body spells, in 64 characters.
+pub(crate) const LINE_BYTES: usize = 48;
+
+/// Reads the bytes of a body's line into `room`, and answers how many there are; `None` where it is
+/// no canonical text. So a line takes no allocation of its own.
+pub(crate) fn decode_line(line: &[u8], room: &mut [u8]) -> Option<usize>
+    requires line { length line.now ≤ 64 }
+    requires room { length room.old ≡ 48 }
+    ensures read { IfSome result (λ len. (len ≤ 48)
+        × (base64_bytes line.now ≡ Some (take len room.new))) }
+    ensures refused { IfNone result (base64_bytes line.now ≡ None) }
 {
-    match STANDARD_NO_PAD.decode(alloc, text) {
-        Ok(bytes) => Ok(Some(bytes)),
-        Err(DecodeAllocError::OutOfMemory) => Err(AllocError),
-        Err(DecodeAllocError::DecodeError(_)) => Ok(None),
-    }
+    STANDARD_NO_PAD.decode_slice_unchecked(line, room).ok()
 }
 
 /// Reads as many bytes as there is room for, at most 32, out of a text in

@@ -8,7 +8,9 @@ ghost use Rattle.age_vectors.specs.Keys.{OpensIn};
 
 use crate::header::parsed;
 use age_keys::{FileKey, KnownKey, Passphrase, Unlock, open_header, scrypt_header};
-use age_stanza::{Arguments, Bytes, HEAD_MAX, Header, Stanza, Stanzas, encode_head, is_header};
+use age_stanza::{
+    Argument, Arguments, Bytes, HEAD_MAX, Header, Stanza, Stanzas, encode_head, is_header,
+};
 use std::alloc::{AllocError, Global};
 
 const SALT: [u8; 16] = [
@@ -180,7 +182,7 @@ fn with_body(
 ) -> Result<Header, AllocError> {
     let mut args = Arguments::new(alloc);
     for argument in stanza.args.as_slice() {
-        args.push(Bytes::from_vec(argument.as_slice().to_vec(alloc)?))?;
+        args.push(Argument::from_slice(alloc, argument.as_slice())?)?;
     }
     let mut stanzas = Stanzas::new(alloc);
     stanzas.push(Stanza {

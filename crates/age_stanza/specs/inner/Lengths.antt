@@ -7,11 +7,11 @@ use Rattle.age_stanza.specs.declared.header.Stanza.{Stanza}
 use Rattle.age_stanza.specs.declared.header.Header.{Header}
 use Rattle.age_stanza.specs.Grammar.{IsArgument, stanza_text, head_text}
 
--- the part of a stanza's lawfulness that its type leaves open
+-- the part of a stanza's validity that its type leaves open
 abbrev pub HasArguments : Stanza → Type 0
 HasArguments s = (0 < length s.args) × AllByRecursion IsArgument s.args
 
--- what is left of some room behind a text, or that it has no room
+-- what is left of some room after a text, or that it has no room
 abbrev pub Leaves : ℕ → ℕ → Option ℕ → Type 0
 Leaves room size (Some left) = left + size ≡ room
 Leaves room size None = room < size

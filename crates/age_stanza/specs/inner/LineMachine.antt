@@ -1,6 +1,8 @@
 -- Private: no public contract cites this module. A machine that reads a header line by line, on
 -- lists: what the parser's code computes. Proofs tie it to the definitions.
-use Rattle.std.specs.Prelude.{◌≡◌, ◌⊎◌, ℕ, ◌+◌, ◌==◌, nat_eq, nat_lt, nat_le, Bool, true, false, ◌&&◌, ◌||◌, if◌then◌else◌, List, [], ◌∷◌, ◌++◌, length, drop, codes, Option, Some, None, Result, Ok, Err}
+use Rattle.std.specs.Prelude.{◌≡◌, ◌⊎◌, ℕ, ◌+◌, ◌==◌, nat_eq, nat_lt, nat_le, Bool, true, false}
+use Rattle.std.specs.Prelude.{◌&&◌, ◌||◌, if◌then◌else◌, List, [], ◌∷◌, ◌++◌, length, drop, codes}
+use Rattle.std.specs.Prelude.{Option, Some, None, Result, Ok, Err}
 use Rattle.std.specs.List.{list_all, starts_with}
 use Rattle.std.specs.Result.{result_ok}
 use Rattle.base64.specs.GeneralPurpose.{decode_of}
@@ -9,7 +11,9 @@ use Rattle.std.specs.Str.{bytes_eq}
 use Rattle.age_stanza.specs.declared.header.Stanza.{Stanza}
 use Rattle.age_stanza.specs.declared.header.Header.{Header}
 use Rattle.age_stanza.specs.declared.fault.HeadKind.{HeadKind}
-use Rattle.age_stanza.specs.declared.fault.HeadKind.TheVariants.{NotAge, Armored, BadStanzaLine, BadBody, BadEndLine, NoStanza, Memory}
+use Rattle.age_stanza.specs.declared.fault.HeadKind.TheVariants.{NotAge, Armored, BadStanzaLine}
+use Rattle.age_stanza.specs.declared.fault.HeadKind.TheVariants.{BadBody, BadEndLine, NoStanza}
+use Rattle.age_stanza.specs.declared.fault.HeadKind.TheVariants.{Memory}
 use Rattle.age_stanza.specs.declared.fault.HeadFault.{HeadFault}
 use Rattle.age_stanza.specs.declared.place.Place.{Place}
 use Rattle.age_stanza.specs.declared.place.Place.TheVariants.{Start, Between, InBody}
@@ -24,10 +28,10 @@ only_bytes None = None
 only_bytes (Some xs) = if list_all (λ x. nat_lt x 256) xs then Some xs else None
 
 -- the bytes of a text that is canonical, else none
-unfoldable pub decoded : List ℕ → Option (List ℕ)
-decoded s = only_bytes (result_ok (decode_of standard_no_pad s))
+unfoldable pub base64_bytes : List ℕ → Option (List ℕ)
+base64_bytes s = only_bytes (result_ok (decode_of standard_no_pad s))
 
--- the arguments of what is left of a line, behind those that are done and the letters of the next
+-- the arguments of what is left of a line, after those that are done and the letters of the next
 unfoldable pub arguments_from : List (List ℕ) → List ℕ → List ℕ → Option (List (List ℕ))
 arguments_from done word [] = if length word == 0 then None else Some (done ++ word ∷ [])
 arguments_from done word (c ∷ cs) =
@@ -44,22 +48,22 @@ whole_mac None = None
 whole_mac (Some mac) = if length mac == 32 then Some mac else None
 
 unfoldable pub mac_of : List ℕ → Option (List ℕ)
-mac_of l = if starts_with nat_eq l (codes "--- ") then whole_mac (decoded (drop 4 l)) else None
+mac_of l = if starts_with nat_eq l (codes "--- ") then whole_mac (base64_bytes (drop 4 l)) else None
 
-abbrev pub ended : List Stanza → Option (List ℕ) → Result Next HeadKind
-ended ss None = Err BadEndLine
-ended [] (Some mac) = Err NoStanza
-ended (s ∷ ss) (Some mac) = Ok (Done (record { stanzas = s ∷ ss; mac = mac }))
+abbrev pub end_line_result : List Stanza → Option (List ℕ) → Result Next HeadKind
+end_line_result ss None = Err BadEndLine
+end_line_result [] (Some mac) = Err NoStanza
+end_line_result (s ∷ ss) (Some mac) = Ok (Done (record { stanzas = s ∷ ss; mac = mac }))
 
-abbrev pub begun : List Stanza → Option (List (List ℕ)) → Result Next HeadKind
-begun ss None = Err BadStanzaLine
-begun ss (Some args) = Ok (Go (InBody ss args []))
+abbrev pub argument_line_result : List Stanza → Option (List (List ℕ)) → Result Next HeadKind
+argument_line_result ss None = Err BadStanzaLine
+argument_line_result ss (Some args) = Ok (Go (InBody ss args []))
 
-abbrev pub continued : List Stanza → List (List ℕ) → List ℕ → Bool → Option (List ℕ)
+abbrev pub body_line_result : List Stanza → List (List ℕ) → List ℕ → Bool → Option (List ℕ)
     → Result Next HeadKind
-continued ss args body full None = Err BadBody
-continued ss args body true (Some more) = Ok (Go (InBody ss args (body ++ more)))
-continued ss args body false (Some more) =
+body_line_result ss args body full None = Err BadBody
+body_line_result ss args body true (Some more) = Ok (Go (InBody ss args (body ++ more)))
+body_line_result ss args body false (Some more) =
     Ok (Go (Between (ss ++ record { args = args; body = body ++ more } ∷ [])))
 
 -- where a line leads
@@ -69,10 +73,11 @@ step Start l =
     else if bytes_eq l armor || bytes_eq l (armor ++ 13 ∷ []) then Err Armored
     else Err NotAge
 step (Between ss) l =
-    if starts_with nat_eq l (codes "---") then ended ss (mac_of l) else begun ss (arguments_of l)
+    if starts_with nat_eq l (codes "---") then end_line_result ss (mac_of l)
+    else argument_line_result ss (arguments_of l)
 step (InBody ss args body) l =
     if nat_lt 64 (length l) then Err BadBody
-    else continued ss args body (length l == 64) (decoded l)
+    else body_line_result ss args body (length l == 64) (base64_bytes l)
 
 pub data Outcome : Type 0 where
   unfinished : Outcome

@@ -1,6 +1,7 @@
 -- Private: no public contract cites this module.
 -- What the end of a line, some bytes and a piece do to a part of a header.
-use Rattle.std.specs.Prelude.{◌≡◌, ◌⊎◌, ℕ, ◌<◌, ◌≤◌, List, [], ◌∷◌, ◌++◌, length, take, drop, Option, Some, None, Result, Ok, Err}
+use Rattle.std.specs.Prelude.{◌≡◌, ◌⊎◌, ℕ, ◌<◌, ◌≤◌, List, [], ◌∷◌, ◌++◌, length, take, drop}
+use Rattle.std.specs.Prelude.{Option, Some, None, Result, Ok, Err}
 use Rattle.age_stanza.specs.declared.fault.HeadFault.{HeadFault}
 use Rattle.age_stanza.specs.declared.header.Header.{Header}
 use Rattle.age_stanza.specs.declared.header.HeadStep.{HeadStep}
@@ -11,7 +12,7 @@ use Rattle.age_stanza.specs.Faults.{HasHeader, IsFault, memory_fault}
 use Rattle.age_stanza.specs.inner.LineMachine.{walk, ready, faulty}
 use Rattle.age_stanza.specs.inner.Retelling.{IsUnderWay}
 
--- the LF behind some bytes
+-- the LF after some bytes
 abbrev pub EndsLine : List ℕ → Result (Option Header) HeadFault → List ℕ → Type 0
 EndsLine held (Ok None) new = new ≡ held ++ 10 ∷ []
 EndsLine held (Ok (Some h)) new = (rest : List ℕ)

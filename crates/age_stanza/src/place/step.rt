@@ -1,13 +1,15 @@
 //! Where a line leads, by its place.
 
-ghost use Rattle.age_stanza.specs.inner.LineMachine.{Gives, step as step_of, ended as ended_of, begun as begun_of, mac_of as spec_mac_of, arguments_of as spec_arguments_of};
+ghost use Rattle.age_stanza.specs.inner.LineMachine.{Gives, step as step_of, end_line_result};
+ghost use Rattle.age_stanza.specs.inner.LineMachine.{argument_line_result, mac_of as spec_mac_of};
+ghost use Rattle.age_stanza.specs.inner.LineMachine.{arguments_of as spec_arguments_of};
 
 use super::{ARMOR, ARMOR_CR, Next, Place, VERSION};
 use crate::arguments::arguments_of;
 use crate::bytes::{Arguments, Bytes};
 use crate::fault::HeadKind;
 use crate::header::{Header, Stanza, Stanzas};
-use crate::text::{decode, mac_of};
+use crate::text::{LINE_BYTES, decode_line, mac_of};
 use std::alloc::Global;
 
 /// The first line: the version, an armored file's first line, or that of no age file.
@@ -24,9 +26,9 @@ fn first(alloc: Global, line: &[u8]) -> Result<Next, HeadKind>
     Err(HeadKind::NotAge)
 }
 
-/// A line that begins with `---`: the end line, behind one or more stanzas.
+/// A line that begins with `---`: the end line, after one or more stanzas.
 fn end(stanzas: Stanzas, line: &[u8]) -> Result<Next, HeadKind>
-    ensures { Gives result (ended_of stanzas (spec_mac_of line.now)) }
+    ensures { Gives result (end_line_result stanzas (spec_mac_of line.now)) }
 {
     let Some(mac) = mac_of(line) else {
         return Err(HeadKind::BadEndLine);
@@ -37,9 +39,9 @@ fn end(stanzas: Stanzas, line: &[u8]) -> Result<Next, HeadKind>
     Ok(Next::Done(Header { stanzas, mac }))
 }
 
-/// Any other line behind a whole stanza: the next one's argument line.
+/// Any other line after a whole stanza: the next one's argument line.
 fn begin(alloc: Global, stanzas: Stanzas, line: &[u8]) -> Result<Next, HeadKind>
-    ensures { Gives result (begun_of stanzas (spec_arguments_of line.now)) }
+    ensures { Gives result (argument_line_result stanzas (spec_arguments_of line.now)) }
 {
     let Some(args) = arguments_of(alloc, line)? else {
         return Err(HeadKind::BadStanzaLine);
@@ -50,7 +52,6 @@ fn begin(alloc: Global, stanzas: Stanzas, line: &[u8]) -> Result<Next, HeadKind>
 /// A line of a body. One of fewer than 64 characters is its last.
 #[tactic(auto, unfolding(crate::specs::inner::LineMachine::step))]
 fn body_line(
-    alloc: Global,
     mut stanzas: Stanzas,
     args: Arguments,
     mut body: Bytes,
@@ -61,10 +62,11 @@ fn body_line(
     if line.len() > 64 {
         return Err(HeadKind::BadBody);
     }
-    let Some(more) = decode(alloc, line)? else {
+    let mut room = [0; LINE_BYTES];
+    let Some(len) = decode_line(line, &mut room) else {
         return Err(HeadKind::BadBody);
     };
-    body.extend_from_slice(more.as_slice())?;
+    body.extend_from_slice(&room[..len])?;
     if line.len() == 64 {
         return Ok(Next::Go(Place::InBody(stanzas, args, body)));
     }
@@ -86,6 +88,6 @@ pub(crate) fn step(alloc: Global, place: Place, line: &[u8]) -> Result<Next, Hea
                 begin(alloc, stanzas, line)
             }
         }
-        Place::InBody(stanzas, args, body) => body_line(alloc, stanzas, args, body, line),
+        Place::InBody(stanzas, args, body) => body_line(stanzas, args, body, line),
     }
 }

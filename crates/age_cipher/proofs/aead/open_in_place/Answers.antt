@@ -13,9 +13,9 @@ returns-then-same-clause-exact c =
     let aad : List ℕ = c.args.aad.now in
     let block : List ℕ = c.args.block.now in
     let n : ℕ = length block - 16 in
-    let split = c.split_at_mut-front.ensures in
+    let split = c.split_at_mut-cipher.ensures in
     let tags = c.tag.ensures ∙ ap (tag key nonce aad) split.front in (
-      λ h. (ciphertext key nonce 1 (take n block), opens_if key nonce aad block n c.tag.result c.split_at_mut-front.result.1.now (c.is_tag-same.ensures.0 h) tags split.back),
+      λ h. (ciphertext key nonce 1 (take n block), opens_if key nonce aad block n c.tag.result c.split_at_mut-cipher.result.1.now (c.is_tag-same.ensures.0 h) tags split.back),
       λ w. c.if-same.true,
     )
 
@@ -26,12 +26,12 @@ returns-then-same-clause-text c =
     let aad : List ℕ = c.args.aad.now in
     let block : List ℕ = c.args.block.now in
     let n : ℕ = length block - 16 in
-    let split = c.split_at_mut-front.ensures in
+    let split = c.split_at_mut-cipher.ensures in
     let tags = c.tag.ensures ∙ ap (tag key nonce aad) split.front in
     let text : c.xor_stream.new.text ≡ ciphertext key nonce 1 (take n block) = c.xor_stream.ensures ∙ ap (ciphertext key nonce 1) split.front in
-    let front : take n (c.xor_stream.new.text ++ c.split_at_mut-front.result.1.now) ≡ c.xor_stream.new.text = take_at _ _ n (omega arith) in
+    let front : take n (c.xor_stream.new.text ++ c.split_at_mut-cipher.result.1.now) ≡ c.xor_stream.new.text = take_at _ _ n (omega arith) in
     OnTrue_from _ _ (λ h.
-    opens_if key nonce aad block n c.tag.result c.split_at_mut-front.result.1.now (c.is_tag-same.ensures.0 h) tags split.back
+    opens_if key nonce aad block n c.tag.result c.split_at_mut-cipher.result.1.now (c.is_tag-same.ensures.0 h) tags split.back
     ∙ ap (sealing key nonce aad) (sym (front ∙ text)))
 
 pub returns-else-same-clause-exact : goal.returns-else-same-clause-exact
@@ -41,8 +41,8 @@ returns-else-same-clause-exact c =
     let aad : List ℕ = c.args.aad.now in
     let block : List ℕ = c.args.block.now in
     let n : ℕ = length block - 16 in
-    let split = c.split_at_mut-front.ensures in
+    let split = c.split_at_mut-cipher.ensures in
     let tags = c.tag.ensures ∙ ap (tag key nonce aad) split.front in (
-      λ h. (ciphertext key nonce 1 (take n block), opens_if key nonce aad block n c.tag.result c.split_at_mut-front.result.1.now (c.is_tag-same.ensures.0 h) tags split.back),
-      λ w. c.is_tag-same.ensures.1 (opens_of key nonce aad block c.tag.result c.split_at_mut-front.result.1.now tags split.back w),
+      λ h. (ciphertext key nonce 1 (take n block), opens_if key nonce aad block n c.tag.result c.split_at_mut-cipher.result.1.now (c.is_tag-same.ensures.0 h) tags split.back),
+      λ w. c.is_tag-same.ensures.1 (opens_of key nonce aad block c.tag.result c.split_at_mut-cipher.result.1.now tags split.back w),
     )

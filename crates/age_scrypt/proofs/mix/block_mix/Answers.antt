@@ -1,31 +1,31 @@
 use Rattle.std.proofs.Common.{◌≡◌, ◌+◌, ◌*◌, ◌/◌, ◌%◌, ◌<◌, ◌∙◌, ℕ, List, bit_xor, sym, ap₂, arith, add-one, below_more}
 use Rattle.std.proofs.lemmas.Simd.{length-zip2}
-use Rattle.age_scrypt.specs.BlockMix.{part, chained, xor_words}
+use Rattle.age_scrypt.specs.BlockMix.{part, x_part, xor_words}
 use Rattle.age_scrypt.specs.inner.Lanes.{words}
 use Rattle.age_scrypt.specs.inner.Turned.{turned, IsTurned}
 use Rattle.age_scrypt.proofs.TurnLemmas.{zip2-turned, length-part, length-chained, mixed_turned}
 use Rattle.age_scrypt.proofs.mix.block_mix.Goals as goal
 
 pub loop-i-init : goal.loop-i-init
-unfolding chained
+unfolding x_part
 loop-i-init c = record {
   x = λ b t. c.read-x.ensures ∙ t.at 15 (omega arith);
   to = λ b t j h. absurd (omega arith);
 }
 
 pub loop-i-preserved : goal.loop-i-preserved
-unfolding chained
+unfolding x_part
 loop-i-preserved c =
     let i : ℕ = c.loop-i.i in
     let below : i < 16 = omega arith in
-    let x : (b : List ℕ) → IsTurned b c.args.from.now → words c.salsa20_8-x.result ≡ turned (chained b (i + 1)) =
+    let x : (b : List ℕ) → IsTurned b c.args.from.now → words c.salsa20_8-x.result ≡ turned (x_part b (i + 1)) =
     λ (b : List ℕ) (t : IsTurned b c.args.from.now).
     let x_len = length-chained b i t.len (omega arith) in
     let part_len = length-part b i t.len below in
     let xored = c.xor.ensures ∙ ap₂ xor_words (c.loop-i.invariant.x b t) (c.read.ensures ∙ t.at i below)
-    ∙ zip2-turned bit_xor (chained b i) (part 16 b i) x_len part_len in
-    rw add-one (c.salsa20_8-x.ensures (xor_words (chained b i) (part 16 b i))
-    (length-zip2 bit_xor (chained b i) (part 16 b i) (x_len ∙ sym part_len) ∙ x_len) xored) in
+    ∙ zip2-turned bit_xor (x_part b i) (part 16 b i) x_len part_len in
+    rw add-one (c.salsa20_8-x.ensures (xor_words (x_part b i) (part 16 b i))
+    (length-zip2 bit_xor (x_part b i) (part 16 b i) (x_len ∙ sym part_len) ∙ x_len) xored) in
     record {
       x = x;
       to = λ b t. below_more _ _

@@ -1,11 +1,11 @@
 use Rattle.std.proofs.Common.{◌≡◌, ◌+◌, ◌*◌, ◌/◌, ◌%◌, ◌<◌, ℕ, List}
-use Rattle.age_scrypt.specs.BlockMix.{part, chained}
+use Rattle.age_scrypt.specs.BlockMix.{part, x_part}
 use Rattle.age_scrypt.specs.inner.Lanes.{words}
 use Rattle.age_scrypt.specs.inner.Turned.{turned, IsTurned}
 use Rattle.age_scrypt.proofs.mix.block_mix.Given as goal
 
 abbrev pub invariant-loop-i : goal.invariant-loop-i
 invariant-loop-i l = record {
-  x : (b : List ℕ) → IsTurned b l.from → words l.x ≡ turned (chained b l.i);
-  to : (b : List ℕ) → IsTurned b l.from → (j : ℕ) → j < l.i → part 16 l.to (j / 2 + j % 2 * 8) ≡ turned (chained b (j + 1));
+  x : (b : List ℕ) → IsTurned b l.from → words l.x ≡ turned (x_part b l.i);
+  to : (b : List ℕ) → IsTurned b l.from → (j : ℕ) → j < l.i → part 16 l.to (j / 2 + j % 2 * 8) ≡ turned (x_part b (j + 1));
 }

@@ -2,14 +2,14 @@ use Rattle.std.proofs.Common.{◌≡◌, ◌+◌, ◌-◌, ◌*◌, ◌++◌, �
 use Rattle.std.proofs.lemmas.List.{length-append}
 use Rattle.std.proofs.lemmas.Slice.{pushed}
 use Rattle.age_scrypt.specs.BlockMix.{part}
-use Rattle.age_scrypt.specs.Romix.{mixed_times}
+use Rattle.age_scrypt.specs.Romix.{v_block}
 use Rattle.age_scrypt.specs.inner.Turned.{IsTurned}
 use Rattle.age_scrypt.proofs.PartLemmas.{part-append_right}
 use Rattle.age_scrypt.proofs.RomixLemmas.{table_more, mixed_times_more}
 use Rattle.age_scrypt.proofs.romix.fill.Goals as goal
 
 pub loop-i-init : goal.loop-i-init
-unfolding mixed_times
+unfolding v_block
 loop-i-init c = record {
   room = c.requires.room;
   len = c.requires.empty;
@@ -40,6 +40,6 @@ loop-i-preserved c =
       len = omega (arith, c.deref.ensures.len, ap length c.deref.ensures.value, ap length items, length-append table x);
       table = λ b t. rw items (table_more b i table x len x_len (inv.table b t) (inv.x b t));
       x = λ b t. mixed_times_more b c.block_mix.new.to i
-          (c.block_mix.ensures.mixed (mixed_times b i) (subst (IsTurned (mixed_times b i)) (sym from) (inv.x b t)));
+          (c.block_mix.ensures.mixed (v_block b i) (subst (IsTurned (v_block b i)) (sym from) (inv.x b t)));
       counted = omega arith;
     }

@@ -1,5 +1,5 @@
 use Rattle.std.proofs.Common.{◌≡◌, ◌+◌, ◌*◌, ◌≤◌, ℕ, List, vec_len, vec_capacity}
-use Rattle.age_scrypt.specs.Romix.{mixed_times}
+use Rattle.age_scrypt.specs.Romix.{v_block}
 use Rattle.age_scrypt.specs.inner.Table.{IsTable}
 use Rattle.age_scrypt.specs.inner.Turned.{IsTurned}
 use Rattle.age_scrypt.proofs.romix.fill.Given as goal
@@ -9,6 +9,6 @@ invariant-loop-i l = record {
   room : 256 * l.n ≤ vec_capacity l.table;
   len : vec_len l.table ≡ 256 * l.i;
   table : (b : List ℕ) → IsTurned b l.initial.x → IsTable b l.i l.table.items;
-  x : (b : List ℕ) → IsTurned b l.initial.x → IsTurned (mixed_times b l.i) l.x;
+  x : (b : List ℕ) → IsTurned b l.initial.x → IsTurned (v_block b l.i) l.x;
   counted : l.steps ≡ l.initial.steps + l.i;
 }

@@ -1,7 +1,7 @@
 use Rattle.std.proofs.Common.{◌≡◌, ◌+◌, ◌-◌, ◌*◌, ◌%◌, ◌∙◌, ℕ, List, length, take, drop, sym, subst, ap, arith}
 use Rattle.std.proofs.lemmas.List.{length-take, length-drop}
 use Rattle.age_scrypt.specs.BlockMix.{part, xor_words}
-use Rattle.age_scrypt.specs.Romix.{mixed_times, looked_up, integerify}
+use Rattle.age_scrypt.specs.Romix.{v_block, x_block, integerify}
 use Rattle.age_scrypt.specs.inner.Table.{IsTable}
 use Rattle.age_scrypt.specs.inner.Turned.{IsTurned}
 use Rattle.age_scrypt.proofs.TurnLemmas.{xor_turned}
@@ -9,7 +9,7 @@ use Rattle.age_scrypt.proofs.RomixLemmas.{table_at, looked_up_more}
 use Rattle.age_scrypt.proofs.romix.look_up.Goals as goal
 
 pub loop-round-init : goal.loop-round-init
-unfolding looked_up
+unfolding x_block
 loop-round-init c = record { x = λ b t e. e; counted = omega arith }
 
 pub loop-round-preserved : goal.loop-round-preserved
@@ -26,14 +26,14 @@ loop-round-preserved c =
     let mixed : c.xor_blocks.new.to ≡ xor_words x (part 256 table place) =
     c.xor_blocks.ensures ∙ ap (λ w. xor_words x (take w (drop (256 * place) table))) width in
     record {
-      x = λ (b : List ℕ) (t : IsTable b n table) (e : IsTurned (mixed_times b n) c.args.x.now).
-          let now : List ℕ = looked_up n b round in
+      x = λ (b : List ℕ) (t : IsTable b n table) (e : IsTurned (v_block b n) c.args.x.now).
+          let now : List ℕ = x_block n b round in
           let is : IsTurned now x = inv.x b t e in
-          let there : IsTurned (mixed_times b (integerify now % n)) (part 256 table place) =
+          let there : IsTurned (v_block b (integerify now % n)) (part 256 table place) =
           table_at n b table now place t c.requires.some (c.place_of-at.ensures.place now is) in
-          let xored = xor_turned now (mixed_times b (integerify now % n)) x (part 256 table place) is there (omega arith) part_len in
+          let xored = xor_turned now (v_block b (integerify now % n)) x (part 256 table place) is there (omega arith) part_len in
           looked_up_more n b c.block_mix.new.to round
-          (c.block_mix.ensures.mixed (xor_words now (mixed_times b (integerify now % n)))
-          (subst (IsTurned (xor_words now (mixed_times b (integerify now % n)))) (sym mixed) xored));
+          (c.block_mix.ensures.mixed (xor_words now (v_block b (integerify now % n)))
+          (subst (IsTurned (xor_words now (v_block b (integerify now % n)))) (sym mixed) xored));
       counted = omega arith;
     }

@@ -12,12 +12,12 @@ returns-in_err-taken c =
     let bytes : IsBytes (c.args.partial.now ++ take room c.args.piece.now) =
     IsBytes-append _ _ c.len-room.ensures.known.are_bytes (IsBytes-take room _ (λ i. omega (arith, fits i))) in
     let p = err_from_is_err_and c.from_residual.result c.from_residual.ensures.1 in
-    rw (p.1, p.2) (none_in c.args.partial.now c.args.piece.now room _ (omega (arith, c.len-room.ensures.len)) c.requires bytes (rw c.front.ensures at c.in_err-taken.ensures))
+    rw (p.1, p.2) (none_in c.args.partial.now c.args.piece.now room _ (omega (arith, c.len-room.ensures.len)) c.requires bytes (rw c.first_bytes.ensures at c.in_err-taken.ensures))
 
 pub returns-then-len-eq-HEAD_MAX : goal.returns-then-len-eq-HEAD_MAX
 returns-then-len-eq-HEAD_MAX c =
     let room : ℕ = 1048576 - c.len-room.result in
-    let goes = rw (c.in-More.is, c.front.ensures) at c.in_ok-taken.ensures in
+    let goes = rw (c.in-More.is, c.first_bytes.ensures) at c.in_ok-taken.ensures in
     inr (none_yet c.args.partial.now c.args.piece.now room _ (omega (arith, c.len-room.ensures.len)) c.requires (rw goes at c.len.ensures.known)
     (ap length (sym goes) ∙ sym c.len.ensures.len ∙ c.if-len-eq-HEAD_MAX.true) (rw goes at c.too_long_fault.ensures))
 
@@ -27,5 +27,5 @@ returns-in-Ready c =
     let fits = c.type_inv.piece in
     let bytes : IsBytes (c.args.partial.now ++ take room c.args.piece.now) =
     IsBytes-append _ _ c.len-room.ensures.known.are_bytes (IsBytes-take room _ (λ i. omega (arith, fits i))) in
-    let finds = rw (c.in-Ready.is, c.front.ensures) at c.in_ok-taken.ensures in
+    let finds = rw (c.in-Ready.is, c.first_bytes.ensures) at c.in_ok-taken.ensures in
     found_in c.args.partial.now c.args.piece.now room _ _ (omega (arith, c.len-room.ensures.len)) c.requires c.len-room.ensures.known bytes finds.0 finds.1

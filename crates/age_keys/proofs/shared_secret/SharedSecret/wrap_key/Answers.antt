@@ -9,4 +9,4 @@ unfolding shared_wrap_key
 returns c =
     rw (← c.self.view_is)
     (c.hkdf32.ensures
-    ∙ ap (λ (salt : List ℕ). hkdf32 c.self.inside.secret salt (codes "age-encryption.org/v1/X25519")) c.joined-salt.ensures)
+    ∙ ap (λ (salt : List ℕ). hkdf32 c.self.inside.secret salt (codes "age-encryption.org/v1/X25519")) c.hkdf_salt-salt.ensures)

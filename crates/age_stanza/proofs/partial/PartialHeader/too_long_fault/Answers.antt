@@ -1,7 +1,7 @@
 use Rattle.std.proofs.Common.{◌≡◌, ◌∷◌, ◌++◌, ◌∙◌, List, ℕ, [], length, take, ap, sym, arith, refl}
 use Rattle.std.proofs.lemmas.Bool.{eqb-true, eq-eqb, false≢true}
 use Rattle.age_stanza.specs.Faults.{line_after}
-use Rattle.age_stanza.specs.inner.Retelling.{retold, LeadTo}
+use Rattle.age_stanza.specs.inner.Retelling.{bytes_before, LeadTo}
 use Rattle.age_stanza.specs.declared.fault.HeadFault.{HeadFault}
 use Rattle.age_stanza.specs.declared.fault.HeadKind.TheVariants.{HeadTooLong}
 use Rattle.age_stanza.specs.declared.place.Place.{Place}
@@ -15,9 +15,9 @@ none : (l : List ℕ) → length l ≡ 0 → l ≡ []
 none [] e = refl
 none (x ∷ l) e = absurd (omega arith)
 
-finished : (place : Place) (lines : ℕ) (l held : List ℕ) → LeadTo place lines → length l ≡ 0 → retold place ++ l ≡ held → length held ≡ 1048576 → lines ≡ line_after (take 1048575 held)
-finished place lines l held led empty view size =
-    let is : retold place ++ [] ≡ held = ap (λ (t : List ℕ). retold place ++ t) (sym (none l empty)) ∙ view in
+are_lines : (place : Place) (lines : ℕ) (l held : List ℕ) → LeadTo place lines → length l ≡ 0 → bytes_before place ++ l ≡ held → length held ≡ 1048576 → lines ≡ line_after (take 1048575 held)
+are_lines place lines l held led empty view size =
+    let is : bytes_before place ++ [] ≡ held = ap (λ (t : List ℕ). bytes_before place ++ t) (sym (none l empty)) ∙ view in
     finished_number place lines 1048575 led (ap length is ∙ size) ∙ ap (λ (t : List ℕ). line_after (take 1048575 t)) is
 
 pub returns-then-is_empty : goal.returns-then-is_empty
@@ -25,7 +25,7 @@ unfolding too_long_at
 returns-then-is_empty c =
     let known = c.self.invariant in
     let empty = eqb-true _ 0 (sym c.if-is_empty.ensures) in
-    ap too_long_at (finished _ _ _ _ known.lead_to (omega arith) c.self.view_is c.requires)
+    ap too_long_at (are_lines _ _ _ _ known.lead_to (omega arith) c.self.view_is c.requires)
 
 pub returns-else-is_empty : goal.returns-else-is_empty
 unfolding too_long_at
