@@ -19,7 +19,7 @@ use Rattle.age_stream.specs.declared.step.Status.TheVariants.{Failed}
 use Rattle.age_stream.specs.declared.fault.StreamKind.{StreamKind}
 use Rattle.age_stream.specs.declared.fault.StreamKind.TheVariants.{ChunkDamaged, ChunkCut, EmptyLast, Truncated, Trailing, TooManyChunks}
 use Rattle.age_stream.specs.Headline.{IsWriters, IsAuthentic, IsReached}
-use Rattle.age_stream.specs.Places.{sealed_as, is_writers, compared, IsFirstWrong, IsInPlace}
+use Rattle.age_stream.specs.Places.{sealed_as, compared, IsFirstWrong, IsInPlace}
 use Rattle.age_stream.proofs.Nonces.{nonce_bytes-length, nonce_bytes-flag}
 use Rattle.age_stream.proofs.Chunks.{length-first_chunks, get_or-first_chunks}
 use Rattle.age_stream.proofs.Segments.{by_test, tag_left, empty_first, writer_text, next_within, opens_before, front_carries, IsPair-from_Contains}
@@ -102,7 +102,7 @@ module _ (sealing : List ℕ → List ℕ → List ℕ) (opening : List ℕ → 
   other = compared sealing n text
 
   abbrev sure : List ℕ → List ℕ → Bool
-  sure = is_writers sealing n text
+  sure nonce block = list_any (is_pair nonce block) (sealed sealing n text)
 
   abbrev Same : List ℕ → List ℕ → Type 0
   Same nonce block = opening nonce block ≡ other nonce block
@@ -311,9 +311,11 @@ module _ (sealing : List ℕ → List ℕ → List ℕ) (opening : List ℕ → 
               let here : j < length texts = omega (arith, lt) in
               let b = get_or blocks j [] in
               let is : block_at n s.bytes j ≡ b = block_is j (omega (arith, here, fits)) in
-              ap (sure (nonce_bytes (s.start + j) false)) is
-              ∙ sure_from_Contains (nonce_bytes (s.start + j) false) b (auth.front j here (front_opens blocks s.start j here));
-          there = λ last. subst (λ (k : ℕ). sure (nonce_bytes at last) (block_at n s.bytes k) ≡ false) m (none last);
+              subst (λ (x : List ℕ). Contains (sealed sealing n text) (nonce_bytes (s.start + j) false, x)) (sym is) (auth.front j here (front_opens blocks s.start j here));
+          there = λ last found.
+              let no = subst (λ (k : ℕ). sure (nonce_bytes at last) (block_at n s.bytes k) ≡ false) m (none last) in
+              let clash : true ≡ false = sym (sure_from_Contains (nonce_bytes at last) (block_at n s.bytes (at - s.start)) found) ∙ no in
+              cc;
         }
 
     -- what an outcome's status may say

@@ -1,7 +1,6 @@
 -- Each block in its place: what a segment gives where its blocks are compared with the writer's. A
 -- chunk has n bytes.
-use Rattle.std.specs.Prelude.{◌≡◌, ◌≢◌, ℕ, ◌+◌, ◌-◌, ◌<◌, Bool, true, false, ◌&&◌, List, [], ◌∷◌, Some, None, if◌then◌else◌}
-use Rattle.std.specs.List.{list_any}
+use Rattle.std.specs.Prelude.{◌≡◌, ◌≢◌, ℕ, ◌+◌, ◌-◌, ◌<◌, Bool, false, ◌&&◌, List, [], ◌∷◌, Contains, Some, None, if◌then◌else◌}
 use Rattle.std.specs.Str.{bytes_eq}
 use Rattle.age_stream.specs.Lawful.{Seals, Opens}
 use Rattle.age_stream.specs.Nonce.{nonce_bytes}
@@ -20,12 +19,6 @@ sealed_as (pair ∷ pairs) (chunk ∷ chunks) nonce block =
     else sealed_as pairs chunks nonce block
 
 module _ (sealing : Seals) (n : ℕ) (text : List ℕ) where
-  -- whether the writer of the text sealed a chunk as this block at this nonce
-  abbrev pub is_writers : List ℕ → List ℕ → Bool
-  is_writers nonce block =
-      list_any (λ (pair : List ℕ × List ℕ). bytes_eq pair.0 nonce && bytes_eq pair.1 block)
-      (sealed sealing n text)
-
   -- in place of opening, comparing with the writer's blocks
   abbrev pub compared : Opens
   compared = sealed_as (sealed sealing n text) (chunks n text)
@@ -33,10 +26,10 @@ module _ (sealing : Seals) (n : ℕ) (text : List ℕ) where
   -- block number i is none of the writer's, and those before it are the writer's, each at its
   -- number
   pub record IsFirstWrong (s : Segment) (i : ℕ) : Type 0 where
-    pub before : (j : ℕ) → s.start + j < i
-        → is_writers (nonce_bytes (s.start + j) false) (block_at n s.bytes j) ≡ true
-    pub there : (last : Bool)
-        → is_writers (nonce_bytes i last) (block_at n s.bytes (i - s.start)) ≡ false
+    pub before : (j : ℕ) → s.start + j < i → Contains (sealed sealing n text)
+        (nonce_bytes (s.start + j) false, block_at n s.bytes j)
+    pub there : (last : Bool) → ¬ Contains (sealed sealing n text)
+        (nonce_bytes i last, block_at n s.bytes (i - s.start))
 
 module _ (sealing : Seals) (opening : Opens) (n : ℕ) (text : List ℕ) where
   -- the outcome is that of comparing blocks with the writer's; one is refused as damaged where it
