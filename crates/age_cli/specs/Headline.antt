@@ -29,7 +29,8 @@ pub record IsRead (identity : Identity) (input : Option (List ℕ)) (r : Run) : 
 abbrev pub IsWritersInput : List Row → Files → List ℕ → Type 0
 IsWritersInput rows old text =
     (from : Text) (identity : Identity) → first_of (codes "IN") rows ≡ Some from
-    → OpensBy old (options_of rows) identity → (r : Run) → IsRead identity (old from) r → IsAuthenticRun r text
+    → OpensBy old (options_of rows) identity → (r : Run) → IsRead identity (old from) r
+    → IsAuthenticRun r text
 
 -- a file is as it was, or holds a beginning of the text
 abbrev pub HoldsNoMore : Option (List ℕ) → Option (List ℕ) → List ℕ → Type 0

@@ -41,7 +41,8 @@ pub record IsSharedIn (held : Option (List ℕ)) (shared : Shared) : Type 0 wher
 
 -- the one option that says what opens the file, and the file that it names, make this
 abbrev pub IsIdentity : Files → Option Text → Option Text → Option Text → ℕ → Identity → Type 0
-IsIdentity old (Some pass) None None max_log (ByPassphrase words) = IsPassphraseIn (old pass) words.pass
+IsIdentity old (Some pass) None None max_log (ByPassphrase words) =
+    IsPassphraseIn (old pass) words.pass
     × (words.max_log ≡ max_log) × IsAllowed words.pass words.max_log
 IsIdentity old None (Some digits) None max_log (ByFileKey known) = SpellsKey digits known
 IsIdentity old None None (Some name) max_log (ByShared shared) = IsSharedIn (old name) shared

@@ -50,7 +50,8 @@ module _ (words : List Text) (tells : Bool) (old new : Files) (IsPorts : Ports �
       → Stopped (FailsToResume IsPorts rows old new)
 
 -- of the report of a file, or of the input
-abbrev pub Inspecting : List Text → Bool → Files → Option (List ℕ) → Option (List ℕ) → Option (List ℕ)
+abbrev pub Inspecting : List Text → Bool → Files → Option (List ℕ) → Option (List ℕ)
+    → Option (List ℕ)
     → Option (List ℕ) → (Type 0 → Type 0) → Type 0
 Inspecting words tells old input_old input_new output_old output_new Done =
     (rows : List Row) → Asks words (codes "inspect") rows

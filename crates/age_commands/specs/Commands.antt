@@ -65,6 +65,7 @@ drilling = with_rule
 -- the whole program, which reads the words after its name
 unfoldable pub age_tool : App
 age_tool = with_subcommand (with_subcommand (with_subcommand (with_subcommand (with_subcommand
-    (on_top (λ s. record s { no_binary_name = true; subcommand_required = true; has_version = true })
+    (on_top
+    (λ s. record s { no_binary_name = true; subcommand_required = true; has_version = true })
     (new_app (codes "age_tool")))
     encrypting.top) decrypting.top) resuming.top) inspecting.top) drilling.top

@@ -19,13 +19,17 @@ use std::alloc::{AllocError, Global};
 /// Counts the bytes that are left, to the end of the source.
 fn count_rest<S: Source>(reader: &mut Reader<'_, S>) -> Result<u128, FileFault>
     requires { reader.old.intake.now.pulls ≤ 2 ^ 63 }
-    ensures counts { IfOk result (CountsRest (S.view reader.old.source.now).remaining (S.view reader.new.source.now).remaining
+    ensures counts { IfOk result (CountsRest (S.view reader.old.source.now).remaining
+        (S.view reader.new.source.now).remaining
         reader.old.intake.now) }
     ensures ended { OnOk result (IsAtEnd (S.view reader.new.source.now).remaining) }
     ensures small { IfOk result (λ n. n ≤ 65536 * (2 ^ 63 + 1)) }
-    ensures unfailed { OnOk result ((S.view reader.new.source.now).failed ≡ (S.view reader.old.source.now).failed) }
-    ensures fails { IfErr result (RestFails (S.view reader.old.source.now).remaining (S.view reader.new.source.now).remaining
-        (S.view reader.old.source.now).failed (S.view reader.new.source.now).failed reader.old.intake.now) }
+    ensures unfailed { OnOk result ((S.view reader.new.source.now).failed
+        ≡ (S.view reader.old.source.now).failed) }
+    ensures fails { IfErr result (RestFails (S.view reader.old.source.now).remaining
+        (S.view reader.new.source.now).remaining
+        (S.view reader.old.source.now).failed (S.view reader.new.source.now).failed
+        reader.old.intake.now) }
     ensures same { SameReader reader.old reader.new }
 {
     let mut count = reader.intake.bytes().len() as u128;
@@ -88,10 +92,12 @@ fn plain_of(rest: u128) -> Option<u128>
 ///
 /// Refuses with the header's fault (1 to 8), `Read` (26), `Memory` (28) and `ReadNeverEnds` (29).
 pub fn inspect<S: Source>(alloc: Global, source: &mut S) -> Result<Report, FileFault>
-    ensures ok { IfOk result (Inspects (S.view source.old).remaining (S.view source.new).remaining) }
+    ensures ok { IfOk result (Inspects (S.view source.old).remaining
+        (S.view source.new).remaining) }
     ensures unfailed { OnOk result ((S.view source.new).failed ≡ (S.view source.old).failed) }
     // When each fault comes.
-    ensures fails { IfErr result (HeadFails (S.view source.old).remaining (S.view source.new).remaining
+    ensures fails { IfErr result (HeadFails (S.view source.old).remaining
+        (S.view source.new).remaining
         (S.view source.old).failed (S.view source.new).failed) }
 {
     let mut intake = Intake::new(alloc)?;

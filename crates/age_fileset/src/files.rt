@@ -124,7 +124,8 @@ pub trait FileSet {
         durability: Durability,
     ) -> Result<(), FileFault>
         ensures told { tells self.new ≡ tells self.old }
-        ensures put { OnOk result (tells self.old ≡ true → entry self.new name.now ≡ Some bytes.now) }
+        ensures put { OnOk result (tells self.old ≡ true
+            → entry self.new name.now ≡ Some bytes.now) }
         ensures others { (q : List ℕ) → q ≢ name.now → entry self.new q ≡ entry self.old q }
         ensures err { OnErr result (entry self.new ≡ entry self.old) }
         ensures noted { events self.new ≡ events self.old ++ Replaced name.now ∷ [] }

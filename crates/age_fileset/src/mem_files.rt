@@ -182,7 +182,8 @@ impl FileSet for MemFiles {
 
     /// Opens a copy of a file's bytes. Refuses with `Read` (26) exactly where no file has the name.
     fn open(&mut self, alloc: Global, name: &str) -> Result<MemSource, FileFault>
-        ensures kept { self.new ≡ record self.old { events = self.old.events ++ Opened name.now ∷ [] } }
+        ensures kept { self.new
+            ≡ record self.old { events = self.old.events ++ Opened name.now ∷ [] } }
         ensures found { IfOk result (λ s. entry_of self.old.entries name.now ≡ Some s.left) }
         ensures missing { IsErrOf result FileFault.Read
             ↔ (entry_of self.old.entries name.now ≡ None) }
@@ -199,8 +200,10 @@ impl FileSet for MemFiles {
     /// Refuses with `Write` (27) exactly where the name is one that can't be written.
     fn create(&mut self, alloc: Global, name: &str) -> Result<MemOut, CreateFault>
         ensures made { IfOk result (λ o. o ≡ (name.now, empty_with self.old.room)) }
-        ensures refused { IsErrOf result (Fault FileFault.Write) ↔ Contains self.old.refused name.now }
-        ensures kept { self.new ≡ record self.old { events = self.old.events ++ Created name.now ∷ [] } }
+        ensures refused { IsErrOf result (Fault FileFault.Write)
+            ↔ Contains self.old.refused name.now }
+        ensures kept { self.new
+            ≡ record self.old { events = self.old.events ++ Created name.now ∷ [] } }
         ensures faults { IfErr result (CreateFails true) }
     {
         self.log.created(name);

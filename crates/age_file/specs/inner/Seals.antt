@@ -90,7 +90,8 @@ module _ {B : Type 0} (sealing : B → List ℕ → List ℕ → List ℕ) (n : 
     pub unwritten : List ℕ
     pub some : SealsSome old new was now piece fed left unwritten
     pub answered : MatchResult result
-        (λ _. (left ≡ []) × (unwritten ≡ []) × (now.sink.failed ≡ was.sink.failed) × GoesOn old new fed)
+        (λ _. (left ≡ []) × (unwritten ≡ []) × (now.sink.failed ≡ was.sink.failed)
+        × GoesOn old new fed)
         (SealFails old was now piece)
 
 -- the last block of what the sealer holds: what of it was written, and what wasn't where the sink
