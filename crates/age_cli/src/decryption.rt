@@ -83,8 +83,8 @@ fn is_read<F: FileSet>(files: &F, asked: &Decrypting<'_>, name: &str) -> bool
         || is_given_as(files, asked.unlocking.shared, name)
 }
 
-/// Whether two of the files that have to differ are one: the output is none of those that are read,
-/// and a position goes to none of all these.
+/// Whether two files that have to differ are one: OUT must differ from each file that is read, and
+/// the file of `--save` from all of these and from OUT.
 pub(crate) fn names_a_file_twice<F: FileSet>(files: &F, asked: &Decrypting<'_>) -> bool
     ensures both { asked.now.from.now ≡ asked.now.to.now → result ≡ true }
     ensures pass_to { text_of asked.now.unlocking.pass ≡ Some asked.now.to.now → result ≡ true }
@@ -116,7 +116,7 @@ pub(crate) fn positions_for(save: Option<&str>) -> Positions
     }
 }
 
-/// Decrypts a file as the words ask. Where it stops, its position is saved.
+/// Decrypts a file as asked. If it stops, its position is saved.
 pub(crate) fn decrypt_file<F: FileSet>(
     alloc: Global,
     files: &mut F,

@@ -33,7 +33,7 @@ struct Random {
     payload_nonce: [u8; 16],
 }
 
-/// The random parts in bytes, one behind the other.
+/// The random parts in bytes: file key, salt and payload nonce.
 fn random_of(bytes: &[u8]) -> Option<Random>
     ensures { IfSome result (λ r. IsRandom bytes.now r) }
 {
@@ -65,8 +65,8 @@ fn read_random<F: FileSet>(alloc: Global, files: &mut F, name: &str) -> Result<R
     }
 }
 
-/// Ends the output of an encryption that stopped: as it was, where memory was refused, for nothing
-/// is written then; else with what was written.
+/// Ends the output of an encryption that stopped. If memory was refused, nothing was written, and
+/// the output is as it was; otherwise it is what was written.
 fn leave_sealed<F: FileSet>(files: &mut F, out: F::Out, fault: FileFault, durability: Durability)
     ensures held { F.tells files.old ≡ true → (fault ≡ Memory → (F.Out.view out).taken ≡ Some [])
         → Leaves (fault ≡ Memory) (F.Out.view out).taken (F.entry files.old (F.Out.view out).label)
@@ -138,7 +138,7 @@ fn names_out_twice<F: FileSet>(files: &F, asked: &Encrypting<'_>) -> bool
         || files.is_same(random_name(asked), asked.to)
 }
 
-/// Encrypts a file as the words ask.
+/// Encrypts a file as asked.
 pub(crate) fn encrypt_file<F: FileSet>(
     alloc: Global,
     files: &mut F,

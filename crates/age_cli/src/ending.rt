@@ -1,4 +1,4 @@
-//! Why a run did not do what it was asked.
+//! Why a run didn't do what it was asked.
 
 ghost use Rattle.std.specs.Prelude.{◌≡◌};
 ghost use Rattle.age_cli.specs.inner.Endings.{ending_of};
@@ -7,35 +7,35 @@ ghost use Rattle.age_cli.specs.declared.ending.Ending.TheVariants.{Fault, Usage 
 use age_file::FileFault;
 use age_fileset::CreateFault;
 
-/// A command line that asks for nothing that can be done.
+/// What is wrong with a command line that the parser of command lines accepts.
 #[derive(Clone, Copy, Debug, PartialEq, Eq)]
 pub(crate) enum Usage {
-    /// None of the options that say what opens the file, or more than one.
+    /// Not exactly one of `--pass`, `--file-key` and `--shared` is given.
     GiveOneIdentity,
-    /// No 32 hexadecimal digits.
+    /// `--file-key` isn't 32 hexadecimal digits.
     BadFileKey,
-    /// A name stands for two files that have to differ.
+    /// Two files that have to differ are one.
     SameFile,
-    /// No passphrase of 1 to 65,536 bytes.
+    /// The passphrase file doesn't hold 1 to 65,536 bytes, not counting a trailing newline.
     BadPassphraseFile,
-    /// No 64 bytes.
+    /// The shared-secret file isn't 64 bytes long.
     BadSharedFile,
-    /// Fewer than 48 bytes.
+    /// The file of random bytes has fewer than 48.
     BadRandomFile,
-    /// Neither of the options that say what opens a payload for a drill, or both.
+    /// Not exactly one of `--clear` and `--pass` is given to a drill.
     GiveClearOrPass,
-    /// A script of more bytes or lines than a drill takes.
+    /// The script has more than 1,048,576 bytes or 1,000 lines.
     ScriptTooLong,
-    /// This line of a script, from 1, isn't one.
+    /// This line of the script, counted from 1, is malformed.
     BadScriptLine(usize),
-    /// A payload of more bytes than a drill takes.
+    /// The payload has more than 16,777,216 bytes.
     PayloadTooLong,
-    /// No request could be read from words that are taken.
+    /// No request could be read from arguments that were accepted.
     Unread,
 }
 
 impl Usage {
-    /// What is told of it; a script's line number follows.
+    /// What is reported; the number of a script's line follows.
     pub(crate) fn text(&self) -> &'static str {
         match self {
             Usage::GiveOneIdentity => "give one of --pass, --file-key and --shared",
@@ -53,16 +53,16 @@ impl Usage {
     }
 }
 
-/// How a run ended that did not do what it was asked.
+/// How a run ended that didn't do what it was asked.
 #[derive(Debug, Drop)]
 pub(crate) enum Ending {
-    /// The words are refused, with this text.
+    /// The parser of command lines refuses the arguments, with this text.
     Words(String),
-    /// The words are taken, and ask for nothing that can be done.
+    /// The arguments are accepted, but can't be obeyed.
     Usage(Usage),
     /// A fault.
     Fault(FileFault),
-    /// A fault, and one more as the position was saved.
+    /// A fault, and a second one: its position couldn't be saved.
     Unsaved(FileFault, FileFault),
 }
 

@@ -84,7 +84,7 @@ pub(crate) fn read_pass<F: FileSet>(
     Ok(bytes)
 }
 
-/// The shared secret and the recipient behind it.
+/// The shared secret, and the recipient after it.
 fn shared_of(bytes: &[u8]) -> Option<SharedSecret>
     ensures { IfSome result (IsSharedIn (Some bytes.now)) }
 {
@@ -92,8 +92,7 @@ fn shared_of(bytes: &[u8]) -> Option<SharedSecret>
     Some(SharedSecret::new(shared, recipient.as_array::<32>()?))
 }
 
-/// The file of the one option that is given of those that say what opens a file, where that names
-/// one.
+/// The file named by the one option that says what opens the input, if that option names a file.
 pub(crate) fn secret_file<'a>(asked: &Unlocking<'a>) -> Result<Option<&'a str>, Usage>
     ensures name { IfOk result (λ name. text_of name ≡ secret_name asked.now) }
     ensures one { IfOk result (λ name. opening (text_of name)

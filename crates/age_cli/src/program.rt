@@ -46,7 +46,7 @@ fn answer_refusal<O: Sink>(alloc: Global, error: Error, output: &mut O) -> Resul
     Ok(())
 }
 
-/// Does what the words ask.
+/// Runs the command.
 fn obey<F: FileSet, I: Source, O: Sink>(
     alloc: Global,
     words: &[&str],
@@ -117,13 +117,13 @@ fn obey<F: FileSet, I: Source, O: Sink>(
     }
 }
 
-/// Runs the program on the words after its name, and answers its status: 0 on success, 1 on a
-/// fault, which is told in one line to `faults` (two, where a position could not be saved either),
-/// and 2 for a bad command line, whose text goes there too.
+/// Runs the program on the arguments after its name, and returns its status: 0 on success; 1 on a
+/// fault, which is reported to `faults` in one line (two, if a position couldn't be saved either);
+/// and 2 on a bad command line, whose text goes there too.
 ///
-/// Without words, or with `inspect`, it reads the input to its end and writes the report; with
+/// Without arguments, or with `inspect`, it reads the input to its end and writes the report; with
 /// `inspect FILE` it reads that file. `encrypt`, `decrypt` and `resume` read IN and write OUT.
-/// `drill` delivers the payload of IN by a script, and answers each line of it by a line. Help that
+/// `drill` delivers the payload of IN by a script, and writes a line for each line of it. Help that
 /// is asked for goes to the output, with status 0.
 pub fn run<F: FileSet, I: Source, O: Sink, E: Sink>(
     alloc: Global,

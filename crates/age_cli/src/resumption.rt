@@ -1,4 +1,4 @@
-//! The command that goes on with a decryption that stopped.
+//! The command that continues a decryption.
 
 ghost use Rattle.std.specs.Prelude.{◌≡◌, ◌⊎◌, [], ◌∷◌, ◌++◌, true, Some, IfOk, IfErr, OnOk};
 ghost use Rattle.age_fileset.specs.Events.{Opened, Closed};
@@ -47,8 +47,8 @@ fn read_position<F: FileSet>(
     }
 }
 
-/// Writes the whole text into the output, and ends that: the old text up to the position, and the
-/// input's behind it. Where it stops before anything is written, the output is as it was.
+/// Writes the whole plaintext into the output, and ends that: the earlier output up to the
+/// position, and then the input's. If it stops before anything is written, the output is as it was.
 fn write_out<F: FileSet>(
     alloc: Global,
     files: &mut F,
@@ -88,8 +88,8 @@ fn write_out<F: FileSet>(
     }
 }
 
-/// Whether two of the files that have to differ are one: those of a decryption, the old text from
-/// all of these that are not what opens the input, and the output from the position.
+/// Whether two files that have to differ are one: those of a decryption; the earlier output must
+/// differ from IN, OUT and the file of `--save`, and OUT from the position.
 fn names_one_twice<F: FileSet>(files: &F, asked: &Resuming<'_>) -> bool
     ensures position_to { asked.now.position.now ≡ asked.now.decrypting.to.now → result ≡ true }
     ensures old_from { asked.now.old.now ≡ asked.now.decrypting.from.now → result ≡ true }
@@ -107,7 +107,7 @@ fn names_one_twice<F: FileSet>(files: &F, asked: &Resuming<'_>) -> bool
         || is_given_as(files, others.save, asked.old)
 }
 
-/// Goes on with a decryption as the words ask. Where it stops, its position is saved.
+/// Continues a decryption as asked. If it stops, its position is saved.
 pub(crate) fn resume_file<F: FileSet>(
     alloc: Global,
     files: &mut F,

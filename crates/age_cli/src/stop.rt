@@ -43,7 +43,7 @@ impl From<Stopped> for Stop {
     }
 }
 
-/// Writes a position to a file, where both are there.
+/// Saves a position, if there is one and a file for it.
 fn save<F: FileSet>(
     alloc: Global,
     files: &mut F,
