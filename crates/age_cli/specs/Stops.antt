@@ -51,7 +51,8 @@ SaveFails name position old new = ⊥
 -- failed
 abbrev pub EndsOf : FileFault → Option Text → Option Position → Held → Held → Ending → Type 0
 EndsOf fault name position old new (Fault f) = (f ≡ fault) × IsSaved name position old new
-EndsOf fault name position old new (Unsaved f second) = (f ≡ fault) × SaveFails name position old new
+EndsOf fault name position old new (Unsaved f second) = (f ≡ fault)
+    × SaveFails name position old new
 EndsOf fault name position old new e = ⊥
 
 -- an engine stopped with this position and fault, and the output was left as its promise says of
@@ -118,8 +119,8 @@ module _ (IsPorts : Ports → Type 0) where
     pub coming : input ≡ before.main.source.remaining
     pub old_coming : old_text ≡ before.old.remaining
     pub empty : before.main.sink.taken ≡ Some []
-    pub fails : ResumeFails keep (allows_by identity) from (refuses_by identity) before after written
-        position fault
+    pub fails : ResumeFails keep (allows_by identity) from (refuses_by identity) before after
+        written position fault
     pub took : taken ≡ after.main.sink.taken
 
   -- `encrypt` stopped with its output created

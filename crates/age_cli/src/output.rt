@@ -54,7 +54,8 @@ pub(crate) fn leave<F: FileSet>(files: &mut F, out: F::Out, written: u128, durab
     ensures held { F.tells files.old ≡ true → (written ≡ 0 → (F.Out.view out).taken ≡ Some [])
         → Leaves (written ≡ 0) (F.Out.view out).taken (F.entry files.old (F.Out.view out).label)
         (F.entry files.new (F.Out.view out).label) }
-    ensures others { (q : List ℕ) → q ≢ (F.Out.view out).label → F.entry files.new q ≡ F.entry files.old q }
+    ensures others { (q : List ℕ) → q ≢ (F.Out.view out).label
+        → F.entry files.new q ≡ F.entry files.old q }
     ensures noted { F.events files.new ≡ F.events files.old ++ Closed ∷ [] }
 {
     if written == 0 {

@@ -132,7 +132,8 @@ module _ (Who : Type 0) (Allows : Who → Header → List ℕ → Type 0)
   -- what a call's sink took is the old text of the next call, from whatever position that begins
   abbrev pub AreInARow : FirstCall → List NextCall → Type 0
   AreInARow first [] = Unit {0}
-  AreInARow first (c ∷ earlier) = (c.old.old.remaining ≡ taken first earlier) × AreInARow first earlier
+  AreInARow first (c ∷ earlier) = (c.old.old.remaining ≡ taken first earlier)
+      × AreInARow first earlier
 
   -- and the run of each is authentic for one text
   abbrev pub AreTexts : List ℕ → FirstCall → List NextCall → Type 0

@@ -34,7 +34,8 @@ pub record Encrypts (s : SecretView) (old new : Ports) (written : Written) : Typ
 
 -- why it stopped, after this text was read
 abbrev pub WhyStopped : Ports → Ports → List ℕ → FileFault → Type 0
-WhyStopped old new text (Stream fault) = (2 ^ 64 < length text) × (fault ≡ too_many (chunk_limit - 1))
+WhyStopped old new text (Stream fault) = (2 ^ 64 < length text)
+    × (fault ≡ too_many (chunk_limit - 1))
 WhyStopped old new text Read = HasRisen old.source.failed new.source.failed
 WhyStopped old new text Write = HasRisen old.sink.failed new.sink.failed
 WhyStopped old new text ReadNeverEnds = 2 ^ 63 ≤ length text

@@ -26,7 +26,8 @@ use Rattle.age_file.specs.Resumes.{ResumePorts, NoPortFailed, Reads, WritesOld, 
 -- the file and the old text, together, gave so much that they are taken for ones that never end
 abbrev pub NeverEnd : ResumePorts → ResumePorts → Type 0
 NeverEnd old new = (bytes : List ℕ) × (texts : List ℕ)
-    × Consumes old.main.source.remaining new.main.source.remaining bytes × Consumes old.old.remaining new.old.remaining texts
+    × Consumes old.main.source.remaining new.main.source.remaining bytes
+    × Consumes old.old.remaining new.old.remaining texts
     × IsByAllPulls (length bytes + length texts)
 
 module _ (Allows : Header → List ℕ → Type 0) (p : Position) where
@@ -73,8 +74,8 @@ module _ (keep : Positions) (Allows : Header → List ℕ → Type 0) (p : Posit
   abbrev pub FailsAt : (Main Old : Type 0) → ResumePorts → ResumePorts → ℕ → Option Position
       → Type 0
   FailsAt Main Old old new written position =
-      (WritesNone old.main new.main written position × IsShort old.main.source.remaining new.main.source.remaining
-      × Main)
+      (WritesNone old.main new.main written position
+      × IsShort old.main.source.remaining new.main.source.remaining × Main)
       ⊎ ((s : StopsInOld Allows p old new written position) × (s.copied ≡ s.writes.pulled) × Old)
       ⊎ ((passed : List ℕ) × StopsInPassed old new written position passed × Main)
       ⊎ ((r : Resumption) × Resumed Allows p old new written r
@@ -89,7 +90,8 @@ module _ (keep : Positions) (Allows : Header → List ℕ → Type 0) (p : Posit
       × Reads Allows old.main.source.remaining new.main.source.remaining f rest × (HasId p f → ⊥)
   ResumeFails Refused old new written position PositionForged =
       WritesNone old.main new.main written position × (f : OpenedFile) × (rest : List ℕ)
-      × Reads Allows old.main.source.remaining new.main.source.remaining f rest × HasId p f × (HasTag p f → ⊥)
+      × Reads Allows old.main.source.remaining new.main.source.remaining f rest × HasId p f
+      × (HasTag p f → ⊥)
   ResumeFails Refused old new written position ShortText =
       (s : StopsInOld Allows p old new written position) × (s.copied ≡ s.writes.pulled)
       × IsAtEnd new.old.remaining
@@ -115,8 +117,9 @@ module _ (keep : Positions) (Allows : Header → List ℕ → Type 0) (p : Posit
   ResumeFails Refused old new written position ReadNeverEnds =
       FailsAt (NeverEnd old new) (NeverEnd old new) old new written position
   ResumeFails Refused old new written position fault =
-      WritesNone old.main new.main written position × StartFails Allows Refused old.main.source.remaining
-      new.main.source.remaining old.main.source.failed new.main.source.failed fault
+      WritesNone old.main new.main written position
+      × StartFails Allows Refused old.main.source.remaining new.main.source.remaining
+      old.main.source.failed new.main.source.failed fault
 
   -- what a resumed decryption promises where it stopped
   abbrev pub ResumeStops : (Header → KeyFault → Type 0) → ResumePorts → ResumePorts → Stopped

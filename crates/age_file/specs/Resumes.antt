@@ -69,7 +69,8 @@ pub record IsResumption (Allows : Header → List ℕ → Type 0) (p : Position)
     (written : ℕ) (r : Resumption) : Type 0 where
   pub own : HasId p r.file
   pub tagged : HasTag p r.file
-  pub reads : Reads Allows old.main.source.remaining new.main.source.remaining r.file (r.passed ++ r.bytes)
+  pub reads : Reads Allows old.main.source.remaining new.main.source.remaining r.file
+      (r.passed ++ r.bytes)
   pub old_text : IsOldText p r.copied
   pub passed_size : length r.passed ≡ p.index * 65552
   pub more : List ℕ

@@ -48,7 +48,9 @@ RoundTrip = (keep : Positions) (s : SecretView) (max_log : ℕ) (text : List ℕ
     (was file now last : Ports) (written : Written) (result : Result Done Stopped) → IsSecret s
     → s.log ≤ max_log
     → IsClosed (box s.key s.nonce) (unbox s.key s.nonce) 65536 text
-    → WasEncrypted s text was file written → now.source.remaining ≡ file.sink.taken → now.sink.taken ≡ Some []
+    → WasEncrypted s text was file written → now.source.remaining ≡ file.sink.taken
+    → now.sink.taken ≡ Some []
     → DecryptAnswers Words IsPassphraseKey PassphraseRefuses keep (words_of s max_log) now last
     result
-    → MatchResult result (λ done. last.sink.taken ≡ Some text) (λ stopped. StopsOutside stopped.fault)
+    → MatchResult result (λ done. last.sink.taken ≡ Some text)
+    (λ stopped. StopsOutside stopped.fault)

@@ -25,9 +25,11 @@ pub(crate) struct Unlocked {
 
 /// Sees that some byte is there. False: the source is at its end.
 pub(crate) fn some_bytes<S: Source>(reader: &mut Reader<'_, S>) -> Result<bool, FileFault>
-    ensures answers { SomeAnswers (S.view reader.new.source.now).remaining (S.view reader.old.source.now).failed
-        (S.view reader.new.source.now).failed reader.new.intake.now result }
-    ensures uses { Uses (S.view reader.old.source.now).remaining (S.view reader.new.source.now).remaining reader.old.intake.now reader.new.intake.now [] }
+    ensures answers { SomeAnswers (S.view reader.new.source.now).remaining
+        (S.view reader.old.source.now).failed (S.view reader.new.source.now).failed
+        reader.new.intake.now result }
+    ensures uses { Uses (S.view reader.old.source.now).remaining
+        (S.view reader.new.source.now).remaining reader.old.intake.now reader.new.intake.now [] }
     ensures same { SameReader reader.old reader.new }
 {
     if !reader.intake.bytes().is_empty() {
@@ -49,11 +51,13 @@ fn copy_some(from: &[u8], into: &mut [u8; 16], have: usize) -> usize
 
 /// Reads the payload nonce.
 fn take_nonce<S: Source>(reader: &mut Reader<'_, S>) -> Result<[u8; 16], FileFault>
-    ensures found { IfOk result (Uses (S.view reader.old.source.now).remaining (S.view reader.new.source.now).remaining reader.old.intake.now
-        reader.new.intake.now) }
-    ensures unfailed { OnOk result ((S.view reader.new.source.now).failed ≡ (S.view reader.old.source.now).failed) }
-    ensures fails { IfErr result (NonceFails (S.view reader.old.source.now).remaining (S.view reader.new.source.now).remaining
-        (S.view reader.old.source.now).failed (S.view reader.new.source.now).failed reader.old.intake.now reader.new.intake.now) }
+    ensures found { IfOk result (Uses (S.view reader.old.source.now).remaining
+        (S.view reader.new.source.now).remaining reader.old.intake.now reader.new.intake.now) }
+    ensures unfailed { OnOk result ((S.view reader.new.source.now).failed ≡
+        (S.view reader.old.source.now).failed) }
+    ensures fails { IfErr result (NonceFails (S.view reader.old.source.now).remaining
+        (S.view reader.new.source.now).remaining (S.view reader.old.source.now).failed
+        (S.view reader.new.source.now).failed reader.old.intake.now reader.new.intake.now) }
     ensures same { SameReader reader.old reader.new }
 {
     let mut nonce = [0; 16];
@@ -76,12 +80,14 @@ pub(crate) fn start<U: Unlock, S: Source>(
     reader: &mut Reader<'_, S>,
 ) -> Result<Unlocked, FileFault>
     requires { (reader.old.intake.now.bytes ≡ []) × (reader.old.intake.now.pulls ≡ 0) }
-    ensures found { IfOk result (StartsAt (U.allows unlock.now) (S.view reader.old.source.now).remaining
-        (S.view reader.new.source.now).remaining reader.new.intake.now) }
-    ensures unfailed { OnOk result ((S.view reader.new.source.now).failed ≡ (S.view reader.old.source.now).failed) }
+    ensures found { IfOk result (StartsAt (U.allows unlock.now)
+        (S.view reader.old.source.now).remaining (S.view reader.new.source.now).remaining
+        reader.new.intake.now) }
+    ensures unfailed { OnOk result ((S.view reader.new.source.now).failed ≡
+        (S.view reader.old.source.now).failed) }
     ensures fails { IfErr result (StartFails (U.allows unlock.now) (U.refuses unlock.now)
-        (S.view reader.old.source.now).remaining (S.view reader.new.source.now).remaining (S.view reader.old.source.now).failed
-        (S.view reader.new.source.now).failed) }
+        (S.view reader.old.source.now).remaining (S.view reader.new.source.now).remaining
+        (S.view reader.old.source.now).failed (S.view reader.new.source.now).failed) }
     ensures same { SameReader reader.old reader.new }
 {
     one_header();

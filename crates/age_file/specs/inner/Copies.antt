@@ -27,7 +27,8 @@ CopyFails old new was now out other = ⊥
 
 -- a chunk was copied, and counted with its link
 abbrev pub ChunkGoes : ℕ → Side → Side → Tally → Tally → List ℕ → Type 0
-ChunkGoes n old new was now out = (length out ≡ n) × Passes old new out × (now.sink.failed ≡ was.sink.failed)
+ChunkGoes n old new was now out = (length out ≡ n) × Passes old new out
+    × (now.sink.failed ≡ was.sink.failed)
     × (now.progress.index ≡ was.progress.index + 1)
     × (now.progress.chain ≡ link_if was.progress.chain out)
 

@@ -36,7 +36,8 @@ module _ {B : Type 0} where
       ≤ 2 ^ 64 + 65536 * f.unread.pulls) × (f.unread.pulls ≤ 2 ^ 63)
 
   abbrev pub SameFailures : Flow B → Flow B → Type 0
-  SameFailures old new = (new.tally.sink.failed ≡ old.tally.sink.failed) × (new.source.failed ≡ old.source.failed)
+  SameFailures old new = (new.tally.sink.failed ≡ old.tally.sink.failed)
+      × (new.source.failed ≡ old.source.failed)
 
   -- why it stopped, with what was left and not written
   abbrev pub FlowFails : Flow B → Flow B → List ℕ → List ℕ → FileFault → Type 0
@@ -55,7 +56,8 @@ module _ {B : Type 0} where
       × SameFailures old new
       × HasRoom new × (new.unread.pulls ≡ old.unread.pulls + 1)
   TurnGoes old new left unwritten false = (left ≡ []) × (unwritten ≡ []) × SameFailures old new
-      × IsAtEnd new.source.remaining × (length new.opener.held + new.tally.progress.written < 2 ^ 128)
+      × IsAtEnd new.source.remaining
+      × (length new.opener.held + new.tally.progress.written < 2 ^ 128)
 
   module _ (opening : B → List ℕ → List ℕ → Option (List ℕ)) (n : ℕ) where
     -- of what was unread and what was pulled, so much was fed, and the rest was left

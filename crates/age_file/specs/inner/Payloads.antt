@@ -31,7 +31,8 @@ HasPlace s = (s.tally.progress.written + length s.unread.bytes ≤ 2 ^ 64 + 6553
     × (s.unread.pulls ≤ 2 ^ 63)
 
 abbrev pub NoneFailed : Stage → Stage → Type 0
-NoneFailed old new = (new.tally.sink.failed ≡ old.tally.sink.failed) × (new.source.failed ≡ old.source.failed)
+NoneFailed old new = (new.tally.sink.failed ≡ old.tally.sink.failed)
+    × (new.source.failed ≡ old.source.failed)
 
 module _ (opening : List ℕ → List ℕ → Option (List ℕ)) (n : ℕ) where
   -- all of the text was written, and the fault is where the segment stands; unless the sink failed
