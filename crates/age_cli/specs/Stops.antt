@@ -119,8 +119,8 @@ module _ (IsPorts : Ports → Type 0) where
     pub coming : input ≡ before.main.source.remaining
     pub old_coming : old_text ≡ before.old.remaining
     pub empty : before.main.sink.taken ≡ Some []
-    pub fails : ResumeFails keep (allows_by identity) from (refuses_by identity) before
-        after written position fault
+    pub fails : ResumeFails keep (allows_by identity) from (refuses_by identity) before after
+        written position fault
     pub took : taken ≡ after.main.sink.taken
 
   -- `encrypt` stopped with its output created

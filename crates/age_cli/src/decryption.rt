@@ -40,12 +40,10 @@ fn write_out<F: FileSet>(
         (F.entry files.new (F.Out.view out).label)) }
     ensures stops { IfErr result (λ stop. F.tells files.old ≡ true
         → (F.Out.view out).taken ≡ Some []
-        → OutStops
-        (DecryptionStop (PortsOf F.In.view F.Out.view) positions
-        identity.now (F.In.view source.old).remaining stop.position stop.fault)
+        → OutStops (DecryptionStop (PortsOf F.In.view F.Out.view) positions identity.now
+        (F.In.view source.old).remaining stop.position stop.fault)
         (F.entry files.old (F.Out.view out).label) (F.entry files.new (F.Out.view out).label)
-        stop.position
-        stop.fault) }
+        stop.position stop.fault) }
     ensures others { SparesBut (F.Out.view out).label (F.entry files.old) (F.entry files.new) }
     ensures noted { F.events files.new ≡ F.events files.old ++ Closed ∷ [] }
 {

@@ -96,10 +96,8 @@ fn write_out<F: FileSet>(
         (F.entry files.new (F.Out.view out).label)) }
     ensures stops { IfErr result (λ fault. F.tells files.old ≡ true
         → (F.Out.view out).taken ≡ Some []
-        → SealedOutStops
-        (EncryptionStop (PortsOf F.In.view F.Out.view) secret.now
-        (F.In.view source.old).remaining fault)
-        (F.entry files.old (F.Out.view out).label)
+        → SealedOutStops (EncryptionStop (PortsOf F.In.view F.Out.view) secret.now
+        (F.In.view source.old).remaining fault) (F.entry files.old (F.Out.view out).label)
         (F.entry files.new (F.Out.view out).label) fault) }
     ensures others { SparesBut (F.Out.view out).label (F.entry files.old) (F.entry files.new) }
     ensures noted { F.events files.new ≡ F.events files.old ++ Closed ∷ [] }

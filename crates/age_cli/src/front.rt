@@ -21,9 +21,8 @@ fn pull_some<S: Source>(
     requires some { 0 < most }
     requires room { most ≤ 4096 }
     ensures count { IfOk result (λ n. n ≤ most) }
-    ensures bytes { IfOk result
-        (λ n. Consumes (S.view source.old).remaining (S.view source.new).remaining
-        (take n buffer.new)) }
+    ensures bytes { IfOk result (λ n. Consumes (S.view source.old).remaining
+        (S.view source.new).remaining (take n buffer.new)) }
     ensures ended { IfOk result (λ n. n ≡ 0 → IsAtEnd (S.view source.new).remaining) }
     ensures fault { IfErr result (λ f. f ≡ Read) }
 {
@@ -81,9 +80,8 @@ pub(crate) fn read_up_to<S: Source>(
     most: usize,
 ) -> Result<Option<Vec<u8>>, FileFault>
     requires { most < 2 ^ 32 }
-    ensures all { IfOk result
-        (λ o. IfSome o (λ v. Consumes (S.view source.old).remaining (S.view source.new).remaining
-        v.items
+    ensures all { IfOk result (λ o. IfSome o
+        (λ v. Consumes (S.view source.old).remaining (S.view source.new).remaining v.items
         × IsAtEnd (S.view source.new).remaining)) }
     ensures faults { IfErr result (IsMemoryOr Read) }
 {

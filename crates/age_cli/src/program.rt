@@ -55,14 +55,12 @@ fn obey<F: FileSet, I: Source, O: Sink>(
     output: &mut O,
 ) -> Result<(), Ending>
     ensures served { OnOk result (IsServed (texts words.now)) }
-    ensures report { words.now ≡ []
-        → OnOk result (Reports (I.view input.old).remaining (I.view input.new).remaining
-        (O.view output.old).taken
+    ensures report { words.now ≡ [] → OnOk result
+        (Reports (I.view input.old).remaining (I.view input.new).remaining (O.view output.old).taken
         (O.view output.new).taken) }
     ensures inspects { Inspecting (texts words.now) (F.tells files.old) (F.entry files.old)
         (I.view input.old).remaining (I.view input.new).remaining (O.view output.old).taken
-        (O.view output.new).taken
-        (OnOk result) }
+        (O.view output.new).taken (OnOk result) }
     ensures encrypts { Encrypting (texts words.now) (F.tells files.old) (F.entry files.old)
         (F.entry files.new) (OnOk result) }
     ensures decrypts { Decrypting (texts words.now) (F.tells files.old) (F.entry files.old)
@@ -75,14 +73,10 @@ fn obey<F: FileSet, I: Source, O: Sink>(
     ensures refused { (refusals (texts words.now) ≡ [] → ⊥)
         → F.entry files.new ≡ F.entry files.old }
     ensures encrypts_stop { EncryptingStops (texts words.now) (F.tells files.old)
-        (F.entry files.old)
-        (F.entry files.new)
-        (PortsOf F.In.view F.Out.view)
+        (F.entry files.old) (F.entry files.new) (PortsOf F.In.view F.Out.view)
         (λ Ends. IfErr result Ends) }
     ensures decrypts_stop { DecryptingStops (texts words.now) (F.tells files.old)
-        (F.entry files.old)
-        (F.entry files.new)
-        (PortsOf F.In.view F.Out.view)
+        (F.entry files.old) (F.entry files.new) (PortsOf F.In.view F.Out.view)
         (λ Ends. IfErr result Ends) }
     ensures resumes_stop { ResumingStops (texts words.now) (F.tells files.old) (F.entry files.old)
         (F.entry files.new)
@@ -146,12 +140,10 @@ pub fn run<F: FileSet, I: Source, O: Sink, E: Sink>(
     // 0 means that the input was read to its end, and that its report and nothing else was written.
     ensures report { words.now ≡ [] → result ≡ 0
         → Reports (I.view input.old).remaining (I.view input.new).remaining
-        (O.view output.old).taken
-        (O.view output.new).taken }
+        (O.view output.old).taken (O.view output.new).taken }
     ensures inspects { Inspecting (texts words.now) (F.tells files.old) (F.entry files.old)
         (I.view input.old).remaining (I.view input.new).remaining (O.view output.old).taken
-        (O.view output.new).taken
-        (λ P. result ≡ 0 → P) }
+        (O.view output.new).taken (λ P. result ≡ 0 → P) }
     // 0 means that OUT holds what the engine promises for what the names stood for at the call.
     ensures encrypts { Encrypting (texts words.now) (F.tells files.old) (F.entry files.old)
         (F.entry files.new) (λ P. result ≡ 0 → P) }
@@ -169,15 +161,11 @@ pub fn run<F: FileSet, I: Source, O: Sink, E: Sink>(
     // 1 means that nothing differs, or that OUT holds what the engine promises for a stop, the file
     // of --save its position, and that the line which is told is that stop's.
     ensures encrypts_stop { EncryptingStops (texts words.now) (F.tells files.old)
-        (F.entry files.old)
-        (F.entry files.new)
-        (PortsOf F.In.view F.Out.view)
+        (F.entry files.old) (F.entry files.new) (PortsOf F.In.view F.Out.view)
         (λ Ends. result ≡ 1 → StopsTold Ends (E.view faults.old).taken (E.view faults.new).taken
         (E.view faults.old).failed (E.view faults.new).failed) }
     ensures decrypts_stop { DecryptingStops (texts words.now) (F.tells files.old)
-        (F.entry files.old)
-        (F.entry files.new)
-        (PortsOf F.In.view F.Out.view)
+        (F.entry files.old) (F.entry files.new) (PortsOf F.In.view F.Out.view)
         (λ Ends. result ≡ 1 → StopsTold Ends (E.view faults.old).taken (E.view faults.new).taken
         (E.view faults.old).failed (E.view faults.new).failed) }
     ensures resumes_stop { ResumingStops (texts words.now) (F.tells files.old) (F.entry files.old)

@@ -135,8 +135,7 @@ fn put_usage<E: Sink>(faults: &mut E, usage: Usage) -> Result<(), FileFault> {
 
 fn put_ending<E: Sink>(faults: &mut E, ending: &Ending) -> Result<(), FileFault>
     ensures { TellsEnding ending.now (E.view faults.old).taken (E.view faults.new).taken
-        (E.view faults.old).failed
-        (E.view faults.new).failed }
+        (E.view faults.old).failed (E.view faults.new).failed }
 {
     match ending {
         Ending::Words(text) => put_bytes(faults, text.as_bytes())?,
@@ -153,8 +152,7 @@ fn put_ending<E: Sink>(faults: &mut E, ending: &Ending) -> Result<(), FileFault>
 /// Reports why a run ended, where the sink takes it.
 pub(crate) fn tell<E: Sink>(faults: &mut E, ending: &Ending)
     ensures { TellsEnding ending.now (E.view faults.old).taken (E.view faults.new).taken
-        (E.view faults.old).failed
-        (E.view faults.new).failed }
+        (E.view faults.old).failed (E.view faults.new).failed }
 {
     let _ = put_ending(faults, ending);
 }

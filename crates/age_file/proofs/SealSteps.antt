@@ -14,7 +14,8 @@ use Rattle.age_stream.specs.Sealing.{SealerView, Holds, step_len, needs_too_many
 use Rattle.age_stream.specs.Lent.{chunk_bytes}
 use Rattle.age_stream.proofs.PublicLaws.{payload_is_longer}
 use Rattle.age_file.specs.Faults.{HasRisen}
-use Rattle.age_file.specs.inner.Seals.{front_of, IsTooLong, SealsSome, GoesOn, SealFails, HasRoom, Tally, Wrote}
+use Rattle.age_file.specs.inner.Releases.{Tally}
+use Rattle.age_file.specs.inner.Seals.{front_of, IsTooLong, SealsSome, GoesOn, SealFails, HasRoom, Wrote}
 use Rattle.age_file.specs.declared.fault.FileFault.{FileFault}
 use Rattle.age_file.specs.declared.fault.FileFault.TheVariants.{Head, Key, NonceCut, Stream, BadPosition, OtherFile, ShortText, Read, Write, Memory, ReadNeverEnds, PositionForged, OldTextDiffers}
 use Rattle.age_file.proofs.Bytes.{Appends-then}
@@ -140,8 +141,8 @@ module _ (sealing : List ℕ → List ℕ → List ℕ) (opening : List ℕ → 
 
 -- after a piece's front the count of what was written has room for a block
 pub room_left : {B : Type 0} (sealing : B → List ℕ → List ℕ → List ℕ) (opening : List ℕ → List ℕ → Option (List ℕ)) (n : ℕ) (a b : SealerView B) (was now : Tally) (piece : List ℕ) (at : ℕ)
-    → IsLawful (sealing a.key) opening → n + 16 ≤ 65552 → HasRoom sealing n a was.written (length piece)
-    → SealsSome sealing n a b was now (take at piece) (take at piece) [] [] → now.written ≤ 2 ^ 127
+    → IsLawful (sealing a.key) opening → n + 16 ≤ 65552 → HasRoom sealing n a was.progress.written (length piece)
+    → SealsSome sealing n a b was now (take at piece) (take at piece) [] [] → now.progress.written ≤ 2 ^ 127
 room_left sealing opening n a b was now piece at lawful most room some =
     let text = room.text in
     let fed = take at piece in

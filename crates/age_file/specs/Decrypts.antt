@@ -136,8 +136,8 @@ module _ (keep : Positions) (Allows : Header → List ℕ → Type 0) where
       × NeverEnds old.source.remaining new.source.remaining
   DecryptFails Refused old new written position fault =
       WritesNone old new written position
-      × StartFails Allows Refused old.source.remaining new.source.remaining old.source.failed
-      new.source.failed fault
+      × StartFails Allows Refused old.source.remaining new.source.remaining
+      old.source.failed new.source.failed fault
 
 -- what a decryption promises of its answers: how it ended, and how it stopped
 abbrev pub DecryptEnds : (Header → List ℕ → Type 0) → Ports → Ports → Done → Type 0

@@ -75,8 +75,7 @@ module _ (keep : Positions) (Allows : Header → List ℕ → Type 0) (p : Posit
       → Type 0
   FailsAt Main Old old new written position =
       (WritesNone old.main new.main written position
-      × IsShort old.main.source.remaining new.main.source.remaining
-      × Main)
+      × IsShort old.main.source.remaining new.main.source.remaining × Main)
       ⊎ ((s : StopsInOld Allows p old new written position) × (s.copied ≡ s.writes.pulled) × Old)
       ⊎ ((passed : List ℕ) × StopsInPassed old new written position passed × Main)
       ⊎ ((r : Resumption) × Resumed Allows p old new written r

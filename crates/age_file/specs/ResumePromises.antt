@@ -21,8 +21,8 @@ pub record ResumesText (keep : Positions) (Allows : Header → List ℕ → Type
   pub stopped : IfErr result (ResumeStops keep Allows p Refused old new)
   pub undamaged : (text : List ℕ)
       → IsUndamagedRest Allows Refused p old.main.source.remaining old.old.remaining text
-      → MatchResult result (λ done. WritesText old.main.sink.taken new.main.sink.taken
-      done.written text)
+      → MatchResult result
+      (λ done. WritesText old.main.sink.taken new.main.sink.taken done.written text)
       (λ stopped. StopsOutside stopped.fault)
   pub settled : OnOk result (new.main.sink.settled ≡ true)
   pub named : new.main.sink.label ≡ old.main.sink.label

@@ -8,7 +8,10 @@ ghost use Rattle.age_file.specs.declared.fault.FileFault.TheVariants.{Memory};
 
 use crate::fault::FileFault;
 use crate::intake::Intake;
+use crate::position::Positions;
+use crate::progress::Progress;
 use crate::put::write_all;
+use crate::reader::{Reader, Writer};
 use crate::sealing::seal_all;
 use crate::secret::Secret;
 use age_io::{Sink, Source};
@@ -51,8 +54,7 @@ pub fn encrypt<S: Source, O: Sink>(
     reader: &mut S,
     writer: &mut O,
 ) -> Result<Written, FileFault>
-    ensures done { IfOk result (Encrypts secret.now
-        (ports (S.view reader.old) (O.view writer.old))
+    ensures done { IfOk result (Encrypts secret.now (ports (S.view reader.old) (O.view writer.old))
         (ports (S.view reader.new) (O.view writer.new))) }
     ensures fails { IfErr result (EncryptFails secret.now
         (ports (S.view reader.old) (O.view writer.old))
@@ -63,8 +65,19 @@ pub fn encrypt<S: Source, O: Sink>(
     let front = front_of(alloc, secret)?;
     let mut intake = Intake::new(alloc)?;
     let key = payload_key(&FileKey::new(secret.file_key), &secret.payload_nonce);
-    let mut file = 0;
-    write_all(writer, front.as_slice(), &mut file)?;
-    let plain = seal_all(&key, reader, &mut intake, writer, &mut file)?;
-    Ok(Written { plain, file })
+    let mut progress = Progress::new(Positions::Dropped);
+    write_all(writer, front.as_slice(), &mut progress.written)?;
+    let mut reader = Reader {
+        source: reader,
+        intake: &mut intake,
+    };
+    let mut writer = Writer {
+        sink: writer,
+        progress,
+    };
+    let plain = seal_all(&key, &mut reader, &mut writer)?;
+    Ok(Written {
+        plain,
+        file: writer.progress.written,
+    })
 }

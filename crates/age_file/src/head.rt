@@ -27,15 +27,14 @@ pub(crate) fn read_head<S: Source>(
 ) -> Result<Head, FileFault>
     requires { (reader.old.intake.now.bytes ≡ []) × (reader.old.intake.now.pulls ≡ 0) }
     ensures found { IfOk result (ReadsHead (S.view reader.old.source.now).remaining
-        (S.view reader.new.source.now).remaining
-        reader.new.intake.now) }
+        (S.view reader.new.source.now).remaining reader.new.intake.now) }
     ensures last { OnOk result (StopsAtHeader (S.view reader.old.source.now).remaining
         (S.view reader.new.source.now).remaining) }
-    ensures unfailed { OnOk result ((S.view reader.new.source.now).failed
-        ≡ (S.view reader.old.source.now).failed) }
+    ensures unfailed { OnOk result ((S.view reader.new.source.now).failed ≡
+        (S.view reader.old.source.now).failed) }
     ensures fails { IfErr result (HeadFails (S.view reader.old.source.now).remaining
-        (S.view reader.new.source.now).remaining
-        (S.view reader.old.source.now).failed (S.view reader.new.source.now).failed) }
+        (S.view reader.new.source.now).remaining (S.view reader.old.source.now).failed
+        (S.view reader.new.source.now).failed) }
     ensures early { IfErr result (λ fault. fault ≢ Memory
         → IsInHeader (S.view reader.old.source.now).remaining
         (S.view reader.new.source.now).remaining) }

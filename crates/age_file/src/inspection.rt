@@ -20,16 +20,14 @@ use std::alloc::{AllocError, Global};
 fn count_rest<S: Source>(reader: &mut Reader<'_, S>) -> Result<u128, FileFault>
     requires { reader.old.intake.now.pulls ≤ 2 ^ 63 }
     ensures counts { IfOk result (CountsRest (S.view reader.old.source.now).remaining
-        (S.view reader.new.source.now).remaining
-        reader.old.intake.now) }
+        (S.view reader.new.source.now).remaining reader.old.intake.now) }
     ensures ended { OnOk result (IsAtEnd (S.view reader.new.source.now).remaining) }
     ensures small { IfOk result (λ n. n ≤ 65536 * (2 ^ 63 + 1)) }
-    ensures unfailed { OnOk result ((S.view reader.new.source.now).failed
-        ≡ (S.view reader.old.source.now).failed) }
+    ensures unfailed { OnOk result ((S.view reader.new.source.now).failed ≡
+        (S.view reader.old.source.now).failed) }
     ensures fails { IfErr result (RestFails (S.view reader.old.source.now).remaining
-        (S.view reader.new.source.now).remaining
-        (S.view reader.old.source.now).failed (S.view reader.new.source.now).failed
-        reader.old.intake.now) }
+        (S.view reader.new.source.now).remaining (S.view reader.old.source.now).failed
+        (S.view reader.new.source.now).failed reader.old.intake.now) }
     ensures same { SameReader reader.old reader.new }
 {
     let mut count = reader.intake.bytes().len() as u128;
@@ -97,8 +95,7 @@ pub fn inspect<S: Source>(alloc: Global, source: &mut S) -> Result<Report, FileF
     ensures unfailed { OnOk result ((S.view source.new).failed ≡ (S.view source.old).failed) }
     // When each fault comes.
     ensures fails { IfErr result (HeadFails (S.view source.old).remaining
-        (S.view source.new).remaining
-        (S.view source.old).failed (S.view source.new).failed) }
+        (S.view source.new).remaining (S.view source.old).failed (S.view source.new).failed) }
 {
     let mut intake = Intake::new(alloc)?;
     let mut reader = Reader {

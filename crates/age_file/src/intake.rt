@@ -88,8 +88,7 @@ impl Intake {
     pub(crate) fn refill<S: Source>(&mut self, source: &mut S) -> Result<bool, FileFault>
         requires { self.old.bytes ≡ [] }
         ensures { Refills (S.view source.old).remaining (S.view source.new).remaining
-            (S.view source.old).failed
-            (S.view source.new).failed self.old self.new result }
+            (S.view source.old).failed (S.view source.new).failed self.old self.new result }
     {
         if self.pulls == MOST_PULLS {
             return Err(FileFault::ReadNeverEnds);

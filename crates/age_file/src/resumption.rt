@@ -52,11 +52,8 @@ fn copy_old<L: Source, O: Sink>(
     requires fresh { (writer.old.progress.written ≡ 0) × (writer.old.progress.index ≡ 0)
         × (writer.old.progress.chain ≡ chain_if Kept []) }
     ensures copied { CopiesText positions 65536 position.now.index position.now.chain
-        (side_of L.view reader.old)
-        (side_of L.view reader.new)
-        (tally_of O.view writer.old)
-        (tally_of O.view writer.new)
-        result }
+        (side_of L.view reader.old) (side_of L.view reader.new) (tally_of O.view writer.old)
+        (tally_of O.view writer.new) result }
     ensures same_reader { SameReader reader.old reader.new }
     ensures same_writer { SameWriter writer.old writer.new }
 {
@@ -100,12 +97,9 @@ pub fn resume<U: Unlock, S: Source, L: Source, O: Sink>(
     writer: &mut O,
 ) -> Result<Done, Stopped>
     ensures { ResumesText Kept (U.allows unlock.now) (U.refuses unlock.now) position.now
-        (resume_ports
-        (ports (S.view reader.old) (O.view writer.old))
-        (L.view old_reader.old))
-        (resume_ports
-        (ports (S.view reader.new) (O.view writer.new))
-        (L.view old_reader.new)) result }
+        (resume_ports (ports (S.view reader.old) (O.view writer.old)) (L.view old_reader.old))
+        (resume_ports (ports (S.view reader.new) (O.view writer.new)) (L.view old_reader.new))
+        result }
 {
     resume_with(
         alloc,
@@ -141,12 +135,9 @@ pub fn resume_with<U: Unlock, S: Source, L: Source, O: Sink>(
     writer: &mut O,
 ) -> Result<Done, Stopped>
     ensures { ResumesText positions (U.allows unlock.now) (U.refuses unlock.now) position.now
-        (resume_ports
-        (ports (S.view reader.old) (O.view writer.old))
-        (L.view old_reader.old))
-        (resume_ports
-        (ports (S.view reader.new) (O.view writer.new))
-        (L.view old_reader.new)) result }
+        (resume_ports (ports (S.view reader.old) (O.view writer.old)) (L.view old_reader.old))
+        (resume_ports (ports (S.view reader.new) (O.view writer.new)) (L.view old_reader.new))
+        result }
 {
     one_header();
     let (Ok(mut intake), Ok(mut old_intake)) = (Intake::new(alloc), Intake::new(alloc)) else {

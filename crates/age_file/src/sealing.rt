@@ -2,13 +2,13 @@
 
 ghost use Rattle.std.specs.Prelude.{◌≡◌, ◌^◌, ◌≤◌, [], length, IfOk, OnOk, IfErr, true};
 ghost use Rattle.age_stream.specs.Sealing.{Holds};
-ghost use Rattle.age_file.specs.Ports.{ports};
 ghost use Rattle.age_file.specs.inner.Boxes.{seals};
-ghost use Rattle.age_file.specs.inner.Seals.{tally, IsFeeding, HasRoom, SealsOnce, SealsPiece, SealsLast, SealsSource, SealsAll, SealsFront};
+ghost use Rattle.age_file.specs.inner.Readers.{tally_of, ports_of, SameReader, SameWriter};
+ghost use Rattle.age_file.specs.inner.Seals.{IsFeeding, HasRoom, SealsOnce, SealsPiece, SealsLast, SealsSource, SealsAll, SealsFront};
 
 use crate::fault::FileFault;
-use crate::intake::Intake;
 use crate::put::{flush_all, write_all};
+use crate::reader::{Reader, Writer};
 use age_io::{Sink, Source};
 use age_keys::PayloadKey;
 use age_stream::Sealer;
@@ -20,20 +20,19 @@ type PayloadSealer<'a> = Sealer<'a, PayloadKey, 65552>;
 fn seal_once<O: Sink>(
     sealer: &mut PayloadSealer<'_>,
     piece: &[u8],
-    sink: &mut O,
-    written: &mut u128,
+    writer: &mut Writer<'_, O>,
 ) -> Result<usize, FileFault>
     requires feeding { IsFeeding sealer.old }
-    requires room { written.old ≤ 2 ^ 127 }
-    ensures sealed { SealsOnce seals 65536 sealer.old sealer.new
-        (tally (O.view sink.old) written.old)
-        (tally (O.view sink.new) written.new) piece.now result }
-    ensures named { (O.view sink.new).label ≡ (O.view sink.old).label }
+    requires room { writer.old.progress.written ≤ 2 ^ 127 }
+    ensures sealed { SealsOnce seals 65536 sealer.old sealer.new (tally_of O.view writer.old)
+        (tally_of O.view writer.new) piece.now result }
+    ensures named { (O.view writer.new.sink.now).label ≡ (O.view writer.old.sink.now).label }
+    ensures same_writer { SameWriter writer.old writer.new }
 {
     let step = sealer.feed(piece)?;
     let taken = step.taken;
     if let Some(block) = step.chunk {
-        write_all(sink, block, written)?;
+        write_all(writer.sink, block, &mut writer.progress.written)?;
     }
     Ok(taken)
 }
@@ -42,19 +41,18 @@ fn seal_once<O: Sink>(
 fn seal_piece<O: Sink>(
     sealer: &mut PayloadSealer<'_>,
     piece: &[u8],
-    sink: &mut O,
-    written: &mut u128,
+    writer: &mut Writer<'_, O>,
 ) -> Result<(), FileFault>
     requires feeding { IsFeeding sealer.old }
-    requires room { HasRoom seals 65536 sealer.old written.old (length piece.now) }
-    ensures sealed { SealsPiece seals 65536 sealer.old sealer.new
-        (tally (O.view sink.old) written.old)
-        (tally (O.view sink.new) written.new) piece.now result }
-    ensures named { (O.view sink.new).label ≡ (O.view sink.old).label }
+    requires room { HasRoom seals 65536 sealer.old writer.old.progress.written (length piece.now) }
+    ensures sealed { SealsPiece seals 65536 sealer.old sealer.new (tally_of O.view writer.old)
+        (tally_of O.view writer.new) piece.now result }
+    ensures named { (O.view writer.new.sink.now).label ≡ (O.view writer.old.sink.now).label }
+    ensures same_writer { SameWriter writer.old writer.new }
 {
     let mut at = 0;
     while at < piece.len() {
-        at += seal_once(sealer, &piece[at..], sink, written)?;
+        at += seal_once(sealer, &piece[at..], writer)?;
     }
     Ok(())
 }
@@ -62,63 +60,63 @@ fn seal_piece<O: Sink>(
 /// Seals the last chunk, and writes its block.
 fn seal_last<O: Sink>(
     sealer: &mut PayloadSealer<'_>,
-    sink: &mut O,
-    written: &mut u128,
+    writer: &mut Writer<'_, O>,
 ) -> Result<(), FileFault>
     requires feeding { IsFeeding sealer.old }
-    requires room { written.old ≤ 2 ^ 127 }
-    ensures sealed { SealsLast seals 65536 sealer.old
-        (tally (O.view sink.old) written.old)
-        (tally (O.view sink.new) written.new) result }
-    ensures named { (O.view sink.new).label ≡ (O.view sink.old).label }
+    requires room { writer.old.progress.written ≤ 2 ^ 127 }
+    ensures sealed { SealsLast seals 65536 sealer.old (tally_of O.view writer.old)
+        (tally_of O.view writer.new) result }
+    ensures named { (O.view writer.new.sink.now).label ≡ (O.view writer.old.sink.now).label }
+    ensures same_writer { SameWriter writer.old writer.new }
 {
     let block = sealer.finish()?;
-    write_all(sink, block, written)
+    write_all(writer.sink, block, &mut writer.progress.written)
 }
 
 /// The same, and then flushes.
 fn finish<O: Sink>(
     sealer: &mut PayloadSealer<'_>,
-    sink: &mut O,
-    written: &mut u128,
+    writer: &mut Writer<'_, O>,
 ) -> Result<(), FileFault>
     requires feeding { IsFeeding sealer.old }
-    requires room { written.old ≤ 2 ^ 127 }
-    ensures sealed { SealsLast seals 65536 sealer.old
-        (tally (O.view sink.old) written.old)
-        (tally (O.view sink.new) written.new) result }
-    ensures settled { OnOk result ((O.view sink.new).settled ≡ true) }
-    ensures named { (O.view sink.new).label ≡ (O.view sink.old).label }
+    requires room { writer.old.progress.written ≤ 2 ^ 127 }
+    ensures sealed { SealsLast seals 65536 sealer.old (tally_of O.view writer.old)
+        (tally_of O.view writer.new) result }
+    ensures settled { OnOk result ((O.view writer.new.sink.now).settled ≡ true) }
+    ensures named { (O.view writer.new.sink.now).label ≡ (O.view writer.old.sink.now).label }
+    ensures same_writer { SameWriter writer.old writer.new }
 {
-    seal_last(sealer, sink, written)?;
-    flush_all(sink)
+    seal_last(sealer, writer)?;
+    flush_all(writer.sink)
 }
 
 /// Seals what a source gives, up to its end but for the last chunk, and answers how many bytes it
 /// gave.
 fn seal_source<S: Source, O: Sink>(
     sealer: &mut PayloadSealer<'_>,
-    source: &mut S,
-    intake: &mut Intake,
-    sink: &mut O,
-    written: &mut u128,
+    reader: &mut Reader<'_, S>,
+    writer: &mut Writer<'_, O>,
 ) -> Result<u128, FileFault>
     requires fresh { IsFeeding sealer.old × Holds 65536 sealer.old [] }
-    requires unread { (intake.old.bytes ≡ []) × (intake.old.pulls ≡ 0) }
-    requires room { written.old ≤ 2 ^ 126 }
+    requires unread { (reader.old.intake.now.bytes ≡ []) × (reader.old.intake.now.pulls ≡ 0) }
+    requires room { writer.old.progress.written ≤ 2 ^ 126 }
     ensures sealed { IfOk result (SealsSource seals 65536 sealer.old sealer.new
-        (ports (S.view source.old) (O.view sink.old))
-        (ports (S.view source.new) (O.view sink.new)) written.old written.new) }
+        (ports_of S.view O.view reader.old writer.old)
+        (ports_of S.view O.view reader.new writer.new) writer.old.progress.written
+        writer.new.progress.written) }
     ensures fails { IfErr result (SealsFront (seals sealer.old.key) 65536
-        (ports (S.view source.old) (O.view sink.old))
-        (ports (S.view source.new) (O.view sink.new)) written.old written.new) }
-    ensures named { (O.view sink.new).label ≡ (O.view sink.old).label }
+        (ports_of S.view O.view reader.old writer.old)
+        (ports_of S.view O.view reader.new writer.new) writer.old.progress.written
+        writer.new.progress.written) }
+    ensures named { (O.view writer.new.sink.now).label ≡ (O.view writer.old.sink.now).label }
+    ensures same_reader { SameReader reader.old reader.new }
+    ensures same_writer { SameWriter writer.old writer.new }
 {
     let mut plain = 0;
-    'pulls: while intake.refill(source)? {
-        seal_piece(sealer, intake.bytes(), sink, written)?;
-        plain += intake.bytes().len() as u128;
-        intake.use_all();
+    'pulls: while reader.intake.refill(reader.source)? {
+        seal_piece(sealer, reader.intake.bytes(), writer)?;
+        plain += reader.intake.bytes().len() as u128;
+        reader.intake.use_all();
     }
     Ok(plain)
 }
@@ -127,24 +125,26 @@ fn seal_source<S: Source, O: Sink>(
 /// the source gave.
 pub(crate) fn seal_all<S: Source, O: Sink>(
     key: &PayloadKey,
-    source: &mut S,
-    intake: &mut Intake,
-    sink: &mut O,
-    written: &mut u128,
+    reader: &mut Reader<'_, S>,
+    writer: &mut Writer<'_, O>,
 ) -> Result<u128, FileFault>
-    requires unread { (intake.old.bytes ≡ []) × (intake.old.pulls ≡ 0) }
-    requires room { written.old ≤ 2 ^ 126 }
+    requires unread { (reader.old.intake.now.bytes ≡ []) × (reader.old.intake.now.pulls ≡ 0) }
+    requires room { writer.old.progress.written ≤ 2 ^ 126 }
     ensures sealed { IfOk result (SealsAll (seals key.now) 65536
-        (ports (S.view source.old) (O.view sink.old))
-        (ports (S.view source.new) (O.view sink.new)) written.old written.new) }
+        (ports_of S.view O.view reader.old writer.old)
+        (ports_of S.view O.view reader.new writer.new) writer.old.progress.written
+        writer.new.progress.written) }
     ensures fails { IfErr result (SealsFront (seals key.now) 65536
-        (ports (S.view source.old) (O.view sink.old))
-        (ports (S.view source.new) (O.view sink.new)) written.old written.new) }
-    ensures settled { OnOk result ((O.view sink.new).settled ≡ true) }
-    ensures named { (O.view sink.new).label ≡ (O.view sink.old).label }
+        (ports_of S.view O.view reader.old writer.old)
+        (ports_of S.view O.view reader.new writer.new) writer.old.progress.written
+        writer.new.progress.written) }
+    ensures settled { OnOk result ((O.view writer.new.sink.now).settled ≡ true) }
+    ensures named { (O.view writer.new.sink.now).label ≡ (O.view writer.old.sink.now).label }
+    ensures same_reader { SameReader reader.old reader.new }
+    ensures same_writer { SameWriter writer.old writer.new }
 {
     let mut sealer = PayloadSealer::new(key);
-    let plain = seal_source(&mut sealer, source, intake, sink, written)?;
-    finish(&mut sealer, sink, written)?;
+    let plain = seal_source(&mut sealer, reader, writer)?;
+    finish(&mut sealer, writer)?;
     Ok(plain)
 }

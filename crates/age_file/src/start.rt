@@ -26,8 +26,8 @@ pub(crate) struct Unlocked {
 /// Sees that some byte is there. False: the source is at its end.
 pub(crate) fn some_bytes<S: Source>(reader: &mut Reader<'_, S>) -> Result<bool, FileFault>
     ensures answers { SomeAnswers (S.view reader.new.source.now).remaining
-        (S.view reader.old.source.now).failed
-        (S.view reader.new.source.now).failed reader.new.intake.now result }
+        (S.view reader.old.source.now).failed (S.view reader.new.source.now).failed
+        reader.new.intake.now result }
     ensures uses { Uses (S.view reader.old.source.now).remaining
         (S.view reader.new.source.now).remaining reader.old.intake.now reader.new.intake.now [] }
     ensures same { SameReader reader.old reader.new }
@@ -52,14 +52,12 @@ fn copy_some(from: &[u8], into: &mut [u8; 16], have: usize) -> usize
 /// Reads the payload nonce.
 fn take_nonce<S: Source>(reader: &mut Reader<'_, S>) -> Result<[u8; 16], FileFault>
     ensures found { IfOk result (Uses (S.view reader.old.source.now).remaining
-        (S.view reader.new.source.now).remaining reader.old.intake.now
-        reader.new.intake.now) }
-    ensures unfailed { OnOk result ((S.view reader.new.source.now).failed
-        ≡ (S.view reader.old.source.now).failed) }
+        (S.view reader.new.source.now).remaining reader.old.intake.now reader.new.intake.now) }
+    ensures unfailed { OnOk result ((S.view reader.new.source.now).failed ≡
+        (S.view reader.old.source.now).failed) }
     ensures fails { IfErr result (NonceFails (S.view reader.old.source.now).remaining
-        (S.view reader.new.source.now).remaining
-        (S.view reader.old.source.now).failed (S.view reader.new.source.now).failed
-        reader.old.intake.now reader.new.intake.now) }
+        (S.view reader.new.source.now).remaining (S.view reader.old.source.now).failed
+        (S.view reader.new.source.now).failed reader.old.intake.now reader.new.intake.now) }
     ensures same { SameReader reader.old reader.new }
 {
     let mut nonce = [0; 16];
@@ -83,14 +81,13 @@ pub(crate) fn start<U: Unlock, S: Source>(
 ) -> Result<Unlocked, FileFault>
     requires { (reader.old.intake.now.bytes ≡ []) × (reader.old.intake.now.pulls ≡ 0) }
     ensures found { IfOk result (StartsAt (U.allows unlock.now)
-        (S.view reader.old.source.now).remaining
-        (S.view reader.new.source.now).remaining reader.new.intake.now) }
-    ensures unfailed { OnOk result ((S.view reader.new.source.now).failed
-        ≡ (S.view reader.old.source.now).failed) }
+        (S.view reader.old.source.now).remaining (S.view reader.new.source.now).remaining
+        reader.new.intake.now) }
+    ensures unfailed { OnOk result ((S.view reader.new.source.now).failed ≡
+        (S.view reader.old.source.now).failed) }
     ensures fails { IfErr result (StartFails (U.allows unlock.now) (U.refuses unlock.now)
         (S.view reader.old.source.now).remaining (S.view reader.new.source.now).remaining
-        (S.view reader.old.source.now).failed
-        (S.view reader.new.source.now).failed) }
+        (S.view reader.old.source.now).failed (S.view reader.new.source.now).failed) }
     ensures same { SameReader reader.old reader.new }
 {
     one_header();

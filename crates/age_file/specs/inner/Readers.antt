@@ -2,6 +2,7 @@
 use Rattle.std.specs.Prelude.{◌≡◌}
 use Rattle.age_io.specs.Views.{SourceView, SinkView}
 use Rattle.age_stream.specs.Opening.{OpenerView}
+use Rattle.age_file.specs.Ports.{Ports, ports}
 use Rattle.age_file.specs.inner.Releases.{Tally, tally}
 use Rattle.age_file.specs.inner.Skips.{Side, side}
 use Rattle.age_file.specs.inner.Flows.{Flow, flow}
@@ -22,6 +23,10 @@ stage_of source sink r w = stage (tally_of sink w) (source r.source.now) r.intak
 abbrev pub flow_of : {B S O : Type 0} → (S → SourceView) → (O → SinkView) → OpenerView B → Reader S
     → Writer O → Flow B
 flow_of source sink opener r w = flow opener (tally_of sink w) (source r.source.now) r.intake.now
+
+abbrev pub ports_of : {S O : Type 0} → (S → SourceView) → (O → SinkView) → Reader S → Writer O
+    → Ports
+ports_of source sink r w = ports (source r.source.now) (sink w.sink.now)
 
 -- it is still the same source and the same intake, or the same sink
 abbrev pub SameReader : {S : Type 0} → Reader S → Reader S → Type 0

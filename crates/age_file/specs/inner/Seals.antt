@@ -2,28 +2,20 @@
 -- engines cite.
 use Rattle.std.specs.Prelude.{◌≡◌, ℕ, ◌+◌, ◌-◌, ◌*◌, ◌^◌, ◌<◌, ◌≤◌, List, [], ◌++◌, length, Option, Result, MatchResult, false}
 use Rattle.std.specs.Io.KnownBytes.{Consumes, Appends, IsAtEnd}
-use Rattle.age_io.specs.Views.{SinkView}
 use Rattle.age_stream.specs.Nonce.{chunk_limit}
 use Rattle.age_stream.specs.Sealing.{SealerView, Holds, too_many}
 use Rattle.age_stream.specs.Payload.{sealed_before_last, block_bytes, payload, chunk_count}
 use Rattle.age_stream.specs.Headline.{IsPrefixOf}
 use Rattle.age_file.specs.Faults.{HasRisen}
 use Rattle.age_file.specs.Ports.{Ports, NoneFailed}
+use Rattle.age_file.specs.inner.Releases.{Tally}
 use Rattle.age_file.specs.declared.fault.FileFault.{FileFault}
 use Rattle.age_file.specs.declared.fault.FileFault.TheVariants.{Stream, Read, Write, ReadNeverEnds}
-
--- what is seen of a sink, and the count of what was written
-pub record Tally : Type 0 where
-  pub sink : SinkView
-  pub written : ℕ
-
-abbrev pub tally : SinkView → ℕ → Tally
-tally sink written = record { sink = sink; written = written }
 
 -- so many bytes were written
 pub record Wrote (was now : Tally) (out : List ℕ) : Type 0 where
   pub bytes : Appends was.sink.taken now.sink.taken out
-  pub count : now.written ≡ was.written + length out
+  pub count : now.progress.written ≡ was.progress.written + length out
 
 -- the blocks before the last, joined
 abbrev pub front_of : (List ℕ → List ℕ → List ℕ) → ℕ → List ℕ → List ℕ

@@ -1,4 +1,4 @@
-use Rattle.std.proofs.Common.{◌≡◌, ◌∙◌, sym, ap, subst, refl, arith, List, ℕ, [], ◌++◌, length, append-nil, Option}
+use Rattle.std.proofs.Common.{◌≡◌, ◌∙◌, sym, ap, subst, refl, arith, List, ℕ, [], ◌++◌, length, append-nil, Option, rules}
 use Rattle.std.proofs.lemmas.Result.{err_from_is_err_and}
 use Rattle.std.specs.Io.KnownBytes.{Appends}
 use Rattle.age_cipher.specs.Aead.{sealing}
@@ -7,6 +7,8 @@ use Rattle.age_file.specs.inner.Encrypts.{BeginsFile}
 use Rattle.age_file.specs.Ports.{ports}
 use Rattle.age_file.specs.inner.Seals.{SealsAll, SealsFront}
 use Rattle.age_file.proofs.EncryptSteps.{front_cut, sealed_all, sealing_stopped}
+use Rattle.age_file.specs.Encrypts.{Encrypts, EncryptFails}
+use Rattle.age_file.proofs.ReaderSteps.{ports_last}
 use Rattle.age_file.proofs.encryption.encrypt.Goals as goal
 
 -- all of the front was written
@@ -32,13 +34,15 @@ returns-clause-done g c =
     let is : c.payload_key-key.result ≡ payload_key s.key s.nonce =
     c.payload_key-key.ensures ∙ (ap (λ k. payload_key k c.secret.inside.payload_nonce) c.new-2.ensures ∙ ap (λ v. payload_key v.key v.nonce) c.secret.view_is) in
     let len = whole_length front put.out put.unwritten put.parts put.answered.0 in
-    let count : c.write_all.new.written ≡ length front = omega (arith, put.count, len) in
+    let count : c.write_all.new.written ≡ length front = omega (arith, put.count, len, c.new-progress.ensures.written) in
     let old = ports (g.S.Source.view c.args.reader.now) (g.O.Sink.view c.args.writer.now) in
     let mid = ports (g.S.Source.view c.args.reader.now) (g.O.Sink.view c.write_all.new.sink) in
-    let new = ports (g.S.Source.view c.seal_all.new.source) (g.O.Sink.view c.seal_all.new.sink) in
-    sealed_all s front begins old mid new c.write_all.new.written c.seal_all.new.written refl refl put.answered.1 (whole _ _ front put.out put.unwritten put.parts put.answered.0 put.wrote)
+    let new = ports (g.S.Source.view c.seal_all.new.reader.source.now) (g.O.Sink.view c.seal_all.new.writer.sink.now) in
+    ports_last g.S.Source.view g.O.Sink.view (λ q. Encrypts s old q (record { plain = c.in_ok-plain.plain; file = c.seal_all.new.writer.progress.written }))
+    _ c.seal_all.new.reader.source.now _ c.seal_all.new.writer.sink.now (search rules) (search rules)
+    (sealed_all s front begins old mid new c.write_all.new.written c.seal_all.new.writer.progress.written refl refl put.answered.1 (whole _ _ front put.out put.unwritten put.parts put.answered.0 put.wrote)
     count c.in_ok-plain.plain
-    (subst (λ (k : List ℕ). SealsAll (λ nonce text. sealing k nonce [] text) 65536 mid new c.write_all.new.written c.seal_all.new.written c.in_ok-plain.plain) is c.in_ok-plain.ensures.sealed)
+    (subst (λ (k : List ℕ). SealsAll (λ nonce text. sealing k nonce [] text) 65536 mid new c.write_all.new.written c.seal_all.new.writer.progress.written c.in_ok-plain.plain) is c.in_ok-plain.ensures.sealed))
 
 pub returns-in_err-plain-clause-fails : goal.returns-in_err-plain-clause-fails
 returns-in_err-plain-clause-fails g c =
@@ -50,10 +54,12 @@ returns-in_err-plain-clause-fails g c =
     let is : c.payload_key-key.result ≡ payload_key s.key s.nonce =
     c.payload_key-key.ensures ∙ (ap (λ k. payload_key k c.secret.inside.payload_nonce) c.new-2.ensures ∙ ap (λ v. payload_key v.key v.nonce) c.secret.view_is) in
     let len = whole_length front put.out put.unwritten put.parts put.answered.0 in
-    let count : c.write_all.new.written ≡ length front = omega (arith, put.count, len) in
+    let count : c.write_all.new.written ≡ length front = omega (arith, put.count, len, c.new-progress.ensures.written) in
     let old = ports (g.S.Source.view c.args.reader.now) (g.O.Sink.view c.args.writer.now) in
     let mid = ports (g.S.Source.view c.args.reader.now) (g.O.Sink.view c.write_all.new.sink) in
-    let new = ports (g.S.Source.view c.seal_all.new.source) (g.O.Sink.view c.seal_all.new.sink) in
-    rw (p.1, p.2) (sealing_stopped s front begins old mid new c.write_all.new.written c.seal_all.new.written refl refl put.answered.1 (whole _ _ front put.out put.unwritten put.parts put.answered.0 put.wrote)
+    let new = ports (g.S.Source.view c.seal_all.new.reader.source.now) (g.O.Sink.view c.seal_all.new.writer.sink.now) in
+    rw (p.1, p.2) (ports_last g.S.Source.view g.O.Sink.view (λ q. EncryptFails s old q c.in_err-plain.field-0.0)
+    _ c.seal_all.new.reader.source.now _ c.seal_all.new.writer.sink.now (search rules) (search rules)
+    (sealing_stopped s front begins old mid new c.write_all.new.written c.seal_all.new.writer.progress.written refl refl put.answered.1 (whole _ _ front put.out put.unwritten put.parts put.answered.0 put.wrote)
     count c.in_err-plain.field-0.0
-    (subst (λ (k : List ℕ). SealsFront (λ nonce text. sealing k nonce [] text) 65536 mid new c.write_all.new.written c.seal_all.new.written c.in_err-plain.field-0.0) is c.in_err-plain.ensures.fails))
+    (subst (λ (k : List ℕ). SealsFront (λ nonce text. sealing k nonce [] text) 65536 mid new c.write_all.new.written c.seal_all.new.writer.progress.written c.in_err-plain.field-0.0) is c.in_err-plain.ensures.fails)))

@@ -5,10 +5,11 @@ use Rattle.age_file.specs.inner.Boxes.{opens, seals}
 use Rattle.age_keys.specs.inner.PayloadBox.{box_lawful}
 use Rattle.age_file.specs.Ports.{ports}
 use Rattle.age_file.specs.Faults.{HasRisen}
-use Rattle.age_file.specs.inner.Seals.{front_of, tally, Wrote, SealingFails, SealsAll, SealsFront}
+use Rattle.age_file.specs.inner.Seals.{front_of, Wrote, SealingFails, SealsAll, SealsFront}
 use Rattle.age_file.proofs.SealSteps.{front_small}
 use Rattle.age_file.proofs.SourceSteps.{last_written, last_begins, last_whole}
 use Rattle.age_file.specs.declared.fault.FileFault.{FileFault}
+use Rattle.age_file.specs.inner.Readers.{tally_of}
 use Rattle.age_file.proofs.sealing.seal_all.Goals as goal
 
 pub finish-requires : goal.finish-requires
@@ -28,14 +29,14 @@ returns-in_err-finish-clause-fails g c =
     let n : ℕ = 65536 in
     let a = c.new-sealer.result in
     let b = c.seal_source.new.sealer in
-    let was = tally (g.O.Sink.view c.args.sink.now) c.args.written.now in
-    let mid = tally (g.O.Sink.view c.seal_source.new.sink) c.seal_source.new.written in
-    let now = tally (g.O.Sink.view c.finish.new.sink) c.finish.new.written in
-    let old = ports (g.S.Source.view c.args.source.now) (g.O.Sink.view c.args.sink.now) in
-    let new = ports (g.S.Source.view c.seal_source.new.source) (g.O.Sink.view c.finish.new.sink) in
+    let was = tally_of g.O.Sink.view c.args.writer.now in
+    let mid = tally_of g.O.Sink.view c.seal_source.new.writer in
+    let now = tally_of g.O.Sink.view c.finish.new.writer in
+    let old = ports (g.S.Source.view c.args.reader.now.source.now) (g.O.Sink.view c.args.writer.now.sink.now) in
+    let new = ports (g.S.Source.view c.seal_source.new.reader.source.now) (g.O.Sink.view c.finish.new.writer.sink.now) in
     let wrote : Wrote was mid (front_of (seals a.key) n s.text) = record { bytes = s.moved.wrote; count = s.moved.count } in
     let out = last_written seals n a b was mid now s.text s.key s.holds wrote l.out l.unwritten l.wrote l.blocks in
-    rw (p.1, p.2) (subst (λ k. SealsFront (seals k) n old new c.args.written.now c.finish.new.written c.in_err-finish.field-0.0) (ap (λ v. v.key) c.new-sealer.ensures) (record {
+    rw (p.1, p.2) (subst (λ k. SealsFront (seals k) n old new c.args.writer.now.progress.written c.finish.new.writer.progress.written c.in_err-finish.field-0.0) (ap (λ v. v.key) c.new-sealer.ensures) (record {
       text = s.text;
       out = front_of (seals a.key) n s.text ++ l.out;
       moved = record { read = s.moved.read; wrote = out.bytes; count = out.count; small = s.moved.small };
@@ -50,14 +51,14 @@ returns-clause-sealed g c =
     let n : ℕ = 65536 in
     let a = c.new-sealer.result in
     let b = c.seal_source.new.sealer in
-    let was = tally (g.O.Sink.view c.args.sink.now) c.args.written.now in
-    let mid = tally (g.O.Sink.view c.seal_source.new.sink) c.seal_source.new.written in
-    let now = tally (g.O.Sink.view c.finish.new.sink) c.finish.new.written in
-    let old = ports (g.S.Source.view c.args.source.now) (g.O.Sink.view c.args.sink.now) in
-    let new = ports (g.S.Source.view c.seal_source.new.source) (g.O.Sink.view c.finish.new.sink) in
+    let was = tally_of g.O.Sink.view c.args.writer.now in
+    let mid = tally_of g.O.Sink.view c.seal_source.new.writer in
+    let now = tally_of g.O.Sink.view c.finish.new.writer in
+    let old = ports (g.S.Source.view c.args.reader.now.source.now) (g.O.Sink.view c.args.writer.now.sink.now) in
+    let new = ports (g.S.Source.view c.seal_source.new.reader.source.now) (g.O.Sink.view c.finish.new.writer.sink.now) in
     let wrote : Wrote was mid (front_of (seals a.key) n s.text) = record { bytes = s.moved.wrote; count = s.moved.count } in
     let out = last_whole seals n a b was mid now s.text s.key s.holds wrote l.out l.unwritten l.wrote l.blocks l.answered.0 in
-    subst (λ k. SealsAll (seals k) n old new c.args.written.now c.finish.new.written c.in_ok-plain.plain) (ap (λ v. v.key) c.new-sealer.ensures) (record {
+    subst (λ k. SealsAll (seals k) n old new c.args.writer.now.progress.written c.finish.new.writer.progress.written c.in_ok-plain.plain) (ap (λ v. v.key) c.new-sealer.ensures) (record {
       text = s.text;
       few = omega (arith, l.limit, s.holds.index);
       moved = record { read = s.moved.read; wrote = out.bytes; count = out.count; small = s.moved.small };

@@ -4,8 +4,9 @@ use Rattle.std.proofs.KnownBytes.{Appends-nil}
 use Rattle.std.proofs.lemmas.List.{take-append-drop, take_rest, length-append, length-drop}
 use Rattle.age_file.specs.inner.Boxes.{opens, seals}
 use Rattle.age_keys.specs.inner.PayloadBox.{box_lawful}
-use Rattle.age_file.specs.inner.Seals.{SealsSome, GoesOn, SealFails, front_of, tally}
+use Rattle.age_file.specs.inner.Seals.{SealsSome, GoesOn, SealFails, front_of}
 use Rattle.age_file.proofs.SealSteps.{next_some, fed_alone, fed_is, goes_then, fails_then, room_left}
+use Rattle.age_file.specs.inner.Readers.{tally_of}
 use Rattle.age_file.proofs.sealing.seal_piece.Goals as goal
 
 pub loop-at-init : goal.loop-at-init
@@ -13,6 +14,7 @@ loop-at-init g c =
     let key = c.args.sealer.now.key in
     let n : ℕ = 65536 in
     record {
+      same_writer = refl;
       within = omega arith;
       some = record {
         out = [];
@@ -41,9 +43,9 @@ loop-at-preserved g c =
     let piece = c.args.piece.now in
     let at = c.loop-at.at in
     let s = c.in_ok-at.ensures.sealed in
-    let was = tally (g.O.Sink.view c.args.sink.now) c.args.written.now in
-    let mid = tally (g.O.Sink.view c.loop-at.sink) c.loop-at.written in
-    let now = tally (g.O.Sink.view c.seal_once.new.sink) c.seal_once.new.written in
+    let was = tally_of g.O.Sink.view c.args.writer.now in
+    let mid = tally_of g.O.Sink.view c.loop-at.writer in
+    let now = tally_of g.O.Sink.view c.seal_once.new.writer in
     let a = c.args.sealer.now in
     let b = c.loop-at.sealer in
     let d = c.seal_once.new.sealer in
@@ -51,6 +53,7 @@ loop-at-preserved g c =
     let whole : SealsSome seals n a d was now piece (take at piece ++ s.fed) s.left [] =
     subst (λ (t : List ℕ). SealsSome seals n a d was now piece (take at piece ++ s.fed) s.left t) s.answered.2 (next_some seals n a b d was mid now piece at s.fed s.left s.unwritten kept.some kept.goes s.some) in
     record {
+      same_writer = c.in_ok-at.ensures.same_writer ∙ kept.same_writer;
       within = omega (arith, ap length s.some.parts, length-append s.fed s.left, s.answered.0, length-drop c.loop-at.at c.args.piece.now, ap length (take_rest c.args.piece.now c.loop-at.at), kept.within);
       some = subst (λ (t : List ℕ). SealsSome seals n a d was now t t [] []) same (fed_alone seals n a d was now piece (take at piece ++ s.fed) s.left [] whole);
       goes = subst (λ (t : List ℕ). GoesOn seals n a d t) same (goes_then seals n a b d (take at piece) s.fed kept.goes s.answered.4);
@@ -66,9 +69,9 @@ returns-in_err-at-clause-sealed g c =
     let piece = c.args.piece.now in
     let at = c.loop-at.at in
     let s = c.in_err-at.ensures.sealed in
-    let was = tally (g.O.Sink.view c.args.sink.now) c.args.written.now in
-    let mid = tally (g.O.Sink.view c.loop-at.sink) c.loop-at.written in
-    let now = tally (g.O.Sink.view c.seal_once.new.sink) c.seal_once.new.written in
+    let was = tally_of g.O.Sink.view c.args.writer.now in
+    let mid = tally_of g.O.Sink.view c.loop-at.writer in
+    let now = tally_of g.O.Sink.view c.seal_once.new.writer in
     let a = c.args.sealer.now in
     let b = c.loop-at.sealer in
     let d = c.seal_once.new.sealer in

@@ -4,18 +4,21 @@ use Rattle.std.proofs.KnownBytes.{Appends-nil, Consumes-nil}
 use Rattle.std.proofs.lemmas.List.{length-append}
 use Rattle.age_file.specs.inner.Boxes.{seals}
 use Rattle.age_file.specs.inner.Intakes.{Pulled}
-use Rattle.age_file.specs.inner.Seals.{Wrote, front_of, tally}
+use Rattle.age_file.specs.inner.Seals.{Wrote, front_of}
 use Rattle.age_file.specs.Ports.{ports}
 use Rattle.age_file.proofs.Bytes.{cut_pulled}
 use Rattle.age_file.proofs.SourceSteps.{front_begins, no_front, piece_done, piece_cut, pull_fails, seal_fails}
+use Rattle.age_file.specs.inner.Readers.{tally_of}
 use Rattle.age_file.proofs.sealing.seal_source.Goals as goal
 
 pub pulls-init : goal.pulls-init
 pulls-init g c =
     let n : ℕ = 65536 in
     let none = no_front (seals c.args.sealer.now.key) n (omega arith) in
-    let now = tally (g.O.Sink.view c.args.sink.now) c.args.written.now in
+    let now = tally_of g.O.Sink.view c.args.writer.now in
     record {
+      same_reader = (refl, refl);
+      same_writer = refl;
       text = [];
       pulled = record { consumed = Consumes-nil _; each_gave = omega (arith, c.requires.unread.1); small = omega (arith, c.requires.unread.1); most = omega (arith, c.requires.unread.1) };
       unread = c.requires.unread.0;
@@ -55,8 +58,8 @@ returns-in_err-refill-clause-fails g c =
       out = front_of (seals c.args.sealer.now.key) n kept.text;
       moved = record { read = all.consumed; wrote = kept.wrote.bytes; count = kept.wrote.count; small = omega (arith, all.small, all.most) };
       prefix = front_begins (seals c.args.sealer.now.key) n kept.text;
-      fails = pull_fails n (ports (g.S.Source.view c.args.source.now) (g.O.Sink.view c.args.sink.now))
-          (ports (g.S.Source.view c.refill.new.source) (g.O.Sink.view c.pulls.sink)) kept.text _ _ _ c.in_err-refill.field-0.0 kept.read_failed refl kept.pulled.each_gave r.answered.2;
+      fails = pull_fails n (ports (g.S.Source.view c.args.reader.now.source.now) (g.O.Sink.view c.args.writer.now.sink.now))
+          (ports (g.S.Source.view c.refill.new.source) (g.O.Sink.view c.pulls.writer.sink.now)) kept.text _ _ _ c.in_err-refill.field-0.0 kept.read_failed refl kept.pulled.each_gave r.answered.2;
     })
 
 pub seal_piece-requires : goal.seal_piece-requires
@@ -86,11 +89,11 @@ returns-in_err-seal_piece-clause-fails g c =
     let n : ℕ = 65536 in
     let positive : 0 < n = omega arith in
     let piece = c.bytes.result.now in
-    let was = tally (g.O.Sink.view c.args.sink.now) c.args.written.now in
-    let mid = tally (g.O.Sink.view c.pulls.sink) c.pulls.written in
-    let now = tally (g.O.Sink.view c.seal_piece.new.sink) c.seal_piece.new.written in
-    let old = ports (g.S.Source.view c.args.source.now) (g.O.Sink.view c.args.sink.now) in
-    let new = ports (g.S.Source.view c.refill.new.source) (g.O.Sink.view c.seal_piece.new.sink) in
+    let was = tally_of g.O.Sink.view c.args.writer.now in
+    let mid = tally_of g.O.Sink.view c.pulls.writer in
+    let now = tally_of g.O.Sink.view c.seal_piece.new.writer in
+    let old = ports (g.S.Source.view c.args.reader.now.source.now) (g.O.Sink.view c.args.writer.now.sink.now) in
+    let new = ports (g.S.Source.view c.refill.new.source) (g.O.Sink.view c.seal_piece.new.writer.sink.now) in
     let all = rw (← c.bytes.ensures.bytes) at (r.pulled old.source.remaining kept.text kept.pulled) in
     let unwritten = piece_cut seals n c.args.sealer.now c.pulls.sealer c.seal_piece.new.sealer was mid now kept.text piece s.fed s.left s.unwritten kept.goes c.requires.fresh.1 kept.wrote s.some positive in
     rw (p.1, p.2) (record {
@@ -109,14 +112,16 @@ pulls-preserved g c =
     let n : ℕ = 65536 in
     let positive : 0 < n = omega arith in
     let piece = c.bytes.result.now in
-    let was = tally (g.O.Sink.view c.args.sink.now) c.args.written.now in
-    let mid = tally (g.O.Sink.view c.pulls.sink) c.pulls.written in
-    let now = tally (g.O.Sink.view c.seal_piece.new.sink) c.seal_piece.new.written in
-    let all = rw (← c.bytes.ensures.bytes) at (r.pulled (g.S.Source.view c.args.source.now).remaining kept.text kept.pulled) in
+    let was = tally_of g.O.Sink.view c.args.writer.now in
+    let mid = tally_of g.O.Sink.view c.pulls.writer in
+    let now = tally_of g.O.Sink.view c.seal_piece.new.writer in
+    let all = rw (← c.bytes.ensures.bytes) at (r.pulled (g.S.Source.view c.args.reader.now.source.now).remaining kept.text kept.pulled) in
     let done = piece_done seals n c.args.sealer.now c.pulls.sealer c.seal_piece.new.sealer was mid now kept.text piece s.fed s.left s.unwritten kept.goes c.requires.fresh.1 kept.wrote s.some positive s.answered.0 s.answered.1 s.answered.3 in
     record {
+      same_reader = kept.same_reader;
+      same_writer = c.in_ok-seal_piece.ensures.same_writer ∙ kept.same_writer;
       text = kept.text ++ piece;
-      pulled = subst (λ (k : ℕ). Pulled (g.S.Source.view c.args.source.now).remaining (g.S.Source.view c.refill.new.source).remaining k (kept.text ++ piece)) (sym c.use_all.ensures.pulls) all;
+      pulled = subst (λ (k : ℕ). Pulled (g.S.Source.view c.args.reader.now.source.now).remaining (g.S.Source.view c.refill.new.source).remaining k (kept.text ++ piece)) (sym c.use_all.ensures.pulls) all;
       unread = c.use_all.ensures.bytes;
       plain_is = omega (arith, kept.plain_is, length-append kept.text c.bytes.result.now, ap length (c.bytes.ensures.bytes ∙ sym c.bytes-in-pulls.ensures.bytes));
       goes = done.0;

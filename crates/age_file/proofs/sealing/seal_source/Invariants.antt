@@ -1,23 +1,26 @@
 use Rattle.std.proofs.Common.{◌-◌, ◌^◌, ◌≡◌, ℕ, [], List, length}
 use Rattle.age_file.specs.inner.Boxes.{seals}
 use Rattle.age_file.specs.inner.Intakes.{Pulled}
-use Rattle.age_file.specs.inner.Seals.{tally, Wrote, GoesOn, front_of}
+use Rattle.age_file.specs.inner.Seals.{Wrote, GoesOn, front_of}
+use Rattle.age_file.specs.inner.Readers.{tally_of, SameReader, SameWriter}
 use Rattle.age_file.proofs.sealing.seal_source.Given as goal
 
 -- the text that came so far
 abbrev pub invariant-pulls : goal.invariant-pulls
 invariant-pulls g l = record {
+  same_reader : SameReader l.fn.reader l.reader;
+  same_writer : SameWriter l.fn.writer l.writer;
   text : List ℕ;
-  pulled : Pulled (g.S.Source.view l.fn.source).remaining (g.S.Source.view l.source).remaining l.intake.pulls text;
-  unread : l.intake.bytes ≡ [];
+  pulled : Pulled (g.S.Source.view l.fn.reader.source.now).remaining (g.S.Source.view l.reader.source.now).remaining l.reader.intake.now.pulls text;
+  unread : l.reader.intake.now.bytes ≡ [];
   plain_is : l.plain ≡ length text;
   goes : GoesOn seals 65536 l.fn.sealer l.sealer text;
-  wrote : Wrote (tally (g.O.Sink.view l.fn.sink) l.fn.written) (tally (g.O.Sink.view l.sink) l.written)
+  wrote : Wrote (tally_of g.O.Sink.view l.fn.writer) (tally_of g.O.Sink.view l.writer)
       (front_of (seals l.fn.sealer.key) 65536 text);
-  read_failed : (g.S.Source.view l.source).failed ≡ (g.S.Source.view l.fn.source).failed;
-  write_failed : (g.O.Sink.view l.sink).failed ≡ (g.O.Sink.view l.fn.sink).failed;
-  named : (g.O.Sink.view l.sink).label ≡ (g.O.Sink.view l.fn.sink).label;
+  read_failed : (g.S.Source.view l.reader.source.now).failed ≡ (g.S.Source.view l.fn.reader.source.now).failed;
+  write_failed : (g.O.Sink.view l.writer.sink.now).failed ≡ (g.O.Sink.view l.fn.writer.sink.now).failed;
+  named : (g.O.Sink.view l.writer.sink.now).label ≡ (g.O.Sink.view l.fn.writer.sink.now).label;
 }
 
 abbrev pub decreases-pulls : goal.decreases-pulls
-decreases-pulls g l = 2 ^ 63 - l.intake.pulls
+decreases-pulls g l = 2 ^ 63 - l.reader.intake.now.pulls
