@@ -68,15 +68,15 @@ pub fn undamaged_is_authentic()
 {}
 
 /// The payload of a text, delivered in any pieces and then an end, is held as
-/// that text, with the status [`Done`](crate::Status::Done), on the same
-/// condition.
+/// that text, with the status [`Done`](crate::Status::Done), if the last chunk
+/// is short or its block doesn't open as one before the last.
 pub fn round_trip()
     ensures { RoundTrip }
 {}
 
 /// With [`ClearBox`](crate::ClearBox) every text of at most 2^48 chunks meets
-/// that condition, so every payload meets the premise of the headline and gives
-/// its text back.
+/// what [`undamaged_is_authentic`] and [`round_trip`] ask of a text: delivered
+/// undamaged, its payload meets the premise of the headline and gives it back.
 pub fn clear_is_sealable()
     ensures { ClearIsSealable }
 {}

@@ -29,6 +29,7 @@ struct OpenerState<'k, B: ChunkBox, const SEALED: usize> {
     ghost sizes: { (17 ≤ SEALED) × (SEALED ≤ 65552) },
     ghost limit: { index < chunk_limit },
     ghost room: { status ≡ Open → lent ≡ false → length buffer.items < SEALED },
+    // after the last chunk nothing is held
     ghost last: { status ≡ LastSeen → (if lent then [] else buffer.items) ≡ [] },
     ghost done: { status ≡ Done → (if lent then [] else buffer.items) ≡ [] },
 }
