@@ -131,7 +131,7 @@ fn obey_line<B: ChunkBox, const SEALED: usize>(
     }
 }
 
-/// Does what each line asks, and answers each by a line.
+/// Obeys each line of the script, and writes a line for it.
 fn obey_lines<B: ChunkBox, const SEALED: usize, O: Sink>(
     alloc: Global,
     key: &B,
@@ -227,8 +227,7 @@ fn drill_sealed<F: FileSet, O: Sink>(
     deliver::<PayloadKey, 65_552, O>(alloc, &key, payload, script.as_slice(), output)
 }
 
-/// Delivers a payload as the words ask. No file is changed, and whatever the deliveries gave is no
-/// fault.
+/// Delivers a payload as asked. No file is changed, and whatever the deliveries gave is no fault.
 pub(crate) fn drill_file<F: FileSet, O: Sink>(
     alloc: Global,
     files: &mut F,

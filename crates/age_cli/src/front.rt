@@ -1,4 +1,4 @@
-//! What stands at the front of a source.
+//! The first bytes of a source.
 
 ghost use Rattle.std.specs.Prelude.{◌≡◌, ◌^◌, ◌<◌, ◌≤◌, take, [], OnOk, IfOk, IfErr, IfSome};
 ghost use Rattle.age_fileset.specs.FileSet.{IsMemoryOr};
@@ -12,7 +12,7 @@ use std::alloc::Global;
 /// How many bytes are pulled at once, at most.
 const ROOM: usize = 4096;
 
-/// Pulls at most so many bytes into the front of a buffer.
+/// Pulls at most so many bytes to the beginning of a buffer.
 fn pull_some<S: Source>(
     source: &mut S,
     buffer: &mut [u8; ROOM],

@@ -27,7 +27,7 @@ pub(crate) fn report<I: Source, O: Sink>(
     flush_all(output)
 }
 
-/// The same of a file by its name.
+/// Writes the report on the file of this name.
 pub(crate) fn report_file<F: FileSet, O: Sink>(
     alloc: Global,
     files: &mut F,

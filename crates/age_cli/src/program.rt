@@ -1,4 +1,4 @@
-//! The program, over words, files, a source and sinks.
+//! The program, over arguments, files, a source and sinks.
 
 ghost use Rattle.std.specs.Prelude.{◌≡◌, ◌⊎◌, ◌≤◌, ℕ, List, [], true, OnOk, IfErr, IsOk, codes};
 ghost use Rattle.clap.specs.Words.{Row, Text, kind_of};
@@ -134,8 +134,8 @@ pub fn run<F: FileSet, I: Source, O: Sink, E: Sink>(
     ensures told { result ≡ 1
         → TellsFault (E.view faults.old).taken (E.view faults.new).taken (E.view faults.old).failed
         (E.view faults.new).failed }
-    // 0 comes only without words, for a command, and where help is asked for; never of words that
-    // are refused.
+    // 0 comes only without arguments, for a command, and if help or the version is asked for; never
+    // for arguments that are refused.
     ensures served { result ≡ 0 → IsServed (texts words.now) }
     // 0 means that the input was read to its end, and that its report and nothing else was written.
     ensures report { words.now ≡ [] → result ≡ 0
@@ -154,12 +154,12 @@ pub fn run<F: FileSet, I: Source, O: Sink, E: Sink>(
     // Whatever the status, no file but OUT and that of --save differs.
     ensures spares { SparingOthers (texts words.now) (F.tells files.old) (F.entry files.old)
         (F.entry files.new) }
-    // A bad command line, and words that ask for help, change no file.
+    // A bad command line, and a request for help, change no file.
     ensures usage { result ≡ 2 → F.entry files.new ≡ F.entry files.old }
     ensures refused { (refusals (texts words.now) ≡ [] → ⊥)
         → F.entry files.new ≡ F.entry files.old }
     // 1 means that nothing differs, or that OUT holds what the engine promises for a stop, the file
-    // of --save its position, and that the line which is told is that stop's.
+    // of --save its position, and that the line that is reported is that stop's.
     ensures encrypts_stop { EncryptingStops (texts words.now) (F.tells files.old)
         (F.entry files.old) (F.entry files.new) (PortsOf F.In.view F.Out.view)
         (λ Ends. result ≡ 1 → StopsTold Ends (E.view faults.old).taken (E.view faults.new).taken

@@ -58,7 +58,7 @@ fn flip(offset: u64, payload_len: usize) -> Option<Line> {
     })
 }
 
-/// Reads a line with its LF: words that are parted by one space.
+/// Reads a line with its LF: words separated by one space.
 fn read_line(line: &[u8], payload_len: usize) -> Option<Line> {
     let text = std::str::from_utf8(line.strip_suffix(b"\n")?).ok()?;
     let mut words = text.split(' ');

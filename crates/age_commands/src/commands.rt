@@ -178,7 +178,7 @@ fn program<'a>(alloc: Global) -> Result<Command<'a>, AllocError>
     enter(fourth, drill(alloc)?)
 }
 
-/// What the words give for each argument.
+/// What the command line gives for each argument.
 pub(crate) fn matches_of<'a>(alloc: Global, words: &'a [&'a str]) -> Result<ArgMatches<'a>, Error>
     ensures matches { IfOk result (λ m. subcommand_rows_of m ≡ named (texts words.now)) }
     ensures refusals { FailsBy (refusals (texts words.now)) result }

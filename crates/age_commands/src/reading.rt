@@ -12,8 +12,8 @@ use age_io::Durability;
 use clap::{ArgMatches, Error};
 use std::alloc::Global;
 
-/// A number from 1 to 22, or this one where the words have none. The parser of command lines
-/// promises the range of no number of a command, so it is tested here.
+/// A number from 1 to 22, or the default if it isn't given. The parser's contract says nothing of a
+/// number's range, so it is tested here.
 fn number(matches: &ArgMatches<'_>, id: &str, default: u32) -> Option<u32>
     requires low { 1 ≤ default }
     requires high { default ≤ 22 }
@@ -56,7 +56,7 @@ fn durability(matches: &ArgMatches<'_>) -> Durability
     }
 }
 
-/// The command that the words name, with its own matches.
+/// The command that the arguments name, with its own matches.
 fn command_of<'m, 'a>(matches: &'m ArgMatches<'a>) -> Option<(&'a str, &'m ArgMatches<'a>)>
     ensures { IfSome result
         (λ p. subcommand_rows_of matches.now ≡ Some (p.0.now, rows_of (found_of p.1.now))) }

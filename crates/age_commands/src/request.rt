@@ -2,7 +2,7 @@
 
 use age_io::Durability;
 
-/// What `encrypt` is asked.
+/// The arguments of `encrypt`.
 #[derive(Clone, Copy, Debug)]
 pub struct Encrypting<'a> {
     /// The path of the passphrase file (`--pass`).
@@ -34,7 +34,7 @@ pub struct Unlocking<'a> {
     pub max_log: u32,
 }
 
-/// What `decrypt` is asked.
+/// The arguments of `decrypt`.
 #[derive(Clone, Copy, Debug)]
 pub struct Decrypting<'a> {
     /// What opens the file.
@@ -49,7 +49,7 @@ pub struct Decrypting<'a> {
     pub to: &'a str,
 }
 
-/// What `resume` is asked: a decryption that continues at a position, after an earlier output.
+/// The arguments of `resume`: a decryption that continues at a position, after an earlier output.
 #[derive(Clone, Copy, Debug)]
 pub struct Resuming<'a> {
     /// The decryption.
@@ -60,7 +60,7 @@ pub struct Resuming<'a> {
     pub old: &'a str,
 }
 
-/// What `drill` is asked. That exactly one of the first two is given isn't checked yet.
+/// The arguments of `drill`. That exactly one of the first two is given isn't checked yet.
 #[derive(Clone, Copy, Debug)]
 pub struct Drilling<'a> {
     /// Whether the payload is in the clear (`--clear`).
@@ -73,7 +73,7 @@ pub struct Drilling<'a> {
     pub from: &'a str,
 }
 
-/// What the program is asked.
+/// A command with its arguments.
 #[derive(Clone, Copy, Debug)]
 pub enum Request<'a> {
     /// To encrypt a file.

@@ -26,7 +26,7 @@ fn put<O: Sink>(sink: &mut O, bytes: &[u8]) -> Result<(), FileFault>
     write_all(sink, bytes, &mut written)
 }
 
-/// Writes the payload of a text (C2SP age.md, "Payload"), block by block.
+/// Writes the payload of a text (<https://c2sp.org/age#payload>), block by block.
 pub fn seal_to<B: ChunkBox, O: Sink>(key: &B, text: &[u8], sink: &mut O) -> Result<(), FileFault>
     ensures sealed { OnOk result (Appends (O.view sink.old).taken (O.view sink.new).taken
         (payload (B.sealing key.now) 65536 text.now)) }

@@ -26,7 +26,7 @@ pub struct Done {
     pub written: u128,
 }
 
-/// Why a decryption stopped, and how far it came.
+/// Why a decryption stopped, and how far it got.
 #[derive(Clone, Copy, Debug, PartialEq, Eq, Error)]
 #[error("stopped after {written} bytes: {fault}")]
 pub struct Stopped {
@@ -34,8 +34,8 @@ pub struct Stopped {
     pub fault: FileFault,
     /// How many bytes were written.
     pub written: u128,
-    /// Where a reader may go on, from the moment the payload nonce was read: behind the whole
-    /// chunks before the last that were written.
+    /// Where a reader may continue, once the payload nonce was read: after the whole chunks before
+    /// the last that were written. `None` if positions are dropped.
     pub position: Option<Position>,
 }
 
@@ -51,7 +51,7 @@ impl Stopped {
         }
     }
 
-    /// A stop behind what was written.
+    /// A stop after what was written.
     pub(crate) fn behind(
         fault: FileFault,
         progress: &Progress,
@@ -71,7 +71,7 @@ impl Stopped {
     }
 }
 
-/// Where a reader of this file may go on, where a chain was kept.
+/// Where a reader of this file may continue, if a chain was kept.
 pub(crate) fn position_of(unlocked: &Unlocked, progress: &Progress) -> Option<Position>
     ensures { PositionAt unlocked.now progress.now.index progress.now.chain result }
 {
@@ -95,13 +95,13 @@ pub fn decrypt<U: Unlock, S: Source, O: Sink>(
 }
 
 /// Decrypts a file: opens its header, and writes each chunk of the text once the tag of its block
-/// was checked (C2SP age.md). It reads to the end of the source, and flushes before it answers that
-/// it is done.
+/// was checked (<https://c2sp.org/age>). It reads to the end of the source, and flushes before it
+/// returns `Ok`.
 ///
 /// It stops with the header's fault (1 to 8), the unlocker's or a wrong header MAC (9 to 15),
 /// `NonceCut` (16), a fault of the payload (17 to 22), `Read` (26), `Write` (27), `Memory` (28) and
-/// `ReadNeverEnds` (29). All memory is taken before the payload nonce is read, so that nothing was
-/// written where it was refused.
+/// `ReadNeverEnds` (29). All memory is taken before the payload nonce is read, so if it is refused,
+/// nothing was written.
 pub fn decrypt_with<U: Unlock, S: Source, O: Sink>(
     alloc: Global,
     positions: Positions,

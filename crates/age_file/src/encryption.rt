@@ -28,8 +28,8 @@ pub struct Written {
     pub file: u128,
 }
 
-/// What stands before the payload: the header's text and the payload nonce. It refuses for want of
-/// memory alone.
+/// What stands before the payload: the header's text and the payload nonce. It fails only if memory
+/// is refused.
 fn front_of(alloc: Global, secret: &Secret<'_>) -> Result<Vec<u8>, FileFault>
     ensures front { IfOk result (λ v. BeginsFile secret.now v.items) }
     ensures memory { IfErr result (λ fault. fault ≡ Memory) }
@@ -41,13 +41,13 @@ fn front_of(alloc: Global, secret: &Secret<'_>) -> Result<Vec<u8>, FileFault>
     Ok(front)
 }
 
-/// Encrypts all that a source gives under a passphrase, into an age file (C2SP age.md): the header
-/// with one scrypt stanza, the payload nonce, and the payload in chunks of 65,536 bytes. Flushes at
-/// the end.
+/// Encrypts all that a source gives under a passphrase, into an age file (<https://c2sp.org/age>):
+/// the header with one scrypt stanza, the payload nonce, and the payload in chunks of 65,536 bytes.
+/// Flushes at the end.
 ///
 /// It refuses with [`FileFault::Memory`] (28) before it reads or writes anything, with `Read` (26),
 /// `Write` (27) and `ReadNeverEnds` (29), and with `TooManyChunks` (22) where the source gave more
-/// than 2^64 bytes. What was written by then is a front of the age file of what was read.
+/// than 2^64 bytes. What was written by then is a prefix of the age file of what was read.
 pub fn encrypt<S: Source, O: Sink>(
     alloc: Global,
     secret: &Secret<'_>,

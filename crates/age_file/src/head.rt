@@ -1,4 +1,4 @@
-//! Reads the header at the front of a source.
+//! Reads the header at the beginning of a source.
 
 ghost use Rattle.std.specs.Prelude.{◌≡◌, ◌≢◌, [], IfOk, IfErr, OnOk};
 ghost use Rattle.age_file.specs.declared.fault.FileFault.TheVariants.{Memory};

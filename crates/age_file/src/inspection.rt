@@ -85,8 +85,8 @@ fn plain_of(rest: u128) -> Option<u128>
 }
 
 /// Reads a source to its end, and reports what it holds: the header's length, its stanzas, how many
-/// bytes follow it, and the length of the plaintext that so many bytes hold (C2SP age.md, "Header"
-/// and "Payload").
+/// bytes follow it, and the length of the plaintext that so many bytes hold
+/// (<https://c2sp.org/age#header>, <https://c2sp.org/age#payload>).
 ///
 /// Refuses with the header's fault (1 to 8), `Read` (26), `Memory` (28) and `ReadNeverEnds` (29).
 pub fn inspect<S: Source>(alloc: Global, source: &mut S) -> Result<Report, FileFault>

@@ -67,7 +67,7 @@ impl Intake {
         &self.buffer[self.from..self.to]
     }
 
-    /// Uses bytes at the front.
+    /// Drops the first bytes, which were used.
     pub(crate) fn use_front(&mut self, n: usize)
         requires { n ≤ length self.old.bytes }
         ensures bytes { self.new.bytes ≡ drop n self.old.bytes }

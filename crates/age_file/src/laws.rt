@@ -36,7 +36,8 @@ pub fn bound_positions<U: Unlock>()
 {}
 
 /// The age file of a secret and a text is one that the secret's passphrase opens, and nothing but
-/// want of memory may be answered for its header, where the limit is no less than its work factor.
+/// running out of memory may be returned for its header, where the limit is no less than its work
+/// factor.
 pub fn age_file_is_whole()
     ensures { AgeFileIsWhole }
 {

@@ -4,10 +4,10 @@
 //! tell their bytes, so that the contract of an engine can name what it read and what it wrote.
 //!
 //! `inspect` reads a whole file and reports what its header holds and how much plaintext the bytes
-//! behind it would be. `encrypt` writes a file of what it reads, and `decrypt` the text of a file
-//! whose header an unlocker opens; where it stops, it hands out the position to go on from.
-//! `resume` goes on from there: it copies the old text up to the position, and opens the blocks
-//! behind it, so that what it writes is the whole text.
+//! behind it would be. `encrypt` writes an age file of what it reads, and `decrypt` the text of a
+//! file whose header an unlocker opens; if it stops, it hands out the position at which to
+//! continue. `resume` continues there: it copies the earlier output up to the position, and opens
+//! the blocks after it, so that what it writes is the whole text.
 #![tactic(auto)]
 
 mod copy;

@@ -17,7 +17,7 @@ use age_stream::Opener;
 /// What opens the blocks of a payload.
 type PayloadOpener<'a> = Opener<'a, PayloadKey, 65552>;
 
-/// Feeds the front of a piece, and writes the chunk that comes out.
+/// Feeds the beginning of a piece, and writes the chunk that comes out.
 fn feed_once<O: Sink>(
     opener: &mut PayloadOpener<'_>,
     piece: &[u8],
@@ -59,7 +59,7 @@ fn feed_piece<O: Sink>(
     Ok(())
 }
 
-/// Feeds what was pulled, and pulls again. False: the source is at its end.
+/// One turn: feeds the buffer, and refills it; false at the end of the source.
 fn turn<S: Source, O: Sink>(
     opener: &mut PayloadOpener<'_>,
     reader: &mut Reader<'_, S>,
@@ -106,7 +106,7 @@ fn close<O: Sink>(
     write_all(writer.sink, text, &mut writer.progress.written)
 }
 
-/// The same, and then flushes.
+/// Writes what is left, and flushes.
 fn finish<O: Sink>(
     opener: &mut PayloadOpener<'_>,
     writer: &mut Writer<'_, O>,

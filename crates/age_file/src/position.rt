@@ -1,4 +1,4 @@
-//! Positions in a payload, at which a reader goes on after a stop.
+//! Positions in a payload, at which a reader continues after a stop.
 
 ghost use Rattle.std.specs.Prelude.{◌≡◌, ◌<◌, ◌++◌, length, map, codes};
 ghost use Rattle.std.specs.List.{concat};
@@ -12,11 +12,11 @@ use sha2::{Digest, Sha256};
 /// What every position's text begins with.
 pub(crate) const VERSION: &[u8; 16] = b"age-position/v2 ";
 
-/// A place in a payload at which a reader goes on after a stop, bound to the file and to the text
+/// A place in a payload at which a reader continues after a stop, bound to the file and to the text
 /// before it. It is no part of the age format.
 #[derive(Clone, Copy, Debug, PartialEq, Eq)]
 pub struct Position {
-    /// The chunk at which reading goes on, from 0; below 2^48.
+    /// The chunk at which reading continues, counted from 0; below 2^48.
     pub index: u64,
     /// The SHA-256 of the header's bytes and the payload nonce.
     pub file_id: [u8; 32],
@@ -28,7 +28,7 @@ pub struct Position {
     ghost within: { index < 281474976710656 },
 }
 
-/// Whether a decryption keeps the position at which a reader can go on after a stop. Keeping it
+/// Whether a decryption keeps the position at which a reader can continue after a stop. Keeping it
 /// takes a SHA-256 over the text.
 #[derive(Clone, Copy, Debug, PartialEq, Eq)]
 pub enum Positions {

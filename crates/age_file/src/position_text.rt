@@ -85,7 +85,7 @@ fn digest_of(field: &[u8]) -> Option<[u8; 32]>
     }
 }
 
-/// The position of an index, with what the text behind it tells.
+/// The position of an index, with what the text after it says.
 fn position_of(index: u64, fields: &[u8]) -> Option<Position>
     requires index { index < 281474976710656 }
     requires size { length fields.now ≡ 133 }
@@ -108,8 +108,8 @@ fn position_of(index: u64, fields: &[u8]) -> Option<Position>
 
 impl Position {
     /// The text of a position: `age-position/v2 INDEX ID CHAIN TAG` and a line feed, INDEX in
-    /// decimal, the others as the 43 characters of unpadded base64 (RFC 4648, section 4). It
-    /// refuses for want of memory alone.
+    /// decimal, the others as the 43 characters of unpadded base64 (RFC 4648, section 4). It fails
+    /// only if memory is refused.
     pub fn text(&self, alloc: Global) -> Result<Vec<u8>, FileFault>
         ensures text { IfOk result (λ text. text.items ≡ position_text self.now) }
         ensures memory { IfErr result (λ fault. fault ≡ Memory) }
@@ -118,7 +118,7 @@ impl Position {
     }
 
     /// Reads the text of a position. It refuses every other text with `BadPosition`, one with
-    /// leading zeros, without the line feed or with characters behind it too. It takes no memory.
+    /// leading zeros, without the line feed or with characters after it too. It takes no memory.
     pub fn read(text: &[u8]) -> Result<Position, FileFault>
         ensures read { IfOk result (λ position. text.now ≡ position_text position) }
         ensures fault { IfErr result (λ fault. fault ≡ BadPosition) }

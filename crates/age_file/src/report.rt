@@ -1,4 +1,4 @@
-//! What is told of a file.
+//! The report on a file.
 
 ghost use Rattle.std.specs.Prelude.{◌≡◌, ◌++◌, ◌∷◌, [], OnOk, OnErr, List};
 ghost use Rattle.age_file.specs.declared.report.StanzaReport.{StanzaReport};
@@ -57,7 +57,7 @@ impl StanzaReports {
     }
 }
 
-/// What is told of a file.
+/// The report on a file.
 #[derive(Debug, Drop)]
 pub struct Report {
     /// The header's length in bytes.
@@ -66,7 +66,7 @@ pub struct Report {
     pub stanzas: StanzaReports,
     /// How many bytes follow the header.
     pub rest: u128,
-    /// The length of the plaintext that so many bytes hold, or none where no lawful payload has
-    /// that length.
+    /// The length of the plaintext that so many bytes hold, or none where no valid payload has that
+    /// length.
     pub plain: Option<u128>,
 }

@@ -1,4 +1,4 @@
-//! Goes on with a decryption that stopped.
+//! Continues a decryption that stopped.
 
 ghost use Rattle.std.specs.Prelude.{◌≡◌, ◌^◌, ◌<◌, ◌≤◌, [], OnOk, true};
 ghost use Rattle.age_file.specs.inner.Readers.{side_of, tally_of, stage_of, SameReader, SameWriter};
@@ -86,8 +86,8 @@ fn open_rest<S: Source, O: Sink>(
     decrypt_payload(key, index, reader, writer)
 }
 
-/// Goes on with a decryption that stopped, and hands out the position of a stop: [`resume_with`],
-/// with positions kept.
+/// Continues a decryption that stopped, and hands out the position of a stop: [`resume_with`], with
+/// positions kept.
 pub fn resume<U: Unlock, S: Source, L: Source, O: Sink>(
     alloc: Global,
     unlock: &U,
@@ -112,19 +112,18 @@ pub fn resume<U: Unlock, S: Source, L: Source, O: Sink>(
     )
 }
 
-/// Goes on with a decryption that stopped, from its position: opens the file's header, copies the
-/// old text up to the position, passes over the blocks of that text, and writes each chunk behind
-/// them once the tag of its block was checked. What was written at the end is the whole text, not
-/// its rest alone.
+/// Continues a decryption that stopped: opens the file's header, copies the earlier output up to
+/// the position, skips the blocks of that text, and writes each later chunk once the tag of its
+/// block was checked. What was written in the end is the whole text, not only its rest.
 ///
 /// Up to the payload nonce it stops as [`decrypt_with`](crate::decrypt_with) does. Then it stops
-/// with `OtherFile` (24) where the position is of another file, and with `PositionForged` (30)
-/// where its tag isn't that of the file's key; nothing was written. `ShortText` (25) comes where
-/// the old text ended before the position, and `OldTextDiffers` (31) where its chunks aren't those
-/// that the position was made for; what was copied stands. `Truncated` (20) with its chunk comes
-/// where the source ends in the blocks that are passed over. Else it stops as `decrypt_with` does.
-/// A position is handed out once the old text was found to be the position's, where positions are
-/// kept. All memory is taken before the payload nonce is read.
+/// with `OtherFile` (24) if the position belongs to another file, and with `PositionForged` (30) if
+/// its tag isn't that of the file's key; nothing was written. `ShortText` (25) means that the
+/// earlier output ended before the position, and `OldTextDiffers` (31) that its chunks aren't those
+/// that the position was made for; what was copied stays. `Truncated` (20), with its chunk, means
+/// that the source ends in the blocks that are skipped. Otherwise it stops as `decrypt_with` does.
+/// A position is handed out once the earlier output was found to be the position's, if positions
+/// are kept. All memory is taken before the payload nonce is read.
 pub fn resume_with<U: Unlock, S: Source, L: Source, O: Sink>(
     alloc: Global,
     positions: Positions,

@@ -16,7 +16,7 @@ use age_stream::Sealer;
 /// What seals the chunks of a payload.
 type PayloadSealer<'a> = Sealer<'a, PayloadKey, 65552>;
 
-/// Feeds the front of a piece, and writes the block that comes out.
+/// Feeds the beginning of a piece, and writes the block that comes out.
 fn seal_once<O: Sink>(
     sealer: &mut PayloadSealer<'_>,
     piece: &[u8],
@@ -73,7 +73,7 @@ fn seal_last<O: Sink>(
     write_all(writer.sink, block, &mut writer.progress.written)
 }
 
-/// The same, and then flushes.
+/// Writes what is left, and flushes.
 fn finish<O: Sink>(
     sealer: &mut PayloadSealer<'_>,
     writer: &mut Writer<'_, O>,
@@ -90,8 +90,8 @@ fn finish<O: Sink>(
     flush_all(writer.sink)
 }
 
-/// Seals what a source gives, up to its end but for the last chunk, and answers how many bytes it
-/// gave.
+/// Seals all chunks but the last of what a source gives, up to its end, and returns how many bytes
+/// it gave.
 fn seal_source<S: Source, O: Sink>(
     sealer: &mut PayloadSealer<'_>,
     reader: &mut Reader<'_, S>,
@@ -121,7 +121,7 @@ fn seal_source<S: Source, O: Sink>(
     Ok(plain)
 }
 
-/// Writes the payload of what a source gives, up to its end, flushes, and answers how many bytes
+/// Writes the payload of what a source gives, up to its end, flushes, and returns how many bytes
 /// the source gave.
 pub(crate) fn seal_all<S: Source, O: Sink>(
     key: &PayloadKey,

@@ -23,7 +23,7 @@ pub(crate) struct Unlocked {
     pub(crate) id: [u8; 32],
 }
 
-/// Sees that some byte is there. False: the source is at its end.
+/// Pulls if the buffer is empty; false at the end of the source.
 pub(crate) fn some_bytes<S: Source>(reader: &mut Reader<'_, S>) -> Result<bool, FileFault>
     ensures answers { SomeAnswers (S.view reader.new.source.now).remaining
         (S.view reader.old.source.now).failed (S.view reader.new.source.now).failed
@@ -38,7 +38,7 @@ pub(crate) fn some_bytes<S: Source>(reader: &mut Reader<'_, S>) -> Result<bool, 
     reader.intake.refill(reader.source)
 }
 
-/// Copies as much as there is room for, and says how much.
+/// Copies as many bytes as there is room for, and returns how many.
 fn copy_some(from: &[u8], into: &mut [u8; 16], have: usize) -> usize
     requires { have ≤ 16 }
     ensures count { result ≡ min (16 - have) (length from.now) }

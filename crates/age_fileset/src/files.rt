@@ -49,11 +49,12 @@ pub trait FileSet {
     // The bytes of the entry of a name, where there is one.
     ghost entry: { Self → List ℕ → Option (List ℕ) };
 
-    // What was opened, created, replaced and closed, in order, also where the entries aren't told,
+    // What was opened, created, replaced and closed, in order, also where the entries aren't shown,
     // and whether it succeeded or not.
     ghost events: { Self → List Event };
 
-    /// Whether two names stand for one file. Equal names do, and of files that are told no others.
+    /// Whether two names stand for one file. Equal names do, and no others if the set shows its
+    /// entries.
     fn is_same(&self, one: &str, other: &str) -> bool
         ensures equal { one.now ≡ other.now → result ≡ true }
         ensures told { tells self.now ≡ true → result ≡ true → one.now ≡ other.now }
@@ -81,8 +82,8 @@ pub trait FileSet {
 
     /// Opens a file to be written, and makes it where there is none. No entry changes until it is
     /// closed. Refuses with `Write` (27) where it can't be, with `Memory` (28), and where it is one
-    /// that was opened or created before, which never comes of files that are told; a file that it
-    /// made is gone again then.
+    /// that was opened or created before, which never comes of a set that shows its entries; a file
+    /// that it made is gone again then.
     fn create(&mut self, alloc: Global, name: &str) -> Result<Self::Out, CreateFault>
         ensures told { tells self.new ≡ tells self.old }
         ensures kept { entry self.new ≡ entry self.old }

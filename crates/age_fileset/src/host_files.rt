@@ -17,10 +17,10 @@ use std::alloc::{AllocError, Global};
 use std::io;
 use std::rt::HostRuntime;
 
-/// The machine's files, of which nothing is told but what was done with them. A name is a path;
-/// `/dev/stdin`, `/dev/stdout`, `/dev/stderr` and their names under `/dev/fd` and `/proc/self/fd`
-/// are the streams that the program was started with. Two regular files are one where device and
-/// inode say so.
+/// The machine's files. Contracts see what was done with them, and none of their bytes. A name is a
+/// path; `/dev/stdin`, `/dev/stdout`, `/dev/stderr` and their names under `/dev/fd` and
+/// `/proc/self/fd` are the streams that the program was started with. Two regular files are one
+/// where device and inode say so.
 #[derive(Drop)]
 pub struct HostFiles<'r> {
     rt: &'r HostRuntime,
@@ -72,7 +72,7 @@ fn admit(opened: &mut Vec<Identity>, identity: Option<Identity>) -> Result<(), C
     }
 }
 
-/// A want of memory is told as such, and anything else as `other`.
+/// Running out of memory is reported as such, and anything else as `other`.
 fn fault_of(error: io::Error, other: FileFault) -> FileFault
     ensures { IsMemoryOr other result }
 {

@@ -1,10 +1,10 @@
-//! What sources, sinks and memory answer where they can't do what they are asked.
+//! What sources, sinks and memory return when they fail.
 
 ghost use Rattle.std.specs.Prelude.{◌≡◌, None};
 
 use thiserror::Error;
 
-/// A source or a sink could not do what it was asked. It moved no bytes, and counted the failure.
+/// A source or a sink failed. It moved no bytes, and counted the failure.
 #[derive(Clone, Copy, Debug, PartialEq, Eq, Error)]
 #[error("a source or a sink failed")]
 pub struct Failed;
@@ -22,7 +22,7 @@ impl Memory {
         28
     }
 
-    /// Want of memory has no place in a file.
+    /// Running out of memory has no place in a file.
     pub fn place(&self) -> Option<u64>
         ensures { result ≡ None }
     {

@@ -12,13 +12,13 @@ use std::marker::Model;
 
 /// Where bytes go.
 pub trait Sink {
-    // The bytes that were taken, where they are told, how many puts and flushes have failed, the
+    // The bytes that were taken, where they are shown, how many puts and flushes have failed, the
     // name that the sink goes by, so that a set of files can say where its bytes end up, and
     // whether what was taken was sent on; a put may undo that.
     ghost view: { Self → SinkView };
 
-    /// Takes bytes from the front of a slice, and answers how many: at least one, where the slice
-    /// isn't empty. A put that fails takes no bytes.
+    /// Takes bytes from the beginning of a slice, and returns how many: at least one, unless the
+    /// slice is empty. A put that fails takes no bytes.
     fn put(&mut self, from: &[u8]) -> Result<usize, Failed>
         ensures bound { IfOk result (λ n. (n ≤ length from.now) × (0 < length from.now → 0 < n)) }
         ensures bytes { WriteAppends (view self.old).taken (view self.new).taken result from.now }
@@ -41,9 +41,9 @@ pub trait Sink {
         ensures { result ≡ (view self.now).failed };
 }
 
-/// A sink over one of the machine's writers. It tells what the writer tells, which for a file, a
-/// pipe or a terminal is nothing. A writer that takes none of the bytes that it is given counts as
-/// failed. A contract sees the writer and how many puts and flushes have failed.
+/// A sink over one of the machine's writers. It shows contracts the bytes that the writer shows,
+/// which for a file, a pipe or a terminal are none. A writer that takes none of the bytes that it
+/// is given counts as failed. A contract sees the writer and how many puts and flushes have failed.
 #[derive(Debug, Drop)]
 pub struct Writing<W: Write> {
     inner: W,

@@ -12,11 +12,11 @@ use std::marker::Model;
 
 /// Where bytes come from.
 pub trait Source {
-    // The bytes that are still to come, where they are told, and how many pulls have failed.
+    // The bytes that are still to come, where they are shown, and how many pulls have failed.
     ghost view: { Self → SourceView };
 
-    /// Puts the next bytes into the front of a slice, and answers how many: none only at the end,
-    /// or where the slice is empty. A pull that fails moves no bytes.
+    /// Puts the next bytes at the beginning of a slice, and returns how many: none only at the end,
+    /// or if the slice is empty. A pull that fails moves no bytes.
     fn pull(&mut self, into: &mut [u8]) -> Result<usize, Failed>
         ensures bound { IfOk result (λ n. n ≤ length into.new) }
         ensures bytes { ReadConsumes (view self.old).remaining (view self.new).remaining result
@@ -30,8 +30,9 @@ pub trait Source {
         ensures { result ≡ (view self.now).failed };
 }
 
-/// A source over one of the machine's readers. It tells what the reader tells, which for a file, a
-/// pipe or a terminal is nothing. A contract sees the reader and how many pulls have failed.
+/// A source over one of the machine's readers. It shows contracts the bytes that the reader shows,
+/// which for a file, a pipe or a terminal are none. A contract sees the reader and how many pulls
+/// have failed.
 #[derive(Debug, Drop)]
 pub struct Reading<R: Read> {
     inner: R,

@@ -1,7 +1,7 @@
 //! Keys from SHA-256: HMAC (RFC 2104), HKDF (RFC 5869) and PBKDF2 with one iteration (RFC 8018).
 //!
-//! These are the three constructions under an age file (C2SP age.md). HMAC authenticates the
-//! header; HKDF makes the header's MAC key and the payload key out of the file key; PBKDF2 with
+//! These are the three constructions under an age file (<https://c2sp.org/age>). HMAC authenticates
+//! the header; HKDF makes the header's MAC key and the payload key out of the file key; PBKDF2 with
 //! one iteration is the first and the last step of scrypt. All of them stand on SHA-256 alone.
 //!
 //! Each result is that of the standard's formula on lists of bytes, for keys, salts and messages

@@ -4,8 +4,8 @@ ghost use Rattle.std.specs.Prelude.{◌≡◌};
 
 use std::marker::Model;
 
-/// The 16 bytes of a file key (C2SP age.md, "File key"). A contract sees the list of them. It has
-/// no `Debug`, so that no message prints it.
+/// The 16 bytes of a file key (<https://c2sp.org/age#file-key>). A contract sees the list of them.
+/// It has no `Debug`, so that no message prints it.
 #[derive(Drop)]
 pub struct FileKey(pub [u8; 16]);
 

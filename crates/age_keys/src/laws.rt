@@ -4,8 +4,8 @@
 ghost use Rattle.age_keys.specs.Laws.{PassphraseOpens};
 
 /// The passphrase that a header of [`scrypt_header`](crate::scrypt_header) was made for opens it,
-/// where the limit is no less than its work factor: nothing but the file key and want of memory may
-/// be answered for it.
+/// where the limit is no less than its work factor: nothing but the file key and running out of
+/// memory may be answered for it.
 pub fn passphrase_opens()
     ensures { PassphraseOpens }
 {}

@@ -1,4 +1,4 @@
-//! From the header of an age file to the key of its payload (C2SP age.md).
+//! From the header of an age file to the key of its payload (<https://c2sp.org/age>).
 //!
 //! A file key of 16 bytes is wrapped in the body of a stanza. An [`Unlock`] finds it there, and
 //! the header's MAC, an HMAC under a key that HKDF makes of the file key, confirms it:

@@ -55,13 +55,13 @@ pub(crate) fn mac_of(alloc: Global, header: &Header, key: &FileKey) -> Result<[u
     Ok(age_kdf::hmac(&secret, &[text.as_slice()]))
 }
 
-/// Opens a header that [`is_header`](age_stanza::is_header), which is asked: answers the file key
-/// that the unlocker finds in it, once the header's MAC confirmed that key (C2SP age.md, "Header
-/// MAC").
+/// Opens a header that [`is_header`](age_stanza::is_header), which is required: returns the file
+/// key that the unlocker finds in it, once the header's MAC confirmed that key
+/// (<https://c2sp.org/age#header-mac>).
 ///
-/// It refuses, in this order, a scrypt stanza beside another stanza
-/// ([`KeyFault::ScryptNotAlone`]), whatever the unlocker refuses, want of memory for the text that
-/// the MAC covers, and a MAC that isn't that of the key ([`KeyFault::MacMismatch`]).
+/// It refuses, in this order, a scrypt stanza beside another stanza ([`KeyFault::ScryptNotAlone`]),
+/// whatever the unlocker refuses, running out of memory for the text that the MAC covers, and a MAC
+/// that isn't that of the key ([`KeyFault::MacMismatch`]).
 pub fn open_header<U: Unlock>(
     alloc: Global,
     header: &Header,

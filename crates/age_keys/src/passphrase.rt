@@ -15,13 +15,13 @@ use std::marker::Model;
 
 /// A passphrase, and the greatest work factor that is accepted with it. A contract sees both.
 ///
-/// It finds the file key in the one scrypt stanza of a header (C2SP age.md, "The scrypt recipient
-/// type"). It refuses, in this order, a scrypt stanza beside another stanza
-/// ([`KeyFault::ScryptNotAlone`]), a header without a scrypt stanza ([`KeyFault::NoMatch`]), a
-/// scrypt stanza of another shape ([`KeyFault::BadScrypt`]), a work factor above the limit, however
-/// many digits it has ([`KeyFault::WorkTooHigh`]), want of memory for scrypt's table
-/// ([`KeyFault::Memory`]), and a body that opens to no file key under the passphrase
-/// ([`KeyFault::WrongKey`]).
+/// It finds the file key in the one scrypt stanza of a header
+/// (<https://c2sp.org/age#scrypt-recipient-stanza>). It refuses, in this order, a scrypt stanza
+/// beside another stanza ([`KeyFault::ScryptNotAlone`]), a header without a scrypt stanza
+/// ([`KeyFault::NoMatch`]), a scrypt stanza of another shape ([`KeyFault::BadScrypt`]), a work
+/// factor above the limit, however many digits it has ([`KeyFault::WorkTooHigh`]), running out of
+/// memory for scrypt's table ([`KeyFault::Memory`]), and a body that opens to no file key under the
+/// passphrase ([`KeyFault::WrongKey`]).
 #[derive(Drop)]
 pub struct Passphrase<'a> {
     bytes: &'a [u8],

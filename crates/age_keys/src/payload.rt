@@ -11,8 +11,8 @@ use age_cipher::{open_in_place, seal_in_place};
 use age_stream::ChunkBox;
 use std::marker::Model;
 
-/// The key of a payload, which seals and opens its chunks (C2SP age.md, "Payload"). A contract
-/// sees the list of its 32 bytes.
+/// The key of a payload, which seals and opens its chunks (<https://c2sp.org/age#payload>). A
+/// contract sees the list of its 32 bytes.
 #[derive(Drop)]
 pub struct PayloadKey {
     bytes: [u8; 32],
@@ -43,7 +43,7 @@ impl ChunkBox for PayloadKey {
 }
 
 /// The key of the payload that follows a nonce: HKDF of the file key, salted with the nonce, under
-/// the label `payload` (C2SP age.md, "Payload").
+/// the label `payload` (<https://c2sp.org/age#payload>).
 pub fn payload_key(key: &FileKey, nonce: &[u8; 16]) -> PayloadKey
     ensures { result ≡ payload_key key.now nonce.now }
 {

@@ -1,4 +1,4 @@
-//! The scrypt stanza (C2SP age.md, "The scrypt recipient type"): read and written.
+//! The scrypt stanza (<https://c2sp.org/age#scrypt-recipient-stanza>): read and written.
 
 ghost use Rattle.std.specs.Prelude.{◌≡◌, ◌≤◌, ◌↔◌, ℕ, List, [], ◌∷◌, length, min, IsTrue, IfSome};
 ghost use Rattle.std.specs.Prelude.{IfNone, IfOk, IfErr};
@@ -22,8 +22,8 @@ use std::alloc::{AllocError, Global};
 /// What stands before the stanza's salt in the salt that scrypt is given.
 const LABEL: &[u8; 28] = b"age-encryption.org/v1/scrypt";
 
-/// The key that a file key is wrapped under (C2SP age.md, "The scrypt recipient type"). The only
-/// fault is a refusal of memory.
+/// The key that a file key is wrapped under (<https://c2sp.org/age#scrypt-recipient-stanza>). The
+/// only fault is a refusal of memory.
 pub(crate) fn wrap_key(
     alloc: Global,
     pass: &[u8],
@@ -75,7 +75,8 @@ fn number_of(characters: &[u8]) -> u32
     number
 }
 
-/// A scrypt stanza (C2SP age.md, "The scrypt recipient type"): `-> scrypt SALT LOG` and a body.
+/// A scrypt stanza (<https://c2sp.org/age#scrypt-recipient-stanza>): `-> scrypt SALT LOG` and a
+/// body.
 #[derive(Clone, Copy)]
 pub(crate) struct ScryptStanza {
     pub salt: [u8; 16],
@@ -150,8 +151,9 @@ fn header_of(
     })
 }
 
-/// The header of a file key that is wrapped under a passphrase: one scrypt stanza, and the MAC
-/// that the file key gives it (C2SP age.md, "The scrypt recipient type", "Header MAC").
+/// The header of a file key that is wrapped under a passphrase: one scrypt stanza, and the MAC that
+/// the file key gives it (<https://c2sp.org/age#scrypt-recipient-stanza>,
+/// <https://c2sp.org/age#header-mac>).
 ///
 /// It asks for a passphrase of 1 to 65,536 bytes and a work factor `log` of 1 to 22. The only
 /// fault is a refusal of memory ([`KeyFault::Memory`]): the passphrase's table takes

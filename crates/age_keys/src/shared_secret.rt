@@ -60,11 +60,11 @@ fn hkdf_salt(share: &[u8; 32], recipient: &[u8; 32]) -> [u8; 64]
 /// A shared secret, which was computed elsewhere of a stanza's share and the recipient's identity,
 /// and the recipient. A contract sees both.
 ///
-/// It finds the file key in the first X25519 stanza of a header that opens (C2SP age.md, "The
-/// X25519 recipient type"); stanzas of other types are passed over. It refuses, in this order, a
-/// header without an X25519 stanza ([`KeyFault::NoMatch`]), one with an X25519 stanza of another
-/// shape, or any where the secret is zero ([`KeyFault::BadX25519`]), and a header none of whose
-/// X25519 stanzas opens ([`KeyFault::WrongKey`]). It takes no memory.
+/// It finds the file key in the first X25519 stanza of a header that opens
+/// (<https://c2sp.org/age#x25519-recipient-stanza>); stanzas of other types are passed over. It
+/// refuses, in this order, a header without an X25519 stanza ([`KeyFault::NoMatch`]), one with an
+/// X25519 stanza of another shape, or any where the secret is zero ([`KeyFault::BadX25519`]), and a
+/// header none of whose X25519 stanzas opens ([`KeyFault::WrongKey`]). It takes no memory.
 #[derive(Drop)]
 pub struct SharedSecret {
     secret: [u8; 32],

@@ -14,13 +14,13 @@ use std::marker::Model;
 
 /// Finds the file key in the stanzas of a header, or refuses it.
 ///
-/// Whoever implements it states two relations: which key it may answer for a header, and which
-/// fault. [`open_header`](crate::open_header) promises what it does in their words.
+/// An implementation states two relations: which key it may return for a header, and which fault.
+/// [`open_header`](crate::open_header) states its contract in these terms.
 pub trait Unlock {
-    /// The keys that it may answer for a header.
+    /// The keys that it may return for a header.
     ghost allows: { Self → HeaderValue → List ℕ → Type 0 };
 
-    /// The faults that it may answer for a header.
+    /// The faults that it may return for a header.
     ghost refuses: { Self → HeaderValue → Fault → Type 0 };
 
     /// The file key of a header. Nothing is changed.

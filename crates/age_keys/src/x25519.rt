@@ -6,7 +6,7 @@ ghost use Rattle.age_keys.specs.X25519.{is_x25519, IsX25519Stanza, ReadRefuses};
 use crate::fault::KeyFault;
 use age_stanza::{Stanza, read_base64};
 
-/// An X25519 stanza (C2SP age.md, "The X25519 recipient type"): `-> X25519 SHARE` and a body.
+/// An X25519 stanza (<https://c2sp.org/age#x25519-recipient-stanza>): `-> X25519 SHARE` and a body.
 #[derive(Clone, Copy, Debug, PartialEq, Eq)]
 pub struct X25519Stanza {
     /// The ephemeral share.

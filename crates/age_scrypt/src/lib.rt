@@ -1,6 +1,6 @@
-//! scrypt with r = 8 and p = 1 (RFC 7914), which makes a key of 32 bytes out of a passphrase and
-//! a salt. It is how an age file's file key is wrapped under a passphrase (C2SP age.md, "The
-//! scrypt recipient type").
+//! scrypt with r = 8 and p = 1 (RFC 7914), which makes a key of 32 bytes out of a passphrase and a
+//! salt. It is how an age file's file key is wrapped under a passphrase
+//! (<https://c2sp.org/age#scrypt-recipient-stanza>).
 //!
 //! PBKDF2 makes one block of 1,024 bytes. ROMix mixes it `2^log` times by BlockMix, keeping each
 //! block on the way in a table, and then as often again, each time after an exclusive or with the

@@ -15,9 +15,9 @@ enum Letters {
     Long(Box<Vec<u8>>),
 }
 
-/// An argument of a stanza (C2SP age.md, "Header"). It is 24 bytes long, and up to 8 bytes lie in
-/// the value itself: so a header of many short arguments takes no allocation for each, and no more
-/// than 12 bytes for a byte of its text. A contract sees the list of its bytes.
+/// An argument of a stanza (<https://c2sp.org/age#header>). It is 24 bytes long, and up to 8 bytes
+/// lie in the value itself: so a header of many short arguments takes no allocation for each, and
+/// no more than 12 bytes for a byte of its text. A contract sees the list of its bytes.
 #[derive(Debug, Drop)]
 pub struct Argument {
     letters: Letters,

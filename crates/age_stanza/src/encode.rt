@@ -114,10 +114,9 @@ pub fn encode_head(alloc: Global, header: &Header) -> Result<Vec<u8>, HeadFault>
     Ok(whole_text(alloc, header, len)?)
 }
 
-/// The part of a header's text that its MAC covers: from the version line up to
-/// and with the `---` of the end line, without the space that follows (C2SP
-/// age.md, "Header MAC"). Asks [`is_header`](crate::is_header). All memory is
-/// taken at once; the only fault is a refusal of it
+/// The part of a header's text that its MAC covers: from the version line up to and with the `---`
+/// of the end line, without the space that follows (<https://c2sp.org/age#header-mac>). Asks
+/// [`is_header`](crate::is_header). All memory is taken at once; the only fault is a refusal of it
 /// ([`HeadKind::Memory`](crate::HeadKind::Memory)).
 pub fn mac_text(alloc: Global, header: &Header) -> Result<Vec<u8>, HeadFault>
     requires { HasText header.now }

@@ -20,8 +20,8 @@ fn are_visible(bytes: &[u8]) -> bool
     bytes.iter().all(|c| b'!' <= *c && *c <= b'~')
 }
 
-/// Whether some bytes are a valid argument of a stanza: one or more visible
-/// ASCII characters, from `!` to `~` (C2SP age.md, "Header").
+/// Whether some bytes are a valid argument of a stanza: one or more visible ASCII characters, from
+/// `!` to `~` (<https://c2sp.org/age#header>).
 pub fn is_argument(bytes: &[u8]) -> bool
     ensures { IsTrue result ↔ IsArgument bytes.now }
 {

@@ -1,4 +1,4 @@
-//! The text header of an age file, version 1 (C2SP age.md, "Header").
+//! The text header of an age file, version 1 (<https://c2sp.org/age#header>).
 //!
 //! A header is a text of lines that end with LF alone. Its first line is
 //! `age-encryption.org/v1`. One or more recipient stanzas follow, each an
@@ -8,12 +8,11 @@
 //! line is `--- ` and the 43 characters of the header's MAC. The binary
 //! payload follows at once.
 //!
-//! [`HeadParser`] takes a file's bytes in pieces, however they are cut, and
-//! answers the header as soon as its last byte came, or the first fault with
-//! its line. It accepts exactly the texts of the grammar and takes no byte of
-//! the payload. [`encode_head`] writes the one text of a header, and
-//! [`mac_text`] the part of it that the MAC covers. [`read_base64`] reads the
-//! bytes of an argument out of its base64.
+//! [`HeadParser`] takes a file's bytes in pieces, however they are cut, and returns the header as
+//! soon as its last byte came, or the first fault with its line. It accepts exactly the texts of
+//! the grammar and takes no byte of the payload. [`encode_head`] writes the one text of a header,
+//! and [`mac_text`] the part of it that the MAC covers. [`read_base64`] reads the bytes of an
+//! argument out of its base64.
 #![tactic(auto)]
 
 mod argument;

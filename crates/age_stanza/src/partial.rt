@@ -35,7 +35,7 @@ impl Model for PartialHeader {
     ghost invariant = { λ p. IsPartial p.place p.line.items p.bytes p.finished_lines };
 }
 
-/// A refusal in a line; want of memory has none.
+/// A refusal in a line; running out of memory has none.
 fn fault_at(kind: HeadKind, line: u64) -> HeadFault
     ensures { result ≡ spec_fault_at kind line }
 {

@@ -11,7 +11,7 @@ use crate::fault::Memory;
 use crate::replay::{Drill, Replay};
 use std::alloc::Global;
 
-/// Gives deliveries to a new [`Replay`], and answers what it then holds.
+/// Gives deliveries to a new [`Replay`], and returns what it then holds.
 pub fn drill<B: ChunkBox, const SEALED: usize>(
     alloc: Global,
     key: &B,

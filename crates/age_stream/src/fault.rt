@@ -79,14 +79,14 @@ impl StreamFault {
 pub struct Memory;
 
 impl Memory {
-    /// The number of want of memory in the list of all faults.
+    /// The number of running out of memory in the list of all faults.
     pub fn number(&self) -> u8
         ensures { result ≡ 28 }
     {
         28
     }
 
-    /// The chunk of the fault: want of memory has none.
+    /// The chunk of the fault: running out of memory has none.
     pub fn place(&self) -> Option<u64>
         ensures { result ≡ None }
     {

@@ -33,7 +33,7 @@ pub fn closed_stays()
     ensures end { EndCloses }
 {}
 
-/// The headline of one segment, for every lawful sealing and opening.
+/// The headline of one segment, for every sealing and opening that meet the law of a box.
 pub fn released_is_written()
     ensures { ReleasedIsWritten }
 {}
@@ -81,8 +81,8 @@ pub fn clear_is_sealable()
     ensures { ClearIsSealable }
 {}
 
-/// A text has exactly one list of chunks, and the payload seals each at the
-/// nonce of its number and of whether it is the last (C2SP age.md, "Payload").
+/// A text has exactly one list of chunks, and the payload seals each at the nonce of its number and
+/// of whether it is the last (<https://c2sp.org/age#payload>).
 pub fn chunks_are_one()
     ensures one { ChunksAreOne }
     ensures sealed { SealsChunks }

@@ -1,4 +1,4 @@
-//! The payload of an age file (C2SP age.md, "Payload").
+//! The payload of an age file (<https://c2sp.org/age#payload>).
 //!
 //! A text is cut into chunks of 65,536 bytes; the last has 1 to 65,536, or
 //! none where the whole text is empty. Each chunk is sealed with 16 bytes more

@@ -264,10 +264,10 @@ impl<'k, B: ChunkBox, const SEALED: usize> OpenerState<'k, B, SEALED> {
     }
 }
 
-/// Opens a payload that comes in pieces, however they are cut (C2SP age.md,
-/// "Payload"). A whole block is tried at the nonce of a chunk that isn't the
-/// last, and then at that of the last one; what is left at the end of the input
-/// is tried as the last alone. A text is lent only once its tag was checked.
+/// Opens a payload that comes in pieces, however they are cut (<https://c2sp.org/age#payload>). A
+/// whole block is tried at the nonce of a chunk that isn't the last, and then at that of the last
+/// one; what is left at the end of the input is tried as the last alone. A text is lent only once
+/// its tag was checked.
 ///
 /// A contract sees the key, the bytes of the block that is open, the chunk's
 /// number and the status. They are what the outcome of a segment says: of all

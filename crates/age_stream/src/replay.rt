@@ -45,7 +45,7 @@ impl<'k, B: ChunkBox, const SEALED: usize> ReplayState<'k, B, SEALED> {
     ghost use Rattle.age_stream.specs.Deliveries.{Standing, after_delivery};
     ghost use Rattle.age_stream.specs.declared.delivery.Delivery.TheVariants.{End, Restart};
 
-    // Feeds the front of a piece, and says how much was taken, unless the opener refused it.
+    // Feeds the beginning of a piece, and returns how much was taken, unless the opener refused it.
     fn feed_once(&mut self, piece: &[u8]) -> Option<usize>
         requires some { 0 < length piece.now }
         requires room { self.old.opener.status ≡ Status.Open → vec_len self.old.text
@@ -340,7 +340,7 @@ fn push_text(text: &mut Vec<u8>, bytes: &[u8])
     ensures items { text.new.items ≡ text.old.items ++ bytes.now }
     ensures capacity { vec_capacity text.old ≤ vec_capacity text.new }
 {
-    // within the capacity no memory is asked for
+    // within the capacity no memory is requested
     let _ = text.extend_from_slice(bytes);
 }
 
@@ -351,7 +351,7 @@ pub(crate) fn push_lent(text: &mut Vec<u8>, chunk: Option<&[u8]>)
     ensures capacity { vec_capacity text.old ≤ vec_capacity text.new }
 {
     if let Some(bytes) = chunk {
-        // within the capacity no memory is asked for
+        // within the capacity no memory is requested
         let _ = text.extend_from_slice(bytes);
     }
 }

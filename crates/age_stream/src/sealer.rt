@@ -164,9 +164,8 @@ impl<'k, B: ChunkBox, const SEALED: usize> SealerState<'k, B, SEALED> {
     }
 }
 
-/// Seals a text that comes in pieces, however they are cut (C2SP age.md,
-/// "Payload"). A whole chunk is sealed once a byte after it came, since only
-/// then it isn't the last.
+/// Seals a text that comes in pieces, however they are cut (<https://c2sp.org/age#payload>). A
+/// whole chunk is sealed once a byte after it came, since only then it isn't the last.
 ///
 /// A contract sees the key, the text of the chunk that is open, its number,
 /// and whether the sealer was refused or finished.

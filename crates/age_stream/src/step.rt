@@ -1,4 +1,4 @@
-//! What a call on a stream answers.
+//! What a call on a stream returns.
 
 use crate::fault::StreamFault;
 

@@ -64,9 +64,8 @@ impl From<StreamFault> for SealFault {
     }
 }
 
-/// The payload of a text: its chunks, each sealed at its nonce, one after the
-/// other (C2SP age.md, "Payload"), in chunks of `SEALED - 16` bytes. Refused as
-/// by [`seal_into`].
+/// The payload of a text: its chunks, each sealed at its nonce, one after the other
+/// (<https://c2sp.org/age#payload>), in chunks of `SEALED - 16` bytes. Refused as by [`seal_into`].
 pub fn seal_all<B: ChunkBox, const SEALED: usize>(
     alloc: Global,
     key: &B,
@@ -116,7 +115,7 @@ pub fn seal_into<B: ChunkBox, const SEALED: usize>(
     Ok(())
 }
 
-// Appends the payload of a text where there is room for it, so that no memory is asked for.
+// Appends the payload of a text if there is room for it, so that no memory is requested.
 fn seal_within<B: ChunkBox, const SEALED: usize>(
     key: &B,
     text: &[u8],

@@ -1,5 +1,5 @@
-//! Reads and writes age files: hands its words, the machine's files and its standard streams to
-//! `age_cli::run`, and ends with the status that it answers.
+//! Reads and writes age files: passes its arguments, the machine's files and its standard streams
+//! to `age_cli::run`, and exits with the status that this returns.
 #![tactic(auto)]
 
 use age_cli::run;
@@ -9,7 +9,7 @@ use std::alloc::Global;
 use std::io;
 use std::process::ExitCode;
 
-/// The words after the program's name.
+/// The arguments after the program's name.
 fn words_of<'a>(alloc: Global, words: &'a [String]) -> io::Result<Vec<&'a str>> {
     let mut texts = Vec::new(alloc);
     for word in words.iter().skip(1) {
@@ -18,7 +18,7 @@ fn words_of<'a>(alloc: Global, words: &'a [String]) -> io::Result<Vec<&'a str>> 
     Ok(texts)
 }
 
-/// Runs the program on the machine. Fails where the words can't be had.
+/// Runs the program on the machine. Fails if the arguments can't be read.
 fn run_on(rt: &HostRuntime) -> io::Result<u8> {
     let alloc = rt.alloc();
     let args: Vec<String> = std::env::args(rt)?.collect(alloc)?;
