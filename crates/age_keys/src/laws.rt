@@ -5,7 +5,7 @@ ghost use Rattle.age_keys.specs.Laws.{PassphraseOpens};
 
 /// The passphrase that a header of [`scrypt_header`](crate::scrypt_header) was made for opens it,
 /// where the limit is no less than its work factor: nothing but the file key and running out of
-/// memory may be answered for it.
+/// memory may be returned for it.
 pub fn passphrase_opens()
     ensures { PassphraseOpens }
 {}
