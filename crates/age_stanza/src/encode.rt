@@ -117,8 +117,7 @@ pub fn encode_head(alloc: Global, header: &Header) -> Result<Vec<u8>, HeadFault>
 /// The part of a header's text that its MAC covers: from the version line up to and with the `---`
 /// of the end line, without the space that follows (<https://c2sp.org/age#header-mac>). It
 /// requires [`is_header`](crate::is_header). All memory is taken at once; the only fault is a
-/// refusal of it
-/// ([`HeadKind::Memory`](crate::HeadKind::Memory)).
+/// refusal of it ([`HeadKind::Memory`](crate::HeadKind::Memory)).
 pub fn mac_text(alloc: Global, header: &Header) -> Result<Vec<u8>, HeadFault>
     requires { HasText header.now }
     ensures text { IfOk result (λ bytes. bytes.items ≡ mac_text header.now) }
