@@ -8,16 +8,16 @@ use Rattle.age_commands.specs.Requests.{number_or}
 use Rattle.std.specs.Prelude.{ℕ}
 
 abbrev words : List Text
-words = codes "decrypt" ∷ codes "--pass=P" ∷ codes "--max-log" ∷ codes "9" ∷ codes "A" ∷ codes "B" ∷ []
+words = codes "decrypt" ∷ codes "--pass=P" ∷ codes "--max-log" ∷ codes "9" ∷ codes "--progress" ∷ codes "A" ∷ codes "B" ∷ []
 
-abbrev out_and_limit : Option (Text × List Row) → Option (Text × Option Text × Option Text × ℕ)
-out_and_limit = option_map (λ p. (p.0, first_of (codes "OUT") p.1, first_of (codes "save") p.1, number_or 22 (one_of (codes "max-log") p.1)))
+abbrev parts_asked : Option (Text × List Row) → Option (Text × Option Text × Option Text × Option Text × ℕ)
+parts_asked = option_map (λ p. (p.0, first_of (codes "OUT") p.1, first_of (codes "save") p.1, one_of (codes "progress") p.1, number_or 22 (one_of (codes "max-log") p.1)))
 
 pub words_are_taken : refusals words ≡ []
 unfolding refusals clap_on_literals age_tool encrypting decrypting resuming inspecting drilling
 words_are_taken = refl
 
-pub words_ask : out_and_limit (named words) ≡ Some (codes "decrypt", Some (codes "B"), None, 9)
+pub words_ask : parts_asked (named words) ≡ Some (codes "decrypt", Some (codes "B"), None, Some (codes "true"), 9)
 unfolding named clap_on_literals age_tool encrypting decrypting resuming inspecting drilling
 words_ask = refl
 
@@ -35,3 +35,7 @@ pub resuming_words_ask : texts_asked (codes "position" ∷ codes "old" ∷ codes
     ≡ Some (codes "resume", Some (codes "P") ∷ Some (codes "O") ∷ Some (codes "S") ∷ Some (codes "P") ∷ Some (codes "A") ∷ Some (codes "B") ∷ [])
 unfolding named clap_on_literals age_tool encrypting decrypting resuming inspecting drilling
 resuming_words_ask = refl
+
+pub resuming_words_ask_for_no_progress : option_map (λ (p : Text × List Row). one_of (codes "progress") p.1) (named resuming_words) ≡ Some None
+unfolding named clap_on_literals age_tool encrypting decrypting resuming inspecting drilling
+resuming_words_ask_for_no_progress = refl

@@ -20,11 +20,16 @@ number_rule id = record (option_rule id) { parser = Some (vp.Signed (pos 1) (pos
 abbrev pub flag_rule : Text → Rule
 flag_rule id = record (new_rule id) { long = Some id; action = Some SetTrue }
 
--- `[--pass FILE] [--file-key HEX] [--shared FILE] [--max-log N] [--save FILE] [--no-sync]`
+-- `[--no-sync] [--progress]`
+abbrev pub with_writing : App → App
+with_writing a = with_rule (with_rule a (flag_rule (codes "no-sync")))
+    (flag_rule (codes "progress"))
+
+-- `[--pass FILE] [--file-key HEX] [--shared FILE] [--max-log N] [--save FILE]`, how it writes
 abbrev pub with_unlocking : App → App
-with_unlocking a = with_rule (with_rule (with_rule (with_rule (with_rule (with_rule a
+with_unlocking a = with_writing (with_rule (with_rule (with_rule (with_rule (with_rule a
     (option_rule (codes "pass"))) (option_rule (codes "file-key"))) (option_rule (codes "shared")))
-    (number_rule (codes "max-log"))) (option_rule (codes "save"))) (flag_rule (codes "no-sync"))
+    (number_rule (codes "max-log"))) (option_rule (codes "save")))
 
 -- `IN OUT`
 abbrev pub with_both_files : App → App
@@ -32,12 +37,12 @@ with_both_files a =
     with_rule (with_rule a (required_rule (new_rule (codes "IN"))))
     (required_rule (new_rule (codes "OUT")))
 
--- `[--log N] [--random FILE] [--no-sync]`
+-- `[--log N] [--random FILE]`, how it writes
 abbrev pub with_sealing : App → App
-with_sealing a = with_rule (with_rule (with_rule a (number_rule (codes "log")))
-    (option_rule (codes "random"))) (flag_rule (codes "no-sync"))
+with_sealing a = with_writing
+    (with_rule (with_rule a (number_rule (codes "log"))) (option_rule (codes "random")))
 
--- `encrypt --pass FILE [--log N] [--random FILE] [--no-sync] IN OUT`
+-- `encrypt --pass FILE`, how the file is sealed, `IN OUT`
 unfoldable pub encrypting : App
 encrypting = with_both_files (with_sealing (with_rule (new_app (codes "encrypt"))
     (required_rule (option_rule (codes "pass")))))

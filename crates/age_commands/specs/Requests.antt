@@ -7,6 +7,8 @@ use Rattle.clap.specs.Words.{Row, Text, first_of, one_of}
 use Rattle.age_commands.specs.Asked.{Asks}
 use Rattle.age_io.specs.declared.durability.Durability.{Durability}
 use Rattle.age_io.specs.declared.durability.Durability.TheVariants.{Synced, Buffered}
+use Rattle.age_commands.specs.declared.request.Progress.{Progress}
+use Rattle.age_commands.specs.declared.request.Progress.TheVariants.{Shown, Silent}
 use Rattle.age_commands.specs.declared.request.Encrypting.{Encrypting}
 use Rattle.age_commands.specs.declared.request.Unlocking.{Unlocking}
 use Rattle.age_commands.specs.declared.request.Decrypting.{Decrypting}
@@ -27,11 +29,17 @@ pub record IsDurability (rows : List Row) (d : Durability) : Type 0 where
   pub given : one_of (codes "no-sync") rows ≡ Some (codes "true") → d ≡ Buffered
   pub none : one_of (codes "no-sync") rows ≡ None → d ≡ Synced
 
+-- `--progress` says that progress is shown
+pub record IsProgress (rows : List Row) (p : Progress) : Type 0 where
+  pub given : one_of (codes "progress") rows ≡ Some (codes "true") → p ≡ Shown
+  pub none : one_of (codes "progress") rows ≡ None → p ≡ Silent
+
 pub record IsEncrypting (rows : List Row) (e : Encrypting) : Type 0 where
   pub pass : Some e.pass.now ≡ first_of (codes "pass") rows
   pub log : e.log ≡ number_or 18 (one_of (codes "log") rows)
   pub random : text_of e.random ≡ first_of (codes "random") rows
   pub durability : IsDurability rows e.durability
+  pub progress : IsProgress rows e.progress
   pub from : Some e.from.now ≡ first_of (codes "IN") rows
   pub to : Some e.to.now ≡ first_of (codes "OUT") rows
 
@@ -45,6 +53,7 @@ pub record IsDecrypting (rows : List Row) (d : Decrypting) : Type 0 where
   pub unlocking : IsUnlocking rows d.unlocking
   pub save : text_of d.save ≡ first_of (codes "save") rows
   pub durability : IsDurability rows d.durability
+  pub progress : IsProgress rows d.progress
   pub from : Some d.from.now ≡ first_of (codes "IN") rows
   pub to : Some d.to.now ≡ first_of (codes "OUT") rows
 

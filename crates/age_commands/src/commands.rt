@@ -3,7 +3,7 @@
 ghost use Rattle.std.specs.Prelude.{◌≡◌, false, IfOk};
 ghost use Rattle.clap.specs.Words.{app_of, rule_of, new_rule, with_rule, with_subcommand, new_app, FailsBy, subcommand_rows_of};
 ghost use Rattle.clap.specs.Walk.{texts};
-ghost use Rattle.age_commands.specs.Commands.{option_rule, number_rule, flag_rule, required_rule, with_unlocking, with_sealing, with_both_files, encrypting, decrypting, resuming, inspecting, drilling, age_tool};
+ghost use Rattle.age_commands.specs.Commands.{option_rule, number_rule, flag_rule, required_rule, with_writing, with_unlocking, with_sealing, with_both_files, encrypting, decrypting, resuming, inspecting, drilling, age_tool};
 ghost use Rattle.age_commands.specs.inner.Commands.{HasApp, has_globals};
 ghost use Rattle.age_commands.specs.Asked.{refusals, named};
 
@@ -61,8 +61,16 @@ fn add<'a>(command: Command<'a>, arg: Arg<'a>) -> Result<Command<'a>, AllocError
     command.arg(arg)
 }
 
-/// The options that say what opens a file, where a stop's position goes, and whether what is
-/// written is waited for.
+/// The flags that say whether what is written is waited for, and whether progress is shown.
+fn add_writing<'a>(alloc: Global, to: Command<'a>) -> Result<Command<'a>, AllocError>
+    requires { has_globals to ≡ false }
+    ensures { IfOk result (HasApp (with_writing (app_of to.entry))) }
+{
+    let with_no_sync = add(to, flag(alloc, "no-sync", help::NO_SYNC))?;
+    add(with_no_sync, flag(alloc, "progress", help::PROGRESS))
+}
+
+/// The options that say what opens a file, where a stop's position goes, and how it is written.
 fn add_unlocking<'a>(alloc: Global, to: Command<'a>) -> Result<Command<'a>, AllocError>
     requires { has_globals to ≡ false }
     ensures { IfOk result (HasApp (with_unlocking (app_of to.entry))) }
@@ -72,17 +80,17 @@ fn add_unlocking<'a>(alloc: Global, to: Command<'a>) -> Result<Command<'a>, Allo
     let with_shared = add(with_key, option(alloc, "shared", "FILE", help::SHARED))?;
     let with_limit = add(with_shared, number(alloc, "max-log", help::MAX_LOG))?;
     let with_save = add(with_limit, option(alloc, "save", "FILE", help::SAVE))?;
-    add(with_save, flag(alloc, "no-sync", help::NO_SYNC))
+    add_writing(alloc, with_save)
 }
 
-/// The options that say how a file is sealed.
+/// The options that say how a file is sealed and written.
 fn add_sealing<'a>(alloc: Global, to: Command<'a>) -> Result<Command<'a>, AllocError>
     requires { has_globals to ≡ false }
     ensures { IfOk result (HasApp (with_sealing (app_of to.entry))) }
 {
     let with_log = add(to, number(alloc, "log", help::LOG))?;
     let with_random = add(with_log, option(alloc, "random", "FILE", help::RANDOM))?;
-    add(with_random, flag(alloc, "no-sync", help::NO_SYNC))
+    add_writing(alloc, with_random)
 }
 
 fn add_both_files<'a>(

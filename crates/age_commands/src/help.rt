@@ -102,6 +102,8 @@ a disk that OUT can't fill";
 
 pub(crate) const NO_SYNC: &str = "Don't wait until OUT has reached the disk";
 
+pub(crate) const PROGRESS: &str = "Show on standard error how much of IN was read";
+
 pub(crate) const POSITION: &str = "File with the position that the stopped run saved";
 
 pub(crate) const OLD: &str = "The output of the stopped run; not the same file as IN,

@@ -8,4 +8,4 @@ mod reading;
 mod request;
 
 pub use reading::read_request;
-pub use request::{Decrypting, Drilling, Encrypting, Request, Resuming, Unlocking};
+pub use request::{Decrypting, Drilling, Encrypting, Progress, Request, Resuming, Unlocking};

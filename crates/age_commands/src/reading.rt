@@ -4,10 +4,10 @@ ghost use Rattle.std.specs.Prelude.{◌≡◌, ◌≤◌, [], true, false, Some,
 ghost use Rattle.clap.specs.Words.{subcommand_rows_of, rows_of, found_of, one_of, first_of, FailsBy};
 ghost use Rattle.clap.specs.Walk.{texts};
 ghost use Rattle.age_commands.specs.Asked.{refusals};
-ghost use Rattle.age_commands.specs.Requests.{number_or, text_of, IsDurability, IsEncrypting, IsUnlocking, IsDecrypting, IsResuming, IsDrilling, IsRequest, Requests};
+ghost use Rattle.age_commands.specs.Requests.{number_or, text_of, IsDurability, IsProgress, IsEncrypting, IsUnlocking, IsDecrypting, IsResuming, IsDrilling, IsRequest, Requests};
 
 use crate::commands::matches_of;
-use crate::request::{Decrypting, Drilling, Encrypting, Request, Resuming, Unlocking};
+use crate::request::{Decrypting, Drilling, Encrypting, Progress, Request, Resuming, Unlocking};
 use age_io::Durability;
 use clap::{ArgMatches, Error};
 use std::alloc::Global;
@@ -56,6 +56,17 @@ fn durability(matches: &ArgMatches<'_>) -> Durability
     }
 }
 
+/// Whether progress is shown.
+fn progress(matches: &ArgMatches<'_>) -> Progress
+    ensures { IsProgress (rows_of (found_of matches.now)) result }
+{
+    if flag(matches, "progress") {
+        Progress::Shown
+    } else {
+        Progress::Silent
+    }
+}
+
 /// The command that the arguments name, with its own matches.
 fn command_of<'m, 'a>(matches: &'m ArgMatches<'a>) -> Option<(&'a str, &'m ArgMatches<'a>)>
     ensures { IfSome result
@@ -72,6 +83,7 @@ fn encrypting<'a>(matches: &ArgMatches<'a>) -> Option<Encrypting<'a>>
         log: number(matches, "log", 18)?,
         random: text(matches, "random"),
         durability: durability(matches),
+        progress: progress(matches),
         from: text(matches, "IN")?,
         to: text(matches, "OUT")?,
     })
@@ -95,6 +107,7 @@ fn decrypting<'a>(matches: &ArgMatches<'a>) -> Option<Decrypting<'a>>
         unlocking: unlocking(matches)?,
         save: text(matches, "save"),
         durability: durability(matches),
+        progress: progress(matches),
         from: text(matches, "IN")?,
         to: text(matches, "OUT")?,
     })

@@ -2,6 +2,15 @@
 
 use age_io::Durability;
 
+/// Whether progress is shown while IN is read.
+#[derive(Clone, Copy, Debug, PartialEq, Eq)]
+pub enum Progress {
+    /// How much of IN was read is shown.
+    Shown,
+    /// Nothing is shown.
+    Silent,
+}
+
 /// The arguments of `encrypt`.
 #[derive(Clone, Copy, Debug)]
 pub struct Encrypting<'a> {
@@ -13,6 +22,8 @@ pub struct Encrypting<'a> {
     pub random: Option<&'a str>,
     /// When OUT reaches the disk: later, where `--no-sync` is given.
     pub durability: Durability,
+    /// Whether progress is shown: where `--progress` is given.
+    pub progress: Progress,
     /// The path of the plaintext (IN).
     pub from: &'a str,
     /// The path of the age file (OUT).
@@ -43,6 +54,8 @@ pub struct Decrypting<'a> {
     pub save: Option<&'a str>,
     /// When OUT and the saved position reach the disk: later, where `--no-sync` is given.
     pub durability: Durability,
+    /// Whether progress is shown: where `--progress` is given.
+    pub progress: Progress,
     /// The path of the age file (IN).
     pub from: &'a str,
     /// The path of the plaintext (OUT).
