@@ -1,6 +1,6 @@
 //! Files by their names.
 
-ghost use Rattle.std.specs.Prelude.{◌≡◌, ◌≢◌, ℕ, Bool, true, false, List, [], ◌∷◌, ◌++◌, Option, Some, IfOk, IfErr, IsOkUnless, OnOk, OnErr, is_some};
+ghost use Rattle.std.specs.Prelude.{◌≡◌, ◌≢◌, ℕ, Bool, true, false, List, [], ◌∷◌, ◌++◌, Option, Some, IfOk, IfErr, IfSome, IsOkUnless, OnOk, OnErr, is_some, option_map, length};
 ghost use Rattle.age_fileset.specs.FileSet.{IsMemoryOr, CreateFails};
 ghost use Rattle.age_fileset.specs.declared.files.CreateFault.TheVariants.{Fault};
 ghost use Rattle.age_fileset.specs.Events.{Event, Opened, Created, Replaced, Closed};
@@ -79,6 +79,15 @@ pub trait FileSet {
             → (is_some (entry self.old name.now) ≡ true)
             × ((Self.In.view s).remaining ≡ entry self.old name.now)) }
         ensures faults { IfErr result (IsMemoryOr FileFault.Read) };
+
+    /// How many bytes a file that was opened still has to give, where the set can say; none of a
+    /// pipe or a terminal.
+    fn length(&self, _source: &Self::In) -> Option<u64>
+        ensures told { tells self.now ≡ true → IfSome result (λ n.
+            option_map length (Self.In.view _source.now).remaining ≡ Some n) }
+    {
+        None
+    }
 
     /// Opens a file to be written, and makes it where there is none. No entry changes until it is
     /// closed. Refuses with `Write` (27) where it can't be, with `Memory` (28), and where it is one

@@ -118,6 +118,11 @@ impl<'r> FileSet for HostFiles<'r> {
         }
     }
 
+    /// That of a regular file; of standard input none is told.
+    fn length(&self, source: &HostIn) -> Option<u64> {
+        source.length()
+    }
+
     fn create(&mut self, alloc: Global, name: &str) -> Result<HostOut, CreateFault> {
         self.log.created(name);
         let (out, identity) = match HostOut::open(alloc, self.rt, name) {

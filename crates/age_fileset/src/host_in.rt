@@ -25,6 +25,8 @@ enum Origin {
 #[derive(Drop)]
 pub struct HostIn {
     origin: Origin,
+    // How many bytes are still to come of a regular file.
+    left: Option<u64>,
     failed: u64,
 }
 
@@ -48,15 +50,24 @@ impl HostIn {
             Place::Stream(Stream::Input) => {
                 Stream::Input.check(rt)?;
                 let identity = Identity::at(rt, Stream::Input.path());
-                Ok((HostIn::new(Origin::Input(rt.stdin())), identity))
+                Ok((HostIn::new(Origin::Input(rt.stdin()), None), identity))
             }
             Place::Stream(_) => Err(io::Error::from(io::ErrorKind::Unsupported)),
             Place::Path(_) => HostIn::open_path(rt, name),
         }
     }
 
-    fn new(origin: Origin) -> HostIn {
-        HostIn { origin, failed: 0 }
+    fn new(origin: Origin, left: Option<u64>) -> HostIn {
+        HostIn {
+            origin,
+            left,
+            failed: 0,
+        }
+    }
+
+    /// How many bytes a regular file still has to give, by its length as it was opened.
+    pub(crate) fn length(&self) -> Option<u64> {
+        self.left
     }
 
     fn open_path(rt: &HostRuntime, name: &str) -> io::Result<(HostIn, Option<Identity>)> {
@@ -66,7 +77,12 @@ impl HostIn {
             return Err(io::Error::from(io::ErrorKind::IsADirectory));
         }
         let identity = Identity::of(&metadata);
-        Ok((HostIn::new(Origin::File(file)), identity))
+        let left = if metadata.is_file() {
+            Some(metadata.len())
+        } else {
+            None
+        };
+        Ok((HostIn::new(Origin::File(file), left), identity))
     }
 
     fn read(&mut self, into: &mut [u8]) -> io::Result<usize>
@@ -85,7 +101,10 @@ impl Source for HostIn {
 
     fn pull(&mut self, into: &mut [u8]) -> Result<usize, Failed> {
         match self.read(into) {
-            Ok(n) => Ok(n),
+            Ok(n) => {
+                self.left = self.left.map(|left| left.saturating_sub(n as u64));
+                Ok(n)
+            }
             Err(_) => {
                 self.failed = self.failed.saturating_add(1);
                 Err(Failed)

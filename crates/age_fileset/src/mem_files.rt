@@ -196,6 +196,13 @@ impl FileSet for MemFiles {
         }
     }
 
+    /// Exactly as many bytes as are still to come.
+    fn length(&self, source: &MemSource) -> Option<u64>
+        ensures { result ≡ Some (length source.now.left) }
+    {
+        Some(source.remaining() as u64)
+    }
+
     /// Gives a sink with the room that was given for it; the entry is made when it is closed.
     /// Refuses with `Write` (27) exactly where the name is one that can't be written.
     fn create(&mut self, alloc: Global, name: &str) -> Result<MemOut, CreateFault>

@@ -56,6 +56,13 @@ impl MemSource {
             failed: 0,
         }
     }
+
+    /// How many bytes are still to come.
+    pub fn remaining(&self) -> usize
+        ensures { result ≡ length self.now.left }
+    {
+        self.bytes.len() - self.at
+    }
 }
 
 fn copy_front(from: &[u8], into: &mut [u8], n: usize)
