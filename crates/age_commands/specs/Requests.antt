@@ -1,10 +1,10 @@
 -- What a command asks for, by what stands for each of its arguments.
-use Rattle.std.specs.Prelude.{◌≡◌, ℕ, true, false, List, Option, Some, None, codes, option_map}
+use Rattle.std.specs.Prelude.{◌≡◌, ℕ, List, Option, Some, codes, option_map, if◌then◌else◌}
 use Rattle.std.specs.Borrow.{Bor}
 use Rattle.std.specs.Option.{option_map_or}
 use Rattle.std.specs.Str.Parse.{digits_value, without_leading_plus}
 use Rattle.clap.specs.Words.{Row, Text, first_of, one_of}
-use Rattle.age_commands.specs.Asked.{Asks}
+use Rattle.age_commands.specs.Asked.{Asks, is_given}
 use Rattle.age_io.specs.declared.durability.Durability.{Durability}
 use Rattle.age_io.specs.declared.durability.Durability.TheVariants.{Synced, Buffered}
 use Rattle.age_commands.specs.declared.request.Progress.{Progress}
@@ -25,14 +25,12 @@ abbrev pub text_of : Option (Bor Text) → Option Text
 text_of = option_map (λ s. s.now)
 
 -- `--no-sync` says that what is written may reach the disk later
-pub record IsDurability (rows : List Row) (d : Durability) : Type 0 where
-  pub given : one_of (codes "no-sync") rows ≡ Some (codes "true") → d ≡ Buffered
-  pub none : one_of (codes "no-sync") rows ≡ None → d ≡ Synced
+abbrev pub IsDurability : List Row → Durability → Type 0
+IsDurability rows d = d ≡ (if is_given (codes "no-sync") rows then Buffered else Synced)
 
 -- `--progress` says that progress is shown
-pub record IsProgress (rows : List Row) (p : Progress) : Type 0 where
-  pub given : one_of (codes "progress") rows ≡ Some (codes "true") → p ≡ Shown
-  pub none : one_of (codes "progress") rows ≡ None → p ≡ Silent
+abbrev pub IsProgress : List Row → Progress → Type 0
+IsProgress rows p = p ≡ (if is_given (codes "progress") rows then Shown else Silent)
 
 pub record IsEncrypting (rows : List Row) (e : Encrypting) : Type 0 where
   pub pass : Some e.pass.now ≡ first_of (codes "pass") rows
@@ -63,8 +61,7 @@ pub record IsResuming (rows : List Row) (r : Resuming) : Type 0 where
   pub old : Some r.old.now ≡ first_of (codes "old") rows
 
 pub record IsDrilling (rows : List Row) (d : Drilling) : Type 0 where
-  pub clear : one_of (codes "clear") rows ≡ Some (codes "true") → d.clear ≡ true
-  pub sealed : one_of (codes "clear") rows ≡ None → d.clear ≡ false
+  pub clear : d.clear ≡ is_given (codes "clear") rows
   pub pass : text_of d.pass ≡ first_of (codes "pass") rows
   pub script : Some d.script.now ≡ first_of (codes "SCRIPT") rows
   pub from : Some d.from.now ≡ first_of (codes "IN") rows

@@ -1,9 +1,9 @@
 //! Reads what the arguments ask for.
 
-ghost use Rattle.std.specs.Prelude.{◌≡◌, ◌≤◌, [], true, false, Some, None, IfOk, IfErr, IfSome, codes};
+ghost use Rattle.std.specs.Prelude.{◌≡◌, ◌≤◌, Some, IfOk, IfSome};
 ghost use Rattle.clap.specs.Words.{subcommand_rows_of, rows_of, found_of, one_of, first_of, FailsBy};
 ghost use Rattle.clap.specs.Walk.{texts};
-ghost use Rattle.age_commands.specs.Asked.{refusals};
+ghost use Rattle.age_commands.specs.Asked.{refusals, is_given};
 ghost use Rattle.age_commands.specs.Requests.{number_or, text_of, IsDurability, IsProgress, IsEncrypting, IsUnlocking, IsDecrypting, IsResuming, IsDrilling, IsRequest, Requests};
 
 use crate::commands::matches_of;
@@ -38,11 +38,9 @@ fn text<'a>(matches: &ArgMatches<'a>, id: &str) -> Option<&'a str>
 
 /// Whether a flag is given.
 fn flag(matches: &ArgMatches<'_>, id: &str) -> bool
-    ensures given { one_of id.now (rows_of (found_of matches.now)) ≡ Some (codes "true")
-        → result ≡ true }
-    ensures none { one_of id.now (rows_of (found_of matches.now)) ≡ None → result ≡ false }
+    ensures { result ≡ is_given id.now (rows_of (found_of matches.now)) }
 {
-    matches.get_flag(id)
+    matches.get_one::<bool>(id).unwrap_or(false)
 }
 
 /// Whether what is written has to reach the disk before the program ends.

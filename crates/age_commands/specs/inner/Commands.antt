@@ -3,7 +3,6 @@ use Rattle.std.specs.Prelude.{◌≡◌, Bool, false}
 use Rattle.clap.specs.Words.{App, app_of}
 use Rattle.clap.specs.declared.builder.command.Command.TheViews.{out-Command}
 use Rattle.clap.specs.declared.builder.command.Command.{Command}
-use Rattle.clap.specs.declared.builder.value_parser.ValueParser.TheVariants as vp
 
 -- some option of the command reaches its subcommands
 abbrev pub has_globals : Command → Bool
