@@ -1,5 +1,5 @@
 -- The events of a command, in order.
-use Rattle.std.proofs.Common.{◌≡◌, ◌∙◌, ◌++◌, ◌∷◌, [], refl, ap, ap₂, sym, List, Option, Some, Result, Ok, Err, IfErr, append_assoc}
+use Rattle.std.proofs.Common.{◌≡◌, ◌∙◌, ◌++◌, ◌∷◌, [], refl, ap, sym, List, Option, Some, Result, Ok, Err, IfErr, append_assoc}
 use Rattle.clap.specs.Words.{Text}
 use Rattle.age_fileset.specs.Events.{Event, Created, Closed}
 use Rattle.age_cli.specs.EventOrders.{Follows, making, replacing}

@@ -7,3 +7,4 @@ pub mod StopSteps
 pub mod EventSteps
 pub mod OrderSteps
 pub mod HeadlineSteps
+pub mod PortSteps

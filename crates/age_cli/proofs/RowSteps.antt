@@ -1,9 +1,12 @@
 -- What a command did, of the arguments that ask for it.
-use Rattle.std.proofs.Common.{◌≡◌, ◌∙◌, ap, sym, subst, refl, codes, List, [], Option}
+use Rattle.std.proofs.Common.{◌≡◌, ◌∙◌, ap, sym, subst, refl, codes, List, [], Option, Bool, true, false}
+use Rattle.std.specs.Prelude.{if◌then◌else◌}
 use Rattle.std.specs.Option.{option_map_or}
 use Rattle.clap.specs.Words.{Row, Text}
-use Rattle.age_commands.specs.Asked.{Asks}
-use Rattle.age_commands.specs.Requests.{IsUnlocking, IsDecrypting, IsResuming, Requests}
+use Rattle.age_commands.specs.Asked.{Asks, AsksProgress, is_given}
+use Rattle.age_commands.specs.Requests.{IsProgress, IsUnlocking, IsDecrypting, IsResuming, Requests}
+use Rattle.age_commands.specs.declared.request.Progress.{Progress}
+use Rattle.age_commands.specs.declared.request.Progress.TheVariants.{Shown, Silent}
 use Rattle.age_commands.specs.declared.request.Request.TheVariants.{Decrypt, Resume}
 use Rattle.age_commands.specs.declared.request.Unlocking.{Unlocking}
 use Rattle.age_commands.specs.declared.request.Decrypting.{Decrypting}
@@ -58,3 +61,11 @@ pub resumes_rows : (words : List Text) (rows : List Row) (r : Resuming) (old new
     → ResumesFile (options_asked r.decrypting.unlocking) r.position.now r.old.now r.decrypting.from.now r.decrypting.to.now old new → ResumesRows rows old new
 resumes_rows words rows r old new (name, given, asked, request) asks did =
     subst (λ (t : List Row). ResumesRows t old new) (one_command words name (codes "resume") given rows asked asks) (resumes_given given r old new request.1 did)
+
+silent_without : (given : Bool) → (given ≡ true → ⊥) → (if given then Shown else Silent) ≡ Silent
+silent_without true h = absurd (h refl)
+silent_without false h = refl
+
+-- where the arguments don't ask for progress, none is shown
+pub stays_silent : (words : List Text) (p : Progress) (name : Text) (rows : List Row) → Asks words name rows → IsProgress rows p → (AsksProgress words → ⊥) → p ≡ Silent
+stays_silent words p name rows asks is unasked = is ∙ silent_without (is_given (codes "progress") rows) (λ given. unasked (name, rows, asks, given))

@@ -2,9 +2,7 @@
 use Rattle.std.specs.Prelude.{◌≡◌, ◌⊎◌, ℕ, Bool, true, false, if◌then◌else◌}
 use Rattle.age_cli.specs.declared.ending.Ending.{Ending}
 use Rattle.age_cli.specs.declared.ending.Ending.TheVariants.{Words, Usage, Fault, Unsaved}
-use Rattle.age_cli.specs.declared.ending.Usage.TheVariants as usage
 use Rattle.age_file.specs.declared.fault.FileFault.TheVariants.{Read, Write, Memory}
-use Rattle.age_fileset.specs.declared.files.CreateFault.TheVariants as create
 
 -- the command line was refused
 abbrev pub is_usage : Ending → Bool

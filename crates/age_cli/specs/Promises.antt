@@ -1,7 +1,7 @@
 -- What a run promises of the words, said once for the program and for its part that obeys them.
 -- `Done P` says that P holds where all was done, `Refused P` that it holds where the command line
 -- is bad, and `Stopped Ends` that `Ends` holds of how the run ended, where it stopped.
-use Rattle.std.specs.Prelude.{◌≡◌, ℕ, Bool, true, List, [], ◌++◌, Option, codes}
+use Rattle.std.specs.Prelude.{◌≡◌, ℕ, Bool, true, List, ◌++◌, Option, codes}
 use Rattle.clap.specs.Words.{Row, Text, first_of}
 use Rattle.age_file.specs.Ports.{Ports}
 use Rattle.age_commands.specs.Asked.{Asks}

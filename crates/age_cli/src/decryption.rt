@@ -8,6 +8,7 @@ ghost use Rattle.age_cli.specs.inner.Asking.{order_asked};
 ghost use Rattle.age_commands.specs.declared.request.Request.TheVariants.{Decrypt};
 ghost use Rattle.clap.specs.Words.{Text};
 ghost use Rattle.age_commands.specs.Requests.{text_of};
+ghost use Rattle.age_commands.specs.declared.request.Progress.TheVariants.{Silent};
 ghost use Rattle.age_cli.specs.inner.IdentitySteps.{options_asked};
 ghost use Rattle.age_cli.specs.Decryptions.{DecryptsOut, DecryptsFile};
 ghost use Rattle.age_cli.specs.Endings.{EndsEarly, is_usage};
@@ -17,44 +18,82 @@ use crate::ending::{Ending, Usage};
 use crate::identity::{Identity, identity_of, read_secret, secret_file};
 use crate::output::{create_out, leave};
 use crate::stop::{Stop, end_of};
-use age_commands::Decrypting;
-use age_file::{Positions, decrypt_with};
+use age_commands::{Decrypting, Progress};
+use age_file::{Positions, Source, decrypt_with};
 use age_fileset::FileSet;
-use age_io::Durability;
+use age_progress::{Meter, Metered};
 use std::alloc::Global;
 
-/// Decrypts the input into the output, and ends that. Where it stops before anything is written,
+/// Decrypts a source into the output, and ends that. Where it stops before anything is written,
 /// the output is as it was.
-fn write_out<F: FileSet>(
+fn write_from<F: FileSet, S: Source>(
     alloc: Global,
     files: &mut F,
-    source: &mut F::In,
-    positions: Positions,
+    source: &mut S,
     identity: &Identity<'_>,
     mut out: F::Out,
-    durability: Durability,
+    asked: &Decrypting<'_>,
 ) -> Result<(), Stop>
     ensures told { F.tells files.new ≡ F.tells files.old }
     ensures done { OnOk result (F.tells files.old ≡ true → (F.Out.view out).taken ≡ Some []
-        → DecryptsOut identity.now (F.In.view source.old).remaining
+        → DecryptsOut identity.now (S.view source.old).remaining
         (F.entry files.new (F.Out.view out).label)) }
     ensures stops { IfErr result (λ stop. F.tells files.old ≡ true
         → (F.Out.view out).taken ≡ Some []
-        → OutStops (DecryptionStop (PortsOf F.In.view F.Out.view) positions identity.now
-        (F.In.view source.old).remaining stop.position stop.fault)
-        (F.entry files.old (F.Out.view out).label) (F.entry files.new (F.Out.view out).label)
-        stop.position stop.fault) }
+        → OutStops (DecryptionStop (PortsOf S.view F.Out.view)
+        (kept_for (text_of asked.now.save)) identity.now (S.view source.old).remaining
+        stop.position stop.fault) (F.entry files.old (F.Out.view out).label)
+        (F.entry files.new (F.Out.view out).label) stop.position stop.fault) }
     ensures others { SparesBut (F.Out.view out).label (F.entry files.old) (F.entry files.new) }
     ensures noted { F.events files.new ≡ F.events files.old ++ Closed ∷ [] }
 {
+    let positions = positions_for(asked.save);
     match decrypt_with(alloc, positions, identity, source, &mut out) {
         Ok(_) => {
-            files.close(out, durability)?;
+            files.close(out, asked.durability)?;
             Ok(())
         }
         Err(stopped) => {
-            leave(files, out, stopped.written, durability);
+            leave(files, out, stopped.written, asked.durability);
             Err(Stop::from(stopped))
+        }
+    }
+}
+
+/// Decrypts the input into the output, and ends that, with progress shown where it is asked for.
+/// Where it stops before anything is written, the output is as it was.
+fn write_out<F: FileSet, P: Meter>(
+    alloc: Global,
+    files: &mut F,
+    mut source: F::In,
+    identity: &Identity<'_>,
+    out: F::Out,
+    asked: &Decrypting<'_>,
+    progress: &mut P,
+) -> Result<(), Stop>
+    ensures told { F.tells files.new ≡ F.tells files.old }
+    ensures done { OnOk result (F.tells files.old ≡ true → (F.Out.view out).taken ≡ Some []
+        → DecryptsOut identity.now (F.In.view source).remaining
+        (F.entry files.new (F.Out.view out).label)) }
+    ensures stops { IfErr result (λ stop. F.tells files.old ≡ true
+        → (F.Out.view out).taken ≡ Some []
+        → OutStops (DecryptionStop (PortsOf F.In.view F.Out.view)
+        (kept_for (text_of asked.now.save)) identity.now (F.In.view source).remaining
+        stop.position stop.fault) (F.entry files.old (F.Out.view out).label)
+        (F.entry files.new (F.Out.view out).label) stop.position stop.fault) }
+    ensures others { SparesBut (F.Out.view out).label (F.entry files.old) (F.entry files.new) }
+    ensures noted { F.events files.new ≡ F.events files.old ++ Closed ∷ [] }
+    ensures silent { asked.now.progress ≡ Silent → progress.new ≡ progress.old }
+{
+    match asked.progress {
+        Progress::Silent => write_from(alloc, files, &mut source, identity, out, asked),
+        Progress::Shown => {
+            progress.begin(files.length(&source));
+            let mut metered = Metered::new(source, &mut *progress);
+            let written = write_from(alloc, files, &mut metered, identity, out, asked);
+            drop(metered);
+            progress.end();
+            written
         }
     }
 }
@@ -115,10 +154,11 @@ pub(crate) fn positions_for(save: Option<&str>) -> Positions
 }
 
 /// Decrypts a file as asked. If it stops, its position is saved.
-pub(crate) fn decrypt_file<F: FileSet>(
+pub(crate) fn decrypt_file<F: FileSet, P: Meter>(
     alloc: Global,
     files: &mut F,
     asked: &Decrypting<'_>,
+    progress: &mut P,
 ) -> Result<(), Ending>
     ensures done { OnOk result (F.tells files.old ≡ true
         → DecryptsFile (options_asked asked.now.unlocking) asked.now.from.now asked.now.to.now
@@ -140,6 +180,7 @@ pub(crate) fn decrypt_file<F: FileSet>(
         (order_asked (Decrypt asked.now)).done (F.events files.old) (F.events files.new)) }
     ensures order_told { F.tells files.old ≡ true → IfErr result (λ e. is_usage e ≡ true → Follows
         (order_asked (Decrypt asked.now)).judged (F.events files.old) (F.events files.new)) }
+    ensures silent { asked.now.progress ≡ Silent → progress.new ≡ progress.old }
 {
     let name = secret_file(&asked.unlocking)?;
     if names_a_file_twice(files, asked) {
@@ -147,17 +188,9 @@ pub(crate) fn decrypt_file<F: FileSet>(
     }
     let secret = read_secret(alloc, files, name)?;
     let identity = identity_of(&asked.unlocking, &secret)?;
-    let mut source = files.open(alloc, asked.from)?;
+    let source = files.open(alloc, asked.from)?;
     let out = create_out(alloc, files, asked.to, asked.save, None)?;
-    match write_out(
-        alloc,
-        files,
-        &mut source,
-        positions_for(asked.save),
-        &identity,
-        out,
-        asked.durability,
-    ) {
+    match write_out(alloc, files, source, &identity, out, asked, progress) {
         Ok(()) => Ok(()),
         Err(stop) => Err(end_of(alloc, files, asked.save, stop, asked.durability)),
     }

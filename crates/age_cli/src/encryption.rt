@@ -2,6 +2,7 @@
 
 ghost use Rattle.std.specs.Prelude.{◌≡◌, ◌⊎◌, [], ◌∷◌, ◌++◌, ℕ, List, Some, true, IfOk, IfErr, IfSome, OnOk};
 ghost use Rattle.age_commands.specs.Requests.{text_of};
+ghost use Rattle.age_commands.specs.declared.request.Progress.TheVariants.{Silent};
 ghost use Rattle.age_fileset.specs.Events.{Opened, Closed};
 ghost use Rattle.age_cli.specs.EventOrders.{Follows};
 ghost use Rattle.age_cli.specs.inner.Asking.{order_asked};
@@ -16,10 +17,11 @@ ghost use Rattle.age_file.specs.declared.fault.FileFault.TheVariants.{Memory};
 use crate::ending::{Ending, Usage};
 use crate::front::read_front;
 use crate::identity::{read_pass, trimmed};
-use age_commands::Encrypting;
-use age_file::{FileFault, Secret, encrypt};
+use age_commands::{Encrypting, Progress};
+use age_file::{FileFault, Secret, Source, encrypt};
 use age_fileset::FileSet;
 use age_io::Durability;
+use age_progress::{Meter, Metered};
 use std::alloc::Global;
 
 /// Where random bytes come from if no file is named.
@@ -82,34 +84,69 @@ fn leave_sealed<F: FileSet>(files: &mut F, out: F::Out, fault: FileFault, durabi
     }
 }
 
-/// Encrypts the input into the output, and ends that.
-fn write_out<F: FileSet>(
+/// Encrypts a source into the output, and ends that.
+fn write_from<F: FileSet, S: Source>(
     alloc: Global,
     files: &mut F,
-    source: &mut F::In,
+    source: &mut S,
     secret: &Secret<'_>,
     mut out: F::Out,
-    durability: Durability,
+    asked: &Encrypting<'_>,
 ) -> Result<(), FileFault>
     ensures done { OnOk result (F.tells files.old ≡ true → (F.Out.view out).taken ≡ Some []
-        → EncryptsOut secret.now (F.In.view source.old).remaining
+        → EncryptsOut secret.now (S.view source.old).remaining
         (F.entry files.new (F.Out.view out).label)) }
     ensures stops { IfErr result (λ fault. F.tells files.old ≡ true
         → (F.Out.view out).taken ≡ Some []
-        → SealedOutStops (EncryptionStop (PortsOf F.In.view F.Out.view) secret.now
-        (F.In.view source.old).remaining fault) (F.entry files.old (F.Out.view out).label)
+        → SealedOutStops (EncryptionStop (PortsOf S.view F.Out.view) secret.now
+        (S.view source.old).remaining fault) (F.entry files.old (F.Out.view out).label)
         (F.entry files.new (F.Out.view out).label) fault) }
     ensures others { SparesBut (F.Out.view out).label (F.entry files.old) (F.entry files.new) }
     ensures noted { F.events files.new ≡ F.events files.old ++ Closed ∷ [] }
 {
     match encrypt(alloc, secret, source, &mut out) {
         Ok(_) => {
-            files.close(out, durability)?;
+            files.close(out, asked.durability)?;
             Ok(())
         }
         Err(fault) => {
-            leave_sealed(files, out, fault, durability);
+            leave_sealed(files, out, fault, asked.durability);
             Err(fault)
+        }
+    }
+}
+
+/// Encrypts the input into the output, and ends that, with progress shown where it is asked for.
+fn write_out<F: FileSet, P: Meter>(
+    alloc: Global,
+    files: &mut F,
+    mut source: F::In,
+    secret: &Secret<'_>,
+    out: F::Out,
+    asked: &Encrypting<'_>,
+    progress: &mut P,
+) -> Result<(), FileFault>
+    ensures done { OnOk result (F.tells files.old ≡ true → (F.Out.view out).taken ≡ Some []
+        → EncryptsOut secret.now (F.In.view source).remaining
+        (F.entry files.new (F.Out.view out).label)) }
+    ensures stops { IfErr result (λ fault. F.tells files.old ≡ true
+        → (F.Out.view out).taken ≡ Some []
+        → SealedOutStops (EncryptionStop (PortsOf F.In.view F.Out.view) secret.now
+        (F.In.view source).remaining fault) (F.entry files.old (F.Out.view out).label)
+        (F.entry files.new (F.Out.view out).label) fault) }
+    ensures others { SparesBut (F.Out.view out).label (F.entry files.old) (F.entry files.new) }
+    ensures noted { F.events files.new ≡ F.events files.old ++ Closed ∷ [] }
+    ensures silent { asked.now.progress ≡ Silent → progress.new ≡ progress.old }
+{
+    match asked.progress {
+        Progress::Silent => write_from(alloc, files, &mut source, secret, out, asked),
+        Progress::Shown => {
+            progress.begin(files.length(&source));
+            let mut metered = Metered::new(source, &mut *progress);
+            let written = write_from(alloc, files, &mut metered, secret, out, asked);
+            drop(metered);
+            progress.end();
+            written
         }
     }
 }
@@ -137,10 +174,11 @@ fn names_out_twice<F: FileSet>(files: &F, asked: &Encrypting<'_>) -> bool
 }
 
 /// Encrypts a file as asked.
-pub(crate) fn encrypt_file<F: FileSet>(
+pub(crate) fn encrypt_file<F: FileSet, P: Meter>(
     alloc: Global,
     files: &mut F,
     asked: &Encrypting<'_>,
+    progress: &mut P,
 ) -> Result<(), Ending>
     ensures done { OnOk result (F.tells files.old ≡ true
         → EncryptsFile asked.now.pass.now asked.now.log (text_of asked.now.random)
@@ -161,6 +199,7 @@ pub(crate) fn encrypt_file<F: FileSet>(
         (order_asked (Encrypt asked.now)).done (F.events files.old) (F.events files.new)) }
     ensures order_told { F.tells files.old ≡ true → IfErr result (λ e. is_usage e ≡ true → Follows
         (order_asked (Encrypt asked.now)).judged (F.events files.old) (F.events files.new)) }
+    ensures silent { asked.now.progress ≡ Silent → progress.new ≡ progress.old }
 {
     if names_out_twice(files, asked) {
         return Err(Ending::Usage(Usage::SameFile));
@@ -176,9 +215,9 @@ pub(crate) fn encrypt_file<F: FileSet>(
     ) else {
         return Err(Ending::Usage(Usage::BadPassphraseFile));
     };
-    let mut source = files.open(alloc, asked.from)?;
+    let source = files.open(alloc, asked.from)?;
     let out = files.create(alloc, asked.to)?;
-    match write_out(alloc, files, &mut source, &secret, out, asked.durability) {
+    match write_out(alloc, files, source, &secret, out, asked, progress) {
         Ok(()) => Ok(()),
         Err(fault) => Err(Ending::Fault(fault)),
     }

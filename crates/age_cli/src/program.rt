@@ -4,7 +4,7 @@ ghost use Rattle.std.specs.Prelude.{◌≡◌, ◌⊎◌, ◌≤◌, ℕ, List, 
 ghost use Rattle.clap.specs.Words.{Row, Text, kind_of};
 ghost use Rattle.clap.specs.Walk.{texts};
 ghost use Rattle.clap.specs.declared.error.kind.ErrorKind.TheVariants.{DisplayHelp, DisplayVersion};
-ghost use Rattle.age_commands.specs.Asked.{Asks, IsServed, refusals};
+ghost use Rattle.age_commands.specs.Asked.{Asks, AsksProgress, IsServed, refusals};
 ghost use Rattle.age_cli.specs.Promises.{Inspecting, Encrypting, Decrypting, Resuming, SparingOthers, EncryptingStops, DecryptingStops, ResumingStops, Touching, Finishing, Judging, JudgingTold};
 ghost use Rattle.age_cli.specs.Endings.{EndsEarly, is_usage};
 ghost use Rattle.age_cli.specs.Stops.{PortsOf, StopsTold};
@@ -22,6 +22,7 @@ use crate::tell::tell;
 use age_commands::{Request, read_request};
 use age_file::{FileFault, Sink, Source, flush_all, write_all};
 use age_fileset::FileSet;
+use age_progress::Meter;
 use clap::Error;
 use clap::error::ErrorKind;
 use std::alloc::Global;
@@ -47,12 +48,13 @@ fn answer_refusal<O: Sink>(alloc: Global, error: Error, output: &mut O) -> Resul
 }
 
 /// Runs the command.
-fn obey<F: FileSet, I: Source, O: Sink>(
+fn obey<F: FileSet, I: Source, O: Sink, P: Meter>(
     alloc: Global,
     words: &[&str],
     files: &mut F,
     input: &mut I,
     output: &mut O,
+    progress: &mut P,
 ) -> Result<(), Ending>
     ensures served { OnOk result (IsServed (texts words.now)) }
     ensures report { words.now ≡ [] → OnOk result
@@ -91,6 +93,7 @@ fn obey<F: FileSet, I: Source, O: Sink>(
         (F.tells files.old) (λ P. IfErr result (λ e. is_usage e ≡ true → P)) }
     ensures untouched { (refusals (texts words.now) ≡ [] → ⊥)
         → F.events files.new ≡ F.events files.old }
+    ensures silent { (AsksProgress (texts words.now) → ⊥) → progress.new ≡ progress.old }
 {
     if words.is_empty() {
         report(alloc, input, output)?;
@@ -103,9 +106,9 @@ fn obey<F: FileSet, I: Source, O: Sink>(
             report(alloc, input, output)?;
             Ok(())
         }
-        Ok(Some(Request::Encrypt(asked))) => encrypt_file(alloc, files, &asked),
-        Ok(Some(Request::Decrypt(asked))) => decrypt_file(alloc, files, &asked),
-        Ok(Some(Request::Resume(asked))) => resume_file(alloc, files, &asked),
+        Ok(Some(Request::Encrypt(asked))) => encrypt_file(alloc, files, &asked, progress),
+        Ok(Some(Request::Decrypt(asked))) => decrypt_file(alloc, files, &asked, progress),
+        Ok(Some(Request::Resume(asked))) => resume_file(alloc, files, &asked, progress),
         Ok(Some(Request::Drill(asked))) => drill_file(alloc, files, &asked, output),
         Ok(None) => Err(Ending::Usage(Usage::Unread)),
     }
@@ -119,13 +122,18 @@ fn obey<F: FileSet, I: Source, O: Sink>(
 /// `inspect FILE` it reads that file. `encrypt`, `decrypt` and `resume` read IN and write OUT.
 /// `drill` delivers the payload of IN by a script, and writes a line for each line of it. Help that
 /// is asked for goes to the output, with status 0.
-pub fn run<F: FileSet, I: Source, O: Sink, E: Sink>(
+///
+/// With `--progress`, `progress` is told how many bytes IN has, where the set of files can say so,
+/// and how many of them each pull gave, and then that the reading is over, before a fault is
+/// reported.
+pub fn run<F: FileSet, I: Source, O: Sink, E: Sink, P: Meter>(
     alloc: Global,
     words: &[&str],
     files: &mut F,
     input: &mut I,
     output: &mut O,
     faults: &mut E,
+    progress: &mut P,
 ) -> u8
     ensures status { result ≤ 2 }
     // What goes to `faults`: nothing with 0; with 1 the line of a fault, or those of two, unless
@@ -198,8 +206,10 @@ pub fn run<F: FileSet, I: Source, O: Sink, E: Sink>(
         (F.tells files.old) (λ P. result ≡ 2 → P) }
     ensures untouched { (refusals (texts words.now) ≡ [] → ⊥)
         → F.events files.new ≡ F.events files.old }
+    // Nobody is told of progress who didn't ask for it.
+    ensures silent { (AsksProgress (texts words.now) → ⊥) → progress.new ≡ progress.old }
 {
-    match obey(alloc, words, files, input, output) {
+    match obey(alloc, words, files, input, output, progress) {
         Ok(()) => 0,
         Err(ending) => {
             tell(faults, &ending);

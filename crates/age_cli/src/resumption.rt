@@ -5,11 +5,13 @@ ghost use Rattle.age_fileset.specs.Events.{Opened, Closed};
 ghost use Rattle.age_cli.specs.EventOrders.{Follows};
 ghost use Rattle.age_cli.specs.inner.Asking.{order_asked};
 ghost use Rattle.age_fileset.specs.FileSet.{IsMemoryOr};
-ghost use Rattle.age_cli.specs.Stops.{ResumptionStop, ResumesStop, OutStops, PortsOf};
+ghost use Rattle.age_cli.specs.Stops.{ResumptionStop, ResumesStop, OutStops, PortsOf, kept_for};
+ghost use Rattle.age_cli.specs.inner.Ports.{PortsOfEither};
 ghost use Rattle.age_commands.specs.declared.request.Request.TheVariants.{Resume};
 ghost use Rattle.age_cli.specs.declared.ending.Ending.TheVariants.{Fault};
 ghost use Rattle.age_file.specs.declared.fault.FileFault.TheVariants.{Read, BadPosition};
 ghost use Rattle.age_commands.specs.Requests.{text_of};
+ghost use Rattle.age_commands.specs.declared.request.Progress.TheVariants.{Silent};
 ghost use Rattle.age_cli.specs.inner.IdentitySteps.{options_asked};
 ghost use Rattle.age_cli.specs.Resumptions.{IsPositionIn, ResumesOut, ResumesFile};
 ghost use Rattle.age_cli.specs.Endings.{EndsEarly, is_usage};
@@ -21,10 +23,10 @@ use crate::front::read_up_to;
 use crate::identity::{Identity, identity_of, read_secret, secret_file};
 use crate::output::{create_out, leave};
 use crate::stop::{Stop, end_of};
-use age_commands::Resuming;
-use age_file::{FileFault, Position, Positions, resume_with};
+use age_commands::{Decrypting, Progress, Resuming};
+use age_file::{FileFault, Position, Source, resume_with};
 use age_fileset::FileSet;
-use age_io::Durability;
+use age_progress::{Meter, Metered};
 use std::alloc::Global;
 
 /// The position in a file.
@@ -48,39 +50,102 @@ fn read_position<F: FileSet>(
 }
 
 /// Writes the whole plaintext into the output, and ends that: the earlier output up to the
-/// position, and then the input's. If it stops before anything is written, the output is as it was.
-fn write_out<F: FileSet>(
+/// position, and then a source's. If it stops before anything is written, the output is as it was.
+fn write_from<F: FileSet, S: Source>(
     alloc: Global,
     files: &mut F,
-    source: &mut F::In,
+    source: &mut S,
     old: &mut F::In,
-    positions: Positions,
     identity: &Identity<'_>,
     position: &Position,
     mut out: F::Out,
-    durability: Durability,
+    wanted: &Decrypting<'_>,
 ) -> Result<(), Stop>
     ensures told { F.tells files.new ≡ F.tells files.old }
     ensures done { OnOk result (F.tells files.old ≡ true → (F.Out.view out).taken ≡ Some []
-        → ResumesOut identity.now position.now (F.In.view source.old).remaining
+        → ResumesOut identity.now position.now (S.view source.old).remaining
         (F.In.view old.old).remaining (F.entry files.new (F.Out.view out).label)) }
     ensures stops { IfErr result (λ stop. F.tells files.old ≡ true
         → (F.Out.view out).taken ≡ Some []
-        → OutStops (ResumptionStop (PortsOf F.In.view F.Out.view) positions identity.now
-        position.now (F.In.view source.old).remaining (F.In.view old.old).remaining stop.position
-        stop.fault) (F.entry files.old (F.Out.view out).label)
-        (F.entry files.new (F.Out.view out).label) stop.position stop.fault) }
+        → OutStops (ResumptionStop (PortsOfEither S.view F.In.view F.Out.view)
+        (kept_for (text_of wanted.now.save)) identity.now position.now
+        (S.view source.old).remaining (F.In.view old.old).remaining stop.position stop.fault)
+        (F.entry files.old (F.Out.view out).label) (F.entry files.new (F.Out.view out).label)
+        stop.position stop.fault) }
     ensures others { SparesBut (F.Out.view out).label (F.entry files.old) (F.entry files.new) }
     ensures noted { F.events files.new ≡ F.events files.old ++ Closed ∷ [] }
 {
+    let positions = positions_for(wanted.save);
     match resume_with(alloc, positions, identity, position, source, old, &mut out) {
         Ok(_) => {
-            files.close(out, durability)?;
+            files.close(out, wanted.durability)?;
             Ok(())
         }
         Err(stopped) => {
-            leave(files, out, stopped.written, durability);
+            leave(files, out, stopped.written, wanted.durability);
             Err(Stop::from(stopped))
+        }
+    }
+}
+
+/// Writes the whole plaintext into the output, and ends that, with progress shown where it is asked
+/// for: how much of the input was read. If it stops before anything is written, the output is as it
+/// was.
+fn write_out<F: FileSet, P: Meter>(
+    alloc: Global,
+    files: &mut F,
+    mut source: F::In,
+    old: &mut F::In,
+    identity: &Identity<'_>,
+    position: &Position,
+    out: F::Out,
+    wanted: &Decrypting<'_>,
+    progress: &mut P,
+) -> Result<(), Stop>
+    ensures told { F.tells files.new ≡ F.tells files.old }
+    ensures done { OnOk result (F.tells files.old ≡ true → (F.Out.view out).taken ≡ Some []
+        → ResumesOut identity.now position.now (F.In.view source).remaining
+        (F.In.view old.old).remaining (F.entry files.new (F.Out.view out).label)) }
+    ensures stops { IfErr result (λ stop. F.tells files.old ≡ true
+        → (F.Out.view out).taken ≡ Some []
+        → OutStops (ResumptionStop (PortsOf F.In.view F.Out.view)
+        (kept_for (text_of wanted.now.save)) identity.now position.now
+        (F.In.view source).remaining (F.In.view old.old).remaining stop.position stop.fault)
+        (F.entry files.old (F.Out.view out).label) (F.entry files.new (F.Out.view out).label)
+        stop.position stop.fault) }
+    ensures others { SparesBut (F.Out.view out).label (F.entry files.old) (F.entry files.new) }
+    ensures noted { F.events files.new ≡ F.events files.old ++ Closed ∷ [] }
+    ensures silent { wanted.now.progress ≡ Silent → progress.new ≡ progress.old }
+{
+    match wanted.progress {
+        Progress::Silent => {
+            write_from(
+                alloc,
+                files,
+                &mut source,
+                old,
+                identity,
+                position,
+                out,
+                wanted,
+            )
+        }
+        Progress::Shown => {
+            progress.begin(files.length(&source));
+            let mut metered = Metered::new(source, &mut *progress);
+            let written = write_from(
+                alloc,
+                files,
+                &mut metered,
+                old,
+                identity,
+                position,
+                out,
+                wanted,
+            );
+            drop(metered);
+            progress.end();
+            written
         }
     }
 }
@@ -105,10 +170,11 @@ fn names_one_twice<F: FileSet>(files: &F, asked: &Resuming<'_>) -> bool
 }
 
 /// Continues a decryption as asked. If it stops, its position is saved.
-pub(crate) fn resume_file<F: FileSet>(
+pub(crate) fn resume_file<F: FileSet, P: Meter>(
     alloc: Global,
     files: &mut F,
     asked: &Resuming<'_>,
+    progress: &mut P,
 ) -> Result<(), Ending>
     ensures done { OnOk result (F.tells files.old ≡ true
         → ResumesFile (options_asked asked.now.decrypting.unlocking) asked.now.position.now
@@ -132,6 +198,7 @@ pub(crate) fn resume_file<F: FileSet>(
         (order_asked (Resume asked.now)).done (F.events files.old) (F.events files.new)) }
     ensures order_told { F.tells files.old ≡ true → IfErr result (λ e. is_usage e ≡ true → Follows
         (order_asked (Resume asked.now)).judged (F.events files.old) (F.events files.new)) }
+    ensures silent { asked.now.decrypting.progress ≡ Silent → progress.new ≡ progress.old }
 {
     let wanted = &asked.decrypting;
     let name = secret_file(&wanted.unlocking)?;
@@ -142,18 +209,10 @@ pub(crate) fn resume_file<F: FileSet>(
     let identity = identity_of(&wanted.unlocking, &secret)?;
     let position = read_position(alloc, files, asked.position)?;
     let mut old = files.open(alloc, asked.old)?;
-    let mut source = files.open(alloc, wanted.from)?;
+    let source = files.open(alloc, wanted.from)?;
     let out = create_out(alloc, files, wanted.to, wanted.save, Some(asked.position))?;
     match write_out(
-        alloc,
-        files,
-        &mut source,
-        &mut old,
-        positions_for(wanted.save),
-        &identity,
-        &position,
-        out,
-        wanted.durability,
+        alloc, files, source, &mut old, &identity, &position, out, wanted, progress,
     ) {
         Ok(()) => Ok(()),
         Err(stop) => Err(end_of(alloc, files, wanted.save, stop, wanted.durability)),

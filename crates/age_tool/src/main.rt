@@ -5,6 +5,7 @@
 use age_cli::run;
 use age_file::{Reading, Writing};
 use age_fileset::HostFiles;
+use age_progress::ProgressLine;
 use std::alloc::Global;
 use std::io;
 use std::process::ExitCode;
@@ -27,6 +28,7 @@ fn run_on(rt: &HostRuntime) -> io::Result<u8> {
     let mut input = Reading::new(rt.reader());
     let mut output = Writing::new(io::writer(rt));
     let mut faults = Writing::new(rt.stderr());
+    let mut progress = ProgressLine::new(Writing::new(rt.stderr()));
     Ok(run(
         alloc,
         words.as_slice(),
@@ -34,6 +36,7 @@ fn run_on(rt: &HostRuntime) -> io::Result<u8> {
         &mut input,
         &mut output,
         &mut faults,
+        &mut progress,
     ))
 }
 

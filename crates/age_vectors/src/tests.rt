@@ -4,6 +4,7 @@ mod inspection;
 mod machine;
 mod memory;
 mod program;
+mod progress;
 mod resumption;
 mod see;
 mod shared;

@@ -4,6 +4,7 @@ use super::see::see_input;
 use age_cli::run;
 use age_file::{MemSink, MemSource};
 use age_fileset::MemFiles;
+use age_progress::ProgressLine;
 use std::alloc::Global;
 use std::process::Abort;
 use std::test::Fail;
@@ -93,6 +94,7 @@ fn a_megabyte_without_a_line(rt: HostRuntime) -> Result<(), Fail> {
         &mut source,
         &mut output,
         &mut faults,
+        &mut None::<ProgressLine<MemSink>>,
     );
     assert_eq!(rt; status, 1);
     assert_eq!(rt; output.bytes(), b"".as_slice());
@@ -121,6 +123,7 @@ fn outputs_that_fail(rt: HostRuntime) -> Result<(), Fail> {
             &mut source,
             &mut output,
             &mut faults,
+            &mut None::<ProgressLine<MemSink>>,
         );
         assert_eq!(rt; status, want);
         assert!(rt; want == 0 || faults.bytes() == b"age_tool: 27 Write\n".as_slice());
@@ -143,6 +146,7 @@ fn faults_that_cannot_be_told(rt: HostRuntime) -> Result<(), Fail> {
         &mut source,
         &mut output,
         &mut faults,
+        &mut None::<ProgressLine<MemSink>>,
     );
     assert_eq!(rt; status, 1);
     Ok(())

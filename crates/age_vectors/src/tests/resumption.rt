@@ -79,7 +79,7 @@ fn sealed(rt: &impl Abort, alloc: Global, random: Option<&[u8]>) -> Result<Vec<u
 }
 
 /// The files after a decryption that stopped when it had written so many bytes.
-fn after_a_stop(rt: &impl Abort, alloc: Global, room: usize) -> Result<MemFiles, Fail> {
+pub(super) fn after_a_stop(rt: &impl Abort, alloc: Global, room: usize) -> Result<MemFiles, Fail> {
     let mut files = files_with(alloc, room, 0)?;
     files.put(alloc, "FILE", sealed(rt, alloc, None)?)?;
     see(rt, alloc, &mut files, STOP, (1, "", WRITE))?;

@@ -1,9 +1,8 @@
-use Rattle.age_file.specs.declared.position.Positions.{Positions}
 use Rattle.std.proofs.Common.{ℕ, List, Option, ◌≡◌, ◌∙◌, ◌++◌, ◌∷◌, [], inr, ap, sym, subst, true≢false, Some}
 use Rattle.clap.specs.Words.{Text}
 use Rattle.age_cli.specs.inner.IdentitySteps.{IsSecretIn, bytes_of}
 use Rattle.age_commands.specs.Requests.{text_of}
-use Rattle.age_cli.specs.Stops.{DecryptionStop, OutStops, PortsOf}
+use Rattle.age_cli.specs.Stops.{DecryptionStop, OutStops, PortsOf, kept_for}
 use Rattle.age_cli.proofs.StopSteps.{ends_from}
 use Rattle.age_fileset.specs.Events.{Opened}
 use Rattle.age_cli.specs.EventOrders.{Follows, opening, making, replacing}
@@ -63,19 +62,18 @@ returns-clause-stops g c = λ told.
     let stop = c.in-Err.stop in
     let elsewhere : text_of d.save ≡ Some d.to.now → ⊥ = λ same. true≢false (sym (c.if-names_a_file_twice.ensures.saved_to same)) in
     let spared : new d.to.now ≡ mid d.to.now = c.end_of.ensures.others t4 d.to.now (λ e. cc) elsewhere in
-    let Engine : Positions → Option (List ℕ) → ℕ → Option (List ℕ) → Type 0 =
-    λ keep read. DecryptionStop (PortsOf g.F.In.Source.view g.F.Out.Sink.view) keep identity read stop.position stop.fault in
-    let out = subst (λ l. OutStops (Engine c.positions_for.result remaining) (made_in l) (mid l) stop.position stop.fault) made.1 (c.in-Err.ensures.stops t3 made.0) in
+    let Engine : Option (List ℕ) → ℕ → Option (List ℕ) → Type 0 =
+    λ read. DecryptionStop (PortsOf g.F.In.Source.view g.F.Out.Sink.view) (kept_for (text_of d.save)) identity read stop.position stop.fault in
+    let out = subst (λ l. OutStops (Engine remaining) (made_in l) (mid l) stop.position stop.fault) made.1 (c.in-Err.ensures.stops t3 made.0) in
     inr (record {
       identity = identity;
       opens = c.in_ok-identity.ensures (entry c.args.files.now) (subst (λ (n : Option Text). IsSecretIn (entry c.args.files.now) n (bytes_of c.in_ok-secret.secret)) c.in_ok-name.ensures.name (c.in_ok-secret.ensures.read told));
       there = ap (λ f. is_some (f d.from.now)) (sym k1) ∙ (c.in_ok-source.ensures.found t1).0;
       position = stop.position;
       fault = stop.fault;
-      output = subst (λ k. OutStops (Engine k (old d.from.now)) (old d.to.now) (new d.to.now) stop.position stop.fault) c.positions_for.ensures
-          (subst (λ o. OutStops (Engine c.positions_for.result o) (old d.to.now) (new d.to.now) stop.position stop.fault) (sym input)
-          (subst (λ o. OutStops (Engine c.positions_for.result remaining) o (new d.to.now) stop.position stop.fault) (ap (λ f. f d.to.now) k3)
-          (subst (λ o. OutStops (Engine c.positions_for.result remaining) (made_in d.to.now) o stop.position stop.fault) (sym spared) out)));
+      output = subst (λ o. OutStops (Engine o) (old d.to.now) (new d.to.now) stop.position stop.fault) (sym input)
+          (subst (λ o. OutStops (Engine remaining) o (new d.to.now) stop.position stop.fault) (ap (λ f. f d.to.now) k3)
+          (subst (λ o. OutStops (Engine remaining) (made_in d.to.now) o stop.position stop.fault) (sym spared) out));
       ends = ends_from stop.fault (text_of d.save) stop.position old mid new c.end_of.result
           (λ q named. c.in-Err.ensures.others q (λ e. elsewhere (named ∙ ap Some (e ∙ made.1))) ∙ ap (λ f. f q) k3) (c.end_of.ensures.ends t4);
     })

@@ -1,14 +1,14 @@
-use Rattle.std.proofs.Common.{◌≡◌, ◌∙◌, ap, inl, refl, sym, subst, Some, []}
+use Rattle.std.proofs.Common.{◌≡◌, ◌∙◌, inl, refl, subst, Some, []}
 use Rattle.age_file.specs.Ports.{ports}
 use Rattle.age_file.specs.declared.fault.FileFault.TheVariants.{Memory}
-use Rattle.age_cli.specs.Stops.{EncryptionStop, Leaves, PortsOf}
+use Rattle.age_cli.specs.Stops.{Leaves}
 use Rattle.age_cli.proofs.StopSteps.{sealed_nothing}
-use Rattle.age_cli.proofs.encryption.write_out.Goals as goal
+use Rattle.age_cli.proofs.encryption.write_from.Goals as goal
 
 pub returns-in-Err-clause-stops : goal.returns-in-Err-clause-stops
 returns-in-Err-clause-stops g c = λ told empty.
     let entry = g.F.FileSet.entry in
-    let In = g.F.In.Source in
+    let In = g.S.Source in
     let Out = g.F.Out.Sink in
     let fault = c.in-Err.fault in
     let new = (Out.view c.encrypt.new.writer).taken in

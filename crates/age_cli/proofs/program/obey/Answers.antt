@@ -13,6 +13,7 @@ use Rattle.age_cli.specs.Orders.{Order}
 use Rattle.age_cli.proofs.EventSteps.{every_fault, none_done}
 use Rattle.age_cli.proofs.OrderSteps.{asked_order}
 use Rattle.age_commands.proofs.Simple.{no_command}
+use Rattle.age_cli.proofs.RowSteps.{stays_silent}
 use Rattle.age_cli.proofs.RowSteps.{decrypts_rows, resumes_rows}
 use Rattle.age_cli.proofs.program.obey.Goals as goal
 
@@ -290,3 +291,24 @@ returns-in_err-report-clause-resumes_stop g c =
 pub returns-in-Err-clause-resumes_stop : goal.returns-in-Err-clause-resumes_stop
 returns-in-Err-clause-resumes_stop g c = λ rows asks told.
     IfErr-weaker c.answer_refusal.result _ _ (λ e early. inl (refl, inl early)) c.answer_refusal.ensures.early
+
+pub returns-in-Ok-Some-Encrypt-clause-silent : goal.returns-in-Ok-Some-Encrypt-clause-silent
+returns-in-Ok-Some-Encrypt-clause-silent g c = λ unasked.
+    let w = texts c.args.words.now in
+    let here = c.in-Ok-Some-Encrypt in
+    let request = subst (λ (o : Option Request). IfSome o (Requests w)) (here.field-0-is ∙ ap Some here.field-0-0-is) here.ensures.asked in
+    c.encrypt_file.ensures.silent (stays_silent w _ (request.0) request.1 request.2 request.3.1.progress unasked)
+
+pub returns-in-Ok-Some-Decrypt-clause-silent : goal.returns-in-Ok-Some-Decrypt-clause-silent
+returns-in-Ok-Some-Decrypt-clause-silent g c = λ unasked.
+    let w = texts c.args.words.now in
+    let here = c.in-Ok-Some-Decrypt in
+    let request = subst (λ (o : Option Request). IfSome o (Requests w)) (here.field-0-is ∙ ap Some here.field-0-0-is) here.ensures.asked in
+    c.decrypt_file.ensures.silent (stays_silent w _ (request.0) request.1 request.2 request.3.1.progress unasked)
+
+pub returns-in-Ok-Some-Resume-clause-silent : goal.returns-in-Ok-Some-Resume-clause-silent
+returns-in-Ok-Some-Resume-clause-silent g c = λ unasked.
+    let w = texts c.args.words.now in
+    let here = c.in-Ok-Some-Resume in
+    let request = subst (λ (o : Option Request). IfSome o (Requests w)) (here.field-0-is ∙ ap Some here.field-0-0-is) here.ensures.asked in
+    c.resume_file.ensures.silent (stays_silent w _ (request.0) request.1 request.2 request.3.1.decrypting.progress unasked)

@@ -6,8 +6,7 @@ use Rattle.age_cli.specs.inner.IdentitySteps.{IsSecretIn, bytes_of}
 use Rattle.age_commands.specs.Requests.{text_of}
 use Rattle.age_fileset.specs.Events.{Opened}
 use Rattle.age_cli.specs.EventOrders.{Follows, making, replacing}
-use Rattle.age_cli.specs.Stops.{ResumptionStop, OutStops, PortsOf}
-use Rattle.age_file.specs.declared.position.Positions.{Positions}
+use Rattle.age_cli.specs.Stops.{ResumptionStop, OutStops, PortsOf, kept_for}
 use Rattle.age_cli.proofs.StopSteps.{ends_from}
 use Rattle.age_cli.proofs.EventSteps.{every_fault, stop_follows, three_events, unmade, longer}
 use Rattle.age_cli.proofs.resumption.resume_file.Goals as goal
@@ -83,10 +82,9 @@ returns-clause-stops g c = λ told.
     let stop = c.in-Err.stop in
     let elsewhere : text_of d.save ≡ Some d.to.now → ⊥ = λ same. true≢false (sym (c.if-names_one_twice.ensures.saved_to same)) in
     let spared : new d.to.now ≡ mid d.to.now = c.end_of.ensures.others t6 d.to.now (λ e. cc) elsewhere in
-    let Engine : Positions → Option (List ℕ) → Option (List ℕ) → ℕ → Option (List ℕ) → Type 0 =
-    λ keep i o. ResumptionStop (PortsOf g.F.In.Source.view g.F.Out.Sink.view) keep identity position i o stop.position stop.fault in
-    let kept = c.positions_for.result in
-    let out = subst (λ l. OutStops (Engine kept read old_read) (made_in l) (mid l) stop.position stop.fault) made.1 (c.in-Err.ensures.stops t5 made.0) in
+    let Engine : Option (List ℕ) → Option (List ℕ) → ℕ → Option (List ℕ) → Type 0 =
+    λ i o. ResumptionStop (PortsOf g.F.In.Source.view g.F.Out.Sink.view) (kept_for (text_of d.save)) identity position i o stop.position stop.fault in
+    let out = subst (λ l. OutStops (Engine read old_read) (made_in l) (mid l) stop.position stop.fault) made.1 (c.in-Err.ensures.stops t5 made.0) in
     inr (record {
       identity = identity;
       opens = c.in_ok-identity.ensures (entry c.args.files.now) (subst (λ (n : Option Text). IsSecretIn (entry c.args.files.now) n (bytes_of c.in_ok-secret.secret)) c.in_ok-name.ensures.name (c.in_ok-secret.ensures.read told));
@@ -96,11 +94,10 @@ returns-clause-stops g c = λ told.
       old_there = ap (λ f. is_some (f r.old.now)) (sym k2) ∙ (c.in_ok-old.ensures.found t2).0;
       position = stop.position;
       fault = stop.fault;
-      output = subst (λ k. OutStops (Engine k (old d.from.now) (old r.old.now)) (old d.to.now) (new d.to.now) stop.position stop.fault) c.positions_for.ensures
-          (subst (λ i. OutStops (Engine kept i (old r.old.now)) (old d.to.now) (new d.to.now) stop.position stop.fault) (sym input)
-          (subst (λ o. OutStops (Engine kept read o) (old d.to.now) (new d.to.now) stop.position stop.fault) (sym old_text)
-          (subst (λ o. OutStops (Engine kept read old_read) o (new d.to.now) stop.position stop.fault) (ap (λ f. f d.to.now) k5)
-          (subst (λ o. OutStops (Engine kept read old_read) (made_in d.to.now) o stop.position stop.fault) (sym spared) out))));
+      output = subst (λ i. OutStops (Engine i (old r.old.now)) (old d.to.now) (new d.to.now) stop.position stop.fault) (sym input)
+          (subst (λ o. OutStops (Engine read o) (old d.to.now) (new d.to.now) stop.position stop.fault) (sym old_text)
+          (subst (λ o. OutStops (Engine read old_read) o (new d.to.now) stop.position stop.fault) (ap (λ f. f d.to.now) k5)
+          (subst (λ o. OutStops (Engine read old_read) (made_in d.to.now) o stop.position stop.fault) (sym spared) out)));
       ends = ends_from stop.fault (text_of d.save) stop.position old mid new c.end_of.result
           (λ q named. c.in-Err.ensures.others q (λ e. elsewhere (named ∙ ap Some (e ∙ made.1))) ∙ ap (λ f. f q) k5) (c.end_of.ensures.ends t6);
     })
