@@ -1,5 +1,6 @@
 -- What a meter was told.
-use Rattle.std.specs.Prelude.{ℕ, ◌+◌, ◌-◌, ◌^◌, min, Option, None, Some, option_map, Result, Ok, Err}
+use Rattle.std.specs.Prelude.{ℕ, ◌+◌, ◌-◌, ◌^◌, min, Option, None, Some, option_map, Result, Ok}
+use Rattle.std.specs.Prelude.{Err}
 
 -- a count after so many bytes more; it stays at the greatest value of its type
 abbrev pub with_more : ℕ → ℕ → ℕ
