@@ -60,11 +60,9 @@ impl<O: Sink> Meter for ProgressLine<O> {
 
     /// Writes nothing.
     fn begin(&mut self, length: Option<u64>)
-        ensures { self.new ≡ record self.old {
-          length = length;
-          count = 0;
-          next = first_mark length;
-        } }
+        ensures next { self.new.next ≡ first_mark length }
+        ensures begun { self.new
+            ≡ record self.old { length = length; count = 0; next = self.new.next } }
     {
         self.length = length;
         self.count = 0;
@@ -78,6 +76,9 @@ impl<O: Sink> Meter for ProgressLine<O> {
     fn advance(&mut self, bytes: u64)
         ensures quiet { is_due self.old.length self.old.next self.new.count ≡ false
             → self.new ≡ record self.old { count = with_more bytes self.old.count } }
+        ensures line { is_due self.old.length self.old.next self.new.count ≡ true
+            → Shows (O.view self.old.sink) (line self.old.length self.new.count)
+            (O.view self.new.sink) }
         ensures due { is_due self.old.length self.old.next self.new.count ≡ true
             → self.new ≡ record self.old {
               sink = self.new.sink;
@@ -85,9 +86,6 @@ impl<O: Sink> Meter for ProgressLine<O> {
               next = mark self.old.length self.new.count + 1;
               shown = true;
             } }
-        ensures line { is_due self.old.length self.old.next self.new.count ≡ true
-            → Shows (O.view self.old.sink) (line self.old.length self.new.count)
-            (O.view self.new.sink) }
     {
         self.count = self.count.saturating_add(bytes);
         let mark = mark_of(self.length, self.count);
