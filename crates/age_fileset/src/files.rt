@@ -1,6 +1,8 @@
 //! Files by their names.
 
-ghost use Rattle.std.specs.Prelude.{◌≡◌, ◌≢◌, ℕ, Bool, true, false, List, [], ◌∷◌, ◌++◌, Option, Some, IfOk, IfErr, IfSome, IsOkUnless, OnOk, OnErr, is_some, option_map, length};
+ghost use Rattle.std.specs.Prelude.{◌≡◌, ◌≢◌, ℕ, Bool, true, false, List, [], ◌∷◌, ◌++◌, Option};
+ghost use Rattle.std.specs.Prelude.{Some, IfOk, IfErr, IfSome, IsOkUnless, OnOk, OnErr, is_some};
+ghost use Rattle.std.specs.Prelude.{option_map, length};
 ghost use Rattle.age_fileset.specs.FileSet.{IsMemoryOr, CreateFails};
 ghost use Rattle.age_fileset.specs.declared.files.CreateFault.TheVariants.{Fault};
 ghost use Rattle.age_fileset.specs.Events.{Event, Opened, Created, Replaced, Closed};

@@ -61,7 +61,7 @@ impl MemSource {
     pub fn remaining(&self) -> usize
         ensures { result ≡ length self.now.left }
     {
-        self.bytes.len() - self.at
+        self.bytes[self.at..].len()
     }
 }
 

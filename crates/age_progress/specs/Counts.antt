@@ -1,5 +1,5 @@
 -- What a meter was told.
-use Rattle.std.specs.Prelude.{ℕ, ◌+◌, ◌-◌, ◌^◌, min, Option, None, Some, option_map, Result, Ok, Err}
+use Rattle.std.specs.Prelude.{ℕ, ◌+◌, ◌-◌, ◌^◌, min, Option, option_map, Result, Ok, Err}
 
 -- a count after so many bytes more; it stays at the greatest value of its type
 abbrev pub with_more : ℕ → ℕ → ℕ
@@ -17,8 +17,3 @@ begun told = option_map (λ _. 0) told
 abbrev pub pulled : {E : Type 0} → Result ℕ E → Option ℕ → Option ℕ
 pulled (Ok bytes) told = counted bytes told
 pulled (Err failed) told = told
-
--- what the meter that is there was told, where one is there
-abbrev pub told_of : {M : Type 0} → (M → Option ℕ) → Option M → Option ℕ
-told_of told None = None
-told_of told (Some meter) = told meter

@@ -1,7 +1,7 @@
 //! Who is told how far a run is.
 
-ghost use Rattle.std.specs.Prelude.{◌≡◌, ℕ, Option};
-ghost use Rattle.age_progress.specs.Counts.{begun, counted, told_of};
+ghost use Rattle.std.specs.Prelude.{◌≡◌, ℕ, Option, option_and_then};
+ghost use Rattle.age_progress.specs.Counts.{begun, counted};
 
 /// Is told how far a run is, and answers nothing. Who is generic over one can do no more than tell
 /// it counts.
@@ -41,7 +41,7 @@ impl<M: Meter> Meter for &mut M {
 
 /// A meter, where one is wanted; `None` is told nothing.
 impl<M: Meter> Meter for Option<M> {
-    ghost told = { told_of M.told };
+    ghost told = { option_and_then M.told };
 
     fn begin(&mut self, length: Option<u64>) {
         if let Some(meter) = self {

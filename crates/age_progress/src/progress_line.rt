@@ -1,6 +1,7 @@
 //! A meter that shows how far a run is.
 
-ghost use Rattle.std.specs.Prelude.{◌≡◌, ℕ, ◌+◌, Option, None, Some, true, false, ◌||◌, if◌then◌else◌, codes};
+ghost use Rattle.std.specs.Prelude.{◌≡◌, ℕ, ◌+◌, Option, None, Some, true, false, ◌||◌};
+ghost use Rattle.std.specs.Prelude.{if◌then◌else◌, codes};
 ghost use Rattle.age_progress.specs.Counts.{with_more};
 ghost use Rattle.age_progress.specs.Lines.{line, mark, first_mark, is_due, Shows};
 
@@ -28,7 +29,13 @@ pub struct ProgressLine<O: Sink> {
 impl<O: Sink> ProgressLine<O> {
     /// A line in this sink, for a run whose length isn't known before it begins.
     pub fn new(sink: O) -> ProgressLine<O>
-        ensures { result ≡ record { sink = sink; length = None; count = 0; next = 1; shown = false } }
+        ensures { result ≡ record {
+          sink = sink;
+          length = None;
+          count = 0;
+          next = 1;
+          shown = false;
+        } }
     {
         ProgressLine {
             sink,
@@ -53,11 +60,9 @@ impl<O: Sink> Meter for ProgressLine<O> {
 
     /// Writes nothing.
     fn begin(&mut self, length: Option<u64>)
-        ensures { self.new ≡ record self.old {
-          length = length;
-          count = 0;
-          next = first_mark length;
-        } }
+        ensures next { self.new.next ≡ first_mark length }
+        ensures begun { self.new
+            ≡ record self.old { length = length; count = 0; next = self.new.next } }
     {
         self.length = length;
         self.count = 0;
@@ -69,17 +74,18 @@ impl<O: Sink> Meter for ProgressLine<O> {
 
     /// Writes a line, where one is due.
     fn advance(&mut self, bytes: u64)
-        ensures count { self.new.count ≡ with_more bytes self.old.count }
-        ensures length { self.new.length ≡ self.old.length }
         ensures quiet { is_due self.old.length self.old.next self.new.count ≡ false
             → self.new ≡ record self.old { count = with_more bytes self.old.count } }
-        ensures next { is_due self.old.length self.old.next self.new.count ≡ true
-            → self.new.next ≡ mark self.old.length self.new.count + 1 }
-        ensures shown { is_due self.old.length self.old.next self.new.count ≡ true
-            → self.new.shown ≡ true }
         ensures line { is_due self.old.length self.old.next self.new.count ≡ true
             → Shows (O.view self.old.sink) (line self.old.length self.new.count)
             (O.view self.new.sink) }
+        ensures due { is_due self.old.length self.old.next self.new.count ≡ true
+            → self.new ≡ record self.old {
+              sink = self.new.sink;
+              count = with_more bytes self.old.count;
+              next = mark self.old.length self.new.count + 1;
+              shown = true;
+            } }
     {
         self.count = self.count.saturating_add(bytes);
         let mark = mark_of(self.length, self.count);
@@ -92,9 +98,8 @@ impl<O: Sink> Meter for ProgressLine<O> {
 
     /// Ends the line, where one was shown.
     fn end(&mut self)
-        ensures count { self.new.count ≡ self.old.count }
         ensures quiet { self.old.shown ≡ false → self.new ≡ self.old }
-        ensures shown { self.new.shown ≡ false }
+        ensures ended { self.new ≡ record self.old { sink = self.new.sink; shown = false } }
         ensures line { self.old.shown ≡ true
             → Shows (O.view self.old.sink) (codes "\n") (O.view self.new.sink) }
     {
