@@ -15,8 +15,8 @@ use age_io::Sink;
 ///
 /// Where the length is known a line is due as the percentage rises, and otherwise with each 64 MiB.
 /// A contract sees the sink, the length, how many bytes were told, the percentage or the number of
-/// times 64 MiB at which the next line is due, and whether one was shown. What the sink fails to
-/// take is left out.
+/// times 64 MiB at which the next line is due, and whether there is a line to end. What the sink
+/// fails to take is left out.
 #[derive(Debug, Drop)]
 pub struct ProgressLine<O: Sink> {
     sink: O,
@@ -96,7 +96,7 @@ impl<O: Sink> Meter for ProgressLine<O> {
         }
     }
 
-    /// Ends the line, where one was shown.
+    /// Ends the line with a line feed, where one was due.
     fn end(&mut self)
         ensures quiet { self.old.shown ≡ false → self.new ≡ self.old }
         ensures ended { self.new ≡ record self.old { sink = self.new.sink; shown = false } }
