@@ -11,13 +11,15 @@ use crate::fault::FileFault;
 use crate::reader::Reader;
 use age_io::Source;
 use age_stanza::{HeadParser, HeadStep, Header};
+use sha2::{Digest, Sha256};
 use std::alloc::Global;
 
-/// A header that was read, and its length in bytes.
+/// A header that was read, the length of its text in bytes, and the digest that was fed the text.
 #[derive(Drop)]
 pub(crate) struct Head {
     pub(crate) header: Header,
     pub(crate) len: u64,
+    pub(crate) digest: Sha256,
 }
 
 /// Reads a header. The bytes that follow it and were pulled with it are left in the intake.
@@ -41,17 +43,25 @@ pub(crate) fn read_head<S: Source>(
     ensures same { SameReader reader.old reader.new }
 {
     let mut parser = HeadParser::new(alloc);
+    let mut digest = Sha256::new();
     let mut len = 0;
     'pieces: while reader.intake.refill(reader.source)? {
-        match parser.feed(reader.intake.bytes())? {
+        let piece = reader.intake.bytes();
+        match parser.feed(piece)? {
             HeadStep::More => {
-                len += reader.intake.bytes().len() as u64;
+                len += piece.len() as u64;
+                digest.update(piece);
                 reader.intake.use_all();
             }
             HeadStep::Ready { taken, header } => {
                 len += taken as u64;
+                digest.update(&piece[..taken]);
                 reader.intake.use_front(taken);
-                return Ok(Head { header, len });
+                return Ok(Head {
+                    header,
+                    len,
+                    digest,
+                });
             }
         }
     }

@@ -11,7 +11,7 @@ use crate::position::file_id;
 use crate::reader::Reader;
 use age_io::Source;
 use age_keys::{FileKey, Unlock, open_header};
-use age_stanza::{encode_head, one_header};
+use age_stanza::one_header;
 use std::alloc::Global;
 
 /// What a file's payload is opened with.
@@ -91,10 +91,9 @@ pub(crate) fn start<U: Unlock, S: Source>(
     ensures same { SameReader reader.old reader.new }
 {
     one_header();
-    let header = read_head(alloc, reader)?.header;
-    let key = open_header(alloc, &header, unlock)?;
-    let front = encode_head(alloc, &header)?;
+    let head = read_head(alloc, reader)?;
+    let key = open_header(alloc, &head.header, unlock)?;
     let nonce = take_nonce(reader)?;
-    let id = file_id(front.as_slice(), &nonce);
+    let id = file_id(head.digest, &nonce);
     Ok(Unlocked { key, nonce, id })
 }

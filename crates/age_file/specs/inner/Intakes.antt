@@ -1,6 +1,7 @@
 -- What pulls into the intake did. What only the private parts of the engines cite.
 use Rattle.std.specs.Prelude.{◌≡◌, ℕ, ◌+◌, ◌*◌, ◌^◌, ◌<◌, ◌≤◌, List, [], ◌++◌, length, Option, Result, Ok, Err, Bool, true, false}
 use Rattle.std.specs.Io.KnownBytes.{Consumes, IsAtEnd}
+use Rattle.sha2.specs.Hashers.{Holds256}
 use Rattle.age_stanza.specs.Grammar.{HeadText}
 use Rattle.age_file.specs.Faults.{HasRisen, NeverEnds}
 use Rattle.age_file.specs.inner.Unread.{Unread}
@@ -43,6 +44,7 @@ pub record ReadsHead (old new : Option (List ℕ)) (unread : Unread) (head : Hea
   pub front : List ℕ
   pub text : HeadText head.header front
   pub len_is : head.len ≡ length front
+  pub hashed : Holds256 head.digest front
   pub pulled : Pulled old new unread.pulls (front ++ unread.bytes)
 
 -- the rest of a source was read to its end: so many bytes, those in the intake among them
