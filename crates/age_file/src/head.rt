@@ -4,7 +4,7 @@ ghost use Rattle.std.specs.Prelude.{◌≡◌, ◌≢◌, [], IfOk, IfErr, OnOk}
 ghost use Rattle.age_file.specs.declared.fault.FileFault.TheVariants.{Memory};
 ghost use Rattle.age_file.specs.Faults.{HeadFails, StopsAtHeader};
 ghost use Rattle.age_file.specs.inner.Faults.{IsInHeader};
-ghost use Rattle.age_file.specs.inner.Readers.{SameReader};
+ghost use Rattle.age_file.specs.inner.Readers.{side_of, SameReader};
 ghost use Rattle.age_file.specs.inner.Intakes.{ReadsHead};
 
 use crate::fault::FileFault;
@@ -28,15 +28,14 @@ pub(crate) fn read_head<S: Source>(
     reader: &mut Reader<'_, S>,
 ) -> Result<Head, FileFault>
     requires { (reader.old.intake.now.bytes ≡ []) × (reader.old.intake.now.pulls ≡ 0) }
-    ensures found { IfOk result (ReadsHead (S.view reader.old.source.now).remaining
-        (S.view reader.new.source.now).remaining reader.new.intake.now) }
+    ensures found { IfOk result (ReadsHead (S.view reader.old.source.now)
+        (side_of S.view reader.new)) }
     ensures last { OnOk result (StopsAtHeader (S.view reader.old.source.now).remaining
         (S.view reader.new.source.now).remaining) }
     ensures unfailed { OnOk result ((S.view reader.new.source.now).failed ≡
         (S.view reader.old.source.now).failed) }
-    ensures fails { IfErr result (HeadFails (S.view reader.old.source.now).remaining
-        (S.view reader.new.source.now).remaining (S.view reader.old.source.now).failed
-        (S.view reader.new.source.now).failed) }
+    ensures fails { IfErr result (HeadFails (S.view reader.old.source.now)
+        (S.view reader.new.source.now)) }
     ensures early { IfErr result (λ fault. fault ≢ Memory
         → IsInHeader (S.view reader.old.source.now).remaining
         (S.view reader.new.source.now).remaining) }

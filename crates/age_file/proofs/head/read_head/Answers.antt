@@ -1,4 +1,4 @@
-use Rattle.std.proofs.Common.{◌≡◌, ◌∙◌, sym, ap, ◌++◌, length, take, arith, rules}
+use Rattle.std.proofs.Common.{◌++◌, take, arith, rules}
 use Rattle.std.proofs.lemmas.Result.{err_from_is_err_and}
 use Rattle.std.proofs.lemmas.List.{length-append, length-take}
 use Rattle.age_file.proofs.Bytes.{piece_fails, piece_early, end_fails, stops_at, stops_at_held, cut_pulled, head_pulled}
@@ -10,7 +10,7 @@ returns-clause-fails g c =
     let r = rw c.if-branch.false at c.in_ok-refill.ensures in
     let cuts = rw kept.parser_is at c.end.ensures in
     let all = cut_pulled _ _ _ kept.held _ r.answered.0 (r.pulled _ kept.held kept.pulled) in
-    rw c.from.ensures (end_fails _ _ _ _ kept.held c.end.result (stops_at_held _ _ kept.held all.consumed kept.none kept.sound) all.consumed r.answered.2 cuts.2 (cuts.3, kept.short, cuts.0))
+    rw c.from.ensures (end_fails _ _ kept.held c.end.result (stops_at_held _ _ kept.held all.consumed kept.none kept.sound) all.consumed r.answered.2 cuts.2 (cuts.3, kept.short, cuts.0))
 
 pub returns-in-Ready-clause-found : goal.returns-in-Ready-clause-found
 returns-in-Ready-clause-found g c =
@@ -37,7 +37,7 @@ returns-in_err-feed-clause-fails g c =
     let kept = c.pieces.invariant in
     let feeds = rw kept.parser_is at c.in_err-feed.ensures in
     let all = rw (← c.bytes-piece.ensures.bytes) at (c.refill.ensures.pulled _ kept.held kept.pulled) in
-    rw (p.1, p.2) (piece_fails _ _ _ _ kept.held c.bytes-piece.result.now c.in_err-feed.field-0.0 c.bytes-piece.ensures.most kept.none kept.sound all.consumed feeds.1)
+    rw (p.1, p.2) (piece_fails _ _ kept.held c.bytes-piece.result.now c.in_err-feed.field-0.0 c.bytes-piece.ensures.most kept.none kept.sound all.consumed feeds.1)
 
 pub returns-in_err-refill-clause-early : goal.returns-in_err-refill-clause-early
 returns-in_err-refill-clause-early g c =
