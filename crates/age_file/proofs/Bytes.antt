@@ -4,6 +4,7 @@ use Rattle.std.proofs.lemmas.Bool.{cases_lt}
 use Rattle.std.specs.Prelude.{◌⊎◌, ◌≢◌, MatchResult, IfErr}
 use Rattle.std.specs.Io.KnownBytes.{Consumes, Appends, Keeps, IsAtEnd}
 use Rattle.std.proofs.lemmas.List.{append_cancel_left, length-append, take-append-drop}
+use Rattle.age_io.specs.Views.{SourceView}
 use Rattle.age_stanza.specs.declared.fault.HeadFault.{HeadFault}
 use Rattle.age_stanza.specs.declared.fault.HeadKind.{HeadKind}
 use Rattle.age_stanza.specs.declared.fault.HeadKind.TheVariants.{NotAge, Armored, BadStanzaLine, BadBody, BadEndLine, NoStanza, HeadTooLong, HeadCut, Memory}
@@ -65,16 +66,16 @@ stops_unread a =
     stops_at_held a a [] (Consumes-nil a) (none_held [] (omega arith) started.goes_on) (no_fault [] started.are_bytes started.goes_on)
 
 -- a fault that the bytes have is the fault that is told
-fails_by_kind : (old new : Option (List ℕ)) (i j : ℕ) (kind : HeadKind) (fault : HeadFault) → StopsAtHeader old new → TellsFault old new fault → HeadFails old new i j (fault_by_kind kind fault)
-fails_by_kind old new i j NotAge fault stops told = told
-fails_by_kind old new i j Armored fault stops told = told
-fails_by_kind old new i j BadStanzaLine fault stops told = told
-fails_by_kind old new i j BadBody fault stops told = told
-fails_by_kind old new i j BadEndLine fault stops told = told
-fails_by_kind old new i j NoStanza fault stops told = told
-fails_by_kind old new i j HeadTooLong fault stops told = told
-fails_by_kind old new i j HeadCut fault stops told = told
-fails_by_kind old new i j Memory fault stops told = stops
+fails_by_kind : (old new : SourceView) (kind : HeadKind) (fault : HeadFault) → StopsAtHeader old.remaining new.remaining → TellsFault old.remaining new.remaining fault → HeadFails old new (fault_by_kind kind fault)
+fails_by_kind old new NotAge fault stops told = told
+fails_by_kind old new Armored fault stops told = told
+fails_by_kind old new BadStanzaLine fault stops told = told
+fails_by_kind old new BadBody fault stops told = told
+fails_by_kind old new BadEndLine fault stops told = told
+fails_by_kind old new NoStanza fault stops told = told
+fails_by_kind old new HeadTooLong fault stops told = told
+fails_by_kind old new HeadCut fault stops told = told
+fails_by_kind old new Memory fault stops told = stops
 
 -- what is told of the bytes that were read is told of all that the source had
 whole_fault : (old new : Option (List ℕ)) (bytes : List ℕ) (fault : HeadFault) → Consumes old new bytes → (HasHeader bytes → ⊥) → IsFault bytes fault → IsSourcesFault old fault
@@ -92,17 +93,18 @@ whole_cut (Some all) (Some rest) bytes fault consumed ended none unwritten =
     subst (λ (t : List ℕ). IsHeadFault t fault) (sym same) (none, inr unwritten)
 
 -- the input ended inside the header
-pub end_fails : (old new : Option (List ℕ)) (i j : ℕ) (bytes : List ℕ) (fault : HeadFault) → StopsAtHeader old new → Consumes old new bytes → IsAtEnd new → (HasHeader bytes → ⊥) → IsCut bytes fault → HeadFails old new i j (fault_of fault)
-end_fails old new i j bytes fault stops consumed ended none unwritten =
-    fails_by_kind old new i j fault.kind fault stops (record { bytes = bytes; consumed = consumed; no_header = none; told = inr (ended, unwritten); of_all = whole_cut old new bytes fault consumed ended none unwritten })
+pub end_fails : (old new : SourceView) (bytes : List ℕ) (fault : HeadFault) → StopsAtHeader old.remaining new.remaining → Consumes old.remaining new.remaining bytes → IsAtEnd new.remaining → (HasHeader bytes → ⊥) → IsCut bytes fault
+    → HeadFails old new (fault_of fault)
+end_fails old new bytes fault stops consumed ended none unwritten =
+    fails_by_kind old new fault.kind fault stops (record { bytes = bytes; consumed = consumed; no_header = none; told = inr (ended, unwritten); of_all = whole_cut old.remaining new.remaining bytes fault consumed ended none unwritten })
 
 -- a piece that was refused
-pub piece_fails : (old new : Option (List ℕ)) (i j : ℕ) (held piece : List ℕ) (fault : HeadFault) → length piece ≤ 65536 → (HasHeader held → ⊥) → NoFault held → Consumes old new (held ++ piece)
-    → (fault ≡ memory_fault) ⊎ ((HasHeader (held ++ piece) → ⊥) × IsFault (held ++ piece) fault) → HeadFails old new i j (fault_of fault)
-piece_fails old new i j held piece fault most none sound consumed (inl memory) =
-    subst (λ (f : HeadFault). HeadFails old new i j (fault_of f)) (sym memory) (stops_at old new held piece most none sound consumed)
-piece_fails old new i j held piece fault most none sound consumed (inr told) =
-    fails_by_kind old new i j fault.kind fault (stops_at old new held piece most none sound consumed) (record { bytes = held ++ piece; consumed = consumed; no_header = told.0; told = inl told.1; of_all = whole_fault old new (held ++ piece) fault consumed told.0 told.1 })
+pub piece_fails : (old new : SourceView) (held piece : List ℕ) (fault : HeadFault) → length piece ≤ 65536 → (HasHeader held → ⊥) → NoFault held → Consumes old.remaining new.remaining (held ++ piece)
+    → (fault ≡ memory_fault) ⊎ ((HasHeader (held ++ piece) → ⊥) × IsFault (held ++ piece) fault) → HeadFails old new (fault_of fault)
+piece_fails old new held piece fault most none sound consumed (inl memory) =
+    subst (λ (f : HeadFault). HeadFails old new (fault_of f)) (sym memory) (stops_at old.remaining new.remaining held piece most none sound consumed)
+piece_fails old new held piece fault most none sound consumed (inr told) =
+    fails_by_kind old new fault.kind fault (stops_at old.remaining new.remaining held piece most none sound consumed) (record { bytes = held ++ piece; consumed = consumed; no_header = told.0; told = inl told.1; of_all = whole_fault old.remaining new.remaining (held ++ piece) fault consumed told.0 told.1 })
 
 -- the same where more than the fault is asked
 pub piece_early : (old new : Option (List ℕ)) (held piece : List ℕ) (fault : HeadFault) (told : FileFault) → told ≡ fault_of fault → Consumes old new (held ++ piece)

@@ -9,7 +9,8 @@ use Rattle.age_stream.specs.Headline.{IsPrefixOf}
 use Rattle.age_file.specs.Faults.{HasRisen}
 use Rattle.age_file.specs.Bindings.{link, chain}
 use Rattle.age_file.specs.inner.Releases.{Tally}
-use Rattle.age_file.specs.inner.Skips.{Side, Passes, Dries}
+use Rattle.age_file.specs.inner.Unread.{Side}
+use Rattle.age_file.specs.inner.Skips.{Passes, Dries}
 use Rattle.age_file.specs.inner.Copies.{CopyFails, CopiesChunk, CopiesAll}
 use Rattle.age_file.specs.declared.fault.FileFault.{FileFault}
 use Rattle.age_file.specs.declared.fault.FileFault.TheVariants.{ShortText, Read, Write, ReadNeverEnds}

@@ -15,6 +15,7 @@ use Rattle.age_io.specs.Views.{SourceView}
 use Rattle.age_file.specs.inner.Intakes.{Pulled}
 use Rattle.age_file.specs.AgeFile.{box, unbox}
 use Rattle.age_file.specs.inner.Payloads.{Stage, DecryptsPayload, PayloadFails, PayloadDone}
+use Rattle.age_file.specs.inner.ResumesPayload.{side_at}
 use Rattle.age_file.specs.Starts.{StartFails}
 use Rattle.age_file.specs.inner.Starts.{StartsAt}
 use Rattle.age_file.specs.Decrypts.{Run, segment_of, text_of, IsRun, IsPositionOf, Told, IsAuthenticRun, WritesOf, WritesAll, DecryptFails, DecryptDone}
@@ -104,7 +105,7 @@ module _ (keep : Positions) (Allows : Header → List ℕ → Type 0) (Refused :
       → IsRun Allows (before a old) (after new) new.tally.progress.written r → Told keep (IsPositionOf r) p
       → PayloadFails (unbox r.key r.nonce) 65536 old new (segment_of r) r.out fault
       → DecryptFails keep Allows Refused (before a old) (after new) new.tally.progress.written p fault
-  fails a old new r pulled p (Stream x) same h is at f = (r, record { is = is; whole = f.1; of = writes_of r is.prefix }, at, f.0, (f.2.1 ∙ same, f.2.0))
+  fails a old new r pulled p (Stream x) same h is at f = (r, record { is = is; whole = f.1; of = writes_of r is.prefix }, at, f.0, (f.2.0 ∙ same, f.2.1))
   fails a old new r pulled p Write same h is at f = (r, is, writes_of r is.prefix, at, f)
   fails a old new r pulled p Read same h is at f = (inr (r, record { is = is; whole = f.0; of = writes_of r is.prefix }, at), subst (λ (m : ℕ). HasRisen m new.source.failed) same f.1)
   fails a old new r pulled p ReadNeverEnds same h is at f = (inr (r, record { is = is; whole = f.0; of = writes_of r is.prefix }, at), (pulled, h.consumed, (omega (arith, h.each_gave, f.1), omega (arith, h.small, f.1))))
@@ -123,7 +124,7 @@ module _ (keep : Positions) (Allows : Header → List ℕ → Type 0) (Refused :
 
   pub decrypted : (a : SourceView) (unlocked : Unlocked) (key : List ℕ) (old new : Stage) (result : Result (Unit {0}) FileFault)
       → old.tally.progress.written ≡ 0 → old.tally.progress.index ≡ 0 → old.tally.progress.chain ≡ chain_if keep []
-      → key ≡ payload_key unlocked.key unlocked.nonce → StartsAt Allows a.remaining old.source.remaining old.unread unlocked
+      → key ≡ payload_key unlocked.key unlocked.nonce → StartsAt Allows a (side_at old) unlocked
       → DecryptsPayload (λ nonce block. opening key nonce [] block) 65536 0 old new result → IsDecrypted a unlocked old new result
   decrypted a unlocked key old new result none index chain_none is s q =
       let p = subst (λ (t : List ℕ). DecryptsPayload (λ nonce block. opening t nonce [] block) 65536 0 old new result) is q in
@@ -147,7 +148,7 @@ module _ (keep : Positions) (Allows : Header → List ℕ → Type 0) (Refused :
       → DecryptDone Allows (before a old) (after new) new.tally.progress.written p.run
   decrypt_done a unlocked old new same p =
       let f = p.answered in
-      record { wrote = record { is = p.is; whole = f.2; of = writes_of p.run p.is.prefix }; ended = f.0; done = f.1; all = writes_all p.run f.2 f.1; none_failed = (f.3.1 ∙ same, f.3.0) }
+      record { wrote = record { is = p.is; whole = f.2; of = writes_of p.run p.is.prefix }; ended = f.0; done = f.1; all = writes_all p.run f.2 f.1; none_failed = (f.3.0 ∙ same, f.3.1) }
 
   pub decrypt_fails : (a : SourceView) (unlocked : Unlocked) (old new : Stage) (fault : FileFault) (position : Option Position) → old.source.failed ≡ a.failed → IsDecrypted a unlocked old new (Err fault)
       → PositionAt unlocked new.tally.progress.index new.tally.progress.chain position
@@ -158,7 +159,7 @@ module _ (keep : Positions) (Allows : Header → List ℕ → Type 0) (Refused :
       (subst (λ (c : Option (List ℕ)). PositionAt unlocked new.tally.progress.index c position) p.counts.chain_is at)) p.answered
 
   -- no payload came to be opened
-  pub start_fails : (old new : Ports) (fault : FileFault) → Appends old.sink.taken new.sink.taken [] → StartFails Allows Refused old.source.remaining new.source.remaining old.source.failed new.source.failed fault
+  pub start_fails : (old new : Ports) (fault : FileFault) → Appends old.sink.taken new.sink.taken [] → StartFails Allows Refused old.source new.source fault
       → DecryptFails keep Allows Refused old new 0 None fault
   start_fails old new Read none f = (inl ((none, refl, refl), f.0), f.1)
   start_fails old new ReadNeverEnds none f = (inl ((none, refl, refl), f.0), f.1)

@@ -3,10 +3,11 @@ use Rattle.std.proofs.Common.{◌≡◌, ℕ, ◌+◌, ◌≤◌, List, [], ◌+
 use Rattle.std.specs.Prelude.{Result, MatchResult, Ok, Err}
 use Rattle.age_stream.specs.Deliveries.{with_piece}
 use Rattle.age_file.specs.Faults.{HasRisen}
-use Rattle.age_file.specs.inner.Unread.{Unread}
+use Rattle.age_file.specs.Ports.{NoneFailed}
+use Rattle.age_file.specs.inner.Unread.{Unread, side}
 use Rattle.age_file.specs.inner.Intakes.{Pulled, Refills, Refilled, PullFails}
 use Rattle.age_file.specs.inner.Releases.{Releases, FeedsPiece, FeedFails}
-use Rattle.age_file.specs.inner.Flows.{Flow, HasRoom, SameFailures, FlowFails, TurnGoes, Flows, Turns, OpensAll}
+use Rattle.age_file.specs.inner.Flows.{Flow, HasRoom, ports_in, FlowFails, TurnGoes, Flows, Turns, OpensAll}
 use Rattle.age_file.specs.declared.fault.FileFault.{FileFault}
 use Rattle.age_file.specs.declared.fault.FileFault.TheVariants.{Stream, Read, Write, ReadNeverEnds}
 use Rattle.age_file.proofs.ReleaseSteps.{releases_none, releases_then}
@@ -37,24 +38,24 @@ module _ {B : Type 0} (opening : B → List ℕ → List ℕ → Option (List �
       }
 
   -- the failures of a turn
-  pull_fails : (old new : Flow B) (pulls : ℕ) (fault : FileFault) → new.unread.bytes ≡ [] → new.unread.pulls ≡ pulls → new.tally.sink.failed ≡ old.tally.sink.failed
-      → PullFails pulls old.source.failed new.source.failed fault → (fault ≡ ReadNeverEnds → new.source.failed ≡ old.source.failed) → FlowFails old new new.unread.bytes [] fault
-  pull_fails old new pulls Read none count same h k = (none, refl, h)
-  pull_fails old new pulls ReadNeverEnds none count same h k = (none, refl, count ∙ h, (same, k refl))
-  pull_fails old new pulls other none count same h k = absurd h
+  pull_fails : (old new : Flow B) (mid : Unread) (fault : FileFault) → new.unread.bytes ≡ [] → new.tally.sink.failed ≡ old.tally.sink.failed → PullFails (side old.source mid) (side new.source new.unread) fault
+      → FlowFails old new new.unread.bytes [] fault
+  pull_fails old new mid Read none same h = (none, refl, h)
+  pull_fails old new mid ReadNeverEnds none same h = (none, refl, h.0, (h.1, same))
+  pull_fails old new mid other none same h = absurd h
 
   turn_answers : (old new : Flow B) (mid : Unread) (result : Result Bool FileFault) → mid.pulls ≡ old.unread.pulls → HasRoom old
       → length new.opener.held + new.tally.progress.written ≤ length old.opener.held + old.tally.progress.written + length old.unread.bytes → new.tally.sink.failed ≡ old.tally.sink.failed
-      → Refilled new.source.remaining old.source.failed new.source.failed mid new.unread result
+      → Refilled (side old.source mid) (side new.source new.unread) result
       → MatchResult result (TurnGoes old new new.unread.bytes []) (FlowFails old new new.unread.bytes [])
-  turn_answers old new mid (Ok true) count room goes same h = (refl, refl, (same, h.4), (omega (arith, room.0, goes, h.1, h.3, count), h.2), h.3 ∙ ap (λ (k : ℕ). k + 1) count)
-  turn_answers old new mid (Ok false) count room goes same h = (h.0, refl, (same, h.3), h.2, omega (arith, room.0, room.1, goes))
-  turn_answers old new mid (Err fault) count room goes same h = pull_fails old new mid.pulls fault h.0 h.1 same h.2 h.3
+  turn_answers old new mid (Ok true) count room goes same h = (refl, refl, (h.4, same), (omega (arith, room.0, goes, h.1, h.3, count), h.2), h.3 ∙ ap (λ (k : ℕ). k + 1) count)
+  turn_answers old new mid (Ok false) count room goes same h = (h.0, refl, (h.3, same), h.2, omega (arith, room.0, room.1, goes))
+  turn_answers old new mid (Err fault) count room goes same h = pull_fails old new mid fault h.0 same h.2
 
   -- a piece was fed whole, and the next was pulled
   pub turned : (old new : Flow B) (mid : Unread) (piece : List ℕ) (result : Result Bool FileFault) → piece ≡ old.unread.bytes → mid.pulls ≡ old.unread.pulls → HasRoom old
       → FeedsPiece opening n old.opener new.opener old.tally new.tally piece (Ok tt)
-      → Refills old.source.remaining new.source.remaining old.source.failed new.source.failed mid new.unread result
+      → Refills (side old.source mid) (side new.source new.unread) result
       → Turns opening n old new result
   turned old new mid piece result is count room f r =
       let goes = f.answered.1 in
@@ -73,7 +74,7 @@ module _ {B : Type 0} (opening : B → List ℕ → List ℕ → Option (List �
       }
 
   feed_fails : (old new : Flow B) (left unwritten : List ℕ) (fault : FileFault) → new.source.failed ≡ old.source.failed → FeedFails opening n new.opener old.tally new.tally left unwritten fault → FlowFails old new left unwritten fault
-  feed_fails old new left unwritten (Stream f) same h = (h.0, h.1, h.2, (h.3, same))
+  feed_fails old new left unwritten (Stream f) same h = (h.0, h.1, h.2, (same, h.3))
   feed_fails old new left unwritten Write same h = h
   feed_fails old new left unwritten other same h = absurd h
 
@@ -95,18 +96,18 @@ module _ {B : Type 0} (opening : B → List ℕ → List ℕ → Option (List �
         answered = feed_fails old new f.left f.unwritten fault same f.answered;
       }
 
-  flow_fails_then : (old mid new : Flow B) (left unwritten : List ℕ) (fault : FileFault) → SameFailures old mid → FlowFails mid new left unwritten fault → FlowFails old new left unwritten fault
+  flow_fails_then : (old mid new : Flow B) (left unwritten : List ℕ) (fault : FileFault) → NoneFailed (ports_in old) (ports_in mid) → FlowFails mid new left unwritten fault → FlowFails old new left unwritten fault
   flow_fails_then old mid new left unwritten (Stream f) p h = (h.0, h.1, h.2, (h.3.0 ∙ p.0, h.3.1 ∙ p.1))
-  flow_fails_then old mid new left unwritten Write p h = subst (λ (k : ℕ). HasRisen k new.tally.sink.failed) p.0 h
-  flow_fails_then old mid new left unwritten Read p h = (h.0, h.1, subst (λ (k : ℕ). HasRisen k new.source.failed) p.1 h.2)
+  flow_fails_then old mid new left unwritten Write p h = subst (λ (k : ℕ). HasRisen k new.tally.sink.failed) p.1 h
+  flow_fails_then old mid new left unwritten Read p h = (h.0, h.1, subst (λ (k : ℕ). HasRisen k new.source.failed) p.0 h.2)
   flow_fails_then old mid new left unwritten ReadNeverEnds p h = (h.0, h.1, h.2, (h.3.0 ∙ p.0, h.3.1 ∙ p.1))
   flow_fails_then old mid new left unwritten other p h = absurd h
 
-  pub all_stopped : (old mid new : Flow B) (fault : FileFault) → Flows opening n old mid mid.unread.bytes [] → SameFailures old mid → Turns opening n mid new (Err fault) → OpensAll opening n old new (Err fault)
+  pub all_stopped : (old mid new : Flow B) (fault : FileFault) → Flows opening n old mid mid.unread.bytes [] → NoneFailed (ports_in old) (ports_in mid) → Turns opening n mid new (Err fault) → OpensAll opening n old new (Err fault)
   all_stopped old mid new fault p same t =
       record { left = t.left; unwritten = t.unwritten; flows = flows_then old mid new t.left t.unwritten p t.flows; answered = flow_fails_then old mid new t.left t.unwritten fault same t.answered }
 
-  pub all_done : (old mid new : Flow B) → Flows opening n old mid mid.unread.bytes [] → SameFailures old mid → Turns opening n mid new (Ok false) → OpensAll opening n old new (Ok tt)
+  pub all_done : (old mid new : Flow B) → Flows opening n old mid mid.unread.bytes [] → NoneFailed (ports_in old) (ports_in mid) → Turns opening n mid new (Ok false) → OpensAll opening n old new (Ok tt)
   all_done old mid new p same t =
       record {
         left = t.left;
@@ -117,10 +118,10 @@ module _ {B : Type 0} (opening : B → List ℕ → List ℕ → Option (List �
 
   pub record On (old new : Flow B) : Type 0 where
     pub flows : Flows opening n old new new.unread.bytes []
-    pub same : SameFailures old new
+    pub same : NoneFailed (ports_in old) (ports_in new)
     pub room : HasRoom new
 
-  pub on : (old mid new : Flow B) → Flows opening n old mid mid.unread.bytes [] → SameFailures old mid → Turns opening n mid new (Ok true) → On old new
+  pub on : (old mid new : Flow B) → Flows opening n old mid mid.unread.bytes [] → NoneFailed (ports_in old) (ports_in mid) → Turns opening n mid new (Ok true) → On old new
   on old mid new p same t =
       let a = t.answered in
       record {

@@ -9,8 +9,9 @@ use Rattle.age_stream.specs.Opening.{OpenerView, Stands}
 use Rattle.age_stream.specs.Headline.{IsPrefixOf}
 use Rattle.age_stream.proofs.PublicLaws.{fresh_is_open, released_grows}
 use Rattle.age_file.specs.Faults.{HasRisen}
+use Rattle.age_file.specs.Ports.{NoneFailed}
 use Rattle.age_file.specs.inner.Releases.{Tally, Releases, Closes, FeedFails}
-use Rattle.age_file.specs.inner.Flows.{Flow, SameFailures, FlowFails, OpensAll}
+use Rattle.age_file.specs.inner.Flows.{Flow, ports_in, FlowFails, OpensAll}
 use Rattle.age_file.specs.Decrypts.{segment}
 use Rattle.age_file.specs.inner.Payloads.{Stage, DecryptsPayload, PayloadFails, PayloadDone}
 use Rattle.age_file.specs.declared.fault.FileFault.{FileFault}
@@ -96,16 +97,16 @@ module _ {B : Type 0} (sealing : B → List ℕ → List ℕ → List ℕ) (open
           answered = stop_fails old new f.fed a.left f.releases.out a.unwritten fault e s a.answered;
         }
 
-    done_or_fails : (old mid : Flow B) (new : OpenerView B) (now : Tally) (bytes out unwritten : List ℕ) (result : Result (Unit {0}) FileFault) → SameFailures old mid
+    done_or_fails : (old mid : Flow B) (new : OpenerView B) (now : Tally) (bytes out unwritten : List ℕ) (result : Result (Unit {0}) FileFault) → NoneFailed (ports_in old) (ports_in mid)
         → released (opening K) n (segment k bytes true) ≡ out ++ unwritten → new.status ≡ (outcome (opening K) n (segment k bytes true)).status
         → MatchResult result (λ _. (new.status ≡ Done) × (unwritten ≡ []) × (now.sink.failed ≡ mid.tally.sink.failed)) (FeedFails opening n new mid.tally now [] unwritten)
         → MatchResult result (λ _. PayloadDone (opening K) n (stage_of old) (record { tally = now; source = mid.source; unread = mid.unread }) (segment k bytes true) out)
         (PayloadFails (opening K) n (stage_of old) (record { tally = now; source = mid.source; unread = mid.unread }) (segment k bytes true) out)
     done_or_fails old mid new now bytes out unwritten (Ok u) same e s h =
-        (refl, sym s ∙ h.0, sym (append-nil out) ∙ (ap (λ (t : List ℕ). out ++ t) (sym h.1) ∙ sym e), (h.2 ∙ same.0, same.1))
+        (refl, sym s ∙ h.0, sym (append-nil out) ∙ (ap (λ (t : List ℕ). out ++ t) (sym h.1) ∙ sym e), (same.0, h.2 ∙ same.1))
     done_or_fails old mid new now bytes out unwritten (Err (Stream f)) same e s h =
-        (sym s ∙ h.0, sym (append-nil out) ∙ (ap (λ (t : List ℕ). out ++ t) (sym h.2) ∙ sym e), (h.3 ∙ same.0, same.1))
-    done_or_fails old mid new now bytes out unwritten (Err Write) same e s h = subst (λ (x : ℕ). HasRisen x now.sink.failed) same.0 h
+        (sym s ∙ h.0, sym (append-nil out) ∙ (ap (λ (t : List ℕ). out ++ t) (sym h.2) ∙ sym e), (same.0, h.3 ∙ same.1))
+    done_or_fails old mid new now bytes out unwritten (Err Write) same e s h = subst (λ (x : ℕ). HasRisen x now.sink.failed) same.1 h
     done_or_fails old mid new now bytes out unwritten (Err other) same e s h = absurd h
 
     pub pour_ended : (old mid : Flow B) (new : OpenerView B) (now : Tally) (result : Result (Unit {0}) FileFault) → old.opener.key ≡ K → Stands opening n old.opener (fresh k)

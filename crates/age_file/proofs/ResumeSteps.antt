@@ -26,7 +26,7 @@ use Rattle.age_file.specs.inner.Intakes.{Pulled}
 use Rattle.age_file.specs.Decrypts.{Told}
 use Rattle.age_file.specs.inner.Decrypts.{IsPositionAt, PositionAt}
 use Rattle.age_file.specs.inner.Counts.{HasCounted}
-use Rattle.age_file.specs.inner.Skips.{Side, Passes, Dries, SkipFails}
+use Rattle.age_file.specs.inner.Skips.{SkipFails}
 use Rattle.age_file.specs.inner.Payloads.{Stage, DecryptsPayload, PayloadFails, PayloadDone}
 use Rattle.age_file.specs.inner.Releases.{Tally}
 use Rattle.age_file.specs.Resumes.{ResumePorts, Reads, WritesOld, Resumption, segment_at, fresh_text, IsResumption, IsAuthenticResumption, ResumesOf, ResumesAll, IsNextPosition, IsSame, Accepts, ResumeDone}
@@ -37,7 +37,7 @@ use Rattle.age_file.specs.ResumeFaults.{NeverEnd, StopsInOld, StopsInPassed, Res
 use Rattle.age_file.specs.Starts.{StartFails}
 use Rattle.age_file.specs.inner.Starts.{Uses, StartsAt}
 use Rattle.age_io.specs.Views.{SourceView}
-use Rattle.age_file.specs.inner.Unread.{Unread}
+use Rattle.age_file.specs.inner.Unread.{Unread, Side, side}
 use Rattle.age_file.specs.declared.fault.FileFault.{FileFault}
 use Rattle.age_file.specs.declared.fault.FileFault.TheVariants.{Stream, OtherFile, ShortText, Read, Write, ReadNeverEnds, PositionForged, OldTextDiffers}
 use Rattle.age_file.specs.declared.position.Position.{Position}
@@ -109,16 +109,16 @@ module _ (keep : Positions) (Allows : Header → List ℕ → Type 0) (Refused :
   abbrev pub after : Stage → Side → ResumePorts
   after new z = record { main = record { source = new.source; sink = new.tally.sink }; old = z.source }
 
-  abbrev opened : (a b : Option (List ℕ)) (u : Unread) (unlocked : Unlocked) → StartsAt Allows a b u unlocked → OpenedFile
-  opened a b u unlocked s = record { header = s.header; front = s.front; key = unlocked.key; nonce = unlocked.nonce }
+  abbrev opened : (a : SourceView) (b : Side) (unlocked : Unlocked) → StartsAt Allows a b unlocked → OpenedFile
+  opened a b unlocked s = record { header = s.header; front = s.front; key = unlocked.key; nonce = unlocked.nonce }
 
-  reads_of : (a b : Option (List ℕ)) (u : Unread) (unlocked : Unlocked) (s : StartsAt Allows a b u unlocked) (c : Option (List ℕ)) (rest : List ℕ)
-      → Consumes a c ((s.front ++ unlocked.nonce) ++ rest) → Reads Allows a c (opened a b u unlocked s) rest
-  reads_of a b u unlocked s c rest read = record { text = s.text; opens = s.opens; size = s.size; read = read }
+  reads_of : (a : SourceView) (b : Side) (unlocked : Unlocked) (s : StartsAt Allows a b unlocked) (c : Option (List ℕ)) (rest : List ℕ)
+      → Consumes a.remaining c ((s.front ++ unlocked.nonce) ++ rest) → Reads Allows a.remaining c (opened a b unlocked s) rest
+  reads_of a b unlocked s c rest read = record { text = s.text; opens = s.opens; size = s.size; read = read }
 
   -- no payload came to be opened
   pub start_fails : (old new : ResumePorts) (fault : FileFault) → Consumes old.old.remaining new.old.remaining [] → Appends old.main.sink.taken new.main.sink.taken []
-      → StartFails Allows Refused old.main.source.remaining new.main.source.remaining old.main.source.failed new.main.source.failed fault → ResumeFails keep Allows p Refused old new 0 None fault
+      → StartFails Allows Refused old.main.source new.main.source fault → ResumeFails keep Allows p Refused old new 0 None fault
   start_fails old new Read unread none f = inl ((none, refl, refl), f.0, f.1)
   start_fails old new ReadNeverEnds unread none f =
       inl ((none, refl, refl), f.0, (f.1.0, [], f.1.1, unread, (omega (arith, f.1.2.0), omega (arith, f.1.2.1))))
@@ -132,26 +132,26 @@ module _ (keep : Positions) (Allows : Header → List ℕ → Type 0) (Refused :
 
   -- the position was refused
   pub verdict_fails : (old new : ResumePorts) (u : Unread) (unlocked : Unlocked) (fault : FileFault) → Appends old.main.sink.taken new.main.sink.taken []
-      → StartsAt Allows old.main.source.remaining new.main.source.remaining u unlocked → PositionRefused p unlocked.id unlocked.key unlocked.nonce fault → ResumeFails keep Allows p Refused old new 0 None fault
+      → StartsAt Allows old.main.source (side new.main.source u) unlocked → PositionRefused p unlocked.id unlocked.key unlocked.nonce fault → ResumeFails keep Allows p Refused old new 0 None fault
   verdict_fails old new u unlocked OtherFile none s f =
-      ((none, refl, refl), opened old.main.source.remaining new.main.source.remaining u unlocked s, u.bytes, reads_of old.main.source.remaining new.main.source.remaining u unlocked s new.main.source.remaining u.bytes s.pulled.consumed, λ own. f (own ∙ sym s.id))
+      ((none, refl, refl), opened old.main.source (side new.main.source u) unlocked s, u.bytes, reads_of old.main.source (side new.main.source u) unlocked s new.main.source.remaining u.bytes s.pulled.consumed, λ own. f (own ∙ sym s.id))
   verdict_fails old new u unlocked PositionForged none s f =
-      ((none, refl, refl), opened old.main.source.remaining new.main.source.remaining u unlocked s, u.bytes, reads_of old.main.source.remaining new.main.source.remaining u unlocked s new.main.source.remaining u.bytes s.pulled.consumed, f.0 ∙ s.id, f.1)
+      ((none, refl, refl), opened old.main.source (side new.main.source u) unlocked s, u.bytes, reads_of old.main.source (side new.main.source u) unlocked s new.main.source.remaining u.bytes s.pulled.consumed, f.0 ∙ s.id, f.1)
   verdict_fails old new u unlocked other none s f = absurd f
 
   -- the position is this file's
   abbrev pub IsVerified : Unlocked → Type 0
   IsVerified unlocked = (p.file_id ≡ unlocked.id) × (p.tag ≡ position_tag (position_key unlocked.key unlocked.nonce) p.index p.file_id p.chain)
 
-  accepts_of : (a b : Option (List ℕ)) (u : Unread) (unlocked : Unlocked) (s : StartsAt Allows a b u unlocked) → IsVerified unlocked → (c : Option (List ℕ)) (rest : List ℕ)
-      → Consumes a c ((s.front ++ unlocked.nonce) ++ rest) → Accepts Allows p a c (opened a b u unlocked s) rest
-  accepts_of a b u unlocked s v c rest read = record { reads = reads_of a b u unlocked s c rest read; own = v.0 ∙ s.id; tagged = v.1 }
+  accepts_of : (a : SourceView) (b : Side) (unlocked : Unlocked) (s : StartsAt Allows a b unlocked) → IsVerified unlocked → (c : Option (List ℕ)) (rest : List ℕ)
+      → Consumes a.remaining c ((s.front ++ unlocked.nonce) ++ rest) → Accepts Allows p a.remaining c (opened a b unlocked s) rest
+  accepts_of a b unlocked s v c rest read = record { reads = reads_of a b unlocked s c rest read; own = v.0 ∙ s.id; tagged = v.1 }
 
   -- the file was started, and the old text's pulls are counted on from there
-  module _ (a : SourceView) (unlocked : Unlocked) (s1 : Stage) (u : Unread) (s : StartsAt Allows a.remaining s1.source.remaining u unlocked) (v : IsVerified unlocked) (same : s1.source.failed ≡ a.failed)
+  module _ (a : SourceView) (unlocked : Unlocked) (s1 : Stage) (u : Unread) (s : StartsAt Allows a (side s1.source u) unlocked) (v : IsVerified unlocked) (same : s1.source.failed ≡ a.failed)
       (first : Tally) (zero : first.progress.written ≡ 0) (x z : Side) (none : x.unread.bytes ≡ []) (pulls : x.unread.pulls ≡ u.pulls) where
     abbrev file : OpenedFile
-    file = opened a.remaining s1.source.remaining u unlocked s
+    file = opened a (side s1.source u) unlocked s
 
     abbrev head : List ℕ
     head = s.front ++ unlocked.nonce
@@ -161,13 +161,13 @@ module _ (keep : Positions) (Allows : Header → List ℕ → Type 0) (Refused :
     started = head ++ u.bytes
 
     -- what was used of the old text, from its start
-    old_pulled : (used : List ℕ) → Uses x.source.remaining z.source.remaining x.unread z.unread used → Pulled (preceded started x.source.remaining) z.source.remaining z.unread.pulls (started ++ (used ++ z.unread.bytes))
+    old_pulled : (used : List ℕ) → Uses x z used → Pulled (preceded started x.source.remaining) z.source.remaining z.unread.pulls (started ++ (used ++ z.unread.bytes))
     old_pulled used uses =
         let none_used = counted_on a.remaining s1.source.remaining x.source.remaining u.pulls started s.pulled in
         let fresh = subst (λ (k : ℕ). Pulled (preceded started x.source.remaining) x.source.remaining k (started ++ [])) (sym pulls) none_used in
         uses (preceded started x.source.remaining) started (subst (λ (t : List ℕ). Pulled (preceded started x.source.remaining) x.source.remaining x.unread.pulls (started ++ t)) (sym none) fresh)
 
-    old_dried : (used : List ℕ) → z.unread.bytes ≡ [] → Uses x.source.remaining z.source.remaining x.unread z.unread used → Pulled (preceded started x.source.remaining) z.source.remaining z.unread.pulls (started ++ used)
+    old_dried : (used : List ℕ) → z.unread.bytes ≡ [] → Uses x z used → Pulled (preceded started x.source.remaining) z.source.remaining z.unread.pulls (started ++ used)
     old_dried used empty uses =
         subst (λ (t : List ℕ). Pulled (preceded started x.source.remaining) z.source.remaining z.unread.pulls (started ++ t)) (ap (λ (t : List ℕ). used ++ t) empty ∙ append-nil used) (old_pulled used uses)
 
@@ -180,7 +180,7 @@ module _ (keep : Positions) (Allows : Header → List ℕ → Type 0) (Refused :
     stops_in_old out pulled wrote count short read front = record {
       file = file;
       rest = u.bytes;
-      accepts = accepts_of a.remaining s1.source.remaining u unlocked s v s1.source.remaining u.bytes s.pulled.consumed;
+      accepts = accepts_of a (side s1.source u) unlocked s v s1.source.remaining u.bytes s.pulled.consumed;
       copied = out;
       short = short;
       writes = record {
@@ -215,7 +215,7 @@ module _ (keep : Positions) (Allows : Header → List ℕ → Type 0) (Refused :
         inr (inl (
           stops_in_old c.out c.out c.wrote c.count f.0 read ([], append-nil c.out),
           refl,
-          (started, c.out, s.pulled.consumed, read, (omega (arith, all.each_gave, f.1.0.why, both), omega (arith, all.small, f.1.0.why, both))),
+          (started, c.out, s.pulled.consumed, read, (omega (arith, all.each_gave, f.1.0.why.0, both), omega (arith, all.small, f.1.0.why.0, both))),
         ))
         )
     copy_fails OldTextDiffers c =
@@ -226,7 +226,7 @@ module _ (keep : Positions) (Allows : Header → List ℕ → Type 0) (Refused :
           refl,
           file,
           u.bytes,
-          accepts_of a.remaining s1.source.remaining u unlocked s v s1.source.remaining u.bytes s.pulled.consumed,
+          accepts_of a (side s1.source u) unlocked s v s1.source.remaining u.bytes s.pulled.consumed,
           c.out,
           record {
             pulled = c.out ++ z.unread.bytes;
@@ -295,7 +295,7 @@ module _ (keep : Positions) (Allows : Header → List ℕ → Type 0) (Refused :
           → Consumes a.remaining s2.source.remaining (head ++ passed) → StopsInPassed keep Allows p (before a first x) (after s2 z) s2.tally.progress.written position passed
       stops_in_passed s2 position passed still at short read = record {
         file = file;
-        accepts = accepts_of a.remaining s1.source.remaining u unlocked s v s2.source.remaining passed read;
+        accepts = accepts_of a (side s1.source u) unlocked s v s2.source.remaining passed read;
         short = short;
         copied = c.out;
         old_text = old_text;
@@ -303,7 +303,7 @@ module _ (keep : Positions) (Allows : Header → List ℕ → Type 0) (Refused :
         here = at;
       }
 
-      dried : (s2 : Stage) (passed : List ℕ) → s2.unread.bytes ≡ [] → Uses s1.source.remaining s2.source.remaining s1.unread s2.unread passed → Pulled (preceded old_bytes a.remaining) s2.source.remaining s2.unread.pulls (old_bytes ++ (head ++ passed))
+      dried : (s2 : Stage) (passed : List ℕ) → s2.unread.bytes ≡ [] → Uses (side_at s1) (side_at s2) passed → Pulled (preceded old_bytes a.remaining) s2.source.remaining s2.unread.pulls (old_bytes ++ (head ++ passed))
       dried s2 passed empty uses =
           let bytes = ap (λ (t : List ℕ). (old_bytes ++ head) ++ t) (ap (λ (t : List ℕ). passed ++ t) empty ∙ append-nil passed) ∙ append_assoc old_bytes head passed in
           subst (λ (t : List ℕ). Pulled (preceded old_bytes a.remaining) s2.source.remaining s2.unread.pulls t) bytes (uses (preceded old_bytes a.remaining) (old_bytes ++ head) again)
@@ -330,7 +330,7 @@ module _ (keep : Positions) (Allows : Header → List ℕ → Type 0) (Refused :
           inr (inr (inl (f.0, stops_in_passed s2 position f.0 still at f.1 all, subst (λ (m : ℕ). HasRisen m s2.source.failed) same f.2.why)))
       passed_fails s2 position ReadNeverEnds still at f =
           let all = dried s2 f.0 f.2.used f.2.uses in
-          inr (inr (inl (f.0, stops_in_passed s2 position f.0 still at f.1 (read_on s2 (head ++ f.0) all), never_end s2 (head ++ f.0) all f.2.why)))
+          inr (inr (inl (f.0, stops_in_passed s2 position f.0 still at f.1 (read_on s2 (head ++ f.0) all), never_end s2 (head ++ f.0) all f.2.why.0)))
       passed_fails s2 position other still at f = absurd f
 
       -- what was read and decrypted behind the blocks that were passed over
@@ -368,7 +368,7 @@ module _ (keep : Positions) (Allows : Header → List ℕ → Type 0) (Refused :
             is = record {
               own = v.0 ∙ s.id;
               tagged = v.1;
-              reads = reads_of a.remaining s1.source.remaining u unlocked s s2.source.remaining (b.passed ++ q.bytes) (read_on s2 (head ++ (b.passed ++ q.bytes)) pulls);
+              reads = reads_of a (side s1.source u) unlocked s s2.source.remaining (b.passed ++ q.bytes) (read_on s2 (head ++ (b.passed ++ q.bytes)) pulls);
               old_text = old_text;
               passed_size = b.size;
               more = z.unread.bytes;
@@ -394,7 +394,7 @@ module _ (keep : Positions) (Allows : Header → List ℕ → Type 0) (Refused :
             ended = f.0;
             done = f.1;
             all = resumes_all p b.run limit f.2 f.1;
-            none_failed = ((f.3.1 ∙ b.read_failed, f.3.0 ∙ b.write_failed), c.answered.1.unfailed);
+            none_failed = ((f.3.0 ∙ b.read_failed, f.3.1 ∙ b.write_failed), c.answered.1.unfailed);
           }
 
       -- the position behind what was written
@@ -426,7 +426,7 @@ module _ (keep : Positions) (Allows : Header → List ℕ → Type 0) (Refused :
           → ResumeFails keep Allows p Refused (before a first x) (after s2 z) s2.tally.progress.written position fault
       decrypted_fails s2 position (Stream fault) b h f = (
         inr (b.run, record { is = b.is; whole = f.1; of = resumes_of p b.run limit b.is.prefix }, h, f.0),
-        ((f.2.1 ∙ b.read_failed, f.2.0 ∙ b.write_failed), c.answered.1.unfailed),
+        ((f.2.0 ∙ b.read_failed, f.2.1 ∙ b.write_failed), c.answered.1.unfailed),
       )
       decrypted_fails s2 position Write b h f =
           (inr (b.run, b.is, resumes_of p b.run limit b.is.prefix, h), subst (λ (m : ℕ). HasRisen m s2.tally.sink.failed) b.write_failed f)

@@ -4,14 +4,15 @@ use Rattle.std.proofs.lemmas.List.{length-append}
 use Rattle.std.proofs.Math.Nat.{mul-le-mul_right}
 use Rattle.age_file.specs.inner.Intakes.{PullFails}
 use Rattle.age_file.specs.Faults.{HasRisen}
-use Rattle.age_file.specs.inner.Skips.{Side, Passes, Dries, SkipsBlock, SkipFails, EndsAfter}
+use Rattle.age_file.specs.inner.Unread.{Side}
+use Rattle.age_file.specs.inner.Skips.{Passes, Dries, SkipsBlock, SkipFails, EndsAfter}
 use Rattle.age_file.specs.declared.fault.FileFault.{FileFault}
 use Rattle.age_file.specs.declared.fault.FileFault.TheVariants.{Stream, Read, ReadNeverEnds}
 use Rattle.age_file.proofs.StartSteps.{uses_then}
 
 pub passes_then : (x y z : Side) (p q : List ℕ) → Passes x y p → Passes y z q → Passes x z (p ++ q)
 passes_then x y z p q f g = record {
-  uses = uses_then x.source.remaining y.source.remaining z.source.remaining x.unread y.unread z.unread p q (p ++ q) refl f.uses g.uses;
+  uses = uses_then x y z p q (p ++ q) refl f.uses g.uses;
   unfailed = g.unfailed ∙ f.unfailed;
 }
 
@@ -19,16 +20,16 @@ passes_then x y z p q f g = record {
 pub passes_same : (x y z : Side) (p : List ℕ) → Passes x y p → Passes y z [] → Passes x z p
 passes_same x y z p f g = subst (λ (t : List ℕ). Passes x z t) (append-nil p) (passes_then x y z p [] f g)
 
-pull_fails : (pulls i j k : ℕ) (fault : FileFault) → j ≡ i → PullFails pulls j k fault → PullFails pulls i k fault
-pull_fails pulls i j k Read e h = subst (λ (m : ℕ). HasRisen m k) e h
-pull_fails pulls i j k ReadNeverEnds e h = h
-pull_fails pulls i j k other e h = absurd h
+pull_fails : (x y z : Side) (fault : FileFault) → y.source.failed ≡ x.source.failed → PullFails y z fault → PullFails x z fault
+pull_fails x y z Read e h = subst (λ (m : ℕ). HasRisen m z.source.failed) e h
+pull_fails x y z ReadNeverEnds e h = (h.0, h.1 ∙ e)
+pull_fails x y z other e h = absurd h
 
 pub dries_then : (x y z : Side) (p q : List ℕ) (fault : FileFault) → Passes x y p → Dries y z q fault → Dries x z (p ++ q) fault
 dries_then x y z p q fault f g = record {
-  uses = uses_then x.source.remaining y.source.remaining z.source.remaining x.unread y.unread z.unread p q (p ++ q) refl f.uses g.uses;
+  uses = uses_then x y z p q (p ++ q) refl f.uses g.uses;
   used = g.used;
-  why = pull_fails z.unread.pulls x.source.failed y.source.failed z.source.failed fault f.unfailed g.why;
+  why = pull_fails x y z fault f.unfailed g.why;
 }
 
 -- where no byte came

@@ -10,6 +10,7 @@ use Rattle.age_stream.specs.Payload.{pair, block_bytes, payload, sealed_before_l
 use Rattle.age_stream.specs.Sealing.{SealerView, Holds}
 use Rattle.age_stream.proofs.PublicLaws.{sealed_grows}
 use Rattle.age_file.specs.Faults.{HasRisen}
+use Rattle.age_file.specs.inner.Unread.{Side}
 use Rattle.age_file.specs.inner.Intakes.{PullFails}
 use Rattle.age_file.specs.Ports.{Ports}
 use Rattle.age_file.specs.inner.Releases.{Tally}
@@ -71,21 +72,21 @@ module _ {B : Type 0} (sealing : B → List ℕ → List ℕ → List ℕ) (n : 
       (front_of key n text ++ some.out, both, prefix_trans _ _ _ first second)
 
 -- why no more came
-pub pull_fails : (n : ℕ) (old new : Ports) (text : List ℕ) (pulls failed_old failed_new : ℕ) (fault : FileFault) → failed_old ≡ old.source.failed → new.source.failed ≡ failed_new → pulls ≤ length text
-    → PullFails pulls failed_old failed_new fault → SealingFails n old new text fault
-pull_fails n old new text pulls failed_old failed_new Read same is gave f = subst (λ (k : ℕ). HasRisen k new.source.failed) same (subst (λ (k : ℕ). HasRisen failed_old k) (sym is) f)
-pull_fails n old new text pulls failed_old failed_new ReadNeverEnds same is gave f = omega (arith, gave, f)
-pull_fails n old new text pulls failed_old failed_new (Head fault) same is gave f = absurd f
-pull_fails n old new text pulls failed_old failed_new (Key fault) same is gave f = absurd f
-pull_fails n old new text pulls failed_old failed_new NonceCut same is gave f = absurd f
-pull_fails n old new text pulls failed_old failed_new (Stream fault) same is gave f = absurd f
-pull_fails n old new text pulls failed_old failed_new BadPosition same is gave f = absurd f
-pull_fails n old new text pulls failed_old failed_new OtherFile same is gave f = absurd f
-pull_fails n old new text pulls failed_old failed_new ShortText same is gave f = absurd f
-pull_fails n old new text pulls failed_old failed_new Write same is gave f = absurd f
-pull_fails n old new text pulls failed_old failed_new Memory same is gave f = absurd f
-pull_fails n old new text pulls failed_old failed_new PositionForged same is gave f = absurd f
-pull_fails n old new text pulls failed_old failed_new OldTextDiffers same is gave f = absurd f
+pub pull_fails : (n : ℕ) (old new : Ports) (text : List ℕ) (x z : Side) (fault : FileFault) → x.source.failed ≡ old.source.failed → new.source.failed ≡ z.source.failed → z.unread.pulls ≤ length text
+    → PullFails x z fault → SealingFails n old new text fault
+pull_fails n old new text x z Read same is gave f = subst (λ (k : ℕ). HasRisen k new.source.failed) same (subst (λ (k : ℕ). HasRisen x.source.failed k) (sym is) f)
+pull_fails n old new text x z ReadNeverEnds same is gave f = omega (arith, gave, f.0)
+pull_fails n old new text x z (Head fault) same is gave f = absurd f
+pull_fails n old new text x z (Key fault) same is gave f = absurd f
+pull_fails n old new text x z NonceCut same is gave f = absurd f
+pull_fails n old new text x z (Stream fault) same is gave f = absurd f
+pull_fails n old new text x z BadPosition same is gave f = absurd f
+pull_fails n old new text x z OtherFile same is gave f = absurd f
+pull_fails n old new text x z ShortText same is gave f = absurd f
+pull_fails n old new text x z Write same is gave f = absurd f
+pull_fails n old new text x z Memory same is gave f = absurd f
+pull_fails n old new text x z PositionForged same is gave f = absurd f
+pull_fails n old new text x z OldTextDiffers same is gave f = absurd f
 
 -- why a piece wasn't sealed
 pub seal_fails : {B : Type 0} (sealing : B → List ℕ → List ℕ → List ℕ) (n : ℕ) (a b : SealerView B) (old new : Ports) (was now : Tally) (text piece : List ℕ) (fault : FileFault)

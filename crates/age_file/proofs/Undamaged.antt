@@ -2,6 +2,7 @@
 use Rattle.std.proofs.Common.{inl, inr, ◌≡◌, ℕ, ◌+◌, ◌*◌, ◌<◌, ◌≤◌, List, [], ◌++◌, length, take, drop, Option, Some, None, refl, sym, ap, subst, ◌∙◌, arith, append-nil, append_assoc, Bool, true, false}
 use Rattle.std.proofs.lemmas.List.{length-append, drop_at, take_at, drop_all}
 use Rattle.std.specs.Io.KnownBytes.{Appends, Consumes, IsAtEnd}
+use Rattle.age_io.specs.Views.{SourceView}
 use Rattle.age_stanza.specs.declared.header.Header.{Header}
 use Rattle.age_stanza.specs.declared.fault.HeadFault.{HeadFault}
 use Rattle.age_stanza.specs.Grammar.{HeadText}
@@ -110,17 +111,6 @@ module _ (one : OneHeader) (Allows : Header → List ℕ → Type 0) (Refused : 
       let none : t.0 ≡ [] = none_left after t.0 t.2 ended in
       omega (arith, lt, ap length same.rest_is, length-append short t.0, ap length none, length-append u.nonce (payload (box u.key u.nonce) 65536 text), u.file.size)
 
-  -- no fault of what is before a payload
-  pub start_undamaged : (after : Option (List ℕ)) (i j : ℕ) (fault : FileFault) → StartFails Allows Refused coming after i j fault → StopsOutside fault
-  start_undamaged after i j (Head x) f = absurd (no_head_fault x f.of_all)
-  start_undamaged after i j (Key x) f = absurd (no_key_fault after f.0 f.1 f.2 x f.3 f.4 f.5 f.6)
-  start_undamaged after i j NonceCut f = absurd (no_nonce_cut after f.0 f.1 f.3 f.4 f.6 f.7 f.8)
-  start_undamaged after i j Read f = tt
-  start_undamaged after i j Write f = tt
-  start_undamaged after i j Memory f = tt
-  start_undamaged after i j ReadNeverEnds f = tt
-  start_undamaged after i j other f = absurd f
-
   -- what was read behind the nonce is the payload's beginning
   pub record IsOpenedAs (key nonce behind : List ℕ) (after : Option (List ℕ)) : Type 0 where
     pub key_is : key ≡ u.key
@@ -186,6 +176,18 @@ module _ (one : OneHeader) (Allows : Header → List ℕ → Type 0) (Refused : 
         sym rest_done ∙ (ap (λ (x : List ℕ). (outcome (unbox u.key u.nonce) 65536 (segment k x true)).status) nothing ∙ no_bytes (unbox u.key u.nonce) k) in
         cc
 
+-- no fault of what is before a payload
+module _ (one : OneHeader) (Allows : Header → List ℕ → Type 0) (Refused : Header → KeyFault → Type 0) (before after : SourceView) (text : List ℕ) (u : IsWhole Allows Refused before.remaining text) where
+  pub start_undamaged : (fault : FileFault) → StartFails Allows Refused before after fault → StopsOutside fault
+  start_undamaged (Head x) f = absurd (no_head_fault one Allows Refused before.remaining text u x f.of_all)
+  start_undamaged (Key x) f = absurd (no_key_fault one Allows Refused before.remaining text u after.remaining f.0 f.1 f.2 x f.3 f.4 f.5 f.6)
+  start_undamaged NonceCut f = absurd (no_nonce_cut one Allows Refused before.remaining text u after.remaining f.0 f.1 f.3 f.4 f.6 f.7 f.8)
+  start_undamaged Read f = tt
+  start_undamaged Write f = tt
+  start_undamaged Memory f = tt
+  start_undamaged ReadNeverEnds f = tt
+  start_undamaged other f = absurd f
+
 -- the payload of a text from a chunk on, of which no block opens except as its writer sealed it
 pub own_authentic : (key nonce text : List ℕ) → chunk_count 65536 text ≤ 281474976710656 → IsClosed (box key nonce) (unbox key nonce) 65536 text → (k : ℕ) → k < chunk_count 65536 text
     → IsAuthentic (box key nonce) (unbox key nonce) 65536 text (segment k (drop (k * 65552) (payload (box key nonce) 65536 text)) true)
@@ -196,9 +198,9 @@ own_authentic key nonce text few closed k below =
 
 pub undamaged : (keep : Positions) → OneHeader → (Allows : Header → List ℕ → Type 0) (Refused : Header → KeyFault → Type 0) (old new : Ports) (written : ℕ) (position : Option Position) (fault : FileFault) (text : List ℕ)
     → IsUndamaged Allows Refused old.source.remaining text → DecryptFails keep Allows Refused old new written position fault → StopsOutside fault
-undamaged keep one Allows Refused old new written position (Head x) text u f = start_undamaged one Allows Refused old.source.remaining text u.whole new.source.remaining old.source.failed new.source.failed (Head x) f.1
-undamaged keep one Allows Refused old new written position (Key x) text u f = start_undamaged one Allows Refused old.source.remaining text u.whole new.source.remaining old.source.failed new.source.failed (Key x) f.1
-undamaged keep one Allows Refused old new written position NonceCut text u f = start_undamaged one Allows Refused old.source.remaining text u.whole new.source.remaining old.source.failed new.source.failed NonceCut f.1
+undamaged keep one Allows Refused old new written position (Head x) text u f = start_undamaged one Allows Refused old.source new.source text u.whole (Head x) f.1
+undamaged keep one Allows Refused old new written position (Key x) text u f = start_undamaged one Allows Refused old.source new.source text u.whole (Key x) f.1
+undamaged keep one Allows Refused old new written position NonceCut text u f = start_undamaged one Allows Refused old.source new.source text u.whole NonceCut f.1
 undamaged keep one Allows Refused old new written position (Stream x) text u f =
     let r = f.0 in
     let is = f.1.is in

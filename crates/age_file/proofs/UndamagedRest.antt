@@ -55,9 +55,9 @@ module _ (one : OneHeader) (Allows : Header → List ℕ → Type 0) (Refused : 
       sym (u.carries ∙ (ap (λ (t : List ℕ). chain (first_chunks 65536 p.index t)) (sym front.1) ∙ ap chain (first_chunks-append 65536 p.index copied front.0 (omega (arith, size)))))
 
   pub undamaged_rest : (keep : Positions) (written : ℕ) (position : Option Position) (fault : FileFault) → ResumeFails keep Allows p Refused old new written position fault → StopsOutside fault
-  undamaged_rest keep written position (Head x) f = start_undamaged one Allows Refused old.main.source.remaining text u.whole new.main.source.remaining old.main.source.failed new.main.source.failed (Head x) f.1
-  undamaged_rest keep written position (Key x) f = start_undamaged one Allows Refused old.main.source.remaining text u.whole new.main.source.remaining old.main.source.failed new.main.source.failed (Key x) f.1
-  undamaged_rest keep written position NonceCut f = start_undamaged one Allows Refused old.main.source.remaining text u.whole new.main.source.remaining old.main.source.failed new.main.source.failed NonceCut f.1
+  undamaged_rest keep written position (Head x) f = start_undamaged one Allows Refused old.main.source new.main.source text u.whole (Head x) f.1
+  undamaged_rest keep written position (Key x) f = start_undamaged one Allows Refused old.main.source new.main.source text u.whole (Key x) f.1
+  undamaged_rest keep written position NonceCut f = start_undamaged one Allows Refused old.main.source new.main.source text u.whole NonceCut f.1
   undamaged_rest keep written position OtherFile f = absurd (f.4 (own_file f.1 f.2 f.3))
   undamaged_rest keep written position PositionForged f = absurd (f.5 (own_tag f.1 f.2 f.3))
   undamaged_rest keep written position ShortText f =

@@ -1,5 +1,7 @@
 -- What a decryption did.
-use Rattle.std.specs.Prelude.{◌≡◌, ◌⊎◌, ℕ, ◌*◌, ◌/◌, ◌≤◌, min, List, [], ◌++◌, length, Option, Some, None, IsSomeAnd, Bool, true, false, Result, IfOk, IfErr, OnOk, MatchResult}
+use Rattle.std.specs.Prelude.{◌≡◌, ◌⊎◌, ℕ, ◌*◌, ◌/◌, ◌≤◌, min, List, [], ◌++◌, length, Option, Some}
+use Rattle.std.specs.Prelude.{None, IsSomeAnd, Bool, true, false, Result, IfOk, IfErr, OnOk}
+use Rattle.std.specs.Prelude.{MatchResult}
 use Rattle.std.specs.Simd.{first_chunks}
 use Rattle.std.specs.Io.KnownBytes.{Consumes, Appends, IsAtEnd}
 use Rattle.age_stanza.specs.declared.header.Header.{Header}
@@ -24,7 +26,8 @@ use Rattle.age_file.specs.Starts.{StartFails}
 use Rattle.age_file.specs.declared.decryption.Done.{Done}
 use Rattle.age_file.specs.declared.decryption.Stopped.{Stopped}
 use Rattle.age_file.specs.declared.fault.FileFault.{FileFault}
-use Rattle.age_file.specs.declared.fault.FileFault.TheVariants.{Stream, Read, Write, Memory, ReadNeverEnds}
+use Rattle.age_file.specs.declared.fault.FileFault.TheVariants.{Stream, Read, Write, Memory}
+use Rattle.age_file.specs.declared.fault.FileFault.TheVariants.{ReadNeverEnds}
 
 -- one piece from a start, with an end or without
 abbrev pub segment : ℕ → List ℕ → Bool → Segment
@@ -136,8 +139,7 @@ module _ (keep : Positions) (Allows : Header → List ℕ → Type 0) where
       × NeverEnds old.source.remaining new.source.remaining
   DecryptFails Refused old new written position fault =
       WritesNone old new written position
-      × StartFails Allows Refused old.source.remaining new.source.remaining
-      old.source.failed new.source.failed fault
+      × StartFails Allows Refused old.source new.source fault
 
 -- what a decryption promises of its answers: how it ended, and how it stopped
 abbrev pub DecryptEnds : (Header → List ℕ → Type 0) → Ports → Ports → Done → Type 0

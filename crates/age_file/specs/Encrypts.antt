@@ -12,7 +12,8 @@ use Rattle.age_file.specs.Ports.{Ports, NoneFailed}
 use Rattle.age_file.specs.Secrets.{SecretView}
 use Rattle.age_file.specs.declared.encryption.Written.{Written}
 use Rattle.age_file.specs.declared.fault.FileFault.{FileFault}
-use Rattle.age_file.specs.declared.fault.FileFault.TheVariants.{Stream, Read, Write, Memory, ReadNeverEnds}
+use Rattle.age_file.specs.declared.fault.FileFault.TheVariants.{Stream, Read, Write, Memory}
+use Rattle.age_file.specs.declared.fault.FileFault.TheVariants.{ReadNeverEnds}
 
 -- the bytes are the age file of the text for the passphrase: its header has one scrypt stanza
 abbrev pub AgeFile : SecretView → List ℕ → List ℕ → Type 0

@@ -1,21 +1,34 @@
 -- The numbers and places of faults, and when each comes.
-use Rattle.std.specs.Prelude.{◌≡◌, ◌⊎◌, ℕ, ◌^◌, ◌-◌, ◌*◌, ◌<◌, ◌≤◌, List, ◌++◌, length, Option, Some, None, codes}
+use Rattle.std.specs.Prelude.{◌≡◌, ◌⊎◌, ℕ, ◌^◌, ◌-◌, ◌*◌, ◌<◌, ◌≤◌, List, ◌++◌, length, Option}
+use Rattle.std.specs.Prelude.{Some, None, codes}
 use Rattle.std.specs.Io.KnownBytes.{Consumes, IsAtEnd}
+use Rattle.age_io.specs.Views.{SourceView}
 use Rattle.age_stanza.specs.declared.fault.HeadKind.{HeadKind}
-use Rattle.age_stanza.specs.declared.fault.HeadKind.TheVariants.{NotAge, Armored, BadStanzaLine, BadBody, BadEndLine, NoStanza, HeadTooLong, HeadCut, Memory as HeadMemory}
+use Rattle.age_stanza.specs.declared.fault.HeadKind.TheVariants.{NotAge, Armored, BadStanzaLine}
+use Rattle.age_stanza.specs.declared.fault.HeadKind.TheVariants.{BadBody, BadEndLine, NoStanza}
+use Rattle.age_stanza.specs.declared.fault.HeadKind.TheVariants.{HeadTooLong, HeadCut}
+use Rattle.age_stanza.specs.declared.fault.HeadKind.TheVariants.{Memory as HeadMemory}
 use Rattle.age_stanza.specs.declared.fault.HeadFault.{HeadFault}
 use Rattle.age_stanza.specs.FaultNumbers as head
 use Rattle.age_stanza.specs.declared.header.Header.{Header}
 use Rattle.age_stanza.specs.Grammar.{HeadText}
 use Rattle.age_stanza.specs.Faults.{HasHeader, NoFault, IsFault, line_after}
 use Rattle.age_keys.specs.declared.fault.KeyFault.{KeyFault}
-use Rattle.age_keys.specs.declared.fault.KeyFault.TheVariants.{ScryptNotAlone, BadScrypt, WorkTooHigh, NoMatch, WrongKey, MacMismatch, BadX25519, Memory as KeyMemory}
+use Rattle.age_keys.specs.declared.fault.KeyFault.TheVariants.{ScryptNotAlone, BadScrypt}
+use Rattle.age_keys.specs.declared.fault.KeyFault.TheVariants.{WorkTooHigh, NoMatch, WrongKey}
+use Rattle.age_keys.specs.declared.fault.KeyFault.TheVariants.{MacMismatch, BadX25519}
+use Rattle.age_keys.specs.declared.fault.KeyFault.TheVariants.{Memory as KeyMemory}
 use Rattle.age_keys.specs.FaultNumbers as key
 use Rattle.age_stream.specs.declared.fault.StreamKind.{StreamKind}
-use Rattle.age_stream.specs.declared.fault.StreamKind.TheVariants.{ChunkDamaged, ChunkCut, EmptyLast, Truncated, Trailing, TooManyChunks}
+use Rattle.age_stream.specs.declared.fault.StreamKind.TheVariants.{ChunkDamaged, ChunkCut}
+use Rattle.age_stream.specs.declared.fault.StreamKind.TheVariants.{EmptyLast, Truncated, Trailing}
+use Rattle.age_stream.specs.declared.fault.StreamKind.TheVariants.{TooManyChunks}
 use Rattle.age_stream.specs.FaultNumbers as stream
 use Rattle.age_file.specs.declared.fault.FileFault.{FileFault}
-use Rattle.age_file.specs.declared.fault.FileFault.TheVariants.{Head, Key, NonceCut, Stream, BadPosition, OtherFile, ShortText, Read, Write, Memory, ReadNeverEnds, PositionForged, OldTextDiffers}
+use Rattle.age_file.specs.declared.fault.FileFault.TheVariants.{Head, Key, NonceCut, Stream}
+use Rattle.age_file.specs.declared.fault.FileFault.TheVariants.{BadPosition, OtherFile, ShortText}
+use Rattle.age_file.specs.declared.fault.FileFault.TheVariants.{Read, Write, Memory, ReadNeverEnds}
+use Rattle.age_file.specs.declared.fault.FileFault.TheVariants.{PositionForged, OldTextDiffers}
 
 abbrev pub number_of : FileFault → ℕ
 number_of (Head fault) = head.number_of fault.kind
@@ -134,9 +147,9 @@ pub record StopsAtHeader (old new : Option (List ℕ)) : Type 0 where
 
 -- why a header was not read: what the source's bytes and its count of failures have to be for each
 -- fault
-abbrev pub HeadFails : Option (List ℕ) → Option (List ℕ) → ℕ → ℕ → FileFault → Type 0
-HeadFails old new failed_old failed_new (Head fault) = TellsFault old new fault
-HeadFails old new failed_old failed_new Read = HasRisen failed_old failed_new
-HeadFails old new failed_old failed_new Memory = StopsAtHeader old new
-HeadFails old new failed_old failed_new ReadNeverEnds = NeverEnds old new
-HeadFails old new failed_old failed_new other = ⊥
+abbrev pub HeadFails : SourceView → SourceView → FileFault → Type 0
+HeadFails old new (Head fault) = TellsFault old.remaining new.remaining fault
+HeadFails old new Read = HasRisen old.failed new.failed
+HeadFails old new Memory = StopsAtHeader old.remaining new.remaining
+HeadFails old new ReadNeverEnds = NeverEnds old.remaining new.remaining
+HeadFails old new other = ⊥

@@ -18,10 +18,14 @@ use Rattle.age_file.specs.declared.position.Positions.{Positions}
 use Rattle.age_file.specs.declared.decryption.Done.{Done}
 use Rattle.age_file.specs.declared.decryption.Stopped.{Stopped}
 use Rattle.age_file.specs.declared.fault.FileFault.{FileFault}
-use Rattle.age_file.specs.declared.fault.FileFault.TheVariants.{Stream, OtherFile, ShortText, Read, Write, ReadNeverEnds, PositionForged, OldTextDiffers}
+use Rattle.age_file.specs.declared.fault.FileFault.TheVariants.{Stream, OtherFile, ShortText, Read}
+use Rattle.age_file.specs.declared.fault.FileFault.TheVariants.{Write, ReadNeverEnds}
+use Rattle.age_file.specs.declared.fault.FileFault.TheVariants.{PositionForged, OldTextDiffers}
 use Rattle.age_file.specs.Verdicts.{OpenedFile, HasId, HasTag}
 use Rattle.age_file.specs.OldTexts.{IsOldText}
-use Rattle.age_file.specs.Resumes.{ResumePorts, NoPortFailed, Reads, WritesOld, Resumption, segment_at, IsResumption, ResumesOf, IsNextPosition, IsSame, Accepts, Resumed, ResumeDone}
+use Rattle.age_file.specs.Resumes.{ResumePorts, NoPortFailed, Reads, WritesOld, Resumption}
+use Rattle.age_file.specs.Resumes.{segment_at, IsResumption, ResumesOf, IsNextPosition, IsSame}
+use Rattle.age_file.specs.Resumes.{Accepts, Resumed, ResumeDone}
 
 -- the file and the old text, together, gave so much that they are taken for ones that never end
 abbrev pub NeverEnd : ResumePorts → ResumePorts → Type 0
@@ -118,8 +122,7 @@ module _ (keep : Positions) (Allows : Header → List ℕ → Type 0) (p : Posit
       FailsAt (NeverEnd old new) (NeverEnd old new) old new written position
   ResumeFails Refused old new written position fault =
       WritesNone old.main new.main written position
-      × StartFails Allows Refused old.main.source.remaining new.main.source.remaining
-      old.main.source.failed new.main.source.failed fault
+      × StartFails Allows Refused old.main.source new.main.source fault
 
   -- what a resumed decryption promises where it stopped
   abbrev pub ResumeStops : (Header → KeyFault → Type 0) → ResumePorts → ResumePorts → Stopped

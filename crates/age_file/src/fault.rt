@@ -1,8 +1,10 @@
 //! Why a file could not be read or written.
 
 ghost use Rattle.std.specs.Prelude.{◌≡◌};
-ghost use Rattle.age_file.specs.declared.fault.FileFault.TheVariants.{Stream, Memory as MemoryFault};
-ghost use Rattle.age_file.specs.Faults.{number_of, place_of, name_of, head_name_of, key_name_of, stream_name_of};
+ghost use Rattle.age_file.specs.declared.fault.FileFault.TheVariants.{Stream};
+ghost use Rattle.age_file.specs.declared.fault.FileFault.TheVariants.{Memory as MemoryFault};
+ghost use Rattle.age_file.specs.Faults.{number_of, place_of, name_of, head_name_of, key_name_of};
+ghost use Rattle.age_file.specs.Faults.{stream_name_of};
 ghost use Rattle.age_file.specs.inner.Faults.{fault_of, fault_of_key};
 
 use age_io::Memory;

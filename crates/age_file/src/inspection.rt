@@ -3,7 +3,7 @@
 ghost use Rattle.std.specs.Prelude.{◌≡◌, ◌+◌, ◌^◌, ◌<◌, ◌≤◌, ◌*◌, IfOk, IfErr, OnOk, map};
 ghost use Rattle.std.specs.Io.KnownBytes.{IsAtEnd};
 ghost use Rattle.age_file.specs.Faults.{HeadFails};
-ghost use Rattle.age_file.specs.inner.Readers.{SameReader};
+ghost use Rattle.age_file.specs.inner.Readers.{side_of, SameReader};
 ghost use Rattle.age_file.specs.inner.Intakes.{CountsRest, RestFails};
 ghost use Rattle.age_file.specs.Reports.{stanza_report, IsPlainOf, Inspects};
 
@@ -19,15 +19,14 @@ use std::alloc::{AllocError, Global};
 /// Counts the bytes that are left, to the end of the source.
 fn count_rest<S: Source>(reader: &mut Reader<'_, S>) -> Result<u128, FileFault>
     requires { reader.old.intake.now.pulls ≤ 2 ^ 63 }
-    ensures counts { IfOk result (CountsRest (S.view reader.old.source.now).remaining
-        (S.view reader.new.source.now).remaining reader.old.intake.now) }
+    ensures counts { IfOk result (CountsRest (side_of S.view reader.old)
+        (side_of S.view reader.new)) }
     ensures ended { OnOk result (IsAtEnd (S.view reader.new.source.now).remaining) }
     ensures small { IfOk result (λ n. n ≤ 65536 * (2 ^ 63 + 1)) }
     ensures unfailed { OnOk result ((S.view reader.new.source.now).failed ≡
         (S.view reader.old.source.now).failed) }
-    ensures fails { IfErr result (RestFails (S.view reader.old.source.now).remaining
-        (S.view reader.new.source.now).remaining (S.view reader.old.source.now).failed
-        (S.view reader.new.source.now).failed reader.old.intake.now) }
+    ensures fails { IfErr result (RestFails (side_of S.view reader.old)
+        (side_of S.view reader.new)) }
     ensures same { SameReader reader.old reader.new }
 {
     let mut count = reader.intake.bytes().len() as u128;
@@ -94,8 +93,7 @@ pub fn inspect<S: Source>(alloc: Global, source: &mut S) -> Result<Report, FileF
         (S.view source.new).remaining) }
     ensures unfailed { OnOk result ((S.view source.new).failed ≡ (S.view source.old).failed) }
     // When each fault comes.
-    ensures fails { IfErr result (HeadFails (S.view source.old).remaining
-        (S.view source.new).remaining (S.view source.old).failed (S.view source.new).failed) }
+    ensures fails { IfErr result (HeadFails (S.view source.old) (S.view source.new)) }
 {
     let mut intake = Intake::new(alloc)?;
     let mut reader = Reader {

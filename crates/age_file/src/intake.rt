@@ -2,7 +2,7 @@
 
 ghost use Rattle.std.specs.Prelude.{◌≡◌, ◌≤◌, ◌^◌, [], length, drop, IfOk, take};
 ghost use Rattle.age_file.specs.inner.Intakes.{Refills};
-ghost use Rattle.age_file.specs.inner.Unread.{Unread};
+ghost use Rattle.age_file.specs.inner.Unread.{Unread, side};
 
 use crate::fault::FileFault;
 use age_io::Source;
@@ -87,8 +87,8 @@ impl Intake {
     /// Pulls, where all bytes were used. False: the source is at its end.
     pub(crate) fn refill<S: Source>(&mut self, source: &mut S) -> Result<bool, FileFault>
         requires { self.old.bytes ≡ [] }
-        ensures { Refills (S.view source.old).remaining (S.view source.new).remaining
-            (S.view source.old).failed (S.view source.new).failed self.old self.new result }
+        ensures { Refills (side (S.view source.old) self.old) (side (S.view source.new) self.new)
+            result }
     {
         if self.pulls == MOST_PULLS {
             return Err(FileFault::ReadNeverEnds);

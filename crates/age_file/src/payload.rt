@@ -3,7 +3,7 @@
 ghost use Rattle.std.specs.Prelude.{◌≡◌, ◌+◌, ◌^◌, ◌<◌, ◌≤◌, length, IfOk, OnOk, true};
 ghost use Rattle.age_file.specs.inner.Boxes.{opens};
 ghost use Rattle.age_file.specs.inner.Releases.{FeedsOnce, FeedsPiece, Closes};
-ghost use Rattle.age_file.specs.inner.Flows.{HasRoom, Turns, OpensAll};
+ghost use Rattle.age_file.specs.inner.Flows.{HasRoom, Turns};
 ghost use Rattle.age_file.specs.inner.Payloads.{HasPlace, DecryptsPayload};
 ghost use Rattle.age_file.specs.inner.Readers.{tally_of, flow_of, stage_of, SameReader, SameWriter};
 
@@ -76,22 +76,6 @@ fn turn<S: Source, O: Sink>(
     reader.intake.refill(reader.source)
 }
 
-/// Opens what a source gives, up to its end.
-fn open_all<S: Source, O: Sink>(
-    opener: &mut PayloadOpener<'_>,
-    reader: &mut Reader<'_, S>,
-    writer: &mut Writer<'_, O>,
-) -> Result<(), FileFault>
-    requires { HasRoom (flow_of S.view O.view opener.old reader.old writer.old) }
-    ensures opened { OpensAll opens 65536 (flow_of S.view O.view opener.old reader.old writer.old)
-        (flow_of S.view O.view opener.new reader.new writer.new) result }
-    ensures same_reader { SameReader reader.old reader.new }
-    ensures same_writer { SameWriter writer.old writer.new }
-{
-    'turns: while turn(opener, reader, writer)? {}
-    Ok(())
-}
-
 /// Ends the opener, and writes the chunk that comes out.
 fn close<O: Sink>(
     opener: &mut PayloadOpener<'_>,
@@ -139,6 +123,6 @@ pub(crate) fn decrypt_payload<S: Source, O: Sink>(
     ensures same_writer { SameWriter writer.old writer.new }
 {
     let mut opener = PayloadOpener::at(key, index);
-    open_all(&mut opener, reader, writer)?;
+    'turns: while turn(&mut opener, reader, writer)? {}
     finish(&mut opener, writer)
 }

@@ -1,7 +1,8 @@
 //! Positions in a payload, at which a reader continues after a stop.
 
-ghost use Rattle.std.specs.Prelude.{◌≡◌, ◌<◌, ◌++◌, length, map, codes};
+ghost use Rattle.std.specs.Prelude.{◌≡◌, ◌<◌, ◌++◌, ℕ, List, length, map, codes};
 ghost use Rattle.std.specs.List.{concat};
+ghost use Rattle.sha2.specs.Hashers.{Holds256};
 ghost use Rattle.age_stanza.specs.Text.{text};
 ghost use Rattle.age_file.specs.Bindings.{link, file_id, position_tag};
 
@@ -86,13 +87,12 @@ pub(crate) fn next_link(chain: &[u8; 32], chunk: &[u8]) -> [u8; 32]
     digest.finalize()
 }
 
-/// What tells a file from others: the digest of its header's bytes and its payload nonce.
+/// What tells a file from others: the digest of its header's bytes, which it was fed before, and
+/// its payload nonce.
 #[tactic(auto, unfolding(crate::specs::Bindings::file_id))]
-pub(crate) fn file_id(front: &[u8], nonce: &[u8; 16]) -> [u8; 32]
-    ensures { result ≡ file_id front.now nonce.now }
+pub(crate) fn file_id(mut digest: Sha256, nonce: &[u8; 16]) -> [u8; 32]
+    ensures { (front : List ℕ) → Holds256 digest front → result ≡ file_id front nonce.now }
 {
-    let mut digest = Sha256::new();
-    digest.update(front);
     digest.update(nonce);
     digest.finalize()
 }

@@ -13,8 +13,8 @@ use age_io::{Failed, Sink};
 /// that it took before are counted.
 pub fn put_all<O: Sink>(sink: &mut O, bytes: &[u8], written: &mut u128) -> Result<(), Failed>
     requires { written.old + length bytes.now < 2 ^ 128 }
-    ensures writes { Writes (O.view sink.old).taken (O.view sink.new).taken (O.view sink.old).failed
-        (O.view sink.new).failed written.old written.new bytes.now result }
+    ensures writes { Writes (O.view sink.old) (O.view sink.new) written.old written.new bytes.now
+        result }
     ensures named { (O.view sink.new).label ≡ (O.view sink.old).label }
 {
     let mut at = 0;
@@ -29,8 +29,8 @@ pub fn put_all<O: Sink>(sink: &mut O, bytes: &[u8], written: &mut u128) -> Resul
 /// Writes all of some bytes, and counts them in the same way. It refuses with `Write` (27) alone.
 pub fn write_all<O: Sink>(sink: &mut O, bytes: &[u8], written: &mut u128) -> Result<(), FileFault>
     requires { written.old + length bytes.now < 2 ^ 128 }
-    ensures writes { Writes (O.view sink.old).taken (O.view sink.new).taken (O.view sink.old).failed
-        (O.view sink.new).failed written.old written.new bytes.now result }
+    ensures writes { Writes (O.view sink.old) (O.view sink.new) written.old written.new bytes.now
+        result }
     ensures fault { IfErr result (λ fault. fault ≡ Write) }
     ensures named { (O.view sink.new).label ≡ (O.view sink.old).label }
 {

@@ -4,7 +4,8 @@ ghost use Rattle.std.specs.Prelude.{◌≡◌, ◌^◌, ◌≤◌, [], length, I
 ghost use Rattle.age_stream.specs.Sealing.{Holds};
 ghost use Rattle.age_file.specs.inner.Boxes.{seals};
 ghost use Rattle.age_file.specs.inner.Readers.{tally_of, ports_of, SameReader, SameWriter};
-ghost use Rattle.age_file.specs.inner.Seals.{IsFeeding, HasRoom, SealsOnce, SealsPiece, SealsLast, SealsSource, SealsAll, SealsFront};
+ghost use Rattle.age_file.specs.inner.Seals.{IsFeeding, HasRoom, SealsOnce, SealsPiece, SealsLast};
+ghost use Rattle.age_file.specs.inner.Seals.{SealsSource, SealsAll, SealsFront};
 
 use crate::fault::FileFault;
 use crate::put::{flush_all, write_all};

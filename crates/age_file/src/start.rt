@@ -1,8 +1,9 @@
 //! Reads a file up to its payload.
 
-ghost use Rattle.std.specs.Prelude.{◌≡◌, ◌+◌, ◌-◌, ◌≤◌, [], ◌++◌, length, take, min, IfOk, IfErr, OnOk};
+ghost use Rattle.std.specs.Prelude.{◌≡◌, ◌+◌, ◌-◌, ◌≤◌, [], ◌++◌, length, take, min, IfOk, IfErr};
+ghost use Rattle.std.specs.Prelude.{OnOk};
 ghost use Rattle.age_file.specs.Starts.{StartFails};
-ghost use Rattle.age_file.specs.inner.Readers.{SameReader};
+ghost use Rattle.age_file.specs.inner.Readers.{side_of, SameReader};
 ghost use Rattle.age_file.specs.inner.Starts.{Uses, SomeAnswers, NonceFails, StartsAt};
 
 use crate::fault::FileFault;
@@ -11,7 +12,7 @@ use crate::position::file_id;
 use crate::reader::Reader;
 use age_io::Source;
 use age_keys::{FileKey, Unlock, open_header};
-use age_stanza::{encode_head, one_header};
+use age_stanza::one_header;
 use std::alloc::Global;
 
 /// What a file's payload is opened with.
@@ -25,11 +26,8 @@ pub(crate) struct Unlocked {
 
 /// Pulls if the buffer is empty; false at the end of the source.
 pub(crate) fn some_bytes<S: Source>(reader: &mut Reader<'_, S>) -> Result<bool, FileFault>
-    ensures answers { SomeAnswers (S.view reader.new.source.now).remaining
-        (S.view reader.old.source.now).failed (S.view reader.new.source.now).failed
-        reader.new.intake.now result }
-    ensures uses { Uses (S.view reader.old.source.now).remaining
-        (S.view reader.new.source.now).remaining reader.old.intake.now reader.new.intake.now [] }
+    ensures answers { SomeAnswers (side_of S.view reader.old) (side_of S.view reader.new) result }
+    ensures uses { Uses (side_of S.view reader.old) (side_of S.view reader.new) [] }
     ensures same { SameReader reader.old reader.new }
 {
     if !reader.intake.bytes().is_empty() {
@@ -51,13 +49,11 @@ fn copy_some(from: &[u8], into: &mut [u8; 16], have: usize) -> usize
 
 /// Reads the payload nonce.
 fn take_nonce<S: Source>(reader: &mut Reader<'_, S>) -> Result<[u8; 16], FileFault>
-    ensures found { IfOk result (Uses (S.view reader.old.source.now).remaining
-        (S.view reader.new.source.now).remaining reader.old.intake.now reader.new.intake.now) }
+    ensures found { IfOk result (Uses (side_of S.view reader.old) (side_of S.view reader.new)) }
     ensures unfailed { OnOk result ((S.view reader.new.source.now).failed ≡
         (S.view reader.old.source.now).failed) }
-    ensures fails { IfErr result (NonceFails (S.view reader.old.source.now).remaining
-        (S.view reader.new.source.now).remaining (S.view reader.old.source.now).failed
-        (S.view reader.new.source.now).failed reader.old.intake.now reader.new.intake.now) }
+    ensures fails { IfErr result (NonceFails (side_of S.view reader.old)
+        (side_of S.view reader.new)) }
     ensures same { SameReader reader.old reader.new }
 {
     let mut nonce = [0; 16];
@@ -80,21 +76,18 @@ pub(crate) fn start<U: Unlock, S: Source>(
     reader: &mut Reader<'_, S>,
 ) -> Result<Unlocked, FileFault>
     requires { (reader.old.intake.now.bytes ≡ []) × (reader.old.intake.now.pulls ≡ 0) }
-    ensures found { IfOk result (StartsAt (U.allows unlock.now)
-        (S.view reader.old.source.now).remaining (S.view reader.new.source.now).remaining
-        reader.new.intake.now) }
+    ensures found { IfOk result (StartsAt (U.allows unlock.now) (S.view reader.old.source.now)
+        (side_of S.view reader.new)) }
     ensures unfailed { OnOk result ((S.view reader.new.source.now).failed ≡
         (S.view reader.old.source.now).failed) }
     ensures fails { IfErr result (StartFails (U.allows unlock.now) (U.refuses unlock.now)
-        (S.view reader.old.source.now).remaining (S.view reader.new.source.now).remaining
-        (S.view reader.old.source.now).failed (S.view reader.new.source.now).failed) }
+        (S.view reader.old.source.now) (S.view reader.new.source.now)) }
     ensures same { SameReader reader.old reader.new }
 {
     one_header();
-    let header = read_head(alloc, reader)?.header;
-    let key = open_header(alloc, &header, unlock)?;
-    let front = encode_head(alloc, &header)?;
+    let head = read_head(alloc, reader)?;
+    let key = open_header(alloc, &head.header, unlock)?;
     let nonce = take_nonce(reader)?;
-    let id = file_id(front.as_slice(), &nonce);
+    let id = file_id(head.digest, &nonce);
     Ok(Unlocked { key, nonce, id })
 }

@@ -1,5 +1,6 @@
 -- What was copied of an old text. Only private functions cite this. A chunk has n bytes.
-use Rattle.std.specs.Prelude.{◌≢◌, ◌≡◌, ℕ, ◌+◌, ◌*◌, ◌<◌, List, [], ◌++◌, length, Some, Result, MatchResult}
+use Rattle.std.specs.Prelude.{◌≢◌, ◌≡◌, ℕ, ◌+◌, ◌*◌, ◌<◌, List, [], ◌++◌, length, Some, Result}
+use Rattle.std.specs.Prelude.{MatchResult}
 use Rattle.std.specs.Simd.{first_chunks}
 use Rattle.std.specs.Io.KnownBytes.{Appends, IsAtEnd}
 use Rattle.age_stream.specs.Headline.{IsPrefixOf}
@@ -9,9 +10,11 @@ use Rattle.age_file.specs.inner.Bindings.{link_if, chain_if}
 use Rattle.age_file.specs.declared.position.Positions.{Positions}
 use Rattle.age_file.specs.declared.position.Positions.TheVariants.{Kept}
 use Rattle.age_file.specs.inner.Releases.{Tally}
-use Rattle.age_file.specs.inner.Skips.{Side, Passes, Dries}
+use Rattle.age_file.specs.inner.Unread.{Side}
+use Rattle.age_file.specs.inner.Skips.{Passes, Dries}
 use Rattle.age_file.specs.declared.fault.FileFault.{FileFault}
-use Rattle.age_file.specs.declared.fault.FileFault.TheVariants.{ShortText, Read, Write, ReadNeverEnds, OldTextDiffers}
+use Rattle.age_file.specs.declared.fault.FileFault.TheVariants.{ShortText, Read, Write}
+use Rattle.age_file.specs.declared.fault.FileFault.TheVariants.{ReadNeverEnds, OldTextDiffers}
 
 -- what was written of the old text, fewer bytes than were to be copied: all that the source gave,
 -- or its front where the sink failed

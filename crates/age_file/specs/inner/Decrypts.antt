@@ -1,7 +1,7 @@
 -- What a decryption did.
 use Rattle.std.specs.Prelude.{◌≡◌, ℕ, List, Option, Some, None, IsSomeAnd}
 use Rattle.age_keys.specs.Keys.{position_key}
-use Rattle.age_file.specs.Bindings.{file_id, chain, position_tag}
+use Rattle.age_file.specs.Bindings.{position_tag}
 use Rattle.age_file.specs.declared.position.Position.{Position}
 use Rattle.age_file.specs.declared.start.Unlocked.{Unlocked}
 

@@ -4,12 +4,9 @@ use Rattle.std.specs.Io.KnownBytes.{Consumes}
 use Rattle.age_stanza.specs.declared.fault.HeadKind.{HeadKind}
 use Rattle.age_stanza.specs.declared.fault.HeadKind.TheVariants.{Memory as HeadMemory}
 use Rattle.age_stanza.specs.declared.fault.HeadFault.{HeadFault}
-use Rattle.age_stanza.specs.FaultNumbers as head
 use Rattle.age_stanza.specs.Faults.{HasHeader}
 use Rattle.age_keys.specs.declared.fault.KeyFault.{KeyFault}
 use Rattle.age_keys.specs.declared.fault.KeyFault.TheVariants.{Memory as KeyMemory}
-use Rattle.age_keys.specs.FaultNumbers as key
-use Rattle.age_stream.specs.FaultNumbers as stream
 use Rattle.age_file.specs.declared.fault.FileFault.{FileFault}
 use Rattle.age_file.specs.declared.fault.FileFault.TheVariants.{Head, Key, Memory}
 

@@ -1,12 +1,14 @@
 -- What flows from a source through an opener to a sink. Only private functions cite this. A chunk
 -- has n bytes.
-use Rattle.std.specs.Prelude.{◌≡◌, ℕ, ◌+◌, ◌*◌, ◌^◌, ◌<◌, ◌≤◌, List, [], ◌++◌, length, Option, Result, MatchResult, Bool, true, false}
+use Rattle.std.specs.Prelude.{◌≡◌, ℕ, ◌+◌, ◌*◌, ◌^◌, ◌<◌, ◌≤◌, List, [], ◌++◌, length, Option}
+use Rattle.std.specs.Prelude.{Result, MatchResult, Bool, true, false}
 use Rattle.std.specs.Io.KnownBytes.{IsAtEnd}
 use Rattle.age_io.specs.Views.{SourceView}
 use Rattle.age_stream.specs.declared.step.Status.TheVariants.{Failed}
 use Rattle.age_stream.specs.Deliveries.{with_piece}
 use Rattle.age_stream.specs.Opening.{OpenerView}
 use Rattle.age_file.specs.Faults.{HasRisen}
+use Rattle.age_file.specs.Ports.{Ports, ports, NoneFailed}
 use Rattle.age_file.specs.inner.Unread.{Unread}
 use Rattle.age_file.specs.inner.Intakes.{Pulled}
 use Rattle.age_file.specs.inner.Releases.{Tally, Releases}
@@ -35,28 +37,27 @@ module _ {B : Type 0} where
       (length f.opener.held + f.tally.progress.written + length f.unread.bytes
       ≤ 2 ^ 64 + 65536 * f.unread.pulls) × (f.unread.pulls ≤ 2 ^ 63)
 
-  abbrev pub SameFailures : Flow B → Flow B → Type 0
-  SameFailures old new = (new.tally.sink.failed ≡ old.tally.sink.failed)
-      × (new.source.failed ≡ old.source.failed)
+  abbrev pub ports_in : Flow B → Ports
+  ports_in f = ports f.source f.tally.sink
 
   -- why it stopped, with what was left and not written
   abbrev pub FlowFails : Flow B → Flow B → List ℕ → List ℕ → FileFault → Type 0
   FlowFails old new left unwritten (Stream fault) = (new.opener.status ≡ Failed fault) × (left ≡ [])
-      × (unwritten ≡ []) × SameFailures old new
+      × (unwritten ≡ []) × NoneFailed (ports_in old) (ports_in new)
   FlowFails old new left unwritten Write = HasRisen old.tally.sink.failed new.tally.sink.failed
   FlowFails old new left unwritten Read = (left ≡ []) × (unwritten ≡ [])
       × HasRisen old.source.failed new.source.failed
   FlowFails old new left unwritten ReadNeverEnds = (left ≡ []) × (unwritten ≡ [])
       × (new.unread.pulls ≡ 2 ^ 63)
-      × SameFailures old new
+      × NoneFailed (ports_in old) (ports_in new)
   FlowFails old new left unwritten other = ⊥
 
   abbrev pub TurnGoes : Flow B → Flow B → List ℕ → List ℕ → Bool → Type 0
   TurnGoes old new left unwritten true = (left ≡ new.unread.bytes) × (unwritten ≡ [])
-      × SameFailures old new
-      × HasRoom new × (new.unread.pulls ≡ old.unread.pulls + 1)
-  TurnGoes old new left unwritten false = (left ≡ []) × (unwritten ≡ []) × SameFailures old new
-      × IsAtEnd new.source.remaining
+      × NoneFailed (ports_in old) (ports_in new) × HasRoom new
+      × (new.unread.pulls ≡ old.unread.pulls + 1)
+  TurnGoes old new left unwritten false = (left ≡ []) × (unwritten ≡ [])
+      × NoneFailed (ports_in old) (ports_in new) × IsAtEnd new.source.remaining
       × (length new.opener.held + new.tally.progress.written < 2 ^ 128)
 
   module _ (opening : B → List ℕ → List ℕ → Option (List ℕ)) (n : ℕ) where

@@ -1,9 +1,12 @@
 -- What pulls into the intake did. What only the private parts of the engines cite.
-use Rattle.std.specs.Prelude.{◌≡◌, ℕ, ◌+◌, ◌*◌, ◌^◌, ◌<◌, ◌≤◌, List, [], ◌++◌, length, Option, Result, Ok, Err, Bool, true, false}
+use Rattle.std.specs.Prelude.{◌≡◌, ℕ, ◌+◌, ◌*◌, ◌^◌, ◌<◌, ◌≤◌, List, [], ◌++◌, length, Option}
+use Rattle.std.specs.Prelude.{Result, Ok, Err, Bool, true, false}
 use Rattle.std.specs.Io.KnownBytes.{Consumes, IsAtEnd}
+use Rattle.age_io.specs.Views.{SourceView}
+use Rattle.sha2.specs.Hashers.{Holds256}
 use Rattle.age_stanza.specs.Grammar.{HeadText}
 use Rattle.age_file.specs.Faults.{HasRisen, NeverEnds}
-use Rattle.age_file.specs.inner.Unread.{Unread}
+use Rattle.age_file.specs.inner.Unread.{Side}
 use Rattle.age_file.specs.declared.head.Head.{Head}
 use Rattle.age_file.specs.declared.fault.FileFault.{FileFault}
 use Rattle.age_file.specs.declared.fault.FileFault.TheVariants.{Read, ReadNeverEnds}
@@ -15,46 +18,48 @@ pub record Pulled (start now : Option (List ℕ)) (pulls : ℕ) (bytes : List �
   pub small : length bytes ≤ 65536 * pulls
   pub most : pulls ≤ 2 ^ 63
 
--- why a pull gave nothing
-abbrev pub PullFails : ℕ → ℕ → ℕ → FileFault → Type 0
-PullFails pulls failed_old failed_new Read = HasRisen failed_old failed_new
-PullFails pulls failed_old failed_new ReadNeverEnds = pulls ≡ 2 ^ 63
-PullFails pulls failed_old failed_new other = ⊥
+-- why a source gave nothing: the pull failed, or none was made, after so many that gave some
+abbrev pub PullFails : Side → Side → FileFault → Type 0
+PullFails old new Read = HasRisen old.source.failed new.source.failed
+PullFails old new ReadNeverEnds = (new.unread.pulls ≡ 2 ^ 63)
+    × (new.source.failed ≡ old.source.failed)
+PullFails old new other = ⊥
 
-abbrev pub Refilled : Option (List ℕ) → ℕ → ℕ → Unread → Unread → Result Bool FileFault → Type 0
-Refilled now failed_old failed_new old new (Ok true) = (0 < length new.bytes)
-    × (length new.bytes ≤ 65536) × (new.pulls ≤ 2 ^ 63) × (new.pulls ≡ old.pulls + 1)
-    × (failed_new ≡ failed_old)
-Refilled now failed_old failed_new old new (Ok false) = (new.bytes ≡ []) × (new.pulls ≡ old.pulls)
-    × IsAtEnd now × (failed_new ≡ failed_old)
-Refilled now failed_old failed_new old new (Err fault) = (new.bytes ≡ []) × (new.pulls ≡ old.pulls)
-    × PullFails old.pulls failed_old failed_new fault
-    × (fault ≡ ReadNeverEnds → failed_new ≡ failed_old)
+abbrev pub Refilled : Side → Side → Result Bool FileFault → Type 0
+Refilled old new (Ok true) = (0 < length new.unread.bytes) × (length new.unread.bytes ≤ 65536)
+    × (new.unread.pulls ≤ 2 ^ 63) × (new.unread.pulls ≡ old.unread.pulls + 1)
+    × (new.source.failed ≡ old.source.failed)
+Refilled old new (Ok false) = (new.unread.bytes ≡ []) × (new.unread.pulls ≡ old.unread.pulls)
+    × IsAtEnd new.source.remaining × (new.source.failed ≡ old.source.failed)
+Refilled old new (Err fault) = (new.unread.bytes ≡ []) × (new.unread.pulls ≡ old.unread.pulls)
+    × PullFails old new fault
 
 -- one pull, where no byte was left: what was pulled from any start is now that and the fresh bytes
-pub record Refills (before now : Option (List ℕ)) (failed_old failed_new : ℕ) (old new : Unread)
-    (result : Result Bool FileFault) : Type 0 where
-  pub answered : Refilled now failed_old failed_new old new result
-  pub pulled : (start : Option (List ℕ)) (bytes : List ℕ) → Pulled start before old.pulls bytes
-      → Pulled start now new.pulls (bytes ++ new.bytes)
+pub record Refills (old new : Side) (result : Result Bool FileFault) : Type 0 where
+  pub answered : Refilled old new result
+  pub pulled : (start : Option (List ℕ)) (bytes : List ℕ)
+      → Pulled start old.source.remaining old.unread.pulls bytes
+      → Pulled start new.source.remaining new.unread.pulls (bytes ++ new.unread.bytes)
 
 -- a header was read, and what follows it is in the intake
-pub record ReadsHead (old new : Option (List ℕ)) (unread : Unread) (head : Head) : Type 0 where
+pub record ReadsHead (old : SourceView) (new : Side) (head : Head) : Type 0 where
   pub front : List ℕ
   pub text : HeadText head.header front
   pub len_is : head.len ≡ length front
-  pub pulled : Pulled old new unread.pulls (front ++ unread.bytes)
+  pub hashed : Holds256 head.digest front
+  pub pulled : Pulled old.remaining new.source.remaining new.unread.pulls
+      (front ++ new.unread.bytes)
 
 -- the rest of a source was read to its end: so many bytes, those in the intake among them
-abbrev pub CountsRest : Option (List ℕ) → Option (List ℕ) → Unread → ℕ → Type 0
-CountsRest before now old count = (start : Option (List ℕ)) (used : List ℕ)
-    → Pulled start before old.pulls (used ++ old.bytes)
-    → (rest : List ℕ) × (count ≡ length rest) × Consumes start now (used ++ rest)
+abbrev pub CountsRest : Side → Side → ℕ → Type 0
+CountsRest old new count = (start : Option (List ℕ)) (used : List ℕ)
+    → Pulled start old.source.remaining old.unread.pulls (used ++ old.unread.bytes)
+    → (rest : List ℕ) × (count ≡ length rest) × Consumes start new.source.remaining (used ++ rest)
 
 -- why the rest could not be read
-abbrev pub RestFails : Option (List ℕ) → Option (List ℕ) → ℕ → ℕ → Unread → FileFault → Type 0
-RestFails before now failed_old failed_new old Read = HasRisen failed_old failed_new
-RestFails before now failed_old failed_new old ReadNeverEnds = (start : Option (List ℕ))
-    (used : List ℕ) → Pulled start before old.pulls (used ++ old.bytes)
-    → NeverEnds start now
-RestFails before now failed_old failed_new old other = ⊥
+abbrev pub RestFails : Side → Side → FileFault → Type 0
+RestFails old new Read = HasRisen old.source.failed new.source.failed
+RestFails old new ReadNeverEnds = (start : Option (List ℕ)) (used : List ℕ)
+    → Pulled start old.source.remaining old.unread.pulls (used ++ old.unread.bytes)
+    → NeverEnds start new.source.remaining
+RestFails old new other = ⊥

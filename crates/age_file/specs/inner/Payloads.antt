@@ -1,5 +1,6 @@
 -- What was made of the bytes behind a nonce. Only private functions cite this. A chunk has n bytes.
-use Rattle.std.specs.Prelude.{◌≡◌, ℕ, ◌+◌, ◌*◌, ◌^◌, ◌≤◌, List, ◌++◌, length, Option, Result, MatchResult, Bool, true}
+use Rattle.std.specs.Prelude.{◌≡◌, ℕ, ◌+◌, ◌*◌, ◌^◌, ◌≤◌, List, ◌++◌, length, Option, Result}
+use Rattle.std.specs.Prelude.{MatchResult, Bool, true}
 use Rattle.std.specs.Simd.{first_chunks}
 use Rattle.std.specs.Io.KnownBytes.{Appends, IsAtEnd}
 use Rattle.age_io.specs.Views.{SourceView}
@@ -7,6 +8,7 @@ use Rattle.age_stream.specs.declared.step.Status.TheVariants.{Failed, Done}
 use Rattle.age_stream.specs.Segment.{Segment, outcome, released}
 use Rattle.age_stream.specs.Headline.{IsPrefixOf}
 use Rattle.age_file.specs.Faults.{HasRisen}
+use Rattle.age_file.specs.Ports.{Ports, ports, NoneFailed}
 use Rattle.age_file.specs.inner.Unread.{Unread}
 use Rattle.age_file.specs.inner.Intakes.{Pulled}
 use Rattle.age_file.specs.inner.Releases.{Tally}
@@ -30,26 +32,25 @@ abbrev pub HasPlace : Stage → Type 0
 HasPlace s = (s.tally.progress.written + length s.unread.bytes ≤ 2 ^ 64 + 65536 * s.unread.pulls)
     × (s.unread.pulls ≤ 2 ^ 63)
 
-abbrev pub NoneFailed : Stage → Stage → Type 0
-NoneFailed old new = (new.tally.sink.failed ≡ old.tally.sink.failed)
-    × (new.source.failed ≡ old.source.failed)
+abbrev pub ports_at : Stage → Ports
+ports_at s = ports s.source s.tally.sink
 
 module _ (opening : List ℕ → List ℕ → Option (List ℕ)) (n : ℕ) where
   -- all of the text was written, and the fault is where the segment stands; unless the sink failed
   abbrev pub PayloadFails : Stage → Stage → Segment → List ℕ → FileFault → Type 0
   PayloadFails old new s out (Stream fault) = ((outcome opening n s).status ≡ Failed fault)
-      × (out ≡ released opening n s) × NoneFailed old new
+      × (out ≡ released opening n s) × NoneFailed (ports_at old) (ports_at new)
   PayloadFails old new s out Write = HasRisen old.tally.sink.failed new.tally.sink.failed
   PayloadFails old new s out Read = (out ≡ released opening n s)
       × HasRisen old.source.failed new.source.failed
   PayloadFails old new s out ReadNeverEnds = (out ≡ released opening n s)
       × (new.unread.pulls ≡ 2 ^ 63)
-      × NoneFailed old new
+      × NoneFailed (ports_at old) (ports_at new)
   PayloadFails old new s out other = ⊥
 
   abbrev pub PayloadDone : Stage → Stage → Segment → List ℕ → Type 0
   PayloadDone old new s out = (s.ended ≡ true) × ((outcome opening n s).status ≡ Done)
-      × (out ≡ released opening n s) × NoneFailed old new
+      × (out ≡ released opening n s) × NoneFailed (ports_at old) (ports_at new)
 
   -- the bytes that were pulled are a segment, and the beginning of its text was written
   pub record DecryptsPayload (start : ℕ) (old new : Stage) (result : Result (Unit {0}) FileFault)

@@ -4,7 +4,7 @@ use Rattle.age_io.specs.Views.{SourceView, SinkView}
 use Rattle.age_stream.specs.Opening.{OpenerView}
 use Rattle.age_file.specs.Ports.{Ports, ports}
 use Rattle.age_file.specs.inner.Releases.{Tally, tally}
-use Rattle.age_file.specs.inner.Skips.{Side, side}
+use Rattle.age_file.specs.inner.Unread.{Side, side}
 use Rattle.age_file.specs.inner.Flows.{Flow, flow}
 use Rattle.age_file.specs.inner.Payloads.{Stage, stage}
 use Rattle.age_file.specs.declared.reader.Reader.{Reader}

@@ -2,7 +2,8 @@
 -- this.
 use Rattle.std.specs.Prelude.{◌≡◌, ◌⊎◌, ℕ, ◌*◌, List, ◌++◌, length, Option, Result, Err}
 use Rattle.age_file.specs.inner.Intakes.{Pulled}
-use Rattle.age_file.specs.inner.Skips.{Side, side, Passes, SkipFails}
+use Rattle.age_file.specs.inner.Unread.{Side, side}
+use Rattle.age_file.specs.inner.Skips.{Passes, SkipFails}
 use Rattle.age_file.specs.inner.Payloads.{Stage, DecryptsPayload}
 use Rattle.age_file.specs.declared.fault.FileFault.{FileFault}
 

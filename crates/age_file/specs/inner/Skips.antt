@@ -1,33 +1,25 @@
 -- What of a source was passed over, and what of an old text was copied. Only private functions cite
 -- this.
-use Rattle.std.specs.Prelude.{◌≡◌, ℕ, ◌+◌, ◌*◌, ◌<◌, ◌≤◌, List, [], length, Option, Result, Ok, Err, Bool, true, false}
+use Rattle.std.specs.Prelude.{◌≡◌, ℕ, ◌+◌, ◌*◌, ◌<◌, ◌≤◌, List, [], length, Result, Ok, Err}
+use Rattle.std.specs.Prelude.{Bool, true, false}
 use Rattle.std.specs.Io.KnownBytes.{IsAtEnd}
-use Rattle.age_io.specs.Views.{SourceView}
 use Rattle.age_stream.specs.declared.fault.StreamKind.TheVariants.{Truncated}
-use Rattle.age_file.specs.inner.Unread.{Unread}
+use Rattle.age_file.specs.inner.Unread.{Side}
 use Rattle.age_file.specs.inner.Intakes.{PullFails}
 use Rattle.age_file.specs.inner.Starts.{Uses}
 use Rattle.age_file.specs.declared.fault.FileFault.{FileFault}
 use Rattle.age_file.specs.declared.fault.FileFault.TheVariants.{Stream, Read, ReadNeverEnds}
 
--- what is seen of a source, and what was pulled and not used
-pub record Side : Type 0 where
-  pub source : SourceView
-  pub unread : Unread
-
-abbrev pub side : SourceView → Unread → Side
-side source unread = record { source = source; unread = unread }
-
 -- these bytes of a source were used, and no pull failed
 pub record Passes (old new : Side) (bytes : List ℕ) : Type 0 where
-  pub uses : Uses old.source.remaining new.source.remaining old.unread new.unread bytes
+  pub uses : Uses old new bytes
   pub unfailed : new.source.failed ≡ old.source.failed
 
 -- a pull gave no more, and all that was pulled was used
 pub record Dries (old new : Side) (bytes : List ℕ) (fault : FileFault) : Type 0 where
-  pub uses : Uses old.source.remaining new.source.remaining old.unread new.unread bytes
+  pub uses : Uses old new bytes
   pub used : new.unread.bytes ≡ []
-  pub why : PullFails new.unread.pulls old.source.failed new.source.failed fault
+  pub why : PullFails old new fault
 
 -- so many bytes were passed over, or the source ended before, or failed
 abbrev pub SkipsBlock : ℕ → Side → Side → Result Bool FileFault → Type 0

@@ -1,6 +1,5 @@
 -- Whether a position is a file's, and was made under its key.
 use Rattle.std.specs.Prelude.{◌≡◌, ◌≢◌, ℕ, List, Result, MatchResult}
-use Rattle.age_file.specs.Bindings.{file_id}
 use Rattle.age_file.specs.declared.position.Position.{Position}
 use Rattle.age_file.specs.declared.fault.FileFault.{FileFault}
 use Rattle.age_file.specs.declared.fault.FileFault.TheVariants.{OtherFile, PositionForged}

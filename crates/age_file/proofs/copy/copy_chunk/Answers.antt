@@ -7,7 +7,7 @@ use Rattle.sha2.specs.Hashers.{Holds256}
 use Rattle.age_stream.specs.Headline.{IsPrefixOf}
 use Rattle.age_file.specs.Faults.{HasRisen}
 use Rattle.age_file.specs.inner.Bindings.{link_if}
-use Rattle.age_file.specs.inner.Skips.{side}
+use Rattle.age_file.specs.inner.Unread.{side}
 use Rattle.age_file.proofs.Bytes.{Appends-then}
 use Rattle.age_file.proofs.StartSteps.{uses_front}
 use Rattle.age_file.proofs.SkipSteps.{passes_then, passes_same, dries_same}
@@ -107,7 +107,7 @@ parts-preserved g c =
     let put = c.in_ok-write_all.ensures.writes in
     let whole : put.out ≡ take n bytes = all_out (take n bytes) put.out put.unwritten put.parts put.answered.0 in
     let wrote = subst (λ (t : List ℕ). Appends (g.O.Sink.view c.parts.writer.sink.now).taken (g.O.Sink.view c.write_all.new.sink).taken t) whole put.wrote in
-    let front = uses_front (g.S.Source.view c.some_bytes.new.reader.source.now).remaining c.some_bytes.new.reader.intake.now c.use_front.new.self bytes n c.use_front.ensures.pulls c.bytes-in-parts.ensures.bytes c.use_front.ensures.bytes in
+    let front = uses_front (g.S.Source.view c.some_bytes.new.reader.source.now) c.some_bytes.new.reader.intake.now c.use_front.new.self bytes n c.use_front.ensures.pulls c.bytes-in-parts.ensures.bytes c.use_front.ensures.bytes in
     record {
       same_reader = (c.in_ok-some_bytes.ensures.same.0 ∙ kept.same_reader.0, c.in_ok-some_bytes.ensures.same.1 ∙ kept.same_reader.1);
       same_writer = kept.same_writer;

@@ -1,4 +1,5 @@
 use Rattle.std.proofs.Common.{◌-◌, ◌^◌, ◌≡◌, ◌<◌, ℕ, [], List, length}
+use Rattle.sha2.specs.Hashers.{Holds256}
 use Rattle.age_stanza.specs.Faults.{HasHeader, NoFault}
 use Rattle.age_stanza.specs.Parsing.{reading}
 use Rattle.age_file.specs.inner.Intakes.{Pulled}
@@ -11,6 +12,7 @@ invariant-pieces g l = record {
   held : List ℕ;
   parser_is : l.parser ≡ reading held;
   len_is : l.len ≡ length held;
+  hashed : Holds256 l.digest held;
   short : length held < 1048576;
   none : HasHeader held → ⊥;
   sound : NoFault held;

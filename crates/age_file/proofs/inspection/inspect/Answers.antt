@@ -1,9 +1,11 @@
-use Rattle.std.proofs.Common.{◌≡◌, ◌++◌, ℕ, List, Option, refl, subst, rules}
+use Rattle.std.proofs.Common.{◌≡◌, ◌++◌, ℕ, List, refl, subst, rules}
 use Rattle.std.proofs.lemmas.Result.{err_from_is_err_and}
 use Rattle.std.specs.Io.KnownBytes.{Consumes, IsAtEnd}
 use Rattle.age_file.specs.Faults.{HasRisen, HeadFails}
 use Rattle.age_file.specs.inner.Intakes.{Pulled, RestFails}
-use Rattle.age_file.specs.inner.Unread.{Unread}
+use Rattle.age_io.specs.Views.{SourceView}
+use Rattle.age_file.specs.inner.Unread.{Side}
+use Rattle.age_file.specs.inner.Readers.{side_of}
 use Rattle.age_file.specs.declared.fault.FileFault.{FileFault}
 use Rattle.age_file.specs.declared.fault.FileFault.TheVariants.{Read, ReadNeverEnds}
 use Rattle.age_file.proofs.Bytes.{stops_unread}
@@ -11,11 +13,11 @@ use Rattle.age_file.proofs.ReaderSteps.{read_last}
 use Rattle.age_file.proofs.inspection.inspect.Goals as goal
 
 -- a rest that could not be read, behind a header that was
-rest_to_head : (start mid now : Option (List ℕ)) (failed_old failed_mid failed_new : ℕ) (u : Unread) (front : List ℕ) (fault : FileFault) → failed_mid ≡ failed_old
-    → Pulled start mid u.pulls (front ++ u.bytes) → RestFails mid now failed_mid failed_new u fault → HeadFails start now failed_old failed_new fault
-rest_to_head start mid now a b d u front Read same h f = subst (λ (k : ℕ). HasRisen k d) same f
-rest_to_head start mid now a b d u front ReadNeverEnds same h f = f start front h
-rest_to_head start mid now a b d u front other same h f = absurd f
+rest_to_head : (first : SourceView) (mid now : Side) (front : List ℕ) (fault : FileFault) → mid.source.failed ≡ first.failed → Pulled first.remaining mid.source.remaining mid.unread.pulls (front ++ mid.unread.bytes)
+    → RestFails mid now fault → HeadFails first now.source fault
+rest_to_head first mid now front Read same h f = subst (λ (k : ℕ). HasRisen k now.source.failed) same f
+rest_to_head first mid now front ReadNeverEnds same h f = f first.remaining front h
+rest_to_head first mid now front other same h f = absurd f
 
 pub returns-in_err-intake-clause-fails : goal.returns-in_err-intake-clause-fails
 returns-in_err-intake-clause-fails g c =
@@ -27,11 +29,10 @@ returns-in_err-rest-clause-fails g c =
     let p = err_from_is_err_and c.from_residual-in_err-rest.result c.from_residual-in_err-rest.ensures.1 in
     let head = c.in_ok-head.ensures.found in
     let first = g.S.Source.view c.args.source.now in
-    let mid = g.S.Source.view c.read_head.new.reader.source.now in
-    let last = g.S.Source.view c.count_rest.new.reader.source.now in
-    let fails = rest_to_head first.remaining mid.remaining last.remaining first.failed mid.failed last.failed c.read_head.new.reader.intake.now head.front c.in_err-rest.field-0.0
-    c.in_ok-head.ensures.unfailed head.pulled c.in_err-rest.ensures.fails in
-    rw (p.1, p.2) (read_last g.S.Source.view (λ v. HeadFails first.remaining v.remaining first.failed v.failed c.in_err-rest.field-0.0) _ c.count_rest.new.reader.source.now (search rules) fails)
+    let mid = side_of g.S.Source.view c.read_head.new.reader in
+    let last = side_of g.S.Source.view c.count_rest.new.reader in
+    let fails = rest_to_head first mid last head.front c.in_err-rest.field-0.0 c.in_ok-head.ensures.unfailed head.pulled c.in_err-rest.ensures.fails in
+    rw (p.1, p.2) (read_last g.S.Source.view (λ v. HeadFails first v c.in_err-rest.field-0.0) _ c.count_rest.new.reader.source.now (search rules) fails)
 
 pub returns-clause-ok : goal.returns-clause-ok
 returns-clause-ok g c =

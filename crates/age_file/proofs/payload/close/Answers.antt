@@ -1,4 +1,4 @@
-use Rattle.std.proofs.Common.{◌-◌, ap, ◌∙◌, arith, List, ℕ, [], ◌++◌, refl}
+use Rattle.std.proofs.Common.{ap, ◌∙◌, arith, List, ℕ, [], ◌++◌, refl}
 use Rattle.std.proofs.lemmas.Result.{err_from_is_err_and}
 use Rattle.std.proofs.KnownBytes.{Appends-nil}
 use Rattle.age_stream.specs.Segment.{released}

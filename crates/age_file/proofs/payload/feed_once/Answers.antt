@@ -1,4 +1,4 @@
-use Rattle.std.proofs.Common.{◌∙◌, ◌++◌, Some, None, List, ℕ, ap, ◌≡◌, ◌-◌, take, drop, sym, arith, [], append-nil, refl}
+use Rattle.std.proofs.Common.{◌∙◌, ◌++◌, Some, None, List, ℕ, ap, ◌≡◌, take, drop, sym, arith, [], append-nil, refl}
 use Rattle.std.proofs.lemmas.Result.{err_from_is_err_and}
 use Rattle.std.proofs.lemmas.List.{take-append-drop}
 use Rattle.std.proofs.KnownBytes.{Appends-nil}

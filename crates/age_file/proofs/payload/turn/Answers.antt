@@ -1,4 +1,4 @@
-use Rattle.std.proofs.Common.{refl, ◌-◌}
+use Rattle.std.proofs.Common.{refl}
 use Rattle.std.proofs.lemmas.Result.{err_from_is_err_and}
 use Rattle.age_file.specs.inner.Boxes.{opens}
 use Rattle.age_file.specs.inner.Flows.{flow}

@@ -2,7 +2,7 @@ use Rattle.std.proofs.Common.{◌∙◌, ◌++◌, [], None, refl, rules, Ok, Er
 use Rattle.age_cipher.specs.Opening.{opening}
 use Rattle.std.proofs.KnownBytes.{Appends-nil, Consumes-nil}
 use Rattle.age_file.specs.inner.Releases.{tally}
-use Rattle.age_file.specs.inner.Skips.{side}
+use Rattle.age_file.specs.inner.Unread.{side}
 use Rattle.age_file.specs.inner.Payloads.{stage}
 use Rattle.age_file.specs.Ports.{ports}
 use Rattle.age_file.specs.Resumes.{resume_ports}

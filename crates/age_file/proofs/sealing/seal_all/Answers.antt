@@ -1,4 +1,4 @@
-use Rattle.std.proofs.Common.{◌-◌, ◌*◌, ◌^◌, ◌≤◌, length, ap, sym, subst, ◌∙◌, arith, ℕ, ◌++◌, rules}
+use Rattle.std.proofs.Common.{◌*◌, ◌^◌, ◌≤◌, length, ap, sym, subst, ◌∙◌, arith, ℕ, ◌++◌}
 use Rattle.std.proofs.lemmas.Result.{err_from_is_err_and}
 use Rattle.std.proofs.lemmas.Nat.{mul-le}
 use Rattle.age_file.specs.inner.Boxes.{opens, seals}

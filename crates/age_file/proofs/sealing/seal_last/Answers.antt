@@ -1,4 +1,4 @@
-use Rattle.std.proofs.Common.{◌-◌, ◌++◌, ◌∙◌, ap, List, ℕ}
+use Rattle.std.proofs.Common.{◌++◌, ◌∙◌, ap, List, ℕ}
 use Rattle.age_file.specs.inner.Boxes.{seals}
 use Rattle.age_file.specs.inner.Seals.{front_of}
 use Rattle.age_file.proofs.Bytes.{answer_as}

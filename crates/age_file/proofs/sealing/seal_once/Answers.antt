@@ -1,4 +1,4 @@
-use Rattle.std.proofs.Common.{ℕ, ◌≡◌, ◌-◌, take, drop, sym, ap, ◌∙◌, arith, [], ◌++◌, append-nil, refl}
+use Rattle.std.proofs.Common.{ℕ, ◌≡◌, take, drop, sym, ap, ◌∙◌, arith, [], ◌++◌, append-nil, refl}
 use Rattle.std.proofs.lemmas.Result.{err_from_is_err_and}
 use Rattle.std.proofs.lemmas.List.{length-take}
 use Rattle.std.proofs.KnownBytes.{Appends-nil}

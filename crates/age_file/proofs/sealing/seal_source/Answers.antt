@@ -1,8 +1,9 @@
-use Rattle.std.proofs.Common.{◌≡◌, ◌-◌, ◌<◌, length, ap, sym, subst, ◌∙◌, arith, List, ℕ, [], ◌++◌, refl, append-nil, rules}
+use Rattle.std.proofs.Common.{◌≡◌, ◌<◌, length, ap, sym, subst, ◌∙◌, arith, List, ℕ, [], ◌++◌, refl, append-nil}
 use Rattle.std.proofs.lemmas.Result.{err_from_is_err_and}
 use Rattle.std.proofs.KnownBytes.{Appends-nil, Consumes-nil}
 use Rattle.std.proofs.lemmas.List.{length-append}
 use Rattle.age_file.specs.inner.Boxes.{seals}
+use Rattle.age_file.specs.inner.Unread.{side}
 use Rattle.age_file.specs.inner.Intakes.{Pulled}
 use Rattle.age_file.specs.inner.Seals.{Wrote, front_of}
 use Rattle.age_file.specs.Ports.{ports}
@@ -59,7 +60,8 @@ returns-in_err-refill-clause-fails g c =
       moved = record { read = all.consumed; wrote = kept.wrote.bytes; count = kept.wrote.count; small = omega (arith, all.small, all.most) };
       prefix = front_begins (seals c.args.sealer.now.key) n kept.text;
       fails = pull_fails n (ports (g.S.Source.view c.args.reader.now.source.now) (g.O.Sink.view c.args.writer.now.sink.now))
-          (ports (g.S.Source.view c.refill.new.source) (g.O.Sink.view c.pulls.writer.sink.now)) kept.text _ _ _ c.in_err-refill.field-0.0 kept.read_failed refl kept.pulled.each_gave r.answered.2;
+          (ports (g.S.Source.view c.refill.new.source) (g.O.Sink.view c.pulls.writer.sink.now)) kept.text
+          (side (g.S.Source.view c.pulls.reader.source.now) c.pulls.reader.intake.now) (side (g.S.Source.view c.refill.new.source) c.refill.new.self) c.in_err-refill.field-0.0 kept.read_failed refl all.each_gave r.answered.2;
     })
 
 pub seal_piece-requires : goal.seal_piece-requires
