@@ -1,5 +1,6 @@
 -- The AEAD of ChaCha20 and Poly1305 (RFC 8439, 2.8).
-use Rattle.std.specs.Prelude.{◌≡◌, ℕ, ◌-◌, ◌%◌, List, [], ◌∷◌, ◌++◌, length, replicate}
+use Rattle.std.specs.Prelude.{◌≡◌, ℕ, ◌-◌, ◌%◌, List, [], ◌∷◌, ◌++◌, length}
+use Rattle.std.specs.Prelude.{replicate}
 use Rattle.std.specs.List.{concat}
 use Rattle.std.specs.Int.{w64, to_le_bytes}
 use Rattle.age_cipher.specs.Keystream.{ciphertext}

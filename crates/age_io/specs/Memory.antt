@@ -1,5 +1,7 @@
 -- Sources and sinks over memory: what each call answers and leaves, by their plan of failures.
-use Rattle.std.specs.Prelude.{◌≡◌, ◌≢◌, ◌⊎◌, ℕ, ◌+◌, ◌-◌, ◌^◌, min, List, [], ◌++◌, length, take, drop, Option, Some, Result, Ok, Err, Bool, true, false}
+use Rattle.std.specs.Prelude.{◌≡◌, ◌≢◌, ◌⊎◌, ℕ, ◌+◌, ◌-◌, ◌^◌, min, List, []}
+use Rattle.std.specs.Prelude.{◌++◌, length, take, drop, Option, Some, Result, Ok, Err, Bool, true}
+use Rattle.std.specs.Prelude.{false}
 use Rattle.age_io.specs.declared.failed.Failed.{Failed}
 
 -- a count after one more; it stays at the greatest value of its type

@@ -1,6 +1,7 @@
 //! Where bytes go.
 
-ghost use Rattle.std.specs.Prelude.{◌≡◌, ◌<◌, ◌≤◌, ℕ, [], length, true, IfOk, OnOk, MatchResult};
+ghost use Rattle.std.specs.Prelude.{◌≡◌, ◌<◌, ◌≤◌, ℕ, [], length, true, IfOk, OnOk};
+ghost use Rattle.std.specs.Prelude.{MatchResult};
 ghost use Rattle.std.specs.Io.KnownBytes.{WriteAppends, Keeps};
 ghost use Rattle.age_io.specs.Memory.{one_more};
 ghost use Rattle.age_io.specs.Views.{SinkView};

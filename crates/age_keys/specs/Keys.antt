@@ -1,5 +1,6 @@
 -- The keys of an age file (C2SP age.md, "File key", "Header MAC", "Payload", "Recipient stanza").
-use Rattle.std.specs.Prelude.{◌≡◌, ℕ, Bool, true, false, nat_lt, ◌&&◌, List, [], ◌∷◌, length, codes}
+use Rattle.std.specs.Prelude.{◌≡◌, ℕ, Bool, true, false, nat_lt, ◌&&◌, List, [], ◌∷◌}
+use Rattle.std.specs.Prelude.{length, codes}
 use Rattle.std.specs.Prelude.{replicate, Ok}
 use Rattle.std.specs.List.{list_any}
 use Rattle.std.specs.Str.{bytes_eq}

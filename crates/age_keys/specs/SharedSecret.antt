@@ -1,6 +1,7 @@
 -- What a shared secret finds in a header, and what it refuses (C2SP age.md, "The X25519 recipient
 -- type").
-use Rattle.std.specs.Prelude.{◌≡◌, ◌⊎◌, ℕ, Bool, true, false, List, ◌∷◌, ◌++◌, Any, replicate}
+use Rattle.std.specs.Prelude.{◌≡◌, ◌⊎◌, ℕ, Bool, true, false, List, ◌∷◌, ◌++◌, Any}
+use Rattle.std.specs.Prelude.{replicate}
 use Rattle.std.specs.Prelude.{codes}
 use Rattle.std.specs.List.{list_any, AllByRecursion}
 use Rattle.age_stanza.specs.declared.header.Stanza.{Stanza}

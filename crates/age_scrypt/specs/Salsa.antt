@@ -1,5 +1,6 @@
 -- The Salsa20/8 core (RFC 7914, section 3), on lists of sixteen 32-bit words.
-use Rattle.std.specs.Prelude.{ℕ, zero, suc, ◌+◌, ◌%◌, ◌^◌, List, bit_xor, slice_index, slice_set}
+use Rattle.std.specs.Prelude.{ℕ, zero, suc, ◌+◌, ◌%◌, ◌^◌, List, bit_xor, slice_index}
+use Rattle.std.specs.Prelude.{slice_set}
 use Rattle.std.specs.Int.{w32, rotate_left}
 use Rattle.std.specs.Simd.Lanes.{zip2}
 

@@ -1,6 +1,7 @@
 //! A part of a block: sixteen words in four vectors.
 
-ghost use Rattle.std.specs.Prelude.{◌≡◌, ◌≢◌, ℕ, ◌+◌, ◌<◌, ◌≤◌, ◌++◌, length, take, drop};
+ghost use Rattle.std.specs.Prelude.{◌≡◌, ◌≢◌, ℕ, ◌+◌, ◌<◌, ◌≤◌, ◌++◌, length};
+ghost use Rattle.std.specs.Prelude.{take, drop};
 ghost use Rattle.std.specs.Simd.Lanes.{zip2};
 ghost use Rattle.age_scrypt.specs.Salsa.{add32};
 ghost use Rattle.age_scrypt.specs.BlockMix.{xor_words, part};

@@ -1,6 +1,7 @@
 //! ROMix with r = 8 (RFC 7914, section 5), over one flat table of words.
 
-ghost use Rattle.std.specs.Prelude.{◌≡◌, ℕ, ◌+◌, ◌*◌, ◌%◌, ◌^◌, ◌<◌, ◌≤◌, List, length, vec_len};
+ghost use Rattle.std.specs.Prelude.{◌≡◌, ℕ, ◌+◌, ◌*◌, ◌%◌, ◌^◌, ◌<◌, ◌≤◌};
+ghost use Rattle.std.specs.Prelude.{List, length, vec_len};
 ghost use Rattle.std.specs.Prelude.{vec_capacity};
 ghost use Rattle.age_scrypt.specs.BlockMix.{xor_words};
 ghost use Rattle.age_scrypt.specs.Romix.{v_block, integerify, romix};

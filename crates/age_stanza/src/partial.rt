@@ -1,6 +1,7 @@
 //! The part of a header that came so far.
 
-ghost use Rattle.std.specs.Prelude.{◌≡◌, ◌++◌, ◌+◌, ◌<◌, ◌≤◌, [], length, take, OnOk, IfErr};
+ghost use Rattle.std.specs.Prelude.{◌≡◌, ◌++◌, ◌+◌, ◌<◌, ◌≤◌, [], length, take, OnOk};
+ghost use Rattle.std.specs.Prelude.{IfErr};
 ghost use Rattle.age_stanza.specs.Faults.{line_after, memory_fault, IsLine};
 ghost use Rattle.age_stanza.specs.inner.LineMachine.{fault_at as spec_fault_at, Gives};
 ghost use Rattle.age_stanza.specs.inner.LineMachine.{step as step_of};

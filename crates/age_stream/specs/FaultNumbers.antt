@@ -1,7 +1,9 @@
 -- How a refusal of a stream is numbered among all faults.
 use Rattle.std.specs.Prelude.{ℕ}
 use Rattle.age_stream.specs.declared.fault.StreamKind.{StreamKind}
-use Rattle.age_stream.specs.declared.fault.StreamKind.TheVariants.{ChunkDamaged, ChunkCut, EmptyLast, Truncated, Trailing, TooManyChunks}
+use Rattle.age_stream.specs.declared.fault.StreamKind.TheVariants.{ChunkDamaged, ChunkCut}
+use Rattle.age_stream.specs.declared.fault.StreamKind.TheVariants.{EmptyLast, Truncated, Trailing}
+use Rattle.age_stream.specs.declared.fault.StreamKind.TheVariants.{TooManyChunks}
 
 abbrev pub number_of : StreamKind → ℕ
 number_of ChunkDamaged = 17

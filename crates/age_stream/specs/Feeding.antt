@@ -1,5 +1,6 @@
 -- What an opener is once a call returned and what was lent is back. A chunk has n bytes.
-use Rattle.std.specs.Prelude.{◌≡◌, ℕ, ◌+◌, ◌≤◌, List, [], ◌++◌, length, false, Result, IfOk, IfErr, OnOk, IfSome, IfNone}
+use Rattle.std.specs.Prelude.{◌≡◌, ℕ, ◌+◌, ◌≤◌, List, [], ◌++◌, length, false, Result}
+use Rattle.std.specs.Prelude.{IfOk, IfErr, OnOk, IfSome, IfNone}
 use Rattle.std.specs.List.{flat_map}
 use Rattle.std.specs.Borrow.{Bor}
 use Rattle.age_stream.specs.declared.step.Status.TheVariants.{Done, Failed}
@@ -8,7 +9,8 @@ use Rattle.age_stream.specs.declared.fault.StreamFault.{StreamFault}
 use Rattle.age_stream.specs.Lawful.{Seals, Opens}
 use Rattle.age_stream.specs.Segment.{Segment, released}
 use Rattle.age_stream.specs.Deliveries.{with_piece, with_end}
-use Rattle.age_stream.specs.Opening.{OpenerView, Stands, given, handed, handed_bytes, chunk_texts, has_failed}
+use Rattle.age_stream.specs.Opening.{OpenerView, Stands, given, handed, handed_bytes, chunk_texts}
+use Rattle.age_stream.specs.Opening.{has_failed}
 use Rattle.age_stream.specs.Lent.{chunk_bytes}
 use Rattle.age_stream.specs.Headline.{ReleasesWritten}
 

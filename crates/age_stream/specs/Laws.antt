@@ -1,10 +1,12 @@
 -- Laws over the definitions. A chunk has n bytes.
-use Rattle.std.specs.Prelude.{◌≡◌, ◌≢◌, ℕ, ◌+◌, ◌-◌, ◌*◌, ◌<◌, ◌≤◌, Bool, false, List, [], ◌++◌, length, take}
+use Rattle.std.specs.Prelude.{◌≡◌, ◌≢◌, ℕ, ◌+◌, ◌-◌, ◌*◌, ◌<◌, ◌≤◌, Bool}
+use Rattle.std.specs.Prelude.{false, List, [], ◌++◌, length, take}
 use Rattle.std.specs.List.{flat_map}
 use Rattle.std.specs.Simd.{first_chunks}
 use Rattle.age_stream.specs.Lawful.{Opens, Seals, OfAllBoxes}
 use Rattle.age_stream.specs.Nonce.{nonce_bytes, chunk_limit}
-use Rattle.age_stream.specs.Payload.{last_index, chunk_count, sealed_before_last, block_bytes, payload}
+use Rattle.age_stream.specs.Payload.{last_index, chunk_count, sealed_before_last, block_bytes}
+use Rattle.age_stream.specs.Payload.{payload}
 use Rattle.age_stream.specs.Segment.{Segment, Outcome, outcome, released}
 use Rattle.age_stream.specs.Deliveries.{with_piece, with_end, fresh}
 use Rattle.age_stream.specs.Headline.{IsPrefixOf, ReleasesWritten}

@@ -1,6 +1,7 @@
 -- Each block in its place: what a segment gives where its blocks are compared with the writer's. A
 -- chunk has n bytes.
-use Rattle.std.specs.Prelude.{◌≡◌, ◌≢◌, ℕ, ◌+◌, ◌-◌, ◌<◌, Bool, false, ◌&&◌, List, [], ◌∷◌, Contains, Some, None, if◌then◌else◌}
+use Rattle.std.specs.Prelude.{◌≡◌, ◌≢◌, ℕ, ◌+◌, ◌-◌, ◌<◌, Bool, false, ◌&&◌}
+use Rattle.std.specs.Prelude.{List, [], ◌∷◌, Contains, Some, None, if◌then◌else◌}
 use Rattle.std.specs.Str.{bytes_eq}
 use Rattle.age_stream.specs.Lawful.{Seals, Opens}
 use Rattle.age_stream.specs.Nonce.{nonce_bytes}

@@ -1,5 +1,6 @@
 -- What a sealer is once a call returned and what was lent is back. A chunk has n bytes.
-use Rattle.std.specs.Prelude.{◌≡◌, ℕ, List, ◌++◌, length, take, true, false, Result, IfOk, OnOk, OnErr}
+use Rattle.std.specs.Prelude.{◌≡◌, ℕ, List, ◌++◌, length, take, true, false, Result, IfOk, OnOk}
+use Rattle.std.specs.Prelude.{OnErr}
 use Rattle.std.specs.Borrow.{Bor}
 use Rattle.age_stream.specs.declared.step.Step.{Step}
 use Rattle.age_stream.specs.declared.fault.StreamFault.{StreamFault}

@@ -1,6 +1,8 @@
 -- What an opener makes of a segment: the bytes that came from one start up to the next. A chunk has
 -- n bytes, its block n + 16.
-use Rattle.std.specs.Prelude.{ℕ, ◌+◌, ◌*◌, ◌/◌, Bool, true, false, not, ◌||◌, ◌&&◌, ◌==◌, nat_lt, List, [], ◌∷◌, ◌++◌, length, take, drop, Option, Some, None, is_some, is_none, if◌then◌else◌}
+use Rattle.std.specs.Prelude.{ℕ, ◌+◌, ◌*◌, ◌/◌, Bool, true, false, not, ◌||◌, ◌&&◌}
+use Rattle.std.specs.Prelude.{◌==◌, nat_lt, List, [], ◌∷◌, ◌++◌, length, take, drop, Option}
+use Rattle.std.specs.Prelude.{Some, None, is_some, is_none, if◌then◌else◌}
 use Rattle.std.specs.List.{flat_map}
 use Rattle.std.specs.Simd.{first_chunks}
 use Rattle.age_stream.specs.Lawful.{Opens}
@@ -8,7 +10,9 @@ use Rattle.age_stream.specs.Nonce.{nonce_bytes, chunk_limit}
 use Rattle.age_stream.specs.declared.step.Status.{Status}
 use Rattle.age_stream.specs.declared.step.Status.TheVariants.{Open, LastSeen, Done, Failed}
 use Rattle.age_stream.specs.declared.fault.StreamKind.{StreamKind}
-use Rattle.age_stream.specs.declared.fault.StreamKind.TheVariants.{ChunkDamaged, ChunkCut, EmptyLast, Truncated, Trailing, TooManyChunks}
+use Rattle.age_stream.specs.declared.fault.StreamKind.TheVariants.{ChunkDamaged, ChunkCut}
+use Rattle.age_stream.specs.declared.fault.StreamKind.TheVariants.{EmptyLast, Truncated, Trailing}
+use Rattle.age_stream.specs.declared.fault.StreamKind.TheVariants.{TooManyChunks}
 
 -- the number of its first block, the bytes before its first end, whether an end came, and whether
 -- bytes came after that

@@ -1,5 +1,6 @@
 -- Why a whole text isn't sealed. A chunk has n bytes.
-use Rattle.std.specs.Prelude.{◌≡◌, ℕ, ◌+◌, ◌*◌, ◌-◌, ◌<◌, List, length, Option, Some, None}
+use Rattle.std.specs.Prelude.{◌≡◌, ℕ, ◌+◌, ◌*◌, ◌-◌, ◌<◌, List, length, Option, Some}
+use Rattle.std.specs.Prelude.{None}
 use Rattle.age_stream.specs.Nonce.{chunk_limit}
 use Rattle.age_stream.specs.Payload.{chunk_count}
 use Rattle.age_stream.specs.FaultNumbers.{number_of as number_of_kind}

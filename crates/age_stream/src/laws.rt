@@ -1,6 +1,9 @@
 //! Laws over the definitions, for the layers above.
-ghost use Rattle.age_stream.specs.Laws.{ChunksAreCounted, ClosedStays, EndCloses, FreshIsOpen, NoncesDiffer, PayloadIsLonger, PiecesJoin, ReleasedGrows, ReleasedIsWritten, SealedGrows, SealingsDiffer};
-ghost use Rattle.age_stream.specs.Authentic.{ClearIsSealable, RestIsAuthentic, RoundTrip, UndamagedIsAuthentic, WholeIsAuthentic};
+ghost use Rattle.age_stream.specs.Laws.{ChunksAreCounted, ClosedStays, EndCloses, FreshIsOpen};
+ghost use Rattle.age_stream.specs.Laws.{NoncesDiffer, PayloadIsLonger, PiecesJoin, ReleasedGrows};
+ghost use Rattle.age_stream.specs.Laws.{ReleasedIsWritten, SealedGrows, SealingsDiffer};
+ghost use Rattle.age_stream.specs.Authentic.{ClearIsSealable, RestIsAuthentic, RoundTrip};
+ghost use Rattle.age_stream.specs.Authentic.{UndamagedIsAuthentic, WholeIsAuthentic};
 ghost use Rattle.age_stream.specs.Parts.{ChunksAreOne, SealsChunks};
 
 /// No two chunks of a payload have the same nonce.

@@ -1,5 +1,7 @@
 //! The reader's side: sealed chunks in, text out.
-ghost use Rattle.std.specs.Prelude.{◌≡◌, ◌≢◌, ◌+◌, ◌-◌, ◌<◌, ◌≤◌, [], ◌∷◌, ◌++◌, length, take, min, IfOk, OnOk, IfErr, IfSome, None, Some, true, false, if◌then◌else◌};
+ghost use Rattle.std.specs.Prelude.{◌≡◌, ◌≢◌, ◌+◌, ◌-◌, ◌<◌, ◌≤◌, []};
+ghost use Rattle.std.specs.Prelude.{◌∷◌, ◌++◌, length, take, min, IfOk, OnOk, IfErr, IfSome, None};
+ghost use Rattle.std.specs.Prelude.{Some, true, false, if◌then◌else◌};
 ghost use Rattle.std.specs.Bool.{OnTrue, OnFalse};
 ghost use Rattle.std.specs.List.{flat_map};
 ghost use Rattle.std.specs.Borrow.{sem};
@@ -38,8 +40,10 @@ impl<'k, B: ChunkBox, const SEALED: usize> OpenerState<'k, B, SEALED> {
     ghost use Rattle.age_stream.specs.Segment.{Segment, outcome, released, failed};
     ghost use Rattle.age_stream.specs.inner.SegmentSteps.{final_block, one_block, status_ended};
     ghost use Rattle.age_stream.specs.Deliveries.{with_piece, with_end};
-    ghost use Rattle.age_stream.specs.Opening.{Stands, given, handed, has_failed, text_at_end, held_bytes, opener_view};
-    ghost use Rattle.age_stream.specs.inner.OpenerSteps.{IsTried, TakesPart, TakesWhole, TakesNone, Ends, front_bytes};
+    ghost use Rattle.age_stream.specs.Opening.{Stands, given, handed, has_failed, text_at_end};
+    ghost use Rattle.age_stream.specs.Opening.{held_bytes, opener_view};
+    ghost use Rattle.age_stream.specs.inner.OpenerSteps.{IsTried, TakesPart, TakesWhole, TakesNone};
+    ghost use Rattle.age_stream.specs.inner.OpenerSteps.{Ends, front_bytes};
 
     // Empties the buffer of a text that was lent.
     fn settle(&mut self)
@@ -288,7 +292,8 @@ impl<'k, B: ChunkBox, const SEALED: usize> Model for Opener<'k, B, SEALED> {
 impl<'k, B: ChunkBox, const SEALED: usize> Opener<'k, B, SEALED> {
     ghost use Rattle.age_stream.specs.Segment.{Segment, outcome, released};
     ghost use Rattle.age_stream.specs.Deliveries.{with_piece, with_end, fresh};
-    ghost use Rattle.age_stream.specs.Opening.{Stands, given, handed, handed_bytes, chunk_texts, has_failed, text_at_end};
+    ghost use Rattle.age_stream.specs.Opening.{Stands, given, handed, handed_bytes, chunk_texts};
+    ghost use Rattle.age_stream.specs.Opening.{has_failed, text_at_end};
     ghost use Rattle.age_stream.specs.Feeding.{IsFed, IsEnded};
     ghost use Rattle.age_stream.specs.OpenerRow.{opener_row};
 

@@ -1,5 +1,7 @@
 //! The writer's side: text in, sealed chunks out.
-ghost use Rattle.std.specs.Prelude.{◌≡◌, ℕ, ◌+◌, ◌-◌, ◌<◌, ◌≤◌, List, [], ◌++◌, length, take, IfOk, OnOk, OnErr, IfErr, IfSome, Some, None, IsNone, true, false, if◌then◌else◌};
+ghost use Rattle.std.specs.Prelude.{◌≡◌, ℕ, ◌+◌, ◌-◌, ◌<◌, ◌≤◌, List, [], ◌++◌};
+ghost use Rattle.std.specs.Prelude.{length, take, IfOk, OnOk, OnErr, IfErr, IfSome, Some, None};
+ghost use Rattle.std.specs.Prelude.{IsNone, true, false, if◌then◌else◌};
 ghost use Rattle.std.specs.Borrow.{sem};
 ghost use Rattle.std.specs.Io.BufRead.{Rests};
 ghost use Rattle.age_stream.specs.Nonce.{nonce_bytes, chunk_limit};
@@ -28,7 +30,8 @@ struct SealerState<'k, B: ChunkBox, const SEALED: usize> {
 }
 
 impl<'k, B: ChunkBox, const SEALED: usize> SealerState<'k, B, SEALED> {
-    ghost use Rattle.age_stream.specs.Sealing.{held_text, sealer_view, Holds, step_len, needs_too_many, too_many};
+    ghost use Rattle.age_stream.specs.Sealing.{held_text, sealer_view, Holds, step_len};
+    ghost use Rattle.age_stream.specs.Sealing.{needs_too_many, too_many};
     ghost use Rattle.age_stream.specs.inner.SealerSteps.{bytes_of, IsStep};
     ghost use Rattle.age_stream.specs.SealerCalls.{IsRefused};
     ghost use Rattle.age_stream.specs.Payload.{sealed_before_last, block_bytes, payload};

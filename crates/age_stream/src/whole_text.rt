@@ -1,10 +1,13 @@
 //! A caller of the sealer: it feeds a text, and copies out the blocks that are lent.
-ghost use Rattle.std.specs.Prelude.{◌≡◌, ◌-◌, ◌≤◌, ◌<◌, ◌+◌, ◌*◌, ◌/◌, ◌^◌, ◌++◌, length, IfOk, IfErr, OnOk, IfSome, IfNone, vec_capacity};
+ghost use Rattle.std.specs.Prelude.{◌≡◌, ◌-◌, ◌≤◌, ◌<◌, ◌+◌, ◌*◌, ◌/◌};
+ghost use Rattle.std.specs.Prelude.{◌^◌, ◌++◌, length, IfOk, IfErr, OnOk, IfSome, IfNone};
+ghost use Rattle.std.specs.Prelude.{vec_capacity};
 ghost use Rattle.age_stream.specs.Payload.{payload, chunk_count};
 ghost use Rattle.age_stream.specs.Nonce.{chunk_limit};
 ghost use Rattle.age_stream.specs.Authentic.{GivesBack, IsClosed};
 ghost use Rattle.age_stream.specs.WholeText.{SealRefuses, number_of, place_of};
-ghost use Rattle.age_stream.specs.declared.whole_text.SealFault.TheVariants.{Stream as StreamRefusal, Memory as MemoryRefusal};
+ghost use Rattle.age_stream.specs.declared.whole_text.SealFault.TheVariants.{Stream as StreamRefusal};
+ghost use Rattle.age_stream.specs.declared.whole_text.SealFault.TheVariants.{Memory as MemoryRefusal};
 
 use crate::chunk_box::ChunkBox;
 use crate::fault::StreamFault;

@@ -1,6 +1,7 @@
 -- Private: no public contract cites this module.
 -- What the end of a line, some bytes and a piece do to a part of a header.
-use Rattle.std.specs.Prelude.{◌≡◌, ◌⊎◌, ℕ, ◌<◌, ◌≤◌, List, [], ◌∷◌, ◌++◌, length, take, drop}
+use Rattle.std.specs.Prelude.{◌≡◌, ◌⊎◌, ℕ, ◌<◌, ◌≤◌, List, [], ◌∷◌, ◌++◌}
+use Rattle.std.specs.Prelude.{length, take, drop}
 use Rattle.std.specs.Prelude.{Option, Some, None, Result, Ok, Err}
 use Rattle.age_stanza.specs.declared.fault.HeadFault.{HeadFault}
 use Rattle.age_stanza.specs.declared.header.Header.{Header}
