@@ -55,10 +55,10 @@ longer order more old new f = record {
   front = ap (λ x. x ++ more) f.front ∙ append_assoc f.done f.rest more;
 }
 
-nil_behind : (xs : List Event) → xs ≡ xs ++ []
-nil_behind [] = refl
-nil_behind (x ∷ xs) = ap (λ t. x ∷ t) (nil_behind xs)
+nil_after : (xs : List Event) → xs ≡ xs ++ []
+nil_after [] = refl
+nil_after (x ∷ xs) = ap (λ t. x ∷ t) (nil_after xs)
 
 -- nothing was done so far
 pub none_done : (order old : List Event) → Follows order old old
-none_done order old = record { done = []; rest = order; did = nil_behind old; front = refl }
+none_done order old = record { done = []; rest = order; did = nil_after old; front = refl }

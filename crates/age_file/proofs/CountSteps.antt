@@ -8,7 +8,7 @@ use Rattle.std.proofs.lemmas.List.{length-append, length-take, take_all}
 use Rattle.std.proofs.lemmas.Bool.{cases_lt}
 use Rattle.std.proofs.Math.Bool.{or-false}
 use Rattle.std.proofs.Math.Nat.{le-div_iff_mul-le}
-use Rattle.age_stream.specs.Lawful.{IsLawful}
+use Rattle.age_stream.specs.ChunkBoxes.{IsChunkBox}
 use Rattle.age_stream.specs.Segment.{Segment, Outcome, outcome, released}
 use Rattle.age_stream.specs.Deliveries.{with_piece, with_end, fresh}
 use Rattle.age_stream.specs.Laws.{counted}
@@ -63,7 +63,7 @@ pub no_chain : replicate 32 0 ≡ chain []
 unfolding chain
 no_chain = refl
 
-module _ (sealing : List ℕ → List ℕ → List ℕ) (opening : List ℕ → List ℕ → Option (List ℕ)) (lawful : IsLawful sealing opening) (n : ℕ) (positive : 0 < n) (keep : Positions) where
+module _ (sealing : List ℕ → List ℕ → List ℕ) (opening : List ℕ → List ℕ → Option (List ℕ)) (valid : IsChunkBox sealing opening) (n : ℕ) (positive : 0 < n) (keep : Positions) where
   abbrev at : Segment → ℕ
   at s = (outcome opening n s).index
 
@@ -77,7 +77,7 @@ module _ (sealing : List ℕ → List ℕ → List ℕ) (opening : List ℕ → 
   -- open segments have released whole chunks alone
   open_text : (base : List ℕ) (s : Segment) → length base ≡ s.start * n → counted opening n s ≡ (outcome opening n s).texts → length (base ++ released opening n s) ≡ at s * n
   open_text base s len all =
-      let c = chunks_are_counted sealing opening lawful n base s len in
+      let c = chunks_are_counted sealing opening valid n base s len in
       let text = base ++ released opening n s in
       let e : text ≡ take (at s * n) text = ap (λ (ts : List (List ℕ)). base ++ flat_map (λ (t : List ℕ). t) ts) (sym all) ∙ c.join in
       omega (arith, ap length e, length-take (at s * n) text, c.within)
@@ -85,7 +85,7 @@ module _ (sealing : List ℕ → List ℕ → List ℕ) (opening : List ℕ → 
   -- how many texts were released, by the index
   texts_len : (base : List ℕ) (s : Segment) → length base ≡ s.start * n → at s ≤ s.start + length (outcome opening n s).texts
   texts_len base s len =
-      let c = chunks_are_counted sealing opening lawful n base s len in
+      let c = chunks_are_counted sealing opening valid n base s len in
       omega (arith, c.count, length-take (at s - s.start) (outcome opening n s).texts)
 
   -- a segment is open, or more bytes leave its index
@@ -101,7 +101,7 @@ module _ (sealing : List ℕ → List ℕ → List ℕ) (opening : List ℕ → 
       → CountsChunks keep opening n base s [] p
   mark_all base s p len timely index chain_is =
       let text = base ++ released opening n s in
-      let c = chunks_are_counted sealing opening lawful n base s len in
+      let c = chunks_are_counted sealing opening valid n base s len in
       let x : length text - 0 ≡ length text = omega arith in
       record {
         index = λ more.
@@ -118,7 +118,7 @@ module _ (sealing : List ℕ → List ℕ → List ℕ) (opening : List ℕ → 
   pub mark_index : (base : List ℕ) (s : Segment) (p : Progress) → length base ≡ s.start * n → CountsChunks keep opening n base s [] p → p.index ≡ at s
   mark_index base s p len m =
       let text = base ++ released opening n s in
-      let c = chunks_are_counted sealing opening lawful n base s len in
+      let c = chunks_are_counted sealing opening valid n base s len in
       let x : length text - 0 ≡ length text = omega arith in
       let e : p.index ≡ min (length text / n) (at s) = m.index [] ∙ (ap (λ (t : Segment). min ((length text - 0) / n) (at t)) (no_piece s) ∙ ap (λ (k : ℕ). min (k / n) (at s)) x) in
       let below : at s ≤ length text / n = (le-div_iff_mul-le positive).1 c.within in
@@ -128,7 +128,7 @@ module _ (sealing : List ℕ → List ℕ → List ℕ) (opening : List ℕ → 
   front_stays : (base : List ℕ) (s next : Segment) (more : List ℕ) → length base ≡ s.start * n → released opening n next ≡ released opening n s ++ more
       → first_chunks n (at s) (base ++ released opening n next) ≡ first_chunks n (at s) (base ++ released opening n s)
   front_stays base s next more len e =
-      let c = chunks_are_counted sealing opening lawful n base s len in
+      let c = chunks_are_counted sealing opening valid n base s len in
       ap (λ (t : List ℕ). first_chunks n (at s) (base ++ t)) e
       ∙ (ap (first_chunks n (at s)) (sym (append_assoc base (released opening n s) more)) ∙ first_chunks-append n (at s) (base ++ released opening n s) more c.within)
 
@@ -153,8 +153,8 @@ module _ (sealing : List ℕ → List ℕ → List ℕ) (opening : List ℕ → 
       let next = with_piece s piece in
       let start : next.start ≡ s.start = piece_start s piece in
       let len' : length base ≡ next.start * n = len ∙ ap (λ (k : ℕ). k * n) (sym start) in
-      let c = chunks_are_counted sealing opening lawful n base s len in
-      let c' = chunks_are_counted sealing opening lawful n base next len' in
+      let c = chunks_are_counted sealing opening valid n base s len in
+      let c' = chunks_are_counted sealing opening valid n base next len' in
       let texts = (outcome opening n s).texts in
       let o : (outcome opening n s).status ≡ Open = elim (stays s timely) [ inl o ↦ o | inr same ↦ absurd (omega (arith, lt, (same piece).0)) ] in
       let count : s.start + length texts ≡ at s = ap (λ (xs : List (List ℕ)). s.start + length xs) (sym (c.all o)) ∙ c.count in
@@ -256,8 +256,8 @@ module _ (sealing : List ℕ → List ℕ → List ℕ) (opening : List ℕ → 
       let len' : length base ≡ next.start * n = len ∙ ap (λ (k : ℕ). k * n) (sym (piece_start s piece)) in
       let more_is : IsMore s piece ts = record { texts = texts; few = few } in
       let old = mark_index base s was len m in
-      let c = chunks_are_counted sealing opening lawful n base s len in
-      let c' = chunks_are_counted sealing opening lawful n base next len' in
+      let c = chunks_are_counted sealing opening valid n base s len in
+      let c' = chunks_are_counted sealing opening valid n base next len' in
       let text = base ++ released opening n s in
       let text' = base ++ released opening n next in
       let e = more_released s piece ts more_is ∙ ap (λ (t : List ℕ). released opening n s ++ t) parts in
@@ -305,7 +305,7 @@ module _ (sealing : List ℕ → List ℕ → List ℕ) (opening : List ℕ → 
   mark_end base s out unwritten was now len e index chain_same m =
       let next = with_end s in
       let old = mark_index base s was len m in
-      let c = chunks_are_counted sealing opening lawful n base s len in
+      let c = chunks_are_counted sealing opening valid n base s len in
       let text = base ++ released opening n s in
       let text' = base ++ released opening n next in
       let closes = end_closes opening n s in

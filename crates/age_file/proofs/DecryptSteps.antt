@@ -9,7 +9,7 @@ use Rattle.age_stream.proofs.PublicLaws.{released_is_written}
 use Rattle.age_keys.specs.declared.fault.KeyFault.{KeyFault}
 use Rattle.age_cipher.specs.Opening.{opening}
 use Rattle.age_keys.specs.Keys.{payload_key, position_key}
-use Rattle.age_keys.specs.inner.PayloadBox.{box_lawful}
+use Rattle.age_keys.specs.inner.PayloadBox.{box_valid}
 use Rattle.age_file.specs.Faults.{HasRisen}
 use Rattle.age_io.specs.Views.{SourceView}
 use Rattle.age_file.specs.inner.Intakes.{Pulled}
@@ -53,7 +53,7 @@ released_run r text auth =
     let small : 0 < 281474976710656 = omega arith in
     let fits : 0 * 65536 ≤ length text = omega arith in
     let reached : IsReached (box r.key r.nonce) (unbox r.key r.nonce) 65536 text (segment_of r) = record { limit = small; within = fits } in
-    let o = released_is_written (box r.key r.nonce) (unbox r.key r.nonce) (box_lawful (payload_key r.key r.nonce)) 65536 positive (segment_of r) text auth.0 reached auth.1 in
+    let o = released_is_written (box r.key r.nonce) (unbox r.key r.nonce) (box_valid (payload_key r.key r.nonce)) 65536 positive (segment_of r) text auth.0 reached auth.1 in
     (o.prefix, o.done)
 
 pub writes_of : (r : Run) → IsPrefixOf r.out (text_of r) → WritesOf r

@@ -16,7 +16,7 @@ use Rattle.age_file.specs.Decrypts.{segment}
 use Rattle.age_file.specs.inner.Payloads.{Stage, DecryptsPayload, PayloadFails, PayloadDone}
 use Rattle.age_file.specs.declared.fault.FileFault.{FileFault}
 use Rattle.age_file.specs.declared.fault.FileFault.TheVariants.{Stream, Read, Write, ReadNeverEnds}
-use Rattle.age_stream.specs.Lawful.{IsLawful}
+use Rattle.age_stream.specs.ChunkBoxes.{IsChunkBox}
 use Rattle.std.specs.Simd.{first_chunks}
 use Rattle.age_file.specs.inner.Bindings.{chain_if}
 use Rattle.age_file.specs.declared.position.Positions.{Positions}
@@ -35,7 +35,7 @@ module _ (op : List ℕ → List ℕ → Option (List ℕ)) (n k : ℕ) where
   exact fed left out unwritten e none whole =
       sym (append-nil out) ∙ (ap (λ (t : List ℕ). out ++ t) (sym whole) ∙ (sym e ∙ ap (λ (t : List ℕ). released op n (segment k t false)) (sym (append-nil fed) ∙ ap (λ (t : List ℕ). fed ++ t) (sym none))))
 
-module _ {B : Type 0} (sealing : B → List ℕ → List ℕ → List ℕ) (opening : B → List ℕ → List ℕ → Option (List ℕ)) (lawful : (key : B) → IsLawful (sealing key) (opening key)) (n : ℕ) (positive : 0 < n) where
+module _ {B : Type 0} (sealing : B → List ℕ → List ℕ → List ℕ) (opening : B → List ℕ → List ℕ → Option (List ℕ)) (valid : (key : B) → IsChunkBox (sealing key) (opening key)) (n : ℕ) (positive : 0 < n) where
   abbrev pub stage_of : Flow B → Stage
   stage_of f = record { tally = f.tally; source = f.source; unread = f.unread }
 
@@ -59,9 +59,9 @@ module _ {B : Type 0} (sealing : B → List ℕ → List ℕ → List ℕ) (open
         → was.progress.chain ≡ chain_if keep (first_chunks n k base) → HasCounted keep (opening K) n (base ++ o.out) last now.progress
     counts_of next old new was now more unwritten last key h is o keep base len index chain_is =
         let e = from_start next old new was now unwritten key h o in
-        let first = mark_fresh (sealing old.key) (opening old.key) (lawful old.key) n positive keep base k was.progress len index chain_is in
+        let first = mark_fresh (sealing old.key) (opening old.key) (valid old.key) n positive keep base k was.progress len index chain_is in
         let m = subst (λ c. CountsChunks keep (opening c) n base (next (fresh k)) unwritten now.progress) key (o.counts keep positive (fresh k) base len h first) in
-        marked (sealing K) (opening K) (lawful K) n positive keep base (next (fresh k)) last more o.out unwritten now.progress is e m
+        marked (sealing K) (opening K) (valid K) n positive keep base (next (fresh k)) last more o.out unwritten now.progress is e m
 
     stop_fails : (old new : Flow B) (fed left out unwritten : List ℕ) (fault : FileFault) → released (opening K) n (segment k fed false) ≡ out ++ unwritten
         → new.opener.status ≡ (outcome (opening K) n (segment k fed false)).status

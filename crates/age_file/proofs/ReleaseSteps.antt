@@ -14,7 +14,7 @@ use Rattle.age_file.specs.Faults.{HasRisen}
 use Rattle.age_file.specs.inner.Releases.{Tally, Releases, FeedGoes, FeedFails}
 use Rattle.age_file.specs.declared.fault.FileFault.{FileFault}
 use Rattle.age_file.specs.declared.fault.FileFault.TheVariants.{Stream, Write}
-use Rattle.age_stream.specs.Lawful.{IsLawful}
+use Rattle.age_stream.specs.ChunkBoxes.{IsChunkBox}
 use Rattle.age_file.specs.inner.Bindings.{link_if}
 use Rattle.age_file.specs.declared.position.Positions.{Positions}
 use Rattle.age_file.specs.declared.progress.Progress.{Progress}
@@ -94,32 +94,32 @@ module _ {B : Type 0} (opening : B → List ℕ → List ℕ → Option (List �
 
   -- what the opener lent of a piece was written whole, and counted
   pub counts_whole : (sealing : List ℕ → List ℕ → List ℕ) (old new : OpenerView B) (was now : Progress) (fed : List ℕ) (chunk : Option (Bor (List ℕ))) (index : ℕ)
-      → IsLawful sealing (opening old.key) → new.key ≡ old.key → index ≡ new.index
+      → IsChunkBox sealing (opening old.key) → new.key ≡ old.key → index ≡ new.index
       → ((s : Segment) → Stands opening n old s → Stands opening n new (with_piece s fed))
       → ((s : Segment) → Stands opening n old s → (outcome (opening old.key) n (with_piece s fed)).texts ≡ (outcome (opening old.key) n s).texts ++ chunk_texts chunk)
       → Advances was.index was.chain index (link_if was.chain (chunk_bytes chunk)) now → IsMarkedOn old fed was now []
-  counts_whole sealing old new was now fed chunk index lawful key is stands texts a keep positive s base len h m =
+  counts_whole sealing old new was now fed chunk index valid key is stands texts a keep positive s base len h m =
       let a' = subst (λ (l : Option (List ℕ)). Advances was.index was.chain index l now) (ap (link_if was.chain) (sym (lent_flat chunk))) a in
       let at : index ≡ (outcome (opening old.key) n (with_piece s fed)).index = is ∙ ((stands s h).index ∙ ap (λ k. (outcome (opening k) n (with_piece s fed)).index) key) in
-      mark_step sealing (opening old.key) lawful n positive keep base s fed (chunk_texts chunk) index was now len h.timely (stands s h).timely (texts s h) (chunk_few chunk) at a' m
+      mark_step sealing (opening old.key) valid n positive keep base s fed (chunk_texts chunk) index was now len h.timely (stands s h).timely (texts s h) (chunk_few chunk) at a' m
 
   -- the opener refused it, and lent nothing
   pub counts_refused : (sealing : List ℕ → List ℕ → List ℕ) (old new : OpenerView B) (was : Progress) (fed : List ℕ)
-      → IsLawful sealing (opening old.key)
+      → IsChunkBox sealing (opening old.key)
       → ((s : Segment) → Stands opening n old s → Stands opening n new (with_piece s fed))
       → ((s : Segment) → Stands opening n old s → (outcome (opening old.key) n (with_piece s fed)).texts ≡ (outcome (opening old.key) n s).texts ++ [])
       → IsMarkedOn old fed was was []
-  counts_refused sealing old new was fed lawful stands texts keep positive s base len h m =
-      mark_none sealing (opening old.key) lawful n positive keep base s fed was len h.timely (stands s h).timely (texts s h) m
+  counts_refused sealing old new was fed valid stands texts keep positive s base len h m =
+      mark_none sealing (opening old.key) valid n positive keep base s fed was len h.timely (stands s h).timely (texts s h) m
 
   -- some of what it lent was not written
   pub counts_cut : (sealing : List ℕ → List ℕ → List ℕ) (old new : OpenerView B) (was now : Progress) (fed : List ℕ) (chunk : Option (Bor (List ℕ))) (out unwritten : List ℕ)
-      → IsLawful sealing (opening old.key)
+      → IsChunkBox sealing (opening old.key)
       → ((s : Segment) → Stands opening n old s → Stands opening n new (with_piece s fed))
       → ((s : Segment) → Stands opening n old s → (outcome (opening old.key) n (with_piece s fed)).texts ≡ (outcome (opening old.key) n s).texts ++ chunk_texts chunk)
       → chunk_bytes chunk ≡ out ++ unwritten → 0 < length unwritten → now.index ≡ was.index → now.chain ≡ was.chain → IsMarkedOn old fed was now unwritten
-  counts_cut sealing old new was now fed chunk out unwritten lawful stands texts lent some index chain_same keep positive s base len h m =
-      mark_cut sealing (opening old.key) lawful n positive keep base s fed (chunk_texts chunk) out unwritten was now len h.timely (stands s h).timely (texts s h) (chunk_few chunk) (lent_flat chunk ∙ lent) some index chain_same m
+  counts_cut sealing old new was now fed chunk out unwritten valid stands texts lent some index chain_same keep positive s base len h m =
+      mark_cut sealing (opening old.key) valid n positive keep base s fed (chunk_texts chunk) out unwritten was now len h.timely (stands s h).timely (texts s h) (chunk_few chunk) (lent_flat chunk ∙ lent) some index chain_same m
 
   -- a call that took the front of a piece and lent a chunk, of which so much was written
   pub fed_front : (old new : OpenerView B) (was now : Tally) (piece : List ℕ) (taken : ℕ) (chunk : Option (Bor (List ℕ))) (out unwritten : List ℕ)

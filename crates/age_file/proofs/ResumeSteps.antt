@@ -14,14 +14,14 @@ use Rattle.age_stream.proofs.PublicLaws.{released_is_written}
 use Rattle.age_keys.specs.declared.fault.KeyFault.{KeyFault}
 use Rattle.age_cipher.specs.Opening.{opening}
 use Rattle.age_keys.specs.Keys.{payload_key, position_key}
-use Rattle.age_keys.specs.inner.PayloadBox.{box_lawful}
+use Rattle.age_keys.specs.inner.PayloadBox.{box_valid}
 use Rattle.age_file.specs.AgeFile.{box, unbox}
 use Rattle.age_file.specs.Bindings.{file_id, chain, position_tag}
 use Rattle.age_file.specs.inner.Bindings.{chain_if}
 use Rattle.age_file.specs.declared.position.Positions.TheVariants.{Kept, Dropped}
 use Rattle.age_file.specs.inner.Copies.{CopiesText}
 use Rattle.age_file.specs.Faults.{HasRisen}
-use Rattle.age_file.specs.inner.ResumesPayload.{side_at, ResumesPayload, DecryptsBehind}
+use Rattle.age_file.specs.inner.ResumesPayload.{side_at, ResumesPayload, DecryptsAfter}
 use Rattle.age_file.specs.inner.Intakes.{Pulled}
 use Rattle.age_file.specs.Decrypts.{Told}
 use Rattle.age_file.specs.inner.Decrypts.{IsPositionAt, PositionAt}
@@ -84,7 +84,7 @@ resumed_text : (p : Position) (r : Resumption) (text : List ℕ) → IsAuthentic
 resumed_text p r text auth limit =
     let positive : 0 < 65536 = omega arith in
     let reached : IsReached (box r.file.key r.file.nonce) (unbox r.file.key r.file.nonce) 65536 text (segment_at p r) = record { limit = limit; within = auth.within } in
-    let o = released_is_written (box r.file.key r.file.nonce) (unbox r.file.key r.file.nonce) (box_lawful (payload_key r.file.key r.file.nonce)) 65536 positive (segment_at p r) text auth.few
+    let o = released_is_written (box r.file.key r.file.nonce) (unbox r.file.key r.file.nonce) (box_valid (payload_key r.file.key r.file.nonce)) 65536 positive (segment_at p r) text auth.few
     reached auth.authentic in (
       subst (λ (t : List ℕ). IsPrefixOf (t ++ fresh_text p r) text) (sym auth.old_text) o.prefix,
       λ done. ap (λ (t : List ℕ). t ++ fresh_text p r) auth.old_text ∙ o.done done,
@@ -346,7 +346,7 @@ module _ (keep : Positions) (Allows : Header → List ℕ → Type 0) (Refused :
         answered : MatchResult result (λ _. PayloadDone (unbox run.file.key run.file.nonce) 65536 mid s2 (segment_at p run) run.out) (PayloadFails (unbox run.file.key run.file.nonce) 65536 mid s2 (segment_at p run) run.out)
 
       decrypted : (key : List ℕ) (s2 : Stage) (result : Result (Unit {0}) FileFault) → key ≡ payload_key unlocked.key unlocked.nonce
-          → DecryptsBehind (λ nonce block. opening key nonce [] block) p.index s1 s2 result → IsDecrypted s2 result
+          → DecryptsAfter (λ nonce block. opening key nonce [] block) p.index s1 s2 result → IsDecrypted s2 result
       decrypted key s2 result key_is b =
           let q = subst (λ (t : List ℕ). DecryptsPayload (λ nonce block. opening t nonce [] block) 65536 p.index b.mid s2 result) key_is b.decrypts in
           let front = old_bytes ++ head in

@@ -10,8 +10,8 @@ use Rattle.age_file.specs.inner.Releases.{Tally}
 use Rattle.age_file.specs.declared.fault.FileFault.{FileFault}
 
 -- there is room behind the blocks that were passed over
-pub place_behind : (old mid : Stage) (passed : List ℕ) → old.tally.progress.written ≤ 2 ^ 64 → mid.tally.progress.written ≡ old.tally.progress.written → HasPulled old → Passes (side_at old) (side_at mid) passed → HasPlace mid
-place_behind old mid passed room same (start, used, pulled) passes =
+pub place_after : (old mid : Stage) (passed : List ℕ) → old.tally.progress.written ≤ 2 ^ 64 → mid.tally.progress.written ≡ old.tally.progress.written → HasPulled old → Passes (side_at old) (side_at mid) passed → HasPlace mid
+place_after old mid passed room same (start, used, pulled) passes =
     let all : Pulled start mid.source.remaining mid.unread.pulls (used ++ (passed ++ mid.unread.bytes)) = passes.uses start used pulled in
     (omega (arith, all.small, same, room, length-append used (passed ++ mid.unread.bytes), length-append passed mid.unread.bytes), all.most)
 

@@ -7,7 +7,7 @@ use Rattle.std.specs.Borrow.{Bor}
 use Rattle.std.proofs.lemmas.Bool.{ltb-true, eqb-true, and_parts}
 use Rattle.std.proofs.lemmas.Bool.Decides.{nat_tests}
 use Rattle.std.proofs.lemmas.List.{length-take, length-append, length-drop, take_rest, take_at}
-use Rattle.age_stream.specs.Lawful.{IsLawful}
+use Rattle.age_stream.specs.ChunkBoxes.{IsChunkBox}
 use Rattle.age_stream.specs.Nonce.{chunk_limit}
 use Rattle.age_stream.specs.Payload.{last_index}
 use Rattle.age_stream.specs.Sealing.{SealerView, Holds, step_len, needs_too_many}
@@ -132,22 +132,22 @@ module _ {B : Type 0} (sealing : B → List ℕ → List ℕ → List ℕ) (n : 
 -- ---- sizes
 
 -- the blocks before the last of a text
-module _ (sealing : List ℕ → List ℕ → List ℕ) (opening : List ℕ → List ℕ → Option (List ℕ)) (lawful : IsLawful sealing opening) (n : ℕ) where
+module _ (sealing : List ℕ → List ℕ → List ℕ) (opening : List ℕ → List ℕ → Option (List ℕ)) (valid : IsChunkBox sealing opening) (n : ℕ) where
   pub front_small : (text : List ℕ) → n + 16 ≤ 65552 → length (front_of sealing n text) ≤ length text * 65552
   front_small text most =
       let q = last_index n text in
       let few : q ≤ length text = omega (arith, div-le_self (length text - 1) n) in
-      omega (arith, (payload_is_longer sealing opening lawful n text).1, mul-le q (n + 16) (length text) 65552 few most)
+      omega (arith, (payload_is_longer sealing opening valid n text).1, mul-le q (n + 16) (length text) 65552 few most)
 
 -- after a piece's front the count of what was written has room for a block
 pub room_left : {B : Type 0} (sealing : B → List ℕ → List ℕ → List ℕ) (opening : List ℕ → List ℕ → Option (List ℕ)) (n : ℕ) (a b : SealerView B) (was now : Tally) (piece : List ℕ) (at : ℕ)
-    → IsLawful (sealing a.key) opening → n + 16 ≤ 65552 → HasRoom sealing n a was.progress.written (length piece)
+    → IsChunkBox (sealing a.key) opening → n + 16 ≤ 65552 → HasRoom sealing n a was.progress.written (length piece)
     → SealsSome sealing n a b was now (take at piece) (take at piece) [] [] → now.progress.written ≤ 2 ^ 127
-room_left sealing opening n a b was now piece at lawful most room some =
+room_left sealing opening n a b was now piece at valid most room some =
     let text = room.text in
     let fed = take at piece in
     let blocks = some.blocks text room.holds in
-    let fits = front_small (sealing a.key) opening lawful n (text ++ fed) most in
+    let fits = front_small (sealing a.key) opening valid n (text ++ fed) most in
     let len : length (front_of (sealing a.key) n (text ++ fed)) ≡ length (front_of (sealing a.key) n text) + length some.out =
     ap length blocks ∙ (length-append (front_of (sealing a.key) n text) (some.out ++ []) ∙ ap (λ (t : List ℕ). length (front_of (sealing a.key) n text) + length t) (append-nil some.out)) in
     let short : length (text ++ fed) ≤ 2 ^ 96 = omega (arith, length-append text fed, length-take at piece, room.small) in

@@ -42,8 +42,8 @@ in_header_short : (a b : Option (List ℕ)) → IsInHeader a b → IsShort a b
 in_header_short a b none = (none.0, none.1, λ h front rest text parts. absurd (none.2 (h, front, rest, text, parts)))
 
 -- there is one header in front of the bytes, and fewer than 16 behind it
-behind_short : OneHeader → (a b : Option (List ℕ)) (h : Header) (front short : List ℕ) → HeadText h front → length short < 16 → Consumes a b (front ++ short) → IsShort a b
-behind_short one a b h front short text lt consumed = (
+after_short : OneHeader → (a b : Option (List ℕ)) (h : Header) (front short : List ℕ) → HeadText h front → length short < 16 → Consumes a b (front ++ short) → IsShort a b
+after_short one a b h front short text lt consumed = (
   front ++ short,
   consumed,
   λ h' front' rest text' parts.
@@ -80,8 +80,8 @@ module _ (Allows : Header → List ℕ → Type 0) (Refused : Header → KeyFaul
       → Pulled a.remaining y.source.remaining y.unread.pulls (front ++ y.unread.bytes) → NonceFails y z fault → StartFails Allows Refused a z.source fault
   nonce_to_start one a y z h front key NonceCut e text opens p f = (h, front, key, f.0.0, text, opens, f.0.1, (short_pulled a.remaining y z front f.0 p).consumed, f.1)
   nonce_to_start one a y z h front key Read e text opens p f =
-      (behind_short one a.remaining z.source.remaining h front f.0.0 text f.0.1 (short_pulled a.remaining y z front f.0 p).consumed, subst (λ (m : ℕ). HasRisen m z.source.failed) e f.1)
+      (after_short one a.remaining z.source.remaining h front f.0.0 text f.0.1 (short_pulled a.remaining y z front f.0 p).consumed, subst (λ (m : ℕ). HasRisen m z.source.failed) e f.1)
   nonce_to_start one a y z h front key ReadNeverEnds e text opens p f =
       let all = short_pulled a.remaining y z front f.0 p in
-      (behind_short one a.remaining z.source.remaining h front f.0.0 text f.0.1 all.consumed, (front ++ f.0.0, all.consumed, (omega (arith, all.each_gave, f.1), omega (arith, all.small, f.1))))
+      (after_short one a.remaining z.source.remaining h front f.0.0 text f.0.1 all.consumed, (front ++ f.0.0, all.consumed, (omega (arith, all.each_gave, f.1), omega (arith, all.small, f.1))))
   nonce_to_start one a y z h front key other e text opens p f = absurd f

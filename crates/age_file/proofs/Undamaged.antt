@@ -18,7 +18,7 @@ use Rattle.age_stream.proofs.PublicLaws.{closed_stays, released_is_written, rest
 use Rattle.age_keys.specs.declared.fault.KeyFault.{KeyFault}
 use Rattle.age_keys.specs.declared.fault.KeyFault.TheVariants.{Memory as KeyMemory}
 use Rattle.age_keys.specs.Keys.{IsMacOf, payload_key}
-use Rattle.age_keys.specs.inner.PayloadBox.{box_lawful}
+use Rattle.age_keys.specs.inner.PayloadBox.{box_valid}
 use Rattle.age_keys.specs.Opened.{Refuses}
 use Rattle.age_file.specs.AgeFile.{box, unbox}
 use Rattle.age_file.specs.Ports.{Ports}
@@ -146,12 +146,12 @@ module _ (one : OneHeader) (Allows : Header → List ℕ → Type 0) (Refused : 
     -- the rest of the payload opens to its end
     rest_done : (outcome (unbox u.key u.nonce) 65536 (segment k (drop (k * 65552) (payload (box u.key u.nonce) 65536 text)) true)).status ≡ Done
     rest_done =
-        let lawful = box_lawful (payload_key u.key u.nonce) in
+        let valid = box_valid (payload_key u.key u.nonce) in
         let positive : 0 < 65536 = omega arith in
         let s = segment k (drop (k * 65552) (payload (box u.key u.nonce) 65536 text)) true in
         let reached : IsReached (box u.key u.nonce) (unbox u.key u.nonce) 65536 text s = record { limit = omega (arith, below, u.few); within = reaches text k below } in
         let rest : IsRest (box u.key u.nonce) (unbox u.key u.nonce) 65536 text s = record { below = below; bytes = refl; ended = refl; timely = refl } in
-        ((released_is_written (box u.key u.nonce) (unbox u.key u.nonce) lawful 65536 positive s text u.few reached authentic).whole rest).1
+        ((released_is_written (box u.key u.nonce) (unbox u.key u.nonce) valid 65536 positive s text u.few reached authentic).whole rest).1
 
     pub no_stream_fault : (after : Option (List ℕ)) (key nonce passed bytes : List ℕ) (ended : Bool) (fault : StreamFault) → IsOpenedAs key nonce (passed ++ bytes) after → length passed ≡ k * 65552
         → (ended ≡ true → IsAtEnd after) → (outcome (unbox key nonce) 65536 (segment k bytes ended)).status ≡ Failed fault → ⊥
@@ -192,7 +192,7 @@ module _ (one : OneHeader) (Allows : Header → List ℕ → Type 0) (Refused : 
 pub own_authentic : (key nonce text : List ℕ) → chunk_count 65536 text ≤ 281474976710656 → IsClosed (box key nonce) (unbox key nonce) 65536 text → (k : ℕ) → k < chunk_count 65536 text
     → IsAuthentic (box key nonce) (unbox key nonce) 65536 text (segment k (drop (k * 65552) (payload (box key nonce) 65536 text)) true)
 own_authentic key nonce text few closed k below =
-    rest_is_authentic (box key nonce) (unbox key nonce) 65536 text (record { lawful = box_lawful (payload_key key nonce); some = omega arith; few = few; closed = closed })
+    rest_is_authentic (box key nonce) (unbox key nonce) 65536 text (record { valid = box_valid (payload_key key nonce); some = omega arith; few = few; closed = closed })
     (segment k (drop (k * 65552) (payload (box key nonce) 65536 text)) true)
     (record { below = below; bytes = refl; ended = refl; timely = refl })
 

@@ -52,7 +52,7 @@ impl Stopped {
     }
 
     /// A stop after what was written.
-    pub(crate) fn behind(
+    pub(crate) fn after(
         fault: FileFault,
         progress: &Progress,
         position: Option<Position>,
@@ -137,7 +137,7 @@ pub fn decrypt_with<U: Unlock, S: Source, O: Sink>(
         }),
         Err(fault) => {
             let next = position_of(&unlocked, &writer.progress);
-            Err(Stopped::behind(fault, &writer.progress, next))
+            Err(Stopped::after(fault, &writer.progress, next))
         }
     }
 }

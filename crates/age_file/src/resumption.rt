@@ -166,7 +166,7 @@ pub fn resume_with<U: Unlock, S: Source, L: Source, O: Sink>(
     old_reader.intake.count_on(reader.intake);
     match copy_old(positions, position, &mut old_reader, &mut writer) {
         Ok(()) => {}
-        Err(fault) => return Err(Stopped::behind(fault, &writer.progress, None)),
+        Err(fault) => return Err(Stopped::after(fault, &writer.progress, None)),
     }
     reader.intake.count_on(old_reader.intake);
     let key = payload_key(&unlocked.key, &unlocked.nonce);
@@ -176,7 +176,7 @@ pub fn resume_with<U: Unlock, S: Source, L: Source, O: Sink>(
         }),
         Err(fault) => {
             let next = position_of(&unlocked, &writer.progress);
-            Err(Stopped::behind(fault, &writer.progress, next))
+            Err(Stopped::after(fault, &writer.progress, next))
         }
     }
 }

@@ -317,7 +317,7 @@ fn positions_where_the_payload_is_cut(rt: HostRuntime) -> Result<(), Fail> {
 
 // A last chunk of 65,536 bytes is written, and isn't counted.
 #[test]
-fn a_byte_behind_a_full_last_chunk(rt: HostRuntime) -> Result<(), Fail> {
+fn a_byte_after_a_full_last_chunk(rt: HostRuntime) -> Result<(), Fail> {
     let text = long_text(rt.alloc(), 131_072)?;
     let mut file = file_of(rt.alloc(), text.as_slice())?;
     let (answer, written) = run(rt.alloc(), file.as_slice(), 70_000, 131_072, None, None)?;

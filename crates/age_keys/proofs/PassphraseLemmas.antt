@@ -27,7 +27,7 @@ one_wrapped : (wrap key other : List ℕ) → wrapped_key wrap key ≡ wrapped_k
 unfolding wrapped_key
 one_wrapped wrap key other e = one_sealed wrap (replicate 12 0) [] key other e
 
--- ---- a stanza as it is written is lawful
+-- ---- a stanza as it is written is valid
 
 factor_is : (log : ℕ) → 1 ≤ log → log ≤ 22 → IsWorkFactor (decimal log)
 factor_is log some few =
@@ -59,12 +59,12 @@ same_parts : (h : Header) (salt other : List ℕ) (log more : ℕ) (body rest : 
     → SameParts salt other log more body rest
 same_parts h salt other log more body rest a b =
     let stanzas : a.stanza ≡ b.stanza = cc (a.alone, b.alone) in
-    let args : codes "scrypt" ∷ text salt ∷ a.lawful.characters ∷ [] ≡ codes "scrypt" ∷ text other ∷ b.lawful.characters ∷ [] =
-    sym a.lawful.args ∙ ap (λ (s : Stanza). s.args) stanzas ∙ b.lawful.args in
+    let args : codes "scrypt" ∷ text salt ∷ a.valid.characters ∷ [] ≡ codes "scrypt" ∷ text other ∷ b.valid.characters ∷ [] =
+    sym a.valid.args ∙ ap (λ (s : Stanza). s.args) stanzas ∙ b.valid.args in
     record {
-      salts = one_text salt other a.lawful.salt_bytes b.lawful.salt_bytes (ap (λ (xs : List (List ℕ)). get_or xs 1 []) args);
-      logs = sym a.lawful.log_is ∙ ap (λ (xs : List (List ℕ)). digits_value 10 (get_or xs 2 [])) args ∙ b.lawful.log_is;
-      bodies = sym a.lawful.body_is ∙ ap (λ (s : Stanza). s.body) stanzas ∙ b.lawful.body_is;
+      salts = one_text salt other a.valid.salt_bytes b.valid.salt_bytes (ap (λ (xs : List (List ℕ)). get_or xs 1 []) args);
+      logs = sym a.valid.log_is ∙ ap (λ (xs : List (List ℕ)). digits_value 10 (get_or xs 2 [])) args ∙ b.valid.log_is;
+      bodies = sym a.valid.body_is ∙ ap (λ (s : Stanza). s.body) stanzas ∙ b.valid.body_is;
     }
 
 -- ---- the law
@@ -78,7 +78,7 @@ own w log salt key some few size fits key_size =
     let wrap = wrap_key w.pass salt log in
     let body = wrapped_key wrap key in
     let long : length body ≡ 32 = omega (arith, length-wrapped wrap key) in
-    record { stanza = scrypt_stanza salt log body; alone = refl; lawful = stanza_is salt body log some few size fits long }
+    record { stanza = scrypt_stanza salt log body; alone = refl; valid = stanza_is salt body log some few size fits long }
 
 own_mac : (w : Words) (log : ℕ) (salt key : List ℕ) → IsMacOf (scrypt_head w.pass log salt key) key
 unfolding scrypt_head header_mac

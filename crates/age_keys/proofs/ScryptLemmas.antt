@@ -60,9 +60,9 @@ factor_size log few = length-decimal-le 2 log (omega arith) (omega arith) (omega
 
 -- ---- the stanza, and the header
 
-pub scrypt_lawful : (salt body : List ℕ) (log : ℕ) → length salt ≡ 16 → IsBytes salt → IsBytes body → log ≤ 22 → IsStanza (scrypt_stanza salt log body)
+pub scrypt_valid : (salt body : List ℕ) (log : ℕ) → length salt ≡ 16 → IsBytes salt → IsBytes body → log ≤ 22 → IsStanza (scrypt_stanza salt log body)
 unfolding scrypt_stanza
-scrypt_lawful salt body log size fits body_fits few =
+scrypt_valid salt body log size fits body_fits few =
     let numeral = (decimal_is_IsNumeral log (omega arith)).0 in
     let characters : 0 < length (text salt) = omega (arith, length-text salt) in
     record {
@@ -106,7 +106,7 @@ scrypt_has_text salt body mac log size fits body_size body_fits few mac_size mac
       head_text h,
       record {
         spells = record {
-          lawful = record { some_stanza = omega arith; stanzas = (scrypt_lawful salt body log size fits body_fits few, tt); mac_length = mac_size; mac = mac_fits };
+          valid = record { some_stanza = omega arith; stanzas = (scrypt_valid salt body log size fits body_fits few, tt); mac_length = mac_size; mac = mac_fits };
           bytes_are = refl;
         };
         within = omega arith;
@@ -117,15 +117,15 @@ scrypt_has_text salt body mac log size fits body_size body_fits few mac_size mac
 pub other_mac : (h : Header) (mac : List ℕ) → HasText h → length mac ≡ 32 → IsBytes mac → HasText (record { stanzas = h.stanzas; mac = mac })
 other_mac h mac has mac_size mac_fits =
     let other : Header = record { stanzas = h.stanzas; mac = mac } in
-    let lawful = has.1.spells.lawful in
+    let valid = has.1.spells.valid in
     let size = ap length has.1.spells.bytes_are in
     let within = has.1.within in
-    let before = length-head h lawful.mac_length in
+    let before = length-head h valid.mac_length in
     let after = length-head other mac_size in (
       head_text other,
       record {
         spells = record {
-          lawful = record { some_stanza = lawful.some_stanza; stanzas = lawful.stanzas; mac_length = mac_size; mac = mac_fits };
+          valid = record { some_stanza = valid.some_stanza; stanzas = valid.stanzas; mac_length = mac_size; mac = mac_fits };
           bytes_are = refl;
         };
         within = omega arith;

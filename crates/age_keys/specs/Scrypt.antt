@@ -36,7 +36,7 @@ pub record IsScryptStanza (s : Stanza) (salt : List ℕ) (log : ℕ) (body : Lis
 pub record HasScryptStanza (h : Header) (salt : List ℕ) (log : ℕ) (body : List ℕ) : Type 0 where
   pub stanza : Stanza
   pub alone : h.stanzas ≡ stanza ∷ []
-  pub lawful : IsScryptStanza stanza salt log body
+  pub valid : IsScryptStanza stanza salt log body
 
 -- such a stanza, as it is written
 unfoldable pub scrypt_stanza : List ℕ → ℕ → List ℕ → Stanza

@@ -4,7 +4,7 @@ ghost use Rattle.std.specs.Prelude.{◌≡◌, []};
 ghost use Rattle.age_cipher.specs.Aead.{sealing as sealing_with};
 ghost use Rattle.age_cipher.specs.Opening.{opening as opening_with};
 ghost use Rattle.age_keys.specs.Keys.{payload_key, position_key};
-ghost use Rattle.age_keys.specs.inner.PayloadBox.{box_lawful};
+ghost use Rattle.age_keys.specs.inner.PayloadBox.{box_valid};
 
 use crate::key::FileKey;
 use age_cipher::{open_in_place, seal_in_place};
@@ -31,7 +31,7 @@ impl ChunkBox for PayloadKey {
 
     ghost opening = { λ key nonce block. opening_with key nonce [] block };
 
-    ghost lawful = { λ key. box_lawful key };
+    ghost valid = { λ key. box_valid key };
 
     fn seal_at(&self, nonce: &[u8; 12], block: &mut [u8]) {
         seal_in_place(&self.bytes, nonce, &[], block);

@@ -32,7 +32,7 @@ more_first bytes rest before l f = record {
   parts = ap (λ (t : List ℕ). t ++ rest) f.parts ∙ append_assoc before (line l ++ f.rest) rest ∙ ap (λ (t : List ℕ). before ++ t) (append_assoc (line l) f.rest rest);
   whole = f.whole;
   one_line = f.one_line;
-  lawful_before = f.lawful_before;
+  valid_before = f.valid_before;
   faulty = f.faulty;
 }
 

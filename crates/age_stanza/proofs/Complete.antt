@@ -24,11 +24,11 @@ visible_line [] seen = tt
 visible_line (c ∷ w) seen = (λ e. let low : 33 ≤ c = seen.0.0 in omega arith, visible_line w seen.1)
 
 spaced_line : (args : List (List ℕ)) → AllByRecursion IsArgument args → IsLine (flat_map (λ a. 32 ∷ a) args)
-spaced_line [] lawful = tt
-spaced_line (a ∷ args) lawful = IsLine-append (32 ∷ a) (flat_map (λ b. 32 ∷ b) args) ((λ e. omega arith), visible_line a lawful.0.1) (spaced_line args lawful.1)
+spaced_line [] valid = tt
+spaced_line (a ∷ args) valid = IsLine-append (32 ∷ a) (flat_map (λ b. 32 ∷ b) args) ((λ e. omega arith), visible_line a valid.0.1) (spaced_line args valid.1)
 
 argument_line_line : (args : List (List ℕ)) → AllByRecursion IsArgument args → IsLine (argument_line args)
-argument_line_line args lawful = IsLine-append (codes "->") (flat_map (λ b. 32 ∷ b) args) (line_from_test (codes "->") refl) (spaced_line args lawful)
+argument_line_line args valid = IsLine-append (codes "->") (flat_map (λ b. 32 ∷ b) args) (line_from_test (codes "->") refl) (spaced_line args valid)
 
 end_line_line : (mac : List ℕ) → IsLine (end_line mac)
 end_line_line mac = IsLine-append (codes "--- ") (text mac) (line_from_test (codes "--- ") refl) (text_line mac)
@@ -50,7 +50,7 @@ walk_go place next n w cs lined leads = walk_text place n [] w cs lined ∙ ap (
 pub walk_done : (place : Place) (h : Header) (n : ℕ) (w cs : List ℕ) → IsLine w → step place w ≡ Ok (Done h) → walk place n [] (line w ++ cs) ≡ ready h cs
 walk_done place h n w cs lined leads = walk_text place n [] w cs lined ∙ ap (after n cs (λ q. walk q (n + 1) [] cs)) leads
 
--- ---- where lawful lines lead
+-- ---- where valid lines lead
 
 pub step_version : step Start version ≡ Ok (Go (Between []))
 unfolding step
@@ -63,8 +63,8 @@ step_end (s ∷ ss) mac some long fits = rw (read_end_line mac long fits) refl
 
 step_arguments : (ss : List Stanza) (args : List (List ℕ)) → 0 < length args → AllByRecursion IsArgument args → step (Between ss) (argument_line args) ≡ Ok (Go (InBody ss args []))
 unfolding step
-step_arguments ss [] some lawful = absurd (omega arith)
-step_arguments ss (a ∷ args) some lawful = rw (read_argument_line (a ∷ args) some lawful) refl
+step_arguments ss [] some valid = absurd (omega arith)
+step_arguments ss (a ∷ args) some valid = rw (read_argument_line (a ∷ args) some valid) refl
 
 step_full : (ss : List Stanza) (args : List (List ℕ)) (body l more : List ℕ) → length l ≡ 64 → base64_bytes l ≡ Some more
     → step (InBody ss args body) l ≡ Ok (Go (InBody ss args (body ++ more)))
@@ -121,27 +121,27 @@ abbrev pub PassesStanzas : List Stanza → List Stanza → ℕ → List ℕ → 
 PassesStanzas more ss n rest = (m : ℕ) × (walk (Between ss) n [] (flat_map stanza_text more ++ rest) ≡ walk (Between (ss ++ more)) m [] rest)
 
 pub stanzas_reach : (more ss : List Stanza) (n : ℕ) (rest : List ℕ) → AllByRecursion IsStanza more → PassesStanzas more ss n rest
-stanzas_reach [] ss n rest lawful = (n, rw append-nil refl)
-stanzas_reach (s ∷ more) ss n rest lawful =
+stanzas_reach [] ss n rest valid = (n, rw append-nil refl)
+stanzas_reach (s ∷ more) ss n rest valid =
     let apart = three_parts (line (argument_line s.args)) (in_lines 0 (text s.body)) (flat_map stanza_text more) rest in
     let one = walk_go (Between ss) (InBody ss s.args []) n (argument_line s.args) (in_lines 0 (text s.body) ++ (flat_map stanza_text more ++ rest))
-    (argument_line_line s.args lawful.0.arguments) (step_arguments ss s.args lawful.0.some_argument lawful.0.arguments) in
-    let two = body_walk (length s.body) ss s.args [] s.body (n + 1) (flat_map stanza_text more ++ rest) (omega arith) lawful.0.body in
-    let three = stanzas_reach more (ss ++ s ∷ []) two.0 rest lawful.1 in
+    (argument_line_line s.args valid.0.arguments) (step_arguments ss s.args valid.0.some_argument valid.0.arguments) in
+    let two = body_walk (length s.body) ss s.args [] s.body (n + 1) (flat_map stanza_text more ++ rest) (omega arith) valid.0.body in
+    let three = stanzas_reach more (ss ++ s ∷ []) two.0 rest valid.1 in
     (three.0, ap (walk (Between ss) n []) apart ∙ one ∙ two.1 ∙ three.1 ∙ ap (λ (x : List Stanza). walk (Between x) three.0 [] rest) (append_assoc ss (s ∷ []) more))
 
 stanzas_walk : (more ss : List Stanza) (n : ℕ) (mac rest : List ℕ) → 0 < length (ss ++ more) → AllByRecursion IsStanza more → length mac ≡ 32 → IsBytes mac
     → walk (Between ss) n [] (tail_text more mac ++ rest) ≡ ready (record { stanzas = ss ++ more; mac = mac }) rest
-stanzas_walk more ss n mac rest some lawful long fits =
-    let reach = stanzas_reach more ss n (line (end_line mac) ++ rest) lawful in
+stanzas_walk more ss n mac rest some valid long fits =
+    let reach = stanzas_reach more ss n (line (end_line mac) ++ rest) valid in
     ap (walk (Between ss) n []) (append_assoc (flat_map stanza_text more) (line (end_line mac)) rest) ∙ reach.1
     ∙ walk_done (Between (ss ++ more)) (record { stanzas = ss ++ more; mac = mac }) reach.0 (end_line mac) rest (end_line_line mac) (step_end (ss ++ more) mac some long fits)
 
 -- ---- a walk over a header's text
 
 pub text_walk : (h : Header) (rest : List ℕ) → IsHeader h → walk Start 1 [] (head_text h ++ rest) ≡ ready h rest
-text_walk h rest lawful =
+text_walk h rest valid =
     let apart : head_text h ++ rest ≡ line version ++ (tail_text h.stanzas h.mac ++ rest) = append_assoc (line version) (tail_text h.stanzas h.mac) rest in
     ap (walk Start 1 []) apart
     ∙ walk_go Start (Between []) 1 version (tail_text h.stanzas h.mac ++ rest) (line_from_test version refl) step_version
-    ∙ stanzas_walk h.stanzas [] 2 h.mac rest lawful.some_stanza lawful.stanzas lawful.mac_length lawful.mac
+    ∙ stanzas_walk h.stanzas [] 2 h.mac rest valid.some_stanza valid.stanzas valid.mac_length valid.mac

@@ -41,16 +41,16 @@ no_bytes = bytes_from_pass [] refl
 abbrev letter : Stanza
 letter = record { args = (120 ∷ []) ∷ []; body = [] }
 
-letter_lawful : IsStanza letter
-letter_lawful = record { some_argument = omega arith; arguments = ((omega arith, ((omega arith, omega arith), tt)), tt); body = no_bytes }
+letter_valid : IsStanza letter
+letter_valid = record { some_argument = omega arith; arguments = ((omega arith, ((omega arith, omega arith), tt)), tt); body = no_bytes }
 
 some_pushed : (ss : List Stanza) (s : Stanza) → 0 < length (ss ++ s ∷ [])
 some_pushed [] s = omega arith
 some_pushed (x ∷ ss) s = omega arith
 
-pushed_lawful : (ss : List Stanza) (s : Stanza) → AllByRecursion IsStanza ss → IsStanza s → IsHeader (record { stanzas = ss ++ s ∷ []; mac = zeros })
-pushed_lawful ss s known lawful =
-    record { some_stanza = some_pushed ss s; stanzas = All-append IsStanza ss (s ∷ []) known (lawful, tt); mac_length = refl; mac = zeros_bytes }
+pushed_valid : (ss : List Stanza) (s : Stanza) → AllByRecursion IsStanza ss → IsStanza s → IsHeader (record { stanzas = ss ++ s ∷ []; mac = zeros })
+pushed_valid ss s known valid =
+    record { some_stanza = some_pushed ss s; stanzas = All-append IsStanza ss (s ∷ []) known (valid, tt); mac_length = refl; mac = zeros_bytes }
 
 abbrev Completes : Place → Type 0
 Completes place = (h : Header) × (t : List ℕ) × IsHeader h × Follows place h t
@@ -58,13 +58,13 @@ Completes place = (h : Header) × (t : List ℕ) × IsHeader h × Follows place 
 completes : (place : Place) → IsPlace place → Completes place
 completes Start known =
     let h : Header = record { stanzas = letter ∷ []; mac = zeros } in
-    (h, head_text h, pushed_lawful [] letter tt letter_lawful, refl)
+    (h, head_text h, pushed_valid [] letter tt letter_valid, refl)
 completes (Between ss) known =
-    (record { stanzas = ss ++ letter ∷ []; mac = zeros }, tail_text (letter ∷ []) zeros, pushed_lawful ss letter known letter_lawful, (letter ∷ [], refl, refl))
+    (record { stanzas = ss ++ letter ∷ []; mac = zeros }, tail_text (letter ∷ []) zeros, pushed_valid ss letter known letter_valid, (letter ∷ [], refl, refl))
 completes (InBody ss args body) known =
     let s : Stanza = record { args = args; body = body ++ [] } in
-    let lawful : IsStanza s = record { some_argument = known.1; arguments = known.2; body = IsBytes-append body [] known.3 no_bytes } in
-    (record { stanzas = ss ++ s ∷ []; mac = zeros }, in_lines 0 (text []) ++ tail_text [] zeros, pushed_lawful ss s known.0 lawful, ([], [], refl, refl))
+    let valid : IsStanza s = record { some_argument = known.1; arguments = known.2; body = IsBytes-append body [] known.3 no_bytes } in
+    (record { stanzas = ss ++ s ∷ []; mac = zeros }, in_lines 0 (text []) ++ tail_text [] zeros, pushed_valid ss s known.0 valid, ([], [], refl, refl))
 
 -- ---- where a walk stands behind whole lines
 
@@ -103,7 +103,7 @@ at_next before l place next n at lined fits e =
 pub begins : (before : List ℕ) (place : Place) (n : ℕ) → At before place n → Begins before
 begins before place n at =
     let c = completes place at.known in
-    (c.0, c.1, record { lawful = c.2; bytes_are = at.stands c.0 c.1 c.3 })
+    (c.0, c.1, record { valid = c.2; bytes_are = at.stands c.0 c.1 c.3 })
 
 -- ---- a walk that meets a fault
 
@@ -301,9 +301,9 @@ not_first before ss args body n at e =
     apart (fault_at NotAge 1) (sym (empty_goes ss args body n) ∙ sym there ∙ ap (λ (b : List ℕ). walk Start 1 [] (b ++ (line [] ++ []))) e ∙ empty_first)
 
 pub not_between : (before : List ℕ) (ss ts : List Stanza) (args : List (List ℕ)) (body : List ℕ) (n : ℕ) → At before (InBody ss args body) n → AllByRecursion IsStanza ts → before ≡ stanzas_text ts → ⊥
-not_between before ss ts args body n at lawful e =
+not_between before ss ts args body n at valid e =
     let there = at.reaches (line [] ++ []) in
-    let reach = stanzas_reach ts [] 2 (line [] ++ []) lawful in
+    let reach = stanzas_reach ts [] 2 (line [] ++ []) valid in
     let start = walk_go Start (Between []) 1 version (flat_map stanza_text ts ++ (line [] ++ [])) (line_from_test version refl) step_version in
     let grouped = append_assoc (line version) (flat_map stanza_text ts) (line [] ++ []) in
     apart (fault_at BadStanzaLine reach.0) (sym (empty_goes ss args body n) ∙ sym there ∙ ap (λ (b : List ℕ). walk Start 1 [] (b ++ (line [] ++ []))) e
@@ -314,20 +314,20 @@ refuses before l Start n kind at fits e =
     let none = nothing_before before n at in
     record {
       first = λ _. told_first l kind e;
-      between = λ ss lawful is. absurd (no_text ss (sym none ∙ is));
+      between = λ ss valid is. absurd (no_text ss (sym none ∙ is));
       in_body = λ some _. absurd (some none);
     }
 refuses before l (Between ss) n kind at fits e =
     let stanzas = stanzas_before before ss n at in
     record {
       first = λ none. absurd (no_text ss (sym none ∙ stanzas));
-      between = λ ts lawful is. told_between ss l kind fits e;
+      between = λ ts valid is. told_between ss l kind fits e;
       in_body = λ some other. absurd (other ss at.known stanzas);
     }
 refuses before l (InBody ss args body) n kind at fits e =
     record {
       first = λ none. absurd (not_first before ss args body n at none);
-      between = λ ts lawful is. absurd (not_between before ss ts args body n at lawful is);
+      between = λ ts valid is. absurd (not_between before ss ts args body n at valid is);
       in_body = λ some other. told_body ss args body l kind e;
     }
 
@@ -343,7 +343,7 @@ no_text_goes_on before l place n kind at lined e has =
     let r = has.1 in
     let whole : head_text h ++ [] ≡ before ++ (line l ++ r) = append-nil (head_text h) ∙ sym has.2.bytes_are ∙ append_assoc before (line l) r in
     let refused = at.reaches (line l ++ r) ∙ walk_text place n [] l r lined ∙ ap (after n r (λ q. walk q (n + 1) [] r)) e in
-    not_ready (fault_at kind n) h [] (sym refused ∙ sym (ap (walk Start 1 []) whole) ∙ text_walk h [] has.2.lawful)
+    not_ready (fault_at kind n) h [] (sym refused ∙ sym (ap (walk Start 1 []) whole) ∙ text_walk h [] has.2.valid)
 
 never_ended : (ss : List Stanza) (o : Option (List ℕ)) → end_line_result ss o ≡ Err Memory → ⊥
 never_ended ss None e = cc
@@ -395,7 +395,7 @@ from_met bytes fault fits m =
         parts = m.parts;
         whole = m.at.whole;
         one_line = m.one_line;
-        lawful_before = begins m.before m.place m.n m.at;
+        valid_before = begins m.before m.place m.n m.at;
         faulty = no_text_goes_on m.before m.l m.place m.n m.kind m.at m.one_line m.leads_to;
       },
       line_is,

@@ -70,8 +70,8 @@ faulty_at held rest bytes longer i fault first e is (inr fails) =
     inr (ap (walk Start 1 []) (sym (regrouped held rest bytes longer i first e is)) ∙ fails (drop (i + 1) rest))
 
 -- what is left behind the first line
-behind_line : (rest bytes : List ℕ) (i : ℕ) → length rest ≤ length bytes → rest ≡ drop (length bytes - length rest) bytes → drop (i + 1) rest ≡ drop (length bytes - length rest + i + 1) bytes
-behind_line rest bytes i within is =
+after_line : (rest bytes : List ℕ) (i : ℕ) → length rest ≤ length bytes → rest ≡ drop (length bytes - length rest) bytes → drop (i + 1) rest ≡ drop (length bytes - length rest + i + 1) bytes
+after_line rest bytes i within is =
     ap (drop (i + 1)) is ∙ drop-drop (i + 1) (length bytes - length rest) bytes ∙ ap (λ n. drop n bytes) (omega arith)
 
 pub ready_at : (held rest bytes joined longer : List ℕ) (i : ℕ) (h : Header) → FirstLine rest i → length rest ≤ length bytes → rest ≡ drop (length bytes - length rest) bytes
@@ -80,7 +80,7 @@ pub ready_at : (held rest bytes joined longer : List ℕ) (i : ℕ) (h : Header)
 ready_at held rest bytes joined longer i h first within suffix e is finds =
     let lt = first.within in (
       omega arith,
-      ap (walk Start 1 []) (sym (regrouped held rest joined longer i first e is)) ∙ finds (drop (i + 1) rest) ∙ ap (ready h) (behind_line rest bytes i within suffix),
+      ap (walk Start 1 []) (sym (regrouped held rest joined longer i first e is)) ∙ finds (drop (i + 1) rest) ∙ ap (ready h) (after_line rest bytes i within suffix),
     )
 
 -- the loop's invariant behind the first line
@@ -98,6 +98,6 @@ left_behind held rest bytes joined longer next i first left is next-is =
     let at : length bytes - length rest + i + 1 ≡ length bytes - length (drop (i + 1) rest) = omega arith in
     record {
       within = omega arith;
-      suffix = behind_line rest bytes i within left.suffix ∙ ap (λ n. drop n bytes) at;
+      suffix = after_line rest bytes i within left.suffix ∙ ap (λ n. drop n bytes) at;
       same = ap (λ (t : List ℕ). t ++ drop (i + 1) rest) next-is ∙ append_assoc longer (10 ∷ []) (drop (i + 1) rest) ∙ regrouped held rest joined longer i first left.same is;
     }

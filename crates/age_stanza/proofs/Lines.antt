@@ -141,17 +141,17 @@ word_read done word (c ∷ w) cs visible =
 
 pub next_argument : (done : List (List ℕ)) (w rest : List ℕ) → IsArgument w → arguments_from done [] (w ++ 32 ∷ rest) ≡ arguments_from (done ++ w ∷ []) [] rest
 unfolding arguments_from
-next_argument done w rest lawful =
-    let size = lawful.0 in
+next_argument done w rest valid =
+    let size = valid.0 in
     let long : eqb (length w) 0 ≡ false = ne_eqb (length w) 0 (λ e. omega arith) in
-    word_read done [] w (32 ∷ rest) lawful.1 ∙ rw long refl
+    word_read done [] w (32 ∷ rest) valid.1 ∙ rw long refl
 
 pub last_argument : (done : List (List ℕ)) (w : List ℕ) → IsArgument w → arguments_from done [] w ≡ Some (done ++ w ∷ [])
 unfolding arguments_from
-last_argument done w lawful =
-    let size = lawful.0 in
+last_argument done w valid =
+    let size = valid.0 in
     let long : eqb (length w) 0 ≡ false = ne_eqb (length w) 0 (λ e. omega arith) in
-    ap (arguments_from done []) (sym (append-nil w)) ∙ word_read done [] w [] lawful.1 ∙ rw long refl
+    ap (arguments_from done []) (sym (append-nil w)) ∙ word_read done [] w [] valid.1 ∙ rw long refl
 
 -- the line ends here, or a space follows
 abbrev pub EndsWord : List ℕ → Type 0
@@ -175,7 +175,7 @@ bad_word done word (c ∷ w) cs ends others visible bad =
       | inl h ↦
           let parts = and_parts (leb 33 c) (leb c 126) h.0 in
           rw (space, h.0) (bad_word done (word ++ c ∷ []) w cs ends others.1 (All-append IsVisible word (c ∷ []) visible ((leb-true 33 c parts.0, leb-true c 126 parts.1), tt))
-          (λ lawful. bad (rw (← append_assoc word (c ∷ []) w) lawful)))
+          (λ valid. bad (rw (← append_assoc word (c ∷ []) w) valid)))
       | inr h ↦ rw (space, h.0) refl
     ]
 
@@ -198,8 +198,8 @@ argument_line_read l args e = elim (chosen (starts_with nat_eq l (codes "-> ")) 
 
 pub read_argument_line : (args : List (List ℕ)) → 0 < length args → AllByRecursion IsArgument args → arguments_of (argument_line args) ≡ Some args
 unfolding arguments_of
-read_argument_line [] some lawful = absurd (omega arith)
-read_argument_line (a ∷ as') some lawful = arguments_complete [] [] a as' lawful.0.0 lawful.0.1 lawful.1
+read_argument_line [] some valid = absurd (omega arith)
+read_argument_line (a ∷ as') some valid = arguments_complete [] [] a as' valid.0.0 valid.0.1 valid.1
 
 -- ---- an end line
 

@@ -53,7 +53,7 @@ not_before bytes before l before' l' f g lt =
           let y = drop (length (line l)) x in
           let on : x ≡ line l ++ y = prefix_of (line l) f.rest x (line l' ++ g.rest) behind long in
           let all : before' ≡ (before ++ line l) ++ y = is ∙ ap (λ (t : List ℕ). before ++ t) on ∙ sym (append_assoc before (line l) y) in
-          never_behind before l y f.faulty (subst Begins all g.lawful_before)
+          never_behind before l y f.faulty (subst Begins all g.valid_before)
     ]
 
 same_front : (a x b y : List ℕ) → a ++ x ≡ b ++ y → length a ≡ length b → a ≡ b
@@ -105,8 +105,8 @@ same_between l k k' (Some mac) true fits is starts r r' =
 -- the version line and whole stanzas hold no header and no fault
 stanzas_unfinished : (ss : List Stanza) → AllByRecursion IsStanza ss → walk Start 1 [] (stanzas_text ss) ≡ unfinished
 unfolding walk
-stanzas_unfinished ss lawful =
-    let reach = stanzas_reach ss [] 2 [] lawful in
+stanzas_unfinished ss valid =
+    let reach = stanzas_reach ss [] 2 [] valid in
     walk_go Start (Between []) 1 version (flat_map stanza_text ss) (line_from_test version refl) step_version
     ∙ ap (walk (Between []) 2 []) (sym (append-nil (flat_map stanza_text ss))) ∙ reach.1
 
@@ -119,7 +119,7 @@ same_at before l k k' (Between ss) n fits at r r' =
     same_between l k k' (mac_of l) (starts_with nat_eq l (codes "---")) fits refl refl (r.between ss at.known is) (r'.between ss at.known is)
 same_at before l k k' (InBody ss args body) n fits at r r' =
     let some = not_first before ss args body n at in
-    let other = λ (ts : List Stanza) (lawful : AllByRecursion IsStanza ts). not_between before ss ts args body n at lawful in
+    let other = λ (ts : List Stanza) (valid : AllByRecursion IsStanza ts). not_between before ss ts args body n at valid in
     r.in_body some other ∙ sym (r'.in_body some other)
 
 whole_at : (before : List ℕ) (p : Passed before) → AreLines before → before ≡ p.before
@@ -137,7 +137,7 @@ nothing_walked = refl
 same_elsewhere : (before l : List ℕ) (k k' : HeadKind) → (walk Start 1 [] before ≡ unfinished → ⊥) → Refuses before l k → Refuses before l k' → k ≡ k'
 same_elsewhere before l k k' over r r' =
     let some : before ≡ [] → ⊥ = λ none. over (ap (walk Start 1 []) none ∙ nothing_walked) in
-    let other : (ts : List Stanza) → AllByRecursion IsStanza ts → before ≡ stanzas_text ts → ⊥ = λ ts lawful is. over (ap (walk Start 1 []) is ∙ stanzas_unfinished ts lawful) in
+    let other : (ts : List Stanza) → AllByRecursion IsStanza ts → before ≡ stanzas_text ts → ⊥ = λ ts valid is. over (ap (walk Start 1 []) is ∙ stanzas_unfinished ts valid) in
     r.in_body some other ∙ sym (r'.in_body some other)
 
 same_kind : (before l : List ℕ) (k k' : HeadKind) (o : Outcome) → IsBytes before → IsBytes l → AreLines before → walk Start 1 [] before ≡ o → Refuses before l k → Refuses before l k' → k ≡ k'

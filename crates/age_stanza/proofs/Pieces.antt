@@ -35,7 +35,7 @@ no_header held piece room fits none has =
     let cut : held ++ take room piece ≡ front ++ take (1048576 - length front) rest =
     kept held piece room fits ∙ ap (take 1048576) has.4 ∙ ap (λ n. take n (front ++ rest)) long ∙ take-append-add front rest (1048576 - length front) in
     none h (take (1048576 - length front) rest)
-    (ap (walk Start 1 []) (cut ∙ ap (λ (t : List ℕ). t ++ take (1048576 - length front) rest) text.spells.bytes_are) ∙ text_walk h (take (1048576 - length front) rest) text.spells.lawful)
+    (ap (walk Start 1 []) (cut ∙ ap (λ (t : List ℕ). t ++ take (1048576 - length front) rest) text.spells.bytes_are) ∙ text_walk h (take (1048576 - length front) rest) text.spells.valid)
 
 not_unfinished : (h : Header) (rest : List ℕ) → unfinished ≡ ready h rest → ⊥
 not_unfinished h rest e = cc
@@ -71,7 +71,7 @@ found_in held piece room taken h room-is lt known fits le reads =
     let cut : take taken (take room piece) ≡ take taken piece = take-take taken room piece (omega arith) in
     let is : held ++ take taken piece ≡ head_text h = ap (λ (t : List ℕ). held ++ t) (sym cut) ∙ sym front ∙ all.follows in
     let within : length (held ++ take taken piece) ≤ 1048576 = omega (arith, length-append held (take taken piece), length-take taken piece) in
-    (omega arith, record { spells = record { lawful = all.lawful; bytes_are = is }; within = within })
+    (omega arith, record { spells = record { valid = all.valid; bytes_are = is }; within = within })
 
 -- a fault in the piece
 pub none_in : (held piece : List ℕ) (room : ℕ) (fault : HeadFault) → room ≡ 1048576 - length held → length held < 1048576 → IsBytes (held ++ take room piece)

@@ -126,9 +126,9 @@ leads_continued ss args body l next false (Some more) known fits le long is e =
     let ne = eqb-false (length l) 64 long in
     let short : 0 + length (text more) < 64 = rw (← read.0) (omega arith) in
     let s : Stanza = record { args = args; body = body ++ more } in
-    let lawful : IsStanza s = record { some_argument = known.1; arguments = known.2; body = IsBytes-append body more known.3 read.1 } in
+    let valid : IsStanza s = record { some_argument = known.1; arguments = known.2; body = IsBytes-append body more known.3 read.1 } in
     subst (λ (q : Place). Leads (InBody ss args body) l q) (same_go (Between (ss ++ s ∷ [])) next e) (
-      All-append IsStanza ss (s ∷ []) known.0 (lawful, tt),
+      All-append IsStanza ss (s ∷ []) known.0 (valid, tt),
       λ h t f.
           (more, f.0, f.1 ∙ append_assoc ss (s ∷ []) f.0, rw (f.2, in_lines-short 0 (text more) short, read.0) refl),
     )
@@ -211,7 +211,7 @@ ends (InBody ss args body) l h known fits e = absurd (ends_body ss args body l h
 -- ---- what a walk finds
 
 pub record Found (place : Place) (l bs : List ℕ) (h : Header) (rest : List ℕ) : Type 0 where
-  pub lawful : IsHeader h
+  pub valid : IsHeader h
   pub t : List ℕ
   pub split : l ++ bs ≡ t ++ rest
   pub follows : Follows place h t
@@ -233,7 +233,7 @@ found_end place n l c cs h rest (Ok (Done k)) known fits on lf is e =
     let parts = parts_of_ready k h cs rest e in
     let made = ends place l k known (front_bytes l (c ∷ cs) fits) is in
     record {
-      lawful = rw (← parts.0) made.0;
+      valid = rw (← parts.0) made.0;
       t = line l;
       split = ended_line l c cs rest lf parts.1;
       follows = rw (← parts.0) made.1;
@@ -242,7 +242,7 @@ found_end place n l c cs h rest (Ok (Go next)) known fits on lf is e =
     let led = leads place next l known (front_bytes l (c ∷ cs) fits) is in
     let deeper = on next led.0 (IsBytes-tail (c ∷ []) cs (IsBytes-tail l (c ∷ cs) fits)) e in
     record {
-      lawful = deeper.lawful;
+      valid = deeper.valid;
       t = line l ++ deeper.t;
       split = joined_line l c cs deeper.t rest lf deeper.split;
       follows = led.1 h deeper.t deeper.follows;
@@ -257,5 +257,5 @@ found place n l (c ∷ cs) h rest known fits e =
       | inl g ↦ found_end place n l c cs h rest (step place l) known fits (λ next known' fits' e'. found next (n + 1) [] cs h rest known' fits' e') (eqb-true c 10 g.0) refl g.1
       | inr g ↦
           let deeper = found place n (l ++ c ∷ []) cs h rest known (rw append_assoc fits) g.1 in
-          record { lawful = deeper.lawful; t = deeper.t; split = sym (append_assoc l (c ∷ []) cs) ∙ deeper.split; follows = deeper.follows }
+          record { valid = deeper.valid; t = deeper.t; split = sym (append_assoc l (c ∷ []) cs) ∙ deeper.split; follows = deeper.follows }
     ]

@@ -79,11 +79,11 @@ stanza_within ss i s lt is =
 pub none_left : (ss : List Stanza) (i : ℕ) → length ss ≤ i → length (flat_map stanza_text (drop i ss)) ≡ 0
 none_left ss i le = ap (λ (xs : List Stanza). length (flat_map stanza_text xs)) (drop_all i ss le)
 
-lawful_stanzas : (ss : List Stanza) → AllByRecursion HasArguments ss → AllByRecursion (λ s. IsBytes s.body) ss → AllByRecursion IsStanza ss
-lawful_stanzas [] args bodies = tt
-lawful_stanzas (s ∷ ss) args bodies = (record { some_argument = args.0.0; arguments = args.0.1; body = bodies.0 }, lawful_stanzas ss args.1 bodies.1)
+valid_stanzas : (ss : List Stanza) → AllByRecursion HasArguments ss → AllByRecursion (λ s. IsBytes s.body) ss → AllByRecursion IsStanza ss
+valid_stanzas [] args bodies = tt
+valid_stanzas (s ∷ ss) args bodies = (record { some_argument = args.0.0; arguments = args.0.1; body = bodies.0 }, valid_stanzas ss args.1 bodies.1)
 
--- a lawful header whose text is within the limit has one
+-- a valid header whose text is within the limit has one
 pub has_text : (h : Header) (r : Option ℕ) → IsTextLength h r → is_some r ≡ true → 0 < length h.stanzas → AllByRecursion HasArguments h.stanzas → length h.mac ≡ 32 → HasText h
 has_text h None len some stanzas args long = absurd (cc some)
 has_text h (Some size) len some stanzas args long =
@@ -91,12 +91,12 @@ has_text h (Some size) len some stanzas args long =
     let within = len.1 in (
       head_text h,
       record {
-        spells = record { lawful = record { some_stanza = stanzas; stanzas = lawful_stanzas h.stanzas args len.3; mac_length = long; mac = len.2 }; bytes_are = refl };
+        spells = record { valid = record { some_stanza = stanzas; stanzas = valid_stanzas h.stanzas args len.3; mac_length = long; mac = len.2 }; bytes_are = refl };
         within = omega arith;
       },
     )
 
--- a header that has a text is lawful, and its text is within the limit
+-- a header that has a text is valid, and its text is within the limit
 pub text_within : (h : Header) (r : Option ℕ) → IsTextLength h r → HasText h → is_some r ≡ true
 text_within h None long has =
     let size = ap length has.1.spells.bytes_are in

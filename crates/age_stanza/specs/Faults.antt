@@ -35,7 +35,7 @@ pub record FirstFault (bytes before l : List ℕ) : Type 0 where
   pub parts : bytes ≡ before ++ (line l ++ rest)
   pub whole : AreLines before
   pub one_line : IsLine l
-  pub lawful_before : Begins before
+  pub valid_before : Begins before
   pub faulty : Begins (before ++ line l) → ⊥
 
 -- the version line and whole stanzas

@@ -8,11 +8,11 @@ ghost use Rattle.age_stanza.specs.inner.LineMachine.{arguments_of as spec_argume
 
 use crate::argument::Argument;
 use crate::bytes::Arguments;
-use crate::lawful::is_argument;
+use crate::valid::is_argument;
 use std::alloc::{AllocError, Global};
 
 /// Adds an argument. False where its characters aren't valid; then nothing changes.
-fn push_lawful(alloc: Global, args: &mut Arguments, characters: &[u8]) -> Result<bool, AllocError>
+fn push_valid(alloc: Global, args: &mut Arguments, characters: &[u8]) -> Result<bool, AllocError>
     ensures pushed { IfOk result (λ r. r ≡ true → IsArgument characters.now
         × (args.new ≡ args.old ++ characters.now ∷ [])) }
     ensures refused { IfOk result (λ r. r ≡ false → IsArgument characters.now → ⊥) }
@@ -40,12 +40,12 @@ fn arguments_in(alloc: Global, letters: &[u8]) -> Result<Option<Arguments>, Allo
     let mut args = Arguments::with_capacity(alloc, spaces + 1)?;
     let mut rest = letters;
     while let Some(end) = argument_end(rest) {
-        if !push_lawful(alloc, &mut args, &rest[..end])? {
+        if !push_valid(alloc, &mut args, &rest[..end])? {
             return Ok(None);
         }
         rest = &rest[end + 1..];
     }
-    if !push_lawful(alloc, &mut args, rest)? {
+    if !push_valid(alloc, &mut args, rest)? {
         return Ok(None);
     }
     Ok(Some(args))

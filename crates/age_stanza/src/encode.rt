@@ -10,14 +10,14 @@ ghost use Rattle.age_stanza.specs.Faults.{memory_fault};
 use crate::argument::Argument;
 use crate::fault::HeadFault;
 use crate::header::{Header, Stanza};
-use crate::lawful::text_len;
 use crate::text::LINE_BYTES;
+use crate::valid::text_len;
 use base64::engine::general_purpose::STANDARD_NO_PAD;
 use std::alloc::{AllocError, Global};
 
 /// How many bytes of a header's text follow what its MAC covers: a space, the
 /// MAC's 43 characters and LF.
-const BEHIND_MAC_TEXT: usize = 45;
+const AFTER_MAC_TEXT: usize = 45;
 
 /// Writes the text of no more bytes than one line spells.
 fn put_text(out: &mut Vec<u8>, bytes: &[u8]) -> Result<(), AllocError>
@@ -126,5 +126,5 @@ pub fn mac_text(alloc: Global, header: &Header) -> Result<Vec<u8>, HeadFault>
     let Some(len) = text_len(header) else {
         unreachable!();
     };
-    Ok(front_text(alloc, header, len - BEHIND_MAC_TEXT)?)
+    Ok(front_text(alloc, header, len - AFTER_MAC_TEXT)?)
 }

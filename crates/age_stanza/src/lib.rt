@@ -21,26 +21,26 @@ mod bytes;
 mod encode;
 mod fault;
 mod header;
-mod lawful;
 mod laws;
 mod parser;
 mod partial;
 mod piece;
 mod place;
 mod text;
+mod valid;
 
 pub use argument::Argument;
 pub use bytes::{Arguments, Bytes};
 pub use encode::{encode_head, mac_text};
 pub use fault::{HeadFault, HeadKind};
 pub use header::{HeadStep, Header, Stanza, Stanzas};
-pub use lawful::{is_argument, is_header};
 pub use laws::{
     alphabet, any_pieces, faults_stay, lines_of_64, mac_text_is_front, one_fault, one_header,
     text_is_base64,
 };
 pub use parser::HeadParser;
 pub use text::read_base64;
+pub use valid::{is_argument, is_header};
 
 /// The greatest length of a header in bytes, from the version line to the end
 /// line's LF.

@@ -3,14 +3,14 @@ use Rattle.std.proofs.Common.{inl, ◌≡◌, ℕ, ◌<◌, ◌≤◌, ◌+◌, 
 use Rattle.std.specs.Prelude.{Option, Some, None, map}
 use Rattle.std.specs.List.{AllByRecursion}
 use Rattle.std.proofs.lemmas.List.{take_at, drop_at}
-use Rattle.age_stream.specs.Lawful.{IsLawful}
+use Rattle.age_stream.specs.ChunkBoxes.{IsChunkBox}
 use Rattle.age_stream.specs.Nonce.{nonce_bytes, chunk_limit}
 use Rattle.age_stream.specs.Payload.{payload, chunk_count, last_index, last_chunk}
 use Rattle.age_stream.specs.Segment.{Segment}
 use Rattle.age_stream.specs.Deliveries.{Standing, standing, standing_from, begin, fresh, after_delivery}
 use Rattle.age_stream.specs.Headline.{IsAuthentic, AreAuthentic, IsRest, IsUndamaged}
 use Rattle.age_stream.specs.Clear.{clear_sealing, clear_opening, clear_mark}
-use Rattle.age_stream.specs.inner.ClearLaw.{clear_lawful}
+use Rattle.age_stream.specs.inner.ClearLaw.{clear_valid}
 use Rattle.age_stream.specs.Authentic.{AreWhole, IsClosed, GivesBack}
 use Rattle.age_stream.specs.declared.delivery.Delivery.{Delivery}
 use Rattle.age_stream.specs.declared.delivery.Delivery.TheVariants.{Piece, End}
@@ -18,16 +18,16 @@ use Rattle.age_stream.proofs.Nonces.{nonce_bytes-length, nonce_bytes-flag}
 use Rattle.age_stream.proofs.Undamaged.{rest_segment, rest_payload, rest_authentic}
 use Rattle.age_stream.proofs.Held.{held_right, starts_fresh, on_from, pieces_from}
 
-module _ (sealing : List ℕ → List ℕ → List ℕ) (opening : List ℕ → List ℕ → Option (List ℕ)) (lawful : IsLawful sealing opening)
+module _ (sealing : List ℕ → List ℕ → List ℕ) (opening : List ℕ → List ℕ → Option (List ℕ)) (valid : IsChunkBox sealing opening)
     (n : ℕ) (positive : 0 < n) (text : List ℕ) (few : chunk_count n text ≤ chunk_limit) where
   pub rest_right : IsClosed sealing opening n text → (s : Segment) → IsRest sealing opening n text s → IsAuthentic sealing opening n text s
   rest_right closed s rest =
-      let r = rest_segment sealing opening lawful n positive text few s.start rest.below in
+      let r = rest_segment sealing opening valid n positive text few s.start rest.below in
       let is : s ≡ r =
-      ap (λ (bs : List ℕ). record { start = s.start; bytes = bs; ended = s.ended; late = s.late }) (rest.bytes ∙ rest_payload sealing opening lawful n positive text few s.start rest.below)
+      ap (λ (bs : List ℕ). record { start = s.start; bytes = bs; ended = s.ended; late = s.late }) (rest.bytes ∙ rest_payload sealing opening valid n positive text few s.start rest.below)
       ∙ (ap (λ (b : Bool). record { start = r.start; bytes = r.bytes; ended = b; late = s.late }) rest.ended
       ∙ ap (λ (b : Bool). record { start = r.start; bytes = r.bytes; ended = r.ended; late = b }) rest.timely) in
-      subst (IsAuthentic sealing opening n text) (sym is) (rest_authentic sealing opening lawful n positive text few s.start rest.below closed)
+      subst (IsAuthentic sealing opening n text) (sym is) (rest_authentic sealing opening valid n positive text few s.start rest.below closed)
 
   -- where the deliveries are whole, they leave one segment, of all bytes and ended
   whole_standing : (deliveries : List Delivery) (w : AreWhole (payload sealing n text) deliveries)
@@ -60,7 +60,7 @@ module _ (sealing : List ℕ → List ℕ → List ℕ) (opening : List ℕ → 
       let is : standing opening n deliveries ≡ F last =
       ap (standing opening n) u.is
       ∙ (on_from opening n u.front (map Piece u.pieces ++ End ∷ []) begin
-      ∙ (ap (λ (x : Segment). standing_from opening n (F x) (map Piece u.pieces ++ End ∷ [])) (starts_fresh sealing opening lawful n text few positive u.front k u.starts)
+      ∙ (ap (λ (x : Segment). standing_from opening n (F x) (map Piece u.pieces ++ End ∷ [])) (starts_fresh sealing opening valid n text few positive u.front k u.starts)
       ∙ (on_from opening n (map Piece u.pieces) (End ∷ []) (F (fresh k))
       ∙ (ap (λ (x : Standing). after_delivery opening n x End) (pieces_from opening n u.pieces s.given_up k s.base [] s.refused) ∙ ap (λ (bs : List ℕ). F (G bs)) u.rest)))) in
       let rest : IsRest sealing opening n text last = record { below = u.below; bytes = refl; ended = refl; timely = refl } in
@@ -78,7 +78,7 @@ module _ (sealing : List ℕ → List ℕ → List ℕ) (opening : List ℕ → 
         rest = w.join ∙ ap (λ (k : ℕ). drop k (payload sealing n text)) (sym z);
         below = omega arith;
       } in
-      (held_right sealing opening lawful n text few positive deliveries (whole_right closed deliveries w)).whole 0 u
+      (held_right sealing opening valid n text few positive deliveries (whole_right closed deliveries w)).whole 0 u
 
 -- in the clear a block opens at its own nonce alone
 clear_shut : (i : ℕ) (chunk : List ℕ) (o : Option (List ℕ)) → clear_opening (nonce_bytes i false) (clear_sealing (nonce_bytes i true) chunk) ≡ o
@@ -87,9 +87,9 @@ clear_shut i chunk None e = e
 clear_shut i chunk (Some t) e =
     let a = nonce_bytes i false in
     let b = nonce_bytes i true in
-    let same : t ++ clear_mark a ≡ chunk ++ clear_mark b = clear_lawful.only a t (clear_sealing b chunk) (nonce_bytes-length i false) e in
-    let la = clear_lawful.longer a t (nonce_bytes-length i false) in
-    let lb = clear_lawful.longer b chunk (nonce_bytes-length i true) in
+    let same : t ++ clear_mark a ≡ chunk ++ clear_mark b = clear_valid.only a t (clear_sealing b chunk) (nonce_bytes-length i false) e in
+    let la = clear_valid.longer a t (nonce_bytes-length i false) in
+    let lb = clear_valid.longer b chunk (nonce_bytes-length i true) in
     let len : length t ≡ length chunk = omega (arith, la, lb, ap length same) in
     let marks : clear_mark a ≡ clear_mark b =
     subst (λ (m : List ℕ). m ≡ clear_mark b) (drop_at t (clear_mark a) (length t) refl) (ap (drop (length t)) same ∙ drop_at chunk (clear_mark b) (length t) (sym len)) in

@@ -1,4 +1,4 @@
--- A box that is lawful on bytes is lawful once it is continued to all lists.
+-- A box that is valid on bytes is valid once it is continued to all lists.
 use Rattle.std.specs.Prelude.{◌≡◌, ℕ, ◌+◌, ◌-◌, List, ◌++◌, length, take, Option, Some, None, nat_lt, nat_le, ◌&&◌, Bool, true, false, not, cond, if◌then◌else◌}
 use Rattle.std.specs.Str.{bytes_eq}
 use Rattle.std.proofs.Common.{refl, sym, ap, ◌∙◌, arith}
@@ -7,8 +7,8 @@ use Rattle.std.proofs.lemmas.List.{length-append, length-replicate, take_at}
 use Rattle.std.proofs.lemmas.List.Folds.{list_all-append}
 use Rattle.std.proofs.lemmas.Bool.{le-leb, leb-true, and_parts}
 use Rattle.std.proofs.lemmas.Option.{cond_some}
-use Rattle.age_stream.specs.Lawful.{Seals, Opens, IsLawful}
-use Rattle.age_stream.specs.inner.Beyond.{are_bytes, is_text, is_block, IsLawfulOnBytes, no_tag, sealing_beyond, opening_beyond}
+use Rattle.age_stream.specs.ChunkBoxes.{Seals, Opens, IsChunkBox}
+use Rattle.age_stream.specs.inner.Beyond.{are_bytes, is_text, is_block, IsChunkBoxOnBytes, no_tag, sealing_beyond, opening_beyond}
 
 by_cases : {P : Type 0} (b : Bool) → (b ≡ true → P) → (b ≡ false → P) → P
 by_cases true left right = left refl
@@ -34,7 +34,7 @@ marked block =
     let front = take (length block - 16) block in
     if not (is_text front) && bytes_eq (front ++ no_tag) block then Some front else None
 
-module _ (sealing : Seals) (opening : Opens) (lawful : IsLawfulOnBytes sealing opening) where
+module _ (sealing : Seals) (opening : Opens) (valid : IsChunkBoxOnBytes sealing opening) where
   seals : (nonce text : List ℕ) (b : Bool) → is_text text ≡ b
       → sealing_beyond sealing nonce text ≡ cond b (sealing nonce text) (text ++ no_tag)
   seals nonce text b e = ap (λ (x : Bool). cond x (sealing nonce text) (text ++ no_tag)) e
@@ -48,11 +48,11 @@ module _ (sealing : Seals) (opening : Opens) (lawful : IsLawfulOnBytes sealing o
       → is_block (sealing nonce text) ≡ true
   block_is nonce text h t =
       let block = sealing nonce text in
-      let len = lawful.longer nonce text h t in
+      let len = valid.longer nonce text h t in
       let most = leb-true (length text) 65536 (and_parts (are_bytes text) (nat_le (length text) 65536) t).1 in
       let low : nat_le 16 (length block) ≡ true = le-leb 16 (length block) (omega (arith, len)) in
       let high : nat_le (length block) 65552 ≡ true = le-leb (length block) 65552 (omega (arith, len, most)) in
-      ap (λ (b : Bool). b && (nat_le 16 (length block) && nat_le (length block) 65552)) (lawful.bytes nonce text h t)
+      ap (λ (b : Bool). b && (nat_le 16 (length block) && nat_le (length block) 65552)) (valid.bytes nonce text h t)
       ∙ (ap (λ (b : Bool). b && nat_le (length block) 65552) low ∙ high)
 
   -- a list with the mark is none
@@ -72,25 +72,25 @@ module _ (sealing : Seals) (opening : Opens) (lawful : IsLawfulOnBytes sealing o
       ∙ (ap (λ (b : Bool). cond (not b && bytes_eq (text ++ no_tag) block) (Some text) None) f
       ∙ ap (λ (b : Bool). cond b (Some text) None) same)
 
-  pub lawful_beyond : IsLawful (sealing_beyond sealing) (opening_beyond opening)
-  lawful_beyond =
+  pub valid_beyond : IsChunkBox (sealing_beyond sealing) (opening_beyond opening)
+  valid_beyond =
       record {
         longer =
             λ nonce text h. by_cases (is_text text)
-            (λ t. ap length (seals nonce text true t) ∙ lawful.longer nonce text h t)
+            (λ t. ap length (seals nonce text true t) ∙ valid.longer nonce text h t)
             (λ f. ap length (seals nonce text false f) ∙ (length-append text no_tag ∙ ap (λ (k : ℕ). length text + k) no_tag_length));
         opens =
             λ nonce text h. by_cases (is_text text)
             (λ t.
             ap (opening_beyond opening nonce) (seals nonce text true t)
-            ∙ (opens nonce (sealing nonce text) true (block_is nonce text h t) ∙ lawful.opens nonce text h t))
+            ∙ (opens nonce (sealing nonce text) true (block_is nonce text h t) ∙ valid.opens nonce text h t))
             (λ f.
             ap (opening_beyond opening nonce) (seals nonce text false f)
             ∙ (opens nonce (text ++ no_tag) false (none_is text) ∙ unmarks text f));
         only =
             λ nonce text block h e. by_cases (is_block block)
             (λ t.
-            let o = lawful.only nonce text block h t (sym (opens nonce block true t) ∙ e) in
+            let o = valid.only nonce text block h t (sym (opens nonce block true t) ∙ e) in
             seals nonce text true o.0 ∙ o.1)
             (λ f.
             let front = take (length block - 16) block in

@@ -7,7 +7,7 @@ use Rattle.std.proofs.lemmas.List.{length-append, append_assoc, take_at, drop_at
 use Rattle.std.proofs.lemmas.Grind.{flat_map-append}
 use Rattle.std.proofs.Math.Nat.{le-div_iff_mul-le}
 use Rattle.age_stream.specs.Nonce.{nonce_bytes, chunk_limit}
-use Rattle.age_stream.specs.Lawful.{IsLawful}
+use Rattle.age_stream.specs.ChunkBoxes.{IsChunkBox}
 use Rattle.age_stream.specs.Segment.{Segment, Outcome, outcome, front_texts, text_then, text_before_last, unless_greatest, whole_blocks, rest_bytes, released}
 use Rattle.age_stream.specs.Laws.{IsCounted, counted}
 use Rattle.age_stream.proofs.Nonces.{nonce_bytes-length}
@@ -38,9 +38,9 @@ flat_full n (t ∷ ts) h =
     let e : suc (length ts) * n ≡ length ts * n + n = omega arith in
     omega (arith, length-append t (flat_map (λ (t : List ℕ). t) ts), h.0, flat_full n ts h.1, e)
 
-module _ (sealing : List ℕ → List ℕ → List ℕ) (opening : List ℕ → List ℕ → Option (List ℕ)) (lawful : IsLawful sealing opening) (n : ℕ) where
+module _ (sealing : List ℕ → List ℕ → List ℕ) (opening : List ℕ → List ℕ → Option (List ℕ)) (valid : IsChunkBox sealing opening) (n : ℕ) where
   opened_len : (nonce block text : List ℕ) → length nonce ≡ 12 → length block ≡ n + 16 → opening nonce block ≡ Some text → length text ≡ n
-  opened_len nonce block text h len e = omega (arith, lawful.longer nonce text h, ap length (lawful.only nonce text block h e), len)
+  opened_len nonce block text h len e = omega (arith, valid.longer nonce text h, ap length (valid.only nonce text block h e), len)
 
   unless : (i : ℕ) (o : Option (List ℕ)) (t : List ℕ) (b : Bool) → cond b o None ≡ Some t → o ≡ Some t
   unless i o t true e = e

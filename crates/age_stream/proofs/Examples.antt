@@ -50,13 +50,13 @@ cut_in_second_block : given 0 (take 25 (first ++ second)) true false ≡ out (co
 unfolding outcome
 cut_in_second_block = refl
 
-byte_behind_last_block : given 0 (first ++ second ++ 0 ∷ []) false false ≡ out (codes "abcd" ∷ codes "efgh" ∷ []) 1 (failed Trailing 1)
+byte_after_last_block : given 0 (first ++ second ++ 0 ∷ []) false false ≡ out (codes "abcd" ∷ codes "efgh" ∷ []) 1 (failed Trailing 1)
 unfolding outcome
-byte_behind_last_block = refl
+byte_after_last_block = refl
 
-byte_behind_last_block_then_end : given 0 (first ++ second ++ 0 ∷ []) true false ≡ out (codes "abcd" ∷ codes "efgh" ∷ []) 1 (failed Trailing 1)
+byte_after_last_block_then_end : given 0 (first ++ second ++ 0 ∷ []) true false ≡ out (codes "abcd" ∷ codes "efgh" ∷ []) 1 (failed Trailing 1)
 unfolding outcome
-byte_behind_last_block_then_end = refl
+byte_after_last_block_then_end = refl
 
 byte_after_end : given 0 (first ++ second) true true ≡ out (codes "abcd" ∷ codes "efgh" ∷ []) 1 (failed Trailing 1)
 unfolding outcome
@@ -98,9 +98,9 @@ restart_at_first_chunk : held (piece first ∷ Restart 0 ∷ piece both ∷ End 
 unfolding outcome
 restart_at_first_chunk = refl
 
-restart_behind_text_refused : held (piece both ∷ Restart 3 ∷ []) ≡ ((codes "abcdefgh", LastSeen), (1, 1))
+restart_after_text_refused : held (piece both ∷ Restart 3 ∷ []) ≡ ((codes "abcdefgh", LastSeen), (1, 1))
 unfolding outcome
-restart_behind_text_refused = refl
+restart_after_text_refused = refl
 
 restart_at_end_of_text : held (piece both ∷ Restart 3 ∷ Restart 2 ∷ []) ≡ ((codes "abcdefgh", Open), (2, 1))
 unfolding outcome

@@ -277,11 +277,11 @@ module _ (opening : List ℕ → List ℕ → Option (List ℕ)) (n : ℕ) where
   carry_end : {o p o' p' : Outcome} → o ≡ p → o' ≡ p' → IsAfterEnd p p' → IsAfterEnd o o'
   carry_end {o} {p} {o'} {p'} e f h = subst (λ (x : Outcome). IsAfterEnd x o') (sym e) (subst (λ (x : Outcome). IsAfterEnd p x) (sym f) h)
 
-  behind_on : (a len m : ℕ) (late : Bool) → a ≤ len → late ≡ false → (nat_lt a (len + m) || late) ≡ ((nat_lt a len || late) || nat_lt 0 m)
-  behind_on a len zero late h e =
+  after_on : (a len m : ℕ) (late : Bool) → a ≤ len → late ≡ false → (nat_lt a (len + m) || late) ≡ ((nat_lt a len || late) || nat_lt 0 m)
+  after_on a len zero late h e =
       let z : len + 0 ≡ len = omega arith in
       ap (λ (k : ℕ). nat_lt a k || late) z ∙ sym (or-false (nat_lt a len || late))
-  behind_on a len (suc m) late h e =
+  after_on a len (suc m) late h e =
       let some : nat_lt 0 (suc m) ≡ true = lt-ltb 0 (suc m) (omega arith) in
       ap (λ (b : Bool). b || late) (lt-ltb a (len + suc m) (omega arith))
       ∙ (sym (or-true (nat_lt a len || late)) ∙ ap (λ (b : Bool). (nat_lt a len || late) || b) (sym some))
@@ -319,7 +319,7 @@ module _ (opening : List ℕ → List ℕ → Option (List ℕ)) (n : ℕ) where
       let pos : 0 < n + 16 = omega arith in
       let low : a ≤ length s.bytes = (le-div_iff_mul-le pos).0 (omega (arith, lt, count)) in
       let len : length bytes ≡ length s.bytes + length p = length-append s.bytes p in
-      let flag : (nat_lt a (length bytes) || late) ≡ ((nat_lt a (length s.bytes) || late) || some) = ap (λ (k : ℕ). nat_lt a k || late) len ∙ behind_on a (length s.bytes) (length p) late low (timely is) in
+      let flag : (nat_lt a (length bytes) || late) ≡ ((nat_lt a (length s.bytes) || late) || some) = ap (λ (k : ℕ). nat_lt a k || late) len ∙ after_on a (length s.bytes) (length p) late low (timely is) in
       let here = at_place s lt ∙ ap (λ (t : Bool). at_block opening texts i b (nat_lt a (length s.bytes) || late) t o) is in
       carry_bytes here (e0 ∙ (e1 ∙ (e2 ∙ e3))) (block_bytes texts i b o (nat_lt a (length s.bytes) || late) (nat_lt a (length bytes) || late) some false flag)
   piece_at_place s true p is timely lt =

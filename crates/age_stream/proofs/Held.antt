@@ -5,7 +5,7 @@ use Rattle.std.specs.List.{flat_map, AllByRecursion}
 use Rattle.std.proofs.lemmas.List.{take-append-le, length-append, append-nil, append_assoc}
 use Rattle.std.proofs.lemmas.Bool.{ltb-true, leb-true, and_parts}
 use Rattle.age_stream.specs.Nonce.{chunk_limit}
-use Rattle.age_stream.specs.Lawful.{IsLawful}
+use Rattle.age_stream.specs.ChunkBoxes.{IsChunkBox}
 use Rattle.age_stream.specs.Payload.{chunk_count}
 use Rattle.age_stream.specs.Segment.{Segment, outcome}
 use Rattle.age_stream.specs.Deliveries.{Standing, standing, standing_from, after_delivery, begin, fresh, with_piece, with_end, text_held, accepts}
@@ -26,7 +26,7 @@ all_last : (P : Segment → Type 0) (xs : List Segment) (x : Segment) → AllByR
 all_last P [] x h = h.0
 all_last P (y ∷ ys) x h = all_last P ys x h.1
 
-module _ (sealing : List ℕ → List ℕ → List ℕ) (opening : List ℕ → List ℕ → Option (List ℕ)) (lawful : IsLawful sealing opening)
+module _ (sealing : List ℕ → List ℕ → List ℕ) (opening : List ℕ → List ℕ → Option (List ℕ)) (valid : IsChunkBox sealing opening)
     (n : ℕ) (text : List ℕ) (few : chunk_count n text ≤ chunk_limit) (positive : 0 < n) where
   abbrev Good : Segment → Type 0
   Good = IsAuthentic sealing opening n text
@@ -38,7 +38,7 @@ module _ (sealing : List ℕ → List ℕ → List ℕ) (opening : List ℕ → 
     base : s.base ≡ take (s.segment.start * n) text
 
   held_prefix : (s : Standing) → IsSound s → Good s.segment → IsPrefixOf (text_held opening n s) text
-  held_prefix s sound good = (released_segment sealing opening lawful n text few positive s.segment s.base sound.small sound.fits sound.base good).prefix
+  held_prefix s sound good = (released_segment sealing opening valid n text few positive s.segment s.base sound.small sound.fits sound.base good).prefix
 
   restarted : (s : Standing) (k : ℕ) → IsSound s → Good s.segment → accepts opening n s k ≡ true
       → IsSound (record { given_up = s.given_up ++ s.segment ∷ []; base = take (k * n) (text_held opening n s); segment = fresh k; refused = s.refused })
@@ -110,15 +110,15 @@ module _ (sealing : List ℕ → List ℕ → List ℕ) (opening : List ℕ → 
 
   undamaged_done : (k : ℕ) (ds : List Delivery) → AreAuthentic sealing opening n text ds → IsUndamaged sealing opening n text k ds → (outcome opening n (standing opening n ds).segment).status ≡ Done
   undamaged_done k ds auth u =
-      let s = rest_segment sealing opening lawful n positive text few k u.below in
+      let s = rest_segment sealing opening valid n positive text few k u.below in
       let last : (standing opening n ds).segment ≡ s =
       ap (λ (x : List Delivery). (standing opening n x).segment) u.is
       ∙ (ap (λ (x : Standing). x.segment) (on u.front (map Piece u.pieces ++ End ∷ []) begin)
       ∙ (ap (λ (x : Standing). x.segment) (on (map Piece u.pieces) (End ∷ []) (standing opening n u.front))
       ∙ (ap with_end (pieces_on u.pieces (standing opening n u.front) k [] (starts_fresh u.front k u.starts))
-      ∙ ap (λ (bs : List ℕ). record { start = k; bytes = bs; ended = true; late = false }) (u.rest ∙ rest_payload sealing opening lawful n positive text few k u.below)))) in
+      ∙ ap (λ (bs : List ℕ). record { start = k; bytes = bs; ended = true; late = false }) (u.rest ∙ rest_payload sealing opening valid n positive text few k u.below)))) in
       let good : Good s = subst Good last auth.1 in
-      ap (λ (x : Segment). (outcome opening n x).status) last ∙ rest_is_done sealing opening lawful n positive text few k u.below good
+      ap (λ (x : Segment). (outcome opening n x).status) last ∙ rest_is_done sealing opening valid n positive text few k u.below good
 
   pub held_right : (ds : List Delivery) → AreAuthentic sealing opening n text ds
       → IsHeldRight sealing opening n text ds (text_held opening n (standing opening n ds)) (outcome opening n (standing opening n ds).segment).status
@@ -126,13 +126,13 @@ module _ (sealing : List ℕ → List ℕ → List ℕ) (opening : List ℕ → 
       let s = standing opening n ds in
       let start : IsSound begin = record { small = omega arith; fits = omega arith; base = let z : 0 ≡ 0 * n = omega arith in ap (λ (k : ℕ). take k text) z } in
       let sound = sound_from ds begin start auth.0 in
-      let r = released_segment sealing opening lawful n text few positive s.segment s.base sound.small sound.fits sound.base auth.1 in
+      let r = released_segment sealing opening valid n text few positive s.segment s.base sound.small sound.fits sound.base auth.1 in
       let reached : IsReached sealing opening n text s.segment = record { limit = sound.small; within = sound.fits } in
       record {
         prefix = r.prefix;
         done = r.done;
         whole = λ k u. let d = undamaged_done k ds auth u in (r.done d, d);
-        place = in_place sealing opening lawful n text few positive s.segment auth.1 reached;
+        place = in_place sealing opening valid n text few positive s.segment auth.1 reached;
       }
 
 pub on_from : (opening : List ℕ → List ℕ → Option (List ℕ)) (n : ℕ) (xs ys : List Delivery) (s : Standing) → standing_from opening n s (xs ++ ys) ≡ standing_from opening n (standing_from opening n s xs) ys

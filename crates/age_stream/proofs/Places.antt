@@ -9,7 +9,7 @@ use Rattle.std.proofs.lemmas.List.{length-take, length-drop, take_all}
 use Rattle.std.proofs.lemmas.List.Folds.{list_any_at, Any-from_list_any}
 use Rattle.std.proofs.lemmas.Bool.{cases_lt, lt-ltb, and_parts}
 use Rattle.std.proofs.lemmas.Bool.Decides.{nat_tests}
-use Rattle.age_stream.specs.Lawful.{IsLawful}
+use Rattle.age_stream.specs.ChunkBoxes.{IsChunkBox}
 use Rattle.age_stream.specs.Nonce.{nonce_bytes, chunk_limit}
 use Rattle.age_stream.specs.Payload.{chunks, chunk_count, last_index, last_chunk, pair, sealed}
 use Rattle.age_stream.specs.Segment.{Segment, Outcome, outcome, block_at, text_before_last, unless_greatest, text_then, front_texts, whole_blocks, rest_bytes, failed}
@@ -55,7 +55,7 @@ found_none (p ∷ pairs) [] nonce block e = refl
 found_none (p ∷ pairs) (chunk ∷ chunks) nonce block e =
     found_none_by (is_pair nonce block p) (list_any (is_pair nonce block) pairs) chunk (sealed_as pairs chunks nonce block) (λ more. found_none pairs chunks nonce block more) e
 
-module _ (sealing : List ℕ → List ℕ → List ℕ) (opening : List ℕ → List ℕ → Option (List ℕ)) (lawful : IsLawful sealing opening) where
+module _ (sealing : List ℕ → List ℕ → List ℕ) (opening : List ℕ → List ℕ → Option (List ℕ)) (valid : IsChunkBox sealing opening) where
   found_by : (b more : Bool) (p : List ℕ × List ℕ) (chunk nonce block : List ℕ) (rest : Option (List ℕ)) → is_pair nonce block p ≡ b → p.1 ≡ sealing p.0 chunk → length p.0 ≡ 12
       → (more ≡ true → opening nonce block ≡ rest) → (b || more) ≡ true → opening nonce block ≡ cond b (Some chunk) rest
   found_by true more p chunk nonce block rest is seals len f e =
@@ -63,7 +63,7 @@ module _ (sealing : List ℕ → List ℕ → List ℕ) (opening : List ℕ → 
       let first : p.0 ≡ nonce = (bytes_eq-Decides p.0 nonce).0 t.0 in
       let second : p.1 ≡ block = (bytes_eq-Decides p.1 block).0 t.1 in
       sym (ap (λ (x : List ℕ). opening x p.1) first ∙ ap (opening nonce) second)
-      ∙ (ap (opening p.0) seals ∙ lawful.opens p.0 chunk len)
+      ∙ (ap (opening p.0) seals ∙ valid.opens p.0 chunk len)
   found_by false more p chunk nonce block rest is seals len f e = f e
 
   found_opens : (pairs : List (List ℕ × List ℕ)) (chunks : List (List ℕ)) (nonce block : List ℕ) → AreSealed sealing pairs chunks → list_any (is_pair nonce block) pairs ≡ true
@@ -96,7 +96,7 @@ four false true b2 w x y u v f = refl
 four false false true w x y u v f = refl
 four false false false w x y u v f = f refl refl refl
 
-module _ (sealing : List ℕ → List ℕ → List ℕ) (opening : List ℕ → List ℕ → Option (List ℕ)) (lawful : IsLawful sealing opening)
+module _ (sealing : List ℕ → List ℕ → List ℕ) (opening : List ℕ → List ℕ → Option (List ℕ)) (valid : IsChunkBox sealing opening)
     (n : ℕ) (text : List ℕ) (few : chunk_count n text ≤ chunk_limit) (positive : 0 < n) where
   abbrev other : List ℕ → List ℕ → Option (List ℕ)
   other = compared sealing n text
@@ -134,7 +134,7 @@ module _ (sealing : List ℕ → List ℕ → List ℕ) (opening : List ℕ → 
       cc
 
   same_by : (nonce block : List ℕ) (b : Bool) → sure nonce block ≡ b → IsWriters sealing opening n text nonce block → Same nonce block
-  same_by nonce block true e w = found_opens sealing opening lawful (sealed sealing n text) (chunks n text) nonce block (seals_all sealing n text) e
+  same_by nonce block true e w = found_opens sealing opening valid (sealed sealing n text) (chunks n text) nonce block (seals_all sealing n text) e
   same_by nonce block false e w =
       opens_none nonce block (opening nonce block) refl w e ∙ sym (found_none (sealed sealing n text) (chunks n text) nonce block e)
 
@@ -146,7 +146,7 @@ module _ (sealing : List ℕ → List ℕ → List ℕ) (opening : List ℕ → 
   unsure_by nonce block false len e none = e
   unsure_by nonce block true len e none =
       let p = IsPair-from_Contains sealing n text nonce block positive (Contains_from_sure nonce block e) in
-      let o = lawful.opens nonce (take n (drop (p.at * n) text)) len in
+      let o = valid.opens nonce (take n (drop (p.at * n) text)) len in
       let o2 = ap (opening nonce) p.block_is ∙ o in
       let no : None ≡ Some (take n (drop (p.at * n) text)) = sym none ∙ o2 in
       cc
@@ -160,11 +160,11 @@ module _ (sealing : List ℕ → List ℕ → List ℕ) (opening : List ℕ → 
   unsure_short_by i block true short e =
       let p = IsPair-from_Contains sealing n text (nonce_bytes i false) block positive (Contains_from_sure (nonce_bytes i false) block e) in
       let flag : false ≡ (p.at + 1 == chunk_count n text) = nonce_bytes-flag i p.at false (p.at + 1 == chunk_count n text) p.nonce_is in
-      let fits : (p.at + 1) * n ≤ length text = next_within sealing opening lawful n text few positive p.at p.below flag in
+      let fits : (p.at + 1) * n ≤ length text = next_within sealing opening valid n text few positive p.at p.below flag in
       let x = take n (drop (p.at * n) text) in
       let m : (p.at + 1) * n ≡ p.at * n + n = omega arith in
       let len : length x ≡ n = omega (arith, length-take n (drop (p.at * n) text), length-drop (p.at * n) text, fits, m) in
-      absurd (omega (arith, short, ap length p.block_is, lawful.longer (nonce_bytes i false) x (nonce_bytes-length i false), len))
+      absurd (omega (arith, short, ap length p.block_is, valid.longer (nonce_bytes i false) x (nonce_bytes-length i false), len))
 
   unsure_short : (i : ℕ) (block : List ℕ) → length block < n + 16 → sure (nonce_bytes i false) block ≡ false
   unsure_short i block short = unsure_short_by i block (sure (nonce_bytes i false) block) short refl
@@ -193,7 +193,7 @@ module _ (sealing : List ℕ → List ℕ → List ℕ) (opening : List ℕ → 
   opens_step block blocks i j None e more lt = absurd (omega arith)
   opens_step block blocks i zero (Some x) e more lt =
       let z : i ≡ i + 0 = omega arith in
-      let o : opening (nonce_bytes i false) block ≡ Some x = (opens_before sealing opening lawful n text few positive i (opening (nonce_bytes i false) block) x e).1 in
+      let o : opening (nonce_bytes i false) block ≡ Some x = (opens_before sealing opening valid n text few positive i (opening (nonce_bytes i false) block) x e).1 in
       let some : IsSome (opening (nonce_bytes i false) block) = rw o (search rules) in
       subst (λ (k : ℕ). IsSome (opening (nonce_bytes k false) block)) z some
   opens_step block blocks i (suc j) (Some x) e more lt =
@@ -342,7 +342,7 @@ module _ (sealing : List ℕ → List ℕ → List ℕ) (opening : List ℕ → 
 
     module _ (reached : IsReached sealing opening n text s) where
       low : at < chunk_limit
-      low = (front_carries sealing opening lawful n text few positive blocks s.start reached.within auth.front).small reached.limit
+      low = (front_carries sealing opening valid n text few positive blocks s.start reached.within auth.front).small reached.limit
 
       -- the block at which it stands doesn't open as one before the last
       not_before : (o : Option (List ℕ)) → length texts < length blocks → opening (nonce_bytes at false) (get_or blocks (length texts) []) ≡ o
@@ -351,7 +351,7 @@ module _ (sealing : List ℕ → List ℕ → List ℕ) (opening : List ℕ → 
       not_before (Some x) lt e =
           let b = get_or blocks (length texts) [] in
           let lt' : length texts < length s.bytes / (n + 16) = omega (arith, lt, count) in
-          let c = writer_text sealing opening lawful n text few positive at false b x low e (auth.next lt' false) in
+          let c = writer_text sealing opening valid n text few positive at false b x low e (auth.next lt' false) in
           let below = c.below in
           let flag = c.flag in
           let more : at + 1 < chunk_count n text = grind (arith, nat_tests) in

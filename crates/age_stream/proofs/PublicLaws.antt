@@ -5,7 +5,7 @@ use Rattle.std.specs.List.{enumerate_from, AllByRecursion}
 use Rattle.std.specs.Simd.{first_chunks}
 use Rattle.std.proofs.lemmas.List.{length-append, length-drop, append-nil}
 use Rattle.std.proofs.lemmas.Grind.{flat_map-append}
-use Rattle.age_stream.specs.Lawful.{IsLawful}
+use Rattle.age_stream.specs.ChunkBoxes.{IsChunkBox}
 use Rattle.age_stream.specs.Nonce.{nonce_bytes}
 use Rattle.age_stream.specs.Payload.{last_index, last_chunk, pair, sealed_before_last, block_bytes, payload}
 use Rattle.age_stream.specs.Segment.{Segment, Outcome, outcome, front_texts, whole_blocks, rest_bytes}
@@ -37,19 +37,19 @@ pub released_grows : ReleasedGrows
 released_grows opening n s piece timely = (growing.released_grows opening n s piece timely, growing.index_stays opening n s piece timely)
 
 pub chunks_are_counted : ChunksAreCounted
-chunks_are_counted sealing opening lawful n base s len = counting.is_counted sealing opening lawful n base s len
+chunks_are_counted sealing opening valid n base s len = counting.is_counted sealing opening valid n base s len
 
 pub sealed_grows : SealedGrows
 sealed_grows sealing n text more positive = sealings.payload_begins n positive sealing text more
 
 pub rest_is_authentic : RestIsAuthentic
-rest_is_authentic sealing opening n text so = authentic.rest_right sealing opening so.lawful n so.some text so.few so.closed
+rest_is_authentic sealing opening n text so = authentic.rest_right sealing opening so.valid n so.some text so.few so.closed
 
 pub fresh_is_open : FreshIsOpen
 fresh_is_open = fresh_outcome
 
 pub released_is_written : ReleasedIsWritten
-released_is_written sealing opening lawful n positive s = segment_right sealing opening lawful n positive s
+released_is_written sealing opening valid n positive s = segment_right sealing opening valid n positive s
 
 -- ---- closed segments
 
@@ -85,13 +85,13 @@ end_closes opening n s = (
 
 -- ---- lengths
 
-module _ (sealing : List ℕ → List ℕ → List ℕ) (opening : List ℕ → List ℕ → Option (List ℕ)) (lawful : IsLawful sealing opening) (n : ℕ) where
+module _ (sealing : List ℕ → List ℕ → List ℕ) (opening : List ℕ → List ℕ → Option (List ℕ)) (valid : IsChunkBox sealing opening) (n : ℕ) where
   blocks_length : (i : ℕ) (chunks : List (List ℕ)) → AllByRecursion (λ (x : List ℕ). length x ≡ n) chunks
       → length (block_bytes (map (pair sealing false) (enumerate_from i chunks))) ≡ length chunks * (n + 16)
   blocks_length i [] all = omega arith
   blocks_length i (x ∷ xs) all =
       let block = sealing (nonce_bytes i false) x in
-      let one : length block ≡ n + 16 = lawful.longer (nonce_bytes i false) x (nonce_bytes-length i false) ∙ ap (λ (k : ℕ). k + 16) all.0 in
+      let one : length block ≡ n + 16 = valid.longer (nonce_bytes i false) x (nonce_bytes-length i false) ∙ ap (λ (k : ℕ). k + 16) all.0 in
       let rest = blocks_length (i + 1) xs all.1 in
       let more : suc (length xs) * (n + 16) ≡ (n + 16) + length xs * (n + 16) = omega arith in
       length-append block (block_bytes (map (pair sealing false) (enumerate_from (i + 1) xs))) ∙ omega (arith, one, rest, more)
@@ -103,15 +103,15 @@ module _ (sealing : List ℕ → List ℕ → List ℕ) (opening : List ℕ → 
       ∙ ap (λ (k : ℕ). k * (n + 16)) (length-first_chunks n q text)
 
 pub payload_is_longer : PayloadIsLonger
-payload_is_longer sealing opening lawful n text =
+payload_is_longer sealing opening valid n text =
     let q = last_index n text in
     let front = block_bytes (sealed_before_last sealing n text) in
     let last = sealing (nonce_bytes q true) (last_chunk n text) in
     let is : payload sealing n text ≡ front ++ last =
     flat_map-append (λ (p : List ℕ × List ℕ). p.1) (sealed_before_last sealing n text) (pair sealing true (q, last_chunk n text) ∷ [])
     ∙ ap (λ (x : List ℕ). front ++ x) (append-nil last) in
-    let size = front_length sealing opening lawful n text in
-    let block : length last ≡ length (last_chunk n text) + 16 = lawful.longer (nonce_bytes q true) (last_chunk n text) (nonce_bytes-length q true) in
+    let size = front_length sealing opening valid n text in
+    let block : length last ≡ length (last_chunk n text) + 16 = valid.longer (nonce_bytes q true) (last_chunk n text) (nonce_bytes-length q true) in
     let e : q * (n + 16) ≡ q * n + q * 16 = omega arith in
     let f : (q + 1) * 16 ≡ q * 16 + 16 = omega arith in
     (omega (arith, ap length is, length-append front last, size, block, length-drop (q * n) text, last_index_le n text, e, f), size)

@@ -16,7 +16,7 @@ use Rattle.age_stream.specs.Opening.{Stands, chunk_texts}
 use Rattle.age_stream.specs.Lent.{chunk_bytes}
 use Rattle.age_stream.specs.Replaying.{ReplayView, IsAt, Replays}
 use Rattle.age_stream.specs.inner.ReplaySteps.{with_bytes}
-use Rattle.age_stream.specs.Lawful.{IsLawful}
+use Rattle.age_stream.specs.ChunkBoxes.{IsChunkBox}
 use Rattle.age_stream.specs.Headline.{HoldsWritten, IsHeldRight}
 use Rattle.age_stream.specs.declared.delivery.Delivery.{Delivery}
 use Rattle.age_stream.specs.declared.step.Status.{Status}
@@ -155,7 +155,7 @@ module _ {B : Type 0} (opening : B → List ℕ → List ℕ → Option (List �
       subst (IsAt opening n new) (e ∙ k) (f (standing op m ds) h)
 
 module _ {B : Type 0} (sealing : B → List ℕ → List ℕ → List ℕ) (opening : B → List ℕ → List ℕ → Option (List ℕ)) (n : ℕ) (old new : ReplayView B)
-    (lawful : IsLawful (sealing old.key) (opening old.key)) (positive : 0 < n) (key : new.key ≡ old.key) where
+    (valid : IsChunkBox (sealing old.key) (opening old.key)) (positive : 0 < n) (key : new.key ≡ old.key) where
   pub written : (ds : List Delivery) → Replays opening n new ds → HoldsWritten (sealing old.key) (opening old.key) n ds new.text new.opener.status
   written ds h text few auth =
       let m = n in
@@ -167,4 +167,4 @@ module _ {B : Type 0} (sealing : B → List ℕ → List ℕ → List ℕ) (open
       h.segment.status ∙ (ap (λ k. (outcome (opening k) m (standing (opening new.key) m ds).segment).status) (h.key ∙ key) ∙ ap (λ s. (outcome op m s.segment).status) k) in
       let Right : List ℕ → Status → Type 0 = IsHeldRight (sealing old.key) op m text ds in
       subst (λ (t : List ℕ). Right t new.opener.status) (sym is)
-      (subst (Right (text_held op m (standing op m ds))) (sym status) (held_right (sealing old.key) op lawful m text few positive ds auth))
+      (subst (Right (text_held op m (standing op m ds))) (sym status) (held_right (sealing old.key) op valid m text few positive ds auth))

@@ -4,7 +4,7 @@ use Rattle.std.specs.Prelude.{Option}
 use Rattle.std.specs.List.{flat_map}
 use Rattle.std.proofs.lemmas.Grind.{flat_map-append}
 use Rattle.age_stream.specs.Nonce.{chunk_limit}
-use Rattle.age_stream.specs.Lawful.{IsLawful}
+use Rattle.age_stream.specs.ChunkBoxes.{IsChunkBox}
 use Rattle.age_stream.specs.Payload.{chunk_count}
 use Rattle.age_stream.specs.Segment.{Segment, outcome, released}
 use Rattle.age_stream.specs.Opening.{OpenerView, Stands}
@@ -14,47 +14,47 @@ use Rattle.age_stream.proofs.Segments.{released_segment}
 use Rattle.age_stream.proofs.Places.{in_place}
 use Rattle.age_stream.proofs.Undamaged.{rest_segment, rest_payload, rest_is_done}
 
-module _ (sealing : List ℕ → List ℕ → List ℕ) (opening : List ℕ → List ℕ → Option (List ℕ)) (lawful : IsLawful sealing opening)
+module _ (sealing : List ℕ → List ℕ → List ℕ) (opening : List ℕ → List ℕ → Option (List ℕ)) (valid : IsChunkBox sealing opening)
     (n : ℕ) (positive : 0 < n) where
   rest_done : (text : List ℕ) → chunk_count n text ≤ chunk_limit → (s : Segment) → IsAuthentic sealing opening n text s
       → IsRest sealing opening n text s → (outcome opening n s).status ≡ Done
   rest_done text few s auth rest =
-      let r = rest_segment sealing opening lawful n positive text few s.start rest.below in
+      let r = rest_segment sealing opening valid n positive text few s.start rest.below in
       let is : s ≡ r =
-      ap (λ (bs : List ℕ). record { start = s.start; bytes = bs; ended = s.ended; late = s.late }) (rest.bytes ∙ rest_payload sealing opening lawful n positive text few s.start rest.below)
+      ap (λ (bs : List ℕ). record { start = s.start; bytes = bs; ended = s.ended; late = s.late }) (rest.bytes ∙ rest_payload sealing opening valid n positive text few s.start rest.below)
       ∙ (ap (λ (b : Bool). record { start = r.start; bytes = r.bytes; ended = b; late = s.late }) rest.ended
       ∙ ap (λ (b : Bool). record { start = r.start; bytes = r.bytes; ended = r.ended; late = b }) rest.timely) in
       ap (λ (x : Segment). (outcome opening n x).status) is
-      ∙ rest_is_done sealing opening lawful n positive text few s.start rest.below (subst (IsAuthentic sealing opening n text) is auth)
+      ∙ rest_is_done sealing opening valid n positive text few s.start rest.below (subst (IsAuthentic sealing opening n text) is auth)
 
   pub segment_right : (s : Segment) → ReleasesWritten sealing opening n s (released opening n s) (outcome opening n s).status
   segment_right s text few reached auth =
-      let r = released_segment sealing opening lawful n text few positive s (take (s.start * n) text) reached.limit reached.within refl auth in
+      let r = released_segment sealing opening valid n text few positive s (take (s.start * n) text) reached.limit reached.within refl auth in
       record {
         prefix = r.prefix;
         done = r.done;
         whole = λ rest. let d = rest_done text few s auth rest in (r.done d, d);
-        place = in_place sealing opening lawful n text few positive s auth reached;
+        place = in_place sealing opening valid n text few positive s auth reached;
       }
 
 -- an opener that stands for the segment has its status
 pub opener_right : {B : Type 0} (sealing : B → List ℕ → List ℕ → List ℕ) (opening : B → List ℕ → List ℕ → Option (List ℕ)) (n : ℕ) (key : B) (new : OpenerView B)
-    → IsLawful (sealing key) (opening key) → 0 < n → new.key ≡ key → (s : Segment) (text : List ℕ) → Stands opening n new s
+    → IsChunkBox (sealing key) (opening key) → 0 < n → new.key ≡ key → (s : Segment) (text : List ℕ) → Stands opening n new s
     → released (opening key) n s ≡ text → ReleasesWritten (sealing key) (opening key) n s text new.status
-opener_right sealing opening n key new lawful positive same s text h is =
+opener_right sealing opening n key new valid positive same s text h is =
     let m = n in
     let op = opening key in
     let status : (outcome op m s).status ≡ new.status = sym (h.status ∙ ap (λ k. (outcome (opening k) m s).status) same) in
     subst (ReleasesWritten (sealing key) op m s text) status
-    (subst (λ (t : List ℕ). ReleasesWritten (sealing key) op m s t (outcome op m s).status) is (segment_right (sealing key) op lawful m positive s))
+    (subst (λ (t : List ℕ). ReleasesWritten (sealing key) op m s t (outcome op m s).status) is (segment_right (sealing key) op valid m positive s))
 
 -- the same where more texts were handed over
 pub fed_right : {B : Type 0} (sealing : B → List ℕ → List ℕ → List ℕ) (opening : B → List ℕ → List ℕ → Option (List ℕ)) (n : ℕ) (key : B) (new : OpenerView B)
-    → IsLawful (sealing key) (opening key) → 0 < n → new.key ≡ key → (s next : Segment) (texts : List (List ℕ)) → Stands opening n new next
+    → IsChunkBox (sealing key) (opening key) → 0 < n → new.key ≡ key → (s next : Segment) (texts : List (List ℕ)) → Stands opening n new next
     → (outcome (opening key) n next).texts ≡ (outcome (opening key) n s).texts ++ texts
     → ReleasesWritten (sealing key) (opening key) n next (released (opening key) n s ++ flat_map (λ (t : List ℕ). t) texts) new.status
-fed_right sealing opening n key new lawful positive same s next texts h are =
+fed_right sealing opening n key new valid positive same s next texts h are =
     let m = n in
     let is : released (opening key) m next ≡ released (opening key) m s ++ flat_map (λ (t : List ℕ). t) texts =
     ap (flat_map (λ (t : List ℕ). t)) are ∙ flat_map-append (λ (t : List ℕ). t) (outcome (opening key) m s).texts texts in
-    opener_right sealing opening m key new lawful positive same next (released (opening key) m s ++ flat_map (λ (t : List ℕ). t) texts) h is
+    opener_right sealing opening m key new valid positive same next (released (opening key) m s ++ flat_map (λ (t : List ℕ). t) texts) h is

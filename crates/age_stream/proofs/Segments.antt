@@ -9,7 +9,7 @@ use Rattle.std.proofs.lemmas.Bool.Decides.{nat_tests}
 use Rattle.std.proofs.Math.Nat.{le-div_iff_mul-le}
 use Rattle.std.proofs.lemmas.List.FromFn.{length-enumerate_from, get_or-enumerate_from}
 use Rattle.std.proofs.lemmas.Option.{cond_some}
-use Rattle.age_stream.specs.Lawful.{IsLawful}
+use Rattle.age_stream.specs.ChunkBoxes.{IsChunkBox}
 use Rattle.age_stream.specs.Nonce.{nonce_bytes, chunk_limit}
 use Rattle.age_stream.specs.Payload.{chunk_count, last_index, last_chunk, pair, sealed_before_last, sealed}
 use Rattle.age_stream.specs.Segment.{Segment, Outcome, outcome, text_before_last, unless_greatest, text_then, front_texts, whole_blocks, rest_bytes, failed}
@@ -105,7 +105,7 @@ pub record IsChunk (n : ℕ) (text : List ℕ) (i : ℕ) (last : Bool) (x : List
 pub piece_start : (s : Segment) (p : List ℕ) → (with_piece s p).start ≡ s.start
 piece_start s p = by_test (λ (t : Segment). t.start ≡ s.start) s.ended _ _ (λ _. refl) (λ _. refl)
 
-module _ (sealing : List ℕ → List ℕ → List ℕ) (opening : List ℕ → List ℕ → Option (List ℕ)) (lawful : IsLawful sealing opening)
+module _ (sealing : List ℕ → List ℕ → List ℕ) (opening : List ℕ → List ℕ → Option (List ℕ)) (valid : IsChunkBox sealing opening)
     (n : ℕ) (text : List ℕ) (few : chunk_count n text ≤ chunk_limit) (positive : 0 < n) where
   pub writer_text : (i : ℕ) (last : Bool) (block x : List ℕ) → i < chunk_limit → opening (nonce_bytes i last) block ≡ Some x
       → IsWriters sealing opening n text (nonce_bytes i last) block → IsChunk n text i last x
@@ -117,7 +117,7 @@ module _ (sealing : List ℕ → List ℕ → List ℕ) (opening : List ℕ → 
       let l2 : p.at < 2 ^ 64 = omega (arith, p.below) in
       let same : i ≡ p.at = nonce_bytes-number i p.at last (p.at + 1 == chunk_count n text) l1 l2 p.nonce_is in
       let flag : last ≡ (p.at + 1 == chunk_count n text) = nonce_bytes-flag i p.at last (p.at + 1 == chunk_count n text) p.nonce_is in
-      let o : opening (nonce_bytes i last) (sealing (nonce_bytes i last) y) ≡ Some y = lawful.opens (nonce_bytes i last) y (nonce_bytes-length i last) in
+      let o : opening (nonce_bytes i last) (sealing (nonce_bytes i last) y) ≡ Some y = valid.opens (nonce_bytes i last) y (nonce_bytes-length i last) in
       let o2 : opening (nonce_bytes i last) block ≡ Some y = ap (opening (nonce_bytes i last)) p.block_is ∙ o in
       let o3 : Some x ≡ Some y = sym e ∙ o2 in
       let o4 : x ≡ y = cc in

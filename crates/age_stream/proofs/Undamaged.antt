@@ -9,7 +9,7 @@ use Rattle.std.proofs.lemmas.List.FromFn.{length-enumerate_from, get_or-enumerat
 use Rattle.std.proofs.lemmas.Bool.{cases_lt, lt-ltb, le-ltb, eq-eqb, eqb-true, ltb-true, and_parts}
 use Rattle.std.proofs.lemmas.Nat.{div-mul-add, mul-le}
 use Rattle.std.proofs.Math.Nat.{add-mul-div_left}
-use Rattle.age_stream.specs.Lawful.{IsLawful}
+use Rattle.age_stream.specs.ChunkBoxes.{IsChunkBox}
 use Rattle.age_stream.specs.Nonce.{nonce_bytes, chunk_limit}
 use Rattle.age_stream.specs.Payload.{last_index, last_chunk, chunk_count, pair, sealed_before_last, sealed, block_bytes, payload}
 use Rattle.age_stream.specs.Segment.{Segment, Outcome, outcome, front_texts, text_then, unless_greatest, whole_blocks, rest_bytes}
@@ -38,7 +38,7 @@ none_is : (o : Option (List ℕ)) → o ≡ None → IsSome o → ⊥
 none_is None e h = cc
 none_is (Some t) e h = cc
 
-module _ (sealing : List ℕ → List ℕ → List ℕ) (opening : List ℕ → List ℕ → Option (List ℕ)) (lawful : IsLawful sealing opening) (n : ℕ) where
+module _ (sealing : List ℕ → List ℕ → List ℕ) (opening : List ℕ → List ℕ → Option (List ℕ)) (valid : IsChunkBox sealing opening) (n : ℕ) where
   -- the blocks of these chunks, none of them the last
   abbrev blocks_of : ℕ → List (List ℕ) → List (List ℕ)
   blocks_of i [] = []
@@ -51,7 +51,7 @@ module _ (sealing : List ℕ → List ℕ → List ℕ) (opening : List ℕ → 
   Full ds = AllByRecursion (λ (x : List ℕ). length x ≡ n) ds
 
   block_len : (i : ℕ) (last : Bool) (d : List ℕ) → length (sealing (nonce_bytes i last) d) ≡ length d + 16
-  block_len i last d = lawful.longer (nonce_bytes i last) d (nonce_bytes-length i last)
+  block_len i last d = valid.longer (nonce_bytes i last) d (nonce_bytes-length i last)
 
   full_len : (i : ℕ) (d : List ℕ) → length d ≡ n → length (sealing (nonce_bytes i false) d) ≡ n + 16
   full_len i d h = block_len i false d ∙ ap (λ (k : ℕ). k + 16) h
@@ -118,7 +118,7 @@ module _ (sealing : List ℕ → List ℕ → List ℕ) (opening : List ℕ → 
   front_opens : (i : ℕ) (ds : List (List ℕ)) → i + length ds < chunk_limit → front_texts opening i (blocks_of i ds) ≡ ds
   front_opens i [] h = refl
   front_opens i (d ∷ ds) h =
-      let o : opening (nonce_bytes i false) (sealing (nonce_bytes i false) d) ≡ Some d = lawful.opens (nonce_bytes i false) d (nonce_bytes-length i false) in
+      let o : opening (nonce_bytes i false) (sealing (nonce_bytes i false) d) ≡ Some d = valid.opens (nonce_bytes i false) d (nonce_bytes-length i false) in
       let lt : nat_lt (i + 1) chunk_limit ≡ true = lt-ltb (i + 1) chunk_limit (omega (arith, h)) in
       ap (λ (x : Option (List ℕ)). text_then opening (unless_greatest i x) (front_texts opening (i + 1) (blocks_of (i + 1) ds))) o
       ∙ (ap (λ (b : Bool). text_then opening (cond b (Some d) None) (front_texts opening (i + 1) (blocks_of (i + 1) ds))) lt
@@ -179,7 +179,7 @@ module _ (sealing : List ℕ → List ℕ → List ℕ) (opening : List ℕ → 
     tail_len = block_len q true (last_chunk n text)
 
     tail_opens : opening (nonce_bytes q true) tail ≡ Some (last_chunk n text)
-    tail_opens = lawful.opens (nonce_bytes q true) (last_chunk n text) (nonce_bytes-length q true)
+    tail_opens = valid.opens (nonce_bytes q true) (last_chunk n text) (nonce_bytes-length q true)
 
     pub rest_payload : drop (k * (n + 16)) (payload sealing n text) ≡ bytes
     rest_payload =
@@ -199,8 +199,8 @@ module _ (sealing : List ℕ → List ℕ → List ℕ) (opening : List ℕ → 
     open_front : front_texts opening k (blocks_of k ds) ≡ ds
     open_front = front_opens k ds (omega (arith, ds_len, few))
 
-    front_behind : (ys : List (List ℕ)) → front_texts opening k (blocks_of k ds ++ ys) ≡ ds ++ front_texts opening q ys
-    front_behind ys =
+    front_after : (ys : List (List ℕ)) → front_texts opening k (blocks_of k ds ++ ys) ≡ ds ++ front_texts opening q ys
+    front_after ys =
         let all : length (front_texts opening k (blocks_of k ds)) ≡ length (blocks_of k ds) = ap length open_front ∙ sym (length-blocks_of k ds) in
         let e : k + length (blocks_of k ds) ≡ q = omega (arith, length-blocks_of k ds, ds_len) in
         front_on opening (blocks_of k ds) ys k all
@@ -249,7 +249,7 @@ module _ (sealing : List ℕ → List ℕ → List ℕ) (opening : List ℕ → 
           let e1 = outcome_is
           ∙ (ap (λ (ys : List (List ℕ)). outcome_of opening n k (blocks ++ ys) (length bytes) (rest_bytes n tail) false true) none_whole
           ∙ (ap (λ (r : List ℕ). outcome_of opening n k (blocks ++ []) (length bytes) r false true) all_left
-          ∙ ap G (front_behind [] ∙ append-nil ds))) in
+          ∙ ap G (front_after [] ∙ append-nil ds))) in
           let past : slice_get (blocks ++ []) (length ds) ≡ None = slice_get-past (blocks ++ []) (length ds) (omega (arith, ap length (append-nil blocks), length-blocks_of k ds)) in
           let e2 = e1 ∙ ap (λ (o : Option (List ℕ)). verdict_at opening ds (k + length ds) o (nat_lt ((length ds + 1) * (n + 16)) (length bytes)) tail false true) past in
           ap (λ (o : Outcome). o.status) e2 ∙ rest_done
@@ -281,7 +281,7 @@ module _ (sealing : List ℕ → List ℕ → List ℕ) (opening : List ℕ → 
           ap (λ (bs : List (List ℕ)). get_or bs (length ds) []) blocks_are ∙ get_or_at (blocks_of k ds) tail [] [] (length ds) (length-blocks_of k ds) in
           let W : ℕ → List ℕ → Type 0 = λ i b. IsWriters sealing opening n text (nonce_bytes i false) b in
           let here : length front ≡ length ds + length (text_then opening (unless_greatest q (opening (nonce_bytes q false) tail)) []) =
-          ap (λ (bs : List (List ℕ)). length (front_texts opening k bs)) blocks_are ∙ (ap length (front_behind (tail ∷ [])) ∙ length-append ds (front_texts opening q (tail ∷ []))) in
+          ap (λ (bs : List (List ℕ)). length (front_texts opening k bs)) blocks_are ∙ (ap length (front_after (tail ∷ [])) ∙ length-append ds (front_texts opening q (tail ∷ []))) in
           let count : length bytes / (n + 16) ≡ length ds + 1 = count_of k ds tail ds_full ∙ ap (λ (c : ℕ). length ds + c) one_count in
           let w : W q tail =
           elim (cases_lt (length ds) (length front)) [
@@ -293,7 +293,7 @@ module _ (sealing : List ℕ → List ℕ → List ℕ) (opening : List ℕ → 
                 let b : get_or blocks (length front) [] ≡ tail = ap (λ (j : ℕ). get_or blocks j []) m ∙ there in
                 subst (λ (i : ℕ). W i tail) at (subst (W (k + length front)) b (auth.next lt false)))
           ] in
-          let c = writer_text sealing opening lawful n text few positive q false tail t (omega (arith, few)) e w in
+          let c = writer_text sealing opening valid n text few positive q false tail t (omega (arith, few)) e w in
           let yes : (q + 1 == q + 1) ≡ true = eq-eqb (q + 1) (q + 1) refl in
           let no : false ≡ true = c.flag ∙ yes in
           cc
@@ -304,7 +304,7 @@ module _ (sealing : List ℕ → List ℕ → List ℕ) (opening : List ℕ → 
           let blocks = blocks_of k ds in
           let G : List (List ℕ) → Outcome = λ ts. verdict_at opening ts (k + length ts) (slice_get (blocks ++ tail ∷ []) (length ts)) (nat_lt ((length ts + 1) * (n + 16)) (length bytes)) (rest_bytes n tail) false true in
           let front : front_texts opening k (blocks ++ tail ∷ []) ≡ ds =
-          front_behind (tail ∷ []) ∙ (ap (λ (o : Option (List ℕ)). ds ++ text_then opening (unless_greatest q o) []) shut ∙ append-nil ds) in
+          front_after (tail ∷ []) ∙ (ap (λ (o : Option (List ℕ)). ds ++ text_then opening (unless_greatest q o) []) shut ∙ append-nil ds) in
           let at : slice_get (blocks ++ tail ∷ []) (length ds) ≡ Some tail = slice_get_end blocks tail (length ds) (sym (length-blocks_of k ds)) in
           let low : length bytes ≡ (length ds + 1) * (n + 16) =
           omega (arith, length-append (bytes_of k ds) tail, length-bytes_of k ds ds_full, full) in
@@ -363,7 +363,7 @@ module _ (sealing : List ℕ → List ℕ → List ℕ) (opening : List ℕ → 
     short_authentic : length tail < n + 16 → IsAuthentic sealing opening n text rest_segment
     short_authentic short =
         let whole : whole_blocks n bytes ≡ blocks_of k ds ++ [] = whole_of k ds tail ds_full ∙ ap (λ (ys : List (List ℕ)). blocks_of k ds ++ ys) (none_whole short) in
-        let front : front_texts opening k (whole_blocks n bytes) ≡ ds = ap (front_texts opening k) whole ∙ (front_behind [] ∙ append-nil ds) in
+        let front : front_texts opening k (whole_blocks n bytes) ≡ ds = ap (front_texts opening k) whole ∙ (front_after [] ∙ append-nil ds) in
         let e : length tail ≡ 0 * (n + 16) + length tail = omega arith in
         let none : length tail / (n + 16) ≡ 0 = ap (λ (x : ℕ). x / (n + 16)) e ∙ div-mul-add 0 (n + 16) (length tail) short in
         let count : length bytes / (n + 16) ≡ length ds = omega (arith, count_of k ds tail ds_full, none) in
@@ -386,7 +386,7 @@ module _ (sealing : List ℕ → List ℕ → List ℕ) (opening : List ℕ → 
     full_authentic full shut =
         let whole : whole_blocks n bytes ≡ blocks_of k ds ++ tail ∷ [] = blocks_are full in
         let front : front_texts opening k (whole_blocks n bytes) ≡ ds =
-        ap (front_texts opening k) whole ∙ (front_behind (tail ∷ []) ∙ (ap (λ (o : Option (List ℕ)). ds ++ text_then opening (unless_greatest q o) []) shut ∙ append-nil ds)) in
+        ap (front_texts opening k) whole ∙ (front_after (tail ∷ []) ∙ (ap (λ (o : Option (List ℕ)). ds ++ text_then opening (unless_greatest q o) []) shut ∙ append-nil ds)) in
         let count : length bytes / (n + 16) ≡ length ds + 1 = omega (arith, count_of k ds tail ds_full, one_count full) in
         let len : length (front_texts opening k (whole_blocks n bytes)) ≡ length ds = ap length front in
         let there : get_or (whole_blocks n bytes) (length ds) [] ≡ tail =

@@ -4,7 +4,7 @@ use Rattle.std.specs.Prelude.{◌≡◌, ℕ, ◌<◌, ◌≤◌, true, false, L
 use Rattle.std.specs.Prelude.{length, None, map}
 use Rattle.std.specs.List.{AllByRecursion, flat_map}
 use Rattle.std.specs.Borrow.{Bor}
-use Rattle.age_stream.specs.Lawful.{Seals, Opens, IsLawful}
+use Rattle.age_stream.specs.ChunkBoxes.{Seals, Opens, IsChunkBox}
 use Rattle.age_stream.specs.Nonce.{nonce_bytes, chunk_limit}
 use Rattle.age_stream.specs.Payload.{payload, chunk_count, last_index, last_chunk}
 use Rattle.age_stream.specs.Segment.{Segment, outcome}
@@ -37,7 +37,7 @@ module _ (sealing : Seals) (opening : Opens) (n : ℕ) (text : List ℕ) where
 
   -- a box that meets its law seals the text in chunks of n bytes, and the payload is closed
   pub record IsSealable : Type 0 where
-    pub lawful : IsLawful sealing opening
+    pub valid : IsChunkBox sealing opening
     pub some : 0 < n
     pub few : chunk_count n text ≤ chunk_limit
     pub closed : IsClosed

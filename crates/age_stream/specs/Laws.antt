@@ -3,7 +3,7 @@ use Rattle.std.specs.Prelude.{◌≡◌, ◌≢◌, ℕ, ◌+◌, ◌-◌, ◌*�
 use Rattle.std.specs.Prelude.{false, List, [], ◌++◌, length, take}
 use Rattle.std.specs.List.{flat_map}
 use Rattle.std.specs.Simd.{first_chunks}
-use Rattle.age_stream.specs.Lawful.{Opens, Seals, OfAllBoxes}
+use Rattle.age_stream.specs.ChunkBoxes.{Opens, Seals, OfAllBoxes}
 use Rattle.age_stream.specs.Nonce.{nonce_bytes, chunk_limit}
 use Rattle.age_stream.specs.Payload.{last_index, chunk_count, sealed_before_last, block_bytes}
 use Rattle.age_stream.specs.Payload.{payload}
@@ -92,7 +92,7 @@ pub record IsCounted (opening : Opens) (n : ℕ) (base : List ℕ) (s : Segment)
       ≡ take i (first_chunks n s.start base ++ counted opening n s)
   pub all : (outcome opening n s).status ≡ Open → counted opening n s ≡ (outcome opening n s).texts
 
--- so it is of every segment under a lawful box, whatever its blocks are
+-- so it is of every segment under a valid box, whatever its blocks are
 abbrev pub ChunksAreCounted : Type 0
 ChunksAreCounted = OfAllBoxes (λ sealing opening. (n : ℕ) (base : List ℕ) (s : Segment)
     → length base ≡ s.start * n → IsCounted opening n base s)

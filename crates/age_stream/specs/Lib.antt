@@ -1,4 +1,4 @@
-pub mod Lawful
+pub mod ChunkBoxes
 pub mod Nonce
 pub mod Payload
 pub mod Parts

@@ -7,7 +7,7 @@ use Rattle.age_stream.specs.declared.step.Status.{Status}
 use Rattle.age_stream.specs.declared.step.Status.TheVariants.{Open, Failed}
 use Rattle.age_stream.specs.declared.fault.StreamFault.{StreamFault}
 use Rattle.age_stream.specs.declared.opener.OpenerState.{OpenerState}
-use Rattle.age_stream.specs.Lawful.{Opens}
+use Rattle.age_stream.specs.ChunkBoxes.{Opens}
 use Rattle.age_stream.specs.Segment.{Segment, outcome, rest_bytes}
 
 -- its key, the bytes of the block that is open, the chunk at which it stands, and its status

@@ -2,7 +2,7 @@
 use Rattle.std.specs.Prelude.{◌≡◌, ℕ, ◌+◌, ◌<◌, ◌≤◌, ◌==◌, ◌⊎◌, List, []}
 use Rattle.std.specs.Prelude.{◌∷◌, ◌++◌, length, slice_index_or}
 use Rattle.std.specs.List.{AllByRecursion, flat_map}
-use Rattle.age_stream.specs.Lawful.{Seals}
+use Rattle.age_stream.specs.ChunkBoxes.{Seals}
 use Rattle.age_stream.specs.Nonce.{nonce_bytes}
 use Rattle.age_stream.specs.Payload.{chunks, sealed}
 

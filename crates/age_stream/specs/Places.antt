@@ -3,7 +3,7 @@
 use Rattle.std.specs.Prelude.{◌≡◌, ◌≢◌, ℕ, ◌+◌, ◌-◌, ◌<◌, Bool, false, ◌&&◌}
 use Rattle.std.specs.Prelude.{List, [], ◌∷◌, Contains, Some, None, if◌then◌else◌}
 use Rattle.std.specs.Str.{bytes_eq}
-use Rattle.age_stream.specs.Lawful.{Seals, Opens}
+use Rattle.age_stream.specs.ChunkBoxes.{Seals, Opens}
 use Rattle.age_stream.specs.Nonce.{nonce_bytes}
 use Rattle.age_stream.specs.Payload.{chunks, sealed}
 use Rattle.age_stream.specs.Segment.{Segment, outcome, failed, block_at}

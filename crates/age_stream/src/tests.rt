@@ -44,7 +44,7 @@ fn a_payload_is_appended(rt: HostRuntime) -> Result<(), Fail> {
 }
 
 #[test]
-fn a_chunk_is_lent_with_the_byte_behind_it(rt: HostRuntime) -> Result<(), Fail> {
+fn a_chunk_is_lent_with_the_byte_after_it(rt: HostRuntime) -> Result<(), Fail> {
     let key = ClearBox;
     let mut sealer = Sealer::<ClearBox, 20>::new(&key);
     let first = sealer.feed(b"abcd")?;

@@ -5,7 +5,7 @@ use Rattle.age_vectors.specs.Header.{Accepts, Refuses}
 
 pub record AcceptedRows : Type 0 where
   pub smallest : Accepts SMALLEST.now 76
-  pub payload_behind : Accepts SMALLEST_AND_ONE.now 76
+  pub payload_after : Accepts SMALLEST_AND_ONE.now 76
   pub full_line : Accepts FULL_LINE.now 141
   pub last_byte_one : Accepts LAST_BYTE_ONE.now 76
 

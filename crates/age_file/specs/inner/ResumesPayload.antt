@@ -24,7 +24,7 @@ pub record StopsBefore (index : ℕ) (old new : Stage) (result : Result (Unit {0
   pub same : new.tally ≡ old.tally
 
 -- they were, and the bytes behind them were decrypted
-pub record DecryptsBehind (opening : List ℕ → List ℕ → Option (List ℕ)) (index : ℕ)
+pub record DecryptsAfter (opening : List ℕ → List ℕ → Option (List ℕ)) (index : ℕ)
     (old new : Stage) (result : Result (Unit {0}) FileFault) : Type 0 where
   pub mid : Stage
   pub passed : List ℕ
@@ -36,4 +36,4 @@ pub record DecryptsBehind (opening : List ℕ → List ℕ → Option (List ℕ)
 abbrev pub ResumesPayload : (List ℕ → List ℕ → Option (List ℕ)) → ℕ → Stage → Stage
     → Result (Unit {0}) FileFault → Type 0
 ResumesPayload opening index old new result = StopsBefore index old new result
-    ⊎ DecryptsBehind opening index old new result
+    ⊎ DecryptsAfter opening index old new result

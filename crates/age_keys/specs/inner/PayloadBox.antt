@@ -1,14 +1,14 @@
--- The sealing of chunks under a payload key is lawful, by the laws of the cipher.
+-- The sealing of chunks under a payload key is valid, by the laws of the cipher.
 use Rattle.std.specs.Prelude.{ℕ, List, []}
 use Rattle.std.proofs.Common.{sym}
 use Rattle.age_cipher.specs.Aead.{sealing}
 use Rattle.age_cipher.specs.Opening.{opening}
 use Rattle.age_cipher.proofs.SealingLemmas.{length-sealing, opening_of_sealing, sealing_of_opening}
-use Rattle.age_stream.specs.Lawful.{IsLawful}
+use Rattle.age_stream.specs.ChunkBoxes.{IsChunkBox}
 
-pub box_lawful : (key : List ℕ)
-    → IsLawful (λ nonce text. sealing key nonce [] text) (λ nonce block. opening key nonce [] block)
-box_lawful key =
+pub box_valid : (key : List ℕ)
+    → IsChunkBox (λ nonce text. sealing key nonce [] text) (λ nonce block. opening key nonce [] block)
+box_valid key =
     record {
       longer = λ nonce text h. length-sealing key nonce [] text;
       opens = λ nonce text h. opening_of_sealing key nonce [] text;

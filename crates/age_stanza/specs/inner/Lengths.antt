@@ -16,9 +16,9 @@ abbrev pub Leaves : ℕ → ℕ → Option ℕ → Type 0
 Leaves room size (Some left) = left + size ≡ room
 Leaves room size None = room < size
 
-abbrev pub LeavesBehindStanza : ℕ → Stanza → Option ℕ → Type 0
-LeavesBehindStanza room s (Some left) = (left + length (stanza_text s) ≡ room) × IsBytes s.body
-LeavesBehindStanza room s None = room < length (stanza_text s)
+abbrev pub LeavesAfterStanza : ℕ → Stanza → Option ℕ → Type 0
+LeavesAfterStanza room s (Some left) = (left + length (stanza_text s) ≡ room) × IsBytes s.body
+LeavesAfterStanza room s None = room < length (stanza_text s)
 
 -- the length of a header's text, where it is within the limit; and what the types tell of the bytes
 abbrev pub IsTextLength : Header → Option ℕ → Type 0

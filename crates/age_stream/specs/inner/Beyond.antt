@@ -5,7 +5,7 @@ use Rattle.std.specs.Prelude.{◌≡◌, ℕ, ◌+◌, ◌-◌, List, ◌++◌, 
 use Rattle.std.specs.Prelude.{None, nat_lt, nat_le, ◌&&◌, Bool, true, not, if◌then◌else◌}
 use Rattle.std.specs.List.{list_all}
 use Rattle.std.specs.Str.{bytes_eq}
-use Rattle.age_stream.specs.Lawful.{Seals, Opens}
+use Rattle.age_stream.specs.ChunkBoxes.{Seals, Opens}
 
 abbrev pub are_bytes : List ℕ → Bool
 are_bytes = list_all (λ (b : ℕ). nat_lt b 256)
@@ -18,7 +18,7 @@ abbrev pub is_block : List ℕ → Bool
 is_block block = are_bytes block && (nat_le 16 (length block) && nat_le (length block) 65552)
 
 -- the law of a box, of these alone
-pub record IsLawfulOnBytes (sealing : Seals) (opening : Opens) : Type 0 where
+pub record IsChunkBoxOnBytes (sealing : Seals) (opening : Opens) : Type 0 where
   pub bytes : (nonce text : List ℕ) → length nonce ≡ 12 → is_text text ≡ true
       → are_bytes (sealing nonce text) ≡ true
   pub longer : (nonce text : List ℕ) → length nonce ≡ 12 → is_text text ≡ true

@@ -1,4 +1,4 @@
--- The box that hides nothing is lawful. The code cites this proof, so it can't stand in `proofs/`.
+-- The box that hides nothing is valid. The code cites this proof, so it can't stand in `proofs/`.
 use Rattle.std.specs.Prelude.{◌≡◌, ◌≤◌, ℕ, ◌+◌, ◌-◌, List, [], ◌∷◌, ◌++◌}
 use Rattle.std.specs.Prelude.{length, take, drop, Some, None, nat_le, ◌&&◌, Bool, true, cond}
 use Rattle.std.specs.Str.{bytes_eq}
@@ -8,15 +8,15 @@ use Rattle.std.proofs.lemmas.Slice.Eq.{bytes_eq-Decides}
 use Rattle.std.proofs.lemmas.List.{length-append, drop_at, take_at, take-append-drop}
 use Rattle.std.proofs.lemmas.Bool.{le-leb, and_parts}
 use Rattle.std.proofs.lemmas.Option.{cond_some}
-use Rattle.age_stream.specs.Lawful.{IsLawful}
+use Rattle.age_stream.specs.ChunkBoxes.{IsChunkBox}
 use Rattle.age_stream.specs.Clear.{clear_mark, clear_sealing, clear_opening}
 
 mark_length : (nonce : List ℕ) → length nonce ≡ 12 → length (clear_mark nonce) ≡ 16
 mark_length nonce h =
     length-append nonce (0 ∷ 0 ∷ 0 ∷ 0 ∷ []) ∙ ap (λ (k : ℕ). k + 4) h
 
-pub clear_lawful : IsLawful clear_sealing clear_opening
-clear_lawful =
+pub clear_valid : IsChunkBox clear_sealing clear_opening
+clear_valid =
     record {
       longer =
           λ nonce text h. length-append text (clear_mark nonce)

@@ -67,13 +67,13 @@ returns g c =
     let ran = decrypted c.args.positions Allows Refused (g.S.Source.view c.args.reader.now) c.in-Ok-start.unlocked c.payload_key-key.result old new _
     c.new-progress.ensures.written c.new-progress.ensures.index c.new-progress.ensures.chain c.payload_key-key.ensures c.in-Ok-start.ensures.found c.in-Err-decrypt_payload.ensures.decrypts in
     let fails = decrypt_fails c.args.positions Allows Refused (g.S.Source.view c.args.reader.now) c.in-Ok-start.unlocked old new c.in-Err-decrypt_payload.fault c.position_of-next.result c.in-Ok-start.ensures.unfailed ran c.position_of-next.ensures in
-    ports_last g.S.Source.view g.O.Sink.view (λ p. Decrypts c.args.positions Allows Refused before p (Err c.behind.result))
+    ports_last g.S.Source.view g.O.Sink.view (λ p. Decrypts c.args.positions Allows Refused before p (Err c.after.result))
     _ c.decrypt_payload.new.reader.source.now _ c.decrypt_payload.new.writer.sink.now (search rules) (search rules)
     (record {
       done = tt;
-      stopped = rw c.behind.ensures fails;
+      stopped = rw c.after.ensures fails;
       undamaged = λ text whole.
-          rw c.behind.ensures (undamaged c.args.positions c.one_header.ensures Allows Refused before after c.decrypt_payload.new.writer.progress.written c.position_of-next.result c.in-Err-decrypt_payload.fault text whole fails);
+          rw c.after.ensures (undamaged c.args.positions c.one_header.ensures Allows Refused before after c.decrypt_payload.new.writer.progress.written c.position_of-next.result c.in-Err-decrypt_payload.fault text whole fails);
       settled = tt;
       named = c.in-Err-decrypt_payload.ensures.decrypts.named;
     })

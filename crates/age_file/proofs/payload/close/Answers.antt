@@ -3,7 +3,7 @@ use Rattle.std.proofs.lemmas.Result.{err_from_is_err_and}
 use Rattle.std.proofs.KnownBytes.{Appends-nil}
 use Rattle.age_stream.specs.Segment.{released}
 use Rattle.age_file.specs.inner.Boxes.{opens, seals}
-use Rattle.age_keys.specs.inner.PayloadBox.{box_lawful}
+use Rattle.age_keys.specs.inner.PayloadBox.{box_valid}
 use Rattle.age_file.proofs.Bytes.{answer_as}
 use Rattle.age_file.proofs.CountSteps.{mark_end}
 use Rattle.age_file.proofs.payload.close.Goals as goal
@@ -22,7 +22,7 @@ returns-in_err-text-clause-closed g c =
         count = omega arith;
         stands = after.stands;
         text = c.in_err-text.ensures.text;
-        counts = λ keep positive s base len h m. mark_end (seals c.args.opener.now.key) (opens c.args.opener.now.key) (box_lawful c.args.opener.now.key) 65536 positive keep base s [] [] _ _ len (c.in_err-text.ensures.text s h) refl refl m;
+        counts = λ keep positive s base len h m. mark_end (seals c.args.opener.now.key) (opens c.args.opener.now.key) (box_valid c.args.opener.now.key) 65536 positive keep base s [] [] _ _ len (c.in_err-text.ensures.text s h) refl refl m;
       };
       answered = rw (p.1, p.2) (after.fault, refl, refl, refl);
     }
@@ -43,7 +43,7 @@ returns-clause-closed g c =
         text = λ s h. c.in_ok-text.ensures.text s h ∙ ap (λ (t : List ℕ). released (opens c.args.opener.now.key) 65536 s ++ t) put.parts;
         counts = λ keep positive s base len h m.
             let more = c.in_ok-text.ensures.text s h ∙ ap (λ (t : List ℕ). released (opens c.args.opener.now.key) 65536 s ++ t) put.parts in
-            mark_end (seals c.args.opener.now.key) (opens c.args.opener.now.key) (box_lawful c.args.opener.now.key) 65536 positive keep base s put.out put.unwritten _ _ len more refl refl m;
+            mark_end (seals c.args.opener.now.key) (opens c.args.opener.now.key) (box_valid c.args.opener.now.key) 65536 positive keep base s put.out put.unwritten _ _ len more refl refl m;
       };
       answered = answer_as c.write_all.result put.answered c.write_all.ensures.fault (λ _ all. (after.done, all.0, all.1)) (λ _ is risen. rw is risen);
     }

@@ -1,5 +1,5 @@
 use Rattle.std.proofs.Common.{refl, inr}
-use Rattle.age_file.proofs.ResumesPayloadSteps.{place_behind}
+use Rattle.age_file.proofs.ResumesPayloadSteps.{place_after}
 use Rattle.age_file.specs.inner.Readers.{stage_of}
 use Rattle.age_file.proofs.resumption.open_rest.Goals as goal
 
@@ -8,7 +8,7 @@ decrypt_payload-requires-clause-room g c =
     let old = stage_of g.S.Source.view g.O.Sink.view c.args.reader.now c.args.writer.now in
     let mid = stage_of g.S.Source.view g.O.Sink.view c.skip_blocks.new.reader c.args.writer.now in
     let skipped = c.in_ok-skip_blocks.ensures.skipped in
-    place_behind old mid skipped.0 c.requires.room refl c.requires.pulled skipped.2
+    place_after old mid skipped.0 c.requires.room refl c.requires.pulled skipped.2
 
 pub returns-clause-resumes : goal.returns-clause-resumes
 returns-clause-resumes g c =

@@ -72,13 +72,13 @@ returns-in-Err-copy_old g c =
     let fails = copy_fails c.args.positions Allows Refused c.args.position.now (g.S.Source.view c.args.reader.now) c.in-Ok.unlocked
     s1 c.start.new.reader.intake.now c.in-Ok.ensures.found c.in-Ok-verify.ensures c.in-Ok.ensures.unfailed first c.new-progress.ensures.written x z (c.count_on.ensures.bytes ∙ c.in-Ok-Ok.ensures'.0) c.count_on.ensures.pulls
     c.in-Err-copy_old.fault c.in-Err-copy_old.ensures.copied in
-    resume_last g.S.Source.view g.O.Sink.view g.L.Source.view (λ p. ResumesText c.args.positions (g.U.Unlock.allows c.args.unlock.now) (g.U.Unlock.refuses c.args.unlock.now) c.args.position.now old p (Err c.behind.result))
+    resume_last g.S.Source.view g.O.Sink.view g.L.Source.view (λ p. ResumesText c.args.positions (g.U.Unlock.allows c.args.unlock.now) (g.U.Unlock.refuses c.args.unlock.now) c.args.position.now old p (Err c.after.result))
     _ c.start.new.reader.source.now _ c.copy_old.new.writer.sink.now _ c.copy_old.new.reader.source.now (search rules) (search rules) (search rules)
     (record {
       done = tt;
-      stopped = rw c.behind.ensures fails;
+      stopped = rw c.after.ensures fails;
       undamaged = λ text whole.
-          rw c.behind.ensures (undamaged_rest c.one_header.ensures Allows Refused c.args.position.now old new text whole c.args.positions c.copy_old.new.writer.progress.written None c.in-Err-copy_old.fault fails);
+          rw c.after.ensures (undamaged_rest c.one_header.ensures Allows Refused c.args.position.now old new text whole c.args.positions c.copy_old.new.writer.progress.written None c.in-Err-copy_old.fault fails);
       settled = tt;
       named = c.in-Err-copy_old.ensures.copied.named;
     })
@@ -137,13 +137,13 @@ returns g c =
     s1 c.start.new.reader.intake.now c.in-Ok.ensures.found c.in-Ok-verify.ensures c.in-Ok.ensures.unfailed first c.new-progress.ensures.written x z (c.count_on.ensures.bytes ∙ c.in-Ok-Ok.ensures'.0) c.count_on.ensures.pulls
     c.in-Ok-copy_old.ensures.copied c.args.position.now.within c.count_on-2.ensures.bytes c.count_on-2.ensures.pulls c.payload_key-key.result s2 c.position_of-next.result c.in-Err-open_rest.fault c.payload_key-key.ensures
     c.position_of-next.ensures c.in-Err-open_rest.ensures.resumes in
-    resume_last g.S.Source.view g.O.Sink.view g.L.Source.view (λ p. ResumesText c.args.positions (g.U.Unlock.allows c.args.unlock.now) (g.U.Unlock.refuses c.args.unlock.now) c.args.position.now old p (Err c.behind-in-Err-open_rest.result))
+    resume_last g.S.Source.view g.O.Sink.view g.L.Source.view (λ p. ResumesText c.args.positions (g.U.Unlock.allows c.args.unlock.now) (g.U.Unlock.refuses c.args.unlock.now) c.args.position.now old p (Err c.after-in-Err-open_rest.result))
     _ c.open_rest.new.reader.source.now _ c.open_rest.new.writer.sink.now _ c.copy_old.new.reader.source.now (search rules) (search rules) (search rules)
     (record {
       done = tt;
-      stopped = rw c.behind-in-Err-open_rest.ensures fails;
+      stopped = rw c.after-in-Err-open_rest.ensures fails;
       undamaged = λ text whole.
-          rw c.behind-in-Err-open_rest.ensures (undamaged_rest c.one_header.ensures Allows Refused c.args.position.now old new text whole c.args.positions c.open_rest.new.writer.progress.written c.position_of-next.result c.in-Err-open_rest.fault fails);
+          rw c.after-in-Err-open_rest.ensures (undamaged_rest c.one_header.ensures Allows Refused c.args.position.now old new text whole c.args.positions c.open_rest.new.writer.progress.written c.position_of-next.result c.in-Err-open_rest.fault fails);
       settled = tt;
       named = resumed_label (λ nonce block. opening c.payload_key-key.result nonce [] block) c.args.position.now.index s1 s2 _ c.in-Err-open_rest.ensures.resumes ∙ c.in-Ok-copy_old.ensures.copied.named;
     })

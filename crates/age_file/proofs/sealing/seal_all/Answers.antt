@@ -2,7 +2,7 @@ use Rattle.std.proofs.Common.{◌*◌, ◌^◌, ◌≤◌, length, ap, sym, subs
 use Rattle.std.proofs.lemmas.Result.{err_from_is_err_and}
 use Rattle.std.proofs.lemmas.Nat.{mul-le}
 use Rattle.age_file.specs.inner.Boxes.{opens, seals}
-use Rattle.age_keys.specs.inner.PayloadBox.{box_lawful}
+use Rattle.age_keys.specs.inner.PayloadBox.{box_valid}
 use Rattle.age_file.specs.Ports.{ports}
 use Rattle.age_file.specs.Faults.{HasRisen}
 use Rattle.age_file.specs.inner.Seals.{front_of, Wrote, SealingFails, SealsAll, SealsFront}
@@ -17,7 +17,7 @@ finish-requires g c =
     let s = c.in_ok-plain.ensures.sealed in
     let n : ℕ = 65536 in
     let key = c.new-sealer.result.key in
-    let fits = front_small (seals key) (opens key) (box_lawful key) n s.text (omega arith) in
+    let fits = front_small (seals key) (opens key) (box_valid key) n s.text (omega arith) in
     let product : length s.text * 65552 ≤ 2 ^ 80 * 65552 = mul-le (length s.text) 65552 (2 ^ 80) 65552 s.moved.small (omega arith) in
     record { feeding = s.feeding; room = omega (arith, c.requires.room, s.moved.count, fits, product) }
 

@@ -3,7 +3,7 @@ use Rattle.std.proofs.lemmas.Result.{err_from_is_err_and}
 use Rattle.std.proofs.KnownBytes.{Appends-nil}
 use Rattle.std.proofs.lemmas.List.{take-append-drop, take_rest, length-append, length-drop}
 use Rattle.age_file.specs.inner.Boxes.{opens, seals}
-use Rattle.age_keys.specs.inner.PayloadBox.{box_lawful}
+use Rattle.age_keys.specs.inner.PayloadBox.{box_valid}
 use Rattle.age_file.specs.inner.Seals.{SealsSome, GoesOn, SealFails, front_of}
 use Rattle.age_file.proofs.SealSteps.{next_some, fed_alone, fed_is, goes_then, fails_then, room_left}
 use Rattle.age_file.specs.inner.Readers.{tally_of}
@@ -33,7 +33,7 @@ seal_once-requires g c =
     let key = c.args.sealer.now.key in
     record {
       feeding = kept.goes.feeding;
-      room = room_left seals (opens key) 65536 c.args.sealer.now c.loop-at.sealer _ _ c.args.piece.now c.loop-at.at (box_lawful key) (omega arith) c.requires.room kept.some;
+      room = room_left seals (opens key) 65536 c.args.sealer.now c.loop-at.sealer _ _ c.args.piece.now c.loop-at.at (box_valid key) (omega arith) c.requires.room kept.some;
     }
 
 pub loop-at-preserved : goal.loop-at-preserved

@@ -4,6 +4,6 @@ use Rattle.age_stanza.proofs.encode.mac_text.Goals as goal
 
 pub overflow_sub-len : goal.overflow_sub-len
 overflow_sub-len c =
-    let size = length-head c.args.header.now c.requires.1.spells.lawful.mac_length in
+    let size = length-head c.args.header.now c.requires.1.spells.valid.mac_length in
     let len = c.in-Some.ensures.0 in
     omega arith

@@ -14,7 +14,7 @@ regrouped a b c d = simp append_assoc
 front_of : (h : Header) (bytes : List ℕ) → HeadText h bytes → (last : List ℕ) × (length last ≡ 45) × (bytes ≡ (line version ++ (flat_map stanza_text h.stanzas ++ codes "---")) ++ last)
 front_of h bytes is =
     let last : List ℕ = 32 ∷ (text h.mac ++ 10 ∷ []) in
-    let long = is.spells.lawful.mac_length in
+    let long = is.spells.valid.mac_length in
     (last, omega (arith, length-append (text h.mac) (10 ∷ []), length-text h.mac), is.spells.bytes_are ∙ regrouped (line version) (flat_map stanza_text h.stanzas) (codes "---") last)
 
 pub returns : goal.returns

@@ -11,8 +11,8 @@ same h k x y e = (cc, cc)
 
 one : (h k : Header) (a b x y : List ℕ) → Spells h a → Spells k b → a ++ x ≡ b ++ y → (h ≡ k) × (a ≡ b)
 one h k a b x y p q e =
-    let left : walk Start 1 [] (a ++ x) ≡ ready h x = rw p.bytes_are (text_walk h x p.lawful) in
-    let right : walk Start 1 [] (b ++ y) ≡ ready k y = rw q.bytes_are (text_walk k y q.lawful) in
+    let left : walk Start 1 [] (a ++ x) ≡ ready h x = rw p.bytes_are (text_walk h x p.valid) in
+    let right : walk Start 1 [] (b ++ y) ≡ ready k y = rw q.bytes_are (text_walk k y q.valid) in
     let parts = same h k x y (sym left ∙ ap (walk Start 1 []) e ∙ right) in
     (parts.0, p.bytes_are ∙ ap head_text parts.0 ∙ sym q.bytes_are)
 

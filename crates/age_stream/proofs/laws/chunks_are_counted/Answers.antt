@@ -2,4 +2,4 @@ use Rattle.age_stream.proofs.Counting.{is_counted}
 use Rattle.age_stream.proofs.laws.chunks_are_counted.Goals as goal
 
 pub returns : goal.returns
-returns c = λ sealing opening lawful n base s len. is_counted sealing opening lawful n base s len
+returns c = λ sealing opening valid n base s len. is_counted sealing opening valid n base s len

@@ -52,7 +52,7 @@ push_lent-requires g c =
     let chunk0 = c.in_ok-step.ensures.chunk (take at text) inv.holds in
     let chunk : front (take at text ++ take taken (take (length text - at) (drop at text))) ≡ front (take at text) ++ chunk_bytes c.in_ok-step.step.chunk = rw inv.key at chunk0 in
     let positive : 0 < m = omega (arith, c.requires.least) in
-    let fits = front_fits sealing (g.B.ChunkBox.opening c.args.key.now) (g.met.B.ChunkBox.lawful c.args.key.now) m positive text (at + taken) in
+    let fits = front_fits sealing (g.B.ChunkBox.opening c.args.key.now) (g.met.B.ChunkBox.valid c.args.key.now) m positive text (at + taken) in
     let all : length (front (take at text)) + length (chunk_bytes c.in_ok-step.step.chunk) ≡ length (front (take (at + taken) text)) =
     sym (length-append (front (take at text)) (chunk_bytes c.in_ok-step.step.chunk)) ∙ ap length (sym chunk ∙ ap front on) in
     omega (arith, c.requires.room, inv.capacity, ap length inv.blocks, length-append c.args.out.now.items (front (take at text)), all, fits, c.loop-at.out.ok)
@@ -68,7 +68,7 @@ push_lent-requires-2 g c =
     let front : List ℕ → List ℕ = λ t. block_bytes (sealed_before_last sealing m t) in
     let last0 = c.in_ok-finish.ensures.chunk here inv.holds in
     let last : payload sealing m here ≡ front here ++ c.in_ok-finish.field-0.now = rw inv.key at last0 in
-    let size = (payload_is_longer sealing (g.B.ChunkBox.opening c.args.key.now) (g.met.B.ChunkBox.lawful c.args.key.now) m text).0 in
+    let size = (payload_is_longer sealing (g.B.ChunkBox.opening c.args.key.now) (g.met.B.ChunkBox.valid c.args.key.now) m text).0 in
     let sum : length (front here) + length c.in_ok-finish.field-0.now ≡ length (payload sealing m text) =
     sym (length-append (front here) c.in_ok-finish.field-0.now) ∙ ap length (sym last ∙ ap (payload sealing m) all) in
     omega (arith, c.requires.room, inv.capacity, ap length inv.blocks, length-append c.args.out.now.items (front here), sum, size, c.loop-at.out.ok)

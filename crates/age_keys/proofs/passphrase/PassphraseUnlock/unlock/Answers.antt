@@ -11,7 +11,7 @@ returns-in_default-read c =
       rw slice at (sym c.has_scrypt.ensures ∙ c.if-not-has_scrypt.false),
       λ salt log body has.
           let same : has.stanza ≡ c.stanza-item.result = cc (has.alone, one) in
-          c.in_default-read.ensures.none salt log body (rw same at has.lawful),
+          c.in_default-read.ensures.none salt log body (rw same at has.valid),
     )
 
 pub wrap_key-requires-clause-least : goal.wrap_key-requires-clause-least

@@ -15,5 +15,5 @@ returns-clause-written g c =
     IfOk-weaker c.deliver.result _ _
     (λ _ f ds h.
     let now = replays_more g.B.ChunkBox.opening (g.row.SEALED - 16) (replay_view c.args.self.now) (replay_view c.deliver.new.self) (ap (λ k. k.now) c.deliver.ensures.key) ds c.args.delivery.now h f in
-    written g.B.ChunkBox.sealing g.B.ChunkBox.opening (g.row.SEALED - 16) (replay_view c.args.self.now) (replay_view c.deliver.new.self) (g.met.B.ChunkBox.lawful c.args.self.now.key.now) positive (ap (λ k. k.now) c.deliver.ensures.key) (ds ++ c.args.delivery.now ∷ []) now)
+    written g.B.ChunkBox.sealing g.B.ChunkBox.opening (g.row.SEALED - 16) (replay_view c.args.self.now) (replay_view c.deliver.new.self) (g.met.B.ChunkBox.valid c.args.self.now.key.now) positive (ap (λ k. k.now) c.deliver.ensures.key) (ds ++ c.args.delivery.now ∷ []) now)
     c.deliver.ensures.stands

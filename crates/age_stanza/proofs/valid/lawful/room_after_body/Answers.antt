@@ -1,6 +1,6 @@
 use Rattle.std.proofs.Common.{◌+◌, ◌/◌, ◌∙◌, ℕ, sym, ap, arith}
 use Rattle.age_stanza.proofs.TextLengths.{length-body, leaves}
-use Rattle.age_stanza.proofs.lawful.room_behind_body.Goals as goal
+use Rattle.age_stanza.proofs.valid.room_after_body.Goals as goal
 
 pub returns-then-room-body-clause-leaves : goal.returns-then-room-body-clause-leaves
 returns-then-room-body-clause-leaves c =

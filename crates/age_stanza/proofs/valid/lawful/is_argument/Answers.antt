@@ -1,7 +1,7 @@
 use Rattle.std.proofs.Common.{arith, sym, ◌∙◌}
 use Rattle.std.proofs.lemmas.Bool.{eqb-false}
 use Rattle.age_stanza.proofs.Elements.{visible_from_test, test_from_visible}
-use Rattle.age_stanza.proofs.lawful.is_argument.Goals as goal
+use Rattle.age_stanza.proofs.valid.is_argument.Goals as goal
 
 pub returns-then-not-is_empty : goal.returns-then-not-is_empty
 returns-then-not-is_empty c =

@@ -1,6 +1,6 @@
 use Rattle.std.proofs.Common.{◌≡◌, ◌+◌, ◌∷◌, length, drop}
 use Rattle.std.specs.List.{flat_map}
-use Rattle.age_stanza.proofs.lawful.room_behind_arguments.Given as goal
+use Rattle.age_stanza.proofs.valid.room_after_arguments.Given as goal
 
 -- what is left has room for what the rest leaves of the room for all
 abbrev pub invariant-loop-argument : goal.invariant-loop-argument

@@ -4,8 +4,8 @@ use Rattle.std.proofs.lemmas.Iterator.{cases_from_all, YieldsList-from_slice}
 use Rattle.age_stanza.specs.inner.Lengths.{HasArguments}
 use Rattle.age_stanza.proofs.Elements.{all_is}
 use Rattle.age_stanza.proofs.TextLengths.{has_text, text_within}
-use Rattle.age_stanza.proofs.lawful.is_header.Goals as goal
-use Rattle.age_stanza.proofs.lawful.is_header.Goals.{then-not-is_empty, else-not-is_empty}
+use Rattle.age_stanza.proofs.valid.is_header.Goals as goal
+use Rattle.age_stanza.proofs.valid.is_header.Goals.{then-not-is_empty, else-not-is_empty}
 
 pub returns-then-all : goal.returns-then-all
 returns-then-all c =

@@ -7,7 +7,7 @@ ghost use Rattle.std.specs.List.{flat_map, list_all};
 ghost use Rattle.base64.specs.GeneralPurpose.{IsBytes};
 ghost use Rattle.age_stanza.specs.Text.{text};
 ghost use Rattle.age_stanza.specs.Grammar.{IsArgument, HasText, in_lines};
-ghost use Rattle.age_stanza.specs.inner.Lengths.{HasArguments, Leaves, LeavesBehindStanza};
+ghost use Rattle.age_stanza.specs.inner.Lengths.{HasArguments, Leaves, LeavesAfterStanza};
 ghost use Rattle.age_stanza.specs.inner.Lengths.{IsTextLength};
 
 use crate::HEAD_MAX;
@@ -38,7 +38,7 @@ fn has_arguments(stanza: &Stanza) -> bool
 }
 
 /// What arguments leave of some room, each with the space before it.
-fn room_behind_arguments(room: usize, args: &[Argument]) -> Option<usize>
+fn room_after_arguments(room: usize, args: &[Argument]) -> Option<usize>
     ensures { Leaves room (length (flat_map (λ a. 32 ∷ a) args.now)) result }
 {
     let mut left = room;
@@ -59,7 +59,7 @@ fn characters_of(bytes: &[u8]) -> usize
 }
 
 /// What a body's text leaves of some room.
-fn room_behind_body(room: usize, body: &[u8]) -> Option<usize>
+fn room_after_body(room: usize, body: &[u8]) -> Option<usize>
     requires { room ≤ 1048576 }
     ensures leaves { Leaves room (length (in_lines 0 (text body.now))) result }
     ensures bytes { IsBytes body.now }
@@ -72,14 +72,14 @@ fn room_behind_body(room: usize, body: &[u8]) -> Option<usize>
 }
 
 /// What a stanza's text leaves of some room.
-fn room_behind_stanza(room: usize, stanza: &Stanza) -> Option<usize>
+fn room_after_stanza(room: usize, stanza: &Stanza) -> Option<usize>
     requires { room ≤ 1048576 }
-    ensures { LeavesBehindStanza room stanza.now result }
+    ensures { LeavesAfterStanza room stanza.now result }
 {
     let arrow_and_line_end = 3;
     let left = room.checked_sub(arrow_and_line_end)?;
-    let left = room_behind_arguments(left, stanza.args.as_slice())?;
-    room_behind_body(left, stanza.body.as_slice())
+    let left = room_after_arguments(left, stanza.args.as_slice())?;
+    room_after_body(left, stanza.body.as_slice())
 }
 
 /// The length of a header's text, where it is within the limit.
@@ -90,7 +90,7 @@ pub(crate) fn text_len(header: &Header) -> Option<usize>
     let end_line = 4 + characters_of(&header.mac) + 1;
     let mut left = HEAD_MAX - version_line - end_line;
     for stanza in header.stanzas.as_slice() {
-        left = room_behind_stanza(left, stanza)?;
+        left = room_after_stanza(left, stanza)?;
     }
     Some(HEAD_MAX - left)
 }
