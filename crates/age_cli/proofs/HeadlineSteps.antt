@@ -1,5 +1,6 @@
 -- The headline for OUT, from what the commands did.
-use Rattle.std.proofs.Common.{◌≡◌, ◌≤◌, ◌*◌, ◌∙◌, ◌++◌, ℕ, inl, inr, ap, sym, subst, refl, true, true≢false, codes, List, [], length, take, Option, Some, None, append-nil, append_assoc, arith, ⊎_elim}
+use Rattle.std.proofs.Common.{◌≡◌, ◌≤◌, ◌*◌, ◌∙◌, ◌++◌, ℕ, inl, inr, ap, sym, subst, refl, true, true≢false, codes, List, [], length, take, Option, Some, None}
+use Rattle.std.proofs.Common.{append-nil, append_assoc, arith, ⊎_elim}
 use Rattle.std.proofs.lemmas.List.{length-take, take_at}
 use Rattle.std.specs.Prelude.{is_some}
 use Rattle.std.specs.Option.{option_map_or}

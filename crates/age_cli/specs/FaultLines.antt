@@ -1,5 +1,6 @@
 -- The lines in which faults are told.
-use Rattle.std.specs.Prelude.{◌⊎◌, ℕ, List, [], ◌++◌, codes, decimal, nat_le, Option, Some, None, if◌then◌else◌}
+use Rattle.std.specs.Prelude.{◌⊎◌, ℕ, List, [], ◌++◌, codes, decimal, nat_le, Option, Some, None}
+use Rattle.std.specs.Prelude.{if◌then◌else◌}
 use Rattle.std.specs.Io.KnownBytes.{Appends}
 use Rattle.age_file.specs.Faults.{number_of, name_of, place_of, HasRisen}
 use Rattle.age_file.specs.declared.fault.FileFault.{FileFault}

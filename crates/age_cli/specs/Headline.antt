@@ -1,5 +1,6 @@
 -- The headline for OUT: it holds nothing but what the file's writer wrote.
-use Rattle.std.specs.Prelude.{◌≡◌, ◌⊎◌, ℕ, ◌*◌, ◌≤◌, true, List, [], ◌++◌, length, take, Option, Some, codes}
+use Rattle.std.specs.Prelude.{◌≡◌, ◌⊎◌, ℕ, ◌*◌, ◌≤◌, true, List, [], ◌++◌, length}
+use Rattle.std.specs.Prelude.{take, Option, Some, codes}
 use Rattle.clap.specs.Words.{Row, Text, first_of}
 use Rattle.age_stanza.specs.Grammar.{HeadText}
 use Rattle.age_stream.specs.Payload.{chunk_count}

@@ -1,7 +1,8 @@
 //! The command that decrypts a file.
 
 ghost use Rattle.age_cli.specs.Stops.{DecryptionStop, DecryptsStop, OutStops, PortsOf, kept_for};
-ghost use Rattle.std.specs.Prelude.{◌≡◌, ◌⊎◌, [], ◌∷◌, ◌++◌, true, false, Some, None, IfErr, OnOk};
+ghost use Rattle.std.specs.Prelude.{◌≡◌, ◌⊎◌, [], ◌∷◌, ◌++◌, true, false, Some, None};
+ghost use Rattle.std.specs.Prelude.{IfErr, OnOk};
 ghost use Rattle.age_fileset.specs.Events.{Closed};
 ghost use Rattle.age_cli.specs.EventOrders.{Follows};
 ghost use Rattle.age_cli.specs.inner.Asking.{order_asked};

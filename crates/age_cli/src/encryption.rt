@@ -1,6 +1,7 @@
 //! The command that encrypts a file.
 
-ghost use Rattle.std.specs.Prelude.{◌≡◌, ◌⊎◌, [], ◌∷◌, ◌++◌, ℕ, List, Some, true, IfOk, IfErr, IfSome, OnOk};
+ghost use Rattle.std.specs.Prelude.{◌≡◌, ◌⊎◌, [], ◌∷◌, ◌++◌, ℕ, List, Some, true};
+ghost use Rattle.std.specs.Prelude.{IfOk, IfErr, IfSome, OnOk};
 ghost use Rattle.age_commands.specs.Requests.{text_of};
 ghost use Rattle.age_commands.specs.declared.request.Progress.TheVariants.{Silent};
 ghost use Rattle.age_fileset.specs.Events.{Opened, Closed};
@@ -10,7 +11,8 @@ ghost use Rattle.age_commands.specs.declared.request.Request.TheVariants.{Encryp
 ghost use Rattle.age_cli.specs.Encryptions.{random_name, EncryptsOut, EncryptsFile};
 ghost use Rattle.age_cli.specs.inner.Randoms.{IsRandom};
 ghost use Rattle.age_cli.specs.Endings.{EndsEarly, is_usage};
-ghost use Rattle.age_cli.specs.Stops.{EncryptionStop, EncryptsStop, Leaves, PortsOf, SealedOutStops};
+ghost use Rattle.age_cli.specs.Stops.{EncryptionStop, EncryptsStop, Leaves, PortsOf};
+ghost use Rattle.age_cli.specs.Stops.{SealedOutStops};
 ghost use Rattle.age_cli.specs.Files.{SparesBut};
 ghost use Rattle.age_file.specs.declared.fault.FileFault.TheVariants.{Memory};
 

@@ -1,6 +1,7 @@
 //! The first bytes of a source.
 
-ghost use Rattle.std.specs.Prelude.{◌≡◌, ◌^◌, ◌<◌, ◌≤◌, take, [], OnOk, IfOk, IfErr, IfSome};
+ghost use Rattle.std.specs.Prelude.{◌≡◌, ◌^◌, ◌<◌, ◌≤◌, take, [], OnOk, IfOk, IfErr};
+ghost use Rattle.std.specs.Prelude.{IfSome};
 ghost use Rattle.age_fileset.specs.FileSet.{IsMemoryOr};
 ghost use Rattle.age_file.specs.declared.fault.FileFault.TheVariants.{Read};
 ghost use Rattle.std.specs.Io.KnownBytes.{Consumes, IsAtEnd};

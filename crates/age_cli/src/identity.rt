@@ -9,7 +9,8 @@ ghost use Rattle.age_cli.specs.EventOrders.{opening, identity_order};
 ghost use Rattle.age_fileset.specs.FileSet.{IsMemoryOr};
 ghost use Rattle.age_cli.specs.Files.{Files};
 ghost use Rattle.age_cli.specs.Identities.{without_line_feed, IsPassphraseIn, IsSharedIn, OpensBy};
-ghost use Rattle.age_cli.specs.inner.IdentitySteps.{bytes_of, options_asked, secret_name, IsSecretIn};
+ghost use Rattle.age_cli.specs.inner.IdentitySteps.{bytes_of, options_asked, secret_name};
+ghost use Rattle.age_cli.specs.inner.IdentitySteps.{IsSecretIn};
 ghost use Rattle.age_commands.specs.Requests.{text_of};
 
 use crate::ending::{Ending, Usage};

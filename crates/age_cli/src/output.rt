@@ -1,6 +1,7 @@
 //! How the output of a command is opened, and how it is left where the command stops.
 
-ghost use Rattle.std.specs.Prelude.{◌≡◌, ◌≢◌, ℕ, [], ◌∷◌, ◌++◌, List, Some, true, false, IfOk, IfErr, OnOk, OnErr};
+ghost use Rattle.std.specs.Prelude.{◌≡◌, ◌≢◌, ℕ, [], ◌∷◌, ◌++◌, List, Some, true};
+ghost use Rattle.std.specs.Prelude.{false, IfOk, IfErr, OnOk, OnErr};
 ghost use Rattle.age_cli.specs.Endings.{EndsEarly, is_usage};
 ghost use Rattle.age_fileset.specs.Events.{Created, Closed};
 ghost use Rattle.age_cli.specs.EventOrders.{Follows, making};

@@ -1,11 +1,14 @@
 //! The program, over arguments, files, a source and sinks.
 
-ghost use Rattle.std.specs.Prelude.{◌≡◌, ◌⊎◌, ◌≤◌, ℕ, List, [], true, OnOk, IfErr, IsOk, codes};
+ghost use Rattle.std.specs.Prelude.{◌≡◌, ◌⊎◌, ◌≤◌, ℕ, List, [], true, OnOk, IfErr, IsOk};
+ghost use Rattle.std.specs.Prelude.{codes};
 ghost use Rattle.clap.specs.Words.{Row, Text, kind_of};
 ghost use Rattle.clap.specs.Walk.{texts};
 ghost use Rattle.clap.specs.declared.error.kind.ErrorKind.TheVariants.{DisplayHelp, DisplayVersion};
 ghost use Rattle.age_commands.specs.Asked.{Asks, AsksProgress, IsServed, refusals};
-ghost use Rattle.age_cli.specs.Promises.{Inspecting, Encrypting, Decrypting, Resuming, SparingOthers, EncryptingStops, DecryptingStops, ResumingStops, Touching, Finishing, Judging, JudgingTold};
+ghost use Rattle.age_cli.specs.Promises.{Inspecting, Encrypting, Decrypting, Resuming};
+ghost use Rattle.age_cli.specs.Promises.{SparingOthers, EncryptingStops, DecryptingStops};
+ghost use Rattle.age_cli.specs.Promises.{ResumingStops, Touching, Finishing, Judging, JudgingTold};
 ghost use Rattle.age_cli.specs.Endings.{EndsEarly, is_usage};
 ghost use Rattle.age_cli.specs.Stops.{PortsOf, StopsTold};
 ghost use Rattle.age_cli.specs.Headline.{IsWritersInput, IsWritersResumption, KeepsOut};

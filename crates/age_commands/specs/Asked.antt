@@ -1,6 +1,7 @@
 -- What the words after the program's name ask for, by the definitions of the parser of command
 -- lines.
-use Rattle.std.specs.Prelude.{◌≡◌, ◌⊎◌, Bool, true, false, List, [], bytes_eq, Option, Some, codes}
+use Rattle.std.specs.Prelude.{◌≡◌, ◌⊎◌, Bool, true, false, List, [], bytes_eq, Option, Some}
+use Rattle.std.specs.Prelude.{codes}
 use Rattle.std.specs.Option.{option_map_or}
 use Rattle.clap.specs.Words.{Row, Text, one_of, fault_of, subcommand_of}
 use Rattle.clap.specs.Kinds.{Kinds, IsAmong}

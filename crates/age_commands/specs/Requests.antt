@@ -15,7 +15,8 @@ use Rattle.age_commands.specs.declared.request.Decrypting.{Decrypting}
 use Rattle.age_commands.specs.declared.request.Resuming.{Resuming}
 use Rattle.age_commands.specs.declared.request.Drilling.{Drilling}
 use Rattle.age_commands.specs.declared.request.Request.{Request}
-use Rattle.age_commands.specs.declared.request.Request.TheVariants.{Inspect, Decrypt, Resume, Encrypt, Drill}
+use Rattle.age_commands.specs.declared.request.Request.TheVariants.{Inspect, Decrypt, Resume}
+use Rattle.age_commands.specs.declared.request.Request.TheVariants.{Encrypt, Drill}
 
 -- the number that a text spells, or this one where there is no text
 abbrev pub number_or : ℕ → Option Text → ℕ

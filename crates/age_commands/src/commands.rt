@@ -1,9 +1,13 @@
 //! The commands of the program and their arguments, for the parser of command lines.
 
 ghost use Rattle.std.specs.Prelude.{◌≡◌, false, IfOk};
-ghost use Rattle.clap.specs.Words.{app_of, rule_of, new_rule, with_rule, with_subcommand, new_app, FailsBy, subcommand_rows_of};
+ghost use Rattle.clap.specs.Words.{app_of, rule_of, new_rule, with_rule, with_subcommand, new_app};
+ghost use Rattle.clap.specs.Words.{FailsBy, subcommand_rows_of};
 ghost use Rattle.clap.specs.Walk.{texts};
-ghost use Rattle.age_commands.specs.Commands.{option_rule, number_rule, flag_rule, required_rule, with_writing, with_unlocking, with_sealing, with_both_files, encrypting, decrypting, resuming, inspecting, drilling, age_tool};
+ghost use Rattle.age_commands.specs.Commands.{option_rule, number_rule, flag_rule, required_rule};
+ghost use Rattle.age_commands.specs.Commands.{with_writing, with_unlocking, with_sealing};
+ghost use Rattle.age_commands.specs.Commands.{with_both_files, encrypting, decrypting, resuming};
+ghost use Rattle.age_commands.specs.Commands.{inspecting, drilling, age_tool};
 ghost use Rattle.age_commands.specs.inner.Commands.{HasApp, has_globals};
 ghost use Rattle.age_commands.specs.Asked.{refusals, named};
 

@@ -1,10 +1,13 @@
 //! Reads what the arguments ask for.
 
 ghost use Rattle.std.specs.Prelude.{◌≡◌, ◌≤◌, Some, IfOk, IfSome};
-ghost use Rattle.clap.specs.Words.{subcommand_rows_of, rows_of, found_of, one_of, first_of, FailsBy};
+ghost use Rattle.clap.specs.Words.{subcommand_rows_of, rows_of, found_of, one_of, first_of};
+ghost use Rattle.clap.specs.Words.{FailsBy};
 ghost use Rattle.clap.specs.Walk.{texts};
 ghost use Rattle.age_commands.specs.Asked.{refusals, is_given};
-ghost use Rattle.age_commands.specs.Requests.{number_or, text_of, IsDurability, IsProgress, IsEncrypting, IsUnlocking, IsDecrypting, IsResuming, IsDrilling, IsRequest, Requests};
+ghost use Rattle.age_commands.specs.Requests.{number_or, text_of, IsDurability, IsProgress};
+ghost use Rattle.age_commands.specs.Requests.{IsEncrypting, IsUnlocking, IsDecrypting, IsResuming};
+ghost use Rattle.age_commands.specs.Requests.{IsDrilling, IsRequest, Requests};
 
 use crate::commands::matches_of;
 use crate::request::{Decrypting, Drilling, Encrypting, Progress, Request, Resuming, Unlocking};

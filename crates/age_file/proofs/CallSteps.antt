@@ -12,7 +12,8 @@ use Rattle.age_file.specs.Decrypts.{Run, IsRun, WritesOf, IsPositionOf, DecryptF
 use Rattle.age_file.specs.Resumes.{ResumePorts, WritesOld, Resumption, IsResumption, ResumesOf, IsAuthenticResumption, IsNextPosition, IsSame}
 use Rattle.age_file.specs.ResumeFaults.{StopsInOld, StopsInPassed, ResumeFails}
 use Rattle.age_file.specs.OldTexts.{IsOldText}
-use Rattle.age_file.specs.Calls.{IsTexts, IsTextsFrom, TookBeginning, CarriesText, AnswersRight, StopIsTexts, NextStopIsTexts, FirstCall, NextCall, DecryptAnswers, ResumeAnswers, AnswerIsTexts, NextAnswerIsTexts, taken, AreInARow, AreTexts, AllAnswerRight}
+use Rattle.age_file.specs.Calls.{IsTexts, IsTextsFrom, TookBeginning, CarriesText, AnswersRight, StopIsTexts, NextStopIsTexts, FirstCall, NextCall}
+use Rattle.age_file.specs.Calls.{DecryptAnswers, ResumeAnswers, AnswerIsTexts, NextAnswerIsTexts, taken, AreInARow, AreTexts, AllAnswerRight}
 use Rattle.age_file.specs.declared.decryption.Done.{Done}
 use Rattle.age_file.specs.declared.decryption.Stopped.{Stopped}
 use Rattle.age_file.specs.declared.fault.FileFault.{FileFault}

@@ -1,5 +1,6 @@
 -- From what was read and decrypted to what a decryption did.
-use Rattle.std.proofs.Common.{◌/◌, min, Some, None, refl, inl, inr, ◌≡◌, ℕ, ◌*◌, ◌<◌, ◌≤◌, List, [], ◌++◌, length, Option, sym, ap, subst, ◌∙◌, arith, append_assoc}
+use Rattle.std.proofs.Common.{◌/◌, min, Some, None, refl, inl, inr, ◌≡◌, ℕ, ◌*◌, ◌<◌, ◌≤◌, List, [], ◌++◌, length, Option, sym, ap, subst, ◌∙◌, arith}
+use Rattle.std.proofs.Common.{append_assoc}
 use Rattle.std.specs.Prelude.{Result, MatchResult, Ok, Err}
 use Rattle.age_stanza.specs.declared.header.Header.{Header}
 use Rattle.age_stream.specs.declared.step.Status.TheVariants.{Done}

@@ -14,7 +14,8 @@ use Rattle.age_file.specs.Ports.{Ports}
 use Rattle.age_file.specs.inner.Seals.{SealingFails, SealsAll, SealsFront}
 use Rattle.age_file.specs.Secrets.{SecretView}
 use Rattle.age_file.specs.declared.fault.FileFault.{FileFault}
-use Rattle.age_file.specs.declared.fault.FileFault.TheVariants.{Head, Key, NonceCut, Stream, BadPosition, OtherFile, ShortText, Read, Write, Memory, ReadNeverEnds, PositionForged, OldTextDiffers}
+use Rattle.age_file.specs.declared.fault.FileFault.TheVariants.{Head, Key, NonceCut, Stream, BadPosition, OtherFile, ShortText, Read, Write, Memory}
+use Rattle.age_file.specs.declared.fault.FileFault.TheVariants.{ReadNeverEnds, PositionForged, OldTextDiffers}
 use Rattle.age_file.proofs.Bytes.{Appends-then}
 
 mac_holds : (pass : List ℕ) (log : ℕ) (salt key : List ℕ) → IsMacOf (scrypt_head pass log salt key) key

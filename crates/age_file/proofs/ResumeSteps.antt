@@ -1,5 +1,6 @@
 -- From what was read, copied, passed over and decrypted to what a resumed decryption did.
-use Rattle.std.proofs.Common.{◌≡◌, ℕ, ◌+◌, ◌*◌, ◌<◌, ◌≤◌, ◌/◌, min, List, [], ◌++◌, length, take, drop, Option, Some, None, refl, inl, inr, sym, ap, subst, ◌∙◌, suc, ◌^◌, arith, append-nil, append_assoc}
+use Rattle.std.proofs.Common.{◌≡◌, ℕ, ◌+◌, ◌*◌, ◌<◌, ◌≤◌, ◌/◌, min, List, [], ◌++◌, length, take, drop, Option, Some, None, refl, inl, inr, sym, ap, subst, ◌∙◌}
+use Rattle.std.proofs.Common.{suc, ◌^◌, arith, append-nil, append_assoc}
 use Rattle.std.specs.Prelude.{Result, MatchResult, Ok, Err}
 use Rattle.std.specs.Simd.{first_chunks}
 use Rattle.std.specs.Io.KnownBytes.{Consumes, Appends}
@@ -29,7 +30,8 @@ use Rattle.age_file.specs.inner.Counts.{HasCounted}
 use Rattle.age_file.specs.inner.Skips.{SkipFails}
 use Rattle.age_file.specs.inner.Payloads.{Stage, DecryptsPayload, PayloadFails, PayloadDone}
 use Rattle.age_file.specs.inner.Releases.{Tally}
-use Rattle.age_file.specs.Resumes.{ResumePorts, Reads, WritesOld, Resumption, segment_at, fresh_text, IsResumption, IsAuthenticResumption, ResumesOf, ResumesAll, IsNextPosition, IsSame, Accepts, ResumeDone}
+use Rattle.age_file.specs.Resumes.{ResumePorts, Reads, WritesOld, Resumption, segment_at, fresh_text, IsResumption, IsAuthenticResumption, ResumesOf}
+use Rattle.age_file.specs.Resumes.{ResumesAll, IsNextPosition, IsSame, Accepts, ResumeDone}
 use Rattle.age_file.specs.Verdicts.{OpenedFile}
 use Rattle.age_file.specs.inner.Verdicts.{PositionRefused}
 use Rattle.age_file.specs.OldTexts.{BeginsWith, IsOldText}

@@ -1,5 +1,6 @@
 -- One feed of a sealer, and what then was written.
-use Rattle.std.proofs.Common.{◌≡◌, ℕ, ◌+◌, ◌-◌, ◌*◌, ◌^◌, ◌<◌, ◌≤◌, sym, ap, subst, ◌∙◌, List, [], ◌++◌, length, take, drop, Option, append-nil, append_assoc, take-append-drop, take-add, Bool, false, true, arith}
+use Rattle.std.proofs.Common.{◌≡◌, ℕ, ◌+◌, ◌-◌, ◌*◌, ◌^◌, ◌<◌, ◌≤◌, sym, ap, subst, ◌∙◌, List, [], ◌++◌, length, take, drop, Option, append-nil, append_assoc}
+use Rattle.std.proofs.Common.{take-append-drop, take-add, Bool, false, true, arith}
 use Rattle.std.specs.Prelude.{nat_lt, ◌==◌, ◌&&◌, ◌||◌}
 use Rattle.std.proofs.Math.Nat.{div-le_self, div-mul-le_self}
 use Rattle.std.proofs.lemmas.Nat.{mul-le}
@@ -17,7 +18,8 @@ use Rattle.age_file.specs.Faults.{HasRisen}
 use Rattle.age_file.specs.inner.Releases.{Tally}
 use Rattle.age_file.specs.inner.Seals.{front_of, IsTooLong, SealsSome, GoesOn, SealFails, HasRoom, Wrote}
 use Rattle.age_file.specs.declared.fault.FileFault.{FileFault}
-use Rattle.age_file.specs.declared.fault.FileFault.TheVariants.{Head, Key, NonceCut, Stream, BadPosition, OtherFile, ShortText, Read, Write, Memory, ReadNeverEnds, PositionForged, OldTextDiffers}
+use Rattle.age_file.specs.declared.fault.FileFault.TheVariants.{Head, Key, NonceCut, Stream, BadPosition, OtherFile, ShortText, Read, Write, Memory}
+use Rattle.age_file.specs.declared.fault.FileFault.TheVariants.{ReadNeverEnds, PositionForged, OldTextDiffers}
 use Rattle.age_file.proofs.Bytes.{Appends-then}
 
 pub step_len_le : (m : ℕ) (held piece : List ℕ) → step_len m held piece ≤ length piece

@@ -16,7 +16,8 @@ use Rattle.age_file.specs.Ports.{Ports}
 use Rattle.age_file.specs.inner.Releases.{Tally}
 use Rattle.age_file.specs.inner.Seals.{front_of, SealsSome, GoesOn, SealFails, SealingFails, Wrote}
 use Rattle.age_file.specs.declared.fault.FileFault.{FileFault}
-use Rattle.age_file.specs.declared.fault.FileFault.TheVariants.{Head, Key, NonceCut, Stream, BadPosition, OtherFile, ShortText, Read, Write, Memory, ReadNeverEnds, PositionForged, OldTextDiffers}
+use Rattle.age_file.specs.declared.fault.FileFault.TheVariants.{Head, Key, NonceCut, Stream, BadPosition, OtherFile, ShortText, Read, Write, Memory}
+use Rattle.age_file.specs.declared.fault.FileFault.TheVariants.{ReadNeverEnds, PositionForged, OldTextDiffers}
 use Rattle.age_file.proofs.Bytes.{Appends-then, prefix_trans}
 use Rattle.age_file.proofs.SealSteps.{goes_then}
 

@@ -19,8 +19,10 @@ use Rattle.age_file.specs.ResumeFaults.{ResumeFails}
 use Rattle.age_file.specs.declared.position.Position.{Position}
 use Rattle.age_file.specs.declared.position.Positions.{Positions}
 use Rattle.age_file.specs.declared.fault.FileFault.{FileFault}
-use Rattle.age_file.specs.declared.fault.FileFault.TheVariants.{Head, Key, NonceCut, Stream, OtherFile, ShortText, Read, Write, Memory, ReadNeverEnds, PositionForged, OldTextDiffers}
-use Rattle.age_file.proofs.Undamaged.{told, none_left, start_undamaged, front_is, opened_as, no_stream_fault, no_early_end, same_front, authentic_as, own_authentic, IsOpenedAs}
+use Rattle.age_file.specs.declared.fault.FileFault.TheVariants.{Head, Key, NonceCut, Stream, OtherFile, ShortText, Read, Write, Memory, ReadNeverEnds}
+use Rattle.age_file.specs.declared.fault.FileFault.TheVariants.{PositionForged, OldTextDiffers}
+use Rattle.age_file.proofs.Undamaged.{told, none_left, start_undamaged, front_is, opened_as, no_stream_fault, no_early_end, same_front, authentic_as}
+use Rattle.age_file.proofs.Undamaged.{own_authentic, IsOpenedAs}
 
 module _ (one : OneHeader) (Allows : Header → List ℕ → Type 0) (Refused : Header → KeyFault → Type 0) (p : Position) (old new : ResumePorts) (text : List ℕ)
     (u : IsUndamagedRest Allows Refused p old.main.source.remaining old.old.remaining text) where

@@ -1,5 +1,6 @@
 -- What a decryption did.
-use Rattle.std.specs.Prelude.{◌≡◌, ◌⊎◌, ℕ, ◌*◌, ◌/◌, ◌≤◌, min, List, [], ◌++◌, length, Option, Some}
+use Rattle.std.specs.Prelude.{◌≡◌, ◌⊎◌, ℕ, ◌*◌, ◌/◌, ◌≤◌, min, List, [], ◌++◌}
+use Rattle.std.specs.Prelude.{length, Option, Some}
 use Rattle.std.specs.Prelude.{None, IsSomeAnd, Bool, true, false, Result, IfOk, IfErr, OnOk}
 use Rattle.std.specs.Prelude.{MatchResult}
 use Rattle.std.specs.Simd.{first_chunks}

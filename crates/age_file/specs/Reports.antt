@@ -1,5 +1,6 @@
 -- What a report says of a file's bytes (C2SP age.md, "Payload", for the length of the plaintext).
-use Rattle.std.specs.Prelude.{◌≡◌, ℕ, ◌+◌, ◌-◌, ◌*◌, ◌/◌, ◌^◌, ◌≤◌, ◌==◌, if◌then◌else◌, List, []}
+use Rattle.std.specs.Prelude.{◌≡◌, ℕ, ◌+◌, ◌-◌, ◌*◌, ◌/◌, ◌^◌, ◌≤◌}
+use Rattle.std.specs.Prelude.{◌==◌, if◌then◌else◌, List, []}
 use Rattle.std.specs.Prelude.{◌++◌, length, map, Option, slice_index_or, MatchOption}
 use Rattle.std.specs.Io.KnownBytes.{Consumes, IsAtEnd}
 use Rattle.age_stanza.specs.declared.header.Stanza.{Stanza}

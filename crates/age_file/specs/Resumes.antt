@@ -1,5 +1,6 @@
 -- What a resumed decryption did. A chunk has 65,536 bytes, its block 65,552.
-use Rattle.std.specs.Prelude.{◌≡◌, ℕ, ◌*◌, ◌/◌, ◌≤◌, min, List, ◌++◌, length, take, Option, Bool}
+use Rattle.std.specs.Prelude.{◌≡◌, ℕ, ◌*◌, ◌/◌, ◌≤◌, min, List, ◌++◌, length, take}
+use Rattle.std.specs.Prelude.{Option, Bool}
 use Rattle.std.specs.Prelude.{true}
 use Rattle.std.specs.Simd.{first_chunks}
 use Rattle.std.specs.Io.KnownBytes.{Consumes, Appends, IsAtEnd}

@@ -1,5 +1,6 @@
 -- What a write of some bytes did.
-use Rattle.std.specs.Prelude.{◌≡◌, ℕ, ◌+◌, ◌<◌, List, [], ◌++◌, length, Result, MatchResult, OnErr}
+use Rattle.std.specs.Prelude.{◌≡◌, ℕ, ◌+◌, ◌<◌, List, [], ◌++◌, length, Result}
+use Rattle.std.specs.Prelude.{MatchResult, OnErr}
 use Rattle.std.specs.Io.KnownBytes.{Appends}
 use Rattle.age_io.specs.Views.{SinkView}
 use Rattle.age_file.specs.Faults.{HasRisen}

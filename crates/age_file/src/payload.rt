@@ -1,6 +1,7 @@
 //! Opens what a source gives, and writes each chunk once its tag was checked.
 
-ghost use Rattle.std.specs.Prelude.{◌≡◌, ◌+◌, ◌^◌, ◌<◌, ◌≤◌, length, IfOk, OnOk, true};
+ghost use Rattle.std.specs.Prelude.{◌≡◌, ◌+◌, ◌^◌, ◌<◌, ◌≤◌, length, IfOk, OnOk};
+ghost use Rattle.std.specs.Prelude.{true};
 ghost use Rattle.age_file.specs.inner.Boxes.{opens};
 ghost use Rattle.age_file.specs.inner.Releases.{FeedsOnce, FeedsPiece, Closes};
 ghost use Rattle.age_file.specs.inner.Flows.{HasRoom, Turns};

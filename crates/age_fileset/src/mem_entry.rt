@@ -1,6 +1,7 @@
 //! Files over memory, as a list.
 
-ghost use Rattle.std.specs.Prelude.{◌≡◌, ◌≢◌, IsOk, ℕ, List, Some, OnOk, OnErr, IfOk, is_some, true, position, option_map};
+ghost use Rattle.std.specs.Prelude.{◌≡◌, ◌≢◌, IsOk, ℕ, List, Some, OnOk, OnErr, IfOk, is_some};
+ghost use Rattle.std.specs.Prelude.{true, position, option_map};
 ghost use Rattle.age_fileset.specs.Entries.{has_name, entry_of};
 
 use age_stanza::Bytes;

@@ -1,6 +1,7 @@
 //! Files over memory.
 
-ghost use Rattle.std.specs.Prelude.{◌≡◌, ◌≢◌, ◌↔◌, ◌⊎◌, ◌++◌, ◌∷◌, ◌<◌, ◌≤◌, IsTrue, ℕ, List, []};
+ghost use Rattle.std.specs.Prelude.{◌≡◌, ◌≢◌, ◌↔◌, ◌⊎◌, ◌++◌, ◌∷◌, ◌<◌};
+ghost use Rattle.std.specs.Prelude.{◌≤◌, IsTrue, ℕ, List, []};
 ghost use Rattle.std.specs.Prelude.{true, Some, None, OnOk, OnErr, IfOk, IsErrOf, IsOk, IfErr};
 ghost use Rattle.std.specs.Prelude.{IsOkUnless, Contains, is_some, option_map, length, MatchResult};
 ghost use Rattle.std.specs.Io.KnownBytes.{WriteAppends, Keeps};

@@ -1,5 +1,6 @@
 -- The lines that show how far a run is.
-use Rattle.std.specs.Prelude.{◌≡◌, ◌⊎◌, ℕ, ◌-◌, ◌*◌, ◌/◌, ◌%◌, ◌^◌, min, Bool, List, ◌++◌, length}
+use Rattle.std.specs.Prelude.{◌≡◌, ◌⊎◌, ℕ, ◌-◌, ◌*◌, ◌/◌, ◌%◌, ◌^◌, min}
+use Rattle.std.specs.Prelude.{Bool, List, ◌++◌, length}
 use Rattle.std.specs.Prelude.{take, codes, decimal, nat_eq, nat_lt, nat_le, Option, None, Some}
 use Rattle.std.specs.Prelude.{if◌then◌else◌}
 use Rattle.std.specs.Io.KnownBytes.{Appends}

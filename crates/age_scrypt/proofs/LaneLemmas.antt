@@ -1,5 +1,6 @@
 -- Vectors of four words.
-use Rattle.std.proofs.Common.{◌≡◌, ℕ, ◌-◌, ◌*◌, ◌/◌, ◌%◌, ◌^◌, ◌<◌, List, [], ◌∷◌, ◌++◌, length, take, drop, map, bit_or, bit_xor, refl, ap, ◌∙◌, subst, zero, suc, ◌+◌, arith}
+use Rattle.std.proofs.Common.{◌≡◌, ℕ, ◌-◌, ◌*◌, ◌/◌, ◌%◌, ◌^◌, ◌<◌, List, [], ◌∷◌, ◌++◌, length, take, drop, map, bit_or, bit_xor, refl, ap, ◌∙◌, subst, zero}
+use Rattle.std.proofs.Common.{suc, ◌+◌, arith}
 use Rattle.std.proofs.lemmas.List.{append_assoc, take-append-drop, drop-drop, length-take, length-drop}
 use Rattle.std.specs.Int.{w32, rotate_left}
 use Rattle.std.specs.Simd.Lanes.{zip2}

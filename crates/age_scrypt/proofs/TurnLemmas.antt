@@ -1,5 +1,6 @@
 -- Parts that are kept as their diagonals.
-use Rattle.std.proofs.Common.{◌≡◌, ◌++◌, ◌+◌, ◌*◌, ◌/◌, ◌%◌, ◌<◌, ◌≤◌, ℕ, zero, suc, List, [], ◌∷◌, bit_xor, refl, sym, ap, ap₂, ◌∙◌, arith, length, take, drop, get_or, length-take, length-drop, below_more, below_none}
+use Rattle.std.proofs.Common.{◌≡◌, ◌++◌, ◌+◌, ◌*◌, ◌/◌, ◌%◌, ◌<◌, ◌≤◌, ℕ, zero, suc, List, [], ◌∷◌, bit_xor, refl, sym, ap, ap₂, ◌∙◌, arith, length, take, drop}
+use Rattle.std.proofs.Common.{get_or, length-take, length-drop, below_more, below_none}
 use Rattle.std.specs.List.{flat_map}
 use Rattle.std.specs.Simd.Lanes.{zip2}
 use Rattle.std.proofs.lemmas.List.{length-append, get_or-drop, get_or-take, take_at}

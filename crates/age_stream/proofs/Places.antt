@@ -1,5 +1,6 @@
 -- Each block in its place, where what opens is the writer's.
-use Rattle.std.proofs.Common.{inl, inr, ◌≡◌, ℕ, zero, suc, ◌<◌, ◌≤◌, ◌+◌, ◌*◌, ◌-◌, ◌/◌, refl, ap, sym, subst, ◌∙◌, List, [], ◌∷◌, ◌++◌, length, take, drop, get_or, Bool, true, false, arith, rules}
+use Rattle.std.proofs.Common.{inl, inr, ◌≡◌, ℕ, zero, suc, ◌<◌, ◌≤◌, ◌+◌, ◌*◌, ◌-◌, ◌/◌, refl, ap, sym, subst, ◌∙◌, List, [], ◌∷◌, ◌++◌, length, take, drop}
+use Rattle.std.proofs.Common.{get_or, Bool, true, false, arith, rules}
 use Rattle.std.specs.Prelude.{Option, Some, None, IsSome, Contains, ◌==◌, ◌&&◌, ◌||◌, nat_lt, cond, map}
 use Rattle.std.specs.Str.{bytes_eq}
 use Rattle.std.specs.List.{list_any, enumerate_from}
@@ -12,7 +13,8 @@ use Rattle.std.proofs.lemmas.Bool.Decides.{nat_tests}
 use Rattle.age_stream.specs.ChunkBoxes.{IsChunkBox}
 use Rattle.age_stream.specs.Nonce.{nonce_bytes, chunk_limit}
 use Rattle.age_stream.specs.Payload.{chunks, chunk_count, last_index, last_chunk, pair, sealed}
-use Rattle.age_stream.specs.Segment.{Segment, Outcome, outcome, block_at, text_before_last, unless_greatest, text_then, front_texts, whole_blocks, rest_bytes, failed}
+use Rattle.age_stream.specs.Segment.{Segment, Outcome, outcome, block_at, text_before_last, unless_greatest, text_then, front_texts, whole_blocks, rest_bytes}
+use Rattle.age_stream.specs.Segment.{failed}
 use Rattle.age_stream.specs.inner.SegmentSteps.{after_last, at_block, final_block}
 use Rattle.age_stream.specs.declared.step.Status.{Status}
 use Rattle.age_stream.specs.declared.step.Status.TheVariants.{Failed}

@@ -14,7 +14,8 @@ use Rattle.age_stream.specs.Deliveries.{with_piece, with_end}
 use Rattle.age_stream.specs.declared.fault.StreamFault.{StreamFault}
 use Rattle.age_stream.specs.declared.step.Status.TheVariants.{Failed}
 use Rattle.age_stream.specs.Authentic.{RestIsAuthentic}
-use Rattle.age_stream.specs.Laws.{PiecesJoin, ReleasedGrows, ChunksAreCounted, SealedGrows, FreshIsOpen, IsSettled, ClosedStays, EndCloses, ReleasedIsWritten, PayloadIsLonger}
+use Rattle.age_stream.specs.Laws.{PiecesJoin, ReleasedGrows, ChunksAreCounted, SealedGrows, FreshIsOpen, IsSettled, ClosedStays, EndCloses, ReleasedIsWritten}
+use Rattle.age_stream.specs.Laws.{PayloadIsLonger}
 use Rattle.age_stream.proofs.Nonces.{nonce_bytes-length}
 use Rattle.age_stream.proofs.Chunks.{length-first_chunks}
 use Rattle.age_stream.proofs.Table.{by_blocks}

@@ -1,10 +1,12 @@
 -- The writer's own payload, from any chunk on, opens to the end.
-use Rattle.std.proofs.Common.{inl, inr, ◌≡◌, ℕ, zero, suc, ◌<◌, ◌≤◌, ◌+◌, ◌*◌, ◌/◌, refl, ap, sym, subst, ◌∙◌, List, [], ◌∷◌, ◌++◌, length, take, drop, get_or, Bool, true, false, arith}
+use Rattle.std.proofs.Common.{inl, inr, ◌≡◌, ℕ, zero, suc, ◌<◌, ◌≤◌, ◌+◌, ◌*◌, ◌/◌, refl, ap, sym, subst, ◌∙◌, List, [], ◌∷◌, ◌++◌, length, take, drop, get_or}
+use Rattle.std.proofs.Common.{Bool, true, false, arith}
 use Rattle.std.specs.Prelude.{Option, Some, None, cond, nat_lt, ◌||◌, ◌&&◌, ◌==◌, slice_get, map, Contains, IsSome}
 use Rattle.std.specs.List.{enumerate_from, AllByRecursion}
 use Rattle.std.specs.Simd.{first_chunks}
 use Rattle.std.proofs.lemmas.Grind.{flat_map-append}
-use Rattle.std.proofs.lemmas.List.{length-append, length-drop, length-take, append-nil, append_assoc, get_or_at, drop_all, take_at, drop_at, drop-drop, take_all, get_or-map, length-map, get_or_append_left, length_push, get_or_push, get_or-drop}
+use Rattle.std.proofs.lemmas.List.{length-append, length-drop, length-take, append-nil, append_assoc, get_or_at, drop_all, take_at, drop_at, drop-drop}
+use Rattle.std.proofs.lemmas.List.{take_all, get_or-map, length-map, get_or_append_left, length_push, get_or_push, get_or-drop}
 use Rattle.std.proofs.lemmas.List.FromFn.{length-enumerate_from, get_or-enumerate_from}
 use Rattle.std.proofs.lemmas.Bool.{cases_lt, lt-ltb, le-ltb, eq-eqb, eqb-true, ltb-true, and_parts}
 use Rattle.std.proofs.lemmas.Nat.{div-mul-add, mul-le}

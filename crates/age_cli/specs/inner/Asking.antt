@@ -1,9 +1,11 @@
 -- The order of what is asked. What only private code cites.
 use Rattle.std.specs.Prelude.{Some}
-use Rattle.age_cli.specs.Orders.{Order, inspecting_order, encrypting_order, decrypting_order, resuming_order, drilling_order}
+use Rattle.age_cli.specs.Orders.{Order, inspecting_order, encrypting_order, decrypting_order}
+use Rattle.age_cli.specs.Orders.{resuming_order, drilling_order}
 use Rattle.age_commands.specs.Requests.{text_of}
 use Rattle.age_commands.specs.declared.request.Request.{Request}
-use Rattle.age_commands.specs.declared.request.Request.TheVariants.{Inspect, Decrypt, Resume, Encrypt, Drill}
+use Rattle.age_commands.specs.declared.request.Request.TheVariants.{Inspect, Decrypt, Resume}
+use Rattle.age_commands.specs.declared.request.Request.TheVariants.{Encrypt, Drill}
 
 abbrev pub order_asked : Request → Order
 order_asked (Inspect file) = inspecting_order (text_of file)

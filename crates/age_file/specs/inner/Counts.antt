@@ -1,6 +1,7 @@
 -- How a run's progress counts the chunks that were written. Only private functions cite this. A
 -- chunk has n bytes.
-use Rattle.std.specs.Prelude.{◌≡◌, ℕ, ◌-◌, ◌/◌, ◌<◌, ◌≤◌, min, List, ◌++◌, length, Option}
+use Rattle.std.specs.Prelude.{◌≡◌, ℕ, ◌-◌, ◌/◌, ◌<◌, ◌≤◌, min, List, ◌++◌}
+use Rattle.std.specs.Prelude.{length, Option}
 use Rattle.std.specs.Simd.{first_chunks}
 use Rattle.age_stream.specs.Segment.{Segment, outcome, released}
 use Rattle.age_stream.specs.Deliveries.{with_piece}

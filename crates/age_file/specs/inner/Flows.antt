@@ -1,6 +1,7 @@
 -- What flows from a source through an opener to a sink. Only private functions cite this. A chunk
 -- has n bytes.
-use Rattle.std.specs.Prelude.{◌≡◌, ℕ, ◌+◌, ◌*◌, ◌^◌, ◌<◌, ◌≤◌, List, [], ◌++◌, length, Option}
+use Rattle.std.specs.Prelude.{◌≡◌, ℕ, ◌+◌, ◌*◌, ◌^◌, ◌<◌, ◌≤◌, List, []}
+use Rattle.std.specs.Prelude.{◌++◌, length, Option}
 use Rattle.std.specs.Prelude.{Result, MatchResult, Bool, true, false}
 use Rattle.std.specs.Io.KnownBytes.{IsAtEnd}
 use Rattle.age_io.specs.Views.{SourceView}

@@ -1,5 +1,6 @@
 -- What was made of the bytes behind a nonce. Only private functions cite this. A chunk has n bytes.
-use Rattle.std.specs.Prelude.{◌≡◌, ℕ, ◌+◌, ◌*◌, ◌^◌, ◌≤◌, List, ◌++◌, length, Option, Result}
+use Rattle.std.specs.Prelude.{◌≡◌, ℕ, ◌+◌, ◌*◌, ◌^◌, ◌≤◌, List, ◌++◌, length}
+use Rattle.std.specs.Prelude.{Option, Result}
 use Rattle.std.specs.Prelude.{MatchResult, Bool, true}
 use Rattle.std.specs.Simd.{first_chunks}
 use Rattle.std.specs.Io.KnownBytes.{Appends, IsAtEnd}

@@ -1,6 +1,7 @@
 -- What a sealer was fed, and what of its blocks was written. What only the private parts of the
 -- engines cite.
-use Rattle.std.specs.Prelude.{◌≡◌, ℕ, ◌+◌, ◌-◌, ◌*◌, ◌^◌, ◌<◌, ◌≤◌, List, [], ◌++◌, length}
+use Rattle.std.specs.Prelude.{◌≡◌, ℕ, ◌+◌, ◌-◌, ◌*◌, ◌^◌, ◌<◌, ◌≤◌, List}
+use Rattle.std.specs.Prelude.{[], ◌++◌, length}
 use Rattle.std.specs.Prelude.{Result, MatchResult, false}
 use Rattle.std.specs.Io.KnownBytes.{Consumes, Appends, IsAtEnd}
 use Rattle.age_stream.specs.Nonce.{chunk_limit}

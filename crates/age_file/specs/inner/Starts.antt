@@ -1,5 +1,6 @@
 -- What was read up to a payload.
-use Rattle.std.specs.Prelude.{◌≡◌, ℕ, ◌^◌, ◌<◌, List, [], ◌++◌, length, Option, Result, Bool, Ok}
+use Rattle.std.specs.Prelude.{◌≡◌, ℕ, ◌^◌, ◌<◌, List, [], ◌++◌, length, Option, Result}
+use Rattle.std.specs.Prelude.{Bool, Ok}
 use Rattle.std.specs.Prelude.{Err, true, false}
 use Rattle.std.specs.Io.KnownBytes.{IsAtEnd}
 use Rattle.age_io.specs.Views.{SourceView}

@@ -3,7 +3,8 @@ use Rattle.std.proofs.lemmas.Result.{MatchResult-at_ok, MatchResult-at_err}
 use Rattle.age_file.proofs.PositionTextSteps.{decimal_reads, read_as, never_refused, never_differs, was_ok, was_err}
 use Rattle.std.specs.Fmt.{decimal}
 use Rattle.age_file.proofs.position_text.number_of.Goals as goal
-use Rattle.age_file.proofs.position_text.number_of.Goals.{else-index-lt-INDEXES-via-then-index-lt-INDEXES+else-eq, else-index-lt-INDEXES-via-else-index-lt-INDEXES}
+use Rattle.age_file.proofs.position_text.number_of.Goals.{else-index-lt-INDEXES-via-then-index-lt-INDEXES+else-eq}
+use Rattle.age_file.proofs.position_text.number_of.Goals.{else-index-lt-INDEXES-via-else-index-lt-INDEXES}
 
 pub returns-in_err-text-clause-none : goal.returns-in_err-text-clause-none
 returns-in_err-text-clause-none c =

@@ -1,4 +1,5 @@
-use Rattle.std.proofs.Common.{rules, ◌<◌, ◌≤◌, vec_len, vec_capacity, ◌≡◌, ◌-◌, ◌+◌, refl, ap, sym, subst, ◌∙◌, arith, length, take, drop, List, ℕ, ◌++◌, take-add, take-append-drop}
+use Rattle.std.proofs.Common.{rules, ◌<◌, ◌≤◌, vec_len, vec_capacity, ◌≡◌, ◌-◌, ◌+◌, refl, ap, sym, subst, ◌∙◌, arith, length, take, drop, List, ℕ, ◌++◌}
+use Rattle.std.proofs.Common.{take-add, take-append-drop}
 use Rattle.std.proofs.lemmas.List.{take_rest, length-take, length-drop}
 use Rattle.age_stream.specs.Opening.{whole_text}
 use Rattle.age_stream.specs.declared.step.Status.TheVariants.{Open}
