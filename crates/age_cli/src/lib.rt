@@ -1,9 +1,9 @@
 //! The program over arguments, files, a source and sinks.
 //!
-//! `run` takes the arguments after the program's name, a set of files, the input, the output and a
-//! sink for faults, and returns the status: 0 on success, 1 on a fault, 2 on a bad command line. It
-//! is generic over all of them, so that its contract speaks of every input and every set of files;
-//! the program hands in the machine's.
+//! `run` takes the arguments after the program's name, a set of files, the input, the output, a sink
+//! for faults and a meter for progress, and returns the status: 0 on success, 1 on a fault, 2 on a
+//! bad command line. It is generic over all of them, so that its contract speaks of every input and
+//! every set of files; the program hands in the machine's.
 #![tactic(auto)]
 
 mod decryption;

@@ -209,7 +209,7 @@ pub fn run<F: FileSet, I: Source, O: Sink, E: Sink, P: Meter>(
         (F.tells files.old) (λ P. result ≡ 2 → P) }
     ensures untouched { (refusals (texts words.now) ≡ [] → ⊥)
         → F.events files.new ≡ F.events files.old }
-    // Nobody is told of progress who didn't ask for it.
+    // Unless a command is given with --progress, the meter is told nothing.
     ensures silent { (AsksProgress (texts words.now) → ⊥) → progress.new ≡ progress.old }
 {
     match obey(alloc, words, files, input, output, progress) {
