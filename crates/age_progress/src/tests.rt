@@ -157,14 +157,10 @@ fn a_sink_that_takes_little_gets_whole_lines(rt: HostRuntime) -> Result<(), Fail
     Ok(())
 }
 
-// The file stops midway: its second pull fails, and a third one gives the rest.
-#[test]
-fn tells_what_a_source_gives(rt: HostRuntime) -> Result<(), Fail> {
-    let alloc = rt.alloc();
-    let mut progress = shown(alloc, None)?;
-    progress.begin(Some(10));
+/// Reads a source of ten bytes, whose second pull fails.
+fn pull_in_turn<M: Meter + Drop>(rt: &impl Abort, alloc: Global, meter: M) -> Result<(), Fail> {
     let source = MemSource::new(b"0123456789".to_vec(alloc)?, 4, Some(1));
-    let mut metered = Metered::new(source, Some(&mut progress));
+    let mut metered = Metered::new(source, meter);
     let mut into = [0; 8];
     assert_eq!(rt; metered.pull(&mut into), Ok(4));
     assert_eq!(rt; &into[..4], b"0123".as_slice());
@@ -172,17 +168,26 @@ fn tells_what_a_source_gives(rt: HostRuntime) -> Result<(), Fail> {
     assert_eq!(rt; metered.failures(), 1);
     assert_eq!(rt; metered.pull(&mut into), Ok(4));
     assert_eq!(rt; &into[..4], b"4567".as_slice());
+    Ok(())
+}
+
+#[test]
+fn tells_what_a_source_gives(rt: HostRuntime) -> Result<(), Fail> {
+    let alloc = rt.alloc();
+    let mut progress = shown(alloc, None)?;
+    progress.begin(Some(10));
+    pull_in_turn(&rt, alloc, &mut progress)?;
     see(&rt, progress, " 40 %  4 of 10 B\r 80 %  8 of 10 B\r\n");
     Ok(())
 }
 
 #[test]
-fn no_meter_is_told_nothing(rt: HostRuntime) -> Result<(), Fail> {
+fn tells_a_meter_where_there_is_one(rt: HostRuntime) -> Result<(), Fail> {
     let alloc = rt.alloc();
-    let source = MemSource::new(b"0123456789".to_vec(alloc)?, 4, None);
+    let mut progress = shown(alloc, None)?;
+    progress.begin(Some(10));
+    pull_in_turn(&rt, alloc, Some(&mut progress))?;
+    see(&rt, progress, " 40 %  4 of 10 B\r 80 %  8 of 10 B\r\n");
     let none: Option<ProgressLine<MemSink>> = None;
-    let mut metered = Metered::new(source, none);
-    let mut into = [0; 8];
-    assert_eq!(rt; metered.pull(&mut into), Ok(4));
-    Ok(())
+    pull_in_turn(&rt, alloc, none)
 }
