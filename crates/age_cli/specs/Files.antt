@@ -11,7 +11,8 @@ SparesBut to old new = (q : Text) → (q ≡ to → ⊥) → new q ≡ old q
 
 -- only what stands under these two names may differ, where they are given
 abbrev pub SparesBoth : Option Text → Option Text → Files → Files → Type 0
-SparesBoth to save old new = (q : Text) → (to ≡ Some q → ⊥) → (save ≡ Some q → ⊥) → new q ≡ old q
+SparesBoth to save old new = (q : Text) → (to ≡ Some q → ⊥) → (save ≡ Some q → ⊥)
+    → new q ≡ old q
 
 -- only the output and the file of `--save`
 abbrev pub Spares : List Row → Files → Files → Type 0

@@ -9,7 +9,8 @@ use Rattle.age_cli.specs.Files.{Files}
 use Rattle.age_cli.specs.ReportTexts.{report_text}
 
 -- the input was read to its end, and its report was written
-abbrev pub Reports : Option (List ℕ) → Option (List ℕ) → Option (List ℕ) → Option (List ℕ) → Type 0
+abbrev pub Reports : Option (List ℕ) → Option (List ℕ) → Option (List ℕ) → Option (List ℕ)
+    → Type 0
 Reports input_old input_new output_old output_new =
     (r : Report) × file.Inspects input_old input_new r
     × Appends output_old output_new (report_text r)

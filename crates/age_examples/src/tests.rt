@@ -14,7 +14,8 @@ const NONCE: [u8; 16] = *b"defghijklmnopqrs";
 
 /// The header and the payload nonce.
 const START: &[u8; 92] =
-    b"age-encryption.org/v1\n-> x\n\n--- 1mO1p2iHr1hXsC4oPA3JQsoy5EVuHeaNqF7FyjrAkCE\ndefghijklmnopqrs";
+    b"age-encryption.org/v1\n-> x\n\n--- 1mO1p2iHr1hXsC4oPA3JQsoy5EVuHeaNqF7FyjrAkCE\n\
+        defghijklmnopqrs";
 
 /// The payload of `hello`.
 const PAYLOAD: [u8; 21] = [

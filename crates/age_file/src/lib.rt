@@ -4,7 +4,7 @@
 //! tell their bytes, so that the contract of an engine can name what it read and what it wrote.
 //!
 //! `inspect` reads a whole file and reports what its header holds and how much plaintext the bytes
-//! behind it would be. `encrypt` writes an age file of what it reads, and `decrypt` the text of a
+//! after it would be. `encrypt` writes an age file of what it reads, and `decrypt` the text of a
 //! file whose header an unlocker opens; if it stops, it hands out the position at which to
 //! continue. `resume` continues there: it copies the earlier output up to the position, and opens
 //! the blocks after it, so that what it writes is the whole text.

@@ -23,7 +23,8 @@ const NONCE: [u8; 16] = [
 
 /// The header and the payload nonce.
 const FRONT: &[u8; 92] =
-    b"age-encryption.org/v1\n-> x\n\n--- 1mO1p2iHr1hXsC4oPA3JQsoy5EVuHeaNqF7FyjrAkCE\ndefghijklmnopqrs";
+    b"age-encryption.org/v1\n-> x\n\n--- 1mO1p2iHr1hXsC4oPA3JQsoy5EVuHeaNqF7FyjrAkCE\n\
+        defghijklmnopqrs";
 
 /// The payload of `hello`.
 const HELLO: [u8; 21] = [
@@ -141,7 +142,7 @@ fn see_stop(
     stopped.position
 }
 
-/// The position behind so many chunks of the long text.
+/// The position after so many chunks of the long text.
 fn see_position(rt: &impl Abort, position: Option<Position>, index: usize)
     requires { index < 3 }
 {
@@ -330,9 +331,9 @@ fn a_byte_after_a_full_last_chunk(rt: HostRuntime) -> Result<(), Fail> {
     Ok(())
 }
 
-/// The text of the position behind two chunks of the long text, by python's base64.
-const POSITION_TEXT: &[u8; 150] =
-    b"age-position/v2 2 d1OYKDfjAFYr1YZ8jnp3n37BEIqWWo6NZKua5lA6O3I Z/+/pb0gy0Qz9r4nrfQPNKnIsXURwLLWg+TFayQJBo4 hEND0PoQZoUO3u7dpzXqdX+6bFzqNvs/DBT45+lEskk\n";
+/// The text of the position after two chunks of the long text, by python's base64.
+const POSITION_TEXT: &[u8; 150] = b"age-position/v2 2 d1OYKDfjAFYr1YZ8jnp3n37BEIqWWo6NZKua5lA6O3I \
+        Z/+/pb0gy0Qz9r4nrfQPNKnIsXURwLLWg+TFayQJBo4 hEND0PoQZoUO3u7dpzXqdX+6bFzqNvs/DBT45+lEskk\n";
 
 #[test]
 fn a_position_of_python_is_read_and_written(rt: HostRuntime) -> Result<(), Fail> {

@@ -14,7 +14,9 @@ const NONCE: [u8; 16] = [
 ];
 
 const HEADER: &[u8; 168] =
-    b"age-encryption.org/v1\n-> X25519 AQIDBAUGBwgJCgsMDQ4PEBESExQVFhcYGRobHB0eHyA\nAAAAAAAAAAAAAAAAAAAAAAAAAAAAAAAAAAAAAAAAAAA\n--- 2qI67EPnGlxRKO1p2mrMuRQ5g+L/iqFomoB1OWyBPo4\n";
+    b"age-encryption.org/v1\n-> X25519 AQIDBAUGBwgJCgsMDQ4PEBESExQVFhcYGRobHB0eHyA\n\
+        AAAAAAAAAAAAAAAAAAAAAAAAAAAAAAAAAAAAAAAAAAA\n\
+        --- 2qI67EPnGlxRKO1p2mrMuRQ5g+L/iqFomoB1OWyBPo4\n";
 
 // `age` at a nonce of zeros, under the payload key.
 const SEALED: [u8; 19] = [

@@ -1,8 +1,7 @@
 //! The line that shows how far a run is.
 
 ghost use Rattle.std.specs.Prelude.{◌≡◌, ℕ, ◌+◌, ◌-◌, ◌^◌, ◌≤◌, ◌<◌, ◌++◌};
-ghost use Rattle.std.specs.Prelude.{Option, length, decimal};
-ghost use Rattle.std.specs.Prelude.{[]};
+ghost use Rattle.std.specs.Prelude.{[], Option, length, decimal};
 ghost use Rattle.age_progress.specs.Lines.{percentage, measure_of, amount, padded, line, mark};
 
 use arrayvec::ArrayVec;

@@ -23,7 +23,7 @@ fn put_all<O: Sink>(sink: &mut O, text: &[u8]) -> Result<(), Failed>
     sink.flush()
 }
 
-/// The same, and a failure is ignored.
+/// Writes a text and sends it on; a failure is ignored.
 pub(crate) fn show<O: Sink>(sink: &mut O, text: &[u8])
     ensures { Shows (O.view sink.old) text.now (O.view sink.new) }
 {

@@ -9,7 +9,8 @@ const NO_SALT: [u8; 0] = [];
 const SHORT_SALT: [u8; 16] = [0, 1, 2, 3, 4, 5, 6, 7, 8, 9, 10, 11, 12, 13, 14, 15];
 
 const LABELLED_SALT: [u8; 44] =
-    *b"age-encryption.org/v1/scrypt\x00\x01\x02\x03\x04\x05\x06\x07\x08\x09\x0a\x0b\x0c\x0d\x0e\x0f";
+    *b"age-encryption.org/v1/scrypt\x00\x01\x02\x03\x04\x05\x06\x07\x08\x09\x0a\x0b\x0c\x0d\x0e\
+        \x0f";
 
 // By python, for each log and each salt:
 //     hashlib.scrypt(b"correct horse", salt=salt, n=2**log, r=8, p=1, dklen=32, maxmem=2**30)

@@ -38,13 +38,18 @@ const LAST_BIT_NONCE: [u8; 12] = [
 ];
 
 const SUNSCREEN: [u8; 114] =
-    *b"Ladies and Gentlemen of the class of '99: If I could offer you only one tip for the future, sunscreen would be it.";
+    *b"Ladies and Gentlemen of the class of '99: If I could offer you only one tip for the \
+        future, sunscreen would be it.";
 
 const CONTRIBUTION: [u8; 375] =
-    *b"Any submission to the IETF intended by the Contributor for publication as all or part of an IETF Internet-Draft or RFC and any statement made within the context of an IETF activity is considered an \"IETF Contribution\". Such statements include oral statements in IETF sessions, as well as written and electronic communications made at any time or place, which are addressed to";
+    *b"Any submission to the IETF intended by the Contributor for publication as all or part of \
+        an IETF Internet-Draft or RFC and any statement made within the context of an IETF \
+        activity is considered an \"IETF Contribution\". Such statements include oral statements \
+        in IETF sessions, as well as written and electronic communications made at any time or \
+        place, which are addressed to";
 
-const VERSE: [u8; 127] =
-    *b"'Twas brillig, and the slithy toves\nDid gyre and gimble in the wabe:\nAll mimsy were the borogoves,\nAnd the mome raths outgrabe.";
+const VERSE: [u8; 127] = *b"'Twas brillig, and the slithy toves\nDid gyre and gimble in the wabe:\n\
+        All mimsy were the borogoves,\nAnd the mome raths outgrabe.";
 
 const DRAFT: [u8; 265] = [
     0x49, 0x6e, 0x74, 0x65, 0x72, 0x6e, 0x65, 0x74, 0x2d, 0x44, 0x72, 0x61, 0x66, 0x74, 0x73, 0x20,

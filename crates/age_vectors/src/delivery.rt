@@ -1,5 +1,5 @@
 // Worked rows of a payload, sealed by a box that hides nothing: chunks of four bytes in blocks of
-// twenty, and what is held under cuts, swaps, repeats, restarts and bytes behind the end.
+// twenty, and what is held under cuts, swaps, repeats, restarts and bytes after the end.
 use age_stream::{
     CHUNK_LIMIT, ClearBox, Delivery, Opener, Replay, Sealer, Status, StreamFault, StreamKind,
     seal_all,
@@ -10,7 +10,8 @@ const EIGHT: &[u8; 40] =
     b"abcd\0\0\0\0\0\0\0\0\0\0\0\0\0\0\0\0efgh\0\0\0\0\0\0\0\0\0\0\x01\x01\0\0\0\0";
 
 pub(crate) const TEN: &[u8; 58] =
-    b"abcd\0\0\0\0\0\0\0\0\0\0\0\0\0\0\0\0efgh\0\0\0\0\0\0\0\0\0\0\x01\0\0\0\0\0ij\0\0\0\0\0\0\0\0\0\0\x02\x01\0\0\0\0";
+    b"abcd\0\0\0\0\0\0\0\0\0\0\0\0\0\0\0\0efgh\0\0\0\0\0\0\0\0\0\0\x01\0\0\0\0\0\
+        ij\0\0\0\0\0\0\0\0\0\0\x02\x01\0\0\0\0";
 
 const NO_TEXT: &[u8; 16] = b"\0\0\0\0\0\0\0\0\0\0\0\x01\0\0\0\0";
 
@@ -62,7 +63,7 @@ fn is_sealed(alloc: Global, text: &[u8], payload: &[u8]) -> bool {
     }
 }
 
-// A block is lent with the byte behind it, and the last by `finish`.
+// A block is lent with the byte after it, and the last by `finish`.
 fn two_letters_in_two_pieces() -> bool {
     let key = ClearBox;
     let mut sealer = Sealer::<ClearBox, 17>::new(&key);

@@ -7,7 +7,8 @@ ghost use Rattle.age_kdf.specs.Pbkdf2.{pbkdf2_once};
 use age_kdf::{hkdf32, hmac, pbkdf2_once};
 
 const HMAC_MESSAGE_7: [u8; 152] =
-    *b"This is a test using a larger than block-size key and a larger than block-size data. The key needs to be hashed before being used by the HMAC algorithm.";
+    *b"This is a test using a larger than block-size key and a larger than block-size data. The \
+        key needs to be hashed before being used by the HMAC algorithm.";
 
 const HMAC_KEY_4: [u8; 25] = [
     0x01, 0x02, 0x03, 0x04, 0x05, 0x06, 0x07, 0x08, 0x09, 0x0a, 0x0b, 0x0c, 0x0d, 0x0e, 0x0f, 0x10,

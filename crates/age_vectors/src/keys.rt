@@ -21,12 +21,14 @@ const SALT: [u8; 16] = [
 pub(crate) const KEY: [u8; 16] = [0, 1, 2, 3, 4, 5, 6, 7, 8, 9, 10, 11, 12, 13, 14, 15];
 
 /// The header of the passphrase `kudebafon`, at work factor 1.
-const WRITTEN: [u8; 149] =
-    *b"age-encryption.org/v1\n-> scrypt EBESExQVFhcYGRobHB0eHw 1\n1z3f/yTFiUXDwVbiU/TZ2AupEaKH6mWRdiP4zJo1RGw\n--- j2RWCWPgvXImsyfN390ggNwin5ht9nxij7u+aGwWgss\n";
+const WRITTEN: [u8; 149] = *b"age-encryption.org/v1\n-> scrypt EBESExQVFhcYGRobHB0eHw 1\n\
+        1z3f/yTFiUXDwVbiU/TZ2AupEaKH6mWRdiP4zJo1RGw\n\
+        --- j2RWCWPgvXImsyfN390ggNwin5ht9nxij7u+aGwWgss\n";
 
 /// The same at work factor 10.
-const AT_TEN: &[u8; 150] =
-    b"age-encryption.org/v1\n-> scrypt EBESExQVFhcYGRobHB0eHw 10\nQh59WLlLxJRIkowFnzt99qkc7x6EgdHELDUQmvHY874\n--- 2qY5AgJS48JZMvxeEOs4EKHsGHn1+dq7Rvg3gLXzgBM\n";
+const AT_TEN: &[u8; 150] = b"age-encryption.org/v1\n-> scrypt EBESExQVFhcYGRobHB0eHw 10\n\
+        Qh59WLlLxJRIkowFnzt99qkc7x6EgdHELDUQmvHY874\n\
+        --- 2qY5AgJS48JZMvxeEOs4EKHsGHn1+dq7Rvg3gLXzgBM\n";
 
 /// The number of the fault with which a header is refused, or the file key.
 fn answer<U: Unlock>(alloc: Global, header: &Header, unlock: &U) -> Result<[u8; 16], u8>

@@ -1,4 +1,4 @@
-// Decryptions that go on: from each stop of a decryption, and from the position behind two chunks
+// Decryptions that go on: from each stop of a decryption, and from the position after two chunks
 // while one pull, one put or the flush fails. The positions are Python's.
 use crate::stops::{Example, Failure, LOG, PASS, POSITIONS, STEP, decrypted, has_text, is_front};
 use age_file::{Done, MemSink, MemSource, Position, Stopped, resume};
@@ -133,7 +133,7 @@ fn writes_none(alloc: Global, rest: &Rest<'_>, number: u8) -> bool {
     }
 }
 
-// Whether the run stops with this fault, without a position, behind so many bytes of the old text.
+// Whether the run stops with this fault, without a position, after so many bytes of the old text.
 fn writes_old(alloc: Global, rest: &Rest<'_>, number: u8, len: usize) -> bool {
     match refused(alloc, rest, number) {
         Some(text) => is_front(text.as_slice(), len, rest.old),
@@ -228,7 +228,7 @@ fn stops_in_turn(alloc: Global, example: &Example, rest: &Rest<'_>) -> bool {
         && (0..14).all(|pull| stops_in_old(alloc, rest, pull))
 }
 
-// The calls behind those that a run makes.
+// The calls after those that a run makes.
 fn fails_too_late(alloc: Global, example: &Example, rest: &Rest<'_>) -> bool {
     goes_on(
         alloc,
@@ -267,7 +267,7 @@ fn put_after(puts: u64) -> usize {
     AFTER_PUTS.get(puts as usize).copied().unwrap_or(0)
 }
 
-// Whether the run stops behind so much of the text, with a position exactly where the copy was
+// Whether the run stops after so much of the text, with a position exactly where the copy was
 // made, from which it can be gone on.
 fn stops(alloc: Global, example: &Example, rest: &Rest<'_>, failure: Failure, len: usize) -> bool {
     let Some((Err(stopped), text)) = resumed(alloc, &Rest { failure, ..*rest }) else {

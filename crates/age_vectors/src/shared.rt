@@ -19,26 +19,44 @@ pub(crate) const RECIPIENT: [u8; 32] = [
 
 /// A header of one X25519 stanza.
 pub(crate) const ONE: [u8; 168] =
-    *b"age-encryption.org/v1\n-> X25519 AQIDBAUGBwgJCgsMDQ4PEBESExQVFhcYGRobHB0eHyA\njZAdkj7SfLxba9aaDaLOH15VqHxjezbflkA4yhWbOAQ\n--- bFHWTtINPd+NDhBKPJJS9Mjszxl4rvMbhTUfrtdiPco\n";
+    *b"age-encryption.org/v1\n-> X25519 AQIDBAUGBwgJCgsMDQ4PEBESExQVFhcYGRobHB0eHyA\n\
+        jZAdkj7SfLxba9aaDaLOH15VqHxjezbflkA4yhWbOAQ\n\
+        --- bFHWTtINPd+NDhBKPJJS9Mjszxl4rvMbhTUfrtdiPco\n";
 
 /// Two, of which the second opens.
 const SECOND: &[u8] =
-    b"age-encryption.org/v1\n-> X25519 AQIDBAUGBwgJCgsMDQ4PEBESExQVFhcYGRobHB0eHyA\nj3qlNpeG/TXms2TPf47danvdz6ztdPR3yBvwF3MZghI\n-> X25519 ISIjJCUmJygpKissLS4vMDEyMzQ1Njc4OTo7PD0+P0A\nsaYyWtf1wzZgzf9vl9J/7nBFmW0FB4AEmpbiUeNVh+o\n--- bXk/jjBCNQusHcRRx8swxJZE7qK3Mqd7ifEGAgCYmUo\n";
+    b"age-encryption.org/v1\n-> X25519 AQIDBAUGBwgJCgsMDQ4PEBESExQVFhcYGRobHB0eHyA\n\
+        j3qlNpeG/TXms2TPf47danvdz6ztdPR3yBvwF3MZghI\n\
+        -> X25519 ISIjJCUmJygpKissLS4vMDEyMzQ1Njc4OTo7PD0+P0A\n\
+        saYyWtf1wzZgzf9vl9J/7nBFmW0FB4AEmpbiUeNVh+o\n\
+        --- bXk/jjBCNQusHcRRx8swxJZE7qK3Mqd7ifEGAgCYmUo\n";
 
 /// The same, and another stanza between them.
 const OTHER_BETWEEN: &[u8] =
-    b"age-encryption.org/v1\n-> X25519 AQIDBAUGBwgJCgsMDQ4PEBESExQVFhcYGRobHB0eHyA\nj3qlNpeG/TXms2TPf47danvdz6ztdPR3yBvwF3MZghI\n-> x\n\n-> X25519 ISIjJCUmJygpKissLS4vMDEyMzQ1Njc4OTo7PD0+P0A\nsaYyWtf1wzZgzf9vl9J/7nBFmW0FB4AEmpbiUeNVh+o\n--- o3wDOasAjDCzmjR1DNxHmM8X2kr9aYljLojyka/fAHo\n";
+    b"age-encryption.org/v1\n-> X25519 AQIDBAUGBwgJCgsMDQ4PEBESExQVFhcYGRobHB0eHyA\n\
+        j3qlNpeG/TXms2TPf47danvdz6ztdPR3yBvwF3MZghI\n-> x\n\n\
+        -> X25519 ISIjJCUmJygpKissLS4vMDEyMzQ1Njc4OTo7PD0+P0A\n\
+        saYyWtf1wzZgzf9vl9J/7nBFmW0FB4AEmpbiUeNVh+o\n\
+        --- o3wDOasAjDCzmjR1DNxHmM8X2kr9aYljLojyka/fAHo\n";
 
 /// Two that open, to different keys; the MAC is the first one's.
 const BOTH: [u8; 266] =
-    *b"age-encryption.org/v1\n-> X25519 AQIDBAUGBwgJCgsMDQ4PEBESExQVFhcYGRobHB0eHyA\njZAdkj7SfLxba9aaDaLOH15VqHxjezbflkA4yhWbOAQ\n-> X25519 ISIjJCUmJygpKissLS4vMDEyMzQ1Njc4OTo7PD0+P0A\neW76kh89C/64FSe3TwqnNiwgPUXJGJlt1Y5MoUcY2p0\n--- 7Y2k7eubz0pobTPGaIJsUajg7t05Ng7ko+tRc06PF3c\n";
+    *b"age-encryption.org/v1\n-> X25519 AQIDBAUGBwgJCgsMDQ4PEBESExQVFhcYGRobHB0eHyA\n\
+        jZAdkj7SfLxba9aaDaLOH15VqHxjezbflkA4yhWbOAQ\n\
+        -> X25519 ISIjJCUmJygpKissLS4vMDEyMzQ1Njc4OTo7PD0+P0A\n\
+        eW76kh89C/64FSe3TwqnNiwgPUXJGJlt1Y5MoUcY2p0\n\
+        --- 7Y2k7eubz0pobTPGaIJsUajg7t05Ng7ko+tRc06PF3c\n";
 
 /// Stanzas of which one has a share of 31 bytes.
-const SHORT_FIRST: &[u8] =
-    b"-> X25519 AQIDBAUGBwgJCgsMDQ4PEBESExQVFhcYGRobHB0eHw\nj3qlNpeG/TXms2TPf47danvdz6ztdPR3yBvwF3MZghI\n-> X25519 ISIjJCUmJygpKissLS4vMDEyMzQ1Njc4OTo7PD0+P0A\nsaYyWtf1wzZgzf9vl9J/7nBFmW0FB4AEmpbiUeNVh+o\n";
+const SHORT_FIRST: &[u8] = b"-> X25519 AQIDBAUGBwgJCgsMDQ4PEBESExQVFhcYGRobHB0eHw\n\
+        j3qlNpeG/TXms2TPf47danvdz6ztdPR3yBvwF3MZghI\n\
+        -> X25519 ISIjJCUmJygpKissLS4vMDEyMzQ1Njc4OTo7PD0+P0A\n\
+        saYyWtf1wzZgzf9vl9J/7nBFmW0FB4AEmpbiUeNVh+o\n";
 
-const SHORT_SECOND: &[u8] =
-    b"-> X25519 AQIDBAUGBwgJCgsMDQ4PEBESExQVFhcYGRobHB0eHyA\njZAdkj7SfLxba9aaDaLOH15VqHxjezbflkA4yhWbOAQ\n-> X25519 ISIjJCUmJygpKissLS4vMDEyMzQ1Njc4OTo7PD0+Pw\nsaYyWtf1wzZgzf9vl9J/7nBFmW0FB4AEmpbiUeNVh+o\n";
+const SHORT_SECOND: &[u8] = b"-> X25519 AQIDBAUGBwgJCgsMDQ4PEBESExQVFhcYGRobHB0eHyA\n\
+        jZAdkj7SfLxba9aaDaLOH15VqHxjezbflkA4yhWbOAQ\n\
+        -> X25519 ISIjJCUmJygpKissLS4vMDEyMzQ1Njc4OTo7PD0+Pw\n\
+        saYyWtf1wzZgzf9vl9J/7nBFmW0FB4AEmpbiUeNVh+o\n";
 
 /// Whether a shared secret refuses these stanzas with this number.
 fn refuses(alloc: Global, stanzas: &[u8], number: u8) -> bool {

@@ -20,15 +20,20 @@ const FILE_KEY: [u8; 16] = [
 const NONCE: [u8; 16] = *b"defghijklmnopqrs";
 
 /// The header, of 149 bytes, and the payload nonce.
-const FRONT: &[u8; 165] =
-    b"age-encryption.org/v1\n-> scrypt AAECAwQFBgcICQoLDA0ODw 4\nAKfpqvQNAoXDLgtB2kGRu7bQM2W5ormNXOubhA65HxQ\n--- c34TNMAElKy8BwnAZQWhcQSSe6oKpsIv3iN8xQDb1Zg\ndefghijklmnopqrs";
+const FRONT: &[u8; 165] = b"age-encryption.org/v1\n-> scrypt AAECAwQFBgcICQoLDA0ODw 4\n\
+        AKfpqvQNAoXDLgtB2kGRu7bQM2W5ormNXOubhA65HxQ\n\
+        --- c34TNMAElKy8BwnAZQWhcQSSe6oKpsIv3iN8xQDb1Zg\ndefghijklmnopqrs";
 
-/// The texts of the positions behind none to three chunks.
+/// The texts of the positions after none to three chunks.
 pub(crate) const POSITIONS: [&[u8; 150]; 4] = [
-    b"age-position/v2 0 HLJ5VW0R+ctHBkO1vllJE7zhq612YmrsO1dfz7Mjb10 AAAAAAAAAAAAAAAAAAAAAAAAAAAAAAAAAAAAAAAAAAA 5f3t+V831zJzjwYI17EewiHJNC7iGXKl6rgAwQZuiCw\n",
-    b"age-position/v2 1 HLJ5VW0R+ctHBkO1vllJE7zhq612YmrsO1dfz7Mjb10 vdD3I2X5czWARik1jOZY/7Dg6ftGhhTQZ2sISsFKuhY cs8M2XenfSVnyKVOkkwj7yGiQoZzcVYrBkS617VeECg\n",
-    b"age-position/v2 2 HLJ5VW0R+ctHBkO1vllJE7zhq612YmrsO1dfz7Mjb10 Z/+/pb0gy0Qz9r4nrfQPNKnIsXURwLLWg+TFayQJBo4 2YAq6H+nzWWXa0nPixYAO903FnBx8LsFLbISbkGLlUU\n",
-    b"age-position/v2 3 HLJ5VW0R+ctHBkO1vllJE7zhq612YmrsO1dfz7Mjb10 /uNq2PXiRZy0MdJ4EtCPsufk06hIfoQQu1aLK1GyspM y9CCLyM+edWGl1QxHt8BkCdiArbSWHTyJh7bSZ8F+rQ\n",
+    b"age-position/v2 0 HLJ5VW0R+ctHBkO1vllJE7zhq612YmrsO1dfz7Mjb10 \
+        AAAAAAAAAAAAAAAAAAAAAAAAAAAAAAAAAAAAAAAAAAA 5f3t+V831zJzjwYI17EewiHJNC7iGXKl6rgAwQZuiCw\n",
+    b"age-position/v2 1 HLJ5VW0R+ctHBkO1vllJE7zhq612YmrsO1dfz7Mjb10 \
+        vdD3I2X5czWARik1jOZY/7Dg6ftGhhTQZ2sISsFKuhY cs8M2XenfSVnyKVOkkwj7yGiQoZzcVYrBkS617VeECg\n",
+    b"age-position/v2 2 HLJ5VW0R+ctHBkO1vllJE7zhq612YmrsO1dfz7Mjb10 \
+        Z/+/pb0gy0Qz9r4nrfQPNKnIsXURwLLWg+TFayQJBo4 2YAq6H+nzWWXa0nPixYAO903FnBx8LsFLbISbkGLlUU\n",
+    b"age-position/v2 3 HLJ5VW0R+ctHBkO1vllJE7zhq612YmrsO1dfz7Mjb10 \
+        /uNq2PXiRZy0MdJ4EtCPsufk06hIfoQQu1aLK1GyspM y9CCLyM+edWGl1QxHt8BkCdiArbSWHTyJh7bSZ8F+rQ\n",
 ];
 
 const PLAIN_LEN: usize = 200_000;
@@ -82,7 +87,7 @@ impl Failure {
 
 /// Whether an encryption and a decryption of 200,000 bytes stop as they have to where one pull, one
 /// put or the flush fails, each in turn, until a run ends with no stop: with the fault of the
-/// source or of the sink, behind as many bytes of the whole output as could be written by then, and
+/// source or of the sink, after as many bytes of the whole output as could be written by then, and
 /// a decryption with the position there, from which another run makes the whole text. The same of a
 /// run that goes on from a position. False too where memory is refused.
 pub fn stop_rows(alloc: Global) -> bool {
@@ -147,7 +152,7 @@ fn decrypt_rows(alloc: Global, example: &Example) -> bool {
         && decrypts_all(alloc, example, Failure::Put(23))
 }
 
-// How much of the file so many pulls make: a block is sealed once a byte behind its chunk came.
+// How much of the file so many pulls make: a block is sealed once a byte after its chunk came.
 fn sealed_after(pulls: u64) -> usize {
     let text = (pulls as u128 * 10_000).min(200_000);
     (165 + text.saturating_sub(1) / 65_536 * 65_552) as usize

@@ -57,19 +57,22 @@ abbrev pub CopiesChunk : ℕ → Side → Side → Tally → Tally → Result (U
 CopiesChunk n old new was now result = Copies (ChunkGoes n old new was now) n old new was now result
 
 -- so many were
-abbrev pub CopiesAll : ℕ → ℕ → Side → Side → Tally → Tally → Result (Unit {0}) FileFault → Type 0
+abbrev pub CopiesAll : ℕ → ℕ → Side → Side → Tally → Tally → Result (Unit {0}) FileFault
+    → Type 0
 CopiesAll n chunks old new was now result = Copies (ChunksGo n chunks old new was now) (chunks * n)
     old new was now result
 
 -- why the old text was not copied, or is not the one whose chain this is
-abbrev pub TextFails : ℕ → ℕ → List ℕ → Side → Side → Tally → Tally → List ℕ → FileFault → Type 0
+abbrev pub TextFails : ℕ → ℕ → List ℕ → Side → Side → Tally → Tally → List ℕ → FileFault
+    → Type 0
 TextFails n chunks links old new was now out OldTextDiffers = ChunksGo n chunks old new was now out
     × (now.progress.chain ≢ Some links)
 TextFails n chunks links old new was now out fault = (length out < chunks * n)
     × CopyFails old new was now out fault
 
 -- so many chunks were copied, which have this chain; it goes on where positions are kept
-abbrev pub TextGoes : Positions → ℕ → ℕ → List ℕ → Side → Side → Tally → Tally → List ℕ → Type 0
+abbrev pub TextGoes : Positions → ℕ → ℕ → List ℕ → Side → Side → Tally → Tally → List ℕ
+    → Type 0
 TextGoes keep n chunks links old new was now out = (length out ≡ chunks * n) × Passes old new out
     × (now.sink.failed ≡ was.sink.failed) × (now.progress.index ≡ chunks)
     × (now.progress.chain ≡ chain_if keep (first_chunks n chunks out))

@@ -20,8 +20,8 @@ abbrev pub stage_of : {S O : Type 0} → (S → SourceView) → (O → SinkView)
     → Stage
 stage_of source sink r w = stage (tally_of sink w) (source r.source.now) r.intake.now
 
-abbrev pub flow_of : {B S O : Type 0} → (S → SourceView) → (O → SinkView) → OpenerView B → Reader S
-    → Writer O → Flow B
+abbrev pub flow_of : {B S O : Type 0} → (S → SourceView) → (O → SinkView) → OpenerView B
+    → Reader S → Writer O → Flow B
 flow_of source sink opener r w = flow opener (tally_of sink w) (source r.source.now) r.intake.now
 
 abbrev pub ports_of : {S O : Type 0} → (S → SourceView) → (O → SinkView) → Reader S → Writer O

@@ -11,6 +11,7 @@ PositionRefused p id key nonce OtherFile = p.file_id ≢ id
 PositionRefused p id key nonce PositionForged = (p.file_id ≡ id) × ¬ IsTagged p key nonce
 PositionRefused p id key nonce other = ⊥
 
-abbrev pub VerdictOn : Position → List ℕ → List ℕ → List ℕ → Result (Unit {0}) FileFault → Type 0
+abbrev pub VerdictOn : Position → List ℕ → List ℕ → List ℕ → Result (Unit {0}) FileFault
+    → Type 0
 VerdictOn p id key nonce result = MatchResult result
     (λ _. (p.file_id ≡ id) × IsTagged p key nonce) (PositionRefused p id key nonce)

@@ -33,7 +33,7 @@ fn go_on(
     Ok((answer, sink.into_bytes()))
 }
 
-/// The long text, its file, and the position behind two of its chunks.
+/// The long text, its file, and the position after two of its chunks.
 fn interrupted(alloc: Global) -> Result<(Vec<u8>, Vec<u8>, Position), Fail> {
     let text = long_text(alloc, 200_000)?;
     let file = file_of(alloc, text.as_slice())?;
@@ -223,7 +223,7 @@ fn a_file_that_ends_early(rt: HostRuntime) -> Result<(), Fail> {
     Ok(())
 }
 
-// A stop in the copy has no position, one behind it the next.
+// A stop in the copy has no position, one after it the next.
 #[test]
 fn a_sink_that_is_full(rt: HostRuntime) -> Result<(), Fail> {
     let (text, file, position) = interrupted(rt.alloc())?;

@@ -42,7 +42,8 @@ module _ (opening : List ℕ → List ℕ → Option (List ℕ)) where
 
   -- a whole block, with its text if it opened as one before the last: then its number is the
   -- greatest; else it is tried as the last
-  abbrev pub at_block : List (List ℕ) → ℕ → List ℕ → Bool → Bool → Option (List ℕ) → Outcome
+  abbrev pub at_block : List (List ℕ) → ℕ → List ℕ → Bool → Bool → Option (List ℕ)
+      → Outcome
   at_block texts i block followed ended (Some text) =
       record { texts = texts; index = i; status = failed TooManyChunks i }
   at_block texts i block followed ended None =

@@ -11,13 +11,15 @@ const CLEAR: &[u8] =
     b"abcd\0\0\0\0\0\0\0\0\0\0\0\0\0\0\0\0efgh\0\0\0\0\0\0\0\0\0\0\x01\x01\0\0\0\0";
 
 /// `abcdefghij`, sealed in the clear in three chunks.
-const THREE: &[u8] =
-    b"abcd\0\0\0\0\0\0\0\0\0\0\0\0\0\0\0\0efgh\0\0\0\0\0\0\0\0\0\0\x01\0\0\0\0\0ij\0\0\0\0\0\0\0\0\0\0\x02\x01\0\0\0\0";
+const THREE: &[u8] = b"abcd\0\0\0\0\0\0\0\0\0\0\0\0\0\0\0\0efgh\0\0\0\0\0\0\0\0\0\0\x01\0\0\0\0\0\
+        ij\0\0\0\0\0\0\0\0\0\0\x02\x01\0\0\0\0";
 
 /// `abcdefgh`, sealed under the passphrase `correct horse` with work factor 1: an age file that
 /// Python made, with a header of 149 bytes.
-const SEALED: &[u8] =
-    b"age-encryption.org/v1\n-> scrypt EBESExQVFhcYGRobHB0eHw 1\ncdiwXonCDvWU+8XXoBzYhmXbXEU8ImVM72ZFkvkXFjk\n--- 7Zgpw6uReJkzRBzSm7B4w7XD7pLWsQ19BJES3qQBAv4\n !\x22#$%&'()*+,-./3\xe1\xa0@N\x0d\x02\xdd\xe7\xc6;\x9b,@X\x0bEs\xdf\x9a\xdd\xd2\x8c\xff";
+const SEALED: &[u8] = b"age-encryption.org/v1\n-> scrypt EBESExQVFhcYGRobHB0eHw 1\n\
+        cdiwXonCDvWU+8XXoBzYhmXbXEU8ImVM72ZFkvkXFjk\n\
+        --- 7Zgpw6uReJkzRBzSm7B4w7XD7pLWsQ19BJES3qQBAv4\
+        \n !\x22#$%&'()*+,-./3\xe1\xa0@N\x0d\x02\xdd\xe7\xc6;\x9b,@X\x0bEs\xdf\x9a\xdd\xd2\x8c\xff";
 
 /// What a drill is given: its words, the script, the passphrase file and IN.
 #[derive(Clone, Copy)]

@@ -149,7 +149,7 @@ fn resumes_to_the_whole_text(rt: HostRuntime) -> Result<(), Fail> {
     see(&rt, alloc, &mut files, &by_key, (0, "", ""))?;
     assert!(rt; holds_all(alloc, &files, "AGAIN")?);
     assert!(rt; files.get("NEXT").is_none());
-    // Of the old text no byte behind the position is needed.
+    // Of the old text no byte after the position is needed.
     let enough = copied(alloc, &files, "BACK", 131_072)?;
     files.put(alloc, "BACK", enough)?;
     see(&rt, alloc, &mut files, RESUME, (0, "", ""))?;
