@@ -7,12 +7,11 @@ use Rattle.std.specs.Option.{option_map_or}
 use Rattle.std.specs.Io.KnownBytes.{Consumes, Appends, IsAtEnd}
 use Rattle.clap.specs.Words.{Row, Text, first_of}
 use Rattle.age_stream.specs.Payload.{chunk_count}
-use Rattle.age_stream.specs.Headline.{IsPrefixOf, IsAuthentic}
-use Rattle.age_file.specs.AgeFile.{box, unbox}
+use Rattle.age_stream.specs.Headline.{IsPrefixOf}
 use Rattle.age_file.specs.OldTexts.{BeginsWith}
-use Rattle.age_file.specs.Resumes.{ResumePorts, Resumption, IsResumption, IsAuthenticResumption, segment_at}
+use Rattle.age_file.specs.Resumes.{ResumePorts, IsFrom}
 use Rattle.age_file.specs.Ports.{Ports}
-use Rattle.age_file.specs.Decrypts.{Run, IsRun, IsAuthenticRun}
+use Rattle.age_file.specs.Runs.{Run, IsFromStart, held, IsRun, IsTexts, IsAuthenticRun}
 use Rattle.age_file.specs.declared.position.Positions.{Positions}
 use Rattle.age_file.specs.declared.position.Position.{Position}
 use Rattle.age_file.specs.declared.fault.FileFault.{FileFault}
@@ -23,7 +22,7 @@ use Rattle.age_cli.specs.Decryptions.{DecryptsRows}
 use Rattle.age_cli.specs.Resumptions.{ResumesRows}
 use Rattle.age_cli.specs.Stops.{OutStops, DecryptionStop, ResumptionStop, FailsToDecrypt, FailsToResume, kept_for}
 use Rattle.age_cli.proofs.StopSteps.{stop_wrote, resume_wrote}
-use Rattle.age_cli.specs.Headline.{IsRead, IsWritersInput, HoldsNoMore, KeepsOut, IsReadOn, IsWritersResumption}
+use Rattle.age_cli.specs.Headline.{IsRead, IsWritersInput, HoldsNoMore, KeepsOut, BeginsAt, IsWritersResumption}
 use Rattle.age_cli.specs.declared.ending.Ending.{Ending}
 
 appended_nil : (b : Option (List ℕ)) (out : List ℕ) → Appends (Some []) b out → b ≡ Some out
@@ -41,11 +40,13 @@ read_from (Some x) (Some y) bs t c = (y, ap Some c, λ e. e)
 is_read : (identity : Identity) (input : Option (List ℕ)) (before after : Ports) (written : ℕ) (r : Run) → input ≡ before.source.remaining → is_some input ≡ true
     → IsRun (allows_by identity) before after written r → IsRead identity input r
 is_read identity input before after written r coming told is =
-    let found = read_from before.source.remaining after.source.remaining ((r.front ++ r.nonce) ++ r.bytes) (ap is_some (sym coming) ∙ told) is.read in
+    let read = (r.file.header_bytes ++ r.file.nonce) ++ (r.skipped ++ r.bytes) in
+    let found = read_from before.source.remaining after.source.remaining read (ap is_some (sym coming) ∙ told) is.reads.read in
     record {
-      text = is.text;
-      opens = is.opens;
-      size = is.size;
+      text = is.reads.text;
+      opens = is.reads.opens;
+      size = is.reads.size;
+      skipped_size = is.skipped_size;
       rest = found.0;
       bytes = coming ∙ found.1;
       whole = λ ended. found.2 (is.at_end ended);
@@ -53,11 +54,11 @@ is_read identity input before after written r coming told is =
 
 -- OUT where it stopped
 held_stop : (IsPorts : Ports → Type 0) (keep : Positions) (identity : Identity) (input old new : Option (List ℕ)) (position : Option Position) (fault : FileFault) (text : List ℕ)
-    → is_some input ≡ true → ((r : Run) → IsRead identity input r → IsAuthenticRun r text)
+    → is_some input ≡ true → ((r : Run) → IsFromStart r → IsRead identity input r → IsAuthenticRun r text)
     → OutStops (DecryptionStop IsPorts keep identity input position fault) old new position fault → HoldsNoMore old new text
 held_stop IsPorts keep identity input old new position fault text told auth (inl (written, taken, s, leaves)) =
     let w = stop_wrote keep (allows_by identity) (refuses_by identity) s.before s.after written position fault s.fails in
-    let begins : IsPrefixOf w.0 text = w.2 text (λ r is. auth r (is_read identity input s.before s.after written r s.coming told is)) in
+    let begins : IsPrefixOf w.0 text = w.2 text (λ r from is. auth r from (is_read identity input s.before s.after written r s.coming told is)) in
     ⊎_elim (λ at. inr (w.0, at ∙ (s.took ∙ appended s.before.sink.taken s.after.sink.taken w.0 s.empty w.1.0), begins)) (λ same. inl same) leaves.held
 held_stop IsPorts keep identity input old new position fault text told auth (inr s) = inl s.0
 
@@ -84,9 +85,11 @@ pub kept_done : (rows : List Row) (old new : Files) (status : ℕ) (text : List 
 kept_done rows old new status text auth d =
     let t = d.decrypts in
     let o = t.output in
-    let is = o.done.wrote.is in
-    let all : o.run.out ≡ text = o.done.all text (auth d.from t.identity d.from_is t.opens o.run (is_read t.identity (old d.from) o.before o.after o.written o.run o.coming t.there is)) in
-    let holds : new d.to ≡ Some text = o.taken ∙ (appended o.before.sink.taken o.after.sink.taken o.run.out o.empty is.wrote ∙ ap Some all) in
+    let r = o.ends.0 in
+    let is = o.ends.2.wrote.is in
+    let read = is_read t.identity (old d.from) o.before o.after o.done.written r o.coming t.there is in
+    let all : held r ≡ text = o.ends.2.all text (auth d.from t.identity d.from_is t.opens r o.ends.1 read) in
+    let holds : new d.to ≡ Some text = o.taken ∙ (appended o.before.sink.taken o.after.sink.taken (held r) o.empty is.wrote ∙ ap Some all) in
     record {
       safe = λ to is. inr (text, subst (λ (t : Text). new t ≡ Some text) (one_name (first_of (codes "OUT") rows) d.to to d.to_is is) holds, ([], append-nil text));
       whole = λ to is zero. subst (λ (t : Text). new t ≡ Some text) (one_name (first_of (codes "OUT") rows) d.to to d.to_is is) holds;
@@ -104,41 +107,28 @@ same_front n a b x y p q e = sym (take_at a x n p) ∙ (ap (take n) e ∙ take_a
 -- what is so of the position, of the old text and of the input
 module _ (identity : Identity) (p : Position) (input old_text : Option (List ℕ)) (text : List ℕ) (told : is_some input ≡ true) (old_told : is_some old_text ≡ true)
     (few : chunk_count 65536 text ≤ 281474976710656) (begins : (all : List ℕ) → old_text ≡ Some all → (p.index * 65536 ≤ length text) × IsPrefixOf (take (p.index * 65536) text) all)
-    (auth : (r : Resumption) → IsReadOn identity p input r → IsAuthentic (box r.file.key r.file.nonce) (unbox r.file.key r.file.nonce) 65536 text (segment_at p r)) where
+    (auth : (r : Run) → BeginsAt p r → IsRead identity input r → IsTexts text r) where
   begins_with : (coming : Option (List ℕ)) → old_text ≡ coming → BeginsWith p coming text
   begins_with coming same =
       let all = some_of old_text old_told in
       let h = begins all.0 all.1 in
       record { all = all.0; told = sym same ∙ all.1; within = h.0; begins = h.1 }
 
-  read_on : (before after : ResumePorts) (written : ℕ) (r : Resumption) → input ≡ before.main.source.remaining → IsResumption (allows_by identity) p before after written r → IsReadOn identity p input r
-  read_on before after written r coming is =
-      let found = read_from before.main.source.remaining after.main.source.remaining ((r.file.front ++ r.file.nonce) ++ (r.passed ++ r.bytes)) (ap is_some (sym coming) ∙ told) is.reads.read in
-      record {
-        text = is.reads.text;
-        opens = is.reads.opens;
-        size = is.reads.size;
-        own = is.own;
-        tagged = is.tagged;
-        passed_size = is.passed_size;
-        rest = found.0;
-        bytes = coming ∙ found.1;
-        whole = λ ended. found.2 (is.at_end ended);
-      }
-
-  authentic_resumption : (before after : ResumePorts) (written : ℕ) (r : Resumption) → input ≡ before.main.source.remaining → old_text ≡ before.old.remaining
-      → IsResumption (allows_by identity) p before after written r → IsAuthenticResumption p r text
-  authentic_resumption before after written r coming old_coming is =
+  authentic_run : (before after : ResumePorts) (written : ℕ) (r : Run) → input ≡ before.main.source.remaining → old_text ≡ before.old.remaining
+      → IsFrom p before.old after.old r → IsRun (allows_by identity) before.main after.main written r → IsAuthenticRun r text
+  authentic_run before after written r coming old_coming from is =
       let b = begins_with before.old.remaining old_coming in
-      let found = read_from before.old.remaining after.old.remaining (r.copied ++ is.more) (ap is_some (sym old_coming) ∙ old_told) is.old_read in
-      let whole : (r.copied ++ is.more) ++ found.0 ≡ b.all = ap (λ (o : Option (List ℕ)). option_map_or (λ t. t) o []) (sym found.1 ∙ b.told) in
+      let found = read_from before.old.remaining after.old.remaining (r.copied ++ from.more) (ap is_some (sym old_coming) ∙ old_told) from.old_read in
+      let whole : (r.copied ++ from.more) ++ found.0 ≡ b.all = ap (λ (o : Option (List ℕ)). option_map_or (λ t. t) o []) (sym found.1 ∙ b.told) in
       let size : length (take (p.index * 65536) text) ≡ p.index * 65536 = omega (arith, length-take (p.index * 65536) text, b.within) in
+      let front = same_front (p.index * 65536) r.copied (take (p.index * 65536) text) (from.more ++ found.0) b.begins.0 from.old_text.size size
+      (sym (append_assoc r.copied from.more found.0) ∙ (whole ∙ sym b.begins.1)) in
       record {
         few = few;
-        old_text = same_front (p.index * 65536) r.copied (take (p.index * 65536) text) (is.more ++ found.0) b.begins.0 is.old_text.size size
-            (sym (append_assoc r.copied is.more found.0) ∙ (whole ∙ sym b.begins.1));
-        within = b.within;
-        authentic = auth r (read_on before after written r coming is);
+        within = omega (arith, b.within, from.index);
+        old_text = front ∙ ap (λ (k : ℕ). take (k * 65536) text) (sym from.index);
+        authentic = auth r (record { index = from.index; own = from.own; tagged = from.tagged })
+            (is_read identity input before.main after.main written r coming told is);
       }
 
   -- OUT where it stopped
@@ -146,7 +136,7 @@ module _ (identity : Identity) (p : Position) (input old_text : Option (List ℕ
       → OutStops (ResumptionStop IsPorts keep identity p input old_text position fault) old new position fault → HoldsNoMore old new text
   resumed_stop IsPorts keep old new position fault (inl (written, taken, s, leaves)) =
       let w = resume_wrote keep (allows_by identity) p (refuses_by identity) s.before s.after written position fault s.fails in
-      let front : IsPrefixOf w.0 text = w.2 text (begins_with s.before.old.remaining s.old_coming) (λ r is. authentic_resumption s.before s.after written r s.coming s.old_coming is) in
+      let front : IsPrefixOf w.0 text = w.2 text (begins_with s.before.old.remaining s.old_coming) (λ r from is. authentic_run s.before s.after written r s.coming s.old_coming from is) in
       ⊎_elim (λ at. inr (w.0, at ∙ (s.took ∙ appended s.before.main.sink.taken s.after.main.sink.taken w.0 s.empty w.1.0), front)) (λ same. inl same) leaves.held
   resumed_stop IsPorts keep old new position fault (inr s) = inl s.0
 
@@ -171,13 +161,14 @@ pub kept_resumption_done : (rows : List Row) (old new : Files) (status : ℕ) (t
 kept_resumption_done rows old new status text auth d =
     let t = d.resumes in
     let o = t.output in
-    let is = o.done.resumed.is in
-    let run = authentic_resumption t.identity t.position (old d.from) (old d.old_name) text t.there t.old_there auth.few
+    let r = o.ends.0 in
+    let is = o.ends.2.wrote.is in
+    let run = authentic_run t.identity t.position (old d.from) (old d.old_name) text t.there t.old_there auth.few
     (λ all same. auth.old_text d.position_name t.position d.position_name_is t.position_is d.old_name all d.old_name_is same)
     (auth.rest d.position_name t.position d.position_name_is t.position_is d.from t.identity d.from_is t.opens)
-    o.before o.after o.written o.run o.coming o.old_coming is in
-    let all : o.run.copied ++ o.run.out ≡ text = o.done.all text run in
-    let holds : new d.to ≡ Some text = o.taken ∙ (appended o.before.main.sink.taken o.after.main.sink.taken (o.run.copied ++ o.run.out) o.empty is.wrote ∙ ap Some all) in
+    o.before o.after o.done.written r o.coming o.old_coming o.ends.1 is in
+    let all : held r ≡ text = o.ends.2.all text run in
+    let holds : new d.to ≡ Some text = o.taken ∙ (appended o.before.main.sink.taken o.after.main.sink.taken (held r) o.empty is.wrote ∙ ap Some all) in
     record {
       safe = λ to is. inr (text, subst (λ (t : Text). new t ≡ Some text) (one_name (first_of (codes "OUT") rows) d.to to d.to_is is) holds, ([], append-nil text));
       whole = λ to is zero. subst (λ (t : Text). new t ≡ Some text) (one_name (first_of (codes "OUT") rows) d.to to d.to_is is) holds;

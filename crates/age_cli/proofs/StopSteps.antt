@@ -1,5 +1,5 @@
 -- What stands where a command stopped, step by step.
-use Rattle.std.proofs.Common.{◌≡◌, ◌∙◌, ◌⊎◌, ◌++◌, ℕ, inl, inr, refl, ap, sym, subst, codes, List, [], length, Option, Some, None, Result, Ok, Err}
+use Rattle.std.proofs.Common.{◌≡◌, ◌∙◌, ◌⊎◌, ℕ, inl, inr, refl, ap, sym, subst, codes, List, [], length, Option, Some, None, Result, Ok, Err}
 use Rattle.std.specs.Prelude.{OnOk, OnErr}
 use Rattle.std.specs.Io.KnownBytes.{Appends}
 use Rattle.std.proofs.lemmas.List.{nil_from_length}
@@ -10,9 +10,10 @@ use Rattle.age_stream.specs.Headline.{IsPrefixOf}
 use Rattle.age_file.specs.Ports.{Ports}
 use Rattle.age_file.specs.Secrets.{SecretView}
 use Rattle.age_file.specs.Encrypts.{EncryptFails}
-use Rattle.age_file.specs.Decrypts.{Run, IsRun, IsAuthenticRun, DecryptFails, WritesNone, WroteSoFar}
+use Rattle.age_file.specs.Runs.{Run, IsFromStart, held, IsRun, IsAuthenticRun, WritesNone}
+use Rattle.age_file.specs.Decrypts.{DecryptFails, WroteSoFar}
 use Rattle.age_file.specs.OldTexts.{BeginsWith}
-use Rattle.age_file.specs.Resumes.{ResumePorts, WritesOld, Resumption, IsResumption, IsAuthenticResumption}
+use Rattle.age_file.specs.Resumes.{ResumePorts, WritesOld, IsFrom}
 use Rattle.age_file.specs.ResumeFaults.{ResumeFails, FailsAt}
 use Rattle.age_file.specs.declared.position.Position.{Position}
 use Rattle.age_file.specs.declared.position.Positions.{Positions}
@@ -57,7 +58,7 @@ sealed_nothing s old new f is fails = ap (λ (p : Ports). p.sink.taken) (subst (
 -- what a decryption wrote before it stopped; it begins the text of which each run is authentic
 module _ (keep : Positions) (A : Header → List ℕ → Type 0) (R : Header → KeyFault → Type 0) (old new : Ports) (written : ℕ) (position : Option Position) where
   abbrev pub Begins : List ℕ → Type 0
-  Begins out = (text : List ℕ) → ((r : Run) → IsRun A old new written r → IsAuthenticRun r text) → IsPrefixOf out text
+  Begins out = (text : List ℕ) → ((r : Run) → IsFromStart r → IsRun A old new written r → IsAuthenticRun r text) → IsPrefixOf out text
 
   abbrev pub Wrote : Type 0
   Wrote = (out : List ℕ) × Written old.sink.taken new.sink.taken written out × Begins out
@@ -67,11 +68,11 @@ module _ (keep : Positions) (A : Header → List ℕ → Type 0) (R : Header →
 
   of_so_far : WroteSoFar keep A old new written position → Wrote
   of_so_far (inl h) = of_none h.0
-  of_so_far (inr h) = (h.0.out, (h.1.is.wrote, h.1.is.count), (λ text auth. h.1.of text (auth h.0 h.1.is)))
+  of_so_far (inr h) = (held h.0, (h.2.0.is.wrote, h.2.0.is.count), (λ text auth. h.2.0.of text (auth h.0 h.1 h.2.0.is)))
 
   pub stop_wrote : (fault : FileFault) → DecryptFails keep A R old new written position fault → Wrote
-  stop_wrote (fault.Stream f) h = (h.0.out, (h.1.is.wrote, h.1.is.count), (λ text auth. h.1.of text (auth h.0 h.1.is)))
-  stop_wrote fault.Write h = (h.0.out, (h.1.wrote, h.1.count), (λ text auth. h.2 text (auth h.0 h.1)))
+  stop_wrote (fault.Stream f) h = (held h.0, (h.2.0.is.wrote, h.2.0.is.count), (λ text auth. h.2.0.of text (auth h.0 h.1 h.2.0.is)))
+  stop_wrote fault.Write h = (held h.0, (h.2.0.wrote, h.2.0.count), (λ text auth. h.2.1 text (auth h.0 h.1 h.2.0)))
   stop_wrote fault.Read h = of_so_far h.0
   stop_wrote fault.ReadNeverEnds h = of_so_far h.0
   stop_wrote (fault.Head f) h = of_none h.0
@@ -88,7 +89,8 @@ module _ (keep : Positions) (A : Header → List ℕ → Type 0) (R : Header →
 -- each run is authentic
 module _ (keep : Positions) (A : Header → List ℕ → Type 0) (p : Position) (R : Header → KeyFault → Type 0) (old new : ResumePorts) (written : ℕ) (position : Option Position) where
   abbrev pub RewriteBegins : List ℕ → Type 0
-  RewriteBegins out = (text : List ℕ) → BeginsWith p old.old.remaining text → ((r : Resumption) → IsResumption A p old new written r → IsAuthenticResumption p r text) → IsPrefixOf out text
+  RewriteBegins out = (text : List ℕ) → BeginsWith p old.old.remaining text
+      → ((r : Run) → IsFrom p old.old new.old r → IsRun A old.main new.main written r → IsAuthenticRun r text) → IsPrefixOf out text
 
   abbrev pub Rewrote : Type 0
   Rewrote = (out : List ℕ) × Written old.main.sink.taken new.main.sink.taken written out × RewriteBegins out
@@ -103,7 +105,7 @@ module _ (keep : Positions) (A : Header → List ℕ → Type 0) (p : Position) 
   at_new M O (inl h) = none_new h.0
   at_new M O (inr (inl h)) = old_new h.0.copied h.0.writes
   at_new M O (inr (inr (inl h))) = old_new h.1.copied h.1.writes
-  at_new M O (inr (inr (inr h))) = (h.0.copied ++ h.0.out, (h.1.is.wrote, h.1.is.count), (λ text begins auth. h.1.of text (auth h.0 h.1.is)))
+  at_new M O (inr (inr (inr h))) = (held h.0, (h.2.0.is.wrote, h.2.0.is.count), (λ text begins auth. h.2.0.of text (auth h.0 h.1 h.2.0.is)))
 
   pub resume_wrote : (fault : FileFault) → ResumeFails keep A p R old new written position fault → Rewrote
   resume_wrote fault.OtherFile h = none_new h.0
@@ -111,9 +113,9 @@ module _ (keep : Positions) (A : Header → List ℕ → Type 0) (p : Position) 
   resume_wrote fault.ShortText h = old_new h.0.copied h.0.writes
   resume_wrote fault.OldTextDiffers h = old_new h.4 h.5
   resume_wrote (fault.Stream f) (inl h, rest) = old_new h.stops.copied h.stops.writes
-  resume_wrote (fault.Stream f) (inr h, rest) = (h.0.copied ++ h.0.out, (h.1.is.wrote, h.1.is.count), (λ text begins auth. h.1.of text (auth h.0 h.1.is)))
+  resume_wrote (fault.Stream f) (inr h, rest) = (held h.0, (h.2.0.is.wrote, h.2.0.is.count), (λ text begins auth. h.2.0.of text (auth h.0 h.1 h.2.0.is)))
   resume_wrote fault.Write (inl h, rest) = old_new h.copied h.writes
-  resume_wrote fault.Write (inr h, rest) = (h.0.copied ++ h.0.out, (h.1.wrote, h.1.count), (λ text begins auth. h.2 text (auth h.0 h.1)))
+  resume_wrote fault.Write (inr h, rest) = (held h.0, (h.2.0.wrote, h.2.0.count), (λ text begins auth. h.2.1 text (auth h.0 h.1 h.2.0)))
   resume_wrote fault.Read h = at_new _ _ h
   resume_wrote fault.ReadNeverEnds h = at_new _ _ h
   resume_wrote (fault.Head f) h = none_new h.0

@@ -2,7 +2,8 @@
 use Rattle.std.specs.Prelude.{◌≡◌, ℕ, true, List, [], is_some, Option, Some, codes}
 use Rattle.clap.specs.Words.{Row, Text, first_of}
 use Rattle.age_file.specs.Ports.{Ports}
-use Rattle.age_file.specs.Decrypts.{Run, DecryptDone}
+use Rattle.age_file.specs.Decrypts.{DecryptEnds}
+use Rattle.age_file.specs.declared.decryption.Done.{Done}
 use Rattle.age_cli.specs.declared.identity.Identity.{Identity}
 use Rattle.age_cli.specs.Identities.{Options, options_of, allows_by, OpensBy}
 use Rattle.age_cli.specs.Files.{Files, SparesBut}
@@ -11,11 +12,10 @@ use Rattle.age_cli.specs.Files.{Files, SparesBut}
 pub record DecryptsOut (identity : Identity) (input output : Option (List ℕ)) : Type 0 where
   pub before : Ports
   pub after : Ports
-  pub run : Run
-  pub written : ℕ
+  pub done : Done
   pub coming : input ≡ before.source.remaining
   pub empty : before.sink.taken ≡ Some []
-  pub done : DecryptDone (allows_by identity) before after written run
+  pub ends : DecryptEnds (allows_by identity) before after done
   pub taken : output ≡ after.sink.taken
 
 -- of what stands under these names

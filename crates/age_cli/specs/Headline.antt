@@ -4,34 +4,35 @@ use Rattle.std.specs.Prelude.{take, Option, Some, codes}
 use Rattle.clap.specs.Words.{Row, Text, first_of}
 use Rattle.age_stanza.specs.Grammar.{HeadText}
 use Rattle.age_stream.specs.Payload.{chunk_count}
-use Rattle.age_stream.specs.Headline.{IsPrefixOf, IsAuthentic}
+use Rattle.age_stream.specs.Headline.{IsPrefixOf}
 use Rattle.age_keys.specs.Opened.{Opens}
-use Rattle.age_file.specs.AgeFile.{box, unbox}
-use Rattle.age_file.specs.Decrypts.{Run, IsAuthenticRun}
+use Rattle.age_file.specs.Runs.{Run, IsFromStart, IsTexts, IsAuthenticRun}
 use Rattle.age_file.specs.Verdicts.{HasId, HasTag}
-use Rattle.age_file.specs.Resumes.{Resumption, segment_at}
 use Rattle.age_file.specs.declared.position.Position.{Position}
 use Rattle.age_cli.specs.Files.{Files}
 use Rattle.age_cli.specs.declared.identity.Identity.{Identity}
 use Rattle.age_cli.specs.Identities.{options_of, allows_by, OpensBy}
 use Rattle.age_cli.specs.Resumptions.{IsPositionIn}
 
--- a beginning of the input, as a decryption may have read it: a header that opens, the payload
--- nonce, and bytes of the payload; and all of the input where it was read to its end
+-- a beginning of the input, as a run may have read it: a header that opens, the payload nonce, the
+-- blocks before the run's first chunk, and bytes after them; and all of the input where it was read
+-- to its end. A block has 65,552 bytes.
 pub record IsRead (identity : Identity) (input : Option (List ℕ)) (r : Run) : Type 0 where
-  pub text : HeadText r.header r.front
-  pub opens : Opens (allows_by identity) r.header r.key
-  pub size : length r.nonce ≡ 16
+  pub text : HeadText r.file.header r.file.header_bytes
+  pub opens : Opens (allows_by identity) r.file.header r.file.key
+  pub size : length r.file.nonce ≡ 16
+  pub skipped_size : length r.skipped ≡ r.first * 65552
   pub rest : List ℕ
-  pub bytes : input ≡ Some (((r.front ++ r.nonce) ++ r.bytes) ++ rest)
+  pub bytes : input
+      ≡ Some (((r.file.header_bytes ++ r.file.nonce) ++ (r.skipped ++ r.bytes)) ++ rest)
   pub whole : r.ended ≡ true → rest ≡ []
 
 -- no block of IN opens except as the writer of this text sealed it, however much of IN is read
 abbrev pub IsWritersInput : List Row → Files → List ℕ → Type 0
 IsWritersInput rows old text =
     (from : Text) (identity : Identity) → first_of (codes "IN") rows ≡ Some from
-    → OpensBy old (options_of rows) identity → (r : Run) → IsRead identity (old from) r
-    → IsAuthenticRun r text
+    → OpensBy old (options_of rows) identity → (r : Run) → IsFromStart r
+    → IsRead identity (old from) r → IsAuthenticRun r text
 
 -- a file is as it was, or holds a beginning of the text
 abbrev pub HoldsNoMore : Option (List ℕ) → Option (List ℕ) → List ℕ → Type 0
@@ -45,33 +46,24 @@ pub record KeepsOut (rows : List Row) (old new : Files) (status : ℕ) (text : L
   pub whole : (to : Text) → first_of (codes "OUT") rows ≡ Some to → status ≡ 0
       → new to ≡ Some text
 
--- ---- of a decryption that goes on from a position. A chunk has 65,536 bytes, its block 65,552.
+-- ---- of a decryption that goes on from a position
 
--- a beginning of the input, as it may have been read then: a header that opens, of the file that
--- the position is of, the payload nonce, the blocks before the position, and bytes after them; and
--- all of the input where it was read to its end
-pub record IsReadOn (identity : Identity) (p : Position) (input : Option (List ℕ)) (r : Resumption)
-    : Type 0 where
-  pub text : HeadText r.file.header r.file.front
-  pub opens : Opens (allows_by identity) r.file.header r.file.key
-  pub size : length r.file.nonce ≡ 16
+-- a run begins at the position, which is that of its file
+pub record BeginsAt (p : Position) (r : Run) : Type 0 where
+  pub index : r.first ≡ p.index
   pub own : HasId p r.file
   pub tagged : HasTag p r.file
-  pub passed_size : length r.passed ≡ p.index * 65552
-  pub rest : List ℕ
-  pub bytes : input ≡ Some (((r.file.front ++ r.file.nonce) ++ (r.passed ++ r.bytes)) ++ rest)
-  pub whole : r.ended ≡ true → rest ≡ []
 
 -- no block of IN after the position opens except as the writer of this text sealed it, however much
 -- of IN is read
 abbrev pub IsWritersRest : List Row → Files → Position → List ℕ → Type 0
 IsWritersRest rows old p text =
     (from : Text) (identity : Identity) → first_of (codes "IN") rows ≡ Some from
-    → OpensBy old (options_of rows) identity → (r : Resumption) → IsReadOn identity p (old from) r
-    → IsAuthentic (box r.file.key r.file.nonce) (unbox r.file.key r.file.nonce) 65536 text
-    (segment_at p r)
+    → OpensBy old (options_of rows) identity → (r : Run) → BeginsAt p r
+    → IsRead identity (old from) r → IsTexts text r
 
--- the file of `--old` begins with the chunks of this text before the position
+-- the file of `--old` begins with the chunks of this text before the position. A chunk has 65,536
+-- bytes.
 abbrev pub IsWritersOld : List Row → Files → Position → List ℕ → Type 0
 IsWritersOld rows old p text =
     (name : Text) (all : List ℕ) → first_of (codes "old") rows ≡ Some name → old name ≡ Some all

@@ -3,7 +3,9 @@ use Rattle.std.specs.Prelude.{◌≡◌, ℕ, true, List, [], is_some, Option, S
 use Rattle.clap.specs.Words.{Row, Text, first_of}
 use Rattle.age_file.specs.declared.position.Position.{Position}
 use Rattle.age_file.specs.PositionTexts.{position_text}
-use Rattle.age_file.specs.Resumes.{ResumePorts, Resumption, ResumeDone}
+use Rattle.age_file.specs.Resumes.{ResumePorts}
+use Rattle.age_file.specs.ResumeFaults.{ResumeEnds}
+use Rattle.age_file.specs.declared.decryption.Done.{Done}
 use Rattle.age_cli.specs.declared.identity.Identity.{Identity}
 use Rattle.age_cli.specs.Identities.{Options, options_of, allows_by, OpensBy}
 use Rattle.age_cli.specs.Files.{Files, SparesBut}
@@ -18,12 +20,11 @@ pub record ResumesOut (identity : Identity) (position : Position)
     (input old_text output : Option (List ℕ)) : Type 0 where
   pub before : ResumePorts
   pub after : ResumePorts
-  pub run : Resumption
-  pub written : ℕ
+  pub done : Done
   pub coming : input ≡ before.main.source.remaining
   pub old_coming : old_text ≡ before.old.remaining
   pub empty : before.main.sink.taken ≡ Some []
-  pub done : ResumeDone (allows_by identity) position before after written run
+  pub ends : ResumeEnds (allows_by identity) position before after done
   pub taken : output ≡ after.main.sink.taken
 
 -- of what stands under these names

@@ -1,18 +1,17 @@
 -- Calls in a row, by the number of calls.
-use Rattle.std.proofs.Common.{refl, inl, inr, ◌≡◌, ℕ, ◌*◌, ◌≤◌, List, [], ◌∷◌, ◌++◌, length, take, Option, None, Some, sym, ap, subst, ◌∙◌, arith, append-nil}
+use Rattle.std.proofs.Common.{refl, inl, inr, ◌≡◌, ℕ, ◌≤◌, List, [], ◌∷◌, ◌++◌, Option, None, Some, sym, ap, subst, ◌∙◌, append-nil}
 use Rattle.std.specs.Prelude.{Result, Ok, Err, IfSome, IsSomeAnd}
 use Rattle.std.specs.Io.KnownBytes.{Consumes, Appends}
-use Rattle.std.proofs.lemmas.List.{length-append, take_at}
 use Rattle.age_stanza.specs.declared.header.Header.{Header}
 use Rattle.age_stream.specs.Headline.{IsPrefixOf}
 use Rattle.age_stream.specs.Payload.{chunk_count}
 use Rattle.age_keys.specs.declared.fault.KeyFault.{KeyFault}
 use Rattle.age_file.specs.Ports.{Ports}
-use Rattle.age_file.specs.Decrypts.{Run, IsRun, WritesOf, IsPositionOf, DecryptFails, WritesNone, Told}
-use Rattle.age_file.specs.Resumes.{ResumePorts, WritesOld, Resumption, IsResumption, ResumesOf, IsAuthenticResumption, IsNextPosition, IsSame}
-use Rattle.age_file.specs.ResumeFaults.{StopsInOld, StopsInPassed, ResumeFails}
-use Rattle.age_file.specs.OldTexts.{IsOldText}
-use Rattle.age_file.specs.Calls.{IsTexts, IsTextsFrom, TookBeginning, CarriesText, AnswersRight, StopIsTexts, NextStopIsTexts, FirstCall, NextCall}
+use Rattle.age_file.specs.Runs.{Run, held, IsRun, IsTexts, IsAuthenticRun, WritesOf, IsPositionOf, CarriesText, WritesNone, Told}
+use Rattle.age_file.specs.Decrypts.{DecryptFails}
+use Rattle.age_file.specs.Resumes.{ResumePorts, WritesOld, IsFrom, IsSame}
+use Rattle.age_file.specs.ResumeFaults.{StopsInOld, StopsInSkipped, ResumeFails}
+use Rattle.age_file.specs.Calls.{TookBeginning, AnswersRight, StopIsTexts, NextStopIsTexts, FirstCall, NextCall}
 use Rattle.age_file.specs.Calls.{DecryptAnswers, ResumeAnswers, AnswerIsTexts, NextAnswerIsTexts, taken, AreInARow, AreTexts, AllAnswerRight}
 use Rattle.age_file.specs.declared.decryption.Done.{Done}
 use Rattle.age_file.specs.declared.decryption.Stopped.{Stopped}
@@ -22,7 +21,8 @@ use Rattle.age_file.specs.declared.position.Position.{Position}
 use Rattle.age_file.specs.declared.position.Positions.{Positions}
 use Rattle.age_file.specs.declared.position.Positions.TheVariants.{Kept, Dropped}
 use Rattle.age_file.proofs.Bytes.{prefix_trans}
-use Rattle.age_file.proofs.ResumedRunSteps.{same_carries}
+use Rattle.age_file.proofs.RunSteps.{from_start}
+use Rattle.age_file.proofs.ResumedRunSteps.{authentic_of, same_carries}
 
 -- ---- sinks and old texts that are told
 
@@ -62,37 +62,35 @@ none_right : (text : List ℕ) (old new : Ports) (written : ℕ) (position : Opt
 none_right text old new written position empty w =
     (record { out = []; told = took old.sink.taken new.sink.taken [] empty w.0; begins = (text, refl) }, none_carries (CarriesText text) position w.2)
 
+-- of an authentic run, its output begins the text
+run_right : (text : List ℕ) (keep : Positions) (A : Header → List ℕ → Type 0) (old new : Ports) (written : ℕ) (position : Option Position) (r : Run)
+    → old.sink.taken ≡ Some [] → IsRun A old new written r → WritesOf r → Told keep (IsPositionOf r) position → IsAuthenticRun r text
+    → Right text new.sink.taken position
+run_right text keep A old new written position r empty is of at auth = (
+  record { out = held r; told = took old.sink.taken new.sink.taken (held r) empty is.wrote; begins = of text auth },
+  some_told keep (IsPositionOf r) (CarriesText text) position at (λ p h. h.carries text auth),
+)
+
 -- ---- a decryption
 
 module _ (text : List ℕ) (few : chunk_count 65536 text ≤ 281474976710656) (keep : Positions) (A : Header → List ℕ → Type 0) (R : Header → KeyFault → Type 0) where
-  run_right : (old new : Ports) (written : ℕ) (position : Option Position) (r : Run) → old.sink.taken ≡ Some [] → IsRun A old new written r → WritesOf r → Told keep (IsPositionOf r) position
-      → IsTexts text r → Right text new.sink.taken position
-  run_right old new written position r empty is of at auth = (
-    record { out = r.out; told = took old.sink.taken new.sink.taken r.out empty is.wrote; begins = of text (few, auth) },
-    some_told keep (IsPositionOf r) (CarriesText text) position at (λ p h. h.carries text (few, auth)),
-  )
-
   stop_right : (old new : Ports) (written : ℕ) (position : Option Position) (fault : FileFault) → old.sink.taken ≡ Some [] → (f : DecryptFails keep A R old new written position fault)
       → StopIsTexts text keep A R old new written position fault f → Right text new.sink.taken position
-  stop_right old new written position (Stream x) empty f auth = run_right old new written position f.0 empty f.1.is f.1.of f.2 auth
-  stop_right old new written position Write empty f auth = run_right old new written position f.0 empty f.1 f.2 f.3 auth
+  stop_right old new written position (Stream x) empty f auth =
+      run_right text keep A old new written position f.0 empty f.2.0.is f.2.0.of f.2.1 (from_start f.0 f.1 text few auth)
+  stop_right old new written position Write empty f auth =
+      run_right text keep A old new written position f.0 empty f.2.0 f.2.1 f.2.2 (from_start f.0 f.1 text few auth)
   stop_right old new written position Read empty (inl early, why) auth = none_right text old new written position empty early.0
-  stop_right old new written position Read empty (inr ran, why) auth = run_right old new written position ran.0 empty ran.1.is ran.1.of ran.2 auth
+  stop_right old new written position Read empty (inr ran, why) auth =
+      run_right text keep A old new written position ran.0 empty ran.2.0.is ran.2.0.of ran.2.1 (from_start ran.0 ran.1 text few auth)
   stop_right old new written position ReadNeverEnds empty (inl early, why) auth = none_right text old new written position empty early.0
-  stop_right old new written position ReadNeverEnds empty (inr ran, why) auth = run_right old new written position ran.0 empty ran.1.is ran.1.of ran.2 auth
+  stop_right old new written position ReadNeverEnds empty (inr ran, why) auth =
+      run_right text keep A old new written position ran.0 empty ran.2.0.is ran.2.0.of ran.2.1 (from_start ran.0 ran.1 text few auth)
   stop_right old new written position other empty f auth = none_right text old new written position empty f.0
 
 -- ---- a resumed one, where the old text begins the text
 
 module _ (text : List ℕ) (few : chunk_count 65536 text ≤ 281474976710656) (keep : Positions) (A : Header → List ℕ → Type 0) (R : Header → KeyFault → Type 0) where
-  authentic_of : (p : Position) (r : Resumption) → IsOldText p r.copied → IsPrefixOf r.copied text → IsTextsFrom text p r → IsAuthenticResumption p r text
-  authentic_of p r old c auth = record {
-    few = few;
-    old_text = sym (take_at r.copied c.0 (p.index * 65536) old.size) ∙ ap (take (p.index * 65536)) c.1;
-    within = omega (arith, old.size, ap length c.1, length-append r.copied c.0);
-    authentic = auth;
-  }
-
   module _ (p : Position) (old new : ResumePorts) (written : ℕ) (position : Option Position) (empty : old.main.sink.taken ≡ Some []) (before : TookBeginning text old.old.remaining) where
     copied_begins : (copied : List ℕ) → WritesOld p old new written copied → IsPrefixOf copied text
     copied_begins copied w = prefix_trans copied w.pulled text w.front (pulled_begins text old.old.remaining new.old.remaining w.pulled before w.read)
@@ -103,40 +101,36 @@ module _ (text : List ℕ) (few : chunk_count 65536 text ≤ 281474976710656) (k
     in_old_right : StopsInOld A p old new written position → Right text new.main.sink.taken position
     in_old_right s = (old_right s.copied s.writes, none_carries (CarriesText text) position s.none)
 
-    in_passed_right : (passed : List ℕ) → StopsInPassed keep A p old new written position passed → Right text new.main.sink.taken position
-    in_passed_right passed s =
+    in_skipped_right : (skipped : List ℕ) → StopsInSkipped keep A p old new written position skipped → Right text new.main.sink.taken position
+    in_skipped_right skipped s =
         (old_right s.copied s.writes, some_told keep (IsSame p) (CarriesText text) position s.here (λ q same. same_carries p q s.copied text s.old_text (copied_begins s.copied s.writes) same))
 
-    run_begins : (r : Resumption) → IsResumption A p old new written r → IsPrefixOf r.copied text
-    run_begins r is = prefix_trans r.copied (r.copied ++ is.more) text (is.more, refl) (pulled_begins text old.old.remaining new.old.remaining (r.copied ++ is.more) before is.old_read)
+    run_authentic : (r : Run) → IsFrom p old.old new.old r → IsTexts text r → IsAuthenticRun r text
+    run_authentic r from auth =
+        let whole = pulled_begins text old.old.remaining new.old.remaining (r.copied ++ from.more) before from.old_read in
+        authentic_of text p r few from.index from.old_text (prefix_trans r.copied (r.copied ++ from.more) text (from.more, refl) whole) auth
 
-    run_authentic : (r : Resumption) → IsResumption A p old new written r → IsTextsFrom text p r → IsAuthenticResumption p r text
-    run_authentic r is auth = authentic_of p r is.old_text (run_begins r is) auth
-
-    rerun_right : (r : Resumption) → IsResumption A p old new written r → ResumesOf p r → Told keep (IsNextPosition p r) position → IsTextsFrom text p r → Right text new.main.sink.taken position
-    rerun_right r is of at auth =
-        let whole = run_authentic r is auth in (
-          record { out = r.copied ++ r.out; told = took old.main.sink.taken new.main.sink.taken (r.copied ++ r.out) empty is.wrote; begins = of text whole },
-          some_told keep (IsNextPosition p r) (CarriesText text) position at (λ q h. h.carries text whole),
-        )
+    resumed_right : (r : Run) → IsFrom p old.old new.old r → IsRun A old.main new.main written r → WritesOf r → Told keep (IsPositionOf r) position
+        → IsTexts text r → Right text new.main.sink.taken position
+    resumed_right r from is of at auth = run_right text keep A old.main new.main written position r empty is of at (run_authentic r from auth)
 
     next_right : (fault : FileFault) (f : ResumeFails keep A p R old new written position fault) → NextStopIsTexts text keep A p R old new written position fault f → Right text new.main.sink.taken position
     next_right OtherFile f auth = none_right text old.main new.main written position empty f.0
     next_right PositionForged f auth = none_right text old.main new.main written position empty f.0
     next_right ShortText f auth = in_old_right f.0
     next_right OldTextDiffers f auth = (old_right f.4 f.5, none_carries (CarriesText text) position f.0)
-    next_right (Stream x) (inl ends, unfailed) auth = in_passed_right ends.passed ends.stops
-    next_right (Stream x) (inr ran, unfailed) auth = rerun_right ran.0 ran.1.is ran.1.of ran.2 auth
+    next_right (Stream x) (inl ends, unfailed) auth = in_skipped_right ends.skipped ends.stops
+    next_right (Stream x) (inr ran, unfailed) auth = resumed_right ran.0 ran.1 ran.2.0.is ran.2.0.of ran.2.1 auth
     next_right Write (inl s, why) auth = in_old_right s
-    next_right Write (inr ran, why) auth = rerun_right ran.0 ran.1 ran.2 ran.3 auth
+    next_right Write (inr ran, why) auth = resumed_right ran.0 ran.1 ran.2.0 ran.2.1 ran.2.2 auth
     next_right Read (inl early) auth = none_right text old.main new.main written position empty early.0
     next_right Read (inr (inl s)) auth = in_old_right s.0
-    next_right Read (inr (inr (inl s))) auth = in_passed_right s.0 s.1
-    next_right Read (inr (inr (inr ran))) auth = rerun_right ran.0 ran.1.is ran.1.of ran.2 auth
+    next_right Read (inr (inr (inl s))) auth = in_skipped_right s.0 s.1
+    next_right Read (inr (inr (inr ran))) auth = resumed_right ran.0 ran.1 ran.2.0.is ran.2.0.of ran.2.1 auth
     next_right ReadNeverEnds (inl early) auth = none_right text old.main new.main written position empty early.0
     next_right ReadNeverEnds (inr (inl s)) auth = in_old_right s.0
-    next_right ReadNeverEnds (inr (inr (inl s))) auth = in_passed_right s.0 s.1
-    next_right ReadNeverEnds (inr (inr (inr ran))) auth = rerun_right ran.0 ran.1.is ran.1.of ran.2 auth
+    next_right ReadNeverEnds (inr (inr (inl s))) auth = in_skipped_right s.0 s.1
+    next_right ReadNeverEnds (inr (inr (inr ran))) auth = resumed_right ran.0 ran.1 ran.2.0.is ran.2.0.of ran.2.1 auth
     next_right other f auth = none_right text old.main new.main written position empty f.0
 
 -- ---- the row
@@ -148,16 +142,15 @@ began text taken (Err stopped) a = a.0
 module _ (Who : Type 0) (Allows : Who → Header → List ℕ → Type 0) (Refused : Who → Header → KeyFault → Type 0) (text : List ℕ) (few : chunk_count 65536 text ≤ 281474976710656) where
   first_right : (keep : Positions) (who : Who) (old new : Ports) (result : Result Done Stopped) → old.sink.taken ≡ Some [] → (f : DecryptAnswers Who Allows Refused keep who old new result)
       → AnswerIsTexts Who Allows Refused text keep who old new result f → AnswersRight text new.sink.taken result
-  first_right keep who old new (Ok done) empty f auth = took old.sink.taken new.sink.taken f.0.out empty f.1.wrote.is.wrote ∙ ap Some (f.1.all text (few, auth))
+  first_right keep who old new (Ok done) empty f auth =
+      took old.sink.taken new.sink.taken (held f.0) empty f.2.wrote.is.wrote ∙ ap Some (f.2.all text (from_start f.0 f.1 text few auth))
   first_right keep who old new (Err s) empty f auth = stop_right text few keep (Allows who) (Refused who) old new s.written s.position s.fault empty f auth
 
   call_right : (keep : Positions) (who : Who) (p : Position) (old new : ResumePorts) (result : Result Done Stopped) → old.main.sink.taken ≡ Some [] → TookBeginning text old.old.remaining
       → (f : ResumeAnswers Who Allows Refused keep who p old new result) → NextAnswerIsTexts Who Allows Refused text keep who p old new result f → AnswersRight text new.main.sink.taken result
   call_right keep who p old new (Ok done) empty before f auth =
-      let r = f.0 in
-      let is = f.1.resumed.is in
-      let whole = run_authentic text few keep (Allows who) (Refused who) p old new done.written None empty before r is auth in
-      took old.main.sink.taken new.main.sink.taken (r.copied ++ r.out) empty is.wrote ∙ ap Some (f.1.all text whole)
+      let whole = run_authentic text few keep (Allows who) (Refused who) p old new done.written None empty before f.0 f.1 auth in
+      took old.main.sink.taken new.main.sink.taken (held f.0) empty f.2.wrote.is.wrote ∙ ap Some (f.2.all text whole)
   call_right keep who p old new (Err s) empty before f auth = next_right text few keep (Allows who) (Refused who) p old new s.written s.position empty before s.fault f auth
 
   last_began : (first : FirstCall Who Allows Refused) (calls : List (NextCall Who Allows Refused)) → AllAnswerRight Who Allows Refused text first calls → TookBeginning text (taken Who Allows Refused first calls)

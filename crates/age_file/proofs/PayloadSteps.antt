@@ -12,7 +12,7 @@ use Rattle.age_file.specs.Faults.{HasRisen}
 use Rattle.age_file.specs.Ports.{NoneFailed}
 use Rattle.age_file.specs.inner.Releases.{Tally, Releases, Closes, FeedFails}
 use Rattle.age_file.specs.inner.Flows.{Flow, ports_in, FlowFails, OpensAll}
-use Rattle.age_file.specs.Decrypts.{segment}
+use Rattle.age_file.specs.Runs.{segment}
 use Rattle.age_file.specs.inner.Payloads.{Stage, DecryptsPayload, PayloadFails, PayloadDone}
 use Rattle.age_file.specs.declared.fault.FileFault.{FileFault}
 use Rattle.age_file.specs.declared.fault.FileFault.TheVariants.{Stream, Read, Write, ReadNeverEnds}

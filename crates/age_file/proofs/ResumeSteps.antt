@@ -1,22 +1,17 @@
--- From what was read, copied, passed over and decrypted to what a resumed decryption did.
-use Rattle.std.proofs.Common.{◌≡◌, ℕ, ◌+◌, ◌*◌, ◌<◌, ◌≤◌, ◌/◌, min, List, [], ◌++◌, length, take, drop, Option, Some, None, refl, inl, inr, sym, ap, subst, ◌∙◌}
+-- From what was read, copied, skipped and decrypted to what a resumed decryption did.
+use Rattle.std.proofs.Common.{◌≡◌, ℕ, ◌+◌, ◌*◌, ◌<◌, ◌≤◌, List, [], ◌++◌, length, take, drop, Option, Some, None, refl, inl, inr, sym, ap, subst, ◌∙◌}
 use Rattle.std.proofs.Common.{suc, ◌^◌, arith, append-nil, append_assoc}
 use Rattle.std.specs.Prelude.{Result, MatchResult, Ok, Err}
 use Rattle.std.specs.Simd.{first_chunks}
 use Rattle.std.specs.Io.KnownBytes.{Consumes, Appends}
 use Rattle.std.proofs.lemmas.List.{length-append, length-take, take_at, take-append-drop, take-append-le}
-use Rattle.std.proofs.Math.Nat.{mul-le-mul_right, le-div_iff_mul-le}
+use Rattle.std.proofs.Math.Nat.{mul-le-mul_right}
 use Rattle.age_stanza.specs.declared.header.Header.{Header}
-use Rattle.age_stream.specs.declared.step.Status.TheVariants.{Done}
-use Rattle.age_stream.specs.Segment.{outcome}
-use Rattle.age_stream.specs.Headline.{IsPrefixOf, IsReached}
-use Rattle.age_file.proofs.FirstChunks.{first_chunks-append}
-use Rattle.age_stream.proofs.PublicLaws.{released_is_written}
+use Rattle.age_stream.specs.Headline.{IsPrefixOf}
 use Rattle.age_keys.specs.declared.fault.KeyFault.{KeyFault}
 use Rattle.age_cipher.specs.Opening.{opening}
 use Rattle.age_keys.specs.Keys.{payload_key, position_key}
-use Rattle.age_keys.specs.inner.PayloadBox.{box_valid}
-use Rattle.age_file.specs.AgeFile.{box, unbox}
+use Rattle.age_file.specs.AgeFile.{unbox}
 use Rattle.age_file.specs.Bindings.{file_id, chain, position_tag}
 use Rattle.age_file.specs.inner.Bindings.{chain_if}
 use Rattle.age_file.specs.declared.position.Positions.TheVariants.{Kept, Dropped}
@@ -24,18 +19,19 @@ use Rattle.age_file.specs.inner.Copies.{CopiesText}
 use Rattle.age_file.specs.Faults.{HasRisen}
 use Rattle.age_file.specs.inner.ResumesPayload.{side_at, ResumesPayload, DecryptsAfter}
 use Rattle.age_file.specs.inner.Intakes.{Pulled}
-use Rattle.age_file.specs.Decrypts.{Told}
+use Rattle.age_file.specs.Runs.{Told}
 use Rattle.age_file.specs.inner.Decrypts.{IsPositionAt, PositionAt}
 use Rattle.age_file.specs.inner.Counts.{HasCounted}
 use Rattle.age_file.specs.inner.Skips.{SkipFails}
 use Rattle.age_file.specs.inner.Payloads.{Stage, DecryptsPayload, PayloadFails, PayloadDone}
 use Rattle.age_file.specs.inner.Releases.{Tally}
-use Rattle.age_file.specs.Resumes.{ResumePorts, Reads, WritesOld, Resumption, segment_at, fresh_text, IsResumption, IsAuthenticResumption, ResumesOf}
-use Rattle.age_file.specs.Resumes.{ResumesAll, IsNextPosition, IsSame, Accepts, ResumeDone}
+use Rattle.age_file.specs.Runs.{Run, segment_of, held, Reads, IsRun, IsPositionOf, IsDone}
+use Rattle.age_file.specs.Resumes.{ResumePorts, NoPortFailed, WritesOld, IsFrom, Accepts, IsSame}
+use Rattle.age_file.proofs.RunSteps.{writes_of, writes_all, told_is}
 use Rattle.age_file.specs.Verdicts.{OpenedFile}
 use Rattle.age_file.specs.inner.Verdicts.{PositionRefused}
 use Rattle.age_file.specs.OldTexts.{BeginsWith, IsOldText}
-use Rattle.age_file.specs.ResumeFaults.{NeverEnd, StopsInOld, StopsInPassed, ResumeFails}
+use Rattle.age_file.specs.ResumeFaults.{NeverEnd, StopsInOld, StopsInSkipped, ResumeFails}
 use Rattle.age_file.specs.Starts.{StartFails}
 use Rattle.age_file.specs.inner.Starts.{Uses, StartsAt}
 use Rattle.age_io.specs.Views.{SourceView}
@@ -77,31 +73,6 @@ old_of p coming now pulled copied read front le text b =
 old_text_of : (p : Position) (copied : List ℕ) → length copied ≡ p.index * 65536 → chain (first_chunks 65536 p.index copied) ≡ p.chain → IsOldText p copied
 old_text_of p copied size same = record { size = size; same = same; bound = λ text b. b.tells (same ∙ b.carries) }
 
--- ---- the headline
-
--- the text of a run, where what opens is the writer's
-resumed_text : (p : Position) (r : Resumption) (text : List ℕ) → IsAuthenticResumption p r text → p.index < 281474976710656
-    → IsPrefixOf (r.copied ++ fresh_text p r) text
-    × ((outcome (unbox r.file.key r.file.nonce) 65536 (segment_at p r)).status ≡ Done → r.copied ++ fresh_text p r ≡ text)
-resumed_text p r text auth limit =
-    let positive : 0 < 65536 = omega arith in
-    let reached : IsReached (box r.file.key r.file.nonce) (unbox r.file.key r.file.nonce) 65536 text (segment_at p r) = record { limit = limit; within = auth.within } in
-    let o = released_is_written (box r.file.key r.file.nonce) (unbox r.file.key r.file.nonce) (box_valid (payload_key r.file.key r.file.nonce)) 65536 positive (segment_at p r) text auth.few
-    reached auth.authentic in (
-      subst (λ (t : List ℕ). IsPrefixOf (t ++ fresh_text p r) text) (sym auth.old_text) o.prefix,
-      λ done. ap (λ (t : List ℕ). t ++ fresh_text p r) auth.old_text ∙ o.done done,
-    )
-
-append_prefix : (x y z : List ℕ) → IsPrefixOf y z → IsPrefixOf (x ++ y) (x ++ z)
-append_prefix x y z p = (p.0, append_assoc x y p.0 ∙ ap (λ (t : List ℕ). x ++ t) p.1)
-
-pub resumes_of : (p : Position) (r : Resumption) → p.index < 281474976710656 → IsPrefixOf r.out (fresh_text p r) → ResumesOf p r
-resumes_of p r limit begins text auth =
-    prefix_trans (r.copied ++ r.out) (r.copied ++ fresh_text p r) text (append_prefix r.copied r.out (fresh_text p r) begins) (resumed_text p r text auth limit).0
-
-pub resumes_all : (p : Position) (r : Resumption) → p.index < 281474976710656 → r.out ≡ fresh_text p r → (outcome (unbox r.file.key r.file.nonce) 65536 (segment_at p r)).status ≡ Done → ResumesAll p r
-resumes_all p r limit whole done text auth = ap (λ (t : List ℕ). r.copied ++ t) whole ∙ (resumed_text p r text auth limit).1 done
-
 -- ---- a run that stopped in the old text, or before it
 
 module _ (keep : Positions) (Allows : Header → List ℕ → Type 0) (Refused : Header → KeyFault → Type 0) (p : Position) where
@@ -112,7 +83,7 @@ module _ (keep : Positions) (Allows : Header → List ℕ → Type 0) (Refused :
   after new z = record { main = record { source = new.source; sink = new.tally.sink }; old = z.source }
 
   abbrev opened : (a : SourceView) (b : Side) (unlocked : Unlocked) → StartsAt Allows a b unlocked → OpenedFile
-  opened a b unlocked s = record { header = s.header; front = s.front; key = unlocked.key; nonce = unlocked.nonce }
+  opened a b unlocked s = record { header = s.header; header_bytes = s.front; key = unlocked.key; nonce = unlocked.nonce }
 
   reads_of : (a : SourceView) (b : Side) (unlocked : Unlocked) (s : StartsAt Allows a b unlocked) (c : Option (List ℕ)) (rest : List ℕ)
       → Consumes a.remaining c ((s.front ++ unlocked.nonce) ++ rest) → Reads Allows a.remaining c (opened a b unlocked s) rest
@@ -292,12 +263,12 @@ module _ (keep : Positions) (Allows : Header → List ℕ → Type 0) (Refused :
             of = old_of p x.source.remaining z.source.remaining old_bytes c.out old_is_read front le;
           }
 
-      -- the run stopped in the blocks that are passed over
-      stops_in_passed : (s2 : Stage) (position : Option Position) (passed : List ℕ) → s2.tally ≡ s1.tally → Told keep (IsSame p) position → length passed < p.index * 65552
-          → Consumes a.remaining s2.source.remaining (head ++ passed) → StopsInPassed keep Allows p (before a first x) (after s2 z) s2.tally.progress.written position passed
-      stops_in_passed s2 position passed still at short read = record {
+      -- the run stopped in the blocks that are skipped
+      stops_in_skipped : (s2 : Stage) (position : Option Position) (skipped : List ℕ) → s2.tally ≡ s1.tally → Told keep (IsSame p) position → length skipped < p.index * 65552
+          → Consumes a.remaining s2.source.remaining (head ++ skipped) → StopsInSkipped keep Allows p (before a first x) (after s2 z) s2.tally.progress.written position skipped
+      stops_in_skipped s2 position skipped still at short read = record {
         file = file;
-        accepts = accepts_of a (side s1.source u) unlocked s v s2.source.remaining passed read;
+        accepts = accepts_of a (side s1.source u) unlocked s v s2.source.remaining skipped read;
         short = short;
         copied = c.out;
         old_text = old_text;
@@ -305,21 +276,21 @@ module _ (keep : Positions) (Allows : Header → List ℕ → Type 0) (Refused :
         here = at;
       }
 
-      dried : (s2 : Stage) (passed : List ℕ) → s2.unread.bytes ≡ [] → Uses (side_at s1) (side_at s2) passed → Pulled (preceded old_bytes a.remaining) s2.source.remaining s2.unread.pulls (old_bytes ++ (head ++ passed))
-      dried s2 passed empty uses =
-          let bytes = ap (λ (t : List ℕ). (old_bytes ++ head) ++ t) (ap (λ (t : List ℕ). passed ++ t) empty ∙ append-nil passed) ∙ append_assoc old_bytes head passed in
+      dried : (s2 : Stage) (skipped : List ℕ) → s2.unread.bytes ≡ [] → Uses (side_at s1) (side_at s2) skipped → Pulled (preceded old_bytes a.remaining) s2.source.remaining s2.unread.pulls (old_bytes ++ (head ++ skipped))
+      dried s2 skipped empty uses =
+          let bytes = ap (λ (t : List ℕ). (old_bytes ++ head) ++ t) (ap (λ (t : List ℕ). skipped ++ t) empty ∙ append-nil skipped) ∙ append_assoc old_bytes head skipped in
           subst (λ (t : List ℕ). Pulled (preceded old_bytes a.remaining) s2.source.remaining s2.unread.pulls t) bytes (uses (preceded old_bytes a.remaining) (old_bytes ++ head) again)
 
-      passed_fails : (s2 : Stage) (position : Option Position) (fault : FileFault) → s2.tally ≡ s1.tally → Told keep (IsSame p) position → SkipFails 65552 p.index (side_at s1) (side_at s2) fault
+      skipped_fails : (s2 : Stage) (position : Option Position) (fault : FileFault) → s2.tally ≡ s1.tally → Told keep (IsSame p) position → SkipFails 65552 p.index (side_at s1) (side_at s2) fault
           → ResumeFails keep Allows p Refused (before a first x) (after s2 z) s2.tally.progress.written position fault
-      passed_fails s2 position (Stream fault) still at f =
+      skipped_fails s2 position (Stream fault) still at f =
           let e = f.2 in
           let all = read_on s2 (head ++ e.bytes) (dried s2 e.bytes e.used e.passes.uses) in
           let more : suc fault.chunk * 65552 ≤ p.index * 65552 = mul-le-mul_right 65552 f.1 in
           let failed : s2.tally.sink.failed ≡ first.sink.failed = ap (λ (t : Tally). t.sink.failed) still ∙ c.answered.2 in (
             inl (record {
-              passed = e.bytes;
-              stops = stops_in_passed s2 position e.bytes still at (omega (arith, e.most, more)) all;
+              skipped = e.bytes;
+              stops = stops_in_skipped s2 position e.bytes still at (omega (arith, e.most, more)) all;
               kind = f.0;
               least = e.least;
               most = e.most;
@@ -327,54 +298,59 @@ module _ (keep : Positions) (Allows : Header → List ℕ → Type 0) (Refused :
             }),
             ((e.passes.unfailed ∙ same, failed), c.answered.1.unfailed),
           )
-      passed_fails s2 position Read still at f =
+      skipped_fails s2 position Read still at f =
           let all = read_on s2 (head ++ f.0) (dried s2 f.0 f.2.used f.2.uses) in
-          inr (inr (inl (f.0, stops_in_passed s2 position f.0 still at f.1 all, subst (λ (m : ℕ). HasRisen m s2.source.failed) same f.2.why)))
-      passed_fails s2 position ReadNeverEnds still at f =
+          inr (inr (inl (f.0, stops_in_skipped s2 position f.0 still at f.1 all, subst (λ (m : ℕ). HasRisen m s2.source.failed) same f.2.why)))
+      skipped_fails s2 position ReadNeverEnds still at f =
           let all = dried s2 f.0 f.2.used f.2.uses in
-          inr (inr (inl (f.0, stops_in_passed s2 position f.0 still at f.1 (read_on s2 (head ++ f.0) all), never_end s2 (head ++ f.0) all f.2.why.0)))
-      passed_fails s2 position other still at f = absurd f
+          inr (inr (inl (f.0, stops_in_skipped s2 position f.0 still at f.1 (read_on s2 (head ++ f.0) all), never_end s2 (head ++ f.0) all f.2.why.0)))
+      skipped_fails s2 position other still at f = absurd f
 
-      -- what was read and decrypted behind the blocks that were passed over
+      -- what was read and decrypted after the blocks that were skipped
       record IsDecrypted (s2 : Stage) (result : Result (Unit {0}) FileFault) : Type 0 where
-        run : Resumption
+        run : Run
         file_is : run.file ≡ file
-        is : IsResumption Allows p (before a first x) (after s2 z) s2.tally.progress.written run
-        pulled : Pulled (preceded old_bytes a.remaining) s2.source.remaining s2.unread.pulls (old_bytes ++ (head ++ (run.passed ++ run.bytes)))
-        counts : HasCounted keep (unbox run.file.key run.file.nonce) 65536 (run.copied ++ run.out) (segment_at p run) s2.tally.progress
+        from : IsFrom p x.source z.source run
+        is : IsRun Allows (before a first x).main (after s2 z).main s2.tally.progress.written run
+        pulled : Pulled (preceded old_bytes a.remaining) s2.source.remaining s2.unread.pulls (old_bytes ++ (head ++ (run.skipped ++ run.bytes)))
+        counts : HasCounted keep (unbox run.file.key run.file.nonce) 65536 (held run) (segment_of run) s2.tally.progress
         mid : Stage
         read_failed : mid.source.failed ≡ a.failed
         write_failed : mid.tally.sink.failed ≡ first.sink.failed
-        answered : MatchResult result (λ _. PayloadDone (unbox run.file.key run.file.nonce) 65536 mid s2 (segment_at p run) run.out) (PayloadFails (unbox run.file.key run.file.nonce) 65536 mid s2 (segment_at p run) run.out)
+        answered : MatchResult result (λ _. PayloadDone (unbox run.file.key run.file.nonce) 65536 mid s2 (segment_of run) run.out)
+            (PayloadFails (unbox run.file.key run.file.nonce) 65536 mid s2 (segment_of run) run.out)
 
       decrypted : (key : List ℕ) (s2 : Stage) (result : Result (Unit {0}) FileFault) → key ≡ payload_key unlocked.key unlocked.nonce
           → DecryptsAfter (λ nonce block. opening key nonce [] block) p.index s1 s2 result → IsDecrypted s2 result
       decrypted key s2 result key_is b =
           let q = subst (λ (t : List ℕ). DecryptsPayload (λ nonce block. opening t nonce [] block) 65536 p.index b.mid s2 result) key_is b.decrypts in
           let front = old_bytes ++ head in
-          let behind : Pulled (preceded old_bytes a.remaining) b.mid.source.remaining b.mid.unread.pulls (front ++ (b.passed ++ b.mid.unread.bytes)) = b.passes.uses (preceded old_bytes a.remaining) front again in
-          let all : Pulled (preceded old_bytes a.remaining) s2.source.remaining s2.unread.pulls ((front ++ (b.passed ++ b.mid.unread.bytes)) ++ q.fresh) = q.pulled (preceded old_bytes a.remaining) (front ++ (b.passed ++ b.mid.unread.bytes)) behind in
+          let start = preceded old_bytes a.remaining in
+          let after_blocks : Pulled start b.mid.source.remaining b.mid.unread.pulls (front ++ (b.passed ++ b.mid.unread.bytes)) =
+          b.passes.uses start front again in
+          let all : Pulled start s2.source.remaining s2.unread.pulls ((front ++ (b.passed ++ b.mid.unread.bytes)) ++ q.fresh) =
+          q.pulled start (front ++ (b.passed ++ b.mid.unread.bytes)) after_blocks in
           let parts : (front ++ (b.passed ++ b.mid.unread.bytes)) ++ q.fresh ≡ old_bytes ++ (head ++ (b.passed ++ q.bytes)) =
           append_assoc front (b.passed ++ b.mid.unread.bytes) q.fresh
           ∙ (ap (λ (t : List ℕ). front ++ t) (append_assoc b.passed b.mid.unread.bytes q.fresh ∙ ap (λ (t : List ℕ). b.passed ++ t) q.parts)
           ∙ append_assoc old_bytes head (b.passed ++ q.bytes)) in
-          let pulls : Pulled (preceded old_bytes a.remaining) s2.source.remaining s2.unread.pulls (old_bytes ++ (head ++ (b.passed ++ q.bytes))) =
-          subst (λ (t : List ℕ). Pulled (preceded old_bytes a.remaining) s2.source.remaining s2.unread.pulls t) parts all in
-          let wrote : Appends s1.tally.sink.taken s2.tally.sink.taken q.out = subst (λ (t : Option (List ℕ)). Appends t s2.tally.sink.taken q.out) (ap (λ (t : Tally). t.sink.taken) b.same) q.wrote in
+          let pulls : Pulled start s2.source.remaining s2.unread.pulls (old_bytes ++ (head ++ (b.passed ++ q.bytes))) =
+          subst (λ (t : List ℕ). Pulled start s2.source.remaining s2.unread.pulls t) parts all in
+          let wrote : Appends s1.tally.sink.taken s2.tally.sink.taken q.out =
+          subst (λ (t : Option (List ℕ)). Appends t s2.tally.sink.taken q.out) (ap (λ (t : Tally). t.sink.taken) b.same) q.wrote in
           let written : b.mid.tally.progress.written ≡ s1.tally.progress.written = ap (λ (t : Tally). t.progress.written) b.same in
           let index : b.mid.tally.progress.index ≡ p.index = ap (λ (t : Tally). t.progress.index) b.same ∙ c.answered.3 in
-          let links : b.mid.tally.progress.chain ≡ chain_if keep (first_chunks 65536 p.index c.out) = ap (λ (t : Tally). t.progress.chain) b.same ∙ c.answered.4 in
+          let links : b.mid.tally.progress.chain ≡ chain_if keep (first_chunks 65536 p.index c.out) =
+          ap (λ (t : Tally). t.progress.chain) b.same ∙ c.answered.4 in
+          let read = read_on s2 (head ++ (b.passed ++ q.bytes)) pulls in
           record {
-            run = record { file = file; copied = c.out; passed = b.passed; bytes = q.bytes; ended = q.ended; out = q.out };
+            run = record { file = file; first = p.index; copied = c.out; skipped = b.passed; bytes = q.bytes; ended = q.ended; out = q.out };
             file_is = refl;
+            from = record { index = refl; own = v.0 ∙ s.id; tagged = v.1; old_text = old_text; more = z.unread.bytes; old_read = old_is_read };
             is = record {
-              own = v.0 ∙ s.id;
-              tagged = v.1;
-              reads = reads_of a (side s1.source u) unlocked s s2.source.remaining (b.passed ++ q.bytes) (read_on s2 (head ++ (b.passed ++ q.bytes)) pulls);
-              old_text = old_text;
-              passed_size = b.size;
-              more = z.unread.bytes;
-              old_read = old_is_read;
+              reads = reads_of a (side s1.source u) unlocked s s2.source.remaining (b.passed ++ q.bytes) read;
+              copied_size = c.answered.0;
+              skipped_size = b.size;
               at_end = q.at_end;
               wrote = Appends-then first.sink.taken s1.tally.sink.taken s2.tally.sink.taken c.out q.out c.wrote wrote;
               count = omega (arith, q.count, written, c.count, zero, length-append c.out q.out);
@@ -388,70 +364,53 @@ module _ (keep : Positions) (Allows : Header → List ℕ → Type 0) (Refused :
             answered = q.answered;
           }
 
-      decrypted_done : (s2 : Stage) (b : IsDecrypted s2 (Ok tt)) → ResumeDone Allows p (before a first x) (after s2 z) s2.tally.progress.written b.run
-      decrypted_done s2 b =
-          let f = b.answered in
-          record {
-            resumed = record { is = b.is; whole = f.2; of = resumes_of p b.run limit b.is.prefix };
-            ended = f.0;
-            done = f.1;
-            all = resumes_all p b.run limit f.2 f.1;
-            none_failed = ((f.3.0 ∙ b.read_failed, f.3.1 ∙ b.write_failed), c.answered.1.unfailed);
-          }
+      first_fits : (s2 : Stage) (result : Result (Unit {0}) FileFault) (b : IsDecrypted s2 result) → b.run.first < 281474976710656
+      first_fits s2 result b = omega (arith, b.from.index, limit)
 
-      -- the position behind what was written
-      abbrev IsHere : (s2 : Stage) (result : Result (Unit {0}) FileFault) (next : Position) (b : IsDecrypted s2 result) → Type 0
-      IsHere s2 result next b = IsPositionAt unlocked s2.tally.progress.index (chain (first_chunks 65536 s2.tally.progress.index (b.run.copied ++ b.run.out))) next
-
-      next_position : (s2 : Stage) (result : Result (Unit {0}) FileFault) (next : Position) (b : IsDecrypted s2 result) → IsHere s2 result next b → IsNextPosition p b.run next
-      next_position s2 result next b h =
-          let text = b.run.copied ++ b.run.out in
-          let over : next.chain ≡ chain (first_chunks 65536 next.index text) = h.chain_is ∙ ap (λ (k : ℕ). chain (first_chunks 65536 k text)) (sym h.index_is) in
-          let least : next.index ≡ min (length text / 65536) (outcome (unbox b.run.file.key b.run.file.nonce) 65536 (segment_at p b.run)).index = h.index_is ∙ b.counts.index in
-          record {
-            index = least;
-            own = h.file_id_is ∙ (s.id ∙ ap (λ (f : OpenedFile). file_id f.front f.nonce) (sym b.file_is));
-            chain_is = over;
-            tagged = h.tag_is ∙ ap (λ (f : OpenedFile). position_tag (position_key f.key f.nonce) next.index next.file_id next.chain) (sym b.file_is);
-            carries = λ whole auth.
-                let rest = resumes_of p b.run limit b.is.prefix whole auth in
-                let positive : 0 < 65536 = omega arith in
-                let le : next.index ≤ length text / 65536 = omega (arith, least) in
-                let within : next.index * 65536 ≤ length text = (le-div_iff_mul-le positive).0 le in (
-                  omega (arith, within, ap length rest.1, length-append text rest.0),
-                  over ∙ (sym (ap chain (first_chunks-append 65536 next.index text rest.0 within)) ∙ ap (λ (t : List ℕ). chain (first_chunks 65536 next.index t)) rest.1),
-                );
-          }
-
-      decrypted_fails : (s2 : Stage) (position : Option Position) (fault : FileFault) (b : IsDecrypted s2 (Err fault)) → Told keep (IsNextPosition p b.run) position
-          → PayloadFails (unbox b.run.file.key b.run.file.nonce) 65536 b.mid s2 (segment_at p b.run) b.run.out fault
+      decrypted_fails : (s2 : Stage) (position : Option Position) (fault : FileFault) (b : IsDecrypted s2 (Err fault))
+          → Told keep (IsPositionOf b.run) position
+          → PayloadFails (unbox b.run.file.key b.run.file.nonce) 65536 b.mid s2 (segment_of b.run) b.run.out fault
           → ResumeFails keep Allows p Refused (before a first x) (after s2 z) s2.tally.progress.written position fault
-      decrypted_fails s2 position (Stream fault) b h f = (
-        inr (b.run, record { is = b.is; whole = f.1; of = resumes_of p b.run limit b.is.prefix }, h, f.0),
-        ((f.2.0 ∙ b.read_failed, f.2.1 ∙ b.write_failed), c.answered.1.unfailed),
+      decrypted_fails s2 position (Stream fault) b h f =
+          let of = writes_of b.run (first_fits s2 (Err (Stream fault)) b) b.is.prefix in (
+            inr (b.run, b.from, (record { is = b.is; whole = f.1; of = of }, h), f.0),
+            ((f.2.0 ∙ b.read_failed, f.2.1 ∙ b.write_failed), c.answered.1.unfailed),
+          )
+      decrypted_fails s2 position Write b h f = (
+        inr (b.run, b.from, (b.is, writes_of b.run (first_fits s2 (Err Write) b) b.is.prefix, h)),
+        subst (λ (m : ℕ). HasRisen m s2.tally.sink.failed) b.write_failed f,
       )
-      decrypted_fails s2 position Write b h f =
-          (inr (b.run, b.is, resumes_of p b.run limit b.is.prefix, h), subst (λ (m : ℕ). HasRisen m s2.tally.sink.failed) b.write_failed f)
-      decrypted_fails s2 position Read b h f = inr (inr (inr (
-        b.run,
-        record { is = b.is; whole = f.0; of = resumes_of p b.run limit b.is.prefix },
-        h,
-        subst (λ (m : ℕ). HasRisen m s2.source.failed) b.read_failed f.1,
-      )))
-      decrypted_fails s2 position ReadNeverEnds b h f = inr (inr (inr (
-        b.run,
-        record { is = b.is; whole = f.0; of = resumes_of p b.run limit b.is.prefix },
-        h,
-        never_end s2 (head ++ (b.run.passed ++ b.run.bytes)) b.pulled f.1,
-      )))
+      decrypted_fails s2 position Read b h f =
+          let of = writes_of b.run (first_fits s2 (Err Read) b) b.is.prefix in
+          let why = subst (λ (m : ℕ). HasRisen m s2.source.failed) b.read_failed f.1 in
+          inr (inr (inr (b.run, b.from, (record { is = b.is; whole = f.0; of = of }, h), why)))
+      decrypted_fails s2 position ReadNeverEnds b h f =
+          let of = writes_of b.run (first_fits s2 (Err ReadNeverEnds) b) b.is.prefix in
+          let why = never_end s2 (head ++ (b.run.skipped ++ b.run.bytes)) b.pulled f.1 in
+          inr (inr (inr (b.run, b.from, (record { is = b.is; whole = f.0; of = of }, h), why)))
       decrypted_fails s2 position other b h f = absurd f
 
       -- ---- the whole run
 
-      pub resume_done : (key : List ℕ) (s2 : Stage) → key ≡ payload_key unlocked.key unlocked.nonce → ResumesPayload (λ nonce block. opening key nonce [] block) p.index s1 s2 (Ok tt)
-          → (r : Resumption) × ResumeDone Allows p (before a first x) (after s2 z) s2.tally.progress.written r
+      pub resume_done : (key : List ℕ) (s2 : Stage) → key ≡ payload_key unlocked.key unlocked.nonce
+          → ResumesPayload (λ nonce block. opening key nonce [] block) p.index s1 s2 (Ok tt)
+          → (r : Run) × IsFrom p x.source z.source r × IsDone Allows (before a first x).main (after s2 z).main s2.tally.progress.written r
+          × NoPortFailed (before a first x) (after s2 z)
       resume_done key s2 key_is (inl stopped) = (let clash : Ok tt ≡ Err stopped.fault = stopped.is in absurd cc)
-      resume_done key s2 key_is (inr behind) = (let b = decrypted key s2 (Ok tt) key_is behind in (b.run, decrypted_done s2 b))
+      resume_done key s2 key_is (inr after_blocks) =
+          let b = decrypted key s2 (Ok tt) key_is after_blocks in
+          let f = b.answered in
+          let fits = first_fits s2 (Ok tt) b in (
+            b.run,
+            b.from,
+            record {
+              wrote = record { is = b.is; whole = f.2; of = writes_of b.run fits b.is.prefix };
+              ended = f.0;
+              done = f.1;
+              all = writes_all b.run fits f.2 f.1;
+            },
+            ((f.3.0 ∙ b.read_failed, f.3.1 ∙ b.write_failed), c.answered.1.unfailed),
+          )
 
       -- the position is that from which the run began, where nothing was decrypted
       same_position : (s2 : Stage) (next : Position) → s2.tally ≡ s1.tally → IsPositionAt unlocked s2.tally.progress.index (chain (first_chunks 65536 p.index c.out)) next → IsSame p next
@@ -472,12 +431,6 @@ module _ (keep : Positions) (Allows : Header → List ℕ → Type 0) (Refused :
       told_same Kept s2 None still at = absurd at
       told_same Dropped s2 position still at = at
 
-      told_next : (how : Positions) (s2 : Stage) (result : Result (Unit {0}) FileFault) (position : Option Position) (b : IsDecrypted s2 result)
-          → PositionAt unlocked s2.tally.progress.index (chain_if how (first_chunks 65536 s2.tally.progress.index (b.run.copied ++ b.run.out))) position → Told how (IsNextPosition p b.run) position
-      told_next Kept s2 result (Some next) b at = next_position s2 result next b at
-      told_next Kept s2 result None b at = absurd at
-      told_next Dropped s2 result position b at = at
-
       pub resume_fails : (key : List ℕ) (s2 : Stage) (position : Option Position) (fault : FileFault) → key ≡ payload_key unlocked.key unlocked.nonce
           → PositionAt unlocked s2.tally.progress.index s2.tally.progress.chain position
           → ResumesPayload (λ nonce block. opening key nonce [] block) p.index s1 s2 (Err fault) → ResumeFails keep Allows p Refused (before a first x) (after s2 z) s2.tally.progress.written position fault
@@ -485,9 +438,14 @@ module _ (keep : Positions) (Allows : Header → List ℕ → Type 0) (Refused :
           let is : Err fault ≡ Err stopped.fault = stopped.is in
           let e : stopped.fault ≡ fault = cc in
           let links : s2.tally.progress.chain ≡ chain_if keep (first_chunks 65536 p.index c.out) = ap (λ (t : Tally). t.progress.chain) stopped.same ∙ c.answered.4 in
-          passed_fails s2 position fault stopped.same (told_same keep s2 position stopped.same (subst (λ (l : Option (List ℕ)). PositionAt unlocked s2.tally.progress.index l position) links at))
+          skipped_fails s2 position fault stopped.same (told_same keep s2 position stopped.same (subst (λ (l : Option (List ℕ)). PositionAt unlocked s2.tally.progress.index l position) links at))
           (subst (λ (f : FileFault). SkipFails 65552 p.index (side_at s1) (side_at s2) f) e stopped.fails)
-      resume_fails key s2 position fault key_is at (inr behind) =
-          let b = decrypted key s2 (Err fault) key_is behind in
-          let told = told_next keep s2 (Err fault) position b (subst (λ (l : Option (List ℕ)). PositionAt unlocked s2.tally.progress.index l position) b.counts.chain_is at) in
+      resume_fails key s2 position fault key_is at (inr after_blocks) =
+          let b = decrypted key s2 (Err fault) key_is after_blocks in
+          let links = subst (λ (l : Option (List ℕ)). PositionAt unlocked s2.tally.progress.index l position) b.counts.chain_is at in
+          let key_of = ap (λ (f : OpenedFile). f.key) b.file_is in
+          let nonce_of = ap (λ (f : OpenedFile). f.nonce) b.file_is in
+          let id = s.id ∙ ap (λ (f : OpenedFile). file_id f.header_bytes f.nonce) (sym b.file_is) in
+          let told = told_is keep b.run unlocked s2.tally.progress.index position (first_fits s2 (Err fault) b) key_of nonce_of id b.is.prefix
+          b.counts.index links in
           decrypted_fails s2 position fault b told b.answered

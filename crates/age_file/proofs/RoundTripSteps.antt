@@ -75,7 +75,7 @@ undamaged_of opens s max_log text coming is within few closed f =
 
 answered : (keep : Positions) → OneHeader → (w : Words) (text : List ℕ) (now last : Ports) (result : Result Done Stopped) → IsUndamaged (IsPassphraseKey w) (PassphraseRefuses w) now.source.remaining text → now.sink.taken ≡ Some []
     → DecryptAnswers Words IsPassphraseKey PassphraseRefuses keep w now last result → MatchResult result (λ done. last.sink.taken ≡ Some text) (λ stopped. StopsOutside stopped.fault)
-answered keep one w text now last (Ok done) u empty f = took now.sink.taken last.sink.taken text empty (undamaged_done one (IsPassphraseKey w) (PassphraseRefuses w) now last done.written f.0 text u f.1).0
+answered keep one w text now last (Ok done) u empty f = took now.sink.taken last.sink.taken text empty (undamaged_done one (IsPassphraseKey w) (PassphraseRefuses w) now last done.written f.0 text u f.1 f.2).0
 answered keep one w text now last (Err s) u empty f = undamaged keep one (IsPassphraseKey w) (PassphraseRefuses w) now last s.written s.position s.fault text u f
 
 pub there_and_back : OneHeader → PassphraseOpens → (keep : Positions) (s : SecretView) (max_log : ℕ) (text : List ℕ) (was file now last : Ports) (written : Written) (result : Result Done Stopped) → IsSecret s → s.log ≤ max_log

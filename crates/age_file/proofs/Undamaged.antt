@@ -27,7 +27,9 @@ use Rattle.age_file.specs.Faults.{IsHeadFault, IsSourcesFault}
 use Rattle.age_file.specs.declared.position.Position.{Position}
 use Rattle.age_file.specs.declared.position.Positions.{Positions}
 use Rattle.age_file.specs.Starts.{StartFails}
-use Rattle.age_file.specs.Decrypts.{segment, Run, DecryptDone, DecryptFails, IsWhole, IsUndamaged, WritesText, StopsOutside}
+use Rattle.age_file.specs.Runs.{segment, Run, IsFromStart, outcome_of, IsRun, IsDone}
+use Rattle.age_file.specs.Decrypts.{DecryptFails, IsWhole, IsUndamaged, WritesText, StopsOutside}
+use Rattle.age_file.proofs.RunSteps.{none_before}
 use Rattle.age_file.specs.declared.fault.FileFault.{FileFault}
 use Rattle.age_file.specs.declared.fault.FileFault.TheVariants.{Head, Key, NonceCut, Stream, Read, Write, Memory, ReadNeverEnds}
 
@@ -40,9 +42,6 @@ told before after bytes used is consumed = left after (subst (λ (b : Option (Li
 
 pub none_left : (after : Option (List ℕ)) (rest : List ℕ) → after ≡ Some rest → IsAtEnd after → rest ≡ []
 none_left after rest is ended = subst IsAtEnd is ended
-
-pub whole_dropped : (all : List ℕ) → all ≡ drop (0 * 65552) all
-whole_dropped all = (let z : 0 * 65552 ≡ 0 = omega arith in ap (λ (k : ℕ). drop k all) (sym z))
 
 -- two texts that begin with as many bytes
 pub same_front : (a b x y : List ℕ) → length a ≡ length b → a ++ x ≡ b ++ y → (a ≡ b) × (x ≡ y)
@@ -197,27 +196,6 @@ own_authentic key nonce text few closed k below =
     (segment k (drop (k * 65552) (payload (box key nonce) 65536 text)) true)
     (record { below = below; bytes = refl; ended = refl; timely = refl })
 
-pub undamaged : (keep : Positions) → OneHeader → (Allows : Header → List ℕ → Type 0) (Refused : Header → KeyFault → Type 0) (old new : Ports) (written : ℕ) (position : Option Position) (fault : FileFault) (text : List ℕ)
-    → IsUndamaged Allows Refused old.source.remaining text → DecryptFails keep Allows Refused old new written position fault → StopsOutside fault
-undamaged keep one Allows Refused old new written position (Head x) text u f = start_undamaged one Allows Refused old.source new.source text u.whole (Head x) f.1
-undamaged keep one Allows Refused old new written position (Key x) text u f = start_undamaged one Allows Refused old.source new.source text u.whole (Key x) f.1
-undamaged keep one Allows Refused old new written position NonceCut text u f = start_undamaged one Allows Refused old.source new.source text u.whole NonceCut f.1
-undamaged keep one Allows Refused old new written position (Stream x) text u f =
-    let r = f.0 in
-    let is = f.1.is in
-    let w = u.whole in
-    let all = payload (box w.key w.nonce) 65536 text in
-    let below : 0 < chunk_count 65536 text = omega arith in
-    let authentic = own_authentic w.key w.nonce text w.few u.closed 0 below in
-    let o = opened_as one Allows Refused old.source.remaining text w new.source.remaining r.header r.front r.key r.nonce r.bytes is.text is.opens.allowed is.size is.read in
-    let none : length {A = ℕ} [] ≡ 0 * 65552 = omega arith in
-    absurd (no_stream_fault one Allows Refused old.source.remaining text w 0 below authentic new.source.remaining r.key r.nonce [] r.bytes r.ended x o none is.at_end f.3)
-undamaged keep one Allows Refused old new written position Read text u f = tt
-undamaged keep one Allows Refused old new written position Write text u f = tt
-undamaged keep one Allows Refused old new written position Memory text u f = tt
-undamaged keep one Allows Refused old new written position ReadNeverEnds text u f = tt
-undamaged keep one Allows Refused old new written position other text u f = absurd f.1
-
 -- blocks that are those of a segment are as authentic
 pub authentic_as : (text : List ℕ) (k : ℕ) (key nonce own_key own_nonce bytes all : List ℕ) (ended : Bool) → key ≡ own_key → nonce ≡ own_nonce → bytes ≡ all → ended ≡ true
     → IsAuthentic (box own_key own_nonce) (unbox own_key own_nonce) 65536 text (segment k all true) → IsAuthentic (box key nonce) (unbox key nonce) 65536 text (segment k bytes ended)
@@ -227,17 +205,64 @@ authentic_as text k key nonce own_key own_nonce bytes all ended keys nonces bloc
     (subst (λ (x : List ℕ). IsAuthentic (box own_key own_nonce) (unbox own_key own_nonce) 65536 text (segment k x ended)) (sym blocks)
     (subst (λ (e : Bool). IsAuthentic (box own_key own_nonce) (unbox own_key own_nonce) 65536 text (segment k all e)) (sym ends) a)))
 
+-- a run of an undamaged file, from a chunk of its text
+module _ (one : OneHeader) (Allows : Header → List ℕ → Type 0) (Refused : Header → KeyFault → Type 0) (old new : Ports) (text : List ℕ)
+    (u : IsWhole Allows Refused old.source.remaining text) (closed : IsClosed (box u.key u.nonce) (unbox u.key u.nonce) 65536 text) (written : ℕ)
+    (r : Run) (below : r.first < chunk_count 65536 text) where
+  abbrev rest : List ℕ
+  rest = drop (r.first * 65552) (payload (box u.key u.nonce) 65536 text)
+
+  run_opened : IsRun Allows old new written r
+      → IsOpenedAs one Allows Refused old.source.remaining text u r.file.key r.file.nonce (r.skipped ++ r.bytes) new.source.remaining
+  run_opened is =
+      opened_as one Allows Refused old.source.remaining text u new.source.remaining r.file.header r.file.header_bytes r.file.key r.file.nonce
+      (r.skipped ++ r.bytes) is.reads.text is.reads.opens.allowed is.reads.size is.reads.read
+
+  -- opens to its end
+  pub run_opens : (fault : StreamFault) → IsRun Allows old new written r → (outcome_of r).status ≡ Failed fault → ⊥
+  run_opens fault is failed =
+      no_stream_fault one Allows Refused old.source.remaining text u r.first below (own_authentic u.key u.nonce text u.few closed r.first below)
+      new.source.remaining r.file.key r.file.nonce r.skipped r.bytes r.ended fault (run_opened is) is.skipped_size is.at_end failed
+
+  -- and where it was read to its end, gave its text
+  pub run_writes : r.copied ≡ take (r.first * 65536) text → IsDone Allows old new written r → WritesText old.sink.taken new.sink.taken written text
+  run_writes old_text d =
+      let is = d.wrote.is in
+      let o = run_opened is in
+      let none = none_left new.source.remaining o.left o.left_is (is.at_end d.ended) in
+      let after : r.bytes ++ o.left ≡ rest =
+      sym (drop_at r.skipped (r.bytes ++ o.left) (r.first * 65552) is.skipped_size)
+      ∙ ap (drop (r.first * 65552)) (sym (append_assoc r.skipped r.bytes o.left) ∙ o.payload_is) in
+      let bytes_are : r.bytes ≡ rest = sym (append-nil r.bytes) ∙ (ap (λ (t : List ℕ). r.bytes ++ t) (sym none) ∙ after) in
+      let own = own_authentic u.key u.nonce text u.few closed r.first below in
+      let whole = d.all text (record {
+        few = u.few;
+        within = reaches text r.first below;
+        old_text = old_text;
+        authentic = authentic_as text r.first r.file.key r.file.nonce u.key u.nonce r.bytes rest r.ended o.key_is o.nonce_is bytes_are d.ended own;
+      }) in
+      (subst (λ (t : List ℕ). Appends old.sink.taken new.sink.taken t) whole is.wrote, is.count ∙ ap length whole)
+
+pub undamaged : (keep : Positions) → OneHeader → (Allows : Header → List ℕ → Type 0) (Refused : Header → KeyFault → Type 0) (old new : Ports)
+    (written : ℕ) (position : Option Position) (fault : FileFault) (text : List ℕ) → IsUndamaged Allows Refused old.source.remaining text
+    → DecryptFails keep Allows Refused old new written position fault → StopsOutside fault
+undamaged keep one Allows Refused old new written position (Head x) text u f =
+    start_undamaged one Allows Refused old.source new.source text u.whole (Head x) f.1
+undamaged keep one Allows Refused old new written position (Key x) text u f =
+    start_undamaged one Allows Refused old.source new.source text u.whole (Key x) f.1
+undamaged keep one Allows Refused old new written position NonceCut text u f =
+    start_undamaged one Allows Refused old.source new.source text u.whole NonceCut f.1
+undamaged keep one Allows Refused old new written position (Stream x) text u f =
+    absurd (run_opens one Allows Refused old new text u.whole u.closed written f.0 (omega (arith, f.1.zero)) x f.2.0.is f.3)
+undamaged keep one Allows Refused old new written position Read text u f = tt
+undamaged keep one Allows Refused old new written position Write text u f = tt
+undamaged keep one Allows Refused old new written position Memory text u f = tt
+undamaged keep one Allows Refused old new written position ReadNeverEnds text u f = tt
+undamaged keep one Allows Refused old new written position other text u f = absurd f.1
+
 -- an undamaged file that was read to its end gave its text
-pub undamaged_done : OneHeader → (Allows : Header → List ℕ → Type 0) (Refused : Header → KeyFault → Type 0) (old new : Ports) (written : ℕ) (r : Run) (text : List ℕ)
-    → IsUndamaged Allows Refused old.source.remaining text → DecryptDone Allows old new written r → WritesText old.sink.taken new.sink.taken written text
-undamaged_done one Allows Refused old new written r text u d =
-    let w = u.whole in
-    let is = d.wrote.is in
-    let all = payload (box w.key w.nonce) 65536 text in
-    let o = opened_as one Allows Refused old.source.remaining text w new.source.remaining r.header r.front r.key r.nonce r.bytes is.text is.opens.allowed is.size is.read in
-    let none = none_left new.source.remaining o.left o.left_is (is.at_end d.ended) in
-    let bytes_is : r.bytes ≡ all = sym (append-nil r.bytes) ∙ (ap (λ (t : List ℕ). r.bytes ++ t) (sym none) ∙ o.payload_is) in
-    let below : 0 < chunk_count 65536 text = omega arith in
-    let authentic = subst (λ (t : List ℕ). IsAuthentic (box w.key w.nonce) (unbox w.key w.nonce) 65536 text (segment 0 t true)) (sym (whole_dropped all)) (own_authentic w.key w.nonce text w.few u.closed 0 below) in
-    let whole = d.all text (w.few, authentic_as text 0 r.key r.nonce w.key w.nonce r.bytes all r.ended o.key_is o.nonce_is bytes_is d.ended authentic) in
-    (subst (λ (t : List ℕ). Appends old.sink.taken new.sink.taken t) whole is.wrote, is.count ∙ ap length whole)
+pub undamaged_done : OneHeader → (Allows : Header → List ℕ → Type 0) (Refused : Header → KeyFault → Type 0) (old new : Ports) (written : ℕ) (r : Run)
+    (text : List ℕ) → IsUndamaged Allows Refused old.source.remaining text → IsFromStart r → IsDone Allows old new written r
+    → WritesText old.sink.taken new.sink.taken written text
+undamaged_done one Allows Refused old new written r text u from d =
+    run_writes one Allows Refused old new text u.whole u.closed written r (omega (arith, from.zero)) (none_before r from text) d

@@ -1,18 +1,17 @@
 -- What can't stop a resumed decryption of an age file that is undamaged, behind the text that it was made for.
-use Rattle.std.proofs.Common.{inl, inr, ◌≡◌, ℕ, ◌*◌, ◌≤◌, List, ◌++◌, length, take, drop, Option, sym, ap, subst, ◌∙◌, arith, append-nil, append_assoc}
-use Rattle.std.proofs.lemmas.List.{length-append, length-take, drop_at}
+use Rattle.std.proofs.Common.{inl, inr, ◌≡◌, ℕ, ◌*◌, ◌≤◌, List, ◌++◌, length, take, Option, sym, ap, ◌∙◌, arith, append_assoc}
+use Rattle.std.proofs.lemmas.List.{length-append, length-take}
 use Rattle.std.specs.Simd.{first_chunks}
-use Rattle.std.specs.Io.KnownBytes.{Appends, IsAtEnd}
+use Rattle.std.specs.Io.KnownBytes.{IsAtEnd}
 use Rattle.age_stanza.specs.declared.header.Header.{Header}
 use Rattle.age_stanza.specs.Laws.{OneHeader}
 use Rattle.age_file.proofs.FirstChunks.{first_chunks-append}
 use Rattle.age_keys.specs.declared.fault.KeyFault.{KeyFault}
 use Rattle.age_keys.specs.Keys.{position_key}
-use Rattle.age_stream.specs.Payload.{payload}
-use Rattle.age_file.specs.AgeFile.{box}
 use Rattle.age_file.specs.Bindings.{file_id, chain, position_tag}
 use Rattle.age_file.specs.Decrypts.{WritesText, StopsOutside}
-use Rattle.age_file.specs.Resumes.{ResumePorts, Reads, WritesOld, Resumption, ResumeDone}
+use Rattle.age_file.specs.Runs.{Run, Reads, IsDone}
+use Rattle.age_file.specs.Resumes.{ResumePorts, WritesOld, IsFrom}
 use Rattle.age_file.specs.Verdicts.{OpenedFile, HasId, HasTag}
 use Rattle.age_file.specs.UndamagedRests.{IsUndamagedRest}
 use Rattle.age_file.specs.ResumeFaults.{ResumeFails}
@@ -21,19 +20,19 @@ use Rattle.age_file.specs.declared.position.Positions.{Positions}
 use Rattle.age_file.specs.declared.fault.FileFault.{FileFault}
 use Rattle.age_file.specs.declared.fault.FileFault.TheVariants.{Head, Key, NonceCut, Stream, OtherFile, ShortText, Read, Write, Memory, ReadNeverEnds}
 use Rattle.age_file.specs.declared.fault.FileFault.TheVariants.{PositionForged, OldTextDiffers}
-use Rattle.age_file.proofs.Undamaged.{told, none_left, start_undamaged, front_is, opened_as, no_stream_fault, no_early_end, same_front, authentic_as}
+use Rattle.age_file.proofs.Undamaged.{told, none_left, start_undamaged, front_is, opened_as, no_early_end, same_front, run_opens, run_writes}
 use Rattle.age_file.proofs.Undamaged.{own_authentic, IsOpenedAs}
 
 module _ (one : OneHeader) (Allows : Header → List ℕ → Type 0) (Refused : Header → KeyFault → Type 0) (p : Position) (old new : ResumePorts) (text : List ℕ)
     (u : IsUndamagedRest Allows Refused p old.main.source.remaining old.old.remaining text) where
   opened_of : (f : OpenedFile) (rest : List ℕ) → Reads Allows old.main.source.remaining new.main.source.remaining f rest → IsOpenedAs one Allows Refused old.main.source.remaining text u.whole f.key f.nonce rest new.main.source.remaining
-  opened_of f rest r = opened_as one Allows Refused old.main.source.remaining text u.whole new.main.source.remaining f.header f.front f.key f.nonce rest r.text r.opens.allowed r.size r.read
+  opened_of f rest r = opened_as one Allows Refused old.main.source.remaining text u.whole new.main.source.remaining f.header f.header_bytes f.key f.nonce rest r.text r.opens.allowed r.size r.read
 
   own_file : (f : OpenedFile) (rest : List ℕ) → Reads Allows old.main.source.remaining new.main.source.remaining f rest → HasId p f
   own_file f rest r =
       let o = opened_of f rest r in
-      let front = front_is one Allows Refused old.main.source.remaining text u.whole new.main.source.remaining f.header f.front f.nonce rest r.text r.read in
-      u.own ∙ (ap (λ (x : List ℕ). file_id x u.whole.nonce) (sym front) ∙ ap (file_id f.front) (sym o.nonce_is))
+      let front = front_is one Allows Refused old.main.source.remaining text u.whole new.main.source.remaining f.header f.header_bytes f.nonce rest r.text r.read in
+      u.own ∙ (ap (λ (x : List ℕ). file_id x u.whole.nonce) (sym front) ∙ ap (file_id f.header_bytes) (sym o.nonce_is))
 
   own_tag : (f : OpenedFile) (rest : List ℕ) → Reads Allows old.main.source.remaining new.main.source.remaining f rest → HasTag p f
   own_tag f rest r =
@@ -69,38 +68,25 @@ module _ (one : OneHeader) (Allows : Header → List ℕ → Type 0) (Refused : 
   undamaged_rest keep written position OldTextDiffers f = absurd (f.7 (old_is_same written f.4 f.5 f.6))
   undamaged_rest keep written position (Stream x) (inl ends, unfailed) =
       let a = ends.stops.accepts in
-      absurd (no_early_end one Allows Refused old.main.source.remaining text u.whole p.index u.below (own_authentic u.whole.key u.whole.nonce text u.whole.few u.closed p.index u.below) new.main.source.remaining ends.stops.file.key ends.stops.file.nonce ends.passed
-      (opened_of ends.stops.file ends.passed a.reads) ends.stops.short ends.at_end)
+      absurd (no_early_end one Allows Refused old.main.source.remaining text u.whole p.index u.below (own_authentic u.whole.key u.whole.nonce text u.whole.few u.closed p.index u.below) new.main.source.remaining ends.stops.file.key ends.stops.file.nonce ends.skipped
+      (opened_of ends.stops.file ends.skipped a.reads) ends.stops.short ends.at_end)
   undamaged_rest keep written position (Stream x) (inr run, unfailed) =
-      let r = run.0 in
-      let is = run.1.is in
-      absurd (no_stream_fault one Allows Refused old.main.source.remaining text u.whole p.index u.below (own_authentic u.whole.key u.whole.nonce text u.whole.few u.closed p.index u.below) new.main.source.remaining r.file.key r.file.nonce r.passed r.bytes r.ended x
-      (opened_of r.file (r.passed ++ r.bytes) is.reads) is.passed_size is.at_end run.3)
+      absurd (run_opens one Allows Refused old.main new.main text u.whole u.closed written run.0 (omega (arith, run.1.index, u.below)) x run.2.0.is run.3)
   undamaged_rest keep written position Read f = tt
   undamaged_rest keep written position Write f = tt
   undamaged_rest keep written position Memory f = tt
   undamaged_rest keep written position ReadNeverEnds f = tt
   undamaged_rest keep written position other f = absurd f.1
 
-  -- an undamaged file that was read to its end gave its text, behind the old text that is the text's beginning
-  pub undamaged_rest_done : (written : ℕ) (r : Resumption) → ResumeDone Allows p old new written r → WritesText old.main.sink.taken new.main.sink.taken written text
-  undamaged_rest_done written r d =
-      let w = u.whole in
-      let is = d.resumed.is in
+  -- an undamaged file that was read to its end gave its text, after the old text that is the text's beginning
+  pub undamaged_rest_done : (written : ℕ) (r : Run) → IsFrom p old.old new.old r → IsDone Allows old.main new.main written r
+      → WritesText old.main.sink.taken new.main.sink.taken written text
+  undamaged_rest_done written r from d =
       let b = u.old_text in
-      let all = payload (box w.key w.nonce) 65536 text in
-      let o = opened_of r.file (r.passed ++ r.bytes) is.reads in
-      let none = none_left new.main.source.remaining o.left o.left_is (is.at_end d.ended) in
-      let behind : r.bytes ++ o.left ≡ drop (p.index * 65552) all =
-      sym (drop_at r.passed (r.bytes ++ o.left) (p.index * 65552) is.passed_size) ∙ ap (drop (p.index * 65552)) (sym (append_assoc r.passed r.bytes o.left) ∙ o.payload_is) in
-      let bytes_is : r.bytes ≡ drop (p.index * 65552) all = sym (append-nil r.bytes) ∙ (ap (λ (t : List ℕ). r.bytes ++ t) (sym none) ∙ behind) in
-      let t = told old.old.remaining new.old.remaining b.all (r.copied ++ is.more) b.told is.old_read in
+      let t = told old.old.remaining new.old.remaining b.all (r.copied ++ from.more) b.told from.old_read in
       let size : length (take (p.index * 65536) text) ≡ p.index * 65536 = omega (arith, length-take (p.index * 65536) text, b.within) in
-      let old_is = same_front r.copied (take (p.index * 65536) text) (is.more ++ t.0) b.begins.0 (is.old_text.size ∙ sym size) (sym (append_assoc r.copied is.more t.0) ∙ (sym t.1 ∙ sym b.begins.1)) in
-      let whole = d.all text (record {
-        few = w.few;
-        old_text = old_is.0;
-        within = b.within;
-        authentic = authentic_as text p.index r.file.key r.file.nonce w.key w.nonce r.bytes (drop (p.index * 65552) all) r.ended o.key_is o.nonce_is bytes_is d.ended (own_authentic w.key w.nonce text w.few u.closed p.index u.below);
-      }) in
-      (subst (λ (x : List ℕ). Appends old.main.sink.taken new.main.sink.taken x) whole is.wrote, is.count ∙ ap length whole)
+      let both : r.copied ++ (from.more ++ t.0) ≡ take (p.index * 65536) text ++ b.begins.0 =
+      sym (append_assoc r.copied from.more t.0) ∙ (sym t.1 ∙ sym b.begins.1) in
+      let old_is = same_front r.copied (take (p.index * 65536) text) (from.more ++ t.0) b.begins.0 (from.old_text.size ∙ sym size) both in
+      let at : r.copied ≡ take (r.first * 65536) text = old_is.0 ∙ ap (λ (k : ℕ). take (k * 65536) text) (sym from.index) in
+      run_writes one Allows Refused old.main new.main text u.whole u.closed written r (omega (arith, from.index, u.below)) at d

@@ -1,19 +1,16 @@
 -- Calls in a row: a decryption, and then resumed ones, each with what the sink of the call before
 -- took as its old text. What each call did is what its contract promises.
-use Rattle.std.specs.Prelude.{◌≡◌, ◌⊎◌, ℕ, ◌*◌, ◌≤◌, List, [], ◌∷◌, length}
-use Rattle.std.specs.Prelude.{Option, Some, IfSome}
+use Rattle.std.specs.Prelude.{◌≡◌, ◌⊎◌, ℕ, ◌≤◌, List, [], ◌∷◌, Option, Some, IfSome}
 use Rattle.std.specs.Prelude.{Result, Ok, Err, MatchResult}
 use mathlib.Core.Logic.{inl, inr}
-use Rattle.std.specs.Simd.{first_chunks}
 use Rattle.age_stanza.specs.declared.header.Header.{Header}
 use Rattle.age_stream.specs.Payload.{chunk_count}
-use Rattle.age_stream.specs.Headline.{IsPrefixOf, IsAuthentic}
+use Rattle.age_stream.specs.Headline.{IsPrefixOf}
 use Rattle.age_keys.specs.declared.fault.KeyFault.{KeyFault}
-use Rattle.age_file.specs.AgeFile.{box, unbox}
-use Rattle.age_file.specs.Bindings.{chain}
 use Rattle.age_file.specs.Ports.{Ports}
-use Rattle.age_file.specs.Decrypts.{Run, segment_of, DecryptFails, DecryptEnds, DecryptStops}
-use Rattle.age_file.specs.Resumes.{ResumePorts, Resumption, segment_at}
+use Rattle.age_file.specs.Runs.{IsTexts, CarriesText}
+use Rattle.age_file.specs.Decrypts.{DecryptFails, DecryptEnds, DecryptStops}
+use Rattle.age_file.specs.Resumes.{ResumePorts}
 use Rattle.age_file.specs.ResumeFaults.{ResumeFails, ResumeEnds, ResumeStops}
 use Rattle.age_file.specs.declared.decryption.Done.{Done}
 use Rattle.age_file.specs.declared.decryption.Stopped.{Stopped}
@@ -22,24 +19,11 @@ use Rattle.age_file.specs.declared.fault.FileFault.TheVariants.{Stream, Read, Wr
 use Rattle.age_file.specs.declared.position.Position.{Position}
 use Rattle.age_file.specs.declared.position.Positions.{Positions}
 
--- no block of a run that came and is tried opens, except as the writer of this text sealed it
-abbrev pub IsTexts : List ℕ → Run → Type 0
-IsTexts text r = IsAuthentic (box r.key r.nonce) (unbox r.key r.nonce) 65536 text (segment_of r)
-
-abbrev pub IsTextsFrom : List ℕ → Position → Resumption → Type 0
-IsTextsFrom text p r = IsAuthentic (box r.file.key r.file.nonce) (unbox r.file.key r.file.nonce)
-    65536 text (segment_at p r)
-
 -- a sink took the beginning of a text
 pub record TookBeginning (text : List ℕ) (taken : Option (List ℕ)) : Type 0 where
   pub out : List ℕ
   pub told : taken ≡ Some out
   pub begins : IsPrefixOf out text
-
--- a position stands behind chunks of a text, and carries the chain over them
-abbrev pub CarriesText : List ℕ → Position → Type 0
-CarriesText text p = (p.index * 65536 ≤ length text)
-    × (p.chain ≡ chain (first_chunks 65536 p.index text))
 
 -- the sink took all of the text where the call is done, and else its beginning; and a position that
 -- is handed out is right
@@ -69,13 +53,13 @@ abbrev pub NextStopIsTexts : List ℕ → (keep : Positions) (A : Header → Lis
     (position : Option Position) (fault : FileFault)
     → ResumeFails keep A p R old new written position fault → Type 0
 NextStopIsTexts text keep A p R old new written position (Stream fault) f =
-    WhereRan (λ ran. IsTextsFrom text p ran.0) f.0
+    WhereRan (λ ran. IsTexts text ran.0) f.0
 NextStopIsTexts text keep A p R old new written position Write f =
-    WhereRan (λ ran. IsTextsFrom text p ran.0) f.0
+    WhereRan (λ ran. IsTexts text ran.0) f.0
 NextStopIsTexts text keep A p R old new written position Read f =
-    WhereRan (WhereRan (WhereRan (λ ran. IsTextsFrom text p ran.0))) f
+    WhereRan (WhereRan (WhereRan (λ ran. IsTexts text ran.0))) f
 NextStopIsTexts text keep A p R old new written position ReadNeverEnds f =
-    WhereRan (WhereRan (WhereRan (λ ran. IsTextsFrom text p ran.0))) f
+    WhereRan (WhereRan (WhereRan (λ ran. IsTexts text ran.0))) f
 NextStopIsTexts text keep A p R old new written position other f = Unit {0}
 
 -- who unlocks, and what they allow and refuse
@@ -122,7 +106,7 @@ module _ (Who : Type 0) (Allows : Who → Header → List ℕ → Type 0)
   abbrev pub NextAnswerIsTexts : List ℕ → (keep : Positions) (who : Who) (p : Position)
       (old new : ResumePorts) (result : Result Done Stopped)
       → ResumeAnswers keep who p old new result → Type 0
-  NextAnswerIsTexts text keep who p old new (Ok done) f = IsTextsFrom text p f.0
+  NextAnswerIsTexts text keep who p old new (Ok done) f = IsTexts text f.0
   NextAnswerIsTexts text keep who p old new (Err stopped) f = NextStopIsTexts text keep
       (Allows who) p (Refused who) old new stopped.written stopped.position stopped.fault f
 

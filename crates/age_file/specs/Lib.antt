@@ -5,9 +5,10 @@ pub mod AgeFile
 pub mod Bindings
 pub mod PositionTexts
 pub mod Ports
+pub mod Verdicts
+pub mod Runs
 pub mod Starts
 pub mod Decrypts
-pub mod Verdicts
 pub mod OldTexts
 pub mod Resumes
 pub mod ResumeFaults

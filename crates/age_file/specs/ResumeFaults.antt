@@ -7,13 +7,12 @@ use Rattle.age_stanza.specs.declared.header.Header.{Header}
 use Rattle.age_stream.specs.declared.fault.StreamKind.TheVariants.{Truncated}
 use Rattle.age_stream.specs.declared.fault.StreamFault.{StreamFault}
 use Rattle.age_stream.specs.declared.step.Status.TheVariants.{Failed}
-use Rattle.age_stream.specs.Segment.{outcome}
 use Rattle.age_keys.specs.declared.fault.KeyFault.{KeyFault}
 use Rattle.age_file.specs.Faults.{HasRisen, IsByAllPulls, IsShort}
-use Rattle.age_file.specs.AgeFile.{unbox}
 use Rattle.age_file.specs.Bindings.{chain}
 use Rattle.age_file.specs.Starts.{StartFails}
-use Rattle.age_file.specs.Decrypts.{WritesNone, Told}
+use Rattle.age_file.specs.Runs.{Run, outcome_of, Reads, WritesNone, Told, IsDone}
+use Rattle.age_file.specs.Runs.{StopsInPayload, StopsWriting}
 use Rattle.age_file.specs.declared.position.Position.{Position}
 use Rattle.age_file.specs.declared.position.Positions.{Positions}
 use Rattle.age_file.specs.declared.decryption.Done.{Done}
@@ -24,9 +23,7 @@ use Rattle.age_file.specs.declared.fault.FileFault.TheVariants.{Write, ReadNever
 use Rattle.age_file.specs.declared.fault.FileFault.TheVariants.{PositionForged, OldTextDiffers}
 use Rattle.age_file.specs.Verdicts.{OpenedFile, HasId, HasTag}
 use Rattle.age_file.specs.OldTexts.{IsOldText}
-use Rattle.age_file.specs.Resumes.{ResumePorts, NoPortFailed, Reads, WritesOld, Resumption}
-use Rattle.age_file.specs.Resumes.{segment_at, IsResumption, ResumesOf, IsNextPosition, IsSame}
-use Rattle.age_file.specs.Resumes.{Accepts, Resumed, ResumeDone}
+use Rattle.age_file.specs.Resumes.{ResumePorts, NoPortFailed, WritesOld, IsFrom, Accepts, IsSame}
 
 -- the file and the old text, together, gave so much that they are taken for ones that never end
 abbrev pub NeverEnd : ResumePorts → ResumePorts → Type 0
@@ -50,29 +47,30 @@ module _ (Allows : Header → List ℕ → Type 0) (p : Position) where
 
   -- what a resumed decryption promises where it ended
   abbrev pub ResumeEnds : ResumePorts → ResumePorts → Done → Type 0
-  ResumeEnds old new done = (r : Resumption) × ResumeDone Allows p old new done.written r
+  ResumeEnds old new done = (r : Run) × IsFrom p old.old new.old r
+      × IsDone Allows old.main new.main done.written r × NoPortFailed old new
 
 module _ (keep : Positions) (Allows : Header → List ℕ → Type 0) (p : Position) where
-  -- a run that stopped in the blocks that are passed over, with the old text written and the
+  -- a run that stopped in the blocks that are skipped, with the old text written and the
   -- position that it began from
-  pub record StopsInPassed (old new : ResumePorts) (written : ℕ) (position : Option Position)
-      (passed : List ℕ) : Type 0 where
+  pub record StopsInSkipped (old new : ResumePorts) (written : ℕ) (position : Option Position)
+      (skipped : List ℕ) : Type 0 where
     pub file : OpenedFile
-    pub accepts : Accepts Allows p old.main.source.remaining new.main.source.remaining file passed
-    pub short : length passed < p.index * 65552
+    pub accepts : Accepts Allows p old.main.source.remaining new.main.source.remaining file skipped
+    pub short : length skipped < p.index * 65552
     pub copied : List ℕ
     pub old_text : IsOldText p copied
     pub writes : WritesOld p old new written copied
     pub here : Told keep (IsSame p) position
 
-  -- the source ended within the blocks that are passed over, after so many whole ones
-  pub record EndsInPassed (old new : ResumePorts) (written : ℕ) (position : Option Position)
+  -- the source ended within the blocks that are skipped, after so many whole ones
+  pub record EndsInSkipped (old new : ResumePorts) (written : ℕ) (position : Option Position)
       (fault : StreamFault) : Type 0 where
-    pub passed : List ℕ
-    pub stops : StopsInPassed old new written position passed
+    pub skipped : List ℕ
+    pub stops : StopsInSkipped old new written position skipped
     pub kind : fault.kind ≡ Truncated
-    pub least : fault.chunk * 65552 ≤ length passed
-    pub most : length passed < fault.chunk * 65552 + 65552
+    pub least : fault.chunk * 65552 ≤ length skipped
+    pub most : length skipped < fault.chunk * 65552 + 65552
     pub at_end : IsAtEnd new.main.source.remaining
 
   -- why a source or a sink failed, by where the run stood
@@ -82,10 +80,9 @@ module _ (keep : Positions) (Allows : Header → List ℕ → Type 0) (p : Posit
       (WritesNone old.main new.main written position
       × IsShort old.main.source.remaining new.main.source.remaining × Main)
       ⊎ ((s : StopsInOld Allows p old new written position) × (s.copied ≡ s.writes.pulled) × Old)
-      ⊎ ((passed : List ℕ) × StopsInPassed old new written position passed × Main)
-      ⊎ ((r : Resumption) × Resumed Allows p old new written r
-      × Told keep (IsNextPosition p r) position
-      × Main)
+      ⊎ ((skipped : List ℕ) × StopsInSkipped old new written position skipped × Main)
+      ⊎ ((r : Run) × IsFrom p old.old new.old r
+      × StopsInPayload keep Allows old.main new.main written position r × Main)
 
   -- when each fault comes, and what was written then
   abbrev pub ResumeFails : (Header → KeyFault → Type 0) → ResumePorts → ResumePorts → ℕ
@@ -106,15 +103,15 @@ module _ (keep : Positions) (Allows : Header → List ℕ → Type 0) (p : Posit
       × (copied : List ℕ) × WritesOld p old new written copied × (length copied ≡ p.index * 65536)
       × (chain (first_chunks 65536 p.index copied) ≢ p.chain)
   ResumeFails Refused old new written position (Stream fault) =
-      (EndsInPassed old new written position fault
-      ⊎ ((r : Resumption) × Resumed Allows p old new written r
-      × Told keep (IsNextPosition p r) position
-      × ((outcome (unbox r.file.key r.file.nonce) 65536 (segment_at p r)).status ≡ Failed fault)))
+      (EndsInSkipped old new written position fault
+      ⊎ ((r : Run) × IsFrom p old.old new.old r
+      × StopsInPayload keep Allows old.main new.main written position r
+      × ((outcome_of r).status ≡ Failed fault)))
       × NoPortFailed old new
   ResumeFails Refused old new written position Write =
       (StopsInOld Allows p old new written position
-      ⊎ ((r : Resumption) × IsResumption Allows p old new written r × ResumesOf p r
-      × Told keep (IsNextPosition p r) position))
+      ⊎ ((r : Run) × IsFrom p old.old new.old r
+      × StopsWriting keep Allows old.main new.main written position r))
       × HasRisen old.main.sink.failed new.main.sink.failed
   ResumeFails Refused old new written position Read =
       FailsAt (HasRisen old.main.source.failed new.main.source.failed)

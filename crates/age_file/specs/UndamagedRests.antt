@@ -15,7 +15,12 @@ use Rattle.age_file.specs.OldTexts.{BeginsWith}
 -- a whole file, as one that was opened
 abbrev pub opened : {Allows : Header → List ℕ → Type 0} {Refused : Header → KeyFault → Type 0}
     {coming : Option (List ℕ)} {text : List ℕ} → IsWhole Allows Refused coming text → OpenedFile
-opened w = record { header = w.header; front = w.file.front; key = w.key; nonce = w.nonce }
+opened w = record {
+  header = w.header;
+  header_bytes = w.file.front;
+  key = w.key;
+  nonce = w.nonce;
+}
 
 -- the source is an age file of this text, and the unlocker has its key and no other; the position
 -- is this file's, of a chunk that the text has, and carries its chain; the old text is the text's

@@ -8,7 +8,7 @@ use Rattle.age_file.specs.declared.position.Position.{Position}
 -- a file whose header was opened and whose nonce was read
 pub record OpenedFile : Type 0 where
   pub header : Header
-  pub front : List ℕ
+  pub header_bytes : List ℕ
   pub key : List ℕ
   pub nonce : List ℕ
 
@@ -18,7 +18,7 @@ IsTagged p key nonce = p.tag ≡ position_tag (position_key key nonce) p.index p
 
 -- the id of a position is the file's, and its tag was made under the file's key
 abbrev pub HasId : Position → OpenedFile → Type 0
-HasId p f = p.file_id ≡ file_id f.front f.nonce
+HasId p f = p.file_id ≡ file_id f.header_bytes f.nonce
 
 abbrev pub HasTag : Position → OpenedFile → Type 0
 HasTag p f = IsTagged p f.key f.nonce

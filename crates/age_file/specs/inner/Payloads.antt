@@ -16,7 +16,7 @@ use Rattle.age_file.specs.inner.Releases.{Tally}
 use Rattle.age_file.specs.inner.Bindings.{chain_if}
 use Rattle.age_file.specs.inner.Counts.{HasCounted}
 use Rattle.age_file.specs.declared.position.Positions.{Positions}
-use Rattle.age_file.specs.Decrypts.{segment}
+use Rattle.age_file.specs.Runs.{segment}
 use Rattle.age_file.specs.declared.fault.FileFault.{FileFault}
 use Rattle.age_file.specs.declared.fault.FileFault.TheVariants.{Stream, Read, Write, ReadNeverEnds}
 

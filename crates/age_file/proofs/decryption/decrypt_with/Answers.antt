@@ -49,9 +49,9 @@ returns-in-Ok-decrypt_payload g c =
     ports_last g.S.Source.view g.O.Sink.view (λ p. Decrypts c.args.positions Allows Refused before p (Ok (record { written = c.decrypt_payload.new.writer.progress.written })))
     _ c.decrypt_payload.new.reader.source.now _ c.decrypt_payload.new.writer.sink.now (search rules) (search rules)
     (record {
-      done = (ran.run, done);
+      done = (ran.run, done.0, done.1, done.2);
       stopped = tt;
-      undamaged = λ text whole. undamaged_done c.one_header.ensures Allows Refused before after _ ran.run text whole done;
+      undamaged = λ text whole. undamaged_done c.one_header.ensures Allows Refused before after _ ran.run text whole done.0 done.1;
       settled = c.in-Ok-decrypt_payload.ensures.settled;
       named = c.in-Ok-decrypt_payload.ensures.decrypts.named;
     })

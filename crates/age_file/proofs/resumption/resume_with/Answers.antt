@@ -117,7 +117,7 @@ returns-in-Ok-open_rest g c =
     (record {
       done = done;
       stopped = tt;
-      undamaged = λ text whole. undamaged_rest_done c.one_header.ensures Allows Refused c.args.position.now old new text whole _ done.0 done.1;
+      undamaged = λ text whole. undamaged_rest_done c.one_header.ensures Allows Refused c.args.position.now old new text whole _ done.0 done.1 done.2;
       settled = c.in-Ok-open_rest.ensures.settled;
       named = resumed_label (λ nonce block. opening c.payload_key-key.result nonce [] block) c.args.position.now.index s1 s2 _ c.in-Ok-open_rest.ensures.resumes ∙ c.in-Ok-copy_old.ensures.copied.named;
     })

@@ -1,0 +1,144 @@
+-- Runs: what was read of an age file, and what was written. A decryption is a run that begins with
+-- chunk 0; a resumed one begins with the chunk of its position, after the old text. A chunk has
+-- 65,536 bytes, its block 65,552.
+use Rattle.std.specs.Prelude.{◌≡◌, ℕ, ◌*◌, ◌/◌, ◌≤◌, min, List, [], ◌++◌, length, take}
+use Rattle.std.specs.Prelude.{Option, None, IsSomeAnd, Bool, true, false}
+use Rattle.std.specs.Simd.{first_chunks}
+use Rattle.std.specs.Io.KnownBytes.{Consumes, Appends, IsAtEnd}
+use Rattle.age_stanza.specs.declared.header.Header.{Header}
+use Rattle.age_stanza.specs.Grammar.{HeadText}
+use Rattle.age_stream.specs.declared.step.Status.TheVariants.{Done}
+use Rattle.age_stream.specs.Payload.{chunk_count}
+use Rattle.age_stream.specs.Segment.{Segment, Outcome, outcome, released}
+use Rattle.age_stream.specs.Headline.{IsPrefixOf, IsAuthentic}
+use Rattle.age_keys.specs.Opened.{Opens}
+use Rattle.age_file.specs.AgeFile.{box, unbox}
+use Rattle.age_file.specs.Bindings.{chain}
+use Rattle.age_file.specs.Ports.{Ports}
+use Rattle.age_file.specs.Verdicts.{OpenedFile, HasId, HasTag}
+use Rattle.age_file.specs.declared.position.Position.{Position}
+use Rattle.age_file.specs.declared.position.Positions.{Positions}
+use Rattle.age_file.specs.declared.position.Positions.TheVariants.{Kept, Dropped}
+
+-- one piece from a start, with an end or without
+abbrev pub segment : ℕ → List ℕ → Bool → Segment
+segment start bytes ended = record { start = start; bytes = bytes; ended = ended; late = false }
+
+-- a run: the file that was opened, the chunk that the run begins with, the old text that was copied
+-- and the blocks that were skipped before it, the bytes that were read after them, whether the
+-- source ended there, and what was written after the old text
+pub record Run : Type 0 where
+  pub file : OpenedFile
+  pub first : ℕ
+  pub copied : List ℕ
+  pub skipped : List ℕ
+  pub bytes : List ℕ
+  pub ended : Bool
+  pub out : List ℕ
+
+-- it begins with the file's first chunk
+pub record IsFromStart (r : Run) : Type 0 where
+  pub zero : r.first ≡ 0
+  pub none_copied : r.copied ≡ []
+  pub none_skipped : r.skipped ≡ []
+
+abbrev pub segment_of : Run → Segment
+segment_of r = segment r.first r.bytes r.ended
+
+-- what the bytes come to, and the text that they release, each chunk of which opened
+abbrev pub outcome_of : Run → Outcome
+outcome_of r = outcome (unbox r.file.key r.file.nonce) 65536 (segment_of r)
+
+abbrev pub text_of : Run → List ℕ
+text_of r = released (unbox r.file.key r.file.nonce) 65536 (segment_of r)
+
+-- all that was written
+abbrev pub held : Run → List ℕ
+held r = r.copied ++ r.out
+
+-- these bytes were read of the file, and the rest after its nonce
+pub record Reads (Allows : Header → List ℕ → Type 0) (old new : Option (List ℕ)) (f : OpenedFile)
+    (rest : List ℕ) : Type 0 where
+  pub text : HeadText f.header f.header_bytes
+  pub opens : Opens Allows f.header f.key
+  pub size : length f.nonce ≡ 16
+  pub read : Consumes old new ((f.header_bytes ++ f.nonce) ++ rest)
+
+-- this run is what was read and written: so many bytes, which begin the text
+pub record IsRun (Allows : Header → List ℕ → Type 0) (old new : Ports) (written : ℕ) (r : Run)
+    : Type 0 where
+  pub reads : Reads Allows old.source.remaining new.source.remaining r.file (r.skipped ++ r.bytes)
+  pub copied_size : length r.copied ≡ r.first * 65536
+  pub skipped_size : length r.skipped ≡ r.first * 65552
+  pub at_end : r.ended ≡ true → IsAtEnd new.source.remaining
+  pub wrote : Appends old.sink.taken new.sink.taken (held r)
+  pub count : written ≡ length (held r)
+  pub prefix : IsPrefixOf r.out (text_of r)
+
+-- no block that came and is tried opens, except as the writer of this text sealed it
+abbrev pub IsTexts : List ℕ → Run → Type 0
+IsTexts text r = IsAuthentic (box r.file.key r.file.nonce) (unbox r.file.key r.file.nonce) 65536
+    text (segment_of r)
+
+-- and the old text is that text's before the chunk that the run begins with
+pub record IsAuthenticRun (r : Run) (text : List ℕ) : Type 0 where
+  pub few : chunk_count 65536 text ≤ 281474976710656
+  pub within : r.first * 65536 ≤ length text
+  pub old_text : r.copied ≡ take (r.first * 65536) text
+  pub authentic : IsTexts text r
+
+-- then what was written begins that text, or is all of it
+abbrev pub WritesOf : Run → Type 0
+WritesOf r = (text : List ℕ) → IsAuthenticRun r text → IsPrefixOf (held r) text
+
+abbrev pub WritesAll : Run → Type 0
+WritesAll r = (text : List ℕ) → IsAuthenticRun r text → held r ≡ text
+
+-- a position stands after chunks of a text, and carries the chain over them
+abbrev pub CarriesText : List ℕ → Position → Type 0
+CarriesText text p = (p.index * 65536 ≤ length text)
+    × (p.chain ≡ chain (first_chunks 65536 p.index text))
+
+-- where a reader may go on: the whole chunks that were written, copied or released as not last,
+-- with the file's id, the chain over those chunks, and the tag; of an authentic run, that chain is
+-- the text's
+pub record IsPositionOf (r : Run) (p : Position) : Type 0 where
+  pub index : p.index ≡ min (length (held r) / 65536) (outcome_of r).index
+  pub own : HasId p r.file
+  pub chain_is : p.chain ≡ chain (first_chunks 65536 p.index (held r))
+  pub tagged : HasTag p r.file
+  pub carries : (text : List ℕ) → IsAuthenticRun r text → CarriesText text p
+
+-- a position is told where positions are kept, and none where they are dropped
+abbrev pub Told : Positions → (Position → Type 0) → Option Position → Type 0
+Told Kept Is position = IsSomeAnd position Is
+Told Dropped Is position = position ≡ None
+
+-- nothing was written, and there is no position
+abbrev pub WritesNone : Ports → Ports → ℕ → Option Position → Type 0
+WritesNone old new written position = Appends old.sink.taken new.sink.taken [] × (written ≡ 0)
+    × (position ≡ None)
+
+module _ (Allows : Header → List ℕ → Type 0) where
+  -- a run of which all text was written
+  pub record Wrote (old new : Ports) (written : ℕ) (r : Run) : Type 0 where
+    pub is : IsRun Allows old new written r
+    pub whole : r.out ≡ text_of r
+    pub of : WritesOf r
+
+  -- and of which the source ended, and the end is reported
+  pub record IsDone (old new : Ports) (written : ℕ) (r : Run) : Type 0 where
+    pub wrote : Wrote old new written r
+    pub ended : r.ended ≡ true
+    pub done : (outcome_of r).status ≡ Done
+    pub all : WritesAll r
+
+module _ (keep : Positions) (Allows : Header → List ℕ → Type 0) where
+  -- a run that stopped in its payload: all text was written, or so much as the sink took
+  abbrev pub StopsInPayload : Ports → Ports → ℕ → Option Position → Run → Type 0
+  StopsInPayload old new written position r = Wrote Allows old new written r
+      × Told keep (IsPositionOf r) position
+
+  abbrev pub StopsWriting : Ports → Ports → ℕ → Option Position → Run → Type 0
+  StopsWriting old new written position r = IsRun Allows old new written r × WritesOf r
+      × Told keep (IsPositionOf r) position
