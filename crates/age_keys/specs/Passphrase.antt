@@ -1,6 +1,7 @@
 -- What a passphrase finds in a header, and what it refuses.
 use Rattle.std.specs.Prelude.{◌≡◌, ◌≢◌, ℕ, ◌<◌, ◌≤◌, true, false, List, length}
 use Rattle.age_stanza.specs.declared.header.Header.{Header}
+use Rattle.age_scrypt.specs.Scrypt.{work_factor_limit}
 use Rattle.age_keys.specs.declared.fault.KeyFault.{KeyFault}
 use Rattle.age_keys.specs.declared.fault.KeyFault.TheVariants.{ScryptNotAlone, BadScrypt}
 use Rattle.age_keys.specs.declared.fault.KeyFault.TheVariants.{WorkTooHigh, NoMatch, WrongKey}
@@ -13,12 +14,16 @@ pub record Words : Type 0 where
   pub pass : List ℕ
   pub max_log : ℕ
 
--- 1 to 65,536 bytes, and a limit of 1 to 22
+-- the greatest length of a passphrase in bytes (a limit of this library: the standard sets none)
+abbrev pub passphrase_limit : ℕ
+passphrase_limit = 65536
+
+-- a passphrase that is neither empty nor too long, and a work factor that may be allowed
 pub record IsAllowed (pass : List ℕ) (max_log : ℕ) : Type 0 where
   pub some : 1 ≤ length pass
-  pub most : length pass ≤ 65536
+  pub most : length pass ≤ passphrase_limit
   pub least_log : 1 ≤ max_log
-  pub most_log : max_log ≤ 22
+  pub most_log : max_log ≤ work_factor_limit
 
 -- the key in the body of the header's one scrypt stanza, wrapped under the passphrase
 pub record IsPassphraseKey (w : Words) (h : Header) (key : List ℕ) : Type 0 where
