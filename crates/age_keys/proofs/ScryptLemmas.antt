@@ -67,11 +67,15 @@ scrypt_valid salt body log size fits body_fits few =
     let characters : 0 < length (text salt) = omega (arith, length-text salt) in
     record {
       some_argument = omega arith;
-      arguments = ((omega arith, visible_from_test (codes "scrypt") refl), ((characters, text_visible salt fits), ((numeral.0, digits_visible (decimal log) numeral.1), tt)));
+      arguments = (
+        (omega arith, visible_from_test (codes "scrypt") refl),
+        ((characters, text_visible salt fits), ((numeral.0, digits_visible (decimal log) numeral.1), tt)),
+      );
       body = body_fits;
     }
 
-three_arguments : (a b c body : List ℕ) → length (stanza_text (record { args = a ∷ b ∷ c ∷ []; body = body })) ≡ length a + length b + length c + length (in_lines 0 (text body)) + 6
+three_arguments : (a b c body : List ℕ) → length (stanza_text (record { args = a ∷ b ∷ c ∷ []; body = body }))
+    ≡ length a + length b + length c + length (in_lines 0 (text body)) + 6
 three_arguments a b c body =
     let lines : List ℕ = in_lines 0 (text body) in
     let args : List ℕ = flat_map (λ x. 32 ∷ x) (a ∷ b ∷ c ∷ []) in
@@ -97,7 +101,8 @@ size_of_one s mac long =
     length-head (record { stanzas = s ∷ []; mac = mac }) long
     ∙ ap (λ n. n + 70) (omega (arith, length-append (stanza_text s) []))
 
-pub scrypt_has_text : (salt body mac : List ℕ) (log : ℕ) → length salt ≡ 16 → IsBytes salt → length body ≡ 32 → IsBytes body → log ≤ 22 → length mac ≡ 32 → IsBytes mac
+pub scrypt_has_text : (salt body mac : List ℕ) (log : ℕ) → length salt ≡ 16 → IsBytes salt → length body ≡ 32 → IsBytes body → log ≤ 22 → length mac
+    ≡ 32 → IsBytes mac
     → HasText (record { stanzas = scrypt_stanza salt log body ∷ []; mac = mac })
 scrypt_has_text salt body mac log size fits body_size body_fits few mac_size mac_fits =
     let h : Header = record { stanzas = scrypt_stanza salt log body ∷ []; mac = mac } in
@@ -106,7 +111,12 @@ scrypt_has_text salt body mac log size fits body_size body_fits few mac_size mac
       head_text h,
       record {
         spells = record {
-          valid = record { some_stanza = omega arith; stanzas = (scrypt_valid salt body log size fits body_fits few, tt); mac_length = mac_size; mac = mac_fits };
+          valid = record {
+            some_stanza = omega arith;
+            stanzas = (scrypt_valid salt body log size fits body_fits few, tt);
+            mac_length = mac_size;
+            mac = mac_fits;
+          };
           bytes_are = refl;
         };
         within = omega arith;

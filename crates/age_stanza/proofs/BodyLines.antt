@@ -18,15 +18,18 @@ pub last_line : (body : List ℕ) → length body < 48 → in_lines 0 (text body
 last_line body lt = in_lines-short 0 (text body) (omega (arith, length-text body))
 
 -- a line more is written
-pub line_written : (out put next all rest : List ℕ) → 48 ≤ length rest → put ≡ out ++ text (take 48 rest) → next ≡ put ++ 10 ∷ [] → out ++ in_lines 0 (text rest) ≡ all
+pub line_written : (out put next all rest : List ℕ) → 48 ≤ length rest → put ≡ out ++ text (take 48 rest) → next ≡ put ++ 10 ∷ []
+    → out ++ in_lines 0 (text rest) ≡ all
     → next ++ in_lines 0 (text (drop 48 rest)) ≡ all
 line_written out put next all rest le puts pushes same =
     let behind = in_lines 0 (text (drop 48 rest)) in
     let grouped : next ++ behind ≡ out ++ (line (text (take 48 rest)) ++ behind) =
-    ap (λ (t : List ℕ). t ++ behind) (pushes ∙ ap (λ (t : List ℕ). t ++ 10 ∷ []) puts ∙ append_assoc out (text (take 48 rest)) (10 ∷ [])) ∙ append_assoc out (line (text (take 48 rest))) behind in
+    ap (λ (t : List ℕ). t ++ behind) (pushes ∙ ap (λ (t : List ℕ). t ++ 10 ∷ []) puts ∙ append_assoc out (text (take 48 rest)) (10 ∷ []))
+    ∙ append_assoc out (line (text (take 48 rest))) behind in
     grouped ∙ ap (λ (t : List ℕ). out ++ t) (sym (full_line rest le)) ∙ same
 
 -- the last line is written
-pub last_written : (out put next all rest : List ℕ) → length rest < 48 → put ≡ out ++ text rest → next ≡ put ++ 10 ∷ [] → out ++ in_lines 0 (text rest) ≡ all → next ≡ all
+pub last_written : (out put next all rest : List ℕ) → length rest < 48 → put ≡ out ++ text rest → next ≡ put ++ 10 ∷ [] → out ++ in_lines 0 (text rest)
+    ≡ all → next ≡ all
 last_written out put next all rest lt puts pushes same =
     pushes ∙ ap (λ (t : List ℕ). t ++ 10 ∷ []) puts ∙ append_assoc out (text rest) (10 ∷ []) ∙ ap (λ (t : List ℕ). out ++ t) (sym (last_line rest lt)) ∙ same

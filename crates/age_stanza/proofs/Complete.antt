@@ -56,12 +56,14 @@ pub step_version : step Start version ≡ Ok (Go (Between []))
 unfolding step
 step_version = refl
 
-step_end : (ss : List Stanza) (mac : List ℕ) → 0 < length ss → length mac ≡ 32 → IsBytes mac → step (Between ss) (end_line mac) ≡ Ok (Done (record { stanzas = ss; mac = mac }))
+step_end : (ss : List Stanza) (mac : List ℕ) → 0 < length ss → length mac ≡ 32 → IsBytes mac → step (Between ss) (end_line mac)
+    ≡ Ok (Done (record { stanzas = ss; mac = mac }))
 unfolding step
 step_end [] mac some long fits = absurd (omega arith)
 step_end (s ∷ ss) mac some long fits = rw (read_end_line mac long fits) refl
 
-step_arguments : (ss : List Stanza) (args : List (List ℕ)) → 0 < length args → AllByRecursion IsArgument args → step (Between ss) (argument_line args) ≡ Ok (Go (InBody ss args []))
+step_arguments : (ss : List Stanza) (args : List (List ℕ)) → 0 < length args → AllByRecursion IsArgument args → step (Between ss) (argument_line args)
+    ≡ Ok (Go (InBody ss args []))
 unfolding step
 step_arguments ss [] some valid = absurd (omega arith)
 step_arguments ss (a ∷ args) some valid = rw (read_argument_line (a ∷ args) some valid) refl
@@ -82,7 +84,8 @@ abbrev PassesBody : List Stanza → List (List ℕ) → List ℕ → List ℕ �
 PassesBody ss args body rest n cs = (m : ℕ) × (walk (InBody ss args body) n [] (in_lines 0 (text rest) ++ cs)
     ≡ walk (Between (ss ++ (record { args = args; body = body ++ rest }) ∷ [])) m [] cs)
 
-last_body : (ss : List Stanza) (args : List (List ℕ)) (body rest : List ℕ) (n : ℕ) (cs : List ℕ) → length rest < 48 → IsBytes rest → PassesBody ss args body rest n cs
+last_body : (ss : List Stanza) (args : List (List ℕ)) (body rest : List ℕ) (n : ℕ) (cs : List ℕ) → length rest < 48 → IsBytes rest
+    → PassesBody ss args body rest n cs
 last_body ss args body rest n cs lt fits =
     let short : length (text rest) < 64 = omega (arith, length-text rest) in (
       n + 1,
@@ -95,11 +98,14 @@ full_body : (ss : List Stanza) (args : List (List ℕ)) (body a b : List ℕ) (n
 full_body ss args body a b n cs len fits on =
     let long : length (text a) ≡ 64 = omega (arith, length-text a) in
     let whole : length a % 3 ≡ 0 = omega arith in
-    let cut : in_lines 0 (text (a ++ b)) ≡ line (text a) ++ in_lines 0 (text b) = rw (text-append a b whole) (in_lines-full 0 (text a) (text b) (omega arith) (omega arith)) in
-    let one = walk_go (InBody ss args body) (InBody ss args (body ++ a)) n (text a) (in_lines 0 (text b) ++ cs) (text_line a) (step_full ss args body (text a) a long (decoded-text a fits)) in
+    let cut : in_lines 0 (text (a ++ b)) ≡ line (text a) ++ in_lines 0 (text b) = rw (text-append a b whole)
+    (in_lines-full 0 (text a) (text b) (omega arith) (omega arith)) in
+    let one = walk_go (InBody ss args body) (InBody ss args (body ++ a)) n (text a) (in_lines 0 (text b) ++ cs) (text_line a)
+    (step_full ss args body (text a) a long (decoded-text a fits)) in
     (on.0, rw (cut, append_assoc (line (text a))) (one ∙ rw append_assoc at on.1))
 
-pub body_walk : (fuel : ℕ) (ss : List Stanza) (args : List (List ℕ)) (body rest : List ℕ) (n : ℕ) (cs : List ℕ) → length rest ≤ fuel → IsBytes rest → PassesBody ss args body rest n cs
+pub body_walk : (fuel : ℕ) (ss : List Stanza) (args : List (List ℕ)) (body rest : List ℕ) (n : ℕ) (cs : List ℕ) → length rest ≤ fuel → IsBytes rest
+    → PassesBody ss args body rest n cs
 body_walk zero ss args body rest n cs le fits = last_body ss args body rest n cs (omega arith) fits
 body_walk (suc fuel) ss args body rest n cs le fits = elim (cases_lt (length rest) 48) [
   | inl lt ↦ last_body ss args body rest n cs lt fits
@@ -127,15 +133,19 @@ stanzas_reach (s ∷ more) ss n rest valid =
     let one = walk_go (Between ss) (InBody ss s.args []) n (argument_line s.args) (in_lines 0 (text s.body) ++ (flat_map stanza_text more ++ rest))
     (argument_line_line s.args valid.0.arguments) (step_arguments ss s.args valid.0.some_argument valid.0.arguments) in
     let two = body_walk (length s.body) ss s.args [] s.body (n + 1) (flat_map stanza_text more ++ rest) (omega arith) valid.0.body in
-    let three = stanzas_reach more (ss ++ s ∷ []) two.0 rest valid.1 in
-    (three.0, ap (walk (Between ss) n []) apart ∙ one ∙ two.1 ∙ three.1 ∙ ap (λ (x : List Stanza). walk (Between x) three.0 [] rest) (append_assoc ss (s ∷ []) more))
+    let three = stanzas_reach more (ss ++ s ∷ []) two.0 rest valid.1 in (
+      three.0,
+      ap (walk (Between ss) n []) apart ∙ one ∙ two.1 ∙ three.1 ∙ ap (λ (x : List Stanza). walk (Between x) three.0 [] rest)
+          (append_assoc ss (s ∷ []) more),
+    )
 
 stanzas_walk : (more ss : List Stanza) (n : ℕ) (mac rest : List ℕ) → 0 < length (ss ++ more) → AllByRecursion IsStanza more → length mac ≡ 32 → IsBytes mac
     → walk (Between ss) n [] (tail_text more mac ++ rest) ≡ ready (record { stanzas = ss ++ more; mac = mac }) rest
 stanzas_walk more ss n mac rest some valid long fits =
     let reach = stanzas_reach more ss n (line (end_line mac) ++ rest) valid in
     ap (walk (Between ss) n []) (append_assoc (flat_map stanza_text more) (line (end_line mac)) rest) ∙ reach.1
-    ∙ walk_done (Between (ss ++ more)) (record { stanzas = ss ++ more; mac = mac }) reach.0 (end_line mac) rest (end_line_line mac) (step_end (ss ++ more) mac some long fits)
+    ∙ walk_done (Between (ss ++ more)) (record { stanzas = ss ++ more; mac = mac }) reach.0 (end_line mac) rest (end_line_line mac)
+    (step_end (ss ++ more) mac some long fits)
 
 -- ---- a walk over a header's text
 

@@ -90,7 +90,8 @@ pub text-three : (a b c : ℕ) (rest : List ℕ)
 unfolding encode_symbols
 text-three a b c rest =
     text-symbols (a ∷ b ∷ c ∷ rest)
-    ∙ ap (λ (more : List ℕ). character (a / 4) ∷ character (a % 4 * 16 + b / 16) ∷ character (b % 16 * 4 + c / 64) ∷ character (c % 64) ∷ more) (sym (text-symbols rest))
+    ∙ ap (λ (more : List ℕ). character (a / 4) ∷ character (a % 4 * 16 + b / 16) ∷ character (b % 16 * 4 + c / 64) ∷ character (c % 64) ∷ more)
+    (sym (text-symbols rest))
 
 pub length-text : (m : List ℕ) → length (text m) ≡ (4 * length m + 2) / 3
 length-text m = ap length (text-symbols m) ∙ length-encode_symbols the_symbols m

@@ -20,7 +20,8 @@ returns-in-Ok-clause-read c =
 pub returns-in_default-clause-refused : goal.returns-in_default-clause-refused
 returns-in_default-clause-refused c = λ other fits len is.
     let ok = c.in-Ok.ensures.ok in
-    let n = decoded_size c.args.characters.now other c.decode_slice_unchecked.new.output c.in-Ok.len (omega (arith, ok.2, c.decode_slice_unchecked.auto.output)) ok.0 fits is in
+    let n = decoded_size c.args.characters.now other c.decode_slice_unchecked.new.output c.in-Ok.len (omega (arith, ok.2, c.decode_slice_unchecked.auto.output))
+    ok.0 fits is in
     c.if-len-bytes.false (n ∙ len)
 
 pub returns-in_default-2-clause-refused : goal.returns-in_default-2-clause-refused
