@@ -33,9 +33,9 @@ pub struct Passphrase<'a> {
 }
 
 impl<'a> Model for Passphrase<'a> {
-    ghost use Rattle.age_keys.specs.Passphrase.{Words, IsAllowed};
+    ghost use Rattle.age_keys.specs.Passphrase.{PassphraseIdentity, IsAllowed};
 
-    ghost Value = { Words };
+    ghost Value = { PassphraseIdentity };
 
     ghost view = { λ p. record { pass = p.bytes.now; max_log = p.max_log } };
 

@@ -19,7 +19,7 @@ use Rattle.age_stanza.specs.declared.place.Place.{Place}
 use Rattle.age_stanza.specs.declared.place.Place.TheVariants.{Start, Between, InBody}
 use Rattle.age_stanza.specs.declared.place.Next.{Next}
 use Rattle.age_stanza.specs.declared.place.Next.TheVariants.{Go, Done}
-use Rattle.age_stanza.specs.Text.{text}
+use Rattle.age_stanza.specs.Text.{base64_text}
 use Rattle.age_stanza.specs.inner.LineMachine.{base64_bytes, unfinished, ready, faulty, walk, after, step, end_line_result, argument_line_result}
 use Rattle.age_stanza.specs.inner.LineMachine.{body_line_result, arguments_of, mac_of, fault_at}
 use Rattle.age_stanza.specs.Grammar.{line, version, in_lines, stanza_text, end_line, head_text, IsStanza, IsHeader}
@@ -66,7 +66,7 @@ completes (Between ss) known =
 completes (InBody ss args body) known =
     let s : Stanza = record { args = args; body = body ++ [] } in
     let valid : IsStanza s = record { some_argument = known.1; arguments = known.2; body = IsBytes-append body [] known.3 no_bytes } in
-    (record { stanzas = ss ++ s ∷ []; mac = zeros }, in_lines 0 (text []) ++ tail_text [] zeros, pushed_valid ss s known.0 valid, ([], [], refl, refl))
+    (record { stanzas = ss ++ s ∷ []; mac = zeros }, in_lines 0 (base64_text []) ++ tail_text [] zeros, pushed_valid ss s known.0 valid, ([], [], refl, refl))
 
 -- ---- where a walk stands behind whole lines
 
@@ -252,7 +252,7 @@ told_begun ss kind None e = cc
 told_begun ss kind (Some args) e = absurd cc
 
 end_starts : (l : List ℕ) → IsEndLine l → starts_with nat_eq l (codes "---") ≡ true
-end_starts l has = starts_from l (codes "---") (32 ∷ text has.0) has.3
+end_starts l has = starts_from l (codes "---") (32 ∷ base64_text has.0) has.3
 
 true_false : (b : Bool) → b ≡ true → b ≡ false → ⊥
 true_false b t f = cc

@@ -11,7 +11,7 @@ use Rattle.std.proofs.lemmas.Slice.Eq.{starts_is}
 use Rattle.std.proofs.lemmas.Option.{cond_some}
 use Rattle.base64.specs.GeneralPurpose.{IsBytes}
 use Rattle.age_stanza.specs.inner.LineMachine.{base64_bytes, arguments_from, arguments_of, mac_of, whole_mac}
-use Rattle.age_stanza.specs.Text.{text}
+use Rattle.age_stanza.specs.Text.{base64_text}
 use Rattle.age_stanza.specs.Grammar.{line, IsArgument, argument_line, in_lines, end_line}
 use Rattle.age_stanza.proofs.Texts.{text_of_decoded, decoded-text, IsBytes-drop}
 
@@ -245,7 +245,7 @@ pub no_end_line : (l : List ℕ) → starts_with nat_eq l (codes "--- ") ≡ fal
 unfolding mac_of
 no_end_line l e = rw e refl
 
-pub mac_is : (l mac : List ℕ) → starts_with nat_eq l (codes "--- ") ≡ true → drop 4 l ≡ text mac → length mac ≡ 32 → IsBytes mac → Some mac ≡ mac_of l
+pub mac_is : (l mac : List ℕ) → starts_with nat_eq l (codes "--- ") ≡ true → drop 4 l ≡ base64_text mac → length mac ≡ 32 → IsBytes mac → Some mac ≡ mac_of l
 mac_is l mac starts is long fits =
     let whole : l ≡ end_line mac = starts_at l (codes "--- ") starts ∙ ap (λ (xs : List ℕ). codes "--- " ++ xs) is in
     sym (ap mac_of whole ∙ read_end_line mac long fits)
@@ -254,7 +254,7 @@ none_unless : (o : Option (List ℕ)) → ((mac : List ℕ) → o ≡ Some mac �
 none_unless None never = refl
 none_unless (Some mac) never = absurd (never mac refl)
 
-pub no_mac : (l : List ℕ) → IsBytes l → ((mac : List ℕ) → IsBytes mac → length mac ≡ 32 → drop 4 l ≡ text mac → ⊥) → None ≡ mac_of l
+pub no_mac : (l : List ℕ) → IsBytes l → ((mac : List ℕ) → IsBytes mac → length mac ≡ 32 → drop 4 l ≡ base64_text mac → ⊥) → None ≡ mac_of l
 no_mac l fits never =
     none_unless (mac_of l)
     (λ mac e.

@@ -10,7 +10,7 @@ use Rattle.std.proofs.lemmas.List.{length-append, drop_more, drop_all}
 use Rattle.base64.specs.GeneralPurpose.{IsBytes}
 use Rattle.age_stanza.specs.declared.header.Stanza.{Stanza}
 use Rattle.age_stanza.specs.declared.header.Header.{Header}
-use Rattle.age_stanza.specs.Text.{text}
+use Rattle.age_stanza.specs.Text.{base64_text}
 use Rattle.age_stanza.specs.inner.Lengths.{HasArguments, Leaves, IsTextLength}
 use Rattle.age_stanza.specs.Grammar.{line, version, in_lines, stanza_text, end_line, head_text, IsStanza, HasText}
 use Rattle.age_stanza.proofs.Lines.{chosen}
@@ -46,9 +46,9 @@ length-in_lines k (c ∷ cs) lt = elim (in_lines-cases k c cs) [
       omega arith
 ]
 
-pub length-body : (body : List ℕ) → length (in_lines 0 (text body)) ≡ (4 * length body + 2) / 3 + (4 * length body + 2) / 3 / 64 + 1
+pub length-body : (body : List ℕ) → length (in_lines 0 (base64_text body)) ≡ (4 * length body + 2) / 3 + (4 * length body + 2) / 3 / 64 + 1
 length-body body =
-    let lines = length-in_lines 0 (text body) (omega arith) in
+    let lines = length-in_lines 0 (base64_text body) (omega arith) in
     let size = length-text body in
     omega arith
 

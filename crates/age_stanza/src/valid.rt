@@ -5,7 +5,7 @@ ghost use Rattle.std.specs.Prelude.{◌&&◌, IsTrue, length};
 ghost use Rattle.std.specs.Prelude.{nat_le};
 ghost use Rattle.std.specs.List.{flat_map, list_all};
 ghost use Rattle.base64.specs.GeneralPurpose.{IsBytes};
-ghost use Rattle.age_stanza.specs.Text.{text};
+ghost use Rattle.age_stanza.specs.Text.{base64_text};
 ghost use Rattle.age_stanza.specs.Grammar.{IsArgument, HasText, in_lines, header_limit};
 ghost use Rattle.age_stanza.specs.inner.Lengths.{HasArguments, Leaves, LeavesAfterStanza};
 ghost use Rattle.age_stanza.specs.inner.Lengths.{IsTextLength};
@@ -51,7 +51,7 @@ fn room_after_arguments(room: usize, args: &[Argument]) -> Option<usize>
 /// How many characters the text of some bytes has.
 fn characters_of(bytes: &[u8]) -> usize
     requires { length bytes.now ≤ header_limit }
-    ensures len { result ≡ length (text bytes.now) }
+    ensures len { result ≡ length (base64_text bytes.now) }
     ensures value { result ≡ (4 * length bytes.now + 2) / 3 }
     ensures bytes { IsBytes bytes.now }
 {
@@ -61,7 +61,7 @@ fn characters_of(bytes: &[u8]) -> usize
 /// What a body's text leaves of some room.
 fn room_after_body(room: usize, body: &[u8]) -> Option<usize>
     requires { room ≤ header_limit }
-    ensures leaves { Leaves room (length (in_lines 0 (text body.now))) result }
+    ensures leaves { Leaves room (length (in_lines 0 (base64_text body.now))) result }
     ensures bytes { IsBytes body.now }
 {
     if room < body.len() {
