@@ -10,6 +10,7 @@ use Rattle.age_keys.specs.Scrypt.{scrypt_head}
 -- limit allows the work factor
 abbrev pub PassphraseOpens : Type 0
 PassphraseOpens =
-    (w : PassphraseIdentity) (log : ℕ) (salt key : List ℕ) → 1 ≤ log → log ≤ work_factor_limit → log ≤ w.max_log
+    (w : PassphraseIdentity) (log : ℕ) (salt key : List ℕ) → 1 ≤ log
+    → log ≤ work_factor_limit → log ≤ w.max_log
     → length salt ≡ 16 → IsBytes salt → length key ≡ 16
     → AllowsAlone (IsPassphraseKey w) (PassphraseRefuses w) (scrypt_head w.pass log salt key) key

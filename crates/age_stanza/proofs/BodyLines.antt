@@ -6,7 +6,8 @@ use Rattle.age_stanza.specs.Grammar.{line, in_lines}
 use Rattle.age_stanza.proofs.Texts.{text-append, length-text}
 use Rattle.age_stanza.proofs.Lines.{in_lines-full, in_lines-short}
 
-pub full_line : (body : List ℕ) → 48 ≤ length body → in_lines 0 (base64_text body) ≡ line (base64_text (take 48 body)) ++ in_lines 0 (base64_text (drop 48 body))
+pub full_line : (body : List ℕ) → 48 ≤ length body → in_lines 0 (base64_text body)
+    ≡ line (base64_text (take 48 body)) ++ in_lines 0 (base64_text (drop 48 body))
 full_line body le =
     let len : length (take 48 body) ≡ 48 = omega (arith, length-take 48 body) in
     let long : length (base64_text (take 48 body)) ≡ 64 = omega (arith, length-text (take 48 body)) in
@@ -29,7 +30,9 @@ line_written out put next all rest le puts pushes same =
     grouped ∙ ap (λ (t : List ℕ). out ++ t) (sym (full_line rest le)) ∙ same
 
 -- the last line is written
-pub last_written : (out put next all rest : List ℕ) → length rest < 48 → put ≡ out ++ base64_text rest → next ≡ put ++ 10 ∷ [] → out ++ in_lines 0 (base64_text rest)
+pub last_written : (out put next all rest : List ℕ) → length rest < 48 → put ≡ out ++ base64_text rest → next ≡ put ++ 10 ∷ []
+    → out ++ in_lines 0 (base64_text rest)
     ≡ all → next ≡ all
 last_written out put next all rest lt puts pushes same =
-    pushes ∙ ap (λ (t : List ℕ). t ++ 10 ∷ []) puts ∙ append_assoc out (base64_text rest) (10 ∷ []) ∙ ap (λ (t : List ℕ). out ++ t) (sym (last_line rest lt)) ∙ same
+    pushes ∙ ap (λ (t : List ℕ). t ++ 10 ∷ []) puts ∙ append_assoc out (base64_text rest) (10 ∷ []) ∙ ap (λ (t : List ℕ). out ++ t) (sym (last_line rest lt))
+    ∙ same

@@ -90,7 +90,8 @@ last_body ss args body rest n cs lt fits =
     let short : length (base64_text rest) < 64 = omega (arith, length-text rest) in (
       n + 1,
       rw (in_lines-short 0 (base64_text rest) (omega arith))
-          (walk_go (InBody ss args body) _ n (base64_text rest) cs (text_line rest) (step_last ss args body (base64_text rest) rest short (decoded-text rest fits))),
+          (walk_go (InBody ss args body) _ n (base64_text rest) cs (text_line rest) (step_last ss args body (base64_text rest) rest short
+          (decoded-text rest fits))),
     )
 
 full_body : (ss : List Stanza) (args : List (List ℕ)) (body a b : List ℕ) (n : ℕ) (cs : List ℕ) → length a ≡ 48 → IsBytes a

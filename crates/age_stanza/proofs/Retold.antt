@@ -92,7 +92,8 @@ retells_continued ss args body l next true (Some more) whole fits le long is e =
     let third : length body % 3 ≡ 0 = omega arith in
     let lines : (0 + length (base64_text body)) % 64 ≡ 0 = omega (arith, length-text body) in
     let joined : whole_lines 0 (base64_text (body ++ more)) ≡ whole_lines 0 (base64_text body) ++ line l =
-    ap (whole_lines 0) (text-append body more third ∙ ap (λ (t : List ℕ). base64_text body ++ t) (sym read.0)) ∙ whole-append 0 (base64_text body) l lines (omega arith)
+    ap (whole_lines 0) (text-append body more third ∙ ap (λ (t : List ℕ). base64_text body ++ t) (sym read.0))
+    ∙ whole-append 0 (base64_text body) l lines (omega arith)
     ∙ ap (λ (t : List ℕ). whole_lines 0 (base64_text body) ++ t) (whole_line 0 l (omega arith) (omega arith)) in
     let whole' : length (body ++ more) % 48 ≡ 0 = rw length-append (omega arith) in
     subst (λ (q : Place). Retells (InBody ss args body) l q) (same_go (InBody ss args (body ++ more)) next e) (
@@ -107,7 +108,8 @@ retells_continued ss args body l next false (Some more) whole fits le long is e 
     let lines : (0 + length (base64_text body)) % 64 ≡ 0 = omega (arith, length-text body) in
     let s : Stanza = record { args = args; body = body ++ more } in
     let joined : in_lines 0 (base64_text (body ++ more)) ≡ whole_lines 0 (base64_text body) ++ line l =
-    ap (in_lines 0) (text-append body more third ∙ ap (λ (t : List ℕ). base64_text body ++ t) (sym read.0)) ∙ whole-in 0 (base64_text body) l lines (omega arith)
+    ap (in_lines 0) (text-append body more third ∙ ap (λ (t : List ℕ). base64_text body ++ t) (sym read.0))
+    ∙ whole-in 0 (base64_text body) l lines (omega arith)
     ∙ ap (λ (t : List ℕ). whole_lines 0 (base64_text body) ++ t) (in_lines-short 0 l (omega arith)) in
     subst (λ (q : Place). Retells (InBody ss args body) l q) (same_go (Between (ss ++ s ∷ [])) next e) (
       ap (λ (t : List ℕ). line version ++ t) (flat_map-append stanza_text ss (s ∷ [])

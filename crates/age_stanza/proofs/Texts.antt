@@ -86,7 +86,8 @@ unfolding encode_symbols
 text-two a b = text-symbols (a ∷ b ∷ [])
 
 pub text-three : (a b c : ℕ) (rest : List ℕ)
-    → base64_text (a ∷ b ∷ c ∷ rest) ≡ character (a / 4) ∷ character (a % 4 * 16 + b / 16) ∷ character (b % 16 * 4 + c / 64) ∷ character (c % 64) ∷ base64_text rest
+    → base64_text (a ∷ b ∷ c ∷ rest) ≡ character (a / 4) ∷ character (a % 4 * 16 + b / 16) ∷ character (b % 16 * 4 + c / 64) ∷ character (c % 64) ∷
+    base64_text rest
 unfolding encode_symbols
 text-three a b c rest =
     text-symbols (a ∷ b ∷ c ∷ rest)
