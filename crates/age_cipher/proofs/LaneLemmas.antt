@@ -16,7 +16,8 @@ byte_of_lanes : (words : List ℕ) (j : ℕ) → ((k : ℕ) → Fits w32 (get_or
 byte_of_lanes words j fits h =
     let small : Each1 (λ x. x < 2 ^ 32) (take 8 words) = below_from_Fits w32 _ (chunk-fits w32 0 8 words fits) in
     let place : 4 * (j / 4) + j % 4 ≡ j = omega arith in
-    let at_place : get_or (digits_l 256 32 (number_l (2 ^ 32) (take 8 words))) j 0 ≡ get_or (digits_l 256 32 (number_l (2 ^ 32) (take 8 words))) (4 * (j / 4) + j % 4) 0 =
+    let at_place : get_or (digits_l 256 32 (number_l (2 ^ 32) (take 8 words))) j 0 ≡ get_or (digits_l 256 32 (number_l (2 ^ 32) (take 8 words)))
+    (4 * (j / 4) + j % 4) 0 =
     ap (λ m. get_or (digits_l 256 32 (number_l (2 ^ 32) (take 8 words))) m 0) (sym place) in
     at_place
     ∙ get_or_narrower (2 ^ 32) 4 256 32 (take 8 words) (j / 4) (j % 4) refl small (omega arith) (omega arith)

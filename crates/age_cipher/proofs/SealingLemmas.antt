@@ -42,14 +42,16 @@ unfolding tag poly1305
 length-tag key nonce aad cipher = refl
 
 -- the two ends of a sealing
-pub front_of_sealing : (key nonce aad text : List ℕ) → take (length (sealing key nonce aad text) - 16) (sealing key nonce aad text) ≡ ciphertext key nonce 1 text
+pub front_of_sealing : (key nonce aad text : List ℕ) → take (length (sealing key nonce aad text) - 16) (sealing key nonce aad text)
+    ≡ ciphertext key nonce 1 text
 unfolding sealing
 front_of_sealing key nonce aad text =
     let c : List ℕ = ciphertext key nonce 1 text in
     let t : List ℕ = tag key nonce aad c in
     take_at c t (length (c ++ t) - 16) (omega (arith, length-append c t, length-tag key nonce aad c))
 
-pub end_of_sealing : (key nonce aad text : List ℕ) → drop (length (sealing key nonce aad text) - 16) (sealing key nonce aad text) ≡ tag key nonce aad (ciphertext key nonce 1 text)
+pub end_of_sealing : (key nonce aad text : List ℕ) → drop (length (sealing key nonce aad text) - 16) (sealing key nonce aad text)
+    ≡ tag key nonce aad (ciphertext key nonce 1 text)
 unfolding sealing
 end_of_sealing key nonce aad text =
     let c : List ℕ = ciphertext key nonce 1 text in

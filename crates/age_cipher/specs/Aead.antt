@@ -24,6 +24,11 @@ mac_data aad cipher = concat (
 unfoldable pub tag : List ℕ → List ℕ → List ℕ → List ℕ → List ℕ
 tag key nonce aad cipher = poly1305 (one_time_key key nonce) (mac_data aad cipher)
 
+-- the greatest length of a block, a text with its tag (a limit of this library: that of a block of
+-- an age file, far below that of RFC 8439)
+abbrev pub block_limit : ℕ
+block_limit = 65552
+
 -- the sealing of a text: the ciphertext, from block 1 on, and its tag
 unfoldable pub sealing : List ℕ → List ℕ → List ℕ → List ℕ → List ℕ
 sealing key nonce aad text =

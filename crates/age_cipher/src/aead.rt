@@ -5,7 +5,8 @@ ghost use Rattle.std.specs.Prelude.{drop, IsTrue};
 ghost use Rattle.std.specs.List.{concat};
 ghost use Rattle.std.specs.Bool.{OnTrue, OnFalse};
 ghost use Rattle.age_cipher.specs.Poly1305.{poly1305};
-ghost use Rattle.age_cipher.specs.Aead.{one_time_key, padding, tag, sealing, IsSealing};
+ghost use Rattle.age_cipher.specs.Aead.{block_limit, one_time_key, padding, tag, sealing};
+ghost use Rattle.age_cipher.specs.Aead.{IsSealing};
 
 use crate::authenticator::poly1305;
 use crate::keystream::xor_stream;
@@ -82,7 +83,7 @@ fn tag(key: &[u8; 32], nonce: &[u8; 12], aad: &[u8], cipher: &[u8]) -> [u8; 16]
 /// 65,552 bytes, which is asked. The text becomes the ciphertext and the last 16 bytes the tag,
 /// whatever they were.
 pub fn seal_in_place(key: &[u8; 32], nonce: &[u8; 12], aad: &[u8], block: &mut [u8])
-    requires { (16 ≤ length block.old) × (length block.old ≤ 65552) }
+    requires { (16 ≤ length block.old) × (length block.old ≤ block_limit) }
     ensures { block.new
         ≡ sealing key.now nonce.now aad.now (take (length block.old - 16) block.old) }
 {
@@ -110,7 +111,7 @@ fn is_tag(tag: &[u8; 16], bytes: &[u8]) -> bool
 ///
 /// It doesn't commit to a key: whoever knows two keys can make a block that opens under both.
 pub fn open_in_place(key: &[u8; 32], nonce: &[u8; 12], aad: &[u8], block: &mut [u8]) -> bool
-    requires { (16 ≤ length block.old) × (length block.old ≤ 65552) }
+    requires { (16 ≤ length block.old) × (length block.old ≤ block_limit) }
     ensures exact { IsTrue result ↔ IsSealing key.now nonce.now aad.now block.old }
     ensures text { OnTrue result (block.old
         ≡ sealing key.now nonce.now aad.now (take (length block.old - 16) block.new)) }

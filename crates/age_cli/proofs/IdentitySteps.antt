@@ -2,7 +2,7 @@
 use Rattle.std.proofs.Common.{◌≡◌, ◌++◌, subst, ℕ, List, Option, Some, None}
 use Rattle.clap.specs.Words.{Text}
 use Rattle.age_keys.specs.Keys.{SpellsKey}
-use Rattle.age_keys.specs.Passphrase.{Words, IsAllowed}
+use Rattle.age_keys.specs.Passphrase.{PassphraseIdentity, IsAllowed}
 use Rattle.age_keys.specs.SharedSecret.{Shared}
 use Rattle.age_cli.specs.Files.{Files}
 use Rattle.age_cli.specs.Identities.{OpensBy, IsPassphraseIn, IsSharedIn}
@@ -11,7 +11,7 @@ use Rattle.age_commands.specs.Requests.{text_of}
 use Rattle.age_commands.specs.declared.request.Unlocking.{Unlocking}
 use Rattle.age_cli.specs.declared.identity.Identity.TheVariants.{ByPassphrase, ByFileKey, ByShared}
 
-pub by_passphrase : (old : Files) (u : Unlocking) (name : Text) (held : Option (List ℕ)) (words : Words) → text_of u.pass ≡ Some name → text_of u.file_key ≡ None → text_of u.shared ≡ None
+pub by_passphrase : (old : Files) (u : Unlocking) (name : Text) (held : Option (List ℕ)) (words : PassphraseIdentity) → text_of u.pass ≡ Some name → text_of u.file_key ≡ None → text_of u.shared ≡ None
     → IsPassphraseIn held words.pass → words.max_log ≡ u.max_log → IsAllowed words.pass words.max_log → IsSecretIn old (secret_name u) held → OpensBy old (options_asked u) (ByPassphrase words)
 by_passphrase old u name held words pass key shared (bytes, is, same) limit allowed secret =
     let here : IsSecretIn old (secret_name u) (Some bytes) = subst (λ (h : Option (List ℕ)). IsSecretIn old (secret_name u) h) is secret in

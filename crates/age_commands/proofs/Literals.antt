@@ -11,7 +11,13 @@ abbrev words : List Text
 words = codes "decrypt" ∷ codes "--pass=P" ∷ codes "--max-log" ∷ codes "9" ∷ codes "--progress" ∷ codes "A" ∷ codes "B" ∷ []
 
 abbrev parts_asked : Option (Text × List Row) → Option (Text × Option Text × Option Text × Bool × ℕ)
-parts_asked = option_map (λ p. (p.0, first_of (codes "OUT") p.1, first_of (codes "save") p.1, is_given (codes "progress") p.1, number_or 22 (one_of (codes "max-log") p.1)))
+parts_asked = option_map (λ p. (
+  p.0,
+  first_of (codes "OUT") p.1,
+  first_of (codes "save") p.1,
+  is_given (codes "progress") p.1,
+  number_or 22 (one_of (codes "max-log") p.1),
+))
 
 pub words_are_taken : refusals words ≡ []
 unfolding refusals clap_on_literals age_tool encrypting decrypting resuming inspecting drilling
@@ -22,7 +28,8 @@ unfolding named clap_on_literals age_tool encrypting decrypting resuming inspect
 words_ask = refl
 
 abbrev resuming_words : List Text
-resuming_words = codes "resume" ∷ codes "--position" ∷ codes "P" ∷ codes "--old=O" ∷ codes "--shared=S" ∷ codes "--save" ∷ codes "P" ∷ codes "A" ∷ codes "B" ∷ []
+resuming_words = codes "resume" ∷ codes "--position" ∷ codes "P" ∷ codes "--old=O" ∷ codes "--shared=S" ∷ codes "--save" ∷ codes "P" ∷ codes "A" ∷ codes
+    "B" ∷ []
 
 abbrev texts_asked : List Text → Option (Text × List Row) → Option (Text × List (Option Text))
 texts_asked names = option_map (λ p. (p.0, map (λ name. first_of name p.1) names))

@@ -21,5 +21,6 @@ none_left (Some x) h = cc
 -- with no entry there is no text
 pub no_number : (f : Found) (id : Text) (default : ℕ) → not (is_some (matched_of f id)) ≡ true → default ≡ number_or default (one_of id (rows_of f))
 no_number f id default h =
-    let none : one_text f id ≡ None = ap (option_and_then (λ (a : MatchedArg). option_map (λ s. read_as a.reading s.now) (slice_get a.vals.items 0))) (none_left (matched_of f id) h) in
+    let none : one_text f id ≡ None = ap (option_and_then (λ (a : MatchedArg). option_map (λ s. read_as a.reading s.now) (slice_get a.vals.items 0)))
+    (none_left (matched_of f id) h) in
     ap (number_or default) (sym none ∙ one_text-rows f id)

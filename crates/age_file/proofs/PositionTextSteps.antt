@@ -15,7 +15,7 @@ use Rattle.std.proofs.lemmas.Fmt.{IsAscii-decimal, parse-decimal}
 use Rattle.base64.specs.GeneralPurpose.{IsBytes, decode_of}
 use Rattle.base64.specs.Engines.{standard_no_pad}
 use Rattle.base64.specs.declared.decode.DecodeError.{DecodeError}
-use Rattle.age_stanza.specs.Text.{text}
+use Rattle.age_stanza.specs.Text.{base64_text as text}
 use Rattle.age_stanza.proofs.Texts.{length-text, IsBytes-drop}
 use Rattle.age_keys.proofs.Base64Lemmas.{text_of_decoded, decoded_size, never_decodes}
 use Rattle.age_file.specs.declared.position.Position.{Position}

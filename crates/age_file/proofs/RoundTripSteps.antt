@@ -6,7 +6,7 @@ use Rattle.age_stream.specs.Payload.{chunk_count}
 use Rattle.age_stream.specs.Authentic.{IsClosed}
 use Rattle.age_file.specs.AgeFile.{box, unbox}
 use Rattle.age_keys.specs.Laws.{PassphraseOpens}
-use Rattle.age_keys.specs.Passphrase.{Words, IsPassphraseKey, PassphraseRefuses}
+use Rattle.age_keys.specs.Passphrase.{PassphraseIdentity, IsPassphraseKey, PassphraseRefuses}
 use Rattle.age_keys.specs.Scrypt.{scrypt_head}
 use Rattle.age_file.specs.Ports.{Ports}
 use Rattle.age_file.specs.Secrets.{SecretView}
@@ -73,14 +73,14 @@ undamaged_of opens s max_log text coming is within few closed f =
       closed = closed;
     }
 
-answered : (keep : Positions) → OneHeader → (w : Words) (text : List ℕ) (now last : Ports) (result : Result Done Stopped) → IsUndamaged (IsPassphraseKey w) (PassphraseRefuses w) now.source.remaining text → now.sink.taken ≡ Some []
-    → DecryptAnswers Words IsPassphraseKey PassphraseRefuses keep w now last result → MatchResult result (λ done. last.sink.taken ≡ Some text) (λ stopped. StopsOutside stopped.fault)
+answered : (keep : Positions) → OneHeader → (w : PassphraseIdentity) (text : List ℕ) (now last : Ports) (result : Result Done Stopped) → IsUndamaged (IsPassphraseKey w) (PassphraseRefuses w) now.source.remaining text → now.sink.taken ≡ Some []
+    → DecryptAnswers PassphraseIdentity IsPassphraseKey PassphraseRefuses keep w now last result → MatchResult result (λ done. last.sink.taken ≡ Some text) (λ stopped. StopsOutside stopped.fault)
 answered keep one w text now last (Ok done) u empty f = took now.sink.taken last.sink.taken text empty (undamaged_done one (IsPassphraseKey w) (PassphraseRefuses w) now last done.written f.0 text u f.1 f.2).0
 answered keep one w text now last (Err s) u empty f = undamaged keep one (IsPassphraseKey w) (PassphraseRefuses w) now last s.written s.position s.fault text u f
 
 pub there_and_back : OneHeader → PassphraseOpens → (keep : Positions) (s : SecretView) (max_log : ℕ) (text : List ℕ) (was file now last : Ports) (written : Written) (result : Result Done Stopped) → IsSecret s → s.log ≤ max_log
     → IsClosed (box s.key s.nonce) (unbox s.key s.nonce) 65536 text → WasEncrypted s text was file written → now.source.remaining ≡ file.sink.taken → now.sink.taken ≡ Some []
-    → DecryptAnswers Words IsPassphraseKey PassphraseRefuses keep (words_of s max_log) now last result → MatchResult result (λ done. last.sink.taken ≡ Some text) (λ stopped. StopsOutside stopped.fault)
+    → DecryptAnswers PassphraseIdentity IsPassphraseKey PassphraseRefuses keep (words_of s max_log) now last result → MatchResult result (λ done. last.sink.taken ≡ Some text) (λ stopped. StopsOutside stopped.fault)
 there_and_back one opens keep s max_log text was file now last written result is within closed e coming empty f =
     let took = took_file s text was file written e in
     let held = subst (TookFile s text) (sym coming) took in

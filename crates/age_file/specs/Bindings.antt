@@ -2,7 +2,7 @@
 use Rattle.std.specs.Prelude.{ℕ, List, ◌++◌, codes, replicate, fold}
 use Rattle.std.specs.Fmt.{decimal}
 use Rattle.sha2.specs.Sha256.{sha256}
-use Rattle.age_stanza.specs.Text.{text}
+use Rattle.age_stanza.specs.Text.{base64_text as text}
 use Rattle.age_kdf.specs.Hmac.{hmac}
 
 -- the chain over chunks, one link a chunk: each is the digest of the link before it and the chunk

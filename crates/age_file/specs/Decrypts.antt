@@ -8,7 +8,7 @@ use Rattle.age_stream.specs.Payload.{chunk_count}
 use Rattle.age_stream.specs.Authentic.{IsClosed}
 use Rattle.age_keys.specs.declared.fault.KeyFault.{KeyFault}
 use Rattle.age_keys.specs.declared.fault.KeyFault.TheVariants.{Memory as KeyMemory}
-use Rattle.age_keys.specs.Keys.{IsScryptBeside}
+use Rattle.age_keys.specs.Keys.{IsScryptNotAlone}
 use Rattle.age_file.specs.Faults.{HasRisen, NeverEnds, IsShort}
 use Rattle.age_file.specs.AgeFile.{box, unbox, FileOf}
 use Rattle.age_file.specs.declared.position.Position.{Position}
@@ -73,7 +73,7 @@ pub record IsWhole (Allows : Header → List ℕ → Type 0) (Refused : Header �
   pub file : FileOf header key nonce text bytes
   pub all : coming ≡ Some bytes
   pub few : chunk_count 65536 text ≤ 281474976710656
-  pub alone : ¬ IsScryptBeside header
+  pub alone : ¬ IsScryptNotAlone header
   pub only : (k : List ℕ) → Allows header k → k ≡ key
   pub never : (fault : KeyFault) → Refused header fault → fault ≡ KeyMemory
 

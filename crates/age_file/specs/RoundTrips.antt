@@ -3,7 +3,7 @@ use Rattle.std.specs.Prelude.{◌≡◌, ℕ, ◌≤◌, List, [], length, Some,
 use Rattle.base64.specs.GeneralPurpose.{IsBytes}
 use Rattle.age_stream.specs.Payload.{chunk_count}
 use Rattle.age_stream.specs.Authentic.{IsClosed}
-use Rattle.age_keys.specs.Passphrase.{Words, IsPassphraseKey, PassphraseRefuses}
+use Rattle.age_keys.specs.Passphrase.{PassphraseIdentity, IsPassphraseKey, PassphraseRefuses}
 use Rattle.age_file.specs.AgeFile.{box, unbox}
 use Rattle.age_file.specs.Ports.{Ports}
 use Rattle.age_file.specs.Secrets.{SecretView, IsWithinLimits}
@@ -23,7 +23,7 @@ pub record IsSecret (s : SecretView) : Type 0 where
   pub key_length : length s.key ≡ 16
 
 -- the secret's passphrase, with a limit
-abbrev pub words_of : SecretView → ℕ → Words
+abbrev pub words_of : SecretView → ℕ → PassphraseIdentity
 words_of s max_log = record { pass = s.pass; max_log = max_log }
 
 -- the age file of a secret and a text is a whole one for the secret's passphrase, where the limit
@@ -50,7 +50,7 @@ RoundTrip = (keep : Positions) (s : SecretView) (max_log : ℕ) (text : List ℕ
     → IsClosed (box s.key s.nonce) (unbox s.key s.nonce) 65536 text
     → WasEncrypted s text was file written → now.source.remaining ≡ file.sink.taken
     → now.sink.taken ≡ Some []
-    → DecryptAnswers Words IsPassphraseKey PassphraseRefuses keep (words_of s max_log) now last
+    → DecryptAnswers PassphraseIdentity IsPassphraseKey PassphraseRefuses keep (words_of s max_log) now last
     result
     → MatchResult result (λ done. last.sink.taken ≡ Some text)
     (λ stopped. StopsOutside stopped.fault)

@@ -3,7 +3,7 @@
 ghost use Rattle.std.specs.Prelude.{◌≡◌, ◌<◌, ◌++◌, ℕ, List, length, map, codes};
 ghost use Rattle.std.specs.List.{concat};
 ghost use Rattle.sha2.specs.Hashers.{Holds256};
-ghost use Rattle.age_stanza.specs.Text.{text};
+ghost use Rattle.age_stanza.specs.Text.{base64_text as text};
 ghost use Rattle.age_file.specs.Bindings.{link, file_id, position_tag};
 
 use base64::engine::general_purpose::STANDARD_NO_PAD;

@@ -27,12 +27,18 @@ joined pass salt q = flat_map (pbkdf2_block pass salt) (range_with_len 1 q)
 length-joined_from : (pass salt : List ℕ) (a q : ℕ) → length (flat_map (pbkdf2_block pass salt) (range_with_len a q)) ≡ 32 * q
 length-joined_from pass salt a zero = refl
 length-joined_from pass salt a (suc q) =
-    omega (arith, length-append (pbkdf2_block pass salt a) (flat_map (pbkdf2_block pass salt) (range_with_len (a + 1) q)), length-pbkdf2_block pass salt a, length-joined_from pass salt (a + 1) q)
+    omega (
+      arith,
+      length-append (pbkdf2_block pass salt a) (flat_map (pbkdf2_block pass salt) (range_with_len (a + 1) q)),
+      length-pbkdf2_block pass salt a,
+      length-joined_from pass salt (a + 1) q,
+    )
 
 pub length-joined : (pass salt : List ℕ) (q : ℕ) → length (joined pass salt q) ≡ 32 * q
 length-joined pass salt q = length-joined_from pass salt 1 q
 
-joined_more_from : (pass salt : List ℕ) (a q : ℕ) → flat_map (pbkdf2_block pass salt) (range_with_len a (suc q)) ≡ flat_map (pbkdf2_block pass salt) (range_with_len a q) ++ pbkdf2_block pass salt (a + q)
+joined_more_from : (pass salt : List ℕ) (a q : ℕ) → flat_map (pbkdf2_block pass salt) (range_with_len a (suc q))
+    ≡ flat_map (pbkdf2_block pass salt) (range_with_len a q) ++ pbkdf2_block pass salt (a + q)
 joined_more_from pass salt a zero = let at : a + 0 ≡ a = omega arith in rw at (append-nil (pbkdf2_block pass salt a))
 joined_more_from pass salt a (suc q) =
     let at : a + 1 + q ≡ a + suc q = omega arith in
@@ -57,7 +63,8 @@ chunk_written front block out written a k n len_front len_block len_out fits sma
       | inl whole ↦
           let all : take k block ≡ block = take_all k block (omega arith) in
           let all_too : take (n - a) block ≡ block = take_all (n - a) block (omega arith) in
-          rw (before, is, all, cut, all_too, ← append_assoc) (take_at (front ++ block) (drop k (drop a out)) (a + 32) (omega (arith, length-append front block)))
+          rw (before, is, all, cut, all_too, ← append_assoc) (take_at (front ++ block) (drop k (drop a out)) (a + 32)
+          (omega (arith, length-append front block)))
       | inr last ↦
           let nothing : drop k (drop a out) ≡ [] = drop_all k (drop a out) (omega (arith, length-drop a out)) in
           let same : n - a ≡ k = omega arith in

@@ -8,6 +8,10 @@ use Rattle.age_kdf.specs.Hmac.{hmac}
 unfoldable pub pbkdf2_block : List ℕ → List ℕ → ℕ → List ℕ
 pbkdf2_block pass salt i = hmac pass (salt ++ to_be_bytes w32 i)
 
+-- the greatest length of a key in bytes (a limit of this library, far below that of RFC 8018)
+abbrev pub derived_key_limit : ℕ
+derived_key_limit = 65536
+
 -- DK: the first n bytes of T_1 || T_2 || .. || T_l, where l is n / 32, rounded up
 unfoldable pub pbkdf2_once : List ℕ → List ℕ → ℕ → List ℕ
 pbkdf2_once pass salt n =

@@ -13,12 +13,9 @@ ghost use Rattle.std.specs.Prelude.{◌≡◌, ℕ, map, length, ◌≤◌, List
 ghost use Rattle.std.specs.List.{concat};
 ghost use Rattle.age_kdf.specs.Hmac.{key_with_zeros, key_block, xor_pad, hmac};
 ghost use Rattle.age_kdf.specs.Hkdf.{hkdf32};
-ghost use Rattle.age_kdf.specs.Pbkdf2.{pbkdf2_block, pbkdf2_once};
+ghost use Rattle.age_kdf.specs.Pbkdf2.{derived_key_limit, pbkdf2_block, pbkdf2_once};
 
 use sha2::{Digest, Sha256};
-
-#[cfg(test)]
-mod tests;
 
 /// The bytes that the two pads repeat (RFC 2104, section 2).
 const INNER_PAD: u8 = 0x36;
@@ -102,7 +99,7 @@ fn pbkdf2_block(block: &[u8; 64], salt: &[u8], i: u32) -> [u8; 32]
 /// Fills `out` with the key that PBKDF2-HMAC-SHA-256 derives in one iteration (RFC 8018,
 /// section 5.2). `out` has at most 65,536 bytes; what it held doesn't matter.
 pub fn pbkdf2_once(pass: &[u8], salt: &[u8], out: &mut [u8])
-    requires { length out.old ≤ 65536 }
+    requires { length out.old ≤ derived_key_limit }
     ensures { out.new ≡ pbkdf2_once pass.now salt.now (length out.old) }
 {
     let key = key_block(pass);
@@ -113,3 +110,6 @@ pub fn pbkdf2_once(pass: &[u8], salt: &[u8], out: &mut [u8])
         out[start..end].copy_from_slice(&block[..end - start]);
     }
 }
+
+#[cfg(test)]
+mod tests;

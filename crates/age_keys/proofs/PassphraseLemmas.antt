@@ -8,13 +8,13 @@ use Rattle.std.proofs.lemmas.Fmt.{decimal_is_IsNumeral, first_decimal}
 use Rattle.base64.specs.GeneralPurpose.{IsBytes}
 use Rattle.age_stanza.specs.declared.header.Header.{Header}
 use Rattle.age_stanza.specs.declared.header.Stanza.{Stanza}
-use Rattle.age_stanza.specs.Text.{text}
+use Rattle.age_stanza.specs.Text.{base64_text}
 use Rattle.age_cipher.proofs.SealingLemmas.{length-sealing, one_text as one_sealed}
 use Rattle.age_keys.specs.declared.fault.KeyFault.{KeyFault}
 use Rattle.age_keys.specs.declared.fault.KeyFault.TheVariants.{ScryptNotAlone, BadScrypt, WorkTooHigh, NoMatch, WrongKey, MacMismatch, BadX25519, Memory}
 use Rattle.age_keys.specs.Keys.{header_mac, wrapped_key, has_scrypt, IsMacOf}
 use Rattle.age_keys.specs.Opened.{AllowsAlone}
-use Rattle.age_keys.specs.Passphrase.{Words, IsPassphraseKey, PassphraseRefuses}
+use Rattle.age_keys.specs.Passphrase.{PassphraseIdentity, IsPassphraseKey, PassphraseRefuses}
 use Rattle.age_keys.specs.Scrypt.{wrap_key, IsWorkFactor, IsScryptStanza, HasScryptStanza, scrypt_stanza, scrypt_head}
 use Rattle.age_keys.proofs.Base64Lemmas.{one_text}
 use Rattle.age_keys.proofs.StanzaLemmas.{not_beside}
@@ -59,7 +59,7 @@ same_parts : (h : Header) (salt other : List ℕ) (log more : ℕ) (body rest : 
     → SameParts salt other log more body rest
 same_parts h salt other log more body rest a b =
     let stanzas : a.stanza ≡ b.stanza = cc (a.alone, b.alone) in
-    let args : codes "scrypt" ∷ text salt ∷ a.valid.characters ∷ [] ≡ codes "scrypt" ∷ text other ∷ b.valid.characters ∷ [] =
+    let args : codes "scrypt" ∷ base64_text salt ∷ a.valid.characters ∷ [] ≡ codes "scrypt" ∷ base64_text other ∷ b.valid.characters ∷ [] =
     sym a.valid.args ∙ ap (λ (s : Stanza). s.args) stanzas ∙ b.valid.args in
     record {
       salts = one_text salt other a.valid.salt_bytes b.valid.salt_bytes (ap (λ (xs : List (List ℕ)). get_or xs 1 []) args);
@@ -69,10 +69,10 @@ same_parts h salt other log more body rest a b =
 
 -- ---- the law
 
-abbrev has_own : Words → ℕ → List ℕ → List ℕ → Type 0
+abbrev has_own : PassphraseIdentity → ℕ → List ℕ → List ℕ → Type 0
 has_own w log salt key = HasScryptStanza (scrypt_head w.pass log salt key) salt log (wrapped_key (wrap_key w.pass salt log) key)
 
-own : (w : Words) (log : ℕ) (salt key : List ℕ) → 1 ≤ log → log ≤ 22 → length salt ≡ 16 → IsBytes salt → length key ≡ 16 → has_own w log salt key
+own : (w : PassphraseIdentity) (log : ℕ) (salt key : List ℕ) → 1 ≤ log → log ≤ 22 → length salt ≡ 16 → IsBytes salt → length key ≡ 16 → has_own w log salt key
 unfolding scrypt_head
 own w log salt key some few size fits key_size =
     let wrap = wrap_key w.pass salt log in
@@ -80,16 +80,16 @@ own w log salt key some few size fits key_size =
     let long : length body ≡ 32 = omega (arith, length-wrapped wrap key) in
     record { stanza = scrypt_stanza salt log body; alone = refl; valid = stanza_is salt body log some few size fits long }
 
-own_mac : (w : Words) (log : ℕ) (salt key : List ℕ) → IsMacOf (scrypt_head w.pass log salt key) key
+own_mac : (w : PassphraseIdentity) (log : ℕ) (salt key : List ℕ) → IsMacOf (scrypt_head w.pass log salt key) key
 unfolding scrypt_head header_mac
 own_mac w log salt key = refl
 
-own_type : (w : Words) (log : ℕ) (salt key : List ℕ) → has_scrypt (scrypt_head w.pass log salt key) ≡ true
+own_type : (w : PassphraseIdentity) (log : ℕ) (salt key : List ℕ) → has_scrypt (scrypt_head w.pass log salt key) ≡ true
 unfolding scrypt_head scrypt_stanza
 own_type w log salt key = refl
 
 -- the same parts open to the same key
-other_key : (w : Words) (h : Header) (log : ℕ) (salt key other : List ℕ) → HasScryptStanza h salt log (wrapped_key (wrap_key w.pass salt log) key)
+other_key : (w : PassphraseIdentity) (h : Header) (log : ℕ) (salt key other : List ℕ) → HasScryptStanza h salt log (wrapped_key (wrap_key w.pass salt log) key)
     → IsPassphraseKey w h other → other ≡ key
 other_key w h log salt key other has found =
     let same = same_parts h found.salt salt found.log log found.body (wrapped_key (wrap_key w.pass salt log) key) found.stanza has in
@@ -97,7 +97,7 @@ other_key w h log salt key other has found =
     one_wrapped (wrap_key w.pass salt log) other key
     (ap (λ (k : List ℕ). wrapped_key k other) (sym wrap) ∙ sym found.opens ∙ same.bodies)
 
-only_memory : (w : Words) (h : Header) (log : ℕ) (salt key : List ℕ) → log ≤ w.max_log → has_scrypt h ≡ true
+only_memory : (w : PassphraseIdentity) (h : Header) (log : ℕ) (salt key : List ℕ) → log ≤ w.max_log → has_scrypt h ≡ true
     → HasScryptStanza h salt log (wrapped_key (wrap_key w.pass salt log) key) → (fault : KeyFault) → PassphraseRefuses w h fault → fault ≡ Memory
 only_memory w h log salt key within typed has ScryptNotAlone r = absurd (not_beside h has.stanza has.alone r)
 only_memory w h log salt key within typed has NoMatch r = absurd (false≢true (sym r ∙ typed))
@@ -114,7 +114,8 @@ only_memory w h log salt key within typed has MacMismatch r = absurd r
 only_memory w h log salt key within typed has BadX25519 r = absurd r
 only_memory w h log salt key within typed has Memory r = refl
 
-pub opens_alone : (w : Words) (log : ℕ) (salt key : List ℕ) → 1 ≤ log → log ≤ 22 → log ≤ w.max_log → length salt ≡ 16 → IsBytes salt → length key ≡ 16
+pub opens_alone : (w : PassphraseIdentity) (log : ℕ) (salt key : List ℕ) → 1 ≤ log → log ≤ 22 → log ≤ w.max_log → length salt ≡ 16 → IsBytes salt
+    → length key ≡ 16
     → AllowsAlone (IsPassphraseKey w) (PassphraseRefuses w) (scrypt_head w.pass log salt key) key
 opens_alone w log salt key some few within size fits key_size =
     let h : Header = scrypt_head w.pass log salt key in

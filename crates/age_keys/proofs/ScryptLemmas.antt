@@ -11,7 +11,7 @@ use Rattle.base64.specs.GeneralPurpose.{IsBytes}
 use Rattle.base64.specs.Rfc4648.{encode_symbols}
 use Rattle.age_stanza.specs.declared.header.Header.{Header}
 use Rattle.age_stanza.specs.declared.header.Stanza.{Stanza}
-use Rattle.age_stanza.specs.Text.{text}
+use Rattle.age_stanza.specs.Text.{base64_text}
 use Rattle.age_stanza.specs.Grammar.{line, in_lines, stanza_text, head_text, IsStanza, HasText}
 use Rattle.age_stanza.proofs.Elements.{visible_from_test}
 use Rattle.age_stanza.proofs.TextLengths.{length-body, length-head}
@@ -45,7 +45,7 @@ symbols_visible t (a ∷ b ∷ c ∷ rest) h fits =
     let fc : c < 256 = fits 2 in
     (h _ (omega arith), (h _ (omega arith), (h _ (omega arith), (h _ (omega arith), symbols_visible t rest h (λ i. fits (suc (suc (suc i))))))))
 
-pub text_visible : (m : List ℕ) → IsBytes m → AllByRecursion IsVisible (text m)
+pub text_visible : (m : List ℕ) → IsBytes m → AllByRecursion IsVisible (base64_text m)
 text_visible m fits = rw text-symbols (symbols_visible the_symbols m (λ i lt. visible_at the_symbols i (visible_from_test the_symbols refl) lt) fits)
 
 digits_visible : (ds : List ℕ) → AllDigits 10 ds → AllByRecursion IsVisible ds
@@ -64,16 +64,20 @@ pub scrypt_valid : (salt body : List ℕ) (log : ℕ) → length salt ≡ 16 →
 unfolding scrypt_stanza
 scrypt_valid salt body log size fits body_fits few =
     let numeral = (decimal_is_IsNumeral log (omega arith)).0 in
-    let characters : 0 < length (text salt) = omega (arith, length-text salt) in
+    let characters : 0 < length (base64_text salt) = omega (arith, length-text salt) in
     record {
       some_argument = omega arith;
-      arguments = ((omega arith, visible_from_test (codes "scrypt") refl), ((characters, text_visible salt fits), ((numeral.0, digits_visible (decimal log) numeral.1), tt)));
+      arguments = (
+        (omega arith, visible_from_test (codes "scrypt") refl),
+        ((characters, text_visible salt fits), ((numeral.0, digits_visible (decimal log) numeral.1), tt)),
+      );
       body = body_fits;
     }
 
-three_arguments : (a b c body : List ℕ) → length (stanza_text (record { args = a ∷ b ∷ c ∷ []; body = body })) ≡ length a + length b + length c + length (in_lines 0 (text body)) + 6
+three_arguments : (a b c body : List ℕ) → length (stanza_text (record { args = a ∷ b ∷ c ∷ []; body = body }))
+    ≡ length a + length b + length c + length (in_lines 0 (base64_text body)) + 6
 three_arguments a b c body =
-    let lines : List ℕ = in_lines 0 (text body) in
+    let lines : List ℕ = in_lines 0 (base64_text body) in
     let args : List ℕ = flat_map (λ x. 32 ∷ x) (a ∷ b ∷ c ∷ []) in
     let whole = length-append (line (codes "->" ++ args)) lines in
     let ended = length-append (codes "->" ++ args) (10 ∷ []) in
@@ -88,7 +92,7 @@ scrypt_size salt body log size body_size few =
     let factor = factor_size log few in
     let lines = length-body body in
     let characters = length-text salt in
-    let whole = three_arguments (codes "scrypt") (text salt) (decimal log) body in
+    let whole = three_arguments (codes "scrypt") (base64_text salt) (decimal log) body in
     omega arith
 
 -- a MAC of 32 bytes doesn't change the length
@@ -97,7 +101,8 @@ size_of_one s mac long =
     length-head (record { stanzas = s ∷ []; mac = mac }) long
     ∙ ap (λ n. n + 70) (omega (arith, length-append (stanza_text s) []))
 
-pub scrypt_has_text : (salt body mac : List ℕ) (log : ℕ) → length salt ≡ 16 → IsBytes salt → length body ≡ 32 → IsBytes body → log ≤ 22 → length mac ≡ 32 → IsBytes mac
+pub scrypt_has_text : (salt body mac : List ℕ) (log : ℕ) → length salt ≡ 16 → IsBytes salt → length body ≡ 32 → IsBytes body → log ≤ 22 → length mac
+    ≡ 32 → IsBytes mac
     → HasText (record { stanzas = scrypt_stanza salt log body ∷ []; mac = mac })
 scrypt_has_text salt body mac log size fits body_size body_fits few mac_size mac_fits =
     let h : Header = record { stanzas = scrypt_stanza salt log body ∷ []; mac = mac } in
@@ -106,7 +111,12 @@ scrypt_has_text salt body mac log size fits body_size body_fits few mac_size mac
       head_text h,
       record {
         spells = record {
-          valid = record { some_stanza = omega arith; stanzas = (scrypt_valid salt body log size fits body_fits few, tt); mac_length = mac_size; mac = mac_fits };
+          valid = record {
+            some_stanza = omega arith;
+            stanzas = (scrypt_valid salt body log size fits body_fits few, tt);
+            mac_length = mac_size;
+            mac = mac_fits;
+          };
           bytes_are = refl;
         };
         within = omega arith;

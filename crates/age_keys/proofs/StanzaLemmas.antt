@@ -5,7 +5,7 @@ use Rattle.std.proofs.lemmas.Bool.{false≢true}
 use Rattle.std.proofs.lemmas.Slice.Eq.{bytes_eq-Decides}
 use Rattle.age_stanza.specs.declared.header.Header.{Header}
 use Rattle.age_stanza.specs.declared.header.Stanza.{Stanza}
-use Rattle.age_keys.specs.Keys.{has_type, has_scrypt, IsScryptBeside}
+use Rattle.age_keys.specs.Keys.{has_type, has_scrypt, IsScryptNotAlone}
 
 -- two arguments, of which the first is the type
 pub two_arguments : (kind t : List ℕ) (args : List (List ℕ)) → has_type kind args ≡ true → 2 ≤ length args → length args < 3
@@ -32,7 +32,7 @@ only_one (t ∷ []) s most least e = ap (λ x. x ∷ []) (sym e)
 only_one (t ∷ u ∷ rest) s most least e = absurd (omega arith)
 
 -- nothing stands beside a stanza that is the only one
-pub not_beside : (h : Header) (s : Stanza) → h.stanzas ≡ s ∷ [] → ¬ IsScryptBeside h
+pub not_beside : (h : Header) (s : Stanza) → h.stanzas ≡ s ∷ [] → ¬ IsScryptNotAlone h
 not_beside h s one beside =
     let size = ap (λ (ss : List Stanza). nat_lt 1 (length ss) && has_scrypt h) one in
     false≢true (sym size ∙ beside)

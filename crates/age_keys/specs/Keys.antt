@@ -49,8 +49,8 @@ has_scrypt h = list_any is_scrypt h.stanzas
 abbrev pub scrypt_not_alone : Header → Bool
 scrypt_not_alone h = nat_lt 1 (length h.stanzas) && has_scrypt h
 
-abbrev pub IsScryptBeside : Header → Type 0
-IsScryptBeside h = scrypt_not_alone h ≡ true
+abbrev pub IsScryptNotAlone : Header → Type 0
+IsScryptNotAlone h = scrypt_not_alone h ≡ true
 
 -- ---- a file key as text
 

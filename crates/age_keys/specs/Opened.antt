@@ -3,11 +3,11 @@ use Rattle.std.specs.Prelude.{◌≡◌, ◌⊎◌, ℕ, List, length}
 use Rattle.age_stanza.specs.declared.header.Header.{Header}
 use Rattle.age_keys.specs.declared.fault.KeyFault.{KeyFault}
 use Rattle.age_keys.specs.declared.fault.KeyFault.TheVariants.{ScryptNotAlone, MacMismatch, Memory}
-use Rattle.age_keys.specs.Keys.{IsScryptBeside, IsMacOf}
+use Rattle.age_keys.specs.Keys.{IsScryptNotAlone, IsMacOf}
 
 -- the file key may be answered for the header
 pub record Opens (Allows : Header → List ℕ → Type 0) (h : Header) (key : List ℕ) : Type 0 where
-  pub alone : ¬ IsScryptBeside h
+  pub alone : ¬ IsScryptNotAlone h
   pub allowed : Allows h key
   pub mac : IsMacOf h key
   pub size : length key ≡ 16
@@ -17,8 +17,8 @@ pub record Opens (Allows : Header → List ℕ → Type 0) (h : Header) (key : L
 abbrev pub Refuses : (Header → List ℕ → Type 0) → (Header → KeyFault → Type 0) → Header
     → KeyFault → Type 0
 Refuses Allows Refused h fault =
-    (IsScryptBeside h → fault ≡ ScryptNotAlone)
-    × ((¬ IsScryptBeside h)
+    (IsScryptNotAlone h → fault ≡ ScryptNotAlone)
+    × ((¬ IsScryptNotAlone h)
     → Refused h fault
     ⊎ ((fault ≡ MacMismatch) × ((key : List ℕ) × Allows h key × (¬ IsMacOf h key)))
     ⊎ ((fault ≡ Memory) × ((key : List ℕ) × Allows h key)))
@@ -26,7 +26,7 @@ Refuses Allows Refused h fault =
 -- nothing but the key and want of memory may be answered for the header
 pub record AllowsAlone (Allows : Header → List ℕ → Type 0) (Refused : Header → KeyFault → Type 0)
     (h : Header) (key : List ℕ) : Type 0 where
-  pub alone : ¬ IsScryptBeside h
+  pub alone : ¬ IsScryptNotAlone h
   pub allowed : Allows h key
   pub no_other : (other : List ℕ) → Allows h other → other ≡ key
   pub never : (fault : KeyFault) → Refused h fault → fault ≡ Memory

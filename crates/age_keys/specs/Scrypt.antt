@@ -6,7 +6,7 @@ use Rattle.std.specs.Str.Parse.{IsNumeral, digits_value}
 use Rattle.base64.specs.GeneralPurpose.{IsBytes}
 use Rattle.age_stanza.specs.declared.header.Stanza.{Stanza}
 use Rattle.age_stanza.specs.declared.header.Header.{Header}
-use Rattle.age_stanza.specs.Text.{text}
+use Rattle.age_stanza.specs.Text.{base64_text}
 use Rattle.age_scrypt.specs.Scrypt.{scrypt}
 use Rattle.age_keys.specs.Keys.{header_mac, wrapped_key}
 
@@ -24,7 +24,7 @@ pub record IsWorkFactor (characters : List ℕ) : Type 0 where
 -- the stanza `-> scrypt SALT LOG` of a salt of 16 bytes, a work factor and a body of 32 bytes
 pub record IsScryptStanza (s : Stanza) (salt : List ℕ) (log : ℕ) (body : List ℕ) : Type 0 where
   pub characters : List ℕ
-  pub args : s.args ≡ codes "scrypt" ∷ text salt ∷ characters ∷ []
+  pub args : s.args ≡ codes "scrypt" ∷ base64_text salt ∷ characters ∷ []
   pub body_is : s.body ≡ body
   pub work_factor : IsWorkFactor characters
   pub log_is : digits_value 10 characters ≡ log
@@ -41,7 +41,7 @@ pub record HasScryptStanza (h : Header) (salt : List ℕ) (log : ℕ) (body : Li
 -- such a stanza, as it is written
 unfoldable pub scrypt_stanza : List ℕ → ℕ → List ℕ → Stanza
 scrypt_stanza salt log body =
-    record { args = codes "scrypt" ∷ text salt ∷ decimal log ∷ []; body = body }
+    record { args = codes "scrypt" ∷ base64_text salt ∷ decimal log ∷ []; body = body }
 
 -- the header of that one stanza, whose body is the file key wrapped under the passphrase, with the
 -- file key's MAC, which covers the stanza alone

@@ -2,7 +2,7 @@
 use Rattle.std.specs.Prelude.{◌≡◌, ℕ, Bool, true, false, List, [], ◌∷◌, length, codes}
 use Rattle.base64.specs.GeneralPurpose.{IsBytes}
 use Rattle.age_stanza.specs.declared.header.Stanza.{Stanza}
-use Rattle.age_stanza.specs.Text.{text}
+use Rattle.age_stanza.specs.Text.{base64_text}
 use Rattle.age_keys.specs.declared.fault.KeyFault.{KeyFault}
 use Rattle.age_keys.specs.declared.fault.KeyFault.TheVariants.{NoMatch, BadX25519}
 use Rattle.age_keys.specs.Keys.{has_type}
@@ -12,7 +12,7 @@ is_x25519 s = has_type (codes "X25519") s.args
 
 -- the stanza `-> X25519 SHARE` of a share and a body, of 32 bytes each
 pub record IsX25519Stanza (s : Stanza) (share body : List ℕ) : Type 0 where
-  pub args : s.args ≡ codes "X25519" ∷ text share ∷ []
+  pub args : s.args ≡ codes "X25519" ∷ base64_text share ∷ []
   pub body_is : s.body ≡ body
   pub share_bytes : IsBytes share
   pub share_length : length share ≡ 32

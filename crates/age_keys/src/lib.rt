@@ -24,7 +24,7 @@ pub use fault::KeyFault;
 pub use key::FileKey;
 pub use laws::passphrase_opens;
 pub use open::open_header;
-pub use passphrase::Passphrase;
+pub use passphrase::{PASSPHRASE_LIMIT, Passphrase};
 pub use payload::{PayloadKey, payload_key, position_key};
 pub use scrypt::scrypt_header;
 pub use shared_secret::SharedSecret;

@@ -9,9 +9,13 @@ use crate::open::has_scrypt;
 use crate::scrypt::{ScryptStanza, wrap_key};
 use crate::unlock::Unlock;
 use crate::wrap::unwrapped_key;
+use age_scrypt::WORK_FACTOR_LIMIT;
 use age_stanza::Header;
 use std::alloc::Global;
 use std::marker::Model;
+
+/// The greatest length of a passphrase in bytes.
+pub const PASSPHRASE_LIMIT: usize = 65_536;
 
 /// A passphrase, and the greatest work factor that is accepted with it. A contract sees both.
 ///
@@ -29,9 +33,9 @@ pub struct Passphrase<'a> {
 }
 
 impl<'a> Model for Passphrase<'a> {
-    ghost use Rattle.age_keys.specs.Passphrase.{Words, IsAllowed};
+    ghost use Rattle.age_keys.specs.Passphrase.{PassphraseIdentity, IsAllowed};
 
-    ghost Value = { Words };
+    ghost Value = { PassphraseIdentity };
 
     ghost view = { λ p. record { pass = p.bytes.now; max_log = p.max_log } };
 
@@ -39,13 +43,17 @@ impl<'a> Model for Passphrase<'a> {
 }
 
 impl<'a> Passphrase<'a> {
-    /// A passphrase of 1 to 65,536 bytes, whatever they are, and a greatest work factor of 1 to
-    /// 22; `None` for any other.
+    /// A passphrase of 1 to [`PASSPHRASE_LIMIT`] bytes, whatever they are, and a greatest work
+    /// factor of 1 to [`WORK_FACTOR_LIMIT`]; `None` for any other.
     pub fn new(bytes: &'a [u8], max_log: u32) -> Option<Passphrase<'a>>
         ensures { SomeIff result (IsAllowed bytes.now max_log)
             (record { pass = bytes.now; max_log = max_log }) }
     {
-        if bytes.is_empty() || bytes.len() > 65536 || max_log < 1 || max_log > 22 {
+        if bytes.is_empty()
+            || bytes.len() > PASSPHRASE_LIMIT
+            || max_log < 1
+            || max_log > WORK_FACTOR_LIMIT
+        {
             return None;
         }
         Some(Passphrase { bytes, max_log })

@@ -7,6 +7,8 @@ ghost use Rattle.std.specs.Char.{is_ascii_digit};
 ghost use Rattle.std.specs.List.{list_all};
 ghost use Rattle.std.specs.Str.Parse.{digits_value};
 ghost use Rattle.age_stanza.specs.Grammar.{HasText};
+ghost use Rattle.age_scrypt.specs.Scrypt.{work_factor_limit};
+ghost use Rattle.age_keys.specs.Passphrase.{passphrase_limit};
 ghost use Rattle.age_keys.specs.Scrypt.{IsWorkFactor, IsScryptStanza, wrap_key, scrypt_stanza};
 ghost use Rattle.age_keys.specs.Scrypt.{scrypt_head};
 ghost use Rattle.age_keys.specs.declared.fault.KeyFault.TheVariants.{Memory};
@@ -32,7 +34,7 @@ pub(crate) fn wrap_key(
     log: u32,
 ) -> Result<[u8; 32], KeyFault>
     requires least { 1 ≤ log }
-    requires most { log ≤ 22 }
+    requires most { log ≤ work_factor_limit }
     ensures key { IfOk result (λ key. key ≡ wrap_key pass.now salt.now log) }
     ensures memory { IfErr result (λ fault. fault ≡ Memory) }
 {
@@ -139,7 +141,7 @@ fn header_of(
     log: u32,
     body: &[u8; 32],
 ) -> Result<Header, AllocError>
-    requires { log ≤ 22 }
+    requires { log ≤ work_factor_limit }
     ensures value { IfOk result
         (λ header. header.stanzas ≡ scrypt_stanza salt.now log body.now ∷ []) }
     ensures text { IfOk result HasText }
@@ -156,9 +158,9 @@ fn header_of(
 /// the file key gives it (<https://c2sp.org/age#scrypt-recipient-stanza>,
 /// <https://c2sp.org/age#header-mac>).
 ///
-/// It asks for a passphrase of 1 to 65,536 bytes and a work factor `log` of 1 to 22. The only
-/// fault is a refusal of memory ([`KeyFault::Memory`]): the passphrase's table takes
-/// `1,024 * 2^log` bytes.
+/// It asks for a passphrase of 1 to [`PASSPHRASE_LIMIT`](crate::PASSPHRASE_LIMIT) bytes and a work
+/// factor `log` of 1 to [`WORK_FACTOR_LIMIT`](age_scrypt::WORK_FACTOR_LIMIT). The only fault is a
+/// refusal of memory ([`KeyFault::Memory`]): the passphrase's table takes `1,024 * 2^log` bytes.
 pub fn scrypt_header(
     alloc: Global,
     pass: &[u8],
@@ -167,9 +169,9 @@ pub fn scrypt_header(
     key: &FileKey,
 ) -> Result<Header, KeyFault>
     requires pass_least { 1 ≤ length pass.now }
-    requires pass_most { length pass.now ≤ 65536 }
+    requires pass_most { length pass.now ≤ passphrase_limit }
     requires log_least { 1 ≤ log }
-    requires log_most { log ≤ 22 }
+    requires log_most { log ≤ work_factor_limit }
     ensures head { IfOk result (λ header. header ≡ scrypt_head pass.now log salt.now key.now) }
     ensures text { IfOk result HasText }
     ensures memory { IfErr result (λ fault. fault ≡ Memory) }

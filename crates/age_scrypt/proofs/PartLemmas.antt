@@ -24,7 +24,8 @@ part-put_here k w xs ys i e room len =
     let width : k * i + k - k * i ≡ k = omega arith in
     rw width at (between-put_mid (k * i) w xs ys (k * i + k) (omega arith) (omega arith))
 
-pub part-put_other : (k w : ℕ) (xs ys : List ℕ) (i j : ℕ) → w ≡ k → k * i + k ≤ length xs → length ys ≡ k → j ≢ i → part k (put_mid (k * i) w xs ys) j ≡ part k xs j
+pub part-put_other : (k w : ℕ) (xs ys : List ℕ) (i j : ℕ) → w ≡ k → k * i + k ≤ length xs → length ys ≡ k → j ≢ i → part k (put_mid (k * i) w xs ys) j
+    ≡ part k xs j
 unfolding part
 part-put_other k w xs ys i j e room len ne =
     elim (cases_lt i j) [

@@ -49,7 +49,13 @@ zip2-append f (x ∷ xs) ys (u ∷ us) vs len = ap (λ rest. f x u ∷ rest) (zi
 pub zip2-words : (f : ℕ → ℕ → ℕ) (p q : Part) → zip2 f (words p) (words q) ≡ zip2 f p.a q.a ++ zip2 f p.b q.b ++ zip2 f p.c q.c ++ zip2 f p.d q.d
 zip2-words f p q =
     let ab : length (p.a ++ p.b) ≡ length (q.a ++ q.b) = omega (arith, length-append p.a p.b, length-append q.a q.b, p.a_len, p.b_len, q.a_len, q.b_len) in
-    let abc : length (p.a ++ p.b ++ p.c) ≡ length (q.a ++ q.b ++ q.c) = omega (arith, length-append (p.a ++ p.b) p.c, length-append (q.a ++ q.b) q.c, p.c_len, q.c_len) in
+    let abc : length (p.a ++ p.b ++ p.c) ≡ length (q.a ++ q.b ++ q.c) = omega (
+      arith,
+      length-append (p.a ++ p.b) p.c,
+      length-append (q.a ++ q.b) q.c,
+      p.c_len,
+      q.c_len,
+    ) in
     zip2-append f (p.a ++ p.b ++ p.c) p.d (q.a ++ q.b ++ q.c) q.d abc
     ∙ ap (λ front. front ++ zip2 f p.d q.d) (zip2-append f (p.a ++ p.b) p.c (q.a ++ q.b) q.c ab
     ∙ ap (λ front. front ++ zip2 f p.c q.c) (zip2-append f p.a p.b q.a q.b (p.a_len ∙ sym q.a_len)))

@@ -17,7 +17,7 @@
 ghost use Rattle.std.specs.Prelude.{◌≡◌, ◌+◌, ◌*◌, ◌^◌, ◌≤◌, length, vec_len};
 ghost use Rattle.std.specs.Prelude.{vec_capacity, IfOk};
 ghost use Rattle.std.specs.Prelude.{OnOk, OnErr};
-ghost use Rattle.age_scrypt.specs.Scrypt.{scrypt};
+ghost use Rattle.age_scrypt.specs.Scrypt.{work_factor_limit, scrypt};
 
 mod fault;
 mod mix;
@@ -25,8 +25,6 @@ mod part;
 mod romix;
 mod salsa;
 mod steps;
-#[cfg(test)]
-mod tests;
 mod turn;
 mod words;
 
@@ -35,6 +33,9 @@ pub use fault::Memory;
 use romix::{block_count, romix};
 use std::alloc::Global;
 pub use steps::Steps;
+
+/// The greatest work factor that a caller may allow, 22: its table has 4 GiB.
+pub const WORK_FACTOR_LIMIT: u32 = 22;
 
 /// The key, in memory that the caller has: an empty table with room for all blocks, and two blocks.
 fn derive_in(
@@ -46,7 +47,7 @@ fn derive_in(
     y: &mut [u32],
     steps: &mut Steps,
 ) -> [u8; 32]
-    requires log { log ≤ 22 }
+    requires log { log ≤ work_factor_limit }
     requires empty { vec_len table.old ≡ 0 }
     requires room { 256 * 2 ^ log ≤ vec_capacity table.old }
     requires x { length x.old ≡ 256 }
@@ -64,8 +65,8 @@ fn derive_in(
     key
 }
 
-/// The key of a passphrase and a salt at the work factor `log`, from 1 to 22: scrypt with
-/// N = `2^log`, r = 8, p = 1 and 32 bytes of output (RFC 7914, section 6).
+/// The key of a passphrase and a salt at the work factor `log`, from 1 to [`WORK_FACTOR_LIMIT`]:
+/// scrypt with N = `2^log`, r = 8, p = 1 and 32 bytes of output (RFC 7914, section 6).
 ///
 /// It takes `1,024 * 2^log` bytes of memory and two blocks of 1,024 bytes, all of them before the
 /// first step. Where memory is refused, no step is made.
@@ -77,7 +78,7 @@ pub fn derive(
     steps: &mut Steps,
 ) -> Result<[u8; 32], Memory>
     requires least { 1 ≤ log }
-    requires most { log ≤ 22 }
+    requires most { log ≤ work_factor_limit }
     ensures key { IfOk result (λ key. key ≡ scrypt pass.now salt.now log) }
     ensures counted { OnOk result (steps.new ≡ steps.old + 2 * 2 ^ log) }
     ensures refused { OnErr result (steps.new ≡ steps.old) }
@@ -87,3 +88,6 @@ pub fn derive(
     let mut y = vec![in alloc; 0; 256]?;
     Ok(derive_in(pass, salt, log, &mut table, &mut x, &mut y, steps))
 }
+
+#[cfg(test)]
+mod tests;

@@ -5,6 +5,7 @@ ghost use Rattle.std.specs.Prelude.{List, length, vec_len};
 ghost use Rattle.std.specs.Prelude.{vec_capacity};
 ghost use Rattle.age_scrypt.specs.BlockMix.{xor_words};
 ghost use Rattle.age_scrypt.specs.Romix.{v_block, integerify, romix};
+ghost use Rattle.age_scrypt.specs.Scrypt.{work_factor_limit};
 ghost use Rattle.age_scrypt.specs.inner.Table.{IsTable};
 ghost use Rattle.age_scrypt.specs.inner.Turned.{IsTurned};
 
@@ -15,10 +16,10 @@ use crate::turn::{turn, turn_back};
 
 /// How many blocks the table has.
 pub(crate) fn block_count(log: u32) -> usize
-    requires { log ≤ 22 }
+    requires { log ≤ work_factor_limit }
     ensures value { result ≡ 2 ^ log }
     ensures some { 0 < result }
-    ensures few { result ≤ 2 ^ 22 }
+    ensures few { result ≤ 2 ^ work_factor_limit }
     ensures divides { 2 ^ 32 % result ≡ 0 }
 {
     1 << log
@@ -52,7 +53,7 @@ fn place_of(x: &[u32], n: usize) -> usize
 fn fill(table: &mut Vec<u32>, x: &mut [u32], n: usize, steps: &mut Steps)
     requires empty { vec_len table.old ≡ 0 }
     requires room { 256 * n ≤ vec_capacity table.old }
-    requires few { n ≤ 2 ^ 22 }
+    requires few { n ≤ 2 ^ work_factor_limit }
     requires x { length x.old ≡ 256 }
     ensures len { vec_len table.new ≡ 256 * n }
     ensures table { (b : List ℕ) → IsTurned b x.old → IsTable b n table.new.items }
@@ -87,7 +88,7 @@ fn look_up(table: &[u32], x: &mut [u32], y: &mut [u32], n: usize, steps: &mut St
 /// ROMix of the block `x` in place, with `y` for a block in between. The table is empty, with room
 /// for `2^log` blocks.
 pub(crate) fn romix(table: &mut Vec<u32>, x: &mut [u32], y: &mut [u32], log: u32, steps: &mut Steps)
-    requires log { log ≤ 22 }
+    requires log { log ≤ work_factor_limit }
     requires empty { vec_len table.old ≡ 0 }
     requires room { 256 * 2 ^ log ≤ vec_capacity table.old }
     requires x { length x.old ≡ 256 }

@@ -21,15 +21,19 @@ take_more_bytes : (n : ℕ) (bytes piece : List ℕ) → (rest : List ℕ) × (t
 take_more_bytes n bytes piece = elim (cases_lt (length bytes) n) [
   | inl lt ↦
       let k : n ≡ length bytes + (n - length bytes) = omega arith in
-      let all : take n bytes ≡ bytes = take_all n bytes (omega arith) in
-      (take (n - length bytes) piece, ap (λ j. take j (bytes ++ piece)) k ∙ take-append-add bytes piece (n - length bytes) ∙ ap (λ (t : List ℕ). t ++ take (n - length bytes) piece) (sym all))
+      let all : take n bytes ≡ bytes = take_all n bytes (omega arith) in (
+        take (n - length bytes) piece,
+        ap (λ j. take j (bytes ++ piece)) k ∙ take-append-add bytes piece (n - length bytes)
+            ∙ ap (λ (t : List ℕ). t ++ take (n - length bytes) piece) (sym all),
+      )
   | inr ge ↦ ([], take-append-le n bytes piece ge ∙ sym (append-nil (take n bytes)))
 ]
 
 more_first : (bytes rest before l : List ℕ) → FirstFault bytes before l → FirstFault (bytes ++ rest) before l
 more_first bytes rest before l f = record {
   rest = f.rest ++ rest;
-  parts = ap (λ (t : List ℕ). t ++ rest) f.parts ∙ append_assoc before (line l ++ f.rest) rest ∙ ap (λ (t : List ℕ). before ++ t) (append_assoc (line l) f.rest rest);
+  parts = ap (λ (t : List ℕ). t ++ rest) f.parts ∙ append_assoc before (line l ++ f.rest) rest
+      ∙ ap (λ (t : List ℕ). before ++ t) (append_assoc (line l) f.rest rest);
   whole = f.whole;
   one_line = f.one_line;
   valid_before = f.valid_before;
@@ -52,7 +56,8 @@ prefix_of a x b y e le =
 
 -- no header ends inside the bytes, and none behind them
 none_longer : (bytes piece : List ℕ) → (HasHeader bytes → ⊥)
-    → ((h : Header) (front : List ℕ) → HeadText h front → length bytes < length front → front ≡ bytes ++ drop (length bytes) front → ⊥) → HasHeader (bytes ++ piece) → ⊥
+    → ((h : Header) (front : List ℕ) → HeadText h front → length bytes < length front → front ≡ bytes ++ drop (length bytes) front → ⊥)
+    → HasHeader (bytes ++ piece) → ⊥
 none_longer bytes piece inside behind has = elim (cases_lt (length bytes) (length has.1)) [
   | inl lt ↦ behind has.0 has.1 has.3 lt (prefix_of bytes piece has.1 has.2 has.4 (omega arith))
   | inr ge ↦ inside (has.0, has.1, drop (length has.1) bytes, has.3, prefix_of has.1 has.2 bytes piece (sym has.4) ge)
@@ -68,7 +73,8 @@ no_text bytes before l f h front text lt is =
     is ∙ ap (λ (t : List ℕ). t ++ drop (length bytes) front) bytes-is ∙ regroup before (line l) f.rest (drop (length bytes) front) in
     f.faulty (h, f.rest ++ drop (length bytes) front, subst (Spells h) grouped text.spells)
 
-pub more_fault : (bytes piece : List ℕ) (fault : HeadFault) → (HasHeader bytes → ⊥) → IsFault bytes fault → (HasHeader (bytes ++ piece) → ⊥) × IsFault (bytes ++ piece) fault
+pub more_fault : (bytes piece : List ℕ) (fault : HeadFault) → (HasHeader bytes → ⊥) → IsFault bytes fault → (HasHeader (bytes ++ piece) → ⊥)
+    × IsFault (bytes ++ piece) fault
 more_fault bytes piece fault inside (inl f) =
     (none_longer bytes piece inside (no_text bytes f.0 f.1 f.2), inl (more_line_fault bytes piece fault f))
 more_fault bytes piece fault inside (inr f) =
@@ -85,17 +91,26 @@ grown : (pieces : List (List ℕ)) (piece : List ℕ) → concat (pieces ++ piec
 grown [] piece = append-nil piece
 grown (p ∷ pieces) piece = ap (λ (t : List ℕ). p ++ t) (grown pieces piece) ∙ sym (append_assoc p (concat pieces) piece)
 
-step_stands : (bytes piece : List ℕ) (old new : Parsing) (result : Result HeadStep HeadFault) → StandsFor old bytes → IsOpen old → Feeds old piece result new → StandsFor new (bytes ++ piece)
-step_stands bytes piece (reading held) new (Ok More) e is-open f = subst (λ (p : Parsing). StandsFor p (bytes ++ piece)) (sym f.0) (ap (λ (t : List ℕ). t ++ piece) e)
+step_stands : (bytes piece : List ℕ) (old new : Parsing) (result : Result HeadStep HeadFault) → StandsFor old bytes → IsOpen old → Feeds old piece result new
+    → StandsFor new (bytes ++ piece)
+step_stands bytes piece (reading held) new (Ok More) e is-open f = subst (λ (p : Parsing). StandsFor p (bytes ++ piece)) (sym f.0)
+    (ap (λ (t : List ℕ). t ++ piece) e)
 step_stands bytes piece (reading held) new (Ok (Ready taken h)) e is-open f =
-    subst (λ (p : Parsing). StandsFor p (bytes ++ piece)) (sym f.0)
-    (h, held ++ take taken piece, drop taken piece, f.2, ap (λ (t : List ℕ). t ++ piece) (sym e) ∙ ap (λ (t : List ℕ). held ++ t) (sym (take-append-drop taken piece)) ∙ sym (append_assoc held (take taken piece) (drop taken piece)))
+    subst (λ (p : Parsing). StandsFor p (bytes ++ piece)) (sym f.0) (
+      h,
+      held ++ take taken piece,
+      drop taken piece,
+      f.2,
+      ap (λ (t : List ℕ). t ++ piece) (sym e)
+          ∙ ap (λ (t : List ℕ). held ++ t) (sym (take-append-drop taken piece)) ∙ sym (append_assoc held (take taken piece) (drop taken piece)),
+    )
 step_stands bytes piece (reading held) new (Err fault) e is-open f =
     subst (λ (p : Parsing). StandsFor p (bytes ++ piece)) (sym f.0)
     (subst (λ (b : List ℕ). (fault ≡ memory_fault) ⊎ ((HasHeader (b ++ piece) → ⊥) × IsFault (b ++ piece) fault)) e f.1)
 step_stands bytes piece complete new result e is-open f = absurd (is-open refl)
 step_stands bytes piece (refused fault) new result (inl memory) is-open f = subst (λ (p : Parsing). StandsFor p (bytes ++ piece)) (sym f.1) (inl memory)
-step_stands bytes piece (refused fault) new result (inr e) is-open f = subst (λ (p : Parsing). StandsFor p (bytes ++ piece)) (sym f.1) (inr (more_fault bytes piece fault e.0 e.1))
+step_stands bytes piece (refused fault) new result (inr e) is-open f = subst (λ (p : Parsing). StandsFor p (bytes ++ piece)) (sym f.1)
+    (inr (more_fault bytes piece fault e.0 e.1))
 
 pub any_pieces : {pieces : List (List ℕ)} {parser : Parsing} → Fed pieces parser → StandsFor parser (concat pieces)
 any_pieces none = refl

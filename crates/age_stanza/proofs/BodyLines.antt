@@ -1,32 +1,38 @@
 -- The lines of a body, of which each but the last spells 48 bytes.
 use Rattle.std.proofs.Common.{◌≡◌, ℕ, ◌<◌, ◌≤◌, ◌%◌, List, [], ◌∷◌, ◌++◌, length, take, drop, sym, ap, ◌∙◌, arith}
 use Rattle.std.proofs.lemmas.List.{append_assoc, length-take, take-append-drop}
-use Rattle.age_stanza.specs.Text.{text}
+use Rattle.age_stanza.specs.Text.{base64_text}
 use Rattle.age_stanza.specs.Grammar.{line, in_lines}
 use Rattle.age_stanza.proofs.Texts.{text-append, length-text}
 use Rattle.age_stanza.proofs.Lines.{in_lines-full, in_lines-short}
 
-pub full_line : (body : List ℕ) → 48 ≤ length body → in_lines 0 (text body) ≡ line (text (take 48 body)) ++ in_lines 0 (text (drop 48 body))
+pub full_line : (body : List ℕ) → 48 ≤ length body → in_lines 0 (base64_text body)
+    ≡ line (base64_text (take 48 body)) ++ in_lines 0 (base64_text (drop 48 body))
 full_line body le =
     let len : length (take 48 body) ≡ 48 = omega (arith, length-take 48 body) in
-    let long : length (text (take 48 body)) ≡ 64 = omega (arith, length-text (take 48 body)) in
+    let long : length (base64_text (take 48 body)) ≡ 64 = omega (arith, length-text (take 48 body)) in
     let whole : length (take 48 body) % 3 ≡ 0 = omega arith in
-    ap (λ (b : List ℕ). in_lines 0 (text b)) (sym (take-append-drop 48 body)) ∙ ap (in_lines 0) (text-append (take 48 body) (drop 48 body) whole)
-    ∙ in_lines-full 0 (text (take 48 body)) (text (drop 48 body)) (omega arith) (omega arith)
+    ap (λ (b : List ℕ). in_lines 0 (base64_text b)) (sym (take-append-drop 48 body)) ∙ ap (in_lines 0) (text-append (take 48 body) (drop 48 body) whole)
+    ∙ in_lines-full 0 (base64_text (take 48 body)) (base64_text (drop 48 body)) (omega arith) (omega arith)
 
-pub last_line : (body : List ℕ) → length body < 48 → in_lines 0 (text body) ≡ line (text body)
-last_line body lt = in_lines-short 0 (text body) (omega (arith, length-text body))
+pub last_line : (body : List ℕ) → length body < 48 → in_lines 0 (base64_text body) ≡ line (base64_text body)
+last_line body lt = in_lines-short 0 (base64_text body) (omega (arith, length-text body))
 
 -- a line more is written
-pub line_written : (out put next all rest : List ℕ) → 48 ≤ length rest → put ≡ out ++ text (take 48 rest) → next ≡ put ++ 10 ∷ [] → out ++ in_lines 0 (text rest) ≡ all
-    → next ++ in_lines 0 (text (drop 48 rest)) ≡ all
+pub line_written : (out put next all rest : List ℕ) → 48 ≤ length rest → put ≡ out ++ base64_text (take 48 rest) → next ≡ put ++ 10 ∷ []
+    → out ++ in_lines 0 (base64_text rest) ≡ all
+    → next ++ in_lines 0 (base64_text (drop 48 rest)) ≡ all
 line_written out put next all rest le puts pushes same =
-    let behind = in_lines 0 (text (drop 48 rest)) in
-    let grouped : next ++ behind ≡ out ++ (line (text (take 48 rest)) ++ behind) =
-    ap (λ (t : List ℕ). t ++ behind) (pushes ∙ ap (λ (t : List ℕ). t ++ 10 ∷ []) puts ∙ append_assoc out (text (take 48 rest)) (10 ∷ [])) ∙ append_assoc out (line (text (take 48 rest))) behind in
+    let behind = in_lines 0 (base64_text (drop 48 rest)) in
+    let grouped : next ++ behind ≡ out ++ (line (base64_text (take 48 rest)) ++ behind) =
+    ap (λ (t : List ℕ). t ++ behind) (pushes ∙ ap (λ (t : List ℕ). t ++ 10 ∷ []) puts ∙ append_assoc out (base64_text (take 48 rest)) (10 ∷ []))
+    ∙ append_assoc out (line (base64_text (take 48 rest))) behind in
     grouped ∙ ap (λ (t : List ℕ). out ++ t) (sym (full_line rest le)) ∙ same
 
 -- the last line is written
-pub last_written : (out put next all rest : List ℕ) → length rest < 48 → put ≡ out ++ text rest → next ≡ put ++ 10 ∷ [] → out ++ in_lines 0 (text rest) ≡ all → next ≡ all
+pub last_written : (out put next all rest : List ℕ) → length rest < 48 → put ≡ out ++ base64_text rest → next ≡ put ++ 10 ∷ []
+    → out ++ in_lines 0 (base64_text rest)
+    ≡ all → next ≡ all
 last_written out put next all rest lt puts pushes same =
-    pushes ∙ ap (λ (t : List ℕ). t ++ 10 ∷ []) puts ∙ append_assoc out (text rest) (10 ∷ []) ∙ ap (λ (t : List ℕ). out ++ t) (sym (last_line rest lt)) ∙ same
+    pushes ∙ ap (λ (t : List ℕ). t ++ 10 ∷ []) puts ∙ append_assoc out (base64_text rest) (10 ∷ []) ∙ ap (λ (t : List ℕ). out ++ t) (sym (last_line rest lt))
+    ∙ same

@@ -10,7 +10,7 @@ use Rattle.age_stanza.specs.declared.header.Header.{Header}
 use Rattle.age_stanza.specs.declared.place.Place.{Place}
 use Rattle.age_stanza.specs.declared.place.Place.TheVariants.{Start, Between, InBody}
 use Rattle.age_stanza.specs.declared.place.Next.TheVariants.{Go, Done}
-use Rattle.age_stanza.specs.Text.{text}
+use Rattle.age_stanza.specs.Text.{base64_text}
 use Rattle.age_stanza.specs.inner.LineMachine.{base64_bytes, ready, walk, after, step}
 use Rattle.age_stanza.specs.Grammar.{line, version, IsArgument, argument_line, in_lines, stanza_text, end_line, head_text, IsStanza, IsHeader}
 use Rattle.age_stanza.proofs.Texts.{text-append, length-text, decoded-text, IsBytes-take, IsBytes-drop, IsLine, IsLine-append, text_line, line_from_test}
@@ -31,7 +31,7 @@ argument_line_line : (args : List (List ℕ)) → AllByRecursion IsArgument args
 argument_line_line args valid = IsLine-append (codes "->") (flat_map (λ b. 32 ∷ b) args) (line_from_test (codes "->") refl) (spaced_line args valid)
 
 end_line_line : (mac : List ℕ) → IsLine (end_line mac)
-end_line_line mac = IsLine-append (codes "--- ") (text mac) (line_from_test (codes "--- ") refl) (text_line mac)
+end_line_line mac = IsLine-append (codes "--- ") (base64_text mac) (line_from_test (codes "--- ") refl) (text_line mac)
 
 -- ---- a walk over one line
 
@@ -56,12 +56,14 @@ pub step_version : step Start version ≡ Ok (Go (Between []))
 unfolding step
 step_version = refl
 
-step_end : (ss : List Stanza) (mac : List ℕ) → 0 < length ss → length mac ≡ 32 → IsBytes mac → step (Between ss) (end_line mac) ≡ Ok (Done (record { stanzas = ss; mac = mac }))
+step_end : (ss : List Stanza) (mac : List ℕ) → 0 < length ss → length mac ≡ 32 → IsBytes mac → step (Between ss) (end_line mac)
+    ≡ Ok (Done (record { stanzas = ss; mac = mac }))
 unfolding step
 step_end [] mac some long fits = absurd (omega arith)
 step_end (s ∷ ss) mac some long fits = rw (read_end_line mac long fits) refl
 
-step_arguments : (ss : List Stanza) (args : List (List ℕ)) → 0 < length args → AllByRecursion IsArgument args → step (Between ss) (argument_line args) ≡ Ok (Go (InBody ss args []))
+step_arguments : (ss : List Stanza) (args : List (List ℕ)) → 0 < length args → AllByRecursion IsArgument args → step (Between ss) (argument_line args)
+    ≡ Ok (Go (InBody ss args []))
 unfolding step
 step_arguments ss [] some valid = absurd (omega arith)
 step_arguments ss (a ∷ args) some valid = rw (read_argument_line (a ∷ args) some valid) refl
@@ -79,27 +81,32 @@ step_last ss args body l more short is = rw (le-ltb 64 (length l) (omega arith),
 -- ---- a walk over a body
 
 abbrev PassesBody : List Stanza → List (List ℕ) → List ℕ → List ℕ → ℕ → List ℕ → Type 0
-PassesBody ss args body rest n cs = (m : ℕ) × (walk (InBody ss args body) n [] (in_lines 0 (text rest) ++ cs)
+PassesBody ss args body rest n cs = (m : ℕ) × (walk (InBody ss args body) n [] (in_lines 0 (base64_text rest) ++ cs)
     ≡ walk (Between (ss ++ (record { args = args; body = body ++ rest }) ∷ [])) m [] cs)
 
-last_body : (ss : List Stanza) (args : List (List ℕ)) (body rest : List ℕ) (n : ℕ) (cs : List ℕ) → length rest < 48 → IsBytes rest → PassesBody ss args body rest n cs
+last_body : (ss : List Stanza) (args : List (List ℕ)) (body rest : List ℕ) (n : ℕ) (cs : List ℕ) → length rest < 48 → IsBytes rest
+    → PassesBody ss args body rest n cs
 last_body ss args body rest n cs lt fits =
-    let short : length (text rest) < 64 = omega (arith, length-text rest) in (
+    let short : length (base64_text rest) < 64 = omega (arith, length-text rest) in (
       n + 1,
-      rw (in_lines-short 0 (text rest) (omega arith))
-          (walk_go (InBody ss args body) _ n (text rest) cs (text_line rest) (step_last ss args body (text rest) rest short (decoded-text rest fits))),
+      rw (in_lines-short 0 (base64_text rest) (omega arith))
+          (walk_go (InBody ss args body) _ n (base64_text rest) cs (text_line rest) (step_last ss args body (base64_text rest) rest short
+          (decoded-text rest fits))),
     )
 
 full_body : (ss : List Stanza) (args : List (List ℕ)) (body a b : List ℕ) (n : ℕ) (cs : List ℕ) → length a ≡ 48 → IsBytes a
     → PassesBody ss args (body ++ a) b (n + 1) cs → PassesBody ss args body (a ++ b) n cs
 full_body ss args body a b n cs len fits on =
-    let long : length (text a) ≡ 64 = omega (arith, length-text a) in
+    let long : length (base64_text a) ≡ 64 = omega (arith, length-text a) in
     let whole : length a % 3 ≡ 0 = omega arith in
-    let cut : in_lines 0 (text (a ++ b)) ≡ line (text a) ++ in_lines 0 (text b) = rw (text-append a b whole) (in_lines-full 0 (text a) (text b) (omega arith) (omega arith)) in
-    let one = walk_go (InBody ss args body) (InBody ss args (body ++ a)) n (text a) (in_lines 0 (text b) ++ cs) (text_line a) (step_full ss args body (text a) a long (decoded-text a fits)) in
-    (on.0, rw (cut, append_assoc (line (text a))) (one ∙ rw append_assoc at on.1))
+    let cut : in_lines 0 (base64_text (a ++ b)) ≡ line (base64_text a) ++ in_lines 0 (base64_text b) = rw (text-append a b whole)
+    (in_lines-full 0 (base64_text a) (base64_text b) (omega arith) (omega arith)) in
+    let one = walk_go (InBody ss args body) (InBody ss args (body ++ a)) n (base64_text a) (in_lines 0 (base64_text b) ++ cs) (text_line a)
+    (step_full ss args body (base64_text a) a long (decoded-text a fits)) in
+    (on.0, rw (cut, append_assoc (line (base64_text a))) (one ∙ rw append_assoc at on.1))
 
-pub body_walk : (fuel : ℕ) (ss : List Stanza) (args : List (List ℕ)) (body rest : List ℕ) (n : ℕ) (cs : List ℕ) → length rest ≤ fuel → IsBytes rest → PassesBody ss args body rest n cs
+pub body_walk : (fuel : ℕ) (ss : List Stanza) (args : List (List ℕ)) (body rest : List ℕ) (n : ℕ) (cs : List ℕ) → length rest ≤ fuel → IsBytes rest
+    → PassesBody ss args body rest n cs
 body_walk zero ss args body rest n cs le fits = last_body ss args body rest n cs (omega arith) fits
 body_walk (suc fuel) ss args body rest n cs le fits = elim (cases_lt (length rest) 48) [
   | inl lt ↦ last_body ss args body rest n cs lt fits
@@ -123,19 +130,23 @@ PassesStanzas more ss n rest = (m : ℕ) × (walk (Between ss) n [] (flat_map st
 pub stanzas_reach : (more ss : List Stanza) (n : ℕ) (rest : List ℕ) → AllByRecursion IsStanza more → PassesStanzas more ss n rest
 stanzas_reach [] ss n rest valid = (n, rw append-nil refl)
 stanzas_reach (s ∷ more) ss n rest valid =
-    let apart = three_parts (line (argument_line s.args)) (in_lines 0 (text s.body)) (flat_map stanza_text more) rest in
-    let one = walk_go (Between ss) (InBody ss s.args []) n (argument_line s.args) (in_lines 0 (text s.body) ++ (flat_map stanza_text more ++ rest))
+    let apart = three_parts (line (argument_line s.args)) (in_lines 0 (base64_text s.body)) (flat_map stanza_text more) rest in
+    let one = walk_go (Between ss) (InBody ss s.args []) n (argument_line s.args) (in_lines 0 (base64_text s.body) ++ (flat_map stanza_text more ++ rest))
     (argument_line_line s.args valid.0.arguments) (step_arguments ss s.args valid.0.some_argument valid.0.arguments) in
     let two = body_walk (length s.body) ss s.args [] s.body (n + 1) (flat_map stanza_text more ++ rest) (omega arith) valid.0.body in
-    let three = stanzas_reach more (ss ++ s ∷ []) two.0 rest valid.1 in
-    (three.0, ap (walk (Between ss) n []) apart ∙ one ∙ two.1 ∙ three.1 ∙ ap (λ (x : List Stanza). walk (Between x) three.0 [] rest) (append_assoc ss (s ∷ []) more))
+    let three = stanzas_reach more (ss ++ s ∷ []) two.0 rest valid.1 in (
+      three.0,
+      ap (walk (Between ss) n []) apart ∙ one ∙ two.1 ∙ three.1 ∙ ap (λ (x : List Stanza). walk (Between x) three.0 [] rest)
+          (append_assoc ss (s ∷ []) more),
+    )
 
 stanzas_walk : (more ss : List Stanza) (n : ℕ) (mac rest : List ℕ) → 0 < length (ss ++ more) → AllByRecursion IsStanza more → length mac ≡ 32 → IsBytes mac
     → walk (Between ss) n [] (tail_text more mac ++ rest) ≡ ready (record { stanzas = ss ++ more; mac = mac }) rest
 stanzas_walk more ss n mac rest some valid long fits =
     let reach = stanzas_reach more ss n (line (end_line mac) ++ rest) valid in
     ap (walk (Between ss) n []) (append_assoc (flat_map stanza_text more) (line (end_line mac)) rest) ∙ reach.1
-    ∙ walk_done (Between (ss ++ more)) (record { stanzas = ss ++ more; mac = mac }) reach.0 (end_line mac) rest (end_line_line mac) (step_end (ss ++ more) mac some long fits)
+    ∙ walk_done (Between (ss ++ more)) (record { stanzas = ss ++ more; mac = mac }) reach.0 (end_line mac) rest (end_line_line mac)
+    (step_end (ss ++ more) mac some long fits)
 
 -- ---- a walk over a header's text
 

@@ -6,7 +6,8 @@ use Rattle.std.proofs.lemmas.Bool.{false≢true, leb-true, le-leb, and_parts, an
 use Rattle.std.proofs.lemmas.List.Elements.{All-from_recursion, recursion_from_All, All-from_all_within}
 
 -- a test of each element that was made in turn
-pub all_is : {X : Type 0} (P : X → Type 0) (d : X) (r : Bool) (xs : List X) → MatchBool r (AllWithin P xs 0 (length xs)) ((k : ℕ) × (k < length xs) × HoldsAt (λ x. P x → ⊥) xs k)
+pub all_is : {X : Type 0} (P : X → Type 0) (d : X) (r : Bool) (xs : List X) → MatchBool r (AllWithin P xs 0 (length xs)) ((k : ℕ) × (k < length xs)
+    × HoldsAt (λ x. P x → ⊥) xs k)
     → (IsTrue r → AllByRecursion P xs) × (AllByRecursion P xs → IsTrue r)
 all_is P d true xs h = (λ _. recursion_from_All P xs (All-from_all_within P xs h), λ _. refl)
 all_is P d false xs h = (λ e. absurd (false≢true e), λ each. absurd (h.2 d (All-from_recursion P xs each h.0 d h.1)))

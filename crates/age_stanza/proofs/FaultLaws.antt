@@ -19,7 +19,7 @@ use Rattle.age_stanza.specs.declared.place.Place.{Place}
 use Rattle.age_stanza.specs.declared.place.Place.TheVariants.{Start, Between, InBody}
 use Rattle.age_stanza.specs.declared.place.Next.{Next}
 use Rattle.age_stanza.specs.declared.place.Next.TheVariants.{Go, Done}
-use Rattle.age_stanza.specs.Text.{text}
+use Rattle.age_stanza.specs.Text.{base64_text}
 use Rattle.age_stanza.specs.inner.LineMachine.{base64_bytes, unfinished, ready, faulty, walk, after, step, end_line_result, argument_line_result}
 use Rattle.age_stanza.specs.inner.LineMachine.{body_line_result, arguments_of, mac_of, fault_at}
 use Rattle.age_stanza.specs.Grammar.{line, version, in_lines, stanza_text, end_line, head_text, IsStanza, IsHeader}
@@ -66,7 +66,7 @@ completes (Between ss) known =
 completes (InBody ss args body) known =
     let s : Stanza = record { args = args; body = body ++ [] } in
     let valid : IsStanza s = record { some_argument = known.1; arguments = known.2; body = IsBytes-append body [] known.3 no_bytes } in
-    (record { stanzas = ss ++ s ∷ []; mac = zeros }, in_lines 0 (text []) ++ tail_text [] zeros, pushed_valid ss s known.0 valid, ([], [], refl, refl))
+    (record { stanzas = ss ++ s ∷ []; mac = zeros }, in_lines 0 (base64_text []) ++ tail_text [] zeros, pushed_valid ss s known.0 valid, ([], [], refl, refl))
 
 -- ---- where a walk stands behind whole lines
 
@@ -89,11 +89,13 @@ count_line (c ∷ l) lined =
     let one : ends_line c ≡ 0 = rw (ne_eqb c 10 lined.0) refl in
     sum_by-cons ends_line c (line l) ∙ rw one (rw (count_line l lined.1) refl)
 
-pub at_next : (before l : List ℕ) (place next : Place) (n : ℕ) → At before place n → IsLine l → IsBytes l → step place l ≡ Ok (Go next) → At (before ++ line l) next (n + 1)
+pub at_next : (before l : List ℕ) (place next : Place) (n : ℕ) → At before place n → IsLine l → IsBytes l → step place l ≡ Ok (Go next)
+    → At (before ++ line l) next (n + 1)
 at_next before l place next n at lined fits e =
     let led = leads place next l at.known fits e in
     let one = count_line l lined in
-    let both : count_by (λ c. eqb c 10) (before ++ line l) ≡ count_by (λ c. eqb c 10) before + count_by (λ c. eqb c 10) (line l) = sum_by-append ends_line before (line l) in
+    let both : count_by (λ c. eqb c 10) (before ++ line l) ≡ count_by (λ c. eqb c 10) before + count_by (λ c. eqb c 10) (line l) = sum_by-append ends_line
+    before (line l) in
     record {
       known = led.0;
       line_is = omega (arith, at.line_is, one, both);
@@ -128,7 +130,8 @@ same_fault f g e = cc
 line_parts : (before l : List ℕ) (c : ℕ) (cs : List ℕ) → c ≡ 10 → before ++ (l ++ c ∷ cs) ≡ before ++ (line l ++ cs)
 line_parts before l c cs lf = rw lf (ap (λ (t : List ℕ). before ++ t) (sym (append_assoc l (10 ∷ []) cs)))
 
-met_end : (before l : List ℕ) (c : ℕ) (cs : List ℕ) (place : Place) (n : ℕ) (fault : HeadFault) (read : Result Next HeadKind) → At before place n → IsLine l → IsBytes (l ++ c ∷ cs)
+met_end : (before l : List ℕ) (c : ℕ) (cs : List ℕ) (place : Place) (n : ℕ) (fault : HeadFault) (read : Result Next HeadKind) → At before place n
+    → IsLine l → IsBytes (l ++ c ∷ cs)
     → ((next : Place) → At (before ++ line l) next (n + 1) → IsBytes cs → walk next (n + 1) [] cs ≡ faulty fault → Met ((before ++ line l) ++ cs) fault)
     → c ≡ 10 → step place l ≡ read → after n cs (λ q. walk q (n + 1) [] cs) read ≡ faulty fault → Met (before ++ (l ++ c ∷ cs)) fault
 met_end before l c cs place n fault (Err kind) at lined fits on lf is e =
@@ -164,12 +167,14 @@ met_end before l c cs place n fault (Ok (Go next)) at lined fits on lf is e =
       fault_is = deeper.fault_is;
     }
 
-pub met : (before l bs : List ℕ) (place : Place) (n : ℕ) (fault : HeadFault) → At before place n → IsLine l → IsBytes (l ++ bs) → walk place n l bs ≡ faulty fault → Met (before ++ (l ++ bs)) fault
+pub met : (before l bs : List ℕ) (place : Place) (n : ℕ) (fault : HeadFault) → At before place n → IsLine l → IsBytes (l ++ bs) → walk place n l bs
+    ≡ faulty fault → Met (before ++ (l ++ bs)) fault
 unfolding walk
 met before l [] place n fault at lined fits e = absurd cc
 met before l (c ∷ cs) place n fault at lined fits e =
     elim (chosen (eqb c 10) (after n cs (λ q. walk q (n + 1) [] cs) (step place l)) (walk place n (l ++ c ∷ []) cs) (faulty fault) e) [
-      | inl g ↦ met_end before l c cs place n fault (step place l) at lined fits (λ next there fits' e'. met (before ++ line l) [] cs next (n + 1) fault there tt fits' e') (eqb-true c 10 g.0) refl g.1
+      | inl g ↦ met_end before l c cs place n fault (step place l) at lined fits (λ next there fits' e'. met (before ++ line l) [] cs next (n + 1) fault
+          there tt fits' e') (eqb-true c 10 g.0) refl g.1
       | inr g ↦
           let deeper = met before (l ++ c ∷ []) cs place n fault at (IsLine-append l (c ∷ []) lined (eqb-false c 10 g.0, tt)) (rw append_assoc fits) g.1 in
           rw append_assoc at deeper
@@ -186,7 +191,8 @@ pub record Passed (bytes : List ℕ) : Type 0 where
   pub parts : bytes ≡ before ++ l
   pub one_line : IsLine l
 
-passed_end : (before l : List ℕ) (c : ℕ) (cs : List ℕ) (place : Place) (n : ℕ) (read : Result Next HeadKind) → At before place n → IsLine l → IsBytes (l ++ c ∷ cs)
+passed_end : (before l : List ℕ) (c : ℕ) (cs : List ℕ) (place : Place) (n : ℕ) (read : Result Next HeadKind) → At before place n → IsLine l
+    → IsBytes (l ++ c ∷ cs)
     → ((next : Place) → At (before ++ line l) next (n + 1) → IsBytes cs → walk next (n + 1) [] cs ≡ unfinished → Passed ((before ++ line l) ++ cs))
     → c ≡ 10 → step place l ≡ read → after n cs (λ q. walk q (n + 1) [] cs) read ≡ unfinished → Passed (before ++ (l ++ c ∷ cs))
 passed_end before l c cs place n (Err kind) at lined fits on lf is e = absurd cc
@@ -195,15 +201,25 @@ passed_end before l c cs place n (Ok (Go next)) at lined fits on lf is e =
     let there = at_next before l place next n at lined (front_bytes l (c ∷ cs) fits) is in
     let deeper = on next there (IsBytes-tail (c ∷ []) cs (IsBytes-tail l (c ∷ cs) fits)) e in
     let joined : before ++ (l ++ c ∷ cs) ≡ (before ++ line l) ++ cs = line_parts before l c cs lf ∙ sym (append_assoc before (line l) cs) in
-    record { before = deeper.before; l = deeper.l; place = deeper.place; n = deeper.n; at = deeper.at; parts = joined ∙ deeper.parts; one_line = deeper.one_line }
+    record {
+      before = deeper.before;
+      l = deeper.l;
+      place = deeper.place;
+      n = deeper.n;
+      at = deeper.at;
+      parts = joined ∙ deeper.parts;
+      one_line = deeper.one_line;
+    }
 
-pub passed : (before l bs : List ℕ) (place : Place) (n : ℕ) → At before place n → IsLine l → IsBytes (l ++ bs) → walk place n l bs ≡ unfinished → Passed (before ++ (l ++ bs))
+pub passed : (before l bs : List ℕ) (place : Place) (n : ℕ) → At before place n → IsLine l → IsBytes (l ++ bs) → walk place n l bs ≡ unfinished
+    → Passed (before ++ (l ++ bs))
 unfolding walk
 passed before l [] place n at lined fits e =
     record { before = before; l = l; place = place; n = n; at = at; parts = ap (λ (t : List ℕ). before ++ t) (append-nil l); one_line = lined }
 passed before l (c ∷ cs) place n at lined fits e =
     elim (chosen (eqb c 10) (after n cs (λ q. walk q (n + 1) [] cs) (step place l)) (walk place n (l ++ c ∷ []) cs) unfinished e) [
-      | inl g ↦ passed_end before l c cs place n (step place l) at lined fits (λ next there fits' e'. passed (before ++ line l) [] cs next (n + 1) there tt fits' e') (eqb-true c 10 g.0) refl g.1
+      | inl g ↦ passed_end before l c cs place n (step place l) at lined fits (λ next there fits' e'. passed (before ++ line l) [] cs next (n + 1) there
+          tt fits' e') (eqb-true c 10 g.0) refl g.1
       | inr g ↦
           let deeper = passed before (l ++ c ∷ []) cs place n at (IsLine-append l (c ∷ []) lined (eqb-false c 10 g.0, tt)) (rw append_assoc fits) g.1 in
           rw append_assoc at deeper
@@ -236,23 +252,25 @@ told_begun ss kind None e = cc
 told_begun ss kind (Some args) e = absurd cc
 
 end_starts : (l : List ℕ) → IsEndLine l → starts_with nat_eq l (codes "---") ≡ true
-end_starts l has = starts_from l (codes "---") (32 ∷ text has.0) has.3
+end_starts l has = starts_from l (codes "---") (32 ∷ base64_text has.0) has.3
 
 true_false : (b : Bool) → b ≡ true → b ≡ false → ⊥
 true_false b t f = cc
 
 told_between : (ss : List Stanza) (l : List ℕ) (kind : HeadKind) → IsBytes l → step (Between ss) l ≡ Err kind → RefusesBetween l kind
 unfolding step
-told_between ss l kind fits e = elim (chosen (starts_with nat_eq l (codes "---")) (end_line_result ss (mac_of l)) (argument_line_result ss (arguments_of l)) (Err kind) e) [
-  | inl h ↦
-      let told = told_ended ss l kind (mac_of l) fits refl h.1 in
-      record { no_stanza = told.0; bad_end = λ _ not. told.1 not; bad_stanza = λ f. absurd (true_false _ h.0 f) }
-  | inr h ↦
-      let told = told_begun ss kind (arguments_of l) h.1 in
-      record { no_stanza = λ has. absurd (true_false _ (end_starts l has) h.0); bad_end = λ t _. absurd (true_false _ t h.0); bad_stanza = λ _. told }
-]
+told_between ss l kind fits e = elim (chosen (starts_with nat_eq l (codes "---")) (end_line_result ss (mac_of l)) (argument_line_result ss (arguments_of l))
+    (Err kind) e) [
+      | inl h ↦
+          let told = told_ended ss l kind (mac_of l) fits refl h.1 in
+          record { no_stanza = told.0; bad_end = λ _ not. told.1 not; bad_stanza = λ f. absurd (true_false _ h.0 f) }
+      | inr h ↦
+          let told = told_begun ss kind (arguments_of l) h.1 in
+          record { no_stanza = λ has. absurd (true_false _ (end_starts l has) h.0); bad_end = λ t _. absurd (true_false _ t h.0); bad_stanza = λ _. told }
+    ]
 
-told_continued : (ss : List Stanza) (args : List (List ℕ)) (body : List ℕ) (kind : HeadKind) (full : Bool) (o : Option (List ℕ)) → body_line_result ss args body full o ≡ Err kind → kind ≡ BadBody
+told_continued : (ss : List Stanza) (args : List (List ℕ)) (body : List ℕ) (kind : HeadKind) (full : Bool) (o : Option (List ℕ))
+    → body_line_result ss args body full o ≡ Err kind → kind ≡ BadBody
 told_continued ss args body kind true None e = cc
 told_continued ss args body kind false None e = cc
 told_continued ss args body kind true (Some more) e = absurd cc
@@ -260,10 +278,11 @@ told_continued ss args body kind false (Some more) e = absurd cc
 
 told_body : (ss : List Stanza) (args : List (List ℕ)) (body l : List ℕ) (kind : HeadKind) → step (InBody ss args body) l ≡ Err kind → kind ≡ BadBody
 unfolding step
-told_body ss args body l kind e = elim (chosen (ltb 64 (length l)) (Err BadBody) (body_line_result ss args body (eqb (length l) 64) (base64_bytes l)) (Err kind) e) [
-  | inl h ↦ cc (h.1)
-  | inr h ↦ told_continued ss args body kind (eqb (length l) 64) (base64_bytes l) h.1
-]
+told_body ss args body l kind e = elim (chosen (ltb 64 (length l)) (Err BadBody) (body_line_result ss args body (eqb (length l) 64) (base64_bytes l))
+    (Err kind) e) [
+      | inl h ↦ cc (h.1)
+      | inr h ↦ told_continued ss args body kind (eqb (length l) 64) (base64_bytes l) h.1
+    ]
 
 -- ---- which place it is
 
@@ -276,7 +295,8 @@ pub stanzas_before : (before : List ℕ) (ss : List Stanza) (n : ℕ) → At bef
 stanzas_before before ss n at =
     let h : Header = record { stanzas = ss; mac = zeros } in
     let e = at.stands h (tail_text [] zeros) ([], sym (append-nil ss), refl) in
-    append_cancel_right before (stanzas_text ss) (line (end_line zeros)) (e ∙ sym (append_assoc (line version) (flat_map stanza_text ss) (line (end_line zeros))))
+    append_cancel_right before (stanzas_text ss) (line (end_line zeros)) (e
+    ∙ sym (append_assoc (line version) (flat_map stanza_text ss) (line (end_line zeros))))
 
 no_text : (ss : List Stanza) → [] ≡ stanzas_text ss → ⊥
 no_text ss e = cc
@@ -284,7 +304,8 @@ no_text ss e = cc
 -- an empty line goes on in a body
 empty_goes : (ss : List Stanza) (args : List (List ℕ)) (body : List ℕ) (n : ℕ) → walk (InBody ss args body) n [] (line [] ++ []) ≡ unfinished
 unfolding walk
-empty_goes ss args body n = walk_go (InBody ss args body) _ n [] [] tt (step_last ss args body [] [] (omega arith) (subst (λ (t : List ℕ). base64_bytes t ≡ Some []) text-nil (decoded-text [] no_bytes)))
+empty_goes ss args body n = walk_go (InBody ss args body) _ n [] [] tt
+    (step_last ss args body [] [] (omega arith) (subst (λ (t : List ℕ). base64_bytes t ≡ Some []) text-nil (decoded-text [] no_bytes)))
 
 empty_refused : (ss : List Stanza) (n : ℕ) → walk (Between ss) n [] (line [] ++ []) ≡ faulty (fault_at BadStanzaLine n)
 unfolding walk step arguments_of
@@ -302,7 +323,8 @@ not_first before ss args body n at e =
     let there = at.reaches (line [] ++ []) in
     apart (fault_at NotAge 1) (sym (empty_goes ss args body n) ∙ sym there ∙ ap (λ (b : List ℕ). walk Start 1 [] (b ++ (line [] ++ []))) e ∙ empty_first)
 
-pub not_between : (before : List ℕ) (ss ts : List Stanza) (args : List (List ℕ)) (body : List ℕ) (n : ℕ) → At before (InBody ss args body) n → AllByRecursion IsStanza ts → before ≡ stanzas_text ts → ⊥
+pub not_between : (before : List ℕ) (ss ts : List Stanza) (args : List (List ℕ)) (body : List ℕ) (n : ℕ) → At before (InBody ss args body) n
+    → AllByRecursion IsStanza ts → before ≡ stanzas_text ts → ⊥
 not_between before ss ts args body n at valid e =
     let there = at.reaches (line [] ++ []) in
     let reach = stanzas_reach ts [] 2 (line [] ++ []) valid in
@@ -339,7 +361,8 @@ pub not_ready : (f : HeadFault) (h : Header) (rest : List ℕ) → faulty f ≡ 
 not_ready f h rest e = cc
 
 -- no text goes on behind a line that is refused
-pub no_text_goes_on : (before l : List ℕ) (place : Place) (n : ℕ) (kind : HeadKind) → At before place n → IsLine l → step place l ≡ Err kind → Begins (before ++ line l) → ⊥
+pub no_text_goes_on : (before l : List ℕ) (place : Place) (n : ℕ) (kind : HeadKind) → At before place n → IsLine l → step place l ≡ Err kind
+    → Begins (before ++ line l) → ⊥
 no_text_goes_on before l place n kind at lined e has =
     let h = has.0 in
     let r = has.1 in
@@ -356,7 +379,8 @@ never_begun : (ss : List Stanza) (o : Option (List (List ℕ))) → argument_lin
 never_begun ss None e = cc
 never_begun ss (Some args) e = cc
 
-never_continued : (ss : List Stanza) (args : List (List ℕ)) (body : List ℕ) (full : Bool) (o : Option (List ℕ)) → body_line_result ss args body full o ≡ Err Memory → ⊥
+never_continued : (ss : List Stanza) (args : List (List ℕ)) (body : List ℕ) (full : Bool) (o : Option (List ℕ)) → body_line_result ss args body full o
+    ≡ Err Memory → ⊥
 never_continued ss args body true None e = cc
 never_continued ss args body false None e = cc
 never_continued ss args body true (Some more) e = cc
@@ -371,14 +395,16 @@ never_memory Start l e = elim (chosen (bytes_eq l version) (Ok (Go (Between []))
     | inr g ↦ cc (g.1)
   ]
 ]
-never_memory (Between ss) l e = elim (chosen (starts_with nat_eq l (codes "---")) (end_line_result ss (mac_of l)) (argument_line_result ss (arguments_of l)) (Err Memory) e) [
-  | inl h ↦ never_ended ss (mac_of l) h.1
-  | inr h ↦ never_begun ss (arguments_of l) h.1
-]
-never_memory (InBody ss args body) l e = elim (chosen (ltb 64 (length l)) (Err BadBody) (body_line_result ss args body (eqb (length l) 64) (base64_bytes l)) (Err Memory) e) [
-  | inl h ↦ cc (h.1)
-  | inr h ↦ never_continued ss args body (eqb (length l) 64) (base64_bytes l) h.1
-]
+never_memory (Between ss) l e = elim (chosen (starts_with nat_eq l (codes "---")) (end_line_result ss (mac_of l)) (argument_line_result ss (arguments_of l))
+    (Err Memory) e) [
+      | inl h ↦ never_ended ss (mac_of l) h.1
+      | inr h ↦ never_begun ss (arguments_of l) h.1
+    ]
+never_memory (InBody ss args body) l e = elim (chosen (ltb 64 (length l)) (Err BadBody) (body_line_result ss args body (eqb (length l) 64) (base64_bytes l))
+    (Err Memory) e) [
+      | inl h ↦ cc (h.1)
+      | inr h ↦ never_continued ss args body (eqb (length l) 64) (base64_bytes l) h.1
+    ]
 
 named : (kind : HeadKind) (n : ℕ) → (kind ≡ Memory → ⊥) → ((fault_at kind n).line ≡ n) × ((fault_at kind n).kind ≡ kind)
 named Memory n not = absurd (not refl)

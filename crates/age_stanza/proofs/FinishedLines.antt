@@ -49,7 +49,8 @@ line_after-begun front l lined =
 
 line_after-line : (front l : List ℕ) → IsLine l → line_after (front ++ line l) ≡ line_after front + 1
 line_after-line front l lined =
-    let both : count_by (λ c. eqb c 10) (front ++ line l) ≡ count_by (λ c. eqb c 10) front + count_by (λ c. eqb c 10) (line l) = sum_by-append ends_line front (line l) in
+    let both : count_by (λ c. eqb c 10) (front ++ line l) ≡ count_by (λ c. eqb c 10) front + count_by (λ c. eqb c 10) (line l) = sum_by-append ends_line
+    front (line l) in
     let one = count_line l lined in
     omega (arith, both, one)
 
@@ -69,7 +70,8 @@ last_finished held lines n (inr (front, is)) size line_count =
     let here : lines ≡ line_after front = omega arith in
     here ∙ ap line_after (sym cut)
 
-pub finished_number : (place : Place) (lines n : ℕ) → LeadTo place lines → length (bytes_before place ++ []) ≡ n + 1 → lines ≡ line_after (take n (bytes_before place ++ []))
+pub finished_number : (place : Place) (lines n : ℕ) → LeadTo place lines → length (bytes_before place ++ []) ≡ n + 1 → lines
+    ≡ line_after (take n (bytes_before place ++ []))
 finished_number place lines n led size =
     rw append-nil (last_finished (bytes_before place) lines n led.are_lines (rw append-nil at size) led.line_count)
 
@@ -80,9 +82,11 @@ begun_number_of_last place lines n [] led lined some size = absurd (some refl)
 begun_number_of_last place lines n (x ∷ xs) led lined some size =
     let last = last_of x xs in
     let front_lined : IsLine last.0 = All-front (λ c. c ≡ 10 → ⊥) last.0 (last.1 ∷ []) (subst IsLine last.2 lined) in
-    let is : bytes_before place ++ (x ∷ xs) ≡ (bytes_before place ++ last.0) ++ last.1 ∷ [] = ap (λ (t : List ℕ). bytes_before place ++ t) last.2 ∙ sym (append_assoc (bytes_before place) last.0 (last.1 ∷ [])) in
+    let is : bytes_before place ++ (x ∷ xs) ≡ (bytes_before place ++ last.0) ++ last.1 ∷ [] = ap (λ (t : List ℕ). bytes_before place ++ t) last.2
+    ∙ sym (append_assoc (bytes_before place) last.0 (last.1 ∷ [])) in
     let long : length (bytes_before place ++ last.0) ≡ n = omega (arith, ap length is, length-append (bytes_before place ++ last.0) (last.1 ∷ [])) in
-    let cut : take n (bytes_before place ++ (x ∷ xs)) ≡ bytes_before place ++ last.0 = ap (take n) is ∙ take_at (bytes_before place ++ last.0) (last.1 ∷ []) n long in
+    let cut : take n (bytes_before place ++ (x ∷ xs)) ≡ bytes_before place ++ last.0 = ap (take n) is
+    ∙ take_at (bytes_before place ++ last.0) (last.1 ∷ []) n long in
     begun_number place lines last.0 led front_lined ∙ ap line_after (sym cut)
 
 -- ---- the end of a line
@@ -96,23 +100,27 @@ ended_walk place lines l rest led lined =
 
 pub whole_walk : (place : Place) (lines : ℕ) (l : List ℕ) (h : Header) → LeadTo place lines → IsLine l → step place l ≡ Ok (Done h)
     → (rest : List ℕ) → walk Start 1 [] ((bytes_before place ++ l) ++ 10 ∷ rest) ≡ ready h rest
-whole_walk place lines l h led lined e rest = ended_walk place lines l rest led lined ∙ ap (after (lines + 1) rest (λ next. walk next (lines + 1 + 1) [] rest)) e
+whole_walk place lines l h led lined e rest = ended_walk place lines l rest led lined
+    ∙ ap (after (lines + 1) rest (λ next. walk next (lines + 1 + 1) [] rest)) e
 
 pub faulty_walk : (place : Place) (lines : ℕ) (l : List ℕ) (kind : HeadKind) → LeadTo place lines → IsLine l → (kind ≡ Memory) ⊎ (step place l ≡ Err kind)
-    → (fault_at kind (lines + 1) ≡ memory_fault) ⊎ ((rest : List ℕ) → walk Start 1 [] ((bytes_before place ++ l) ++ 10 ∷ rest) ≡ faulty (fault_at kind (lines + 1)))
+    → (fault_at kind (lines + 1) ≡ memory_fault) ⊎ ((rest : List ℕ) → walk Start 1 [] ((bytes_before place ++ l) ++ 10 ∷ rest)
+    ≡ faulty (fault_at kind (lines + 1)))
 faulty_walk place lines l kind led lined (inl memory) = inl (rw memory refl)
 faulty_walk place lines l kind led lined (inr e) =
     inr (λ rest. ended_walk place lines l rest led lined ∙ ap (after (lines + 1) rest (λ next. walk next (lines + 1 + 1) [] rest)) e)
 
 -- the bytes that led to the next place
-pub next_bytes : (place next : Place) (lines : ℕ) (l : List ℕ) → LeadTo place lines → IsBytes l → step place l ≡ Ok (Go next) → bytes_before next ++ [] ≡ (bytes_before place ++ l) ++ 10 ∷ []
+pub next_bytes : (place next : Place) (lines : ℕ) (l : List ℕ) → LeadTo place lines → IsBytes l → step place l ≡ Ok (Go next) → bytes_before next ++ []
+    ≡ (bytes_before place ++ l) ++ 10 ∷ []
 next_bytes place next lines l led fits e =
     append-nil (bytes_before next) ∙ (retells place next l led.whole_body fits e).0 ∙ sym (append_assoc (bytes_before place) l (10 ∷ []))
 
 lf_bytes : IsBytes (10 ∷ [])
 lf_bytes = bytes_from_pass (10 ∷ []) refl
 
-pub next_lead : (place next : Place) (lines : ℕ) (l : List ℕ) → LeadTo place lines → IsLine l → IsBytes l → step place l ≡ Ok (Go next) → LeadTo next (lines + 1)
+pub next_lead : (place next : Place) (lines : ℕ) (l : List ℕ) → LeadTo place lines → IsLine l → IsBytes l → step place l ≡ Ok (Go next)
+    → LeadTo next (lines + 1)
 next_lead place next lines l led lined fits e =
     let told = retells place next l led.whole_body fits e in
     record {
@@ -128,7 +136,8 @@ no_bytes : IsBytes []
 no_bytes = bytes_from_pass [] refl
 
 -- what is kept behind a finished line
-pub next_partial : (place next : Place) (bytes lines : ℕ) (l : List ℕ) → IsPartial place l bytes lines → bytes < 1048576 → step place l ≡ Ok (Go next) → IsPartial next [] (bytes + 1) (lines + 1)
+pub next_partial : (place next : Place) (bytes lines : ℕ) (l : List ℕ) → IsPartial place l bytes lines → bytes < 1048576 → step place l ≡ Ok (Go next)
+    → IsPartial next [] (bytes + 1) (lines + 1)
 next_partial place next bytes lines l known room e =
     let is = next_bytes place next lines l known.lead_to known.line_bytes e in
     let size = known.size in
@@ -141,7 +150,8 @@ next_partial place next bytes lines l known room e =
     }
 
 -- what is kept with more characters of the line
-pub longer_partial : (place : Place) (bytes lines : ℕ) (l more : List ℕ) → IsPartial place l bytes lines → IsLine more → IsBytes more → bytes + length more ≤ 1048576
+pub longer_partial : (place : Place) (bytes lines : ℕ) (l more : List ℕ) → IsPartial place l bytes lines → IsLine more → IsBytes more → bytes + length more
+    ≤ 1048576
     → IsPartial place (l ++ more) (bytes + length more) lines
 longer_partial place bytes lines l more known lined fits room =
     let size = known.size in
@@ -154,7 +164,8 @@ longer_partial place bytes lines l more known lined fits room =
     }
 
 -- the same, where so much is held
-pub whole_partial : (place : Place) (bytes lines : ℕ) (l more held : List ℕ) → IsPartial place l bytes lines → bytes_before place ++ l ≡ held → IsLine more → IsBytes more
+pub whole_partial : (place : Place) (bytes lines : ℕ) (l more held : List ℕ) → IsPartial place l bytes lines → bytes_before place ++ l ≡ held → IsLine more
+    → IsBytes more
     → length held + length more ≤ 1048576 → IsPartial place (l ++ more) (bytes + length more) lines
 whole_partial place bytes lines l more held known is lined fits room =
     let size = known.size in

@@ -60,28 +60,34 @@ no_line xs e = no_part 10 xs e
 
 -- ---- the loop over lines: what is left of the bytes, and what was read
 
-regrouped : (held rest bytes longer : List ℕ) (i : ℕ) → FirstLine rest i → held ++ rest ≡ bytes → longer ≡ held ++ take i rest → longer ++ 10 ∷ drop (i + 1) rest ≡ bytes
+regrouped : (held rest bytes longer : List ℕ) (i : ℕ) → FirstLine rest i → held ++ rest ≡ bytes → longer ≡ held ++ take i rest
+    → longer ++ 10 ∷ drop (i + 1) rest ≡ bytes
 regrouped held rest bytes longer i first e is =
-    ap (λ (t : List ℕ). t ++ 10 ∷ drop (i + 1) rest) is ∙ append_assoc held (take i rest) (10 ∷ drop (i + 1) rest) ∙ ap (λ (t : List ℕ). held ++ t) (sym first.parts) ∙ e
+    ap (λ (t : List ℕ). t ++ 10 ∷ drop (i + 1) rest) is ∙ append_assoc held (take i rest) (10 ∷ drop (i + 1) rest)
+    ∙ ap (λ (t : List ℕ). held ++ t) (sym first.parts) ∙ e
 
 pub faulty_at : (held rest bytes longer : List ℕ) (i : ℕ) (fault : HeadFault) → FirstLine rest i → held ++ rest ≡ bytes → longer ≡ held ++ take i rest
-    → (fault ≡ memory_fault) ⊎ ((behind : List ℕ) → walk Start 1 [] (longer ++ 10 ∷ behind) ≡ faulty fault) → (fault ≡ memory_fault) ⊎ (walk Start 1 [] bytes ≡ faulty fault)
+    → (fault ≡ memory_fault) ⊎ ((behind : List ℕ) → walk Start 1 [] (longer ++ 10 ∷ behind) ≡ faulty fault) → (fault ≡ memory_fault)
+    ⊎ (walk Start 1 [] bytes ≡ faulty fault)
 faulty_at held rest bytes longer i fault first e is (inl memory) = inl memory
 faulty_at held rest bytes longer i fault first e is (inr fails) =
     inr (ap (walk Start 1 []) (sym (regrouped held rest bytes longer i first e is)) ∙ fails (drop (i + 1) rest))
 
 -- what is left behind the first line
-after_line : (rest bytes : List ℕ) (i : ℕ) → length rest ≤ length bytes → rest ≡ drop (length bytes - length rest) bytes → drop (i + 1) rest ≡ drop (length bytes - length rest + i + 1) bytes
+after_line : (rest bytes : List ℕ) (i : ℕ) → length rest ≤ length bytes → rest ≡ drop (length bytes - length rest) bytes → drop (i + 1) rest
+    ≡ drop (length bytes - length rest + i + 1) bytes
 after_line rest bytes i within is =
     ap (drop (i + 1)) is ∙ drop-drop (i + 1) (length bytes - length rest) bytes ∙ ap (λ n. drop n bytes) (omega arith)
 
-pub ready_at : (held rest bytes joined longer : List ℕ) (i : ℕ) (h : Header) → FirstLine rest i → length rest ≤ length bytes → rest ≡ drop (length bytes - length rest) bytes
+pub ready_at : (held rest bytes joined longer : List ℕ) (i : ℕ) (h : Header) → FirstLine rest i → length rest ≤ length bytes → rest
+    ≡ drop (length bytes - length rest) bytes
     → held ++ rest ≡ joined → longer ≡ held ++ take i rest → ((behind : List ℕ) → walk Start 1 [] (longer ++ 10 ∷ behind) ≡ ready h behind)
     → (length bytes - length rest + i + 1 ≤ length bytes) × (walk Start 1 [] joined ≡ ready h (drop (length bytes - length rest + i + 1) bytes))
 ready_at held rest bytes joined longer i h first within suffix e is finds =
     let lt = first.within in (
       omega arith,
-      ap (walk Start 1 []) (sym (regrouped held rest joined longer i first e is)) ∙ finds (drop (i + 1) rest) ∙ ap (ready h) (after_line rest bytes i within suffix),
+      ap (walk Start 1 []) (sym (regrouped held rest joined longer i first e is)) ∙ finds (drop (i + 1) rest)
+          ∙ ap (ready h) (after_line rest bytes i within suffix),
     )
 
 -- the loop's invariant behind the first line
@@ -90,7 +96,8 @@ pub record Left (held rest bytes joined : List ℕ) : Type 0 where
   pub suffix : rest ≡ drop (length bytes - length rest) bytes
   pub same : held ++ rest ≡ joined
 
-pub left_behind : (held rest bytes joined longer next : List ℕ) (i : ℕ) → FirstLine rest i → Left held rest bytes joined → longer ≡ held ++ take i rest → next ≡ longer ++ 10 ∷ []
+pub left_behind : (held rest bytes joined longer next : List ℕ) (i : ℕ) → FirstLine rest i → Left held rest bytes joined → longer ≡ held ++ take i rest
+    → next ≡ longer ++ 10 ∷ []
     → Left next (drop (i + 1) rest) bytes joined
 left_behind held rest bytes joined longer next i first left is next-is =
     let lt = first.within in
@@ -100,5 +107,6 @@ left_behind held rest bytes joined longer next i first left is next-is =
     record {
       within = omega arith;
       suffix = after_line rest bytes i within left.suffix ∙ ap (λ n. drop n bytes) at;
-      same = ap (λ (t : List ℕ). t ++ drop (i + 1) rest) next-is ∙ append_assoc longer (10 ∷ []) (drop (i + 1) rest) ∙ regrouped held rest joined longer i first left.same is;
+      same = ap (λ (t : List ℕ). t ++ drop (i + 1) rest) next-is ∙ append_assoc longer (10 ∷ []) (drop (i + 1) rest)
+          ∙ regrouped held rest joined longer i first left.same is;
     }

@@ -11,7 +11,7 @@ use Rattle.std.proofs.lemmas.Slice.Eq.{starts_is}
 use Rattle.std.proofs.lemmas.Option.{cond_some}
 use Rattle.base64.specs.GeneralPurpose.{IsBytes}
 use Rattle.age_stanza.specs.inner.LineMachine.{base64_bytes, arguments_from, arguments_of, mac_of, whole_mac}
-use Rattle.age_stanza.specs.Text.{text}
+use Rattle.age_stanza.specs.Text.{base64_text}
 use Rattle.age_stanza.specs.Grammar.{line, IsArgument, argument_line, in_lines, end_line}
 use Rattle.age_stanza.proofs.Texts.{text_of_decoded, decoded-text, IsBytes-drop}
 
@@ -102,19 +102,24 @@ arguments_sound done word (c ∷ cs) args dones visible e = elim (chosen (eqb c 
     | inr g ↦
         let space : c ≡ 32 = eqb-true c 32 h.0 in
         let rest = arguments_sound (done ++ word ∷ []) [] cs args (All-append IsArgument done (word ∷ []) dones ((some_length word g.0, visible), tt)) tt g.1 in
-        let joined : spaced done ++ (32 ∷ (word ++ c ∷ cs)) ≡ spaced (done ++ word ∷ []) ++ (32 ∷ cs) = rw (spaced_word done word, space) (sym (append_assoc (spaced done) (32 ∷ word) (32 ∷ cs))) in
+        let joined : spaced done ++ (32 ∷ (word ++ c ∷ cs)) ≡ spaced (done ++ word ∷ []) ++ (32 ∷ cs) = rw (
+          spaced_word done word,
+          space,
+        ) (sym (append_assoc (spaced done) (32 ∷ word) (32 ∷ cs))) in
         (joined ∙ rest.0, rest.1, rest.2)
   ]
   | inr h ↦ elim (chosen (leb 33 c && leb c 126) (arguments_from done (word ++ c ∷ []) cs) None (Some args) h.1) [
     | inl g ↦
         let parts = and_parts (leb 33 c) (leb c 126) g.0 in
-        let rest = arguments_sound done (word ++ c ∷ []) cs args dones (All-append IsVisible word (c ∷ []) visible ((leb-true 33 c parts.0, leb-true c 126 parts.1), tt)) g.1 in
+        let rest = arguments_sound done (word ++ c ∷ []) cs args dones
+        (All-append IsVisible word (c ∷ []) visible ((leb-true 33 c parts.0, leb-true c 126 parts.1), tt)) g.1 in
         (rw (← append_assoc word (c ∷ []) cs) rest.0, rest.1, rest.2)
     | inr g ↦ absurd (cc (g.1))
   ]
 ]
 
-pub arguments_complete : (done : List (List ℕ)) (word w : List ℕ) (ws : List (List ℕ)) → 0 < length (word ++ w) → AllByRecursion IsVisible w → AllByRecursion IsArgument ws
+pub arguments_complete : (done : List (List ℕ)) (word w : List ℕ) (ws : List (List ℕ)) → 0 < length (word ++ w) → AllByRecursion IsVisible w
+    → AllByRecursion IsArgument ws
     → arguments_from done word (w ++ spaced ws) ≡ Some (done ++ (word ++ w) ∷ ws)
 unfolding arguments_from
 arguments_complete done word [] [] some visible args =
@@ -122,13 +127,15 @@ arguments_complete done word [] [] some visible args =
     rw (append-nil word, long) refl
 arguments_complete done word [] (v ∷ vs) some visible args =
     let long : eqb (length word) 0 ≡ false = ne_eqb (length word) 0 (λ e. omega (arith, ap length (append-nil word))) in
-    rw (append-nil word, long) (arguments_complete (done ++ word ∷ []) [] v vs args.0.0 args.0.1 args.1 ∙ ap (λ (xs : List (List ℕ)). Some xs) (append_assoc done (word ∷ []) (v ∷ vs)))
+    rw (append-nil word, long) (arguments_complete (done ++ word ∷ []) [] v vs args.0.0 args.0.1 args.1
+    ∙ ap (λ (xs : List (List ℕ)). Some xs) (append_assoc done (word ∷ []) (v ∷ vs)))
 arguments_complete done word (c ∷ cs) ws some visible args =
     let seen : IsVisible c = visible.0 in
     let space : eqb c 32 ≡ false = ne_eqb c 32 (λ e. omega arith) in
     let pass : (leb 33 c && leb c 126) ≡ true = and_from (leb 33 c) (leb c 126) (le-leb 33 c seen.0) (le-leb c 126 seen.1) in
     let longer : 0 < length ((word ++ c ∷ []) ++ cs) = rw append_assoc some in
-    rw (space, pass) (arguments_complete done (word ++ c ∷ []) cs ws longer visible.1 args ∙ ap (λ (xs : List ℕ). Some (done ++ xs ∷ ws)) (append_assoc word (c ∷ []) cs))
+    rw (space, pass) (arguments_complete done (word ++ c ∷ []) cs ws longer visible.1 args
+    ∙ ap (λ (xs : List ℕ). Some (done ++ xs ∷ ws)) (append_assoc word (c ∷ []) cs))
 
 -- the letters of a word, and what follows it
 word_read : (done : List (List ℕ)) (word w cs : List ℕ) → AllByRecursion IsVisible w → arguments_from done word (w ++ cs) ≡ arguments_from done (word ++ w) cs
@@ -163,7 +170,8 @@ unfolding arguments_from
 no_word done word cs (inl e) none = rw (e, none) refl
 no_word done word cs (inr (rest, e)) none = rw (e, none) refl
 
-bad_word : (done : List (List ℕ)) (word w cs : List ℕ) → EndsWord cs → AllByRecursion (λ c. c ≡ 32 → ⊥) w → AllByRecursion IsVisible word → (IsArgument (word ++ w) → ⊥)
+bad_word : (done : List (List ℕ)) (word w cs : List ℕ) → EndsWord cs → AllByRecursion (λ c. c ≡ 32 → ⊥) w → AllByRecursion IsVisible word
+    → (IsArgument (word ++ w) → ⊥)
     → arguments_from done word (w ++ cs) ≡ None
 unfolding arguments_from
 bad_word done word [] cs ends others visible bad = elim (chosen (eqb (length word) 0) true false (eqb (length word) 0) (known_test (eqb (length word) 0))) [
@@ -175,19 +183,25 @@ bad_word done word (c ∷ w) cs ends others visible bad =
     elim (chosen (leb 33 c && leb c 126) true false (leb 33 c && leb c 126) (known_test (leb 33 c && leb c 126))) [
       | inl h ↦
           let parts = and_parts (leb 33 c) (leb c 126) h.0 in
-          rw (space, h.0) (bad_word done (word ++ c ∷ []) w cs ends others.1 (All-append IsVisible word (c ∷ []) visible ((leb-true 33 c parts.0, leb-true c 126 parts.1), tt))
+          rw (
+            space,
+            h.0,
+          ) (bad_word done (word ++ c ∷ []) w cs ends others.1
+          (All-append IsVisible word (c ∷ []) visible ((leb-true 33 c parts.0, leb-true c 126 parts.1), tt))
           (λ valid. bad (rw (← append_assoc word (c ∷ []) w) valid)))
       | inr h ↦ rw (space, h.0) refl
     ]
 
 -- a word that is no argument, before a space and at the end
-pub bad_argument : (done : List (List ℕ)) (w rest : List ℕ) → AllByRecursion (λ c. c ≡ 32 → ⊥) w → (IsArgument w → ⊥) → arguments_from done [] (w ++ 32 ∷ rest) ≡ None
+pub bad_argument : (done : List (List ℕ)) (w rest : List ℕ) → AllByRecursion (λ c. c ≡ 32 → ⊥) w → (IsArgument w → ⊥) → arguments_from done [] (w ++ 32 ∷ rest)
+    ≡ None
 bad_argument done w rest others bad = bad_word done [] w (32 ∷ rest) (inr (rest, refl)) others tt bad
 
 pub bad_last_argument : (done : List (List ℕ)) (w : List ℕ) → AllByRecursion (λ c. c ≡ 32 → ⊥) w → (IsArgument w → ⊥) → arguments_from done [] w ≡ None
 bad_last_argument done w others bad = ap (arguments_from done []) (sym (append-nil w)) ∙ bad_word done [] w [] (inl refl) others tt bad
 
-pub argument_line_read : (l : List ℕ) (args : List (List ℕ)) → arguments_of l ≡ Some args → (l ≡ argument_line args) × (0 < length args) × AllByRecursion IsArgument args
+pub argument_line_read : (l : List ℕ) (args : List (List ℕ)) → arguments_of l ≡ Some args → (l ≡ argument_line args) × (0 < length args)
+    × AllByRecursion IsArgument args
 unfolding arguments_of
 argument_line_read l args e = elim (chosen (starts_with nat_eq l (codes "-> ")) (arguments_from [] [] (drop 3 l)) None (Some args) e) [
   | inl h ↦
@@ -231,7 +245,7 @@ pub no_end_line : (l : List ℕ) → starts_with nat_eq l (codes "--- ") ≡ fal
 unfolding mac_of
 no_end_line l e = rw e refl
 
-pub mac_is : (l mac : List ℕ) → starts_with nat_eq l (codes "--- ") ≡ true → drop 4 l ≡ text mac → length mac ≡ 32 → IsBytes mac → Some mac ≡ mac_of l
+pub mac_is : (l mac : List ℕ) → starts_with nat_eq l (codes "--- ") ≡ true → drop 4 l ≡ base64_text mac → length mac ≡ 32 → IsBytes mac → Some mac ≡ mac_of l
 mac_is l mac starts is long fits =
     let whole : l ≡ end_line mac = starts_at l (codes "--- ") starts ∙ ap (λ (xs : List ℕ). codes "--- " ++ xs) is in
     sym (ap mac_of whole ∙ read_end_line mac long fits)
@@ -240,7 +254,7 @@ none_unless : (o : Option (List ℕ)) → ((mac : List ℕ) → o ≡ Some mac �
 none_unless None never = refl
 none_unless (Some mac) never = absurd (never mac refl)
 
-pub no_mac : (l : List ℕ) → IsBytes l → ((mac : List ℕ) → IsBytes mac → length mac ≡ 32 → drop 4 l ≡ text mac → ⊥) → None ≡ mac_of l
+pub no_mac : (l : List ℕ) → IsBytes l → ((mac : List ℕ) → IsBytes mac → length mac ≡ 32 → drop 4 l ≡ base64_text mac → ⊥) → None ≡ mac_of l
 no_mac l fits never =
     none_unless (mac_of l)
     (λ mac e.

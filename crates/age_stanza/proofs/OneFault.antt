@@ -43,10 +43,12 @@ not_before bytes before l before' l' f g lt =
     let is : before' ≡ before ++ x = prefix_of before (line l ++ f.rest) before' (line l' ++ g.rest) both (omega arith) in
     let size : length before' ≡ length before + length x = ap length is ∙ length-append before x in
     let behind : line l ++ f.rest ≡ x ++ (line l' ++ g.rest) =
-    append_cancel_left before (line l ++ f.rest) (x ++ (line l' ++ g.rest)) (both ∙ ap (λ (t : List ℕ). t ++ (line l' ++ g.rest)) is ∙ append_assoc before x (line l' ++ g.rest)) in
+    append_cancel_left before (line l ++ f.rest) (x ++ (line l' ++ g.rest)) (both ∙ ap (λ (t : List ℕ). t ++ (line l' ++ g.rest)) is
+    ∙ append_assoc before x (line l' ++ g.rest)) in
     elim (cases_lt (length x) (length (line l))) [
       | inl short ↦
-          let front : l ≡ x ++ drop (length x) l = prefix_of x (line l' ++ g.rest) l (10 ∷ f.rest) (sym behind ∙ append_assoc l (10 ∷ []) f.rest) (omega (arith, length-append l (10 ∷ []))) in
+          let front : l ≡ x ++ drop (length x) l = prefix_of x (line l' ++ g.rest) l (10 ∷ f.rest) (sym behind ∙ append_assoc l (10 ∷ []) f.rest)
+          (omega (arith, length-append l (10 ∷ []))) in
           let lined : IsLine x = All-front (λ c. c ≡ 10 → ⊥) x (drop (length x) l) (subst IsLine front f.one_line) in
           let none = begun_is_none before x (subst AreLines is g.whole) lined in
           omega arith
@@ -93,7 +95,8 @@ over_ready h rest e = cc
 over_faulty : (f : HeadFault) → faulty f ≡ unfinished → ⊥
 over_faulty f e = cc
 
-same_between : (l : List ℕ) (k k' : HeadKind) (o : Option (List ℕ)) (b : Bool) → IsBytes l → mac_of l ≡ o → starts_with nat_eq l (codes "---") ≡ b → RefusesBetween l k → RefusesBetween l k' → k ≡ k'
+same_between : (l : List ℕ) (k k' : HeadKind) (o : Option (List ℕ)) (b : Bool) → IsBytes l → mac_of l ≡ o → starts_with nat_eq l (codes "---") ≡ b
+    → RefusesBetween l k → RefusesBetween l k' → k ≡ k'
 same_between l k k' o false fits is starts r r' = r.bad_stanza starts ∙ sym (r'.bad_stanza starts)
 same_between l k k' None true fits is starts r r' =
     let not_end : IsEndLine l → ⊥ = λ has. none-some has.0 (sym is ∙ ap mac_of has.3 ∙ read_end_line has.0 has.1 has.2) in
@@ -138,10 +141,12 @@ nothing_walked = refl
 same_elsewhere : (before l : List ℕ) (k k' : HeadKind) → (walk Start 1 [] before ≡ unfinished → ⊥) → Refuses before l k → Refuses before l k' → k ≡ k'
 same_elsewhere before l k k' over r r' =
     let some : before ≡ [] → ⊥ = λ none. over (ap (walk Start 1 []) none ∙ nothing_walked) in
-    let other : (ts : List Stanza) → AllByRecursion IsStanza ts → before ≡ stanzas_text ts → ⊥ = λ ts valid is. over (ap (walk Start 1 []) is ∙ stanzas_unfinished ts valid) in
+    let other : (ts : List Stanza) → AllByRecursion IsStanza ts → before ≡ stanzas_text ts → ⊥ = λ ts valid is. over (ap (walk Start 1 []) is
+    ∙ stanzas_unfinished ts valid) in
     r.in_body some other ∙ sym (r'.in_body some other)
 
-same_kind : (before l : List ℕ) (k k' : HeadKind) (o : Outcome) → IsBytes before → IsBytes l → AreLines before → walk Start 1 [] before ≡ o → Refuses before l k → Refuses before l k' → k ≡ k'
+same_kind : (before l : List ℕ) (k k' : HeadKind) (o : Outcome) → IsBytes before → IsBytes l → AreLines before → walk Start 1 [] before ≡ o → Refuses before l k
+    → Refuses before l k' → k ≡ k'
 same_kind before l k k' unfinished fits fits' whole is r r' =
     let p = passed [] [] before Start 1 at_start tt fits is in
     same_at before l k k' p.place p.n fits' (subst (λ (b : List ℕ). At b p.place p.n) (sym (whole_at before p whole)) p.at) r r'
@@ -160,11 +165,14 @@ same_line_fault : (bytes : List ℕ) (f g : HeadFault) → IsBytes bytes → IsL
 same_line_fault bytes f g fits (before, l, first, line_is, refuses) (before', l', first', line_is', refuses') =
     let front : before ≡ before' = same_before bytes before l before' l' first first' in
     let behind : line l ++ first.rest ≡ line l' ++ first'.rest =
-    append_cancel_left before (line l ++ first.rest) (line l' ++ first'.rest) (sym first.parts ∙ first'.parts ∙ ap (λ (t : List ℕ). t ++ (line l' ++ first'.rest)) (sym front)) in
+    append_cancel_left before (line l ++ first.rest) (line l' ++ first'.rest) (sym first.parts ∙ first'.parts
+    ∙ ap (λ (t : List ℕ). t ++ (line l' ++ first'.rest)) (sym front)) in
     let here : l ≡ l' = same_line l l' first.rest first'.rest first.one_line first'.one_line behind in
     let parts_fit : IsBytes (before ++ (line l ++ first.rest)) = subst IsBytes first.parts fits in
-    let line_fits : IsBytes l = front_bytes l (10 ∷ first.rest) (subst IsBytes (append_assoc l (10 ∷ []) first.rest) (IsBytes-tail before (line l ++ first.rest) parts_fit)) in
-    let there : Refuses before l g.kind = subst (λ (m : List ℕ). Refuses before m g.kind) (sym here) (subst (λ (b : List ℕ). Refuses b l' g.kind) (sym front) refuses') in
+    let line_fits : IsBytes l = front_bytes l (10 ∷ first.rest) (subst IsBytes (append_assoc l (10 ∷ []) first.rest)
+    (IsBytes-tail before (line l ++ first.rest) parts_fit)) in
+    let there : Refuses before l g.kind = subst (λ (m : List ℕ). Refuses before m g.kind) (sym here)
+    (subst (λ (b : List ℕ). Refuses b l' g.kind) (sym front) refuses') in
     same_fault f g
     (same_kind before l f.kind g.kind (walk Start 1 [] before) (front_bytes before (line l ++ first.rest) parts_fit) line_fits first.whole refl refuses there)
     (line_is ∙ ap line_after front ∙ sym line_is')

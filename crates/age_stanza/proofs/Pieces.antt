@@ -35,12 +35,14 @@ no_header held piece room fits none has =
     let cut : held ++ take room piece ≡ front ++ take (1048576 - length front) rest =
     kept held piece room fits ∙ ap (take 1048576) has.4 ∙ ap (λ n. take n (front ++ rest)) long ∙ take-append-add front rest (1048576 - length front) in
     none h (take (1048576 - length front) rest)
-    (ap (walk Start 1 []) (cut ∙ ap (λ (t : List ℕ). t ++ take (1048576 - length front) rest) text.spells.bytes_are) ∙ text_walk h (take (1048576 - length front) rest) text.spells.valid)
+    (ap (walk Start 1 []) (cut ∙ ap (λ (t : List ℕ). t ++ take (1048576 - length front) rest) text.spells.bytes_are)
+    ∙ text_walk h (take (1048576 - length front) rest) text.spells.valid)
 
 not_unfinished : (h : Header) (rest : List ℕ) → unfinished ≡ ready h rest → ⊥
 not_unfinished h rest e = cc
 
-pub none_unfinished : (held piece : List ℕ) (room : ℕ) → length held + room ≡ 1048576 → walk Start 1 [] (held ++ take room piece) ≡ unfinished → HasHeader (held ++ piece) → ⊥
+pub none_unfinished : (held piece : List ℕ) (room : ℕ) → length held + room ≡ 1048576 → walk Start 1 [] (held ++ take room piece) ≡ unfinished
+    → HasHeader (held ++ piece) → ⊥
 none_unfinished held piece room fits e = no_header held piece room fits (λ h rest f. not_unfinished h rest (sym e ∙ f))
 
 take_none : (n : ℕ) → ◌≡◌ {A = List ℕ} (take n []) []
@@ -56,7 +58,8 @@ none_held held lt e has =
 -- ---- the same, as the parser meets it
 
 -- a header that ends inside the piece
-pub found_in : (held piece : List ℕ) (room taken : ℕ) (h : Header) → room ≡ 1048576 - length held → length held < 1048576 → IsUnderWay held → IsBytes (held ++ take room piece)
+pub found_in : (held piece : List ℕ) (room taken : ℕ) (h : Header) → room ≡ 1048576 - length held → length held < 1048576 → IsUnderWay held
+    → IsBytes (held ++ take room piece)
     → taken ≤ length (take room piece) → walk Start 1 [] (held ++ take room piece) ≡ ready h (drop taken (take room piece))
     → (taken ≤ length piece) × HeadText h (held ++ take taken piece)
 found_in held piece room taken h room-is lt known fits le reads =
@@ -87,7 +90,8 @@ none_in held piece room fault room-is lt fits (inr reads) =
     )
 
 -- neither, and the limit is reached
-pub none_yet : (held piece : List ℕ) (room : ℕ) (fault : HeadFault) → room ≡ 1048576 - length held → length held < 1048576 → IsUnderWay (held ++ take room piece)
+pub none_yet : (held piece : List ℕ) (room : ℕ) (fault : HeadFault) → room ≡ 1048576 - length held → length held < 1048576
+    → IsUnderWay (held ++ take room piece)
     → length (held ++ take room piece) ≡ 1048576 → fault ≡ record { kind = HeadTooLong; line = line_after (take 1048575 (held ++ take room piece)) }
     → (HasHeader (held ++ piece) → ⊥) × IsFault (held ++ piece) fault
 none_yet held piece room fault room-is lt known long fault-is =

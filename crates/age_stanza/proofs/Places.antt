@@ -17,7 +17,7 @@ use Rattle.age_stanza.specs.declared.place.Place.{Place}
 use Rattle.age_stanza.specs.declared.place.Place.TheVariants.{Start, Between, InBody}
 use Rattle.age_stanza.specs.declared.place.Next.{Next}
 use Rattle.age_stanza.specs.declared.place.Next.TheVariants.{Go, Done}
-use Rattle.age_stanza.specs.Text.{text}
+use Rattle.age_stanza.specs.Text.{base64_text}
 use Rattle.age_stanza.specs.inner.LineMachine.{base64_bytes, ready, walk, after, step, end_line_result, argument_line_result, body_line_result, arguments_of}
 use Rattle.age_stanza.specs.inner.LineMachine.{mac_of}
 use Rattle.age_stanza.specs.Grammar.{line, version, IsArgument, argument_line, in_lines, stanza_text, end_line, head_text, IsStanza, IsHeader}
@@ -40,7 +40,7 @@ abbrev pub Follows : Place → Header → List ℕ → Type 0
 Follows Start h t = t ≡ head_text h
 Follows (Between ss) h t = (more : List Stanza) × (h.stanzas ≡ ss ++ more) × (t ≡ tail_text more h.mac)
 Follows (InBody ss args body) h t = (rest : List ℕ) × (more : List Stanza) × (h.stanzas ≡ ss ++ (record { args = args; body = body ++ rest }) ∷ more)
-    × (t ≡ in_lines 0 (text rest) ++ tail_text more h.mac)
+    × (t ≡ in_lines 0 (base64_text rest) ++ tail_text more h.mac)
 
 -- ---- a line that leads on
 
@@ -72,10 +72,10 @@ not_ended [] (Some mac) next e = cc
 not_ended (s ∷ ss) (Some mac) next e = cc
 
 stanza_front : (args : List (List ℕ)) (body : List ℕ) (more : List Stanza) (mac : List ℕ)
-    → line (argument_line args) ++ (in_lines 0 (text body) ++ tail_text more mac) ≡ tail_text (record { args = args; body = body } ∷ more) mac
+    → line (argument_line args) ++ (in_lines 0 (base64_text body) ++ tail_text more mac) ≡ tail_text (record { args = args; body = body } ∷ more) mac
 stanza_front args body more mac =
     let s : Stanza = record { args = args; body = body } in
-    sym (append_assoc (line (argument_line args)) (in_lines 0 (text body)) (tail_text more mac))
+    sym (append_assoc (line (argument_line args)) (in_lines 0 (base64_text body)) (tail_text more mac))
     ∙ sym (append_assoc (stanza_text s) (flat_map stanza_text more) (line (end_line mac)))
 
 leads_begun : (ss : List Stanza) (l : List ℕ) (next : Place) (o : Option (List (List ℕ))) → AllByRecursion IsStanza ss → arguments_of l ≡ o
@@ -91,17 +91,18 @@ leads_begun ss l next (Some args) known is e =
 
 leads_between : (ss : List Stanza) (l : List ℕ) (next : Place) → AllByRecursion IsStanza ss → step (Between ss) l ≡ Ok (Go next) → Leads (Between ss) l next
 unfolding step
-leads_between ss l next known e = elim (chosen (starts_with nat_eq l (codes "---")) (end_line_result ss (mac_of l)) (argument_line_result ss (arguments_of l)) (Ok (Go next)) e) [
-  | inl h ↦ absurd (not_ended ss (mac_of l) next h.1)
-  | inr h ↦ leads_begun ss l next (arguments_of l) known refl h.1
-]
+leads_between ss l next known e = elim (chosen (starts_with nat_eq l (codes "---")) (end_line_result ss (mac_of l)) (argument_line_result ss (arguments_of l))
+    (Ok (Go next)) e) [
+      | inl h ↦ absurd (not_ended ss (mac_of l) next h.1)
+      | inr h ↦ leads_begun ss l next (arguments_of l) known refl h.1
+    ]
 
 -- a body's text, cut after a whole line
-body_split : (l more rest : List ℕ) → l ≡ text more → length l ≡ 64 → in_lines 0 (text (more ++ rest)) ≡ line l ++ in_lines 0 (text rest)
+body_split : (l more rest : List ℕ) → l ≡ base64_text more → length l ≡ 64 → in_lines 0 (base64_text (more ++ rest)) ≡ line l ++ in_lines 0 (base64_text rest)
 body_split l more rest is long =
     let size : (4 * length more + 2) / 3 ≡ 64 = sym (length-text more) ∙ ap length (sym is) ∙ long in
     let whole : length more % 3 ≡ 0 = omega arith in
-    rw (text-append more rest whole, ← is) (in_lines-full 0 l (text rest) (omega arith) (omega arith))
+    rw (text-append more rest whole, ← is) (in_lines-full 0 l (base64_text rest) (omega arith) (omega arith))
 
 leads_continued : (ss : List Stanza) (args : List (List ℕ)) (body l : List ℕ) (next : Place) (full : Bool) (o : Option (List ℕ))
     → IsPlace (InBody ss args body) → IsBytes l → length l ≤ 64 → eqb (length l) 64 ≡ full → base64_bytes l ≡ o
@@ -120,28 +121,29 @@ leads_continued ss args body l next true (Some more) known fits le long is e =
         more ++ f.0,
         f.1,
         rw (← append_assoc body more f.0) f.2,
-        rw (f.3, body_split l more f.0 read.0 len) (sym (append_assoc (line l) (in_lines 0 (text f.0)) (tail_text f.1 h.mac))),
+        rw (f.3, body_split l more f.0 read.0 len) (sym (append_assoc (line l) (in_lines 0 (base64_text f.0)) (tail_text f.1 h.mac))),
       ),
     )
 leads_continued ss args body l next false (Some more) known fits le long is e =
     let read = text_of_decoded l more fits is in
     let ne = eqb-false (length l) 64 long in
-    let short : 0 + length (text more) < 64 = rw (← read.0) (omega arith) in
+    let short : 0 + length (base64_text more) < 64 = rw (← read.0) (omega arith) in
     let s : Stanza = record { args = args; body = body ++ more } in
     let valid : IsStanza s = record { some_argument = known.1; arguments = known.2; body = IsBytes-append body more known.3 read.1 } in
     subst (λ (q : Place). Leads (InBody ss args body) l q) (same_go (Between (ss ++ s ∷ [])) next e) (
       All-append IsStanza ss (s ∷ []) known.0 (valid, tt),
       λ h t f.
-          (more, f.0, f.1 ∙ append_assoc ss (s ∷ []) f.0, rw (f.2, in_lines-short 0 (text more) short, read.0) refl),
+          (more, f.0, f.1 ∙ append_assoc ss (s ∷ []) f.0, rw (f.2, in_lines-short 0 (base64_text more) short, read.0) refl),
     )
 
 leads_body : (ss : List Stanza) (args : List (List ℕ)) (body l : List ℕ) (next : Place) → IsPlace (InBody ss args body) → IsBytes l
     → step (InBody ss args body) l ≡ Ok (Go next) → Leads (InBody ss args body) l next
 unfolding step
-leads_body ss args body l next known fits e = elim (chosen (ltb 64 (length l)) (Err BadBody) (body_line_result ss args body (eqb (length l) 64) (base64_bytes l)) (Ok (Go next)) e) [
-  | inl h ↦ absurd (cc (h.1))
-  | inr h ↦ leads_continued ss args body l next (eqb (length l) 64) (base64_bytes l) known fits (ltb-false 64 (length l) h.0) refl refl h.1
-]
+leads_body ss args body l next known fits e = elim
+    (chosen (ltb 64 (length l)) (Err BadBody) (body_line_result ss args body (eqb (length l) 64) (base64_bytes l)) (Ok (Go next)) e) [
+      | inl h ↦ absurd (cc (h.1))
+      | inr h ↦ leads_continued ss args body l next (eqb (length l) 64) (base64_bytes l) known fits (ltb-false 64 (length l) h.0) refl refl h.1
+    ]
 
 pub leads : (place next : Place) (l : List ℕ) → IsPlace place → IsBytes l → step place l ≡ Ok (Go next) → Leads place l next
 leads Start next l known fits e = leads_start l next e
@@ -187,12 +189,14 @@ ends_ended (s ∷ ss) l h (Some mac) known fits is e =
 
 ends_between : (ss : List Stanza) (l : List ℕ) (h : Header) → AllByRecursion IsStanza ss → IsBytes l → step (Between ss) l ≡ Ok (Done h) → Ends (Between ss) l h
 unfolding step
-ends_between ss l h known fits e = elim (chosen (starts_with nat_eq l (codes "---")) (end_line_result ss (mac_of l)) (argument_line_result ss (arguments_of l)) (Ok (Done h)) e) [
-  | inl g ↦ ends_ended ss l h (mac_of l) known fits refl g.1
-  | inr g ↦ absurd (not_begun ss (arguments_of l) h g.1)
-]
+ends_between ss l h known fits e = elim (chosen (starts_with nat_eq l (codes "---")) (end_line_result ss (mac_of l)) (argument_line_result ss (arguments_of l))
+    (Ok (Done h)) e) [
+      | inl g ↦ ends_ended ss l h (mac_of l) known fits refl g.1
+      | inr g ↦ absurd (not_begun ss (arguments_of l) h g.1)
+    ]
 
-not_continued : (ss : List Stanza) (args : List (List ℕ)) (body : List ℕ) (h : Header) (full : Bool) (o : Option (List ℕ)) → body_line_result ss args body full o ≡ Ok (Done h) → ⊥
+not_continued : (ss : List Stanza) (args : List (List ℕ)) (body : List ℕ) (h : Header) (full : Bool) (o : Option (List ℕ))
+    → body_line_result ss args body full o ≡ Ok (Done h) → ⊥
 not_continued ss args body h true None e = cc
 not_continued ss args body h false None e = cc
 not_continued ss args body h true (Some more) e = cc
@@ -200,10 +204,11 @@ not_continued ss args body h false (Some more) e = cc
 
 ends_body : (ss : List Stanza) (args : List (List ℕ)) (body l : List ℕ) (h : Header) → step (InBody ss args body) l ≡ Ok (Done h) → ⊥
 unfolding step
-ends_body ss args body l h e = elim (chosen (ltb 64 (length l)) (Err BadBody) (body_line_result ss args body (eqb (length l) 64) (base64_bytes l)) (Ok (Done h)) e) [
-  | inl g ↦ cc (g.1)
-  | inr g ↦ not_continued ss args body h (eqb (length l) 64) (base64_bytes l) g.1
-]
+ends_body ss args body l h e = elim (chosen (ltb 64 (length l)) (Err BadBody) (body_line_result ss args body (eqb (length l) 64) (base64_bytes l))
+    (Ok (Done h)) e) [
+      | inl g ↦ cc (g.1)
+      | inr g ↦ not_continued ss args body h (eqb (length l) 64) (base64_bytes l) g.1
+    ]
 
 ends : (place : Place) (l : List ℕ) (h : Header) → IsPlace place → IsBytes l → step place l ≡ Ok (Done h) → Ends place l h
 ends Start l h known fits e = absurd (ends_start l h e)
@@ -227,7 +232,8 @@ ended_line l c cs rest lf e = rw (lf, e) (sym (append_assoc l (10 ∷ []) rest))
 pub joined_line : (l : List ℕ) (c : ℕ) (cs t rest : List ℕ) → c ≡ 10 → cs ≡ t ++ rest → l ++ c ∷ cs ≡ (line l ++ t) ++ rest
 joined_line l c cs t rest lf e = ended_line l c cs (t ++ rest) lf e ∙ sym (append_assoc (line l) t rest)
 
-found_end : (place : Place) (n : ℕ) (l : List ℕ) (c : ℕ) (cs : List ℕ) (h : Header) (rest : List ℕ) (read : Result Next HeadKind) → IsPlace place → IsBytes (l ++ c ∷ cs)
+found_end : (place : Place) (n : ℕ) (l : List ℕ) (c : ℕ) (cs : List ℕ) (h : Header) (rest : List ℕ) (read : Result Next HeadKind) → IsPlace place
+    → IsBytes (l ++ c ∷ cs)
     → ((next : Place) → IsPlace next → IsBytes cs → walk next (n + 1) [] cs ≡ ready h rest → Found next [] cs h rest)
     → c ≡ 10 → step place l ≡ read → after n cs (λ next. walk next (n + 1) [] cs) read ≡ ready h rest → Found place l (c ∷ cs) h rest
 found_end place n l c cs h rest (Err kind) known fits on lf is e = absurd cc
@@ -256,7 +262,8 @@ unfolding walk
 found place n l [] h rest known fits e = absurd cc
 found place n l (c ∷ cs) h rest known fits e =
     elim (chosen (eqb c 10) (after n cs (λ next. walk next (n + 1) [] cs) (step place l)) (walk place n (l ++ c ∷ []) cs) (ready h rest) e) [
-      | inl g ↦ found_end place n l c cs h rest (step place l) known fits (λ next known' fits' e'. found next (n + 1) [] cs h rest known' fits' e') (eqb-true c 10 g.0) refl g.1
+      | inl g ↦ found_end place n l c cs h rest (step place l) known fits (λ next known' fits' e'. found next (n + 1) [] cs h rest known' fits' e')
+          (eqb-true c 10 g.0) refl g.1
       | inr g ↦
           let deeper = found place n (l ++ c ∷ []) cs h rest known (rw append_assoc fits) g.1 in
           record { valid = deeper.valid; t = deeper.t; split = sym (append_assoc l (c ∷ []) cs) ∙ deeper.split; follows = deeper.follows }

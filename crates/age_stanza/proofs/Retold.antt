@@ -14,7 +14,7 @@ use Rattle.age_stanza.specs.declared.fault.HeadKind.TheVariants.{NotAge, Armored
 use Rattle.age_stanza.specs.declared.place.Place.{Place}
 use Rattle.age_stanza.specs.declared.place.Place.TheVariants.{Start, Between, InBody}
 use Rattle.age_stanza.specs.declared.place.Next.TheVariants.{Go}
-use Rattle.age_stanza.specs.Text.{text}
+use Rattle.age_stanza.specs.Text.{base64_text}
 use Rattle.age_stanza.specs.inner.LineMachine.{base64_bytes, step, end_line_result, argument_line_result, body_line_result, arguments_of, mac_of}
 use Rattle.age_stanza.specs.Grammar.{line, version, argument_line, in_lines, stanza_text}
 use Rattle.age_stanza.specs.Faults.{stanzas_text, armor}
@@ -71,7 +71,8 @@ whole_line k (c ∷ d ∷ ds) e some =
 abbrev Retells : Place → List ℕ → Place → Type 0
 Retells place l next = (bytes_before next ≡ bytes_before place ++ line l) × IsWhole next
 
-retells_begun : (ss : List Stanza) (l : List ℕ) (next : Place) (o : Option (List (List ℕ))) → arguments_of l ≡ o → argument_line_result ss o ≡ Ok (Go next) → Retells (Between ss) l next
+retells_begun : (ss : List Stanza) (l : List ℕ) (next : Place) (o : Option (List (List ℕ))) → arguments_of l ≡ o → argument_line_result ss o ≡ Ok (Go next)
+    → Retells (Between ss) l next
 unfolding whole_lines
 retells_begun ss l next None is e = absurd cc
 retells_begun ss l next (Some args) is e =
@@ -89,27 +90,33 @@ retells_continued ss args body l next true (Some more) whole fits le long is e =
     let len : length l ≡ 64 = eqb-true (length l) 64 long in
     let size : (4 * length more + 2) / 3 ≡ 64 = sym (length-text more) ∙ ap length (sym read.0) ∙ len in
     let third : length body % 3 ≡ 0 = omega arith in
-    let lines : (0 + length (text body)) % 64 ≡ 0 = omega (arith, length-text body) in
-    let joined : whole_lines 0 (text (body ++ more)) ≡ whole_lines 0 (text body) ++ line l =
-    ap (whole_lines 0) (text-append body more third ∙ ap (λ (t : List ℕ). text body ++ t) (sym read.0)) ∙ whole-append 0 (text body) l lines (omega arith)
-    ∙ ap (λ (t : List ℕ). whole_lines 0 (text body) ++ t) (whole_line 0 l (omega arith) (omega arith)) in
+    let lines : (0 + length (base64_text body)) % 64 ≡ 0 = omega (arith, length-text body) in
+    let joined : whole_lines 0 (base64_text (body ++ more)) ≡ whole_lines 0 (base64_text body) ++ line l =
+    ap (whole_lines 0) (text-append body more third ∙ ap (λ (t : List ℕ). base64_text body ++ t) (sym read.0))
+    ∙ whole-append 0 (base64_text body) l lines (omega arith)
+    ∙ ap (λ (t : List ℕ). whole_lines 0 (base64_text body) ++ t) (whole_line 0 l (omega arith) (omega arith)) in
     let whole' : length (body ++ more) % 48 ≡ 0 = rw length-append (omega arith) in
-    subst (λ (q : Place). Retells (InBody ss args body) l q) (same_go (InBody ss args (body ++ more)) next e)
-    (ap (λ (t : List ℕ). stanzas_text ss ++ (line (argument_line args) ++ t)) joined ∙ regrouped (stanzas_text ss) (line (argument_line args)) (whole_lines 0 (text body)) (line l), whole')
+    subst (λ (q : Place). Retells (InBody ss args body) l q) (same_go (InBody ss args (body ++ more)) next e) (
+      ap (λ (t : List ℕ). stanzas_text ss ++ (line (argument_line args) ++ t)) joined
+          ∙ regrouped (stanzas_text ss) (line (argument_line args)) (whole_lines 0 (base64_text body)) (line l),
+      whole',
+    )
 retells_continued ss args body l next false (Some more) whole fits le long is e =
     let read = text_of_decoded l more fits is in
     let ne = eqb-false (length l) 64 long in
     let third : length body % 3 ≡ 0 = omega arith in
-    let lines : (0 + length (text body)) % 64 ≡ 0 = omega (arith, length-text body) in
+    let lines : (0 + length (base64_text body)) % 64 ≡ 0 = omega (arith, length-text body) in
     let s : Stanza = record { args = args; body = body ++ more } in
-    let joined : in_lines 0 (text (body ++ more)) ≡ whole_lines 0 (text body) ++ line l =
-    ap (in_lines 0) (text-append body more third ∙ ap (λ (t : List ℕ). text body ++ t) (sym read.0)) ∙ whole-in 0 (text body) l lines (omega arith)
-    ∙ ap (λ (t : List ℕ). whole_lines 0 (text body) ++ t) (in_lines-short 0 l (omega arith)) in
+    let joined : in_lines 0 (base64_text (body ++ more)) ≡ whole_lines 0 (base64_text body) ++ line l =
+    ap (in_lines 0) (text-append body more third ∙ ap (λ (t : List ℕ). base64_text body ++ t) (sym read.0))
+    ∙ whole-in 0 (base64_text body) l lines (omega arith)
+    ∙ ap (λ (t : List ℕ). whole_lines 0 (base64_text body) ++ t) (in_lines-short 0 l (omega arith)) in
     subst (λ (q : Place). Retells (InBody ss args body) l q) (same_go (Between (ss ++ s ∷ [])) next e) (
-      ap (λ (t : List ℕ). line version ++ t) (flat_map-append stanza_text ss (s ∷ []) ∙ ap (λ (t : List ℕ). flat_map stanza_text ss ++ t) (append-nil (stanza_text s)))
+      ap (λ (t : List ℕ). line version ++ t) (flat_map-append stanza_text ss (s ∷ [])
+          ∙ ap (λ (t : List ℕ). flat_map stanza_text ss ++ t) (append-nil (stanza_text s)))
           ∙ sym (append_assoc (line version) (flat_map stanza_text ss) (stanza_text s))
           ∙ ap (λ (t : List ℕ). stanzas_text ss ++ (line (argument_line args) ++ t)) joined
-          ∙ regrouped (stanzas_text ss) (line (argument_line args)) (whole_lines 0 (text body)) (line l),
+          ∙ regrouped (stanzas_text ss) (line (argument_line args)) (whole_lines 0 (base64_text body)) (line l),
       tt,
     )
 
@@ -125,11 +132,13 @@ retells Start next l whole fits e = elim (chosen (bytes_eq l version) (Ok (Go (B
     | inr g ↦ absurd (cc (g.1))
   ]
 ]
-retells (Between ss) next l whole fits e = elim (chosen (starts_with nat_eq l (codes "---")) (end_line_result ss (mac_of l)) (argument_line_result ss (arguments_of l)) (Ok (Go next)) e) [
-  | inl h ↦ absurd (not_ended ss (mac_of l) next h.1)
-  | inr h ↦ retells_begun ss l next (arguments_of l) refl h.1
-]
-retells (InBody ss args body) next l whole fits e = elim (chosen (ltb 64 (length l)) (Err BadBody) (body_line_result ss args body (eqb (length l) 64) (base64_bytes l)) (Ok (Go next)) e) [
-  | inl h ↦ absurd (cc (h.1))
-  | inr h ↦ retells_continued ss args body l next (eqb (length l) 64) (base64_bytes l) whole fits (ltb-false 64 (length l) h.0) refl refl h.1
-]
+retells (Between ss) next l whole fits e = elim (chosen (starts_with nat_eq l (codes "---")) (end_line_result ss (mac_of l))
+    (argument_line_result ss (arguments_of l)) (Ok (Go next)) e) [
+      | inl h ↦ absurd (not_ended ss (mac_of l) next h.1)
+      | inr h ↦ retells_begun ss l next (arguments_of l) refl h.1
+    ]
+retells (InBody ss args body) next l whole fits e = elim
+    (chosen (ltb 64 (length l)) (Err BadBody) (body_line_result ss args body (eqb (length l) 64) (base64_bytes l)) (Ok (Go next)) e) [
+      | inl h ↦ absurd (cc (h.1))
+      | inr h ↦ retells_continued ss args body l next (eqb (length l) 64) (base64_bytes l) whole fits (ltb-false 64 (length l) h.0) refl refl h.1
+    ]

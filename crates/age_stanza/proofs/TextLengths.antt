@@ -10,7 +10,7 @@ use Rattle.std.proofs.lemmas.List.{length-append, drop_more, drop_all}
 use Rattle.base64.specs.GeneralPurpose.{IsBytes}
 use Rattle.age_stanza.specs.declared.header.Stanza.{Stanza}
 use Rattle.age_stanza.specs.declared.header.Header.{Header}
-use Rattle.age_stanza.specs.Text.{text}
+use Rattle.age_stanza.specs.Text.{base64_text}
 use Rattle.age_stanza.specs.inner.Lengths.{HasArguments, Leaves, IsTextLength}
 use Rattle.age_stanza.specs.Grammar.{line, version, in_lines, stanza_text, end_line, head_text, IsStanza, HasText}
 use Rattle.age_stanza.proofs.Lines.{chosen}
@@ -20,7 +20,8 @@ by_cases : (b : Bool) → cond b true false ≡ b
 by_cases true = refl
 by_cases false = refl
 
-in_lines-cases : (k c : ℕ) (cs : List ℕ) → ((k ≡ 63) × (in_lines k (c ∷ cs) ≡ c ∷ 10 ∷ in_lines 0 cs)) ⊎ ((k ≡ 63 → ⊥) × (in_lines k (c ∷ cs) ≡ c ∷ in_lines (k + 1) cs))
+in_lines-cases : (k c : ℕ) (cs : List ℕ) → ((k ≡ 63) × (in_lines k (c ∷ cs) ≡ c ∷ 10 ∷ in_lines 0 cs))
+    ⊎ ((k ≡ 63 → ⊥) × (in_lines k (c ∷ cs) ≡ c ∷ in_lines (k + 1) cs))
 unfolding in_lines
 in_lines-cases k c cs = elim (chosen (eqb k 63) true false (eqb k 63) (by_cases (eqb k 63))) [
   | inl h ↦ inl (eqb-true k 63 h.0, rw (h.0) refl)
@@ -45,15 +46,21 @@ length-in_lines k (c ∷ cs) lt = elim (in_lines-cases k c cs) [
       omega arith
 ]
 
-pub length-body : (body : List ℕ) → length (in_lines 0 (text body)) ≡ (4 * length body + 2) / 3 + (4 * length body + 2) / 3 / 64 + 1
+pub length-body : (body : List ℕ) → length (in_lines 0 (base64_text body)) ≡ (4 * length body + 2) / 3 + (4 * length body + 2) / 3 / 64 + 1
 length-body body =
-    let lines = length-in_lines 0 (text body) (omega arith) in
+    let lines = length-in_lines 0 (base64_text body) (omega arith) in
     let size = length-text body in
     omega arith
 
 pub length-head : (h : Header) → length h.mac ≡ 32 → length (head_text h) ≡ length (flat_map stanza_text h.stanzas) + 70
 length-head h long =
-    omega (arith, length-append (line version) (flat_map stanza_text h.stanzas ++ line (end_line h.mac)), length-append (flat_map stanza_text h.stanzas) (line (end_line h.mac)), length-append (end_line h.mac) (10 ∷ []), length-text h.mac)
+    omega (
+      arith,
+      length-append (line version) (flat_map stanza_text h.stanzas ++ line (end_line h.mac)),
+      length-append (flat_map stanza_text h.stanzas) (line (end_line h.mac)),
+      length-append (end_line h.mac) (10 ∷ []),
+      length-text h.mac,
+    )
 
 -- what a difference leaves
 pub leaves : (r : Option ℕ) (size n room : ℕ) → SomeIff r (size ≤ room) (room - size) → n ≡ size → Leaves room n r
@@ -70,7 +77,8 @@ div_ceil-characters n = omega arith
 -- ---- the texts of stanzas
 
 -- a stanza's text is part of the texts from it on
-pub stanza_within : (ss : List Stanza) (i : ℕ) (s : Stanza) → i < length ss → s ≡ get_or ss i s → length (stanza_text s) ≤ length (flat_map stanza_text (drop i ss))
+pub stanza_within : (ss : List Stanza) (i : ℕ) (s : Stanza) → i < length ss → s ≡ get_or ss i s → length (stanza_text s)
+    ≤ length (flat_map stanza_text (drop i ss))
 stanza_within ss i s lt is =
     let first : drop i ss ≡ s ∷ drop (i + 1) ss = drop_more ss i s lt ∙ ap (λ (x : Stanza). x ∷ drop (i + 1) ss) (sym is) in
     let size = ap (λ (xs : List Stanza). length (flat_map stanza_text xs)) first in
@@ -85,14 +93,18 @@ valid_stanzas [] args bodies = tt
 valid_stanzas (s ∷ ss) args bodies = (record { some_argument = args.0.0; arguments = args.0.1; body = bodies.0 }, valid_stanzas ss args.1 bodies.1)
 
 -- a valid header whose text is within the limit has one
-pub has_text : (h : Header) (r : Option ℕ) → IsTextLength h r → is_some r ≡ true → 0 < length h.stanzas → AllByRecursion HasArguments h.stanzas → length h.mac ≡ 32 → HasText h
+pub has_text : (h : Header) (r : Option ℕ) → IsTextLength h r → is_some r ≡ true → 0 < length h.stanzas → AllByRecursion HasArguments h.stanzas
+    → length h.mac ≡ 32 → HasText h
 has_text h None len some stanzas args long = absurd (cc some)
 has_text h (Some size) len some stanzas args long =
     let is = len.0 in
     let within = len.1 in (
       head_text h,
       record {
-        spells = record { valid = record { some_stanza = stanzas; stanzas = valid_stanzas h.stanzas args len.3; mac_length = long; mac = len.2 }; bytes_are = refl };
+        spells = record {
+          valid = record { some_stanza = stanzas; stanzas = valid_stanzas h.stanzas args len.3; mac_length = long; mac = len.2 };
+          bytes_are = refl;
+        };
         within = omega arith;
       },
     )

@@ -13,7 +13,7 @@ use Rattle.base64.specs.Rfc4648.{encode_symbols}
 use Rattle.base64.specs.declared.decode.DecodeError.{DecodeError}
 use Rattle.base64.proofs.EngineFacts.{decode_of-encode_of, decode_of_strict, encode_of-append, front_bytes}
 use Rattle.base64.proofs.RoundTrip.{length-encode_symbols}
-use Rattle.age_stanza.specs.Text.{text}
+use Rattle.age_stanza.specs.Text.{base64_text}
 use Rattle.age_stanza.specs.Laws.{character}
 use Rattle.age_stanza.specs.inner.LineMachine.{base64_bytes, only_bytes}
 
@@ -69,34 +69,36 @@ IsBytes-append (x ∷ a) b f g (suc i) = IsBytes-append a b (λ k. f (suc k)) g 
 abbrev pub the_symbols : List ℕ
 the_symbols = engine_symbols standard_no_pad
 
-pub text-symbols : (m : List ℕ) → text m ≡ encode_symbols the_symbols m
-unfolding text
+pub text-symbols : (m : List ℕ) → base64_text m ≡ encode_symbols the_symbols m
+unfolding base64_text
 text-symbols m = append-nil (encode_symbols the_symbols m)
 
-pub text-none : text [] ≡ []
+pub text-none : base64_text [] ≡ []
 unfolding encode_symbols
 text-none = text-symbols []
 
-pub text-one : (a : ℕ) → text (a ∷ []) ≡ character (a / 4) ∷ character (a % 4 * 16) ∷ []
+pub text-one : (a : ℕ) → base64_text (a ∷ []) ≡ character (a / 4) ∷ character (a % 4 * 16) ∷ []
 unfolding encode_symbols
 text-one a = text-symbols (a ∷ [])
 
-pub text-two : (a b : ℕ) → text (a ∷ b ∷ []) ≡ character (a / 4) ∷ character (a % 4 * 16 + b / 16) ∷ character (b % 16 * 4) ∷ []
+pub text-two : (a b : ℕ) → base64_text (a ∷ b ∷ []) ≡ character (a / 4) ∷ character (a % 4 * 16 + b / 16) ∷ character (b % 16 * 4) ∷ []
 unfolding encode_symbols
 text-two a b = text-symbols (a ∷ b ∷ [])
 
 pub text-three : (a b c : ℕ) (rest : List ℕ)
-    → text (a ∷ b ∷ c ∷ rest) ≡ character (a / 4) ∷ character (a % 4 * 16 + b / 16) ∷ character (b % 16 * 4 + c / 64) ∷ character (c % 64) ∷ text rest
+    → base64_text (a ∷ b ∷ c ∷ rest) ≡ character (a / 4) ∷ character (a % 4 * 16 + b / 16) ∷ character (b % 16 * 4 + c / 64) ∷ character (c % 64) ∷
+    base64_text rest
 unfolding encode_symbols
 text-three a b c rest =
     text-symbols (a ∷ b ∷ c ∷ rest)
-    ∙ ap (λ (more : List ℕ). character (a / 4) ∷ character (a % 4 * 16 + b / 16) ∷ character (b % 16 * 4 + c / 64) ∷ character (c % 64) ∷ more) (sym (text-symbols rest))
+    ∙ ap (λ (more : List ℕ). character (a / 4) ∷ character (a % 4 * 16 + b / 16) ∷ character (b % 16 * 4 + c / 64) ∷ character (c % 64) ∷ more)
+    (sym (text-symbols rest))
 
-pub length-text : (m : List ℕ) → length (text m) ≡ (4 * length m + 2) / 3
+pub length-text : (m : List ℕ) → length (base64_text m) ≡ (4 * length m + 2) / 3
 length-text m = ap length (text-symbols m) ∙ length-encode_symbols the_symbols m
 
-pub text-append : (a b : List ℕ) → length a % 3 ≡ 0 → text (a ++ b) ≡ text a ++ text b
-unfolding text
+pub text-append : (a b : List ℕ) → length a % 3 ≡ 0 → base64_text (a ++ b) ≡ base64_text a ++ base64_text b
+unfolding base64_text
 text-append a b whole = encode_of-append standard_no_pad a b whole
 
 some_if_bytes : (o : Option (List ℕ)) (b : List ℕ) → only_bytes o ≡ Some b → (o ≡ Some b) × IsBytes b
@@ -110,15 +112,15 @@ ok_if_some (Ok x) b e = cc
 ok_if_some (Err d) b e = absurd cc
 
 -- a text that is decoded is the text of those bytes
-pub text_of_decoded : (s b : List ℕ) → IsBytes s → base64_bytes s ≡ Some b → (s ≡ text b) × IsBytes b
-unfolding base64_bytes text
+pub text_of_decoded : (s b : List ℕ) → IsBytes s → base64_bytes s ≡ Some b → (s ≡ base64_text b) × IsBytes b
+unfolding base64_bytes base64_text
 text_of_decoded s b fits e =
     let parts = some_if_bytes (result_ok (decode_of standard_no_pad s)) b e in
     (decode_of_strict standard_no_pad s b (refl, refl) fits (ok_if_some (decode_of standard_no_pad s) b parts.0), parts.1)
 
 -- the text of bytes is decoded to them
-pub decoded-text : (b : List ℕ) → IsBytes b → base64_bytes (text b) ≡ Some b
-unfolding text
+pub decoded-text : (b : List ℕ) → IsBytes b → base64_bytes (base64_text b) ≡ Some b
+unfolding base64_text
 decoded-text b fits = sym (decoded_is (encode_of standard_no_pad b) b (decode_of-encode_of standard_no_pad b refl fits) fits)
 
 -- ---- no line ends inside a text
@@ -148,12 +150,12 @@ symbols_line t (a ∷ []) h = (h _, (h _, tt))
 symbols_line t (a ∷ b ∷ []) h = (h _, (h _, (h _, tt)))
 symbols_line t (a ∷ b ∷ c ∷ rest) h = (h _, (h _, (h _, (h _, symbols_line t rest h))))
 
-pub text_line : (m : List ℕ) → IsLine (text m)
+pub text_line : (m : List ℕ) → IsLine (base64_text m)
 text_line m = rw text-symbols (symbols_line the_symbols m (λ i. at_line the_symbols i (line_from_test the_symbols refl)))
 
 no_symbols : encode_symbols the_symbols [] ≡ []
 unfolding encode_symbols
 no_symbols = refl
 
-pub text-nil : text [] ≡ []
+pub text-nil : base64_text [] ≡ []
 text-nil = text-symbols [] ∙ no_symbols

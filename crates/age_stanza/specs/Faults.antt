@@ -1,7 +1,7 @@
 -- The first fault of bytes that begin no header (C2SP age.md, "Header"): a line is faulty where no
 -- header's text goes on after it. Which kind is reported is this crate's own choice, and follows
 -- from where the line stands.
-use Rattle.std.specs.Prelude.{◌≡◌, ◌≢◌, ◌⊎◌, ℕ, ◌+◌, ◌==◌, nat_eq, ◌||◌, true}
+use Rattle.std.specs.Prelude.{◌≡◌, ◌≢◌, ◌⊎◌, ℕ, ◌+◌, ◌-◌, ◌==◌, nat_eq, ◌||◌, true}
 use Rattle.std.specs.Prelude.{false, if◌then◌else◌}
 use Rattle.std.specs.Prelude.{List, [], ◌∷◌, ◌++◌, length, take, codes, count_by}
 use Rattle.std.specs.List.{flat_map, AllByRecursion, starts_with}
@@ -15,7 +15,7 @@ use Rattle.age_stanza.specs.declared.fault.HeadKind.TheVariants.{BadBody, BadEnd
 use Rattle.age_stanza.specs.declared.fault.HeadKind.TheVariants.{HeadTooLong, Memory}
 use Rattle.age_stanza.specs.declared.fault.HeadFault.{HeadFault}
 use Rattle.age_stanza.specs.Grammar.{line, version, stanza_text, end_line, IsStanza, Spells}
-use Rattle.age_stanza.specs.Grammar.{HeadText}
+use Rattle.age_stanza.specs.Grammar.{HeadText, header_limit}
 
 -- some header's text begins with these bytes
 abbrev pub Begins : List ℕ → Type 0
@@ -84,12 +84,13 @@ abbrev pub IsLineFault : List ℕ → HeadFault → Type 0
 IsLineFault bytes fault = (before : List ℕ) × (l : List ℕ) × FirstFault bytes before l
     × (fault.line ≡ line_after before) × Refuses before l fault.kind
 
--- what is reported of bytes that begin with no header, by their first 1,048,576: the first faulty
--- line; else, where there are so many, that the header is too long, on the line of the last of them
+-- what is reported of bytes that begin with no header, by the first of them, as many as a header
+-- has at most: the first faulty line; else, where there are so many, that the header is too long,
+-- on the line of the last of them
 abbrev pub IsFault : List ℕ → HeadFault → Type 0
-IsFault bytes fault = IsLineFault (take 1048576 bytes) fault
-    ⊎ (NoFault (take 1048576 bytes) × (length (take 1048576 bytes) ≡ 1048576)
-    × (fault ≡ record { kind = HeadTooLong; line = line_after (take 1048575 bytes) }))
+IsFault bytes fault = IsLineFault (take header_limit bytes) fault
+    ⊎ (NoFault (take header_limit bytes) × (length (take header_limit bytes) ≡ header_limit)
+    × (fault ≡ record { kind = HeadTooLong; line = line_after (take (header_limit - 1) bytes) }))
 
 -- want of memory belongs to no line
 abbrev pub memory_fault : HeadFault

@@ -6,7 +6,7 @@ use Rattle.base64.specs.GeneralPurpose.{IsBytes, engine_symbols}
 use Rattle.base64.specs.Engines.{standard_no_pad}
 use Rattle.age_stanza.specs.declared.header.Header.{Header}
 use Rattle.age_stanza.specs.declared.fault.HeadFault.{HeadFault}
-use Rattle.age_stanza.specs.Text.{text}
+use Rattle.age_stanza.specs.Text.{base64_text}
 use Rattle.age_stanza.specs.Grammar.{line, in_lines, Spells, HeadText}
 use Rattle.age_stanza.specs.Encoding.{mac_text}
 use Rattle.age_stanza.specs.Faults.{HasHeader, IsFault}
@@ -55,10 +55,10 @@ character bits = slice_index (engine_symbols standard_no_pad) bits
 -- are three characters, and one is two, with zeros for the bits that the last character has left:
 -- so the text is canonical (section 3.5). No padding follows
 pub record IsBase64 : Type 0 where
-  pub none : text [] ≡ []
-  pub one : (a : ℕ) → text (a ∷ []) ≡ character (a / 4) ∷ character (a % 4 * 16) ∷ []
-  pub two : (a b : ℕ) → text (a ∷ b ∷ [])
+  pub none : base64_text [] ≡ []
+  pub one : (a : ℕ) → base64_text (a ∷ []) ≡ character (a / 4) ∷ character (a % 4 * 16) ∷ []
+  pub two : (a b : ℕ) → base64_text (a ∷ b ∷ [])
       ≡ character (a / 4) ∷ character (a % 4 * 16 + b / 16) ∷ character (b % 16 * 4) ∷ []
-  pub three : (a b c : ℕ) (rest : List ℕ) → text (a ∷ b ∷ c ∷ rest)
+  pub three : (a b c : ℕ) (rest : List ℕ) → base64_text (a ∷ b ∷ c ∷ rest)
       ≡ character (a / 4) ∷ character (a % 4 * 16 + b / 16) ∷ character (b % 16 * 4 + c / 64)
-      ∷ character (c % 64) ∷ text rest
+      ∷ character (c % 64) ∷ base64_text rest

@@ -6,7 +6,7 @@ use Rattle.age_stanza.specs.declared.header.HeadStep.{HeadStep}
 use Rattle.age_stanza.specs.declared.header.HeadStep.TheVariants.{More, Ready}
 use Rattle.age_stanza.specs.declared.fault.HeadKind.TheVariants.{HeadCut}
 use Rattle.age_stanza.specs.declared.fault.HeadFault.{HeadFault}
-use Rattle.age_stanza.specs.Grammar.{HeadText}
+use Rattle.age_stanza.specs.Grammar.{header_limit, HeadText}
 use Rattle.age_stanza.specs.Faults.{line_after, HasHeader, NoFault, IsFault, memory_fault}
 
 -- the joined bytes so far, or a header was found, or it was refused
@@ -18,7 +18,7 @@ pub data Parsing : Type 0 where
 -- what is true of every parser: the bytes so far of one that reads on are fewer than the limit,
 -- they begin with no header, and none of their lines is faulty
 abbrev pub IsParsing : Parsing → Type 0
-IsParsing (reading held) = (length held < 1048576) × IsBytes held × (¬ HasHeader held)
+IsParsing (reading held) = (length held < header_limit) × IsBytes held × (¬ HasHeader held)
     × NoFault held
 IsParsing complete = Unit {0}
 IsParsing (refused fault) = Unit {0}
@@ -31,7 +31,8 @@ IsOpen parsing = parsing ≢ complete
 -- fault stays
 abbrev pub Feeds : Parsing → List ℕ → Result HeadStep HeadFault → Parsing → Type 0
 Feeds (reading held) piece (Ok More) new = (new ≡ reading (held ++ piece))
-    × (length (held ++ piece) < 1048576) × (¬ HasHeader (held ++ piece)) × NoFault (held ++ piece)
+    × (length (held ++ piece) < header_limit) × (¬ HasHeader (held ++ piece))
+    × NoFault (held ++ piece)
 Feeds (reading held) piece (Ok (Ready taken h)) new = (new ≡ complete) × (taken ≤ length piece)
     × HeadText h (held ++ take taken piece)
 Feeds (reading held) piece (Err fault) new = (new ≡ refused fault)

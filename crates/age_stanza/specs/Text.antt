@@ -4,5 +4,5 @@ use Rattle.base64.specs.GeneralPurpose.{encode_of}
 use Rattle.base64.specs.Engines.{standard_no_pad}
 
 -- the text of some bytes
-unfoldable pub text : List ℕ → List ℕ
-text bytes = encode_of standard_no_pad bytes
+unfoldable pub base64_text : List ℕ → List ℕ
+base64_text bytes = encode_of standard_no_pad bytes

@@ -2,7 +2,7 @@
 
 ghost use Rattle.std.specs.Prelude.{◌≡◌, ◌++◌, ◌∷◌, ◌≤◌, length, IfOk, IfErr, OnOk};
 ghost use Rattle.std.specs.List.{flat_map};
-ghost use Rattle.age_stanza.specs.Text.{text};
+ghost use Rattle.age_stanza.specs.Text.{base64_text};
 ghost use Rattle.age_stanza.specs.Grammar.{in_lines, stanza_text, head_text, HeadText, HasText};
 ghost use Rattle.age_stanza.specs.Encoding.{mac_text};
 ghost use Rattle.age_stanza.specs.Faults.{memory_fault};
@@ -22,7 +22,7 @@ const AFTER_MAC_TEXT: usize = 45;
 /// Writes the text of no more bytes than one line spells.
 fn put_text(out: &mut Vec<u8>, bytes: &[u8]) -> Result<(), AllocError>
     requires { length bytes.now ≤ 48 }
-    ensures { OnOk result (out.new.items ≡ out.old.items ++ text bytes.now) }
+    ensures { OnOk result (out.new.items ≡ out.old.items ++ base64_text bytes.now) }
 {
     let mut characters = [0u8; 64];
     let Ok(len) = STANDARD_NO_PAD.encode_slice(bytes, &mut characters) else {
@@ -33,7 +33,7 @@ fn put_text(out: &mut Vec<u8>, bytes: &[u8]) -> Result<(), AllocError>
 
 /// Writes the text of a body in lines.
 fn put_body(out: &mut Vec<u8>, body: &[u8]) -> Result<(), AllocError>
-    ensures { OnOk result (out.new.items ≡ out.old.items ++ in_lines 0 (text body.now)) }
+    ensures { OnOk result (out.new.items ≡ out.old.items ++ in_lines 0 (base64_text body.now)) }
 {
     let mut rest = body;
     while rest.len() >= LINE_BYTES {

@@ -1,7 +1,8 @@
 //! The part of a header that came so far.
 
-ghost use Rattle.std.specs.Prelude.{◌≡◌, ◌++◌, ◌+◌, ◌<◌, ◌≤◌, [], length, take, OnOk};
+ghost use Rattle.std.specs.Prelude.{◌≡◌, ◌++◌, ◌+◌, ◌-◌, ◌<◌, ◌≤◌, [], length, take, OnOk};
 ghost use Rattle.std.specs.Prelude.{IfErr};
+ghost use Rattle.age_stanza.specs.Grammar.{header_limit};
 ghost use Rattle.age_stanza.specs.Faults.{line_after, memory_fault, IsLine};
 ghost use Rattle.age_stanza.specs.inner.LineMachine.{fault_at as spec_fault_at, Gives};
 ghost use Rattle.age_stanza.specs.inner.LineMachine.{step as step_of};
@@ -89,7 +90,7 @@ impl PartialHeader {
     /// Adds characters to the line that isn't finished.
     pub(crate) fn extend(&mut self, characters: &[u8]) -> Result<(), HeadFault>
         requires one_line { IsLine characters.now }
-        requires within { length self.old + length characters.now ≤ 1048576 }
+        requires within { length self.old + length characters.now ≤ header_limit }
         ensures ok { OnOk result (self.new ≡ self.old ++ characters.now) }
         ensures err { IfErr result (λ fault. fault ≡ memory_fault) }
     {
@@ -101,7 +102,7 @@ impl PartialHeader {
     /// Takes what is left of the line, and its LF. A header, or a fault, leaves no state.
     pub(crate) fn end_line(&mut self, characters: &[u8]) -> Result<Option<Header>, HeadFault>
         requires one_line { IsLine characters.now }
-        requires within { length self.old + length characters.now < 1048576 }
+        requires within { length self.old + length characters.now < header_limit }
         ensures { EndsLine (self.old ++ characters.now) result self.new }
     {
         let alloc = *self.line.allocator();
@@ -139,10 +140,10 @@ impl PartialHeader {
     /// The fault of a header that reached the limit: its line is that of the
     /// last byte.
     pub(crate) fn too_long_fault(&self) -> HeadFault
-        requires { length self.now ≡ 1048576 }
+        requires { length self.now ≡ header_limit }
         ensures { result ≡ record {
           kind = HeadKind.HeadTooLong;
-          line = line_after (take 1048575 self.now);
+          line = line_after (take (header_limit - 1) self.now);
         } }
     {
         let line = if self.line.is_empty() {

@@ -2,6 +2,7 @@
 
 ghost use Rattle.std.specs.Prelude.{◌≡◌, ◌==◌, ◌+◌, ◌<◌, ◌≤◌, length, take};
 ghost use Rattle.std.specs.List.{position};
+ghost use Rattle.age_stanza.specs.Grammar.{header_limit};
 ghost use Rattle.age_stanza.specs.inner.Steps.{ReadsLines, TakesPiece};
 
 use crate::HEAD_MAX;
@@ -29,7 +30,7 @@ fn first_bytes(piece: &[u8], room: usize) -> &[u8]
 
 /// Reads bytes line by line.
 fn read_lines(partial: &mut PartialHeader, bytes: &[u8]) -> Result<HeadStep, HeadFault>
-    requires { length partial.old + length bytes.now ≤ 1048576 }
+    requires { length partial.old + length bytes.now ≤ header_limit }
     ensures { ReadsLines partial.old bytes.now result partial.new }
 {
     let mut rest = bytes;
@@ -48,7 +49,7 @@ fn read_lines(partial: &mut PartialHeader, bytes: &[u8]) -> Result<HeadStep, Hea
 
 /// Takes a piece, of which no more than the limit allows is read.
 pub(crate) fn take_piece(partial: &mut PartialHeader, piece: &[u8]) -> Result<HeadStep, HeadFault>
-    requires { length partial.old < 1048576 }
+    requires { length partial.old < header_limit }
     ensures { TakesPiece partial.old piece.now result partial.new }
 {
     let room = HEAD_MAX - partial.len();

@@ -7,7 +7,7 @@ ghost use Rattle.std.specs.Prelude.{IfNone};
 ghost use Rattle.std.specs.Bool.{OnTrue, OnFalse};
 ghost use Rattle.base64.specs.GeneralPurpose.{IsBytes};
 ghost use Rattle.age_stanza.specs.inner.LineMachine.{base64_bytes, mac_of as spec_mac_of};
-ghost use Rattle.age_stanza.specs.Text.{text};
+ghost use Rattle.age_stanza.specs.Text.{base64_text};
 
 use base64::engine::general_purpose::STANDARD_NO_PAD;
 
@@ -31,10 +31,10 @@ pub(crate) fn decode_line(line: &[u8], room: &mut [u8]) -> Option<usize>
 /// that the text isn't that of so many bytes, and leaves `bytes` as they were.
 pub fn read_base64(characters: &[u8], bytes: &mut [u8]) -> bool
     requires { length bytes.old ≤ 32 }
-    ensures read { OnTrue result (characters.now ≡ text bytes.new) }
+    ensures read { OnTrue result (characters.now ≡ base64_text bytes.new) }
     ensures bytes { IsBytes bytes.new }
     ensures refused { OnFalse result ((other : List ℕ) → IsBytes other
-        → length other ≡ length bytes.old → characters.now ≢ text other) }
+        → length other ≡ length bytes.old → characters.now ≢ base64_text other) }
     ensures kept { OnFalse result (bytes.new ≡ bytes.old) }
 {
     if characters.len() != (4 * bytes.len()).div_ceil(3) {

@@ -5,8 +5,8 @@ ghost use Rattle.std.specs.Prelude.{◌&&◌, IsTrue, length};
 ghost use Rattle.std.specs.Prelude.{nat_le};
 ghost use Rattle.std.specs.List.{flat_map, list_all};
 ghost use Rattle.base64.specs.GeneralPurpose.{IsBytes};
-ghost use Rattle.age_stanza.specs.Text.{text};
-ghost use Rattle.age_stanza.specs.Grammar.{IsArgument, HasText, in_lines};
+ghost use Rattle.age_stanza.specs.Text.{base64_text};
+ghost use Rattle.age_stanza.specs.Grammar.{IsArgument, HasText, in_lines, header_limit};
 ghost use Rattle.age_stanza.specs.inner.Lengths.{HasArguments, Leaves, LeavesAfterStanza};
 ghost use Rattle.age_stanza.specs.inner.Lengths.{IsTextLength};
 
@@ -50,8 +50,8 @@ fn room_after_arguments(room: usize, args: &[Argument]) -> Option<usize>
 
 /// How many characters the text of some bytes has.
 fn characters_of(bytes: &[u8]) -> usize
-    requires { length bytes.now ≤ 1048576 }
-    ensures len { result ≡ length (text bytes.now) }
+    requires { length bytes.now ≤ header_limit }
+    ensures len { result ≡ length (base64_text bytes.now) }
     ensures value { result ≡ (4 * length bytes.now + 2) / 3 }
     ensures bytes { IsBytes bytes.now }
 {
@@ -60,8 +60,8 @@ fn characters_of(bytes: &[u8]) -> usize
 
 /// What a body's text leaves of some room.
 fn room_after_body(room: usize, body: &[u8]) -> Option<usize>
-    requires { room ≤ 1048576 }
-    ensures leaves { Leaves room (length (in_lines 0 (text body.now))) result }
+    requires { room ≤ header_limit }
+    ensures leaves { Leaves room (length (in_lines 0 (base64_text body.now))) result }
     ensures bytes { IsBytes body.now }
 {
     if room < body.len() {
@@ -73,7 +73,7 @@ fn room_after_body(room: usize, body: &[u8]) -> Option<usize>
 
 /// What a stanza's text leaves of some room.
 fn room_after_stanza(room: usize, stanza: &Stanza) -> Option<usize>
-    requires { room ≤ 1048576 }
+    requires { room ≤ header_limit }
     ensures { LeavesAfterStanza room stanza.now result }
 {
     let arrow_and_line_end = 3;

@@ -24,21 +24,38 @@ module _ (sealing : List ℕ → List ℕ → List ℕ) (opening : List ℕ → 
   rest_right closed s rest =
       let r = rest_segment sealing opening valid n positive text few s.start rest.below in
       let is : s ≡ r =
-      ap (λ (bs : List ℕ). record { start = s.start; bytes = bs; ended = s.ended; late = s.late }) (rest.bytes ∙ rest_payload sealing opening valid n positive text few s.start rest.below)
+      ap (λ (bs : List ℕ). record { start = s.start; bytes = bs; ended = s.ended; late = s.late }) (rest.bytes
+      ∙ rest_payload sealing opening valid n positive text few s.start rest.below)
       ∙ (ap (λ (b : Bool). record { start = r.start; bytes = r.bytes; ended = b; late = s.late }) rest.ended
       ∙ ap (λ (b : Bool). record { start = r.start; bytes = r.bytes; ended = r.ended; late = b }) rest.timely) in
       subst (IsAuthentic sealing opening n text) (sym is) (rest_authentic sealing opening valid n positive text few s.start rest.below closed)
 
   -- where the deliveries are whole, they leave one segment, of all bytes and ended
   whole_standing : (deliveries : List Delivery) (w : AreWhole (payload sealing n text) deliveries)
-      → standing opening n deliveries ≡ record { given_up = []; base = []; segment = record { start = 0; bytes = payload sealing n text; ended = true; late = false }; refused = 0 }
+      → standing opening n deliveries ≡ record {
+        given_up = [];
+        base = [];
+        segment = record {
+          start = 0;
+          bytes = payload sealing n text;
+          ended = true;
+          late = false;
+        };
+        refused = 0;
+      }
   whole_standing deliveries w =
-      let F : List ℕ → Standing = λ bs. record { given_up = []; base = []; segment = record { start = 0; bytes = bs; ended = true; late = false }; refused = 0 } in
+      let F : List ℕ → Standing = λ bs. record {
+        given_up = [];
+        base = [];
+        segment = record { start = 0; bytes = bs; ended = true; late = false };
+        refused = 0;
+      } in
       ap (standing opening n) w.are
       ∙ (on_from opening n (map Piece w.pieces) (End ∷ []) begin
       ∙ (ap (λ (s : Standing). after_delivery opening n s End) (pieces_from opening n w.pieces [] 0 [] [] 0) ∙ ap F w.join))
 
-  pub whole_right : IsClosed sealing opening n text → (deliveries : List Delivery) → AreWhole (payload sealing n text) deliveries → AreAuthentic sealing opening n text deliveries
+  pub whole_right : IsClosed sealing opening n text → (deliveries : List Delivery) → AreWhole (payload sealing n text) deliveries
+      → AreAuthentic sealing opening n text deliveries
   whole_right closed deliveries w =
       let is = whole_standing deliveries w in
       let z : 0 * (n + 16) ≡ 0 = omega arith in
@@ -60,11 +77,15 @@ module _ (sealing : List ℕ → List ℕ → List ℕ) (opening : List ℕ → 
       let is : standing opening n deliveries ≡ F last =
       ap (standing opening n) u.is
       ∙ (on_from opening n u.front (map Piece u.pieces ++ End ∷ []) begin
-      ∙ (ap (λ (x : Segment). standing_from opening n (F x) (map Piece u.pieces ++ End ∷ [])) (starts_fresh sealing opening valid n text few positive u.front k u.starts)
+      ∙ (ap (λ (x : Segment). standing_from opening n (F x) (map Piece u.pieces ++ End ∷ [])) (starts_fresh sealing opening valid n text few positive
+      u.front k u.starts)
       ∙ (on_from opening n (map Piece u.pieces) (End ∷ []) (F (fresh k))
-      ∙ (ap (λ (x : Standing). after_delivery opening n x End) (pieces_from opening n u.pieces s.given_up k s.base [] s.refused) ∙ ap (λ (bs : List ℕ). F (G bs)) u.rest)))) in
-      let rest : IsRest sealing opening n text last = record { below = u.below; bytes = refl; ended = refl; timely = refl } in
-      (subst (λ (x : Standing). AllByRecursion (IsAuthentic sealing opening n text) x.given_up) (sym is) given, subst (λ (x : Standing). IsAuthentic sealing opening n text x.segment) (sym is) (rest_right closed last rest))
+      ∙ (ap (λ (x : Standing). after_delivery opening n x End) (pieces_from opening n u.pieces s.given_up k s.base [] s.refused)
+      ∙ ap (λ (bs : List ℕ). F (G bs)) u.rest)))) in
+      let rest : IsRest sealing opening n text last = record { below = u.below; bytes = refl; ended = refl; timely = refl } in (
+        subst (λ (x : Standing). AllByRecursion (IsAuthentic sealing opening n text) x.given_up) (sym is) given,
+        subst (λ (x : Standing). IsAuthentic sealing opening n text x.segment) (sym is) (rest_right closed last rest),
+      )
 
   pub comes_back : IsClosed sealing opening n text → GivesBack opening n (payload sealing n text) text
   comes_back closed deliveries w =
@@ -92,7 +113,8 @@ clear_shut i chunk (Some t) e =
     let lb = clear_valid.longer b chunk (nonce_bytes-length i true) in
     let len : length t ≡ length chunk = omega (arith, la, lb, ap length same) in
     let marks : clear_mark a ≡ clear_mark b =
-    subst (λ (m : List ℕ). m ≡ clear_mark b) (drop_at t (clear_mark a) (length t) refl) (ap (drop (length t)) same ∙ drop_at chunk (clear_mark b) (length t) (sym len)) in
+    subst (λ (m : List ℕ). m ≡ clear_mark b) (drop_at t (clear_mark a) (length t) refl) (ap (drop (length t)) same
+    ∙ drop_at chunk (clear_mark b) (length t) (sym len)) in
     let z : List ℕ = 0 ∷ 0 ∷ 0 ∷ 0 ∷ [] in
     let nonces : a ≡ b =
     sym (take_at a z 12 (nonce_bytes-length i false)) ∙ (ap (take 12) marks ∙ take_at b z 12 (nonce_bytes-length i true)) in
@@ -100,4 +122,5 @@ clear_shut i chunk (Some t) e =
     cc
 
 pub clear_closed : (n : ℕ) (text : List ℕ) → IsClosed clear_sealing clear_opening n text
-clear_closed n text full = clear_shut (last_index n text) (last_chunk n text) (clear_opening (nonce_bytes (last_index n text) false) (clear_sealing (nonce_bytes (last_index n text) true) (last_chunk n text))) refl
+clear_closed n text full = clear_shut (last_index n text) (last_chunk n text) (clear_opening (nonce_bytes (last_index n text) false)
+    (clear_sealing (nonce_bytes (last_index n text) true) (last_chunk n text))) refl

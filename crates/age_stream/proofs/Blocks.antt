@@ -13,8 +13,10 @@ module _ (opening : List ℕ → List ℕ → Option (List ℕ)) (i : ℕ) (bloc
       ap (λ (o : Option (List ℕ)). after_front opening (unless_greatest i o) i block) closed
       ∙ ap (λ (o : Option (List ℕ)). at_block opening [] i block false false o) closed
 
-  pub one_block-last : (text : List ℕ) → opening (nonce_bytes i true) block ≡ Some text → one_block opening i block ≡ record { texts = text ∷ []; index = i; status = LastSeen }
+  pub one_block-last : (text : List ℕ) → opening (nonce_bytes i true) block ≡ Some text → one_block opening i block
+      ≡ record { texts = text ∷ []; index = i; status = LastSeen }
   one_block-last text e = skips ∙ ap (λ (o : Option (List ℕ)). after_last opening [] i o false false) e
 
-  pub one_block-neither : opening (nonce_bytes i true) block ≡ None → one_block opening i block ≡ record { texts = []; index = i; status = failed ChunkDamaged i }
+  pub one_block-neither : opening (nonce_bytes i true) block ≡ None → one_block opening i block
+      ≡ record { texts = []; index = i; status = failed ChunkDamaged i }
   one_block-neither e = skips ∙ ap (λ (o : Option (List ℕ)). after_last opening [] i o false false) e

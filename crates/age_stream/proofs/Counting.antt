@@ -60,7 +60,8 @@ module _ (sealing : List ℕ → List ℕ → List ℕ) (opening : List ℕ → 
   front_full [] i h = tt
   front_full (b ∷ bs) i h =
       full_then (text_before_last opening i b) (front_texts opening (i + 1) bs)
-      (λ t e. opened_len (nonce_bytes i false) b t (nonce_bytes-length i false) h.0 (before i (opening (nonce_bytes i false) b) t e)) (front_full bs (i + 1) h.1)
+      (λ t e. opened_len (nonce_bytes i false) b t (nonce_bytes-length i false) h.0 (before i (opening (nonce_bytes i false) b) t e))
+      (front_full bs (i + 1) h.1)
 
   pub is_counted : (base : List ℕ) (s : Segment) → length base ≡ s.start * n → IsCounted opening n base s
   is_counted base s len =
@@ -73,7 +74,8 @@ module _ (sealing : List ℕ → List ℕ → List ℕ) (opening : List ℕ → 
       let fits : length s.bytes / (n + 16) * (n + 16) ≤ length s.bytes = (le-div_iff_mul-le pos).0 (omega arith) in
       let full = front_full blocks s.start (all_full (n + 16) (length s.bytes / (n + 16)) s.bytes fits) in
       let same = by_blocks opening n s in
-      let at : i ≡ s.start + m = ap (λ (o : Outcome). o.index) same ∙ index_stop opening n texts (s.start + m) (slice_get blocks m) behind (rest_bytes n s.bytes) s.late s.ended in
+      let at : i ≡ s.start + m = ap (λ (o : Outcome). o.index) same ∙ index_stop opening n texts (s.start + m) (slice_get blocks m) behind
+      (rest_bytes n s.bytes) s.late s.ended in
       let stopped = begins_stop opening n texts (s.start + m) (slice_get blocks m) behind (rest_bytes n s.bytes) s.late s.ended in
       let more : (added : List (List ℕ)) × ((outcome opening n s).texts ≡ texts ++ added) = (stopped.0, ap (λ (o : Outcome). o.texts) same ∙ stopped.1) in
       let are : counted opening n s ≡ texts =
@@ -90,7 +92,8 @@ module _ (sealing : List ℕ → List ℕ → List ℕ) (opening : List ℕ → 
       let first : first_chunks n i text ≡ first_chunks n s.start base ++ texts =
       ap (λ (k : ℕ). first_chunks n k text) at
       ∙ (first_chunks-add n s.start m text
-      ∙ (ap (λ (cs : List (List ℕ)). cs ++ first_chunks n m (drop (s.start * n) text)) (first_chunks-append n s.start base (released opening n s) (omega (arith, len)))
+      ∙ (ap (λ (cs : List (List ℕ)). cs ++ first_chunks n m (drop (s.start * n) text)) (first_chunks-append n s.start base (released opening n s)
+      (omega (arith, len)))
       ∙ ap (λ (cs : List (List ℕ)). first_chunks n s.start base ++ cs)
       (ap (first_chunks n m) (drop_at base (released opening n s) (s.start * n) len ∙ released_is) ∙ first_chunks-full n texts tail full))) in
       record {

@@ -28,7 +28,8 @@ module _ (opening : List ℕ → List ℕ → Option (List ℕ)) (n : ℕ) where
       by_test (λ (t : Standing). length t.segment.bytes ≤ length s.segment.bytes + 0) (accepts opening n s k) _ _ (λ _. omega arith) (λ _. omega arith)
 
   -- a segment has no more bytes than were delivered
-  pub segment_len : (ds : List Delivery) (s : Standing) → length (standing_from opening n s ds).segment.bytes ≤ length s.segment.bytes + length (flat_map bytes_in ds)
+  pub segment_len : (ds : List Delivery) (s : Standing) → length (standing_from opening n s ds).segment.bytes
+      ≤ length s.segment.bytes + length (flat_map bytes_in ds)
   segment_len [] s = omega arith
   segment_len (d ∷ ds) s =
       omega (arith, after_len s d, segment_len ds (after_delivery opening n s d), length-append (bytes_in d) (flat_map bytes_in ds))
@@ -65,16 +66,27 @@ pub came : (ds : List Delivery) (i : ℕ) (d : Delivery) → take (i + 1) ds ≡
     → length (flat_map bytes_in (take i ds)) + length (bytes_in d) ≤ length (flat_map bytes_in ds)
 came ds i d more =
     let f = flat_map bytes_in in
-    let all : f ds ≡ f (take (i + 1) ds) ++ f (drop (i + 1) ds) = ap f (sym (take-append-drop (i + 1) ds)) ∙ flat_map-append bytes_in (take (i + 1) ds) (drop (i + 1) ds) in
+    let all : f ds ≡ f (take (i + 1) ds) ++ f (drop (i + 1) ds) = ap f (sym (take-append-drop (i + 1) ds))
+    ∙ flat_map-append bytes_in (take (i + 1) ds) (drop (i + 1) ds) in
     let front : f (take (i + 1) ds) ≡ f (take i ds) ++ (bytes_in d ++ []) = ap f more ∙ flat_map-append bytes_in (take i ds) (d ∷ []) in
-    omega (arith, ap length all, length-append (f (take (i + 1) ds)) (f (drop (i + 1) ds)), ap length front, length-append (f (take i ds)) (bytes_in d ++ []), ap length (append-nil (bytes_in d)))
+    omega (
+      arith,
+      ap length all,
+      length-append (f (take (i + 1) ds)) (f (drop (i + 1) ds)),
+      ap length front,
+      length-append (f (take i ds)) (bytes_in d ++ []),
+      ap length (append-nil (bytes_in d)),
+    )
 
-pub cramped_at : {B : Type 0} (opening : B → List ℕ → List ℕ → Option (List ℕ)) (n : ℕ) (r : ReplayView B) (ds : List Delivery) (i : ℕ) (d : Delivery) → i < length ds
+pub cramped_at : {B : Type 0} (opening : B → List ℕ → List ℕ → Option (List ℕ)) (n : ℕ) (r : ReplayView B) (ds : List Delivery) (i : ℕ) (d : Delivery)
+    → i < length ds
     → Replays opening n r (take i ds) → IsCramped n r (get_or ds i d) → 16 < length (flat_map bytes_in ds)
 cramped_at opening n r ds i d lt at c =
     let op = opening r.key in
     let m = n in
     let x = get_or ds i d in
-    let here : 16 < length (standing op m (take i ds)).segment.bytes + length (bytes_in x) = tag_came opening m r.opener (standing op m (take i ds)).segment x at.segment c.some in
-    let bytes : length (standing op m (take i ds)).segment.bytes ≤ length begin.segment.bytes + length (flat_map bytes_in (take i ds)) = segment_len op m (take i ds) begin in
+    let here : 16 < length (standing op m (take i ds)).segment.bytes + length (bytes_in x) = tag_came opening m r.opener (standing op m (take i ds)).segment
+    x at.segment c.some in
+    let bytes : length (standing op m (take i ds)).segment.bytes ≤ length begin.segment.bytes + length (flat_map bytes_in (take i ds)) = segment_len op
+    m (take i ds) begin in
     omega (arith, here, bytes, came ds i x (take_more ds i d lt))

@@ -20,7 +20,8 @@ module _ {B : Type 0} {n : ℕ} {g : _} (opening : B → List ℕ → List ℕ �
     pub text : released (opening old.key.now) (n - 16) (with_end s) ≡ released (opening old.key.now) (n - 16) s ++ bytes
 
   by_answer : (o : Outcome) (answer : Result ℕ StreamFault)
-      → MatchResult answer (λ len. (len ≤ length new.buffer.items) × (len ≤ length (held_bytes old)) × (flat_map (λ (text : List ℕ). text) o.texts ≡ take len new.buffer.items)) (λ fault. (new.status ≡ Failed fault) × (o.texts ≡ []))
+      → MatchResult answer (λ len. (len ≤ length new.buffer.items) × (len ≤ length (held_bytes old))
+      × (flat_map (λ (text : List ℕ). text) o.texts ≡ take len new.buffer.items)) (λ fault. (new.status ≡ Failed fault) × (o.texts ≡ []))
       → flat_map (λ (t : List ℕ). t) o.texts ≡ front_bytes answer new.buffer.items
   by_answer o (Ok len) t = t.2
   by_answer o (Err f) t = ap (flat_map (λ (t : List ℕ). t)) t.1

@@ -70,11 +70,13 @@ empty_last_block : given 0 (first ++ drop 4 second) true false ≡ out (codes "a
 unfolding outcome
 empty_last_block = refl
 
-greatest_chunk_not_last : given 281474976710655 (codes "XXXX" ++ clear_mark (nonce_bytes 281474976710655 false)) false false ≡ out [] 281474976710655 (failed TooManyChunks 281474976710655)
+greatest_chunk_not_last : given 281474976710655 (codes "XXXX" ++ clear_mark (nonce_bytes 281474976710655 false)) false false
+    ≡ out [] 281474976710655 (failed TooManyChunks 281474976710655)
 unfolding outcome
 greatest_chunk_not_last = refl
 
-greatest_chunk_last : given 281474976710655 (codes "XXXX" ++ clear_mark (nonce_bytes 281474976710655 true)) false false ≡ out (codes "XXXX" ∷ []) 281474976710655 LastSeen
+greatest_chunk_last : given 281474976710655 (codes "XXXX" ++ clear_mark (nonce_bytes 281474976710655 true)) false false
+    ≡ out (codes "XXXX" ∷ []) 281474976710655 LastSeen
 unfolding outcome
 greatest_chunk_last = refl
 

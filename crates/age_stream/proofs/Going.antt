@@ -29,7 +29,8 @@ first_chunks-add z (suc q) d xs =
     let e : z + q * z ≡ suc q * z = omega arith in
     ap (λ (k : ℕ). first_chunks z k xs) a
     ∙ ap (λ (cs : List (List ℕ)). take z xs ∷ cs)
-    (first_chunks-add z q d (drop z xs) ∙ ap (λ (ys : List ℕ). first_chunks z q (drop z xs) ++ first_chunks z d ys) (drop-drop (q * z) z xs ∙ ap (λ (k : ℕ). drop k xs) e))
+    (first_chunks-add z q d (drop z xs) ∙ ap (λ (ys : List ℕ). first_chunks z q (drop z xs) ++ first_chunks z d ys) (drop-drop (q * z) z xs
+    ∙ ap (λ (k : ℕ). drop k xs) e))
 
 -- whole blocks stay when bytes are added
 pub more_blocks : (n : ℕ) (bytes more : List ℕ) → (added : List (List ℕ)) × (whole_blocks n (bytes ++ more) ≡ whole_blocks n bytes ++ added)
@@ -87,13 +88,15 @@ module _ (n : ℕ) (bytes more : List ℕ) where
       let fits : q * z ≤ length bytes = div-mul-le_self (length bytes) z in
       omega (arith, length-append bytes more, length-drop (q * z) bytes, fits, h)
 
-  pub whole_more : length (rest_bytes n bytes) + length more ≡ n + 16 → whole_blocks n (bytes ++ more) ≡ whole_blocks n bytes ++ (rest_bytes n bytes ++ more) ∷ []
+  pub whole_more : length (rest_bytes n bytes) + length more ≡ n + 16 → whole_blocks n (bytes ++ more)
+      ≡ whole_blocks n bytes ++ (rest_bytes n bytes ++ more) ∷ []
   whole_more h =
       let z = n + 16 in
       let q = length bytes / z in
       let fits : q * z ≤ length bytes = div-mul-le_self (length bytes) z in
       let tail : take z (drop (q * z) (bytes ++ more)) ≡ rest_bytes n bytes ++ more =
-      ap (take z) (drop-append-le (q * z) bytes more fits) ∙ take_all z (rest_bytes n bytes ++ more) (omega (arith, length-append (rest_bytes n bytes) more, h)) in
+      ap (take z) (drop-append-le (q * z) bytes more fits)
+      ∙ take_all z (rest_bytes n bytes ++ more) (omega (arith, length-append (rest_bytes n bytes) more, h)) in
       ap (λ (k : ℕ). first_chunks z k (bytes ++ more)) (whole_count h)
       ∙ (first_chunks_more z q (bytes ++ more)
       ∙ (ap (λ (c : List ℕ). first_chunks z q (bytes ++ more) ++ c ∷ []) tail
@@ -120,26 +123,31 @@ slice_get_end (x ∷ xs) y (suc k) h = slice_get_end xs y k (omega arith)
 
 module _ (opening : List ℕ → List ℕ → Option (List ℕ)) where
   -- where all these blocks open as before the last, the next ones go on from there
-  on_step : (o : Option (List ℕ)) (xs ys : List (List ℕ)) (i : ℕ) → (length (front_texts opening (i + 1) xs) ≡ length xs → front_texts opening (i + 1) (xs ++ ys) ≡ front_texts opening (i + 1) xs ++ front_texts opening (i + 1 + length xs) ys)
+  on_step : (o : Option (List ℕ)) (xs ys : List (List ℕ)) (i : ℕ) → (length (front_texts opening (i + 1) xs) ≡ length xs
+      → front_texts opening (i + 1) (xs ++ ys) ≡ front_texts opening (i + 1) xs ++ front_texts opening (i + 1 + length xs) ys)
       → length (text_then opening o (front_texts opening (i + 1) xs)) ≡ suc (length xs)
-      → text_then opening o (front_texts opening (i + 1) (xs ++ ys)) ≡ text_then opening o (front_texts opening (i + 1) xs) ++ front_texts opening (i + suc (length xs)) ys
+      → text_then opening o (front_texts opening (i + 1) (xs ++ ys)) ≡ text_then opening o (front_texts opening (i + 1) xs) ++ front_texts opening
+      (i + suc (length xs)) ys
   on_step None xs ys i ih h = absurd (omega arith)
   on_step (Some t) xs ys i ih h =
       let e : i + 1 + length xs ≡ i + suc (length xs) = omega arith in
       ap (λ (ts : List (List ℕ)). t ∷ ts) (ih (omega (arith, h)) ∙ ap (λ (k : ℕ). front_texts opening (i + 1) xs ++ front_texts opening k ys) e)
 
-  pub front_on : (xs ys : List (List ℕ)) (i : ℕ) → length (front_texts opening i xs) ≡ length xs → front_texts opening i (xs ++ ys) ≡ front_texts opening i xs ++ front_texts opening (i + length xs) ys
+  pub front_on : (xs ys : List (List ℕ)) (i : ℕ) → length (front_texts opening i xs) ≡ length xs → front_texts opening i (xs ++ ys)
+      ≡ front_texts opening i xs ++ front_texts opening (i + length xs) ys
   front_on [] ys i h = let e : i ≡ i + 0 = omega arith in ap (λ (k : ℕ). front_texts opening k ys) e
   front_on (x ∷ xs) ys i h = on_step (text_before_last opening i x) xs ys i (λ g. front_on xs ys (i + 1) g) h
 
   -- where some block doesn't, more blocks change nothing
-  stays_step : (o : Option (List ℕ)) (xs ys : List (List ℕ)) (i : ℕ) → (length (front_texts opening (i + 1) xs) < length xs → front_texts opening (i + 1) (xs ++ ys) ≡ front_texts opening (i + 1) xs)
+  stays_step : (o : Option (List ℕ)) (xs ys : List (List ℕ)) (i : ℕ) → (length (front_texts opening (i + 1) xs) < length xs
+      → front_texts opening (i + 1) (xs ++ ys) ≡ front_texts opening (i + 1) xs)
       → length (text_then opening o (front_texts opening (i + 1) xs)) < suc (length xs)
       → text_then opening o (front_texts opening (i + 1) (xs ++ ys)) ≡ text_then opening o (front_texts opening (i + 1) xs)
   stays_step None xs ys i ih h = refl
   stays_step (Some t) xs ys i ih h = ap (λ (ts : List (List ℕ)). t ∷ ts) (ih (omega (arith, h)))
 
-  pub front_stays : (xs ys : List (List ℕ)) (i : ℕ) → length (front_texts opening i xs) < length xs → front_texts opening i (xs ++ ys) ≡ front_texts opening i xs
+  pub front_stays : (xs ys : List (List ℕ)) (i : ℕ) → length (front_texts opening i xs) < length xs → front_texts opening i (xs ++ ys)
+      ≡ front_texts opening i xs
   front_stays [] ys i h = absurd (omega arith)
   front_stays (x ∷ xs) ys i h = stays_step (text_before_last opening i x) xs ys i (λ g. front_stays xs ys (i + 1) g) h
 
@@ -147,9 +155,15 @@ module _ (opening : List ℕ → List ℕ → Option (List ℕ)) where
   abbrev pub prepend : List (List ℕ) → Outcome → Outcome
   prepend texts o = record { texts = texts ++ o.texts; index = o.index; status = o.status }
 
-pub unended_piece : (s : Segment) (p : List ℕ) → s.ended ≡ false → with_piece s p ≡ record { start = s.start; bytes = s.bytes ++ p; ended = false; late = s.late }
+pub unended_piece : (s : Segment) (p : List ℕ) → s.ended ≡ false → with_piece s p ≡ record {
+  start = s.start;
+  bytes = s.bytes ++ p;
+  ended = false;
+  late = s.late;
+}
 unended_piece s p is =
-    ap (λ (t : Bool). cond t (record { start = s.start; bytes = s.bytes; ended = true; late = s.late || nat_lt 0 (length p) }) (record { start = s.start; bytes = s.bytes ++ p; ended = false; late = s.late })) is
+    ap (λ (t : Bool). cond t (record { start = s.start; bytes = s.bytes; ended = true; late = s.late || nat_lt 0 (length p) })
+    (record { start = s.start; bytes = s.bytes ++ p; ended = false; late = s.late })) is
 
 by_test2 : {A : Type 0} (R : A → A → Type 0) (b : Bool) (x y x' y' : A) → R x x' → R y y' → R (cond b x y) (cond b x' y')
 by_test2 R true x y x' y' p q = p
@@ -166,7 +180,8 @@ pub record IsAfterEnd (old new : Outcome) : Type 0 where
   pub status : new.status ≡ status_ended old.status
 
 module _ (opening : List ℕ → List ℕ → Option (List ℕ)) (n : ℕ) where
-  last_bytes : (texts : List (List ℕ)) (i : ℕ) (o : Option (List ℕ)) (x y some ended : Bool) → y ≡ (x || some) → IsAfterBytes some (after_last opening texts i o x ended) (after_last opening texts i o y ended)
+  last_bytes : (texts : List (List ℕ)) (i : ℕ) (o : Option (List ℕ)) (x y some ended : Bool) → y ≡ (x || some)
+      → IsAfterBytes some (after_last opening texts i o x ended) (after_last opening texts i o y ended)
   last_bytes texts i None x y some ended e = record { texts = refl; index = refl; status = refl }
   last_bytes texts i (Some t) true true some ended e = record { texts = refl; index = refl; status = refl }
   last_bytes texts i (Some t) true false some ended e = cc
@@ -177,14 +192,17 @@ module _ (opening : List ℕ → List ℕ → Option (List ℕ)) (n : ℕ) where
   last_bytes texts i (Some t) false false false true e = record { texts = refl; index = refl; status = refl }
   last_bytes texts i (Some t) false false false false e = record { texts = refl; index = refl; status = refl }
 
-  block_bytes : (texts : List (List ℕ)) (i : ℕ) (b : List ℕ) (o : Option (List ℕ)) (x y some ended : Bool) → y ≡ (x || some) → IsAfterBytes some (at_block opening texts i b x ended o) (at_block opening texts i b y ended o)
+  block_bytes : (texts : List (List ℕ)) (i : ℕ) (b : List ℕ) (o : Option (List ℕ)) (x y some ended : Bool) → y ≡ (x || some)
+      → IsAfterBytes some (at_block opening texts i b x ended o) (at_block opening texts i b y ended o)
   block_bytes texts i b (Some t) x y some ended e = record { texts = refl; index = refl; status = refl }
   block_bytes texts i b None x y some ended e = last_bytes texts i (opening (nonce_bytes i true) b) x y some ended e
 
-  same_failed : (texts : List (List ℕ)) (i : ℕ) (some : Bool) (s : Status) → s ≡ status_after some i s → IsAfterBytes some (record { texts = texts; index = i; status = s }) (record { texts = texts; index = i; status = s })
+  same_failed : (texts : List (List ℕ)) (i : ℕ) (some : Bool) (s : Status) → s ≡ status_after some i s
+      → IsAfterBytes some (record { texts = texts; index = i; status = s }) (record { texts = texts; index = i; status = s })
   same_failed texts i some s e = record { texts = refl; index = refl; status = e }
 
-  rest_bytes_after : (texts : List (List ℕ)) (i : ℕ) (rest : List ℕ) (late some : Bool) → IsAfterBytes some (final_block opening texts i rest late true) (final_block opening texts i rest (late || some) true)
+  rest_bytes_after : (texts : List (List ℕ)) (i : ℕ) (rest : List ℕ) (late some : Bool) → IsAfterBytes some (final_block opening texts i rest late true)
+      (final_block opening texts i rest (late || some) true)
   rest_bytes_after texts i rest late some =
       let R : Outcome → Outcome → Type 0 = IsAfterBytes some in
       let last = last_bytes texts i (opening (nonce_bytes i true) rest) late (late || some) some true refl in
@@ -192,13 +210,15 @@ module _ (opening : List ℕ → List ℕ → Option (List ℕ)) (n : ℕ) where
       (by_test2 R (length rest == 16 && nat_lt 0 i) _ _ _ _ (same_failed texts i some (failed EmptyLast i) refl)
       (by_test2 R (length rest == 0) _ _ _ _ (same_failed texts i some (failed Truncated i) refl) last))
 
-  last_end : (texts : List (List ℕ)) (i : ℕ) (o : Option (List ℕ)) (x ended : Bool) → IsAfterEnd (after_last opening texts i o x ended) (after_last opening texts i o x true)
+  last_end : (texts : List (List ℕ)) (i : ℕ) (o : Option (List ℕ)) (x ended : Bool)
+      → IsAfterEnd (after_last opening texts i o x ended) (after_last opening texts i o x true)
   last_end texts i None x ended = record { texts = refl; index = refl; status = refl }
   last_end texts i (Some t) true ended = record { texts = refl; index = refl; status = refl }
   last_end texts i (Some t) false true = record { texts = refl; index = refl; status = refl }
   last_end texts i (Some t) false false = record { texts = refl; index = refl; status = refl }
 
-  block_end : (texts : List (List ℕ)) (i : ℕ) (b : List ℕ) (o : Option (List ℕ)) (x ended : Bool) → IsAfterEnd (at_block opening texts i b x ended o) (at_block opening texts i b x true o)
+  block_end : (texts : List (List ℕ)) (i : ℕ) (b : List ℕ) (o : Option (List ℕ)) (x ended : Bool)
+      → IsAfterEnd (at_block opening texts i b x ended o) (at_block opening texts i b x true o)
   block_end texts i b (Some t) x ended = record { texts = refl; index = refl; status = refl }
   block_end texts i b None x ended = last_end texts i (opening (nonce_bytes i true) b) x ended
 
@@ -215,7 +235,8 @@ module _ (opening : List ℕ → List ℕ → Option (List ℕ)) (n : ℕ) where
   rest_closed : (texts : List (List ℕ)) (i : ℕ) (rest : List ℕ) (late : Bool) → (final_block opening texts i rest late true).status ≡ Open → ⊥
   rest_closed texts i rest late =
       let P : Outcome → Type 0 = λ o. o.status ≡ Open → ⊥ in
-      let last : P (after_last opening texts i (opening (nonce_bytes i true) rest) late true) = λ e. last_closed texts i (opening (nonce_bytes i true) rest) late true e in
+      let last : P (after_last opening texts i (opening (nonce_bytes i true) rest) late true) = λ e. last_closed texts i (opening (nonce_bytes i true) rest)
+      late true e in
       by_test P (nat_lt 0 (length rest) && nat_lt (length rest) 16) _ _ (λ _ e. cc)
       (λ _. by_test P (length rest == 16 && nat_lt 0 i) _ _ (λ _ e. cc) (λ _. by_test P (length rest == 0) _ _ (λ _ e. cc) (λ _. last)))
 
@@ -225,7 +246,8 @@ module _ (opening : List ℕ → List ℕ → Option (List ℕ)) (n : ℕ) where
     pub all : length (front_texts opening s.start (whole_blocks n s.bytes)) ≡ length (whole_blocks n s.bytes)
 
   -- where a segment stands: at a whole block, or behind all of them
-  pub place : (s : Segment) → ((length (front_texts opening s.start (whole_blocks n s.bytes)) < length (whole_blocks n s.bytes)) ⊎ (length (front_texts opening s.start (whole_blocks n s.bytes)) ≡ length (whole_blocks n s.bytes)))
+  pub place : (s : Segment) → ((length (front_texts opening s.start (whole_blocks n s.bytes)) < length (whole_blocks n s.bytes))
+      ⊎ (length (front_texts opening s.start (whole_blocks n s.bytes)) ≡ length (whole_blocks n s.bytes)))
   place s =
       elim (cases_lt (length (front_texts opening s.start (whole_blocks n s.bytes))) (length (whole_blocks n s.bytes)))
       [ inl lt ↦ inl lt | inr le ↦ inr (omega (arith, le, length-front_texts opening (whole_blocks n s.bytes) s.start)) ]
@@ -235,12 +257,14 @@ module _ (opening : List ℕ → List ℕ → Option (List ℕ)) (n : ℕ) where
       → let texts = front_texts opening s.start (whole_blocks n s.bytes) in
       let i = s.start + length texts in
       let b = get_or (whole_blocks n s.bytes) (length texts) [] in
-      outcome opening n s ≡ at_block opening texts i b (nat_lt ((length texts + 1) * (n + 16)) (length s.bytes) || s.late) s.ended (opening (nonce_bytes i false) b)
+      outcome opening n s ≡ at_block opening texts i b (nat_lt ((length texts + 1) * (n + 16)) (length s.bytes) || s.late) s.ended
+      (opening (nonce_bytes i false) b)
   at_place s lt =
       let blocks = whole_blocks n s.bytes in
       let texts = front_texts opening s.start blocks in
       by_blocks opening n s
-      ∙ ap (λ (o : Option (List ℕ)). verdict_at opening texts (s.start + length texts) o (nat_lt ((length texts + 1) * (n + 16)) (length s.bytes)) (rest_bytes n s.bytes) s.late s.ended)
+      ∙ ap (λ (o : Option (List ℕ)). verdict_at opening texts (s.start + length texts) o (nat_lt ((length texts + 1) * (n + 16)) (length s.bytes))
+      (rest_bytes n s.bytes) s.late s.ended)
       (slice_get-within blocks (length texts) [] lt)
 
   -- and behind them
@@ -251,10 +275,12 @@ module _ (opening : List ℕ → List ℕ → Option (List ℕ)) (n : ℕ) where
       let blocks = whole_blocks n s.bytes in
       let texts = front_texts opening s.start blocks in
       by_blocks opening n s
-      ∙ ap (λ (o : Option (List ℕ)). verdict_at opening texts (s.start + length texts) o (nat_lt ((length texts + 1) * (n + 16)) (length s.bytes)) (rest_bytes n s.bytes) s.late s.ended)
+      ∙ ap (λ (o : Option (List ℕ)). verdict_at opening texts (s.start + length texts) o (nat_lt ((length texts + 1) * (n + 16)) (length s.bytes))
+      (rest_bytes n s.bytes) s.late s.ended)
       (slice_get-past blocks (length texts) (omega (arith, e)))
 
-  ended_closed : (s : Segment) (ended : Bool) → s.ended ≡ ended → length (front_texts opening s.start (whole_blocks n s.bytes)) ≡ length (whole_blocks n s.bytes) → (outcome opening n s).status ≡ Open → IsGoing s
+  ended_closed : (s : Segment) (ended : Bool) → s.ended ≡ ended → length (front_texts opening s.start (whole_blocks n s.bytes))
+      ≡ length (whole_blocks n s.bytes) → (outcome opening n s).status ≡ Open → IsGoing s
   ended_closed s false is e h = record { unended = is; all = e }
   ended_closed s true is e h =
       let texts = front_texts opening s.start (whole_blocks n s.bytes) in
@@ -268,12 +294,14 @@ module _ (opening : List ℕ → List ℕ → Option (List ℕ)) (n : ℕ) where
             (let texts = front_texts opening s.start (whole_blocks n s.bytes) in
             let i = s.start + length texts in
             let b = get_or (whole_blocks n s.bytes) (length texts) [] in
-            absurd (block_closed texts i b (opening (nonce_bytes i false) b) (nat_lt ((length texts + 1) * (n + 16)) (length s.bytes) || s.late) s.ended (sym (ap (λ (o : Outcome). o.status) (at_place s lt)) ∙ h)))
+            absurd (block_closed texts i b (opening (nonce_bytes i false) b) (nat_lt ((length texts + 1) * (n + 16)) (length s.bytes) || s.late) s.ended
+            (sym (ap (λ (o : Outcome). o.status) (at_place s lt)) ∙ h)))
         | inr e ↦ ended_closed s s.ended refl e h
       ]
 
   carry_bytes : {some : Bool} {o p o' p' : Outcome} → o ≡ p → o' ≡ p' → IsAfterBytes some p p' → IsAfterBytes some o o'
-  carry_bytes {some} {o} {p} {o'} {p'} e f h = subst (λ (x : Outcome). IsAfterBytes some x o') (sym e) (subst (λ (x : Outcome). IsAfterBytes some p x) (sym f) h)
+  carry_bytes {some} {o} {p} {o'} {p'} e f h = subst (λ (x : Outcome). IsAfterBytes some x o') (sym e)
+      (subst (λ (x : Outcome). IsAfterBytes some p x) (sym f) h)
 
   carry_end : {o p o' p' : Outcome} → o ≡ p → o' ≡ p' → IsAfterEnd p p' → IsAfterEnd o o'
   carry_end {o} {p} {o'} {p'} e f h = subst (λ (x : Outcome). IsAfterEnd x o') (sym e) (subst (λ (x : Outcome). IsAfterEnd p x) (sym f) h)
@@ -306,21 +334,25 @@ module _ (opening : List ℕ → List ℕ → Option (List ℕ)) (n : ℕ) where
       let rest = rest_bytes n bytes in
       let late = s.late in
       let o = opening (nonce_bytes i false) b in
-      let F : List (List ℕ) → Outcome = λ ts. verdict_at opening ts (s.start + length ts) (slice_get (blocks ++ more.0) (length ts)) (nat_lt ((length ts + 1) * (n + 16)) (length bytes)) rest late false in
+      let F : List (List ℕ) → Outcome = λ ts. verdict_at opening ts (s.start + length ts) (slice_get (blocks ++ more.0) (length ts))
+      (nat_lt ((length ts + 1) * (n + 16)) (length bytes)) rest late false in
       let e0 : outcome opening n (with_piece s p) ≡ outcome opening n (record { start = s.start; bytes = bytes; ended = false; late = late }) =
-      ap (λ (t : Bool). outcome opening n (cond t (record { start = s.start; bytes = s.bytes; ended = true; late = s.late || nat_lt 0 (length p) }) (record { start = s.start; bytes = s.bytes ++ p; ended = false; late = s.late }))) is in
+      ap (λ (t : Bool). outcome opening n (cond t (record { start = s.start; bytes = s.bytes; ended = true; late = s.late || nat_lt 0 (length p) })
+      (record { start = s.start; bytes = s.bytes ++ p; ended = false; late = s.late }))) is in
       let e1 : outcome opening n (record { start = s.start; bytes = bytes; ended = false; late = late }) ≡ F (front_texts opening s.start (blocks ++ more.0)) =
       by_blocks opening n (record { start = s.start; bytes = bytes; ended = false; late = late })
       ∙ ap (λ (bs : List (List ℕ)). outcome_of opening n s.start bs (length bytes) rest late false) more.1 in
       let e2 : F (front_texts opening s.start (blocks ++ more.0)) ≡ F texts = ap F (front_stays opening blocks more.0 s.start lt) in
-      let g : slice_get (blocks ++ more.0) (length texts) ≡ Some b = slice_get-append_left blocks more.0 (length texts) lt ∙ slice_get-within blocks (length texts) [] lt in
+      let g : slice_get (blocks ++ more.0) (length texts) ≡ Some b = slice_get-append_left blocks more.0 (length texts) lt
+      ∙ slice_get-within blocks (length texts) [] lt in
       let e3 : F texts ≡ at_block opening texts i b (nat_lt a (length bytes) || late) false o =
       ap (λ (x : Option (List ℕ)). verdict_at opening texts i x (nat_lt a (length bytes)) rest late false) g in
       let count = length-first_chunks (n + 16) (length s.bytes / (n + 16)) s.bytes in
       let pos : 0 < n + 16 = omega arith in
       let low : a ≤ length s.bytes = (le-div_iff_mul-le pos).0 (omega (arith, lt, count)) in
       let len : length bytes ≡ length s.bytes + length p = length-append s.bytes p in
-      let flag : (nat_lt a (length bytes) || late) ≡ ((nat_lt a (length s.bytes) || late) || some) = ap (λ (k : ℕ). nat_lt a k || late) len ∙ after_on a (length s.bytes) (length p) late low (timely is) in
+      let flag : (nat_lt a (length bytes) || late) ≡ ((nat_lt a (length s.bytes) || late) || some) = ap (λ (k : ℕ). nat_lt a k || late) len
+      ∙ after_on a (length s.bytes) (length p) late low (timely is) in
       let here = at_place s lt ∙ ap (λ (t : Bool). at_block opening texts i b (nat_lt a (length s.bytes) || late) t o) is in
       carry_bytes here (e0 ∙ (e1 ∙ (e2 ∙ e3))) (block_bytes texts i b o (nat_lt a (length s.bytes) || late) (nat_lt a (length bytes) || late) some false flag)
   piece_at_place s true p is timely lt =
@@ -336,7 +368,8 @@ module _ (opening : List ℕ → List ℕ → Option (List ℕ)) (n : ℕ) where
       ap (λ (t : Bool). outcome opening n (cond t next (record { start = s.start; bytes = s.bytes ++ p; ended = false; late = s.late }))) is in
       let here = at_place s lt ∙ ap (λ (t : Bool). at_block opening texts i b (nat_lt a (length s.bytes) || s.late) t o) is in
       carry_bytes here (e0 ∙ at_place next lt)
-      (block_bytes texts i b o (nat_lt a (length s.bytes) || s.late) (nat_lt a (length s.bytes) || (s.late || some)) some true (or_assoc (nat_lt a (length s.bytes)) s.late some))
+      (block_bytes texts i b o (nat_lt a (length s.bytes) || s.late) (nat_lt a (length s.bytes) || (s.late || some)) some true
+      (or_assoc (nat_lt a (length s.bytes)) s.late some))
 
   piece_past_place : (s : Segment) (ended : Bool) (p : List ℕ) → s.ended ≡ ended → ((outcome opening n s).status ≡ Open → ⊥)
       → length (front_texts opening s.start (whole_blocks n s.bytes)) ≡ length (whole_blocks n s.bytes)
@@ -390,13 +423,18 @@ module _ (opening : List ℕ → List ℕ → Option (List ℕ)) (n : ℕ) where
             (let texts = front_texts opening s.start (whole_blocks n s.bytes) in
             let i = s.start + length texts in
             let b = get_or (whole_blocks n s.bytes) (length texts) [] in
-            carry_end (at_place s lt) (at_place (with_end s) lt) (block_end texts i b (opening (nonce_bytes i false) b) (nat_lt ((length texts + 1) * (n + 16)) (length s.bytes) || s.late) s.ended))
+            carry_end (at_place s lt) (at_place (with_end s) lt) (block_end texts i b (opening (nonce_bytes i false) b)
+            (nat_lt ((length texts + 1) * (n + 16)) (length s.bytes) || s.late) s.ended))
         | inr e ↦ end_past_place s s.ended refl shut e
       ]
 
   -- an open segment's outcome
   pub going_outcome : (s : Segment) → IsGoing s
-      → outcome opening n s ≡ record { texts = front_texts opening s.start (whole_blocks n s.bytes); index = s.start + length (front_texts opening s.start (whole_blocks n s.bytes)); status = Open }
+      → outcome opening n s ≡ record {
+        texts = front_texts opening s.start (whole_blocks n s.bytes);
+        index = s.start + length (front_texts opening s.start (whole_blocks n s.bytes));
+        status = Open;
+      }
   going_outcome s g =
       let texts = front_texts opening s.start (whole_blocks n s.bytes) in
       past_place s g.all ∙ ap (λ (t : Bool). final_block opening texts (s.start + length texts) (rest_bytes n s.bytes) s.late t) g.unended
@@ -411,8 +449,16 @@ module _ (opening : List ℕ → List ℕ → Option (List ℕ)) (n : ℕ) where
       let next : Segment = record { start = s.start; bytes = s.bytes ++ p; ended = false; late = s.late } in
       let e = unended_piece s p g.unended in
       let blocks = part_blocks n s.bytes p h in
-      let F : List (List ℕ) → Outcome = λ bs. record { texts = front_texts opening s.start bs; index = s.start + length (front_texts opening s.start bs); status = Open } in
-      let on : IsGoing next = record { unended = refl; all = ap (λ (bs : List (List ℕ)). length (front_texts opening s.start bs)) blocks ∙ (g.all ∙ sym (ap length blocks)) } in
+      let F : List (List ℕ) → Outcome = λ bs. record {
+        texts = front_texts opening s.start bs;
+        index = s.start + length (front_texts opening s.start bs);
+        status = Open;
+      } in
+      let on : IsGoing next = record {
+        unended = refl;
+        all = ap (λ (bs : List (List ℕ)). length (front_texts opening s.start bs)) blocks
+            ∙ (g.all ∙ sym (ap length blocks));
+      } in
       record {
         same = ap (outcome opening n) e ∙ (going_outcome next on ∙ (ap F blocks ∙ sym (going_outcome s g)));
         rest = ap (λ (t : Segment). rest_bytes n t.bytes) e ∙ part_rest n s.bytes p h;
@@ -420,21 +466,25 @@ module _ (opening : List ℕ → List ℕ → Option (List ℕ)) (n : ℕ) where
 
   -- bytes that make just one whole block
   pub record IsWhole (s : Segment) (p : List ℕ) : Type 0 where
-    pub texts : (outcome opening n (with_piece s p)).texts ≡ (outcome opening n s).texts ++ (one_block opening (outcome opening n s).index (rest_bytes n s.bytes ++ p)).texts
+    pub texts : (outcome opening n (with_piece s p)).texts
+        ≡ (outcome opening n s).texts ++ (one_block opening (outcome opening n s).index (rest_bytes n s.bytes ++ p)).texts
     pub index : (outcome opening n (with_piece s p)).index ≡ (one_block opening (outcome opening n s).index (rest_bytes n s.bytes ++ p)).index
     pub status : (outcome opening n (with_piece s p)).status ≡ (one_block opening (outcome opening n s).index (rest_bytes n s.bytes ++ p)).status
     pub rest : rest_bytes n (with_piece s p).bytes ≡ []
 
-  prepend_last : (texts : List (List ℕ)) (i : ℕ) (o : Option (List ℕ)) → after_last opening texts i o false false ≡ prepend opening texts (after_last opening [] i o false false)
+  prepend_last : (texts : List (List ℕ)) (i : ℕ) (o : Option (List ℕ)) → after_last opening texts i o false false
+      ≡ prepend opening texts (after_last opening [] i o false false)
   prepend_last texts i None = ap (λ (ts : List (List ℕ)). record { texts = ts; index = i; status = failed ChunkDamaged i }) (sym (append-nil texts))
   prepend_last texts i (Some t) = refl
 
-  prepend_block : (texts : List (List ℕ)) (i : ℕ) (b : List ℕ) (o : Option (List ℕ)) → at_block opening texts i b false false o ≡ prepend opening texts (at_block opening [] i b false false o)
+  prepend_block : (texts : List (List ℕ)) (i : ℕ) (b : List ℕ) (o : Option (List ℕ)) → at_block opening texts i b false false o
+      ≡ prepend opening texts (at_block opening [] i b false false o)
   prepend_block texts i b (Some t) = ap (λ (ts : List (List ℕ)). record { texts = ts; index = i; status = failed TooManyChunks i }) (sym (append-nil texts))
   prepend_block texts i b None = prepend_last texts i (opening (nonce_bytes i true) b)
 
   -- one more block behind blocks that all opened
-  one_more : (o : Option (List ℕ)) (blocks : List (List ℕ)) (b : List ℕ) (start len : ℕ) (rest : List ℕ) → length (front_texts opening start blocks) ≡ length blocks → len ≡ (length blocks + 1) * (n + 16)
+  one_more : (o : Option (List ℕ)) (blocks : List (List ℕ)) (b : List ℕ) (start len : ℕ) (rest : List ℕ) → length (front_texts opening start blocks)
+      ≡ length blocks → len ≡ (length blocks + 1) * (n + 16)
       → let texts = front_texts opening start blocks in let ts = texts ++ text_then opening o [] in
       verdict_at opening ts (start + length ts) (slice_get (blocks ++ b ∷ []) (length ts)) (nat_lt ((length ts + 1) * (n + 16)) len) rest false false
       ≡ prepend opening texts (after_front opening o (start + length texts) b)
@@ -443,16 +493,20 @@ module _ (opening : List ℕ → List ℕ → Option (List ℕ)) (n : ℕ) where
       let count : length (texts ++ t ∷ []) ≡ length texts + 1 = length-append texts (t ∷ []) in
       let past : length (blocks ++ b ∷ []) ≤ length (texts ++ t ∷ []) = omega (arith, count, all, length-append blocks (b ∷ [])) in
       let i : start + length (texts ++ t ∷ []) ≡ start + length texts + 1 = omega (arith, count) in
-      ap (λ (o : Option (List ℕ)). verdict_at opening (texts ++ t ∷ []) (start + length (texts ++ t ∷ [])) o (nat_lt ((length (texts ++ t ∷ []) + 1) * (n + 16)) len) rest false false)
+      ap (λ (o : Option (List ℕ)). verdict_at opening (texts ++ t ∷ []) (start + length (texts ++ t ∷ [])) o
+      (nat_lt ((length (texts ++ t ∷ []) + 1) * (n + 16)) len) rest false false)
       (slice_get-past (blocks ++ b ∷ []) (length (texts ++ t ∷ [])) past)
       ∙ ap (λ (k : ℕ). record { texts = texts ++ t ∷ []; index = k; status = Open }) i
   one_more None blocks b start len rest all is =
       let texts = front_texts opening start blocks in
       let i = start + length texts in
-      let F : List (List ℕ) → Outcome = λ ts. verdict_at opening ts (start + length ts) (slice_get (blocks ++ b ∷ []) (length ts)) (nat_lt ((length ts + 1) * (n + 16)) len) rest false false in
-      let no : nat_lt ((length texts + 1) * (n + 16)) len ≡ false = le-ltb ((length texts + 1) * (n + 16)) len (omega (arith, is, ap (λ (k : ℕ). (k + 1) * (n + 16)) all)) in
+      let F : List (List ℕ) → Outcome = λ ts. verdict_at opening ts (start + length ts) (slice_get (blocks ++ b ∷ []) (length ts))
+      (nat_lt ((length ts + 1) * (n + 16)) len) rest false false in
+      let no : nat_lt ((length texts + 1) * (n + 16)) len
+      ≡ false = le-ltb ((length texts + 1) * (n + 16)) len (omega (arith, is, ap (λ (k : ℕ). (k + 1) * (n + 16)) all)) in
       ap F (append-nil texts)
-      ∙ (ap (λ (o : Option (List ℕ)). verdict_at opening texts i o (nat_lt ((length texts + 1) * (n + 16)) len) rest false false) (slice_get_end blocks b (length texts) all)
+      ∙ (ap (λ (o : Option (List ℕ)). verdict_at opening texts i o (nat_lt ((length texts + 1) * (n + 16)) len) rest false false)
+      (slice_get_end blocks b (length texts) all)
       ∙ (ap (λ (x : Bool). at_block opening texts i b (x || false) false (opening (nonce_bytes i false) b)) no
       ∙ prepend_block texts i b (opening (nonce_bytes i false) b)))
 
@@ -466,8 +520,10 @@ module _ (opening : List ℕ → List ℕ → Option (List ℕ)) (n : ℕ) where
       let e = unended_piece s p g.unended in
       let i = start + length texts in
       let F : List (List ℕ) → Bool → Outcome = λ bs late. outcome_of opening n start bs (length bytes) (rest_bytes n bytes) late false in
-      let count : length bytes ≡ (length blocks + 1) * (n + 16) = whole_len n s.bytes p h ∙ ap (λ (k : ℕ). (k + 1) * (n + 16)) (sym (length-first_chunks (n + 16) (length s.bytes / (n + 16)) s.bytes)) in
-      let G : List (List ℕ) → Outcome = λ ts. verdict_at opening ts (start + length ts) (slice_get (blocks ++ b ∷ []) (length ts)) (nat_lt ((length ts + 1) * (n + 16)) (length bytes)) (rest_bytes n bytes) false false in
+      let count : length bytes ≡ (length blocks + 1) * (n + 16) = whole_len n s.bytes p h
+      ∙ ap (λ (k : ℕ). (k + 1) * (n + 16)) (sym (length-first_chunks (n + 16) (length s.bytes / (n + 16)) s.bytes)) in
+      let G : List (List ℕ) → Outcome = λ ts. verdict_at opening ts (start + length ts) (slice_get (blocks ++ b ∷ []) (length ts))
+      (nat_lt ((length ts + 1) * (n + 16)) (length bytes)) (rest_bytes n bytes) false false in
       let front : front_texts opening start (blocks ++ b ∷ []) ≡ texts ++ text_then opening (text_before_last opening i b) [] =
       front_on opening blocks (b ∷ []) start g.all ∙ ap (λ (k : ℕ). texts ++ front_texts opening (start + k) (b ∷ [])) (sym g.all) in
       let all : outcome opening n (with_piece s p) ≡ prepend opening texts (one_block opening i b) =
@@ -486,16 +542,19 @@ module _ (opening : List ℕ → List ℕ → Option (List ℕ)) (n : ℕ) where
         rest = ap (λ (t : Segment). rest_bytes n t.bytes) e ∙ whole_rest n s.bytes p h;
       }
 
-  end_last : (texts : List (List ℕ)) (i : ℕ) (o : Option (List ℕ)) → after_last opening texts i o false true ≡ prepend opening texts (after_last opening [] i o false true)
+  end_last : (texts : List (List ℕ)) (i : ℕ) (o : Option (List ℕ)) → after_last opening texts i o false true
+      ≡ prepend opening texts (after_last opening [] i o false true)
   end_last texts i None = ap (λ (ts : List (List ℕ)). record { texts = ts; index = i; status = failed ChunkDamaged i }) (sym (append-nil texts))
   end_last texts i (Some t) = refl
 
   -- the rest at an end, behind texts
-  pub prepend_rest : (texts : List (List ℕ)) (i : ℕ) (rest : List ℕ) → final_block opening texts i rest false true ≡ prepend opening texts (final_block opening [] i rest false true)
+  pub prepend_rest : (texts : List (List ℕ)) (i : ℕ) (rest : List ℕ) → final_block opening texts i rest false true
+      ≡ prepend opening texts (final_block opening [] i rest false true)
   prepend_rest texts i rest =
       let R : Outcome → Outcome → Type 0 = λ x y. x ≡ prepend opening texts y in
       let fault : (s : Status) → R (record { texts = texts; index = i; status = s }) (record { texts = []; index = i; status = s }) =
       λ s. ap (λ (ts : List (List ℕ)). record { texts = ts; index = i; status = s }) (sym (append-nil texts)) in
       let last = end_last texts i (opening (nonce_bytes i true) rest) in
       by_test2 R (nat_lt 0 (length rest) && nat_lt (length rest) 16) _ _ _ _ (fault (failed ChunkCut i))
-      (by_test2 R (length rest == 16 && nat_lt 0 i) _ _ _ _ (fault (failed EmptyLast i)) (by_test2 R (length rest == 0) _ _ _ _ (fault (failed Truncated i)) last))
+      (by_test2 R (length rest == 16 && nat_lt 0 i) _ _ _ _ (fault (failed EmptyLast i)) (by_test2 R (length rest == 0) _ _ _ _ (fault (failed Truncated i))
+      last))

@@ -29,7 +29,8 @@ module _ (opening : List ℕ → List ℕ → Option (List ℕ)) (n : ℕ) where
   begins_rest texts i rest late true =
       let P : Outcome → Type 0 = Begins texts in
       let none : texts ≡ texts ++ [] = sym (append-nil texts) in
-      let last : P (after_last opening texts i (opening (nonce_bytes i true) rest) late true) = begins_last texts i (opening (nonce_bytes i true) rest) late true in
+      let last : P (after_last opening texts i (opening (nonce_bytes i true) rest) late true) = begins_last texts i (opening (nonce_bytes i true) rest)
+      late true in
       by_test P (nat_lt 0 (length rest) && nat_lt (length rest) 16) _ _ (λ _. ([], none))
       (λ _. by_test P (length rest == 16 && nat_lt 0 i) _ _ (λ _. ([], none)) (λ _. by_test P (length rest == 0) _ _ (λ _. ([], none)) (λ _. last)))
 
@@ -37,7 +38,8 @@ module _ (opening : List ℕ → List ℕ → Option (List ℕ)) (n : ℕ) where
   begins_block texts i b (Some t) x ended = ([], sym (append-nil texts))
   begins_block texts i b None x ended = begins_last texts i (opening (nonce_bytes i true) b) x ended
 
-  pub begins_stop : (texts : List (List ℕ)) (i : ℕ) (b : Option (List ℕ)) (behind : Bool) (rest : List ℕ) (late ended : Bool) → Begins texts (verdict_at opening texts i b behind rest late ended)
+  pub begins_stop : (texts : List (List ℕ)) (i : ℕ) (b : Option (List ℕ)) (behind : Bool) (rest : List ℕ) (late ended : Bool)
+      → Begins texts (verdict_at opening texts i b behind rest late ended)
   begins_stop texts i None behind rest late ended = begins_rest texts i rest late ended
   begins_stop texts i (Some b) behind rest late ended = begins_block texts i b (opening (nonce_bytes i false) b) (behind || late) ended
 
@@ -49,17 +51,20 @@ module _ (opening : List ℕ → List ℕ → Option (List ℕ)) (n : ℕ) where
       let texts = front_texts opening s.start (whole_blocks n s.bytes) in
       let next : Segment = record { start = s.start; bytes = bytes; ended = false; late = s.late } in
       let all = front_texts opening s.start (whole_blocks n bytes) in
-      let b = begins_stop all (s.start + length all) (slice_get (whole_blocks n bytes) (length all)) (nat_lt ((length all + 1) * (n + 16)) (length bytes)) (rest_bytes n bytes) s.late false in
+      let b = begins_stop all (s.start + length all) (slice_get (whole_blocks n bytes) (length all)) (nat_lt ((length all + 1) * (n + 16)) (length bytes))
+      (rest_bytes n bytes) s.late false in
       let on : all ≡ texts ++ front_texts opening (s.start + length (whole_blocks n s.bytes)) more.0 =
       ap (front_texts opening s.start) more.1 ∙ front_on opening (whole_blocks n s.bytes) more.0 s.start g.all in
       let rest = front_texts opening (s.start + length (whole_blocks n s.bytes)) more.0 in (
         rest ++ b.0,
         ap (λ (t : Segment). (outcome opening n t).texts) (unended_piece s p g.unended)
             ∙ (ap (λ (o : Outcome). o.texts) (by_blocks opening n next)
-            ∙ (b.1 ∙ (ap (λ (ts : List (List ℕ)). ts ++ b.0) on ∙ (append_assoc texts rest b.0 ∙ ap (λ (ts : List (List ℕ)). ts ++ (rest ++ b.0)) (sym here))))),
+            ∙ (b.1 ∙ (ap (λ (ts : List (List ℕ)). ts ++ b.0) on
+            ∙ (append_assoc texts rest b.0 ∙ ap (λ (ts : List (List ℕ)). ts ++ (rest ++ b.0)) (sym here))))),
       )
 
-  grows : (s : Segment) (p : List ℕ) (status : Status) → (s.ended ≡ false → s.late ≡ false) → (outcome opening n s).status ≡ status → Begins (outcome opening n s).texts (outcome opening n (with_piece s p))
+  grows : (s : Segment) (p : List ℕ) (status : Status) → (s.ended ≡ false → s.late ≡ false) → (outcome opening n s).status ≡ status
+      → Begins (outcome opening n s).texts (outcome opening n (with_piece s p))
   grows s p Open timely e = grows_going s p (going opening n s e)
   grows s p other timely e =
       ([], (after_piece opening n s p timely (λ o. cc)).texts ∙ sym (append-nil (outcome opening n s).texts))
@@ -80,7 +85,8 @@ module _ (opening : List ℕ → List ℕ → Option (List ℕ)) (n : ℕ) where
   index_rest texts i rest late false = refl
   index_rest texts i rest late true =
       let P : Outcome → Type 0 = λ o. o.index ≡ i in
-      let last : P (after_last opening texts i (opening (nonce_bytes i true) rest) late true) = index_last texts i (opening (nonce_bytes i true) rest) late true in
+      let last : P (after_last opening texts i (opening (nonce_bytes i true) rest) late true) = index_last texts i (opening (nonce_bytes i true) rest)
+      late true in
       by_test P (nat_lt 0 (length rest) && nat_lt (length rest) 16) _ _ (λ _. refl)
       (λ _. by_test P (length rest == 16 && nat_lt 0 i) _ _ (λ _. refl) (λ _. by_test P (length rest == 0) _ _ (λ _. refl) (λ _. last)))
 
@@ -88,7 +94,8 @@ module _ (opening : List ℕ → List ℕ → Option (List ℕ)) (n : ℕ) where
   index_block texts i b (Some t) x ended = refl
   index_block texts i b None x ended = index_last texts i (opening (nonce_bytes i true) b) x ended
 
-  pub index_stop : (texts : List (List ℕ)) (i : ℕ) (b : Option (List ℕ)) (behind : Bool) (rest : List ℕ) (late ended : Bool) → (verdict_at opening texts i b behind rest late ended).index ≡ i
+  pub index_stop : (texts : List (List ℕ)) (i : ℕ) (b : Option (List ℕ)) (behind : Bool) (rest : List ℕ) (late ended : Bool)
+      → (verdict_at opening texts i b behind rest late ended).index ≡ i
   index_stop texts i None behind rest late ended = index_rest texts i rest late ended
   index_stop texts i (Some b) behind rest late ended = index_block texts i b (opening (nonce_bytes i false) b) (behind || late) ended
 
@@ -101,13 +108,15 @@ module _ (opening : List ℕ → List ℕ → Option (List ℕ)) (n : ℕ) where
       let all = front_texts opening s.start (whole_blocks n bytes) in
       let there = ap (λ (t : Segment). (outcome opening n t).index) (unended_piece s p g.unended)
       ∙ (ap (λ (o : Outcome). o.index) (by_blocks opening n (record { start = s.start; bytes = bytes; ended = false; late = s.late }))
-      ∙ index_stop all (s.start + length all) (slice_get (whole_blocks n bytes) (length all)) (nat_lt ((length all + 1) * (n + 16)) (length bytes)) (rest_bytes n bytes) s.late false) in
+      ∙ index_stop all (s.start + length all) (slice_get (whole_blocks n bytes) (length all)) (nat_lt ((length all + 1) * (n + 16)) (length bytes))
+      (rest_bytes n bytes) s.late false) in
       let on : all ≡ texts ++ front_texts opening (s.start + length (whole_blocks n s.bytes)) more.0 =
       ap (front_texts opening s.start) more.1 ∙ front_on opening (whole_blocks n s.bytes) more.0 s.start g.all in
       let len = ap length on ∙ length-append texts (front_texts opening (s.start + length (whole_blocks n s.bytes)) more.0) in
       omega (arith, here, there, len)
 
-  index_by : (s : Segment) (p : List ℕ) (status : Status) → (s.ended ≡ false → s.late ≡ false) → (outcome opening n s).status ≡ status → (outcome opening n s).index ≤ (outcome opening n (with_piece s p)).index
+  index_by : (s : Segment) (p : List ℕ) (status : Status) → (s.ended ≡ false → s.late ≡ false) → (outcome opening n s).status ≡ status
+      → (outcome opening n s).index ≤ (outcome opening n (with_piece s p)).index
   index_by s p Open timely e = index_going s p (going opening n s e)
   index_by s p other timely e = omega (arith, (after_piece opening n s p timely (λ o. cc)).index)
 

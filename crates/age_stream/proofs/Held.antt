@@ -55,7 +55,8 @@ module _ (sealing : List ℕ → List ℕ → List ℕ) (opening : List ℕ → 
         base = sym (take-append-le (k * n) held p.0 le) ∙ ap (take (k * n)) p.1;
       }
 
-  given_up_front : (P : Segment → Type 0) (ds : List Delivery) (s : Standing) → AllByRecursion P (standing_from opening n s ds).given_up → AllByRecursion P s.given_up
+  given_up_front : (P : Segment → Type 0) (ds : List Delivery) (s : Standing) → AllByRecursion P (standing_from opening n s ds).given_up
+      → AllByRecursion P s.given_up
   given_up_front P [] s h = h
   given_up_front P (Piece p ∷ ds) s h = given_up_front P ds (after_delivery opening n s (Piece p)) h
   given_up_front P (End ∷ ds) s h = given_up_front P ds (after_delivery opening n s End) h
@@ -78,7 +79,8 @@ module _ (sealing : List ℕ → List ℕ → List ℕ) (opening : List ℕ → 
       (λ sure g. restarted s k sound (all_last Good s.given_up s.segment g) sure)
       (λ _ _. record { small = sound.small; fits = sound.fits; base = sound.base }) h
 
-  sound_from : (ds : List Delivery) (s : Standing) → IsSound s → AllByRecursion Good (standing_from opening n s ds).given_up → IsSound (standing_from opening n s ds)
+  sound_from : (ds : List Delivery) (s : Standing) → IsSound s → AllByRecursion Good (standing_from opening n s ds).given_up
+      → IsSound (standing_from opening n s ds)
   sound_from [] s sound h = sound
   sound_from (d ∷ ds) s sound h =
       sound_from ds (after_delivery opening n s d) (sound_after d s sound (given_up_front Good ds (after_delivery opening n s d) h)) h
@@ -88,15 +90,26 @@ module _ (sealing : List ℕ → List ℕ → List ℕ) (opening : List ℕ → 
   on (x ∷ xs) ys s = on xs ys (after_delivery opening n s x)
 
   pieces_on : (ps : List (Bor (List ℕ))) (s : Standing) (k : ℕ) (bytes : List ℕ) → s.segment ≡ record { start = k; bytes = bytes; ended = false; late = false }
-      → (standing_from opening n s (map Piece ps)).segment ≡ record { start = k; bytes = bytes ++ flat_map (λ (p : Bor (List ℕ)). p.now) ps; ended = false; late = false }
+      → (standing_from opening n s (map Piece ps)).segment ≡ record {
+        start = k;
+        bytes = bytes ++ flat_map (λ (p : Bor (List ℕ)). p.now) ps;
+        ended = false;
+        late = false;
+      }
   pieces_on [] s k bytes e = e ∙ ap (λ (bs : List ℕ). record { start = k; bytes = bs; ended = false; late = false }) (sym (append-nil bytes))
   pieces_on (p ∷ ps) s k bytes e =
       pieces_on ps (after_delivery opening n s (Piece p)) k (bytes ++ p.now) (ap (λ (x : Segment). with_piece x p.now) e)
-      ∙ ap (λ (bs : List ℕ). record { start = k; bytes = bs; ended = false; late = false }) (append_assoc bytes p.now (flat_map (λ (p : Bor (List ℕ)). p.now) ps))
+      ∙ ap (λ (bs : List ℕ). record { start = k; bytes = bs; ended = false; late = false })
+      (append_assoc bytes p.now (flat_map (λ (p : Bor (List ℕ)). p.now) ps))
 
   restart_segment : (s : Standing) (k : ℕ) → accepts opening n s k ≡ true → (after_delivery opening n s (Restart k)).segment ≡ fresh k
   restart_segment s k sure =
-      ap (λ (b : Bool). (cond {A = Standing} b (record { given_up = s.given_up ++ s.segment ∷ []; base = take (k * n) (text_held opening n s); segment = fresh k; refused = s.refused })
+      ap (λ (b : Bool). (cond {A = Standing} b (record {
+        given_up = s.given_up ++ s.segment ∷ [];
+        base = take (k * n) (text_held opening n s);
+        segment = fresh k;
+        refused = s.refused;
+      })
       (record { given_up = s.given_up; base = s.base; segment = s.segment; refused = min (s.refused + 1) 18446744073709551615 })).segment) sure
 
   pub starts_fresh : (front : List Delivery) (k : ℕ) → IsStart sealing opening n text k front → (standing opening n front).segment ≡ fresh k
@@ -108,7 +121,8 @@ module _ (sealing : List ℕ → List ℕ → List ℕ) (opening : List ℕ → 
             ∙ (ap (λ (s : Standing). s.segment) (on later.0 (Restart k ∷ []) begin) ∙ restart_segment (standing opening n later.0) k later.2)
       ]
 
-  undamaged_done : (k : ℕ) (ds : List Delivery) → AreAuthentic sealing opening n text ds → IsUndamaged sealing opening n text k ds → (outcome opening n (standing opening n ds).segment).status ≡ Done
+  undamaged_done : (k : ℕ) (ds : List Delivery) → AreAuthentic sealing opening n text ds → IsUndamaged sealing opening n text k ds
+      → (outcome opening n (standing opening n ds).segment).status ≡ Done
   undamaged_done k ds auth u =
       let s = rest_segment sealing opening valid n positive text few k u.below in
       let last : (standing opening n ds).segment ≡ s =
@@ -116,7 +130,8 @@ module _ (sealing : List ℕ → List ℕ → List ℕ) (opening : List ℕ → 
       ∙ (ap (λ (x : Standing). x.segment) (on u.front (map Piece u.pieces ++ End ∷ []) begin)
       ∙ (ap (λ (x : Standing). x.segment) (on (map Piece u.pieces) (End ∷ []) (standing opening n u.front))
       ∙ (ap with_end (pieces_on u.pieces (standing opening n u.front) k [] (starts_fresh u.front k u.starts))
-      ∙ ap (λ (bs : List ℕ). record { start = k; bytes = bs; ended = true; late = false }) (u.rest ∙ rest_payload sealing opening valid n positive text few k u.below)))) in
+      ∙ ap (λ (bs : List ℕ). record { start = k; bytes = bs; ended = true; late = false }) (u.rest
+      ∙ rest_payload sealing opening valid n positive text few k u.below)))) in
       let good : Good s = subst Good last auth.1 in
       ap (λ (x : Segment). (outcome opening n x).status) last ∙ rest_is_done sealing opening valid n positive text few k u.below good
 
@@ -135,19 +150,38 @@ module _ (sealing : List ℕ → List ℕ → List ℕ) (opening : List ℕ → 
         place = in_place sealing opening valid n text few positive s.segment auth.1 reached;
       }
 
-pub on_from : (opening : List ℕ → List ℕ → Option (List ℕ)) (n : ℕ) (xs ys : List Delivery) (s : Standing) → standing_from opening n s (xs ++ ys) ≡ standing_from opening n (standing_from opening n s xs) ys
+pub on_from : (opening : List ℕ → List ℕ → Option (List ℕ)) (n : ℕ) (xs ys : List Delivery) (s : Standing) → standing_from opening n s (xs ++ ys)
+    ≡ standing_from opening n (standing_from opening n s xs) ys
 on_from opening n [] ys s = refl
 on_from opening n (x ∷ xs) ys s = on_from opening n xs ys (after_delivery opening n s x)
 
-pub standing_more : (opening : List ℕ → List ℕ → Option (List ℕ)) (n : ℕ) (ds : List Delivery) (d : Delivery) → standing opening n (ds ++ d ∷ []) ≡ after_delivery opening n (standing opening n ds) d
+pub standing_more : (opening : List ℕ → List ℕ → Option (List ℕ)) (n : ℕ) (ds : List Delivery) (d : Delivery) → standing opening n (ds ++ d ∷ [])
+    ≡ after_delivery opening n (standing opening n ds) d
 standing_more opening n ds d = on_from opening n ds (d ∷ []) begin
 
 -- pieces alone leave all but the bytes of the segment
-pub pieces_from : (opening : List ℕ → List ℕ → Option (List ℕ)) (n : ℕ) (ps : List (Bor (List ℕ))) (up : List Segment) (k : ℕ) (base bytes : List ℕ) (refused : ℕ)
-    → standing_from opening n (record { given_up = up; base = base; segment = record { start = k; bytes = bytes; ended = false; late = false }; refused = refused }) (map Piece ps)
-    ≡ record { given_up = up; base = base; segment = record { start = k; bytes = bytes ++ flat_map (λ (p : Bor (List ℕ)). p.now) ps; ended = false; late = false }; refused = refused }
+pub pieces_from : (opening : List ℕ → List ℕ → Option (List ℕ)) (n : ℕ) (ps : List (Bor (List ℕ))) (up : List Segment) (k : ℕ) (base bytes : List ℕ)
+    (refused : ℕ)
+    → standing_from opening n (record {
+      given_up = up;
+      base = base;
+      segment = record { start = k; bytes = bytes; ended = false; late = false };
+      refused = refused;
+    }) (map Piece ps)
+    ≡ record {
+      given_up = up;
+      base = base;
+      segment = record {
+        start = k;
+        bytes = bytes ++ flat_map (λ (p : Bor (List ℕ)). p.now) ps;
+        ended = false;
+        late = false;
+      };
+      refused = refused;
+    }
 pieces_from opening n [] up k base bytes refused =
-    ap (λ (bs : List ℕ). record { given_up = up; base = base; segment = record { start = k; bytes = bs; ended = false; late = false }; refused = refused }) (sym (append-nil bytes))
+    ap (λ (bs : List ℕ). record { given_up = up; base = base; segment = record { start = k; bytes = bs; ended = false; late = false }; refused = refused })
+    (sym (append-nil bytes))
 pieces_from opening n (p ∷ ps) up k base bytes refused =
     pieces_from opening n ps up k base (bytes ++ p.now) refused
     ∙ ap (λ (bs : List ℕ). record { given_up = up; base = base; segment = record { start = k; bytes = bs; ended = false; late = false }; refused = refused })

@@ -15,17 +15,20 @@ use Rattle.age_stream.specs.Opening.{Stands, given, handed, held_bytes, opener_v
 use Rattle.age_stream.specs.inner.OpenerSteps.{TakesPart, TakesWhole, TakesNone}
 use Rattle.age_stream.proofs.Going.{going, going_part, going_whole, after_piece, unended_piece, IsGoing, IsWhole}
 
-piece_timely : (s : Segment) (ended : Bool) (p : List ℕ) → s.ended ≡ ended → (s.ended ≡ false → s.late ≡ false) → (with_piece s p).ended ≡ false → (with_piece s p).late ≡ false
+piece_timely : (s : Segment) (ended : Bool) (p : List ℕ) → s.ended ≡ ended → (s.ended ≡ false → s.late ≡ false) → (with_piece s p).ended ≡ false
+    → (with_piece s p).late ≡ false
 piece_timely s false p is t h = ap (λ (x : Segment). x.late) (unended_piece s p is) ∙ t is
 piece_timely s true p is t h =
     let e : (with_piece s p).ended ≡ true =
-    ap (λ (b : Bool). (cond {A = Segment} b (record { start = s.start; bytes = s.bytes; ended = true; late = s.late || nat_lt 0 (length p) }) (record { start = s.start; bytes = s.bytes ++ p; ended = false; late = s.late })).ended) is in
+    ap (λ (b : Bool). (cond {A = Segment} b (record { start = s.start; bytes = s.bytes; ended = true; late = s.late || nat_lt 0 (length p) })
+    (record { start = s.start; bytes = s.bytes ++ p; ended = false; late = s.late })).ended) is in
     cc
 
 two_pieces : (s : Segment) (p r : List ℕ) → s.ended ≡ false → with_piece (with_piece s p) r ≡ with_piece s (p ++ r)
 two_pieces s p r is =
     ap (λ (x : Segment). with_piece x r) (unended_piece s p is)
-    ∙ (ap (λ (bs : List ℕ). record { start = s.start; bytes = bs; ended = false; late = s.late }) (append_assoc s.bytes p r) ∙ sym (unended_piece s (p ++ r) is))
+    ∙ (ap (λ (bs : List ℕ). record { start = s.start; bytes = bs; ended = false; late = s.late }) (append_assoc s.bytes p r)
+    ∙ sym (unended_piece s (p ++ r) is))
 
 never_open : (some : Bool) (i : ℕ) (s : Status) → (s ≡ Open → ⊥) → status_after some i s ≡ Open → ⊥
 never_open some i (Failed f) h e = cc
@@ -45,8 +48,10 @@ module _ {B : Type 0} {n : ℕ} {g : _} (opening : B → List ℕ → List ℕ �
   back : n - 16 + 16 ≡ n
   back = omega (arith, big)
 
-  to_new : (next : Segment) → new.key ≡ old.key → new.index ≡ (outcome (opening old.key.now) (n - 16) next).index → new.status ≡ (outcome (opening old.key.now) (n - 16) next).status
-      → (new.status ≡ Open → held_bytes new ≡ rest_bytes (n - 16) next.bytes) → (next.ended ≡ false → next.late ≡ false) → Stands opening (n - 16) (opener_view new) next
+  to_new : (next : Segment) → new.key ≡ old.key → new.index ≡ (outcome (opening old.key.now) (n - 16) next).index → new.status
+      ≡ (outcome (opening old.key.now) (n - 16) next).status
+      → (new.status ≡ Open → held_bytes new ≡ rest_bytes (n - 16) next.bytes) → (next.ended ≡ false → next.late ≡ false)
+      → Stands opening (n - 16) (opener_view new) next
   to_new next key index status held timely =
       record {
         index = index ∙ ap (λ k. (outcome (opening k.now) (n - 16) next).index) (sym key);
@@ -55,7 +60,8 @@ module _ {B : Type 0} {n : ℕ} {g : _} (opening : B → List ℕ → List ℕ �
         timely = timely;
       }
 
-  pub part : (s : Segment) (piece : List ℕ) (answer : Result (ℕ × Bool) StreamFault) → Stands opening (n - 16) (opener_view old) s → old.status ≡ Open → length (held_bytes old) + length piece < n → TakesPart old piece answer new
+  pub part : (s : Segment) (piece : List ℕ) (answer : Result (ℕ × Bool) StreamFault) → Stands opening (n - 16) (opener_view old) s → old.status ≡ Open
+      → length (held_bytes old) + length piece < n → TakesPart old piece answer new
       → Advances s (with_piece s piece) []
   part s piece answer h open_ short t =
       let op = opening old.key.now in
@@ -65,13 +71,15 @@ module _ {B : Type 0} {n : ℕ} {g : _} (opening : B → List ℕ → List ℕ �
       let small : length (rest_bytes m s.bytes) + length piece < m + 16 = omega (arith, short, ap length held, back) in
       let p = going_part op m s piece goes small in
       record {
-        stands = to_new (with_piece s piece) t.key (t.index ∙ (h.index ∙ ap (λ (o : Outcome). o.index) (sym p.same))) (t.status ∙ (h.status ∙ ap (λ (o : Outcome). o.status) (sym p.same)))
+        stands = to_new (with_piece s piece) t.key (t.index ∙ (h.index ∙ ap (λ (o : Outcome). o.index) (sym p.same))) (t.status
+            ∙ (h.status ∙ ap (λ (o : Outcome). o.status) (sym p.same)))
             (λ _. t.held ∙ (ap (λ (bs : List ℕ). bs ++ piece) held ∙ sym p.rest)) (piece_timely s s.ended piece refl h.timely);
         texts_are = ap (λ (o : Outcome). o.texts) p.same ∙ sym (append-nil (outcome op m s).texts);
       }
 
   -- the front of the piece made a whole block
-  module _ (s : Segment) (piece : List ℕ) (h : Stands opening (n - 16) (opener_view old) s) (open_ : old.status ≡ Open) (long : n ≤ length (held_bytes old) + length piece) (short : length (held_bytes old) < n) where
+  module _ (s : Segment) (piece : List ℕ) (h : Stands opening (n - 16) (opener_view old) s) (open_ : old.status ≡ Open) (long : n
+      ≤ length (held_bytes old) + length piece) (short : length (held_bytes old) < n) where
     abbrev front : List ℕ
     front = take (n - length (held_bytes old)) piece
 
@@ -94,7 +102,8 @@ module _ {B : Type 0} {n : ℕ} {g : _} (opening : B → List ℕ → List ℕ �
         ∙ ap (λ (bs : List ℕ). one_block (opening old.key.now) old.index (bs ++ front)) (sym (h.held open_))
 
     pub whole : (answer : Result (ℕ × Bool) StreamFault) → TakesWhole trial old answer new
-        → Advances s (with_piece s (given (λ (a : ℕ × Bool). a.0) answer piece)) (handed (λ (a : ℕ × Bool). if a.1 then take (n - 16) new.buffer.items ∷ [] else []) answer)
+        → Advances s (with_piece s (given (λ (a : ℕ × Bool). a.0) answer piece))
+        (handed (λ (a : ℕ × Bool). if a.1 then take (n - 16) new.buffer.items ∷ [] else []) answer)
     whole (Ok a) t =
         let w = whole_front in
         let op = opening old.key.now in
@@ -102,7 +111,8 @@ module _ {B : Type 0} {n : ℕ} {g : _} (opening : B → List ℕ → List ℕ �
         let at : a.0 ≡ n - length (held_bytes old) = omega (arith, t.answered.0, short) in
         let P : List ℕ → Type 0 = λ p. Advances s (with_piece s p) (take m new.buffer.items ∷ []) in
         let here : P front = record {
-          stands = to_new (with_piece s front) t.key (t.index ∙ (ap (λ (o : Outcome). o.index) (sym tried) ∙ sym w.index)) (t.status ∙ (ap (λ (o : Outcome). o.status) (sym tried) ∙ sym w.status))
+          stands = to_new (with_piece s front) t.key (t.index ∙ (ap (λ (o : Outcome). o.index) (sym tried) ∙ sym w.index)) (t.status
+              ∙ (ap (λ (o : Outcome). o.status) (sym tried) ∙ sym w.status))
               (λ _. t.answered.2 ∙ sym w.rest) (piece_timely s s.ended front refl h.timely);
           texts_are = w.texts ∙ ap (λ (ts : List (List ℕ)). (outcome op m s).texts ++ ts) (ap (λ (o : Outcome). o.texts) tried ∙ t.answered.3);
         } in
@@ -118,8 +128,10 @@ module _ {B : Type 0} {n : ℕ} {g : _} (opening : B → List ℕ → List ℕ �
         let timely = piece_timely s s.ended front refl h.timely in
         let more = after_piece op m mid behind timely (λ o. let e : Failed f ≡ Open = sym failed_mid ∙ o in cc) in
         let some = nat_lt 0 (length behind) in
-        let stays : status_after some (outcome op m mid).index (outcome op m mid).status ≡ Failed f = ap (status_after some (outcome op m mid).index) failed_mid in
-        let join : with_piece mid behind ≡ with_piece s piece = two_pieces s front behind goes.unended ∙ ap (with_piece s) (take-append-drop (n - length (held_bytes old)) piece) in
+        let stays : status_after some (outcome op m mid).index (outcome op m mid).status ≡ Failed f = ap (status_after some (outcome op m mid).index)
+        failed_mid in
+        let join : with_piece mid behind ≡ with_piece s piece = two_pieces s front behind goes.unended
+        ∙ ap (with_piece s) (take-append-drop (n - length (held_bytes old)) piece) in
         let P : Segment → Type 0 = λ x. Advances s x [] in
         let status : new.status ≡ (outcome op m (with_piece mid behind)).status = t.answered.0 ∙ sym (more.status ∙ stays) in
         subst P join (record {
@@ -128,9 +140,11 @@ module _ {B : Type 0} {n : ℕ} {g : _} (opening : B → List ℕ → List ℕ �
           texts_are = more.texts ∙ (w.texts ∙ ap (λ (ts : List (List ℕ)). (outcome op m s).texts ++ ts) (ap (λ (o : Outcome). o.texts) tried ∙ t.answered.1));
         })
 
-  by_answer : (s : Segment) (piece : List ℕ) (answer : Result (ℕ × Bool) StreamFault) → ((p : List ℕ) → nat_lt 0 (length p) ≡ nat_lt 0 (length piece) → Advances s (with_piece s p) [])
+  by_answer : (s : Segment) (piece : List ℕ) (answer : Result (ℕ × Bool) StreamFault) → ((p : List ℕ) → nat_lt 0 (length p) ≡ nat_lt 0 (length piece)
+      → Advances s (with_piece s p) [])
       → MatchResult answer (λ a. (a.0 ≡ 0) × (a.1 ≡ false) × (length piece ≡ 0)) (λ fault. new.status ≡ Failed fault)
-      → Advances s (with_piece s (given (λ (a : ℕ × Bool). a.0) answer piece)) (handed (λ (a : ℕ × Bool). if a.1 then take (n - 16) new.buffer.items ∷ [] else []) answer)
+      → Advances s (with_piece s (given (λ (a : ℕ × Bool). a.0) answer piece))
+      (handed (λ (a : ℕ × Bool). if a.1 then take (n - 16) new.buffer.items ∷ [] else []) answer)
   by_answer s piece (Ok a) core t =
       let e : length (take a.0 piece) ≡ length piece = omega (arith, length-take a.0 piece, t.0, t.2) in
       let Q : Bool → Type 0 = λ f. Advances s (with_piece s (take a.0 piece)) (if f then take (n - 16) new.buffer.items ∷ [] else []) in
@@ -138,8 +152,10 @@ module _ {B : Type 0} {n : ℕ} {g : _} (opening : B → List ℕ → List ℕ �
   by_answer s piece (Err f) core t = core piece refl
 
   -- the opener was open no more
-  pub none : (s : Segment) (piece : List ℕ) → Stands opening (n - 16) (opener_view old) s → (old.status ≡ Open → ⊥) → (answer : Result (ℕ × Bool) StreamFault) → TakesNone old piece answer new
-      → Advances s (with_piece s (given (λ (a : ℕ × Bool). a.0) answer piece)) (handed (λ (a : ℕ × Bool). if a.1 then take (n - 16) new.buffer.items ∷ [] else []) answer)
+  pub none : (s : Segment) (piece : List ℕ) → Stands opening (n - 16) (opener_view old) s → (old.status ≡ Open → ⊥) → (answer : Result (ℕ × Bool) StreamFault)
+      → TakesNone old piece answer new
+      → Advances s (with_piece s (given (λ (a : ℕ × Bool). a.0) answer piece))
+      (handed (λ (a : ℕ × Bool). if a.1 then take (n - 16) new.buffer.items ∷ [] else []) answer)
   none s piece h shut answer t =
       let op = opening old.key.now in
       let m = n - 16 in
@@ -147,7 +163,8 @@ module _ {B : Type 0} {n : ℕ} {g : _} (opening : B → List ℕ → List ℕ �
       let core : (p : List ℕ) → nat_lt 0 (length p) ≡ nat_lt 0 (length piece) → Advances s (with_piece s p) [] =
       λ p e.
       let more = after_piece op m s p h.timely closed in
-      let flag : status_after (nat_lt 0 (length piece)) old.index old.status ≡ status_after (nat_lt 0 (length p)) (outcome op m s).index (outcome op m s).status =
+      let flag : status_after (nat_lt 0 (length piece)) old.index old.status
+      ≡ status_after (nat_lt 0 (length p)) (outcome op m s).index (outcome op m s).status =
       ap (λ (b : Bool). status_after b old.index old.status) (sym e)
       ∙ (ap (λ (i : ℕ). status_after (nat_lt 0 (length p)) i old.status) h.index ∙ ap (status_after (nat_lt 0 (length p)) (outcome op m s).index) h.status) in
       let status : new.status ≡ (outcome op m (with_piece s p)).status = t.status ∙ (flag ∙ sym more.status) in
@@ -160,7 +177,8 @@ module _ {B : Type 0} {n : ℕ} {g : _} (opening : B → List ℕ → List ℕ �
 
   part_answer : (s : Segment) (piece : List ℕ) (answer : Result (ℕ × Bool) StreamFault) → Advances s (with_piece s piece) []
       → MatchResult answer (λ a. (a.0 ≡ length piece) × (a.1 ≡ false)) (λ fault. ⊥)
-      → Advances s (with_piece s (given (λ (a : ℕ × Bool). a.0) answer piece)) (handed (λ (a : ℕ × Bool). if a.1 then take (n - 16) new.buffer.items ∷ [] else []) answer)
+      → Advances s (with_piece s (given (λ (a : ℕ × Bool). a.0) answer piece))
+      (handed (λ (a : ℕ × Bool). if a.1 then take (n - 16) new.buffer.items ∷ [] else []) answer)
   part_answer s piece (Ok a) h t =
       let e : take a.0 piece ≡ piece = take_all a.0 piece (omega (arith, t.0)) in
       let Q : Bool → Type 0 = λ f. Advances s (with_piece s (take a.0 piece)) (if f then take (n - 16) new.buffer.items ∷ [] else []) in
@@ -169,10 +187,13 @@ module _ {B : Type 0} {n : ℕ} {g : _} (opening : B → List ℕ → List ℕ �
   part_answer s piece (Err f) h t = absurd t
 
   -- the opener was open
-  pub open_step : (s : Segment) (piece : List ℕ) (answer : Result (ℕ × Bool) StreamFault) → Stands opening (n - 16) (opener_view old) s → old.status ≡ Open → length (held_bytes old) < n
+  pub open_step : (s : Segment) (piece : List ℕ) (answer : Result (ℕ × Bool) StreamFault) → Stands opening (n - 16) (opener_view old) s → old.status
+      ≡ Open → length (held_bytes old) < n
       → (length (held_bytes old) + length piece < n → TakesPart old piece answer new)
-      → (n ≤ length (held_bytes old) + length piece → TakesWhole (one_block (opening old.key.now) old.index (held_bytes old ++ take (n - length (held_bytes old)) piece)) old answer new)
-      → Advances s (with_piece s (given (λ (a : ℕ × Bool). a.0) answer piece)) (handed (λ (a : ℕ × Bool). if a.1 then take (n - 16) new.buffer.items ∷ [] else []) answer)
+      → (n ≤ length (held_bytes old) + length piece
+      → TakesWhole (one_block (opening old.key.now) old.index (held_bytes old ++ take (n - length (held_bytes old)) piece)) old answer new)
+      → Advances s (with_piece s (given (λ (a : ℕ × Bool). a.0) answer piece))
+      (handed (λ (a : ℕ × Bool). if a.1 then take (n - 16) new.buffer.items ∷ [] else []) answer)
   open_step s piece answer h open_ short f w =
       elim (cases_lt (length (held_bytes old) + length piece) n) [
         | inl lt ↦ (let t = f lt in part_answer s piece answer (part s piece answer h open_ lt t) t.answered)

@@ -120,7 +120,8 @@ module _ (sealing : List ℕ → List ℕ → List ℕ) (n : ℕ) (text : List �
       let len_cs : length cs ≡ at = length-first_chunks n at text in
       elim (cases_lt i at) [
         | inl lt ↦
-            (let e0 : get_or (sealed sealing n text) i P ≡ get_or front i P = get_or_append_left front (pair sealing true (at, last) ∷ []) P i (omega (arith, lt, len)) in
+            (let e0 : get_or (sealed sealing n text) i P ≡ get_or front i P = get_or_append_left front (pair sealing true (at, last) ∷ []) P i
+            (omega (arith, lt, len)) in
             let e1 : get_or front i P ≡ pair sealing false (get_or (enumerate_from 0 cs) i (0, [])) =
             get_or-map (pair sealing false) (enumerate_from 0 cs) i (0, []) P (omega (arith, lt, length-enumerate_from 0 cs, len_cs)) in
             let e2 : get_or (enumerate_from 0 cs) i (0, []) ≡ (0 + i, get_or cs i []) = get_or-enumerate_from 0 cs i (0, []) (omega (arith, lt, len_cs)) in

@@ -51,14 +51,17 @@ found_none_by : (b more : Bool) (chunk : List ℕ) (rest : Option (List ℕ)) �
 found_none_by true more chunk rest f e = cc
 found_none_by false more chunk rest f e = f e
 
-found_none : (pairs : List (List ℕ × List ℕ)) (chunks : List (List ℕ)) (nonce block : List ℕ) → list_any (is_pair nonce block) pairs ≡ false → sealed_as pairs chunks nonce block ≡ None
+found_none : (pairs : List (List ℕ × List ℕ)) (chunks : List (List ℕ)) (nonce block : List ℕ) → list_any (is_pair nonce block) pairs ≡ false
+    → sealed_as pairs chunks nonce block ≡ None
 found_none [] chunks nonce block e = refl
 found_none (p ∷ pairs) [] nonce block e = refl
 found_none (p ∷ pairs) (chunk ∷ chunks) nonce block e =
-    found_none_by (is_pair nonce block p) (list_any (is_pair nonce block) pairs) chunk (sealed_as pairs chunks nonce block) (λ more. found_none pairs chunks nonce block more) e
+    found_none_by (is_pair nonce block p) (list_any (is_pair nonce block) pairs) chunk (sealed_as pairs chunks nonce block)
+    (λ more. found_none pairs chunks nonce block more) e
 
 module _ (sealing : List ℕ → List ℕ → List ℕ) (opening : List ℕ → List ℕ → Option (List ℕ)) (valid : IsChunkBox sealing opening) where
-  found_by : (b more : Bool) (p : List ℕ × List ℕ) (chunk nonce block : List ℕ) (rest : Option (List ℕ)) → is_pair nonce block p ≡ b → p.1 ≡ sealing p.0 chunk → length p.0 ≡ 12
+  found_by : (b more : Bool) (p : List ℕ × List ℕ) (chunk nonce block : List ℕ) (rest : Option (List ℕ)) → is_pair nonce block p ≡ b → p.1 ≡ sealing p.0 chunk
+      → length p.0 ≡ 12
       → (more ≡ true → opening nonce block ≡ rest) → (b || more) ≡ true → opening nonce block ≡ cond b (Some chunk) rest
   found_by true more p chunk nonce block rest is seals len f e =
       let t = and_parts (bytes_eq p.0 nonce) (bytes_eq p.1 block) is in
@@ -68,7 +71,8 @@ module _ (sealing : List ℕ → List ℕ → List ℕ) (opening : List ℕ → 
       ∙ (ap (opening p.0) seals ∙ valid.opens p.0 chunk len)
   found_by false more p chunk nonce block rest is seals len f e = f e
 
-  found_opens : (pairs : List (List ℕ × List ℕ)) (chunks : List (List ℕ)) (nonce block : List ℕ) → AreSealed sealing pairs chunks → list_any (is_pair nonce block) pairs ≡ true
+  found_opens : (pairs : List (List ℕ × List ℕ)) (chunks : List (List ℕ)) (nonce block : List ℕ) → AreSealed sealing pairs chunks
+      → list_any (is_pair nonce block) pairs ≡ true
       → opening nonce block ≡ sealed_as pairs chunks nonce block
   found_opens [] chunks nonce block h e = cc
   found_opens (p ∷ pairs) [] nonce block h e = absurd h
@@ -128,7 +132,8 @@ module _ (sealing : List ℕ → List ℕ → List ℕ) (opening : List ℕ → 
       subst (Contains (sealed sealing n text)) is (a.0, a.2, a.3)
 
   -- a block that the writer sealed opens to its chunk; others open to nothing
-  opens_none : (nonce block : List ℕ) (o : Option (List ℕ)) → opening nonce block ≡ o → IsWriters sealing opening n text nonce block → sure nonce block ≡ false → o ≡ None
+  opens_none : (nonce block : List ℕ) (o : Option (List ℕ)) → opening nonce block ≡ o → IsWriters sealing opening n text nonce block → sure nonce block
+      ≡ false → o ≡ None
   opens_none nonce block None e w f = refl
   opens_none nonce block (Some x) e w f =
       let some : IsSome (opening nonce block) = rw e (search rules) in
@@ -157,7 +162,8 @@ module _ (sealing : List ℕ → List ℕ → List ℕ) (opening : List ℕ → 
   unsure i last block none = unsure_by (nonce_bytes i last) block (sure (nonce_bytes i last) block) (nonce_bytes-length i last) refl none
 
   -- a block of fewer bytes is none before the last
-  unsure_short_by : (i : ℕ) (block : List ℕ) (b : Bool) → length block < n + 16 → sure (nonce_bytes i false) block ≡ b → sure (nonce_bytes i false) block ≡ false
+  unsure_short_by : (i : ℕ) (block : List ℕ) (b : Bool) → length block < n + 16 → sure (nonce_bytes i false) block ≡ b → sure (nonce_bytes i false) block
+      ≡ false
   unsure_short_by i block false short e = e
   unsure_short_by i block true short e =
       let p = IsPair-from_Contains sealing n text (nonce_bytes i false) block positive (Contains_from_sure (nonce_bytes i false) block e) in
@@ -176,7 +182,8 @@ module _ (sealing : List ℕ → List ℕ → List ℕ) (opening : List ℕ → 
       → (length (front_texts opening (i + 1) blocks) < length blocks
       → text_before_last opening (i + 1 + length (front_texts opening (i + 1) blocks)) (get_or blocks (length (front_texts opening (i + 1) blocks)) []) ≡ None)
       → length (text_then opening o (front_texts opening (i + 1) blocks)) < suc (length blocks)
-      → text_before_last opening (i + length (text_then opening o (front_texts opening (i + 1) blocks))) (get_or (block ∷ blocks) (length (text_then opening o (front_texts opening (i + 1) blocks))) []) ≡ None
+      → text_before_last opening (i + length (text_then opening o (front_texts opening (i + 1) blocks)))
+      (get_or (block ∷ blocks) (length (text_then opening o (front_texts opening (i + 1) blocks))) []) ≡ None
   stop_step block blocks i None e more lt = let z : i ≡ i + 0 = omega arith in subst (λ (k : ℕ). text_before_last opening k block ≡ None) z e
   stop_step block blocks i (Some x) e more lt =
       let k = length (front_texts opening (i + 1) blocks) in
@@ -195,27 +202,31 @@ module _ (sealing : List ℕ → List ℕ → List ℕ) (opening : List ℕ → 
   opens_step block blocks i j None e more lt = absurd (omega arith)
   opens_step block blocks i zero (Some x) e more lt =
       let z : i ≡ i + 0 = omega arith in
-      let o : opening (nonce_bytes i false) block ≡ Some x = (opens_before sealing opening valid n text few positive i (opening (nonce_bytes i false) block) x e).1 in
+      let o : opening (nonce_bytes i false) block
+      ≡ Some x = (opens_before sealing opening valid n text few positive i (opening (nonce_bytes i false) block) x e).1 in
       let some : IsSome (opening (nonce_bytes i false) block) = rw o (search rules) in
       subst (λ (k : ℕ). IsSome (opening (nonce_bytes k false) block)) z some
   opens_step block blocks i (suc j) (Some x) e more lt =
       let z : i + 1 + j ≡ i + suc j = omega arith in
       subst (λ (k : ℕ). IsSome (opening (nonce_bytes k false) (get_or blocks j []))) z (more j (omega (arith, lt)))
 
-  front_opens : (blocks : List (List ℕ)) (i j : ℕ) → j < length (front_texts opening i blocks) → IsSome (opening (nonce_bytes (i + j) false) (get_or blocks j []))
+  front_opens : (blocks : List (List ℕ)) (i j : ℕ) → j < length (front_texts opening i blocks)
+      → IsSome (opening (nonce_bytes (i + j) false) (get_or blocks j []))
   front_opens [] i j lt = absurd (omega arith)
   front_opens (block ∷ blocks) i j lt = opens_step block blocks i j (text_before_last opening i block) refl (λ k l. front_opens blocks (i + 1) k l) lt
 
   -- the blocks in front are the same
   front_step : (block : List ℕ) (blocks : List (List ℕ)) (i : ℕ) (o : Option (List ℕ)) → text_before_last opening i block ≡ o
-      → ((j : ℕ) → j < suc (length blocks) → j ≤ length (text_then opening o (front_texts opening (i + 1) blocks)) → Same (nonce_bytes (i + j) false) (get_or (block ∷ blocks) j []))
+      → ((j : ℕ) → j < suc (length blocks) → j ≤ length (text_then opening o (front_texts opening (i + 1) blocks))
+      → Same (nonce_bytes (i + j) false) (get_or (block ∷ blocks) j []))
       → (((j : ℕ) → j < length blocks → j ≤ length (front_texts opening (i + 1) blocks) → Same (nonce_bytes (i + 1 + j) false) (get_or blocks j []))
       → front_texts opening (i + 1) blocks ≡ front_texts other (i + 1) blocks)
       → text_then opening o (front_texts opening (i + 1) blocks) ≡ text_then other o (front_texts other (i + 1) blocks)
   front_step block blocks i None e f more = refl
   front_step block blocks i (Some x) e f more =
       ap (λ (ts : List (List ℕ)). x ∷ ts)
-      (more (λ j l m. let s : i + suc j ≡ i + 1 + j = omega arith in subst (λ (k : ℕ). Same (nonce_bytes k false) (get_or blocks j [])) s (f (suc j) (omega arith) (omega arith))))
+      (more (λ j l m. let s : i + suc j ≡ i + 1 + j = omega arith in subst (λ (k : ℕ). Same (nonce_bytes k false) (get_or blocks j [])) s
+      (f (suc j) (omega arith) (omega arith))))
 
   front_same : (blocks : List (List ℕ)) (i : ℕ)
       → ((j : ℕ) → j < length blocks → j ≤ length (front_texts opening i blocks) → Same (nonce_bytes (i + j) false) (get_or blocks j []))
@@ -227,7 +238,8 @@ module _ (sealing : List ℕ → List ℕ → List ℕ) (opening : List ℕ → 
       front_step block blocks i (text_before_last opening i block) refl f (λ f'. front_same blocks (i + 1) f')
       ∙ ap (λ (o : Option (List ℕ)). text_then other (unless_greatest i o) (front_texts other (i + 1) blocks)) here
 
-  last_same : (texts : List (List ℕ)) (i : ℕ) (o : Option (List ℕ)) (behind ended : Bool) → after_last opening texts i o behind ended ≡ after_last other texts i o behind ended
+  last_same : (texts : List (List ℕ)) (i : ℕ) (o : Option (List ℕ)) (behind ended : Bool) → after_last opening texts i o behind ended
+      ≡ after_last other texts i o behind ended
   last_same texts i None behind ended = refl
   last_same texts i (Some x) behind ended = refl
 
@@ -287,7 +299,8 @@ module _ (sealing : List ℕ → List ℕ → List ℕ) (opening : List ℕ → 
               at_place opening n s lt
               ∙ (block_same texts at b (behind || s.late) s.ended o (same (nonce_bytes at true) b (auth.next lt' true))
               ∙ (ap (λ (x : Option (List ℕ)). at_block other texts at b (behind || s.late) s.ended x) (same (nonce_bytes at false) b (auth.next lt' false))
-              ∙ (ap (λ (ts : List (List ℕ)). at_block other ts (s.start + length ts) (get_or blocks (length ts) []) (nat_lt ((length ts + 1) * (n + 16)) (length s.bytes) || s.late) s.ended
+              ∙ (ap (λ (ts : List (List ℕ)). at_block other ts (s.start + length ts) (get_or blocks (length ts) [])
+              (nat_lt ((length ts + 1) * (n + 16)) (length s.bytes) || s.late) s.ended
               (other (nonce_bytes (s.start + length ts) false) (get_or blocks (length ts) []))) front_is
               ∙ sym (at_place other n s lt2)))))
           | inr eq ↦
@@ -313,7 +326,8 @@ module _ (sealing : List ℕ → List ℕ → List ℕ) (opening : List ℕ → 
               let here : j < length texts = omega (arith, lt) in
               let b = get_or blocks j [] in
               let is : block_at n s.bytes j ≡ b = block_is j (omega (arith, here, fits)) in
-              subst (λ (x : List ℕ). Contains (sealed sealing n text) (nonce_bytes (s.start + j) false, x)) (sym is) (auth.front j here (front_opens blocks s.start j here));
+              subst (λ (x : List ℕ). Contains (sealed sealing n text) (nonce_bytes (s.start + j) false, x)) (sym is)
+              (auth.front j here (front_opens blocks s.start j here));
           there = λ last found.
               let no = subst (λ (k : ℕ). sure (nonce_bytes at last) (block_at n s.bytes k) ≡ false) m (none last) in
               let clash : true ≡ false = sym (sure_from_Contains (nonce_bytes at last) (block_at n s.bytes (at - s.start)) found) ∙ no in
@@ -324,20 +338,26 @@ module _ (sealing : List ℕ → List ℕ → List ℕ) (opening : List ℕ → 
     abbrev Right : Outcome → Type 0
     Right o = ((i : ℕ) → o.status ≡ failed ChunkDamaged i → IsFirstWrong sealing n text s i) × ((i : ℕ) → o.status ≡ failed TooManyChunks i → ⊥)
 
-    right_kind : (ts : List (List ℕ)) (kind : StreamKind) (i : ℕ) → (kind ≡ ChunkDamaged → ⊥) → (kind ≡ TooManyChunks → ⊥) → Right (record { texts = ts; index = i; status = failed kind i })
+    right_kind : (ts : List (List ℕ)) (kind : StreamKind) (i : ℕ) → (kind ≡ ChunkDamaged → ⊥) → (kind ≡ TooManyChunks → ⊥)
+        → Right (record { texts = ts; index = i; status = failed kind i })
     right_kind ts kind i a b = (λ j e. absurd (a (kinds kind ChunkDamaged i j e)), λ j e. b (kinds kind TooManyChunks i j e))
 
-    right_last : (o : Option (List ℕ)) (behind ended : Bool) → (o ≡ None → IsFirstWrong sealing n text s at) → Right (after_last opening texts at o behind ended)
-    right_last None behind ended f =
-        (λ i e. subst (IsFirstWrong sealing n text s) (places ChunkDamaged ChunkDamaged at i e) (f refl), λ i e. let k = kinds ChunkDamaged TooManyChunks at i e in cc)
+    right_last : (o : Option (List ℕ)) (behind ended : Bool) → (o ≡ None → IsFirstWrong sealing n text s at)
+        → Right (after_last opening texts at o behind ended)
+    right_last None behind ended f = (
+      λ i e. subst (IsFirstWrong sealing n text s) (places ChunkDamaged ChunkDamaged at i e) (f refl),
+      λ i e. let k = kinds ChunkDamaged TooManyChunks at i e in cc,
+    )
     right_last (Some x) true ended f = right_kind (texts ++ x ∷ []) Trailing at (λ e. cc) (λ e. cc)
     right_last (Some x) false true f = (λ i e. cc, λ i e. cc)
     right_last (Some x) false false f = (λ i e. cc, λ i e. cc)
 
-    right_rest : (rest : List ℕ) (late ended : Bool) → (opening (nonce_bytes at true) rest ≡ None → IsFirstWrong sealing n text s at) → Right (final_block opening texts at rest late ended)
+    right_rest : (rest : List ℕ) (late ended : Bool) → (opening (nonce_bytes at true) rest ≡ None → IsFirstWrong sealing n text s at)
+        → Right (final_block opening texts at rest late ended)
     right_rest rest late false f = (λ i e. cc, λ i e. cc)
     right_rest rest late true f =
-        let last : Right (after_last opening texts at (opening (nonce_bytes at true) rest) late true) = right_last (opening (nonce_bytes at true) rest) late true f in
+        let last : Right (after_last opening texts at (opening (nonce_bytes at true) rest) late true) = right_last (opening (nonce_bytes at true) rest)
+        late true f in
         by_test Right (nat_lt 0 (length rest) && nat_lt (length rest) 16) _ _ (λ _. right_kind texts ChunkCut at (λ e. cc) (λ e. cc))
         (λ _. by_test Right (length rest == 16 && nat_lt 0 at) _ _ (λ _. right_kind texts EmptyLast at (λ e. cc) (λ e. cc))
         (λ _. by_test Right (length rest == 0) _ _ (λ _. right_kind texts Truncated at (λ e. cc) (λ e. cc)) (λ _. last)))
@@ -372,7 +392,8 @@ module _ (sealing : List ℕ → List ℕ → List ℕ) (opening : List ℕ → 
           (right_last (opening (nonce_bytes at true) b) behind ended
           (λ shut. first_wrong (λ last. ap (sure (nonce_bytes at last)) is ∙ neither last b none shut) (omega (arith, lt))))
         where
-          neither : (last : Bool) (b : List ℕ) → opening (nonce_bytes at false) b ≡ None → opening (nonce_bytes at true) b ≡ None → sure (nonce_bytes at last) b ≡ false
+          neither : (last : Bool) (b : List ℕ) → opening (nonce_bytes at false) b ≡ None → opening (nonce_bytes at true) b ≡ None → sure (nonce_bytes at last) b
+              ≡ false
           neither true b none shut = unsure at true b shut
           neither false b none shut = unsure at false b none
 

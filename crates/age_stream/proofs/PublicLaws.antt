@@ -59,7 +59,12 @@ fault_after true i fault = refl
 fault_after false i fault = refl
 
 settled_bytes : (some : Bool) (old new : Outcome) → IsAfterBytes some old new → IsSettled old new
-settled_bytes some old new h = record { texts = h.texts; index = h.index; fault = λ fault e. h.status ∙ (ap (status_after some old.index) e ∙ fault_after some old.index fault) }
+settled_bytes some old new h = record {
+  texts = h.texts;
+  index = h.index;
+  fault = λ fault e. h.status
+      ∙ (ap (status_after some old.index) e ∙ fault_after some old.index fault);
+}
 
 settled_end : (old new : Outcome) → IsAfterEnd old new → IsSettled old new
 settled_end old new h = record { texts = h.texts; index = h.index; fault = λ fault e. h.status ∙ ap status_ended e }
@@ -71,12 +76,14 @@ closed_stays opening n s timely shut = (
 )
 
 -- the index is that of the block at which the segment stands
-index_of : (opening : List ℕ → List ℕ → Option (List ℕ)) (n : ℕ) (s : Segment) → (outcome opening n s).index ≡ s.start + length (front_texts opening s.start (whole_blocks n s.bytes))
+index_of : (opening : List ℕ → List ℕ → Option (List ℕ)) (n : ℕ) (s : Segment) → (outcome opening n s).index
+    ≡ s.start + length (front_texts opening s.start (whole_blocks n s.bytes))
 index_of opening n s =
     let texts = front_texts opening s.start (whole_blocks n s.bytes) in
     let m = length texts in
     ap (λ (o : Outcome). o.index) (by_blocks opening n s)
-    ∙ index_stop opening n texts (s.start + m) (slice_get (whole_blocks n s.bytes) m) (nat_lt ((m + 1) * (n + 16)) (length s.bytes)) (rest_bytes n s.bytes) s.late s.ended
+    ∙ index_stop opening n texts (s.start + m) (slice_get (whole_blocks n s.bytes) m) (nat_lt ((m + 1) * (n + 16)) (length s.bytes)) (rest_bytes n s.bytes)
+    s.late s.ended
 
 pub end_closes : EndCloses
 end_closes opening n s = (

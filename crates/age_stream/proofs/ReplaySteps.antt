@@ -27,7 +27,8 @@ lent_flat None = refl
 lent_flat (Some chunk) = append-nil chunk.now
 
 module _ {B : Type 0} (opening : B → List ℕ → List ℕ → Option (List ℕ)) (n : ℕ) (old new : ReplayView B) where
-  pub replay_step : (s : Standing) (piece : List ℕ) (ts : List (List ℕ)) → IsAt opening n old s → new.key ≡ old.key → new.opener.key ≡ old.opener.key → new.refused ≡ old.refused
+  pub replay_step : (s : Standing) (piece : List ℕ) (ts : List (List ℕ)) → IsAt opening n old s → new.key ≡ old.key → new.opener.key ≡ old.opener.key
+      → new.refused ≡ old.refused
       → Stands opening n new.opener (with_piece s.segment piece)
       → (outcome (opening old.opener.key) n (with_piece s.segment piece)).texts ≡ (outcome (opening old.opener.key) n s.segment).texts ++ ts
       → new.text ≡ old.text ++ flat_map (λ (t : List ℕ). t) ts
@@ -41,7 +42,8 @@ module _ {B : Type 0} (opening : B → List ℕ → List ℕ → Option (List �
       ap (λ o. (outcome o m (with_piece s.segment piece)).texts) (sym same) ∙ (texts ∙ ap (λ o. (outcome o m s.segment).texts ++ ts) same) in
       let all : text_held op m (with_bytes s piece) ≡ text_held op m s ++ F ts =
       ap (λ (x : List (List ℕ)). s.base ++ F x) texts'
-      ∙ (ap (λ (x : List ℕ). s.base ++ x) (flat_map-append (λ (t : List ℕ). t) (outcome op m s.segment).texts ts) ∙ sym (append_assoc s.base (F (outcome op m s.segment).texts) (F ts))) in
+      ∙ (ap (λ (x : List ℕ). s.base ++ x) (flat_map-append (λ (t : List ℕ). t) (outcome op m s.segment).texts ts)
+      ∙ sym (append_assoc s.base (F (outcome op m s.segment).texts) (F ts))) in
       record {
         key = okey ∙ (h.key ∙ sym key);
         segment = stands;
@@ -62,9 +64,11 @@ or_assoc true b c = refl
 or_assoc false b c = refl
 
 joined : (start : ℕ) (bytes : List ℕ) (ended late : Bool) (p r : List ℕ)
-    → with_piece (with_piece (record { start = start; bytes = bytes; ended = ended; late = late }) p) r ≡ with_piece (record { start = start; bytes = bytes; ended = ended; late = late }) (p ++ r)
+    → with_piece (with_piece (record { start = start; bytes = bytes; ended = ended; late = late }) p) r
+    ≡ with_piece (record { start = start; bytes = bytes; ended = ended; late = late }) (p ++ r)
 joined start bytes true late p r =
-    ap (λ (l : Bool). record { start = start; bytes = bytes; ended = true; late = l }) (or_assoc late (nat_lt 0 (length p)) (nat_lt 0 (length r)) ∙ ap (λ (f : Bool). late || f) (some_append p r))
+    ap (λ (l : Bool). record { start = start; bytes = bytes; ended = true; late = l }) (or_assoc late (nat_lt 0 (length p)) (nat_lt 0 (length r))
+    ∙ ap (λ (f : Bool). late || f) (some_append p r))
 joined start bytes false late p r = ap (λ (b : List ℕ). record { start = start; bytes = b; ended = false; late = late }) (append_assoc bytes p r)
 
 pub pieces_join : (s : Segment) (p r : List ℕ) → with_piece (with_piece s p) r ≡ with_piece s (p ++ r)
@@ -72,14 +76,17 @@ pieces_join s p r = joined s.start s.bytes s.ended s.late p r
 
 pub with_bytes-append : (s : Standing) (p r : List ℕ) → with_bytes (with_bytes s p) r ≡ with_bytes s (p ++ r)
 with_bytes-append s p r =
-    ap (λ (x : Segment). record { given_up = s.given_up; base = s.base; segment = x; refused = s.refused }) (joined s.segment.start s.segment.bytes s.segment.ended s.segment.late p r)
+    ap (λ (x : Segment). record { given_up = s.given_up; base = s.base; segment = x; refused = s.refused })
+    (joined s.segment.start s.segment.bytes s.segment.ended s.segment.late p r)
 
-nothing : (start : ℕ) (bytes : List ℕ) (ended late : Bool) → with_piece (record { start = start; bytes = bytes; ended = ended; late = late }) [] ≡ record { start = start; bytes = bytes; ended = ended; late = late }
+nothing : (start : ℕ) (bytes : List ℕ) (ended late : Bool) → with_piece (record { start = start; bytes = bytes; ended = ended; late = late }) []
+    ≡ record { start = start; bytes = bytes; ended = ended; late = late }
 nothing start bytes true late = ap (λ (l : Bool). record { start = start; bytes = bytes; ended = true; late = l }) (or-false late)
 nothing start bytes false late = ap (λ (b : List ℕ). record { start = start; bytes = b; ended = false; late = late }) (append-nil bytes)
 
 pub with_bytes-nil : (s : Standing) → with_bytes s [] ≡ s
-with_bytes-nil s = ap (λ (x : Segment). record { given_up = s.given_up; base = s.base; segment = x; refused = s.refused }) (nothing s.segment.start s.segment.bytes s.segment.ended s.segment.late)
+with_bytes-nil s = ap (λ (x : Segment). record { given_up = s.given_up; base = s.base; segment = x; refused = s.refused })
+    (nothing s.segment.start s.segment.bytes s.segment.ended s.segment.late)
 
 module _ {B : Type 0} (opening : B → List ℕ → List ℕ → Option (List ℕ)) (n : ℕ) (old new : ReplayView B) where
   pub end_step : (s : Standing) (bytes : List ℕ) → IsAt opening n old s → new.key ≡ old.key → new.opener.key ≡ old.opener.key → new.refused ≡ old.refused
@@ -110,12 +117,23 @@ module _ {B : Type 0} (opening : B → List ℕ → List ℕ → Option (List �
   restart_step s k h key sure okey stands text refused =
       let m = n in
       let op = opening old.key in
-      let next : Standing = record { given_up = s.given_up ++ s.segment ∷ []; base = take (k * m) (text_held op m s); segment = fresh k; refused = s.refused } in
+      let next : Standing = record {
+        given_up = s.given_up ++ s.segment ∷ [];
+        base = take (k * m) (text_held op m s);
+        segment = fresh k;
+        refused = s.refused;
+      } in
       let is : accepts op m s k ≡ true = ap (λ (t : List ℕ). nat_lt k chunk_limit && nat_le (k * m) (length t)) (sym h.text) ∙ sure in
       let e : after_delivery op m s (Restart k) ≡ next =
-      ap (λ (b : Bool). cond {A = Standing} b next (record { given_up = s.given_up; base = s.base; segment = s.segment; refused = min (s.refused + 1) 18446744073709551615 })) is in
+      ap (λ (b : Bool). cond {A = Standing} b next (record {
+        given_up = s.given_up;
+        base = s.base;
+        segment = s.segment;
+        refused = min (s.refused + 1) 18446744073709551615;
+      })) is in
       let held : text_held op m next ≡ take (k * m) (text_held op m s) =
-      ap (λ (o : Outcome). take (k * m) (text_held op m s) ++ flat_map (λ (t : List ℕ). t) o.texts) (fresh_outcome op m k) ∙ append-nil (take (k * m) (text_held op m s)) in
+      ap (λ (o : Outcome). take (k * m) (text_held op m s) ++ flat_map (λ (t : List ℕ). t) o.texts) (fresh_outcome op m k)
+      ∙ append-nil (take (k * m) (text_held op m s)) in
       subst (IsAt opening n new) (sym e) (record {
         key = okey ∙ sym key;
         segment = stands;
@@ -135,7 +153,12 @@ module _ {B : Type 0} (opening : B → List ℕ → List ℕ → Option (List �
       let next : Standing = record { given_up = s.given_up; base = s.base; segment = s.segment; refused = up s.refused } in
       let is : accepts op m s k ≡ false = ap (λ (t : List ℕ). nat_lt k chunk_limit && nat_le (k * m) (length t)) (sym h.text) ∙ sure in
       let e : after_delivery op m s (Restart k) ≡ next =
-      ap (λ (b : Bool). cond {A = Standing} b (record { given_up = s.given_up ++ s.segment ∷ []; base = take (k * m) (text_held op m s); segment = fresh k; refused = s.refused }) next) is in
+      ap (λ (b : Bool). cond {A = Standing} b (record {
+        given_up = s.given_up ++ s.segment ∷ [];
+        base = take (k * m) (text_held op m s);
+        segment = fresh k;
+        refused = s.refused;
+      }) next) is in
       subst (IsAt opening n new) (sym e) (record {
         key = ap (λ o. o.key) same ∙ (h.key ∙ sym key);
         segment = subst (λ o. Stands opening n o s.segment) (sym same) h.segment;
@@ -164,7 +187,8 @@ module _ {B : Type 0} (sealing : B → List ℕ → List ℕ → List ℕ) (open
       let is : new.text ≡ text_held op m (standing op m ds) =
       h.text ∙ (ap (λ s. text_held (opening new.key) m s) k ∙ ap (λ k. text_held (opening k) m (standing op m ds)) key) in
       let status : new.opener.status ≡ (outcome op m (standing op m ds).segment).status =
-      h.segment.status ∙ (ap (λ k. (outcome (opening k) m (standing (opening new.key) m ds).segment).status) (h.key ∙ key) ∙ ap (λ s. (outcome op m s.segment).status) k) in
+      h.segment.status ∙ (ap (λ k. (outcome (opening k) m (standing (opening new.key) m ds).segment).status) (h.key ∙ key)
+      ∙ ap (λ s. (outcome op m s.segment).status) k) in
       let Right : List ℕ → Status → Type 0 = IsHeldRight (sealing old.key) op m text ds in
       subst (λ (t : List ℕ). Right t new.opener.status) (sym is)
       (subst (Right (text_held op m (standing op m ds))) (sym status) (held_right (sealing old.key) op valid m text few positive ds auth))

@@ -36,7 +36,8 @@ module _ {B : Type 0} (sealing : B → List ℕ → List ℕ → List ℕ) (n : 
             ∙ sym (append-nil (block_bytes (sealed_before_last (sealing old.key) m text)));
       }
 
-  closes : (text : List ℕ) (block : List ℕ) (x : ℕ) → take taken piece ≡ x ∷ [] → Holds n old text → Closes sealing n old piece taken block new → Follows text (Some block)
+  closes : (text : List ℕ) (block : List ℕ) (x : ℕ) → take taken piece ≡ x ∷ [] → Holds n old text → Closes sealing n old piece taken block new
+      → Follows text (Some block)
   closes text block x is h s =
       let m = n in
       let full : length (last_chunk m text) ≡ m = ap length (sym h.held) ∙ s.full in
@@ -53,7 +54,8 @@ module _ {B : Type 0} (sealing : B → List ℕ → List ℕ → List ℕ) (n : 
         blocks = subst Q (sym is)
             (ap block_bytes (closed_blocks m positive text x full key)
             ∙ (flat_map-append (λ (p : List ℕ × List ℕ). p.1) (sealed_before_last key m text) (pair key false (last_index m text, last_chunk m text) ∷ [])
-            ∙ ap (λ (t : List ℕ). block_bytes (sealed_before_last key m text) ++ t) (append-nil (pair key false (last_index m text, last_chunk m text)).1 ∙ sym e)));
+            ∙ ap (λ (t : List ℕ). block_bytes (sealed_before_last key m text) ++ t) (append-nil (pair key false (last_index m text, last_chunk m text)).1
+            ∙ sym e)));
       }
 
   front_byte : (p : List ℕ) (k : ℕ) → k ≡ 1 → 0 < length p → (x : ℕ) × (take k p ≡ x ∷ [])

@@ -109,7 +109,8 @@ module _ (m : ℕ) (positive : 0 < m) (sealing : List ℕ → List ℕ → List 
             ∙ (b.1 ∙ (ap (λ (ps : List (List ℕ × List ℕ)). ps ++ b.0) a.1 ∙ append_assoc (sealed_before_last sealing m text) a.0 b.0)),
       )
 
-  pub payload_begins : (text more : List ℕ) → (rest : List ℕ) × (block_bytes (sealed_before_last sealing m text) ++ rest ≡ block_bytes (sealed_before_last sealing m (text ++ more)))
+  pub payload_begins : (text more : List ℕ) → (rest : List ℕ) × (block_bytes (sealed_before_last sealing m text) ++ rest
+      ≡ block_bytes (sealed_before_last sealing m (text ++ more)))
   payload_begins text more =
       let b = sealed_begins more text in
       (block_bytes b.0, sym (ap block_bytes b.1 ∙ flat_map-append (λ (p : List ℕ × List ℕ). p.1) (sealed_before_last sealing m text) b.0))

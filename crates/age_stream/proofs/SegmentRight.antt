@@ -21,7 +21,8 @@ module _ (sealing : List ℕ → List ℕ → List ℕ) (opening : List ℕ → 
   rest_done text few s auth rest =
       let r = rest_segment sealing opening valid n positive text few s.start rest.below in
       let is : s ≡ r =
-      ap (λ (bs : List ℕ). record { start = s.start; bytes = bs; ended = s.ended; late = s.late }) (rest.bytes ∙ rest_payload sealing opening valid n positive text few s.start rest.below)
+      ap (λ (bs : List ℕ). record { start = s.start; bytes = bs; ended = s.ended; late = s.late }) (rest.bytes
+      ∙ rest_payload sealing opening valid n positive text few s.start rest.below)
       ∙ (ap (λ (b : Bool). record { start = r.start; bytes = r.bytes; ended = b; late = s.late }) rest.ended
       ∙ ap (λ (b : Bool). record { start = r.start; bytes = r.bytes; ended = r.ended; late = b }) rest.timely) in
       ap (λ (x : Segment). (outcome opening n x).status) is
@@ -38,7 +39,8 @@ module _ (sealing : List ℕ → List ℕ → List ℕ) (opening : List ℕ → 
       }
 
 -- an opener that stands for the segment has its status
-pub opener_right : {B : Type 0} (sealing : B → List ℕ → List ℕ → List ℕ) (opening : B → List ℕ → List ℕ → Option (List ℕ)) (n : ℕ) (key : B) (new : OpenerView B)
+pub opener_right : {B : Type 0} (sealing : B → List ℕ → List ℕ → List ℕ) (opening : B → List ℕ → List ℕ → Option (List ℕ)) (n : ℕ) (key : B)
+    (new : OpenerView B)
     → IsChunkBox (sealing key) (opening key) → 0 < n → new.key ≡ key → (s : Segment) (text : List ℕ) → Stands opening n new s
     → released (opening key) n s ≡ text → ReleasesWritten (sealing key) (opening key) n s text new.status
 opener_right sealing opening n key new valid positive same s text h is =

@@ -32,7 +32,8 @@ pub record IsPair (sealing : List ℕ → List ℕ → List ℕ) (n : ℕ) (text
   pub nonce_is : nonce ≡ nonce_bytes at (at + 1 == chunk_count n text)
   pub block_is : block ≡ sealing nonce (take n (drop (at * n) text))
 
-pair_at : (sealing : List ℕ → List ℕ → List ℕ) (n : ℕ) (text nonce block : List ℕ) (last : Bool) (i : ℕ) (x : List ℕ) → (nonce, block) ≡ pair sealing last (i, x)
+pair_at : (sealing : List ℕ → List ℕ → List ℕ) (n : ℕ) (text nonce block : List ℕ) (last : Bool) (i : ℕ) (x : List ℕ) → (nonce, block)
+    ≡ pair sealing last (i, x)
     → i < chunk_count n text → last ≡ (i + 1 == chunk_count n text) → x ≡ take n (drop (i * n) text) → IsPair sealing n text nonce block
 pair_at sealing n text nonce block last i x e below flag is =
     let en : nonce ≡ nonce_bytes i last = ap (λ (p : List ℕ × List ℕ). p.0) e in
@@ -43,7 +44,8 @@ pair_at sealing n text nonce block last i x e below flag is =
       block_is = ap (λ (p : List ℕ × List ℕ). p.1) e ∙ (ap (λ (m : List ℕ). sealing m x) (sym en) ∙ ap (sealing nonce) is);
     }
 
-pub IsPair-from_Contains : (sealing : List ℕ → List ℕ → List ℕ) (n : ℕ) (text nonce block : List ℕ) → 0 < n → Contains (sealed sealing n text) (nonce, block) → IsPair sealing n text nonce block
+pub IsPair-from_Contains : (sealing : List ℕ → List ℕ → List ℕ) (n : ℕ) (text nonce block : List ℕ) → 0 < n → Contains (sealed sealing n text) (nonce, block)
+    → IsPair sealing n text nonce block
 IsPair-from_Contains sealing n text nonce block positive h =
     let q = last_index n text in
     let cs = first_chunks n q text in
@@ -57,9 +59,13 @@ IsPair-from_Contains sealing n text nonce block positive h =
           get_or_append_left front (pair sealing true (q, last_chunk n text) ∷ []) (nonce, block) h.0 (omega (arith, lt, len)) in
           let e1 : get_or front h.0 (nonce, block) ≡ pair sealing false (get_or (enumerate_from 0 cs) h.0 (0, [])) =
           get_or-map (pair sealing false) (enumerate_from 0 cs) h.0 (0, []) (nonce, block) (omega (arith, lt, len_en)) in
-          let e2 : get_or (enumerate_from 0 cs) h.0 (0, []) ≡ (0 + h.0, get_or cs h.0 []) = get_or-enumerate_from 0 cs h.0 (0, []) (omega (arith, lt, len_cs)) in
+          let e2 : get_or (enumerate_from 0 cs) h.0 (0, []) ≡ (0 + h.0, get_or cs h.0 []) = get_or-enumerate_from 0 cs h.0 (
+            0,
+            [],
+          ) (omega (arith, lt, len_cs)) in
           let z : 0 + h.0 ≡ h.0 = omega arith in
-          let e3 : pair sealing false (0 + h.0, get_or cs h.0 []) ≡ pair sealing false (h.0, get_or cs h.0 []) = ap (λ (i : ℕ). pair sealing false (i, get_or cs h.0 [])) z in
+          let e3 : pair sealing false (0 + h.0, get_or cs h.0 [])
+          ≡ pair sealing false (h.0, get_or cs h.0 []) = ap (λ (i : ℕ). pair sealing false (i, get_or cs h.0 [])) z in
           pair_at sealing n text nonce block false h.0 (get_or cs h.0 []) (sym h.2 ∙ (e0 ∙ (e1 ∙ (ap (pair sealing false) e2 ∙ e3)))) (omega (arith, lt))
           (sym (ne_eqb (h.0 + 1) (q + 1) (λ e. omega (arith, lt, e)))) (get_or-first_chunks n q text h.0 [] lt))
       | inr le ↦
@@ -68,7 +74,8 @@ IsPair-from_Contains sealing n text nonce block positive h =
           let e0 : get_or (sealed sealing n text) h.0 (nonce, block) ≡ pair sealing true (q, last_chunk n text) =
           get_or_push front (pair sealing true (q, last_chunk n text)) (nonce, block) h.0 (len ∙ sym at) in
           let short : length (last_chunk n text) ≤ n = last_chunk_le n text positive in
-          pair_at sealing n text nonce block true q (last_chunk n text) (sym h.2 ∙ e0) (omega arith) (sym (eq-eqb (q + 1) (q + 1) refl)) (sym (take_all n (last_chunk n text) short)))
+          pair_at sealing n text nonce block true q (last_chunk n text) (sym h.2 ∙ e0) (omega arith) (sym (eq-eqb (q + 1) (q + 1) refl))
+          (sym (take_all n (last_chunk n text) short)))
     ]
 
 pub by_test : {A : Type 0} (P : A → Type 0) (b : Bool) (x y : A) → (b ≡ true → P x) → (b ≡ false → P y) → P (cond b x y)
@@ -174,8 +181,10 @@ module _ (sealing : List ℕ → List ℕ → List ℕ) (opening : List ℕ → 
       }
 
   front_step : (block : List ℕ) (blocks : List (List ℕ)) (i : ℕ) (o : Option (List ℕ)) → text_before_last opening i block ≡ o → i * n ≤ length text
-      → ((j : ℕ) → j < length (text_then opening o (front_texts opening (i + 1) blocks)) → IsWriters sealing opening n text (nonce_bytes (i + j) false) (get_or (block ∷ blocks) j []))
-      → (((j : ℕ) → j < length (front_texts opening (i + 1) blocks) → IsWriters sealing opening n text (nonce_bytes (i + 1 + j) false) (get_or blocks j [])) → (i + 1) * n ≤ length text → Carries (i + 1) (front_texts opening (i + 1) blocks))
+      → ((j : ℕ) → j < length (text_then opening o (front_texts opening (i + 1) blocks)) → IsWriters sealing opening n text (nonce_bytes (i + j) false)
+      (get_or (block ∷ blocks) j []))
+      → (((j : ℕ) → j < length (front_texts opening (i + 1) blocks) → IsWriters sealing opening n text (nonce_bytes (i + 1 + j) false) (get_or blocks j []))
+      → (i + 1) * n ≤ length text → Carries (i + 1) (front_texts opening (i + 1) blocks))
       → Carries i (text_then opening o (front_texts opening (i + 1) blocks))
   front_step block blocks i None e h w more = none i h
   front_step block blocks i (Some x) e h w more =
@@ -183,11 +192,13 @@ module _ (sealing : List ℕ → List ℕ → List ℕ) (opening : List ℕ → 
       let lt : i + 1 < chunk_limit = ltb-true (i + 1) chunk_limit p.0 in
       let w0 : IsWriters sealing opening n text (nonce_bytes (i + 0) false) block = w 0 (omega arith) in
       let z : i + 0 ≡ i = omega arith in
-      let w1 : IsWriters sealing opening n text (nonce_bytes i false) block = subst (λ (k : ℕ). IsWriters sealing opening n text (nonce_bytes k false) block) z w0 in
+      let w1 : IsWriters sealing opening n text (nonce_bytes i false) block = subst (λ (k : ℕ). IsWriters sealing opening n text (nonce_bytes k false) block)
+      z w0 in
       let c = writer_text i false block x (omega arith) p.1 w1 in
       step i block x (front_texts opening (i + 1) blocks) c lt
       (more
-      (λ j l. let s : i + suc j ≡ i + 1 + j = omega arith in subst (λ (k : ℕ). IsWriters sealing opening n text (nonce_bytes k false) (get_or blocks j [])) s (w (suc j) (omega arith)))
+      (λ j l. let s : i + suc j ≡ i + 1 + j = omega arith in subst (λ (k : ℕ). IsWriters sealing opening n text (nonce_bytes k false) (get_or blocks j []))
+      s (w (suc j) (omega arith)))
       (next_within i c.below c.flag))
 
   pub front_carries : (blocks : List (List ℕ)) (i : ℕ) → i * n ≤ length text
@@ -210,14 +221,18 @@ module _ (sealing : List ℕ → List ℕ → List ℕ) (opening : List ℕ → 
     pub prefix : IsPrefixOf (start ++ flat_map (λ (t : List ℕ). t) o.texts) text
     pub done : o.status ≡ Done → start ++ flat_map (λ (t : List ℕ). t) o.texts ≡ text
 
-  at_carried : (i : ℕ) (start : List ℕ) (texts : List (List ℕ)) (status : Status) → start ++ flat_map (λ (t : List ℕ). t) texts ≡ take (i * n) text → (status ≡ Done → ⊥) → IsReleased i start (record { texts = texts; index = i; status = status })
+  at_carried : (i : ℕ) (start : List ℕ) (texts : List (List ℕ)) (status : Status) → start ++ flat_map (λ (t : List ℕ). t) texts ≡ take (i * n) text
+      → (status ≡ Done → ⊥) → IsReleased i start (record { texts = texts; index = i; status = status })
   at_carried i start texts status e ne =
       record { prefix = (drop (i * n) text, ap (λ (t : List ℕ). t ++ drop (i * n) text) e ∙ take-append-drop (i * n) text); done = λ d. absurd (ne d) }
 
-  whole : (i : ℕ) (start : List ℕ) (texts : List (List ℕ)) (x : List ℕ) → start ++ flat_map (λ (t : List ℕ). t) texts ≡ take (i * n) text → IsChunk n text i true x
+  whole : (i : ℕ) (start : List ℕ) (texts : List (List ℕ)) (x : List ℕ) → start ++ flat_map (λ (t : List ℕ). t) texts ≡ take (i * n) text
+      → IsChunk n text i true x
       → start ++ flat_map (λ (t : List ℕ). t) (texts ++ x ∷ []) ≡ text
   whole i start texts x e c =
-      sym (flat_map_more (λ (t : List ℕ). t) start texts x) ∙ (ap (λ (t : List ℕ). t ++ x) e ∙ (ap (λ (t : List ℕ). take (i * n) text ++ t) c.is ∙ (take_chunk i ∙ take_all ((i + 1) * n) text (last_within i c.flag))))
+      sym (flat_map_more (λ (t : List ℕ). t) start texts x)
+      ∙ (ap (λ (t : List ℕ). t ++ x) e ∙ (ap (λ (t : List ℕ). take (i * n) text ++ t) c.is
+      ∙ (take_chunk i ∙ take_all ((i + 1) * n) text (last_within i c.flag))))
 
   released_last : (i : ℕ) (start : List ℕ) (texts : List (List ℕ)) (block : List ℕ) (behind ended : Bool) (o : Option (List ℕ)) → i < chunk_limit
       → opening (nonce_bytes i true) block ≡ o → IsWriters sealing opening n text (nonce_bytes i true) block
@@ -231,7 +246,8 @@ module _ (sealing : List ℕ → List ℕ → List ℕ) (opening : List ℕ → 
       → IsWriters sealing opening n text (nonce_bytes i true) block
       → start ++ flat_map (λ (t : List ℕ). t) texts ≡ take (i * n) text → IsReleased i start (at_block opening texts i block behind ended o)
   released_block i start texts block behind ended (Some x) small w e = at_carried i start texts (failed TooManyChunks i) e (λ d. cc)
-  released_block i start texts block behind ended None small w e = released_last i start texts block behind ended (opening (nonce_bytes i true) block) small refl w e
+  released_block i start texts block behind ended None small w e = released_last i start texts block behind ended (opening (nonce_bytes i true) block)
+      small refl w e
 
   released_rest : (i : ℕ) (start : List ℕ) (texts : List (List ℕ)) (rest : List ℕ) (late ended : Bool) → i < chunk_limit
       → (ended ≡ true → 16 ≤ length rest → (length rest ≡ 16 → i ≡ 0) → IsWriters sealing opening n text (nonce_bytes i true) rest)
@@ -239,7 +255,8 @@ module _ (sealing : List ℕ → List ℕ → List ℕ) (opening : List ℕ → 
   released_rest i start texts rest late false small w e = at_carried i start texts Open e (λ d. cc)
   released_rest i start texts rest late true small w e =
       let P : Outcome → Type 0 = IsReleased i start in
-      let last = λ (h : 16 ≤ length rest) (z : length rest ≡ 16 → i ≡ 0). released_last i start texts rest late true (opening (nonce_bytes i true) rest) small refl (w refl h z) e in
+      let last = λ (h : 16 ≤ length rest) (z : length rest ≡ 16 → i ≡ 0). released_last i start texts rest late true (opening (nonce_bytes i true) rest)
+      small refl (w refl h z) e in
       by_test P (nat_lt 0 (length rest) && nat_lt (length rest) 16) _ _ (λ t. at_carried i start texts (failed ChunkCut i) e (λ d. cc))
       (λ uncut. by_test P (length rest == 16 && nat_lt 0 i) _ _ (λ t. at_carried i start texts (failed EmptyLast i) e (λ d. cc))
       (λ first. by_test P (length rest == 0) _ _ (λ t. at_carried i start texts (failed Truncated i) e (λ d. cc))

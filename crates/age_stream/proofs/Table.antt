@@ -90,7 +90,8 @@ module _ (opening : List ℕ → List ℕ → Option (List ℕ)) where
       let uncut : nat_lt (length block) 16 ≡ false = le-ltb (length block) 16 long in
       skip (length block == 0) _ _ some
       ∙ (skip (nat_lt (length block) 16) _ _ uncut
-      ∙ whole_lines texts i block (opening (nonce_bytes i false) block) followed ended _ (last_lines texts i (opening (nonce_bytes i true) block) followed ended))
+      ∙ whole_lines texts i block (opening (nonce_bytes i false) block) followed ended _ (last_lines texts i (opening (nonce_bytes i true) block) followed
+      ended))
 
   short_verdict : (texts : List (List ℕ)) (i : ℕ) (rest : List ℕ) (late ended : Bool)
       → verdict opening (record { texts = texts; index = i; block = rest; whole = false; followed = late; ended = ended })
@@ -115,7 +116,14 @@ module _ (opening : List ℕ → List ℕ → Option (List ℕ)) where
     followed = nat_lt ((length texts + 1) * (n + 16)) (length s.bytes)
 
     abbrev read : List ℕ → Bool → Bool → Outcome
-    read block whole followed = verdict opening (record { texts = texts; index = s.start + length texts; block = block; whole = whole; followed = followed; ended = s.ended })
+    read block whole followed = verdict opening (record {
+      texts = texts;
+      index = s.start + length texts;
+      block = block;
+      whole = whole;
+      followed = followed;
+      ended = s.ended;
+    })
 
     count : length blocks ≡ length s.bytes / (n + 16)
     count = length-first_chunks (n + 16) (length s.bytes / (n + 16)) s.bytes
@@ -130,14 +138,21 @@ module _ (opening : List ℕ → List ℕ → Option (List ℕ)) where
         let pos : 0 < n + 16 = omega arith in
         let fits : (j + 1) * (n + 16) ≤ length s.bytes = (le-div_iff_mul-le pos).0 (omega (arith, lt, count)) in
         let e : (j + 1) * (n + 16) ≡ j * (n + 16) + (n + 16) = omega arith in
-        let len : length (block_at n s.bytes j) ≡ n + 16 = omega (arith, length-take (n + 16) (drop (j * (n + 16)) s.bytes), length-drop (j * (n + 16)) s.bytes, fits, e) in
+        let len : length (block_at n s.bytes j) ≡ n + 16 = omega (
+          arith,
+          length-take (n + 16) (drop (j * (n + 16)) s.bytes),
+          length-drop (j * (n + 16)) s.bytes,
+          fits,
+          e,
+        ) in
         let long : 16 ≤ length b = omega (arith, len, ap length block) in
         ap (λ (w : Bool). read (block_at n s.bytes j) w (followed || s.late)) (eq-eqb (length (block_at n s.bytes j)) (n + 16) len)
         ∙ (ap (λ (c : List ℕ). read c true (followed || s.late)) block
         ∙ (whole_verdict texts i b (followed || s.late) s.ended long
         ∙ sym (ap (λ (o : Option (List ℕ)). verdict_at texts i o followed (rest_bytes n s.bytes) s.late s.ended) (slice_get-within blocks j [] lt))))
 
-    at_rest : length blocks ≤ length texts → length texts ≤ length blocks → outcome opening n s ≡ outcome_of n s.start blocks (length s.bytes) (rest_bytes n s.bytes) s.late s.ended
+    at_rest : length blocks ≤ length texts → length texts ≤ length blocks → outcome opening n s
+        ≡ outcome_of n s.start blocks (length s.bytes) (rest_bytes n s.bytes) s.late s.ended
     unfolding outcome
     at_rest ge le =
         let j = length texts in

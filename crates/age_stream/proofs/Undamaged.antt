@@ -75,7 +75,8 @@ module _ (sealing : List ℕ → List ℕ → List ℕ) (opening : List ℕ → 
       let e : (n + 16) * suc (length ds) ≡ (n + 16) * length ds + (n + 16) = omega arith in
       omega (arith, length-append (sealing (nonce_bytes i false) d) (bytes_of (i + 1) ds), full_len i d h.0, length-bytes_of (i + 1) ds h.1, e)
 
-  chunks_of : (i c : ℕ) (ds : List (List ℕ)) (l : List ℕ) → Full ds → first_chunks (n + 16) (length ds + c) (bytes_of i ds ++ l) ≡ blocks_of i ds ++ first_chunks (n + 16) c l
+  chunks_of : (i c : ℕ) (ds : List (List ℕ)) (l : List ℕ) → Full ds → first_chunks (n + 16) (length ds + c) (bytes_of i ds ++ l)
+      ≡ blocks_of i ds ++ first_chunks (n + 16) c l
   chunks_of i c [] l h = let z : 0 + c ≡ c = omega arith in ap (λ (k : ℕ). first_chunks (n + 16) k l) z
   chunks_of i c (d ∷ ds) l h =
       let z = n + 16 in
@@ -206,7 +207,8 @@ module _ (sealing : List ℕ → List ℕ → List ℕ) (opening : List ℕ → 
         let all : length (front_texts opening k (blocks_of k ds)) ≡ length (blocks_of k ds) = ap length open_front ∙ sym (length-blocks_of k ds) in
         let e : k + length (blocks_of k ds) ≡ q = omega (arith, length-blocks_of k ds, ds_len) in
         front_on opening (blocks_of k ds) ys k all
-        ∙ (ap (λ (ts : List (List ℕ)). ts ++ front_texts opening (k + length (blocks_of k ds)) ys) open_front ∙ ap (λ (j : ℕ). ds ++ front_texts opening j ys) e)
+        ∙ (ap (λ (ts : List (List ℕ)). ts ++ front_texts opening (k + length (blocks_of k ds)) ys) open_front
+        ∙ ap (λ (j : ℕ). ds ++ front_texts opening j ys) e)
 
     -- the last chunk is short: its block is what is left behind the whole ones
     module _ (short : length tail < n + 16) where
@@ -231,29 +233,35 @@ module _ (sealing : List ℕ → List ℕ → List ℕ) (opening : List ℕ → 
           λ h.
           let zero_len : length text ≡ 0 = omega (arith, tail_len, h, length-drop (q * n) text, last_index_le n text) in
           elim (cases_lt 0 q) [
-            | inl lt ↦ (let m : 1 * n ≤ q * n = mul-le 1 n q n (omega (arith, lt)) (omega arith) in absurd (omega (arith, m, last_index_le n text, zero_len, positive)))
+            | inl lt ↦ (let m : 1 * n ≤ q * n = mul-le 1 n q n (omega (arith, lt)) (omega arith) in absurd
+                (omega (arith, m, last_index_le n text, zero_len, positive)))
             | inr le ↦ omega (arith, le, ds_len)
           ] in
           by_test P (nat_lt 0 (length tail) && nat_lt (length tail) 16) _ _
-          (λ t. let h : length tail < 16 = ltb-true (length tail) 16 (and_parts (nat_lt 0 (length tail)) (nat_lt (length tail) 16) t).1 in absurd (omega (arith, h, tail_len)))
+          (λ t. let h : length tail < 16 = ltb-true (length tail) 16 (and_parts (nat_lt 0 (length tail)) (nat_lt (length tail) 16) t).1 in absurd
+          (omega (arith, h, tail_len)))
           (λ _. by_test P (length tail == 16 && nat_lt 0 i) _ _
           (λ t.
           let both = and_parts (length tail == 16) (nat_lt 0 i) t in
           let h : 0 < i = ltb-true 0 i both.1 in
           let g : i ≡ 0 = empty (eqb-true (length tail) 16 both.0) in
           absurd (omega (arith, h, g)))
-          (λ _. by_test P (length tail == 0) _ _ (λ t. let h : length tail ≡ 0 = eqb-true (length tail) 0 t in absurd (omega (arith, h, tail_len))) (λ _. last)))
+          (λ _. by_test P (length tail == 0) _ _ (λ t. let h : length tail ≡ 0 = eqb-true (length tail) 0 t in absurd (omega (arith, h, tail_len)))
+          (λ _. last)))
 
       short_done : (outcome opening n rest_segment).status ≡ Done
       short_done =
           let blocks = blocks_of k ds in
-          let G : List (List ℕ) → Outcome = λ ts. verdict_at opening ts (k + length ts) (slice_get (blocks ++ []) (length ts)) (nat_lt ((length ts + 1) * (n + 16)) (length bytes)) tail false true in
+          let G : List (List ℕ) → Outcome = λ ts. verdict_at opening ts (k + length ts) (slice_get (blocks ++ []) (length ts))
+          (nat_lt ((length ts + 1) * (n + 16)) (length bytes)) tail false true in
           let e1 = outcome_is
           ∙ (ap (λ (ys : List (List ℕ)). outcome_of opening n k (blocks ++ ys) (length bytes) (rest_bytes n tail) false true) none_whole
           ∙ (ap (λ (r : List ℕ). outcome_of opening n k (blocks ++ []) (length bytes) r false true) all_left
           ∙ ap G (front_after [] ∙ append-nil ds))) in
-          let past : slice_get (blocks ++ []) (length ds) ≡ None = slice_get-past (blocks ++ []) (length ds) (omega (arith, ap length (append-nil blocks), length-blocks_of k ds)) in
-          let e2 = e1 ∙ ap (λ (o : Option (List ℕ)). verdict_at opening ds (k + length ds) o (nat_lt ((length ds + 1) * (n + 16)) (length bytes)) tail false true) past in
+          let past : slice_get (blocks ++ []) (length ds)
+          ≡ None = slice_get-past (blocks ++ []) (length ds) (omega (arith, ap length (append-nil blocks), length-blocks_of k ds)) in
+          let e2 = e1 ∙ ap (λ (o : Option (List ℕ)). verdict_at opening ds (k + length ds) o (nat_lt ((length ds + 1) * (n + 16)) (length bytes)) tail
+          false true) past in
           ap (λ (o : Outcome). o.status) e2 ∙ rest_done
 
     -- the last chunk is full: its block is the last whole one
@@ -274,7 +282,8 @@ module _ (sealing : List ℕ → List ℕ → List ℕ) (opening : List ℕ → 
       blocks_are = whole_of k ds tail ds_full ∙ ap (λ (ys : List (List ℕ)). blocks_of k ds ++ ys) one_whole
 
       -- it doesn't open as one before the last, since the writer sealed none so
-      not_before_last : IsAuthentic sealing opening n text rest_segment → (o : Option (List ℕ)) → opening (nonce_bytes q false) tail ≡ o → opening (nonce_bytes q false) tail ≡ None
+      not_before_last : IsAuthentic sealing opening n text rest_segment → (o : Option (List ℕ)) → opening (nonce_bytes q false) tail ≡ o
+          → opening (nonce_bytes q false) tail ≡ None
       not_before_last auth None e = e
       not_before_last auth (Some t) e =
           let blocks = whole_blocks n bytes in
@@ -283,7 +292,8 @@ module _ (sealing : List ℕ → List ℕ → List ℕ) (opening : List ℕ → 
           ap (λ (bs : List (List ℕ)). get_or bs (length ds) []) blocks_are ∙ get_or_at (blocks_of k ds) tail [] [] (length ds) (length-blocks_of k ds) in
           let W : ℕ → List ℕ → Type 0 = λ i b. IsWriters sealing opening n text (nonce_bytes i false) b in
           let here : length front ≡ length ds + length (text_then opening (unless_greatest q (opening (nonce_bytes q false) tail)) []) =
-          ap (λ (bs : List (List ℕ)). length (front_texts opening k bs)) blocks_are ∙ (ap length (front_after (tail ∷ [])) ∙ length-append ds (front_texts opening q (tail ∷ []))) in
+          ap (λ (bs : List (List ℕ)). length (front_texts opening k bs)) blocks_are
+          ∙ (ap length (front_after (tail ∷ [])) ∙ length-append ds (front_texts opening q (tail ∷ []))) in
           let count : length bytes / (n + 16) ≡ length ds + 1 = count_of k ds tail ds_full ∙ ap (λ (c : ℕ). length ds + c) one_count in
           let w : W q tail =
           elim (cases_lt (length ds) (length front)) [
@@ -304,7 +314,8 @@ module _ (sealing : List ℕ → List ℕ → List ℕ) (opening : List ℕ → 
       full_done auth =
           let shut = not_before_last auth (opening (nonce_bytes q false) tail) refl in
           let blocks = blocks_of k ds in
-          let G : List (List ℕ) → Outcome = λ ts. verdict_at opening ts (k + length ts) (slice_get (blocks ++ tail ∷ []) (length ts)) (nat_lt ((length ts + 1) * (n + 16)) (length bytes)) (rest_bytes n tail) false true in
+          let G : List (List ℕ) → Outcome = λ ts. verdict_at opening ts (k + length ts) (slice_get (blocks ++ tail ∷ []) (length ts))
+          (nat_lt ((length ts + 1) * (n + 16)) (length bytes)) (rest_bytes n tail) false true in
           let front : front_texts opening k (blocks ++ tail ∷ []) ≡ ds =
           front_after (tail ∷ []) ∙ (ap (λ (o : Option (List ℕ)). ds ++ text_then opening (unless_greatest q o) []) shut ∙ append-nil ds) in
           let at : slice_get (blocks ++ tail ∷ []) (length ds) ≡ Some tail = slice_get_end blocks tail (length ds) (sym (length-blocks_of k ds)) in
@@ -355,7 +366,8 @@ module _ (sealing : List ℕ → List ℕ → List ℕ) (opening : List ℕ → 
         (q, omega (arith, total), get_or_push front (pair sealing true (q, last_chunk n text)) p q len)
 
     -- the blocks before the last are the writer's
-    front_writers : (ys : List (List ℕ)) (j : ℕ) → j < length ds → IsWriters sealing opening n text (nonce_bytes (k + j) false) (get_or (blocks_of k ds ++ ys) j [])
+    front_writers : (ys : List (List ℕ)) (j : ℕ) → j < length ds → IsWriters sealing opening n text (nonce_bytes (k + j) false)
+        (get_or (blocks_of k ds ++ ys) j [])
     front_writers ys j lt some =
         let is : get_or (blocks_of k ds ++ ys) j [] ≡ sealing (nonce_bytes (k + j) false) (get_or cs (k + j) []) =
         get_or_append_left (blocks_of k ds) ys [] j (omega (arith, lt, length-blocks_of k ds))
@@ -364,14 +376,16 @@ module _ (sealing : List ℕ → List ℕ → List ℕ) (opening : List ℕ → 
 
     short_authentic : length tail < n + 16 → IsAuthentic sealing opening n text rest_segment
     short_authentic short =
-        let whole : whole_blocks n bytes ≡ blocks_of k ds ++ [] = whole_of k ds tail ds_full ∙ ap (λ (ys : List (List ℕ)). blocks_of k ds ++ ys) (none_whole short) in
+        let whole : whole_blocks n bytes ≡ blocks_of k ds ++ [] = whole_of k ds tail ds_full
+        ∙ ap (λ (ys : List (List ℕ)). blocks_of k ds ++ ys) (none_whole short) in
         let front : front_texts opening k (whole_blocks n bytes) ≡ ds = ap (front_texts opening k) whole ∙ (front_after [] ∙ append-nil ds) in
         let e : length tail ≡ 0 * (n + 16) + length tail = omega arith in
         let none : length tail / (n + 16) ≡ 0 = ap (λ (x : ℕ). x / (n + 16)) e ∙ div-mul-add 0 (n + 16) (length tail) short in
         let count : length bytes / (n + 16) ≡ length ds = omega (arith, count_of k ds tail ds_full, none) in
         let len : length (front_texts opening k (whole_blocks n bytes)) ≡ length ds = ap length front in
         record {
-          front = λ j lt. subst (λ (bs : List (List ℕ)). IsWriters sealing opening n text (nonce_bytes (k + j) false) (get_or bs j [])) (sym whole) (front_writers [] j (omega (arith, lt, len)));
+          front = λ j lt. subst (λ (bs : List (List ℕ)). IsWriters sealing opening n text (nonce_bytes (k + j) false) (get_or bs j [])) (sym whole)
+              (front_writers [] j (omega (arith, lt, len)));
           next = λ lt last. absurd (omega (arith, lt, len, count));
           rest = λ eq ended long empty some.
               let left : rest_bytes n bytes ≡ tail = left_of k ds tail ds_full ∙ all_left short in
@@ -388,17 +402,20 @@ module _ (sealing : List ℕ → List ℕ → List ℕ) (opening : List ℕ → 
     full_authentic full shut =
         let whole : whole_blocks n bytes ≡ blocks_of k ds ++ tail ∷ [] = blocks_are full in
         let front : front_texts opening k (whole_blocks n bytes) ≡ ds =
-        ap (front_texts opening k) whole ∙ (front_after (tail ∷ []) ∙ (ap (λ (o : Option (List ℕ)). ds ++ text_then opening (unless_greatest q o) []) shut ∙ append-nil ds)) in
+        ap (front_texts opening k) whole ∙ (front_after (tail ∷ []) ∙ (ap (λ (o : Option (List ℕ)). ds ++ text_then opening (unless_greatest q o) []) shut
+        ∙ append-nil ds)) in
         let count : length bytes / (n + 16) ≡ length ds + 1 = omega (arith, count_of k ds tail ds_full, one_count full) in
         let len : length (front_texts opening k (whole_blocks n bytes)) ≡ length ds = ap length front in
         let there : get_or (whole_blocks n bytes) (length ds) [] ≡ tail =
         ap (λ (bs : List (List ℕ)). get_or bs (length ds) []) whole ∙ get_or_at (blocks_of k ds) tail [] [] (length ds) (length-blocks_of k ds) in
         let at : (last : Bool) → IsWriters sealing opening n text (nonce_bytes q last) tail = last_writers shut in
         record {
-          front = λ j lt. subst (λ (bs : List (List ℕ)). IsWriters sealing opening n text (nonce_bytes (k + j) false) (get_or bs j [])) (sym whole) (front_writers (tail ∷ []) j (omega (arith, lt, len)));
+          front = λ j lt. subst (λ (bs : List (List ℕ)). IsWriters sealing opening n text (nonce_bytes (k + j) false) (get_or bs j [])) (sym whole)
+              (front_writers (tail ∷ []) j (omega (arith, lt, len)));
           next = λ lt last.
               let i : k + length (front_texts opening k (whole_blocks n bytes)) ≡ q = omega (arith, len, ds_len) in
-              let b : get_or (whole_blocks n bytes) (length (front_texts opening k (whole_blocks n bytes))) [] ≡ tail = ap (λ (j : ℕ). get_or (whole_blocks n bytes) j []) len ∙ there in
+              let b : get_or (whole_blocks n bytes) (length (front_texts opening k (whole_blocks n bytes))) []
+              ≡ tail = ap (λ (j : ℕ). get_or (whole_blocks n bytes) j []) len ∙ there in
               subst (λ (c : List ℕ). IsWriters sealing opening n text (nonce_bytes (k + length (front_texts opening k (whole_blocks n bytes))) last) c) (sym b)
               (subst (λ (j : ℕ). IsWriters sealing opening n text (nonce_bytes j last) tail) (sym i) (at last));
           rest = λ eq ended long empty. absurd (omega (arith, eq, len, count));
@@ -409,5 +426,6 @@ module _ (sealing : List ℕ → List ℕ → List ℕ) (opening : List ℕ → 
     rest_authentic shut =
         elim (cases_lt (length tail) (n + 16)) [
           | inl lt ↦ short_authentic lt
-          | inr le ↦ full_authentic (omega (arith, le, tail_len, last_chunk_le n text positive)) (shut (omega (arith, le, tail_len, last_chunk_le n text positive)))
+          | inr le ↦ full_authentic (omega (arith, le, tail_len, last_chunk_le n text positive))
+              (shut (omega (arith, le, tail_len, last_chunk_le n text positive)))
         ]

@@ -11,7 +11,8 @@ pub take_on : (k t : ℕ) (xs : List ℕ) → take k xs ++ take t (take (length 
 take_on k t xs = ap (λ (ys : List ℕ). take k xs ++ take t ys) (take_rest xs k) ∙ sym (take-add k t xs)
 
 -- those of a part of the text have room where the whole payload has
-pub front_fits : (sealing : List ℕ → List ℕ → List ℕ) (opening : List ℕ → List ℕ → Option (List ℕ)) → IsChunkBox sealing opening → (n : ℕ) → 0 < n → (text : List ℕ) (k : ℕ)
+pub front_fits : (sealing : List ℕ → List ℕ → List ℕ) (opening : List ℕ → List ℕ → Option (List ℕ)) → IsChunkBox sealing opening → (n : ℕ) → 0 < n
+    → (text : List ℕ) (k : ℕ)
     → length (block_bytes (sealed_before_last sealing n (take k text))) ≤ length text + chunk_count n text * 16
 front_fits sealing opening valid n positive text k =
     let front : List ℕ → List ℕ = λ t. block_bytes (sealed_before_last sealing n t) in

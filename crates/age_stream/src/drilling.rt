@@ -3,6 +3,7 @@ ghost use Rattle.std.specs.Prelude.{◌-◌, ◌<◌, ◌≤◌, length, IfOk, O
 ghost use Rattle.std.specs.List.{flat_map};
 ghost use Rattle.age_stream.specs.Drills.{IsHeldAfter};
 ghost use Rattle.age_stream.specs.Headline.{HoldsWritten};
+ghost use Rattle.age_stream.specs.Payload.{block_length};
 ghost use Rattle.age_stream.specs.Replaying.{bytes_in};
 
 use crate::chunk_box::ChunkBox;
@@ -18,7 +19,7 @@ pub fn drill<B: ChunkBox, const SEALED: usize>(
     events: &[Delivery<'_>],
 ) -> Result<Drill, Memory>
     requires least { 17 ≤ SEALED }
-    requires most { SEALED ≤ 65552 }
+    requires most { SEALED ≤ block_length }
     ensures held { IfOk result
         (λ drill. IsHeldAfter (B.opening key.now) (SEALED - 16) events.now drill) }
 

@@ -8,6 +8,7 @@ ghost use Rattle.std.specs.Borrow.{sem};
 ghost use Rattle.std.specs.Io.BufRead.{Rests};
 ghost use Rattle.age_stream.specs.Headline.{ReleasesWritten};
 ghost use Rattle.age_stream.specs.Nonce.{nonce_bytes, chunk_limit};
+ghost use Rattle.age_stream.specs.Payload.{chunk_length, block_length};
 ghost use Rattle.age_stream.specs.declared.step.Status.TheVariants.{Open, LastSeen, Done};
 ghost use Rattle.age_stream.specs.declared.fault.StreamFault.{StreamFault as StreamFaultValue};
 
@@ -28,7 +29,7 @@ struct OpenerState<'k, B: ChunkBox, const SEALED: usize> {
     lent: bool,
     index: u64,
     status: Status,
-    ghost sizes: { (17 ≤ SEALED) × (SEALED ≤ 65552) },
+    ghost sizes: { (17 ≤ SEALED) × (SEALED ≤ block_length) },
     ghost limit: { index < chunk_limit },
     ghost room: { status ≡ Open → lent ≡ false → length buffer.items < SEALED },
     // after the last chunk nothing is held
@@ -300,7 +301,7 @@ impl<'k, B: ChunkBox, const SEALED: usize> Opener<'k, B, SEALED> {
     /// An opener of a whole payload. Takes no memory.
     pub fn new(key: &'k B) -> Self
         requires least { 17 ≤ SEALED }
-        requires most { SEALED ≤ 65552 }
+        requires most { SEALED ≤ block_length }
         ensures view { result
             ≡ record { key = key.now; held = []; index = 0; status = Status.Open } }
         ensures stands { Stands B.opening (SEALED - 16) result (fresh 0) }
@@ -312,7 +313,7 @@ impl<'k, B: ChunkBox, const SEALED: usize> Opener<'k, B, SEALED> {
     /// below [`CHUNK_LIMIT`]. Takes no memory.
     pub fn at(key: &'k B, index: u64) -> Self
         requires least { 17 ≤ SEALED }
-        requires most { SEALED ≤ 65552 }
+        requires most { SEALED ≤ block_length }
         requires limit { index < chunk_limit }
         ensures view { result
             ≡ record { key = key.now; held = []; index = index; status = Status.Open } }
@@ -356,7 +357,7 @@ impl<'k, B: ChunkBox, const SEALED: usize> Opener<'k, B, SEALED> {
     /// How many bytes of the block that is open are held, at most 65,552.
     pub fn held_len(&self) -> usize
         ensures len { result ≡ length self.now.held }
-        ensures fits { result ≤ 65552 }
+        ensures fits { result ≤ block_length }
     {
         if self.state.lent {
             0
@@ -368,8 +369,8 @@ impl<'k, B: ChunkBox, const SEALED: usize> Opener<'k, B, SEALED> {
     // How many bytes a chunk has.
     pub(crate) fn chunk_len(&self) -> u64
         ensures len { result ≡ SEALED - 16 }
-        ensures most { result ≤ 65536 }
-        ensures sizes { (17 ≤ SEALED) × (SEALED ≤ 65552) }
+        ensures most { result ≤ chunk_length }
+        ensures sizes { (17 ≤ SEALED) × (SEALED ≤ block_length) }
     {
         // names the state, so that the proof knows its bounds on SEALED
         let _ = &self.state.lent;
@@ -454,7 +455,7 @@ fn open_in<B: ChunkBox, const SEALED: usize>(
     buffer: &mut ArrayVec<u8, SEALED>,
 ) -> bool
     requires tag { 16 ≤ length buffer.old.items }
-    requires limit { SEALED ≤ 65552 }
+    requires limit { SEALED ≤ block_length }
     ensures opened { OnTrue result (B.opening key.now (nonce_bytes index last) buffer.old.items
         ≡ Some (take (length buffer.old.items - 16) buffer.new.items)) }
     ensures closed { OnFalse result

@@ -6,6 +6,7 @@ ghost use Rattle.std.specs.Bool.{OnTrue};
 ghost use Rattle.age_stream.specs.declared.delivery.Delivery.{Delivery as DeliveryValue};
 ghost use Rattle.age_stream.specs.Lent.{chunk_bytes};
 ghost use Rattle.age_stream.specs.Nonce.{chunk_limit};
+ghost use Rattle.age_stream.specs.Payload.{block_length};
 ghost use Rattle.age_stream.specs.Headline.{HoldsWritten};
 
 use crate::chunk_box::ChunkBox;
@@ -247,7 +248,7 @@ impl<'k, B: ChunkBox, const SEALED: usize> Replay<'k, B, SEALED> {
     /// A replay that was given nothing yet. Takes no memory.
     pub fn new(alloc: Global, key: &'k B) -> Self
         requires least { 17 ≤ SEALED }
-        requires most { SEALED ≤ 65552 }
+        requires most { SEALED ≤ block_length }
         ensures key { result.key ≡ key.now }
         ensures nothing { Replays B.opening (SEALED - 16) result [] }
         ensures room { result.capacity ≡ 0 }

@@ -5,6 +5,7 @@ ghost use Rattle.std.specs.Prelude.{IsNone, true, false, if◌then◌else◌};
 ghost use Rattle.std.specs.Borrow.{sem};
 ghost use Rattle.std.specs.Io.BufRead.{Rests};
 ghost use Rattle.age_stream.specs.Nonce.{nonce_bytes, chunk_limit};
+ghost use Rattle.age_stream.specs.Payload.{block_length};
 
 use crate::chunk_box::ChunkBox;
 use crate::fault::{StreamFault, StreamKind};
@@ -24,7 +25,7 @@ struct SealerState<'k, B: ChunkBox, const SEALED: usize> {
     index: u64,
     failed: bool,
     finished: bool,
-    ghost sizes: { (17 ≤ SEALED) × (SEALED ≤ 65552) },
+    ghost sizes: { (17 ≤ SEALED) × (SEALED ≤ block_length) },
     ghost room: { finished ≡ false → IsNone beside → length buffer.items ≤ SEALED - 16 },
     ghost limit: { index < chunk_limit },
 }
@@ -195,7 +196,7 @@ impl<'k, B: ChunkBox, const SEALED: usize> Sealer<'k, B, SEALED> {
     /// A sealer that was given nothing yet. Takes no memory.
     pub fn new(key: &'k B) -> Self
         requires least { 17 ≤ SEALED }
-        requires most { SEALED ≤ 65552 }
+        requires most { SEALED ≤ block_length }
         ensures { result
             ≡ record { key = key.now; held = []; index = 0; failed = false; finished = false } }
     {
@@ -313,7 +314,7 @@ fn seal_in<B: ChunkBox, const SEALED: usize>(
     buffer: &mut ArrayVec<u8, SEALED>,
 )
     requires room { length buffer.old.items + 16 ≤ SEALED }
-    requires limit { SEALED ≤ 65552 }
+    requires limit { SEALED ≤ block_length }
     ensures { buffer.new.items ≡ B.sealing key.now (nonce_bytes index last) buffer.old.items }
 {
     // room for the tag is required

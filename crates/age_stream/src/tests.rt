@@ -80,9 +80,8 @@ fn the_greatest_chunk_is_the_last(rt: HostRuntime) -> Result<(), Fail> {
         kind: StreamKind::TooManyChunks,
         chunk: CHUNK_LIMIT - 1,
     };
-    assert!(rt;
-        matches!(&opener.feed(b"XXXX\0\0\0\0\0\xff\xff\xff\xff\xff\xff\0\0\0\0\0"), Err(f) if *f == fault)
-    );
+    let block = b"XXXX\0\0\0\0\0\xff\xff\xff\xff\xff\xff\0\0\0\0\0";
+    assert!(rt; matches!(&opener.feed(block), Err(f) if *f == fault));
     assert!(rt; matches!(&opener.end(), Err(f) if *f == fault));
     assert_eq!(rt; opener.index(), CHUNK_LIMIT - 1);
     assert_eq!(rt; fault.number(), 22);

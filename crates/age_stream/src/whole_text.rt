@@ -2,12 +2,11 @@
 ghost use Rattle.std.specs.Prelude.{◌≡◌, ◌-◌, ◌≤◌, ◌<◌, ◌+◌, ◌*◌, ◌/◌};
 ghost use Rattle.std.specs.Prelude.{◌^◌, ◌++◌, length, IfOk, IfErr, OnOk, IfSome, IfNone};
 ghost use Rattle.std.specs.Prelude.{vec_capacity};
-ghost use Rattle.age_stream.specs.Payload.{payload, chunk_count};
+ghost use Rattle.age_stream.specs.Payload.{payload, chunk_count, block_length};
 ghost use Rattle.age_stream.specs.Nonce.{chunk_limit};
 ghost use Rattle.age_stream.specs.Authentic.{GivesBack, IsClosed};
 ghost use Rattle.age_stream.specs.WholeText.{SealRefuses, number_of, place_of};
-ghost use Rattle.age_stream.specs.declared.whole_text.SealFault.TheVariants.{Stream as StreamRefusal};
-ghost use Rattle.age_stream.specs.declared.whole_text.SealFault.TheVariants.{Memory as MemoryRefusal};
+ghost use Rattle.age_stream.specs.declared.whole_text.SealFault.TheVariants as refusals;
 
 use crate::chunk_box::ChunkBox;
 use crate::fault::StreamFault;
@@ -52,7 +51,7 @@ impl SealFault {
 }
 
 impl From<AllocError> for SealFault {
-    ghost from_gives = { λ _ e. e ≡ MemoryRefusal };
+    ghost from_gives = { λ _ e. e ≡ refusals.Memory };
 
     fn from(_e: AllocError) -> SealFault {
         SealFault::Memory
@@ -60,7 +59,7 @@ impl From<AllocError> for SealFault {
 }
 
 impl From<StreamFault> for SealFault {
-    ghost from_gives = { λ fault e. e ≡ StreamRefusal fault };
+    ghost from_gives = { λ fault e. e ≡ refusals.Stream fault };
 
     fn from(e: StreamFault) -> SealFault {
         SealFault::Stream(e)
@@ -75,7 +74,7 @@ pub fn seal_all<B: ChunkBox, const SEALED: usize>(
     text: &[u8],
 ) -> Result<Vec<u8>, SealFault>
     requires least { 17 ≤ SEALED }
-    requires most { SEALED ≤ 65552 }
+    requires most { SEALED ≤ block_length }
     ensures sealed { IfOk result
         (λ v. v.items ≡ payload (B.sealing key.now) (SEALED - 16) text.now) }
     ensures few { OnOk result (chunk_count (SEALED - 16) text.now ≤ chunk_limit) }
@@ -101,14 +100,14 @@ pub fn seal_into<B: ChunkBox, const SEALED: usize>(
     out: &mut Vec<u8>,
 ) -> Result<(), SealFault>
     requires least { 17 ≤ SEALED }
-    requires most { SEALED ≤ 65552 }
+    requires most { SEALED ≤ block_length }
     ensures sealed { OnOk result (out.new.items
         ≡ out.old.items ++ payload (B.sealing key.now) (SEALED - 16) text.now) }
     ensures few { OnOk result (chunk_count (SEALED - 16) text.now ≤ chunk_limit) }
     ensures refused { IfErr result
         (SealRefuses (SEALED - 16) text.now (vec_capacity out.old - length out.old.items)) }
     ensures unchanged { IfErr result
-        (λ fault. fault ≡ MemoryRefusal → out.new.items ≡ out.old.items) }
+        (λ fault. fault ≡ refusals.Memory → out.new.items ≡ out.old.items) }
 {
     let Some(len) = payload_len(text.len(), SEALED - 16) else {
         return Err(SealFault::Memory);
@@ -125,14 +124,14 @@ fn seal_within<B: ChunkBox, const SEALED: usize>(
     out: &mut Vec<u8>,
 ) -> Result<(), StreamFault>
     requires least { 17 ≤ SEALED }
-    requires most { SEALED ≤ 65552 }
+    requires most { SEALED ≤ block_length }
     requires room { length out.old.items
         + (length text.now + chunk_count (SEALED - 16) text.now * 16) ≤ vec_capacity out.old }
     ensures sealed { OnOk result (out.new.items
         ≡ out.old.items ++ payload (B.sealing key.now) (SEALED - 16) text.now) }
     ensures few { OnOk result (chunk_count (SEALED - 16) text.now ≤ chunk_limit) }
     ensures refused { IfErr result (λ fault. SealRefuses (SEALED - 16) text.now 0
-        (StreamRefusal fault)) }
+        (refusals.Stream fault)) }
 {
     let mut sealer = Sealer::<B, SEALED>::new(key);
     let mut at = 0;

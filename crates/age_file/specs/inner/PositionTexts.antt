@@ -1,7 +1,7 @@
 -- The text of a position. Not of the age format.
 use Rattle.std.specs.Prelude.{ℕ, List, ◌++◌, codes}
 use Rattle.std.specs.Fmt.{decimal}
-use Rattle.age_stanza.specs.Text.{text}
+use Rattle.age_stanza.specs.Text.{base64_text as text}
 
 -- how a text begins that has this index
 abbrev pub index_text : ℕ → List ℕ

@@ -26,7 +26,8 @@ loop-i-preserved c =
     let before : take a c.loop-i.out ≡ joined pass salt i = c.loop-i.invariant ∙ take_all n (joined pass salt i) (omega arith) in
     let next : 32 * (i + 1) ≡ a + 32 = omega arith in
     rw (next, joined_more) (
-    chunk_written (joined pass salt i) c.pbkdf2_block-block.result c.loop-i.out c.copy_from_slice.new.self a k n front block room (omega arith) (omega arith) reach
+    chunk_written (joined pass salt i) c.pbkdf2_block-block.result c.loop-i.out c.copy_from_slice.new.self a k n front block room (omega arith)
+    (omega arith) reach
     c.copy_from_slice.ensures.after before
     ∙ ap (λ b. take n (joined pass salt i ++ b)) is
     )

@@ -7,7 +7,8 @@ use Rattle.age_cipher.proofs.SealingLemmas.{length-sealing, opening_of_sealing, 
 use Rattle.age_stream.specs.ChunkBoxes.{IsChunkBox}
 
 pub box_valid : (key : List ℕ)
-    → IsChunkBox (λ nonce text. sealing key nonce [] text) (λ nonce block. opening key nonce [] block)
+    → IsChunkBox (λ nonce text. sealing key nonce [] text)
+    (λ nonce block. opening key nonce [] block)
 box_valid key =
     record {
       longer = λ nonce text h. length-sealing key nonce [] text;

@@ -5,7 +5,7 @@ use Rattle.std.specs.List.{AllByRecursion}
 use Rattle.base64.specs.GeneralPurpose.{IsBytes}
 use Rattle.age_stanza.specs.declared.header.Stanza.{Stanza}
 use Rattle.age_stanza.specs.declared.header.Header.{Header}
-use Rattle.age_stanza.specs.Grammar.{IsArgument, stanza_text, head_text}
+use Rattle.age_stanza.specs.Grammar.{IsArgument, stanza_text, head_text, header_limit}
 
 -- the part of a stanza's validity that its type leaves open
 abbrev pub HasArguments : Stanza → Type 0
@@ -22,6 +22,6 @@ LeavesAfterStanza room s None = room < length (stanza_text s)
 
 -- the length of a header's text, where it is within the limit; and what the types tell of the bytes
 abbrev pub IsTextLength : Header → Option ℕ → Type 0
-IsTextLength h (Some size) = (size ≡ length (head_text h)) × (size ≤ 1048576) × IsBytes h.mac
+IsTextLength h (Some size) = (size ≡ length (head_text h)) × (size ≤ header_limit) × IsBytes h.mac
     × AllByRecursion (λ s. IsBytes s.body) h.stanzas
-IsTextLength h None = 1048576 < length (head_text h)
+IsTextLength h None = header_limit < length (head_text h)

@@ -8,7 +8,7 @@ use Rattle.age_stanza.specs.declared.header.Header.{Header}
 use Rattle.age_stanza.specs.declared.header.HeadStep.{HeadStep}
 use Rattle.age_stanza.specs.declared.header.HeadStep.TheVariants.{More, Ready}
 use Rattle.age_stanza.specs.declared.place.Place.TheVariants.{Start}
-use Rattle.age_stanza.specs.Grammar.{HeadText}
+use Rattle.age_stanza.specs.Grammar.{header_limit, HeadText}
 use Rattle.age_stanza.specs.Faults.{HasHeader, IsFault, memory_fault}
 use Rattle.age_stanza.specs.inner.LineMachine.{walk, ready, faulty}
 use Rattle.age_stanza.specs.inner.Retelling.{IsUnderWay}
@@ -32,7 +32,7 @@ ReadsLines held bytes (Err fault) new = (fault ≡ memory_fault)
 -- a piece, of which no more is read than the limit allows
 abbrev pub TakesPiece : List ℕ → List ℕ → Result HeadStep HeadFault → List ℕ → Type 0
 TakesPiece held piece (Ok More) new = (new ≡ held ++ piece)
-    × (length (held ++ piece) < 1048576) × IsUnderWay (held ++ piece)
+    × (length (held ++ piece) < header_limit) × IsUnderWay (held ++ piece)
 TakesPiece held piece (Ok (Ready taken h)) new = (taken ≤ length piece)
     × HeadText h (held ++ take taken piece)
 TakesPiece held piece (Err fault) new = (fault ≡ memory_fault)

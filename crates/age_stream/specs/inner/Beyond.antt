@@ -6,16 +6,17 @@ use Rattle.std.specs.Prelude.{None, nat_lt, nat_le, ◌&&◌, Bool, true, not, i
 use Rattle.std.specs.List.{list_all}
 use Rattle.std.specs.Str.{bytes_eq}
 use Rattle.age_stream.specs.ChunkBoxes.{Seals, Opens}
+use Rattle.age_stream.specs.Payload.{chunk_length, block_length}
 
 abbrev pub are_bytes : List ℕ → Bool
 are_bytes = list_all (λ (b : ℕ). nat_lt b 256)
 
 -- what a box is ever given: a text of at most 65,536 bytes, and a block of 16 bytes more
 abbrev pub is_text : List ℕ → Bool
-is_text text = are_bytes text && nat_le (length text) 65536
+is_text text = are_bytes text && nat_le (length text) chunk_length
 
 abbrev pub is_block : List ℕ → Bool
-is_block block = are_bytes block && (nat_le 16 (length block) && nat_le (length block) 65552)
+is_block block = are_bytes block && (nat_le 16 (length block) && nat_le (length block) block_length)
 
 -- the law of a box, of these alone
 pub record IsChunkBoxOnBytes (sealing : Seals) (opening : Opens) : Type 0 where

@@ -15,7 +15,11 @@ returns-then-same-clause-exact c =
     let n : ℕ = length block - 16 in
     let split = c.split_at_mut-cipher.ensures in
     let tags = c.tag.ensures ∙ ap (tag key nonce aad) split.front in (
-      λ h. (ciphertext key nonce 1 (take n block), opens_if key nonce aad block n c.tag.result c.split_at_mut-cipher.result.1.now (c.is_tag-same.ensures.0 h) tags split.back),
+      λ h. (
+        ciphertext key nonce 1 (take n block),
+        opens_if key nonce aad block n c.tag.result c.split_at_mut-cipher.result.1.now (c.is_tag-same.ensures.0 h)
+            tags split.back,
+      ),
       λ w. c.if-same.true,
     )
 
@@ -43,6 +47,10 @@ returns-else-same-clause-exact c =
     let n : ℕ = length block - 16 in
     let split = c.split_at_mut-cipher.ensures in
     let tags = c.tag.ensures ∙ ap (tag key nonce aad) split.front in (
-      λ h. (ciphertext key nonce 1 (take n block), opens_if key nonce aad block n c.tag.result c.split_at_mut-cipher.result.1.now (c.is_tag-same.ensures.0 h) tags split.back),
+      λ h. (
+        ciphertext key nonce 1 (take n block),
+        opens_if key nonce aad block n c.tag.result c.split_at_mut-cipher.result.1.now (c.is_tag-same.ensures.0 h)
+            tags split.back,
+      ),
       λ w. c.is_tag-same.ensures.1 (opens_of key nonce aad block c.tag.result c.split_at_mut-cipher.result.1.now tags split.back w),
     )

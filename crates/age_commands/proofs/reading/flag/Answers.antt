@@ -11,5 +11,6 @@ use Rattle.age_commands.proofs.reading.flag.Goals as goal
 pub returns : goal.returns
 returns c =
     c.unwrap_or.ensures
-    ∙ (flag_read (λ t x. ParsesBool t x) (one_text (found_of c.args.matches.now) c.args.id.now) c.get_one.result c.get_one.ensures.none c.get_one.ensures.value (λ t x g. g)
+    ∙ (flag_read (λ t x. ParsesBool t x) (one_text (found_of c.args.matches.now) c.args.id.now) c.get_one.result c.get_one.ensures.none c.get_one.ensures.value
+    (λ t x g. g)
     ∙ ap (λ (o : Option Text). option_map_or (λ t. bytes_eq t (codes "true")) o false) (one_text-rows (found_of c.args.matches.now) c.args.id.now))

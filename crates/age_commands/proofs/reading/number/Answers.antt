@@ -8,7 +8,8 @@ use Rattle.age_commands.proofs.reading.number.Goals as goal
 
 pub returns-in-Some-clause-value : goal.returns-in-Some-clause-value
 returns-in-Some-clause-value c =
-    number_read (λ bs r. ParsesUnsigned 32 10 bs r × ExplainsUnsignedError 10 bs r × HasUnsignedDigitsIfOk bs r) (one_text (found_of c.args.matches.now) c.args.id.now) c.in-Some.n c.args.default c.in-Some.ensures.none c.in-Some.ensures.value (λ t x g. g.0)
+    number_read (λ bs r. ParsesUnsigned 32 10 bs r × ExplainsUnsignedError 10 bs r × HasUnsignedDigitsIfOk bs r)
+    (one_text (found_of c.args.matches.now) c.args.id.now) c.in-Some.n c.args.default c.in-Some.ensures.none c.in-Some.ensures.value (λ t x g. g.0)
     ∙ ap (number_or c.args.default) (one_text-rows (found_of c.args.matches.now) c.args.id.now)
 
 pub returns-in-None-clause-value : goal.returns-in-None-clause-value

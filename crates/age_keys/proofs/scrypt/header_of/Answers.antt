@@ -7,4 +7,5 @@ use Rattle.age_keys.proofs.scrypt.header_of.Goals as goal
 pub returns-clause-text : goal.returns-clause-text
 returns-clause-text c =
     rw (c.in_ok-push.ensures.ok, c.new-stanzas.ensures, c.in_ok-scrypt_stanza.ensures)
-    (scrypt_has_text c.args.salt.now c.args.body.now (replicate 32 0) c.args.log c.told-salt (λ i. omega (arith, c.fits-salt i)) c.told-body (λ i. omega (arith, c.fits-body i)) c.requires refl (bytes_from_pass (replicate 32 0) refl))
+    (scrypt_has_text c.args.salt.now c.args.body.now (replicate 32 0) c.args.log c.told-salt (λ i. omega (arith, c.fits-salt i)) c.told-body
+    (λ i. omega (arith, c.fits-body i)) c.requires refl (bytes_from_pass (replicate 32 0) refl))

@@ -4,7 +4,8 @@ use Rattle.age_keys.proofs.scrypt.scrypt_header.Goals as goal
 
 pub returns-clause-head : goal.returns-clause-head
 returns-clause-head c =
-    scrypt_head_is c.args.pass.now c.args.salt.now c.args.key.now c.in_ok-wrap_key.wrap_key c.wrapped_key.result c.in_ok-header.field-0 c.args.log c.in-Ok.header
+    scrypt_head_is c.args.pass.now c.args.salt.now c.args.key.now c.in_ok-wrap_key.wrap_key c.wrapped_key.result c.in_ok-header.field-0 c.args.log
+    c.in-Ok.header
     c.in_ok-wrap_key.ensures.key c.wrapped_key.ensures c.in-Ok.ensures.value c.in_ok-header.ensures.mac
 
 pub returns-clause-text : goal.returns-clause-text

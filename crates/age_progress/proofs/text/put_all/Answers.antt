@@ -14,6 +14,7 @@ loop-at-preserved g c =
     ap (λ (ys : List ℕ). take at text ++ take n ys) (take_rest text at) ∙ sym (take-add at n text) in
     record {
       within = omega (arith, kept.within, c.in_ok-at.ensures.bound);
-      wrote = subst (λ (t : List ℕ). Appends (g.O.Sink.view c.args.sink.now).taken (g.O.Sink.view c.put.new.self).taken t) on (Appends-then _ _ _ (take at text) (take n (take (length text - at) (drop at text))) kept.wrote c.in_ok-at.ensures.bytes);
+      wrote = subst (λ (t : List ℕ). Appends (g.O.Sink.view c.args.sink.now).taken (g.O.Sink.view c.put.new.self).taken t) on
+          (Appends-then _ _ _ (take at text) (take n (take (length text - at) (drop at text))) kept.wrote c.in_ok-at.ensures.bytes);
       failed = c.in_ok-at.ensures.counted ∙ kept.failed;
     }

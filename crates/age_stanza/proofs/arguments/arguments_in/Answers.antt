@@ -8,7 +8,8 @@ use Rattle.age_stanza.proofs.arguments.arguments_in.Goals as goal
 pub returns-then-not-branch : goal.returns-then-not-branch
 returns-then-not-branch c =
     let first = first_part 32 c.loop-end.rest.now c.in-Some.end (sym c.in-Some.ensures) in
-    sym (bad_argument c.loop-end.args _ _ first.one_line (c.in_ok-push_valid.ensures.refused c.if-not-branch.true)) ∙ ap (arguments_from c.loop-end.args []) (sym first.parts)
+    sym (bad_argument c.loop-end.args _ _ first.one_line (c.in_ok-push_valid.ensures.refused c.if-not-branch.true))
+    ∙ ap (arguments_from c.loop-end.args []) (sym first.parts)
     ∙ c.loop-end.invariant.0
 
 pub overflow_add-rest : goal.overflow_add-rest
@@ -30,7 +31,8 @@ loop-end-preserved c =
 
 pub returns-then-not-branch-2 : goal.returns-then-not-branch-2
 returns-then-not-branch-2 c =
-    sym (bad_last_argument c.loop-end.args _ (no_part 32 _ (sym c.in_default.ensures)) (c.in_ok-push_valid-2.ensures.refused c.if-not-branch-2.true)) ∙ c.loop-end.invariant.0
+    sym (bad_last_argument c.loop-end.args _ (no_part 32 _ (sym c.in_default.ensures)) (c.in_ok-push_valid-2.ensures.refused c.if-not-branch-2.true))
+    ∙ c.loop-end.invariant.0
 
 pub returns : goal.returns
 returns c =

@@ -3,7 +3,7 @@ use Rattle.std.specs.Prelude.{codes}
 use Rattle.std.specs.List.{flat_map}
 use Rattle.std.proofs.lemmas.List.{append_assoc, length-append}
 use Rattle.age_stanza.specs.declared.header.Header.{Header}
-use Rattle.age_stanza.specs.Text.{text}
+use Rattle.age_stanza.specs.Text.{base64_text}
 use Rattle.age_stanza.specs.Grammar.{line, version, stanza_text, HeadText}
 use Rattle.age_stanza.proofs.Texts.{length-text}
 use Rattle.age_stanza.proofs.laws.mac_text_is_front.Goals as goal
@@ -11,11 +11,16 @@ use Rattle.age_stanza.proofs.laws.mac_text_is_front.Goals as goal
 regrouped : (a b c d : List ℕ) → a ++ (b ++ (c ++ d)) ≡ (a ++ (b ++ c)) ++ d
 regrouped a b c d = simp append_assoc
 
-front_of : (h : Header) (bytes : List ℕ) → HeadText h bytes → (last : List ℕ) × (length last ≡ 45) × (bytes ≡ (line version ++ (flat_map stanza_text h.stanzas ++ codes "---")) ++ last)
+front_of : (h : Header) (bytes : List ℕ) → HeadText h bytes → (last : List ℕ) × (length last ≡ 45)
+    × (bytes ≡ (line version ++ (flat_map stanza_text h.stanzas ++ codes "---")) ++ last)
 front_of h bytes is =
-    let last : List ℕ = 32 ∷ (text h.mac ++ 10 ∷ []) in
-    let long = is.spells.valid.mac_length in
-    (last, omega (arith, length-append (text h.mac) (10 ∷ []), length-text h.mac), is.spells.bytes_are ∙ regrouped (line version) (flat_map stanza_text h.stanzas) (codes "---") last)
+    let last : List ℕ = 32 ∷ (base64_text h.mac ++ 10 ∷ []) in
+    let long = is.spells.valid.mac_length in (
+      last,
+      omega (arith, length-append (base64_text h.mac) (10 ∷ []), length-text h.mac),
+      is.spells.bytes_are
+          ∙ regrouped (line version) (flat_map stanza_text h.stanzas) (codes "---") last,
+    )
 
 pub returns : goal.returns
 returns c = front_of

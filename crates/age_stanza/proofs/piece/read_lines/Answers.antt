@@ -12,7 +12,13 @@ end_line-requires-clause-within c =
     let first = first_line c.loop-end.rest.now c.in-Some.end (sym c.in-Some.ensures) in
     let lt = first.within in
     let size = ap length c.loop-end.invariant.same in
-    omega (arith, size, length-append c.loop-end.partial c.loop-end.rest.now, length-append c.args.partial.now c.args.bytes.now, length-take c.in-Some.end c.loop-end.rest.now)
+    omega (
+      arith,
+      size,
+      length-append c.loop-end.partial c.loop-end.rest.now,
+      length-append c.args.partial.now c.args.bytes.now,
+      length-take c.in-Some.end c.loop-end.rest.now,
+    )
 
 pub returns-in_err-header : goal.returns-in_err-header
 returns-in_err-header c =
@@ -28,7 +34,8 @@ returns-in-Some-2 c =
 pub loop-end-preserved : goal.loop-end-preserved
 loop-end-preserved c =
     let goes = rw (c.in_default-2.is) at c.in_ok-header.ensures in
-    rw (take_rest c.loop-end.rest.now (c.in-Some.end + 1)) (left_behind _ _ _ _ _ _ _ (first_line c.loop-end.rest.now c.in-Some.end (sym c.in-Some.ensures)) c.loop-end.invariant refl goes)
+    rw (take_rest c.loop-end.rest.now (c.in-Some.end + 1)) (left_behind _ _ _ _ _ _ _ (first_line c.loop-end.rest.now c.in-Some.end (sym c.in-Some.ensures))
+    c.loop-end.invariant refl goes)
 
 pub extend-requires-clause-one_line : goal.extend-requires-clause-one_line
 extend-requires-clause-one_line c = no_line _ (sym c.in_default.ensures)

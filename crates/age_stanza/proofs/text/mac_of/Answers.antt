@@ -14,5 +14,6 @@ returns-then-not-read_base64 c =
 
 pub returns : goal.returns
 returns c =
-    mac_is c.args.line.now c.read_base64.new.bytes (sym c.starts_with.ensures.value ∙ c.if-not-starts_with.false) (sym (take_rest c.args.line.now 4) ∙ c.if-not-read_base64.ensures.read)
+    mac_is c.args.line.now c.read_base64.new.bytes (sym c.starts_with.ensures.value ∙ c.if-not-starts_with.false) (sym (take_rest c.args.line.now 4)
+    ∙ c.if-not-read_base64.ensures.read)
     (omega arith) c.read_base64.ensures.bytes

@@ -1,7 +1,7 @@
 use Rattle.std.proofs.Common.{take, length, sym, ap, ◌∙◌, arith}
 use Rattle.base64.specs.GeneralPurpose.{IsBytes}
 use Rattle.age_stanza.proofs.TextLengths.{div_ceil-characters}
-use Rattle.age_stanza.specs.Text.{text}
+use Rattle.age_stanza.specs.Text.{base64_text}
 use Rattle.age_stanza.proofs.Base64Lemmas.{text_of_decoded, characters_of, decoded_size, never_decodes}
 use Rattle.age_stanza.proofs.text.read_base64.Goals as goal
 
@@ -15,12 +15,13 @@ pub returns-in-Ok-clause-read : goal.returns-in-Ok-clause-read
 returns-in-Ok-clause-read c =
     let fits : IsBytes c.args.characters.now = λ i. omega (arith, c.type_inv.characters i) in
     text_of_decoded c.args.characters.now (take c.in-Ok.len c.decode_slice_unchecked.new.output) fits c.in-Ok.ensures.ok.0
-    ∙ ap text (sym c.copy_from_slice.ensures.after)
+    ∙ ap base64_text (sym c.copy_from_slice.ensures.after)
 
 pub returns-in_default-clause-refused : goal.returns-in_default-clause-refused
 returns-in_default-clause-refused c = λ other fits len is.
     let ok = c.in-Ok.ensures.ok in
-    let n = decoded_size c.args.characters.now other c.decode_slice_unchecked.new.output c.in-Ok.len (omega (arith, ok.2, c.decode_slice_unchecked.auto.output)) ok.0 fits is in
+    let n = decoded_size c.args.characters.now other c.decode_slice_unchecked.new.output c.in-Ok.len (omega (arith, ok.2, c.decode_slice_unchecked.auto.output))
+    ok.0 fits is in
     c.if-len-bytes.false (n ∙ len)
 
 pub returns-in_default-2-clause-refused : goal.returns-in_default-2-clause-refused

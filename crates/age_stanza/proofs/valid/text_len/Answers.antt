@@ -11,7 +11,8 @@ returns-in_err-left c =
     let long : length c.args.header.now.mac ≡ 32 = omega arith in
     let size = length-head c.args.header.now long in
     let all = ap length c.as_slice-stanza-items.ensures in
-    let part = stanza_within c.args.header.now.stanzas c.loop-stanza.stanza-index c.stanza-item.result (omega arith) (rw (c.as_slice-stanza-items.ensures) at c.stanza-item.is) in
+    let part = stanza_within c.args.header.now.stanzas c.loop-stanza.stanza-index c.stanza-item.result (omega arith)
+    (rw (c.as_slice-stanza-items.ensures) at c.stanza-item.is) in
     let room = c.loop-stanza.invariant.room in
     let short = c.in_err-left.ensures in
     rw c.from_residual.ensures (omega arith)
@@ -22,5 +23,10 @@ returns c =
     let size = length-head c.args.header.now long in
     let all = ap length c.as_slice-stanza-items.ensures in
     let none = none_left c.args.header.now.stanzas c.loop-stanza.stanza-index (omega arith) in
-    let room = c.loop-stanza.invariant.room in
-    (omega arith, omega arith, c.characters_of.ensures.bytes, subst (λ (ss : List Stanza). AllByRecursion (λ s. IsBytes s.body) ss) (take_all _ _ (omega arith)) c.loop-stanza.invariant.bodies)
+    let room = c.loop-stanza.invariant.room in (
+      omega arith,
+      omega arith,
+      c.characters_of.ensures.bytes,
+      subst (λ (ss : List Stanza). AllByRecursion (λ s. IsBytes s.body) ss) (take_all _ _ (omega arith))
+          c.loop-stanza.invariant.bodies,
+    )

@@ -15,14 +15,18 @@ on_err (Err e) p = p
 pub returns-in_err-take-clause-memory : goal.returns-in_err-take-clause-memory
 returns-in_err-take-clause-memory g c =
     on_err c.from_residual.result
-    (cramped_at g.B.ChunkBox.opening (g.row.SEALED - 16) c.loop-event.replay c.args.events.now c.loop-event.event-index _ c.loop-event-test.true c.loop-event.invariant.1 c.in_err-take.ensures.memory)
+    (cramped_at g.B.ChunkBox.opening (g.row.SEALED - 16) c.loop-event.replay c.args.events.now c.loop-event.event-index _ c.loop-event-test.true
+    c.loop-event.invariant.1 c.in_err-take.ensures.memory)
 
 pub loop-event-preserved : goal.loop-event-preserved
 loop-event-preserved g c =
     let before = take c.loop-event.event-index c.args.events.now in
     let now = c.in_ok-take.ensures.held before c.loop-event.invariant.1 in
-    let more = take_more c.args.events.now c.loop-event.event-index _ c.loop-event-test.true in
-    (c.in_ok-take.ensures.key ∙ c.loop-event.invariant.0, subst (λ (ds : List Delivery). Replays g.B.ChunkBox.opening (g.row.SEALED - 16) c.take.new.self ds) (sym more) now)
+    let more = take_more c.args.events.now c.loop-event.event-index _ c.loop-event-test.true in (
+      c.in_ok-take.ensures.key ∙ c.loop-event.invariant.0,
+      subst (λ (ds : List Delivery). Replays g.B.ChunkBox.opening (g.row.SEALED - 16) c.take.new.self ds)
+          (sym more) now,
+    )
 
 pub returns-clause-written : goal.returns-clause-written
 returns-clause-written g c =
@@ -37,5 +41,7 @@ returns-clause-written g c =
     let events = c.args.events.now in
     let of_all = subst (λ (ds : List Delivery). HoldsWritten (sealing r.key) (opening r.key) m ds r.text r.opener.status) all right in
     let of_key = subst (λ (k : g.row.B.Denot). HoldsWritten (sealing k) (opening k) m events r.text r.opener.status) c.loop-event.invariant.0 of_all in
-    let of_text = subst (λ (t : List ℕ). HoldsWritten (sealing c.args.key.now) (opening c.args.key.now) m events t r.opener.status) (sym c.into_drill.ensures.text) of_key in
-    subst (λ (s : Status). HoldsWritten (sealing c.args.key.now) (opening c.args.key.now) m events c.into_drill.result.text.items s) (sym c.into_drill.ensures.status) of_text
+    let of_text = subst (λ (t : List ℕ). HoldsWritten (sealing c.args.key.now) (opening c.args.key.now) m events t r.opener.status)
+    (sym c.into_drill.ensures.text) of_key in
+    subst (λ (s : Status). HoldsWritten (sealing c.args.key.now) (opening c.args.key.now) m events c.into_drill.result.text.items s)
+    (sym c.into_drill.ensures.status) of_text

@@ -12,5 +12,6 @@ pub returns-clause-sealed : goal.returns-clause-sealed
 returns-clause-sealed c = λ sealing n text parts positive a.
     let is = sym (chunks_only n text positive parts a) in
     let P : List (List ℕ) → Type 0 = λ ps. (length (sealed sealing n text) ≡ length ps)
-    × ((i : ℕ) → i < length ps → get_or (sealed sealing n text) i ([], []) ≡ (nonce_bytes i (i + 1 == length ps), sealing (nonce_bytes i (i + 1 == length ps)) (get_or ps i []))) in
+    × ((i : ℕ) → i < length ps → get_or (sealed sealing n text) i ([], [])
+    ≡ (nonce_bytes i (i + 1 == length ps), sealing (nonce_bytes i (i + 1 == length ps)) (get_or ps i []))) in
     subst P is (sealed_count sealing n text, sealed_at sealing n text)

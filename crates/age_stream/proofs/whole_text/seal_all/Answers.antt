@@ -12,4 +12,5 @@ returns-clause-gives_back g c = λ closed.
     let bytes = payload (g.B.ChunkBox.sealing key) m c.args.text.now in
     let sealed = c.in_ok-seal_into.ensures.sealed ∙ ap (λ (front : List ℕ). front ++ bytes) c.new-out.ensures.items in
     subst (λ (bytes : List ℕ). GivesBack (g.B.ChunkBox.opening key) m bytes c.args.text.now) (sym sealed)
-    (comes_back (g.B.ChunkBox.sealing key) (g.B.ChunkBox.opening key) (g.met.B.ChunkBox.valid key) m positive c.args.text.now c.in_ok-seal_into.ensures.few closed)
+    (comes_back (g.B.ChunkBox.sealing key) (g.B.ChunkBox.opening key) (g.met.B.ChunkBox.valid key) m positive c.args.text.now c.in_ok-seal_into.ensures.few
+    closed)

@@ -16,7 +16,8 @@ loop-at-preserved g c =
     let piece = take (length text - c.loop-at.at) (drop c.loop-at.at text) in
     let on : take c.loop-at.at text ++ take taken piece ≡ take (c.loop-at.at + taken) text = take_on c.loop-at.at taken text in
     let short : taken ≤ length piece = omega (arith, c.in_ok-step.ensures.taken, step_len_le (g.row.SEALED - 16) c.loop-at.sealer.held piece) in
-    let len : length piece ≡ min (length text - c.loop-at.at) (length (drop c.loop-at.at text)) = length-take (length text - c.loop-at.at) (drop c.loop-at.at text) in
+    let len : length piece ≡ min (length text - c.loop-at.at) (length (drop c.loop-at.at text)) = length-take (length text - c.loop-at.at)
+    (drop c.loop-at.at text) in
     let len2 : length (drop c.loop-at.at text) ≡ length text - c.loop-at.at = length-drop c.loop-at.at text in
     let inv = c.loop-at.invariant in
     let key = g.B.ChunkBox.sealing in
@@ -36,7 +37,8 @@ loop-at-preserved g c =
       capacity = omega (arith, inv.capacity, c.push_lent.ensures.capacity);
       blocks = c.push_lent.ensures.items
           ∙ (ap (λ (t : List ℕ). t ++ chunk_bytes c.in_ok-step.step.chunk) inv.blocks
-          ∙ (append_assoc c.args.out.now.items (front (take c.loop-at.at text)) (chunk_bytes c.in_ok-step.step.chunk) ∙ ap (λ (t : List ℕ). c.args.out.now.items ++ t) (sym now)));
+          ∙ (append_assoc c.args.out.now.items (front (take c.loop-at.at text)) (chunk_bytes c.in_ok-step.step.chunk)
+          ∙ ap (λ (t : List ℕ). c.args.out.now.items ++ t) (sym now)));
     }
 
 pub push_lent-requires : goal.push_lent-requires
@@ -50,7 +52,8 @@ push_lent-requires g c =
     let front : List ℕ → List ℕ = λ t. block_bytes (sealed_before_last sealing m t) in
     let on : take at text ++ take taken (take (length text - at) (drop at text)) ≡ take (at + taken) text = take_on at taken text in
     let chunk0 = c.in_ok-step.ensures.chunk (take at text) inv.holds in
-    let chunk : front (take at text ++ take taken (take (length text - at) (drop at text))) ≡ front (take at text) ++ chunk_bytes c.in_ok-step.step.chunk = rw inv.key at chunk0 in
+    let chunk : front (take at text ++ take taken (take (length text - at) (drop at text)))
+    ≡ front (take at text) ++ chunk_bytes c.in_ok-step.step.chunk = rw inv.key at chunk0 in
     let positive : 0 < m = omega (arith, c.requires.least) in
     let fits = front_fits sealing (g.B.ChunkBox.opening c.args.key.now) (g.met.B.ChunkBox.valid c.args.key.now) m positive text (at + taken) in
     let all : length (front (take at text)) + length (chunk_bytes c.in_ok-step.step.chunk) ≡ length (front (take (at + taken) text)) =

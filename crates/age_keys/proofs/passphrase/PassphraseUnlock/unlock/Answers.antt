@@ -6,7 +6,8 @@ use Rattle.age_keys.proofs.passphrase.PassphraseUnlock.unlock.Goals as goal
 pub returns-in_default-read : goal.returns-in_default-read
 returns-in_default-read c =
     let slice = c.as_slice-stanzas.ensures in
-    let one = only_one c.args.header.now.stanzas c.stanza-item.result (rw slice at c.in-len1.len_at_least) (rw slice at c.in-len1.len_below) (rw slice at c.stanza-item.is) in (
+    let one = only_one c.args.header.now.stanzas c.stanza-item.result (rw slice at c.in-len1.len_at_least) (rw slice at c.in-len1.len_below)
+    (rw slice at c.stanza-item.is) in (
       not_beside c.args.header.now c.stanza-item.result one,
       rw slice at (sym c.has_scrypt.ensures ∙ c.if-not-has_scrypt.false),
       λ salt log body has.

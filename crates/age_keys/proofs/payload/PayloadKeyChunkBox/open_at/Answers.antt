@@ -7,7 +7,8 @@ use Rattle.age_keys.proofs.payload.PayloadKeyChunkBox.open_at.Goals as goal
 pub returns-clause-opened : goal.returns-clause-opened
 returns-clause-opened c =
     rw (← c.self.view_is)
-    (opening_where_true c.open_in_place.result c.self.inside.bytes c.args.nonce.now [] c.args.block.now (take (length c.args.block.now - 16) c.open_in_place.new.block) c.open_in_place.ensures.text)
+    (opening_where_true c.open_in_place.result c.self.inside.bytes c.args.nonce.now [] c.args.block.now
+    (take (length c.args.block.now - 16) c.open_in_place.new.block) c.open_in_place.ensures.text)
 
 both : (A B : Type 0) (b : Bool) → OnFalse b A → OnFalse b B → OnFalse b (A × B)
 both A B true h k = tt

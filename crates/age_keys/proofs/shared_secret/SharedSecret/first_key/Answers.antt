@@ -15,4 +15,5 @@ returns-in-Some-clause-key c = record {
 
 pub loop-stanza-preserved : goal.loop-stanza-preserved
 loop-stanza-preserved c =
-    all_more (StaysShut c.args.self.now) c.args.stanzas.now c.loop-stanza.stanza-index c.stanza-item.result (omega arith) c.stanza-item.is c.loop-stanza.invariant c.in_default.ensures.none
+    all_more (StaysShut c.args.self.now) c.args.stanzas.now c.loop-stanza.stanza-index c.stanza-item.result (omega arith) c.stanza-item.is
+    c.loop-stanza.invariant c.in_default.ensures.none

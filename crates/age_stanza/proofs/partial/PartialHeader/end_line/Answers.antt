@@ -30,7 +30,8 @@ returns-in-Ok-Done c =
     let within = c.requires.within in
     let whole = whole_partial _ _ _ _ _ _ c.self.invariant c.self.view_is c.requires.one_line (λ i. omega (arith, fits i)) (omega arith) in
     let leads = rw (c.replace-place.ensures.value, c.in-Ok-Done.field-0-is) at c.in-Ok-Done.ensures in
-    rw (← whole_held c.self.inside.place c.self.inside.line.items c.args.characters.now c.args.self.now c.self.view_is) (whole_walk _ _ _ _ whole.lead_to whole.one_line leads)
+    rw (← whole_held c.self.inside.place c.self.inside.line.items c.args.characters.now c.args.self.now c.self.view_is)
+    (whole_walk _ _ _ _ whole.lead_to whole.one_line leads)
 
 pub returns-in-Ok-Go : goal.returns-in-Ok-Go
 returns-in-Ok-Go c =
@@ -38,4 +39,5 @@ returns-in-Ok-Go c =
     let within = c.requires.within in
     let whole = whole_partial _ _ _ _ _ _ c.self.invariant c.self.view_is c.requires.one_line (λ i. omega (arith, fits i)) (omega arith) in
     let leads = rw (c.replace-place.ensures.value, c.in-Ok-Go.field-0-is) at c.in-Ok-Go.ensures in
-    rw (← whole_held c.self.inside.place c.self.inside.line.items c.args.characters.now c.args.self.now c.self.view_is, c.clear.ensures.items) (next_bytes _ _ _ _ whole.lead_to whole.line_bytes leads)
+    rw (← whole_held c.self.inside.place c.self.inside.line.items c.args.characters.now c.args.self.now c.self.view_is, c.clear.ensures.items)
+    (next_bytes _ _ _ _ whole.lead_to whole.line_bytes leads)

@@ -8,4 +8,5 @@ invariant_of-self c = rw c.in_err-extend_from_slice.ensures.items c.self.invaria
 pub invariant_of-self-2 : goal.invariant_of-self-2
 invariant_of-self-2 c =
     let fits = c.type_inv.characters in
-    rw (c.in_ok-extend_from_slice.ensures.items) (whole_partial _ _ _ _ _ _ c.self.invariant c.self.view_is c.requires.one_line (λ i. omega (arith, fits i)) c.requires.within)
+    rw (c.in_ok-extend_from_slice.ensures.items) (whole_partial _ _ _ _ _ _ c.self.invariant c.self.view_is c.requires.one_line (λ i. omega (arith, fits i))
+    c.requires.within)

@@ -15,7 +15,8 @@ none : (l : List ℕ) → length l ≡ 0 → l ≡ []
 none [] e = refl
 none (x ∷ l) e = absurd (omega arith)
 
-are_lines : (place : Place) (lines : ℕ) (l held : List ℕ) → LeadTo place lines → length l ≡ 0 → bytes_before place ++ l ≡ held → length held ≡ 1048576 → lines ≡ line_after (take 1048575 held)
+are_lines : (place : Place) (lines : ℕ) (l held : List ℕ) → LeadTo place lines → length l ≡ 0 → bytes_before place ++ l ≡ held → length held ≡ 1048576
+    → lines ≡ line_after (take 1048575 held)
 are_lines place lines l held led empty view size =
     let is : bytes_before place ++ [] ≡ held = ap (λ (t : List ℕ). bytes_before place ++ t) (sym (none l empty)) ∙ view in
     finished_number place lines 1048575 led (ap length is ∙ size) ∙ ap (λ (t : List ℕ). line_after (take 1048575 t)) is

@@ -12,7 +12,22 @@ returns-in_err-taken g c =
     let p = err_from_is_err_and c.from_residual.result c.from_residual.ensures.1 in
     let e = c.in_err-taken.ensures in
     rw (← c.self.view_is, p.1, p.2) (
-      (refl, λ _. tt, record { key = ap (λ k. k.now) e.key; stands = e.stands; index = tt; fault = e.fault; unfailed = tt; lent = tt; unlent = tt; fits = tt; unchanged = e.still; written = e.written }),
+      (
+        refl,
+        λ _. tt,
+        record {
+          key = ap (λ k. k.now) e.key;
+          stands = e.stands;
+          index = tt;
+          fault = e.fault;
+          unfailed = tt;
+          lent = tt;
+          unlent = tt;
+          fits = tt;
+          unchanged = e.still;
+          written = e.written;
+        },
+      ),
       record { after = tt; texts = e.texts; taken = tt; some = tt; limit = tt; whole = tt; nothing = λ _. tt; again = e.again; unfailed = tt; was_open = tt },
     )
 
@@ -20,8 +35,34 @@ pub returns-then-not-full : goal.returns-then-not-full
 returns-then-not-full g c =
     let e = rw c.if-not-full.true at c.in_ok-taken.ensures in
     rw (← c.self.view_is) (
-      (refl, λ _. tt, record { key = ap (λ k. k.now) e.key; stands = e.stands; index = refl; fault = tt; unfailed = e.sound; lent = tt; unlent = e.unlent refl; fits = e.room; unchanged = e.still; written = e.written }),
-      record { after = tt; texts = e.texts; taken = e.taken; some = e.some; limit = c.advance.new.self.limit; whole = tt; nothing = λ _. refl; again = tt; unfailed = e.unfailed; was_open = e.was_open },
+      (
+        refl,
+        λ _. tt,
+        record {
+          key = ap (λ k. k.now) e.key;
+          stands = e.stands;
+          index = refl;
+          fault = tt;
+          unfailed = e.sound;
+          lent = tt;
+          unlent = e.unlent refl;
+          fits = e.room;
+          unchanged = e.still;
+          written = e.written;
+        },
+      ),
+      record {
+        after = tt;
+        texts = e.texts;
+        taken = e.taken;
+        some = e.some;
+        limit = c.advance.new.self.limit;
+        whole = tt;
+        nothing = λ _. refl;
+        again = tt;
+        unfailed = e.unfailed;
+        was_open = e.was_open;
+      },
     )
 
 pub returns : goal.returns
@@ -34,6 +75,32 @@ returns g c =
     let size : length (take (g.row.SEALED - 16) buffer) ≡ g.row.SEALED - 16 = omega (arith, length-take (g.row.SEALED - 16) buffer, e.full refl) in
     let was : length (held_bytes state) + c.in_ok-taken.taken ≡ g.row.SEALED - 16 + 16 = omega (arith, whole.0, sizes) in
     rw (← c.self.view_is, c.as_slice.ensures.value) (
-      (refl, λ _. tt, record { key = ap (λ k. k.now) e.key; stands = e.stands; index = refl; fault = tt; unfailed = e.sound; lent = (size, was, whole.1); unlent = tt; fits = e.room; unchanged = e.still; written = e.written }),
-      record { after = tt; texts = e.texts; taken = e.taken; some = e.some; limit = c.advance.new.self.limit; whole = size; nothing = λ h. never (e.nothing h); again = tt; unfailed = e.unfailed; was_open = e.was_open },
+      (
+        refl,
+        λ _. tt,
+        record {
+          key = ap (λ k. k.now) e.key;
+          stands = e.stands;
+          index = refl;
+          fault = tt;
+          unfailed = e.sound;
+          lent = (size, was, whole.1);
+          unlent = tt;
+          fits = e.room;
+          unchanged = e.still;
+          written = e.written;
+        },
+      ),
+      record {
+        after = tt;
+        texts = e.texts;
+        taken = e.taken;
+        some = e.some;
+        limit = c.advance.new.self.limit;
+        whole = size;
+        nothing = λ h. never (e.nothing h);
+        again = tt;
+        unfailed = e.unfailed;
+        was_open = e.was_open;
+      },
     )

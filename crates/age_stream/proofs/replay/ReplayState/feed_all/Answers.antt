@@ -14,7 +14,8 @@ loop-at-init g c =
     let left : length piece - 0 ≡ length piece = omega arith in
     record {
       within = omega arith;
-      room = λ open_. subst (λ (k : ℕ). vec_len c.args.self.now.text + whole_text (g.row.SEALED - 16) (length c.args.self.now.opener.held + k) ≤ vec_capacity c.args.self.now.text) (sym left) (c.requires open_);
+      room = λ open_. subst (λ (k : ℕ). vec_len c.args.self.now.text + whole_text (g.row.SEALED - 16) (length c.args.self.now.opener.held + k)
+          ≤ vec_capacity c.args.self.now.text) (sym left) (c.requires open_);
       capacity = omega arith;
       key = refl;
       fed = λ s h. subst (IsAt g.B.ChunkBox.opening (g.row.SEALED - 16) (replay_view c.args.self.now)) (sym (with_bytes-nil s)) h;
@@ -38,7 +39,8 @@ loop-at-preserved g c =
       capacity = omega (arith, c.feed_once.ensures.capacity, c.loop-at.invariant.capacity);
       key = c.feed_once.ensures.key ∙ c.loop-at.invariant.key;
       fed = λ s h.
-          subst (IsAt g.B.ChunkBox.opening (g.row.SEALED - 16) (replay_view c.feed_once.new.self)) (with_bytes-append s (take at piece) (take taken (take (length piece - at) (drop at piece))) ∙ ap (with_bytes s) on)
+          subst (IsAt g.B.ChunkBox.opening (g.row.SEALED - 16) (replay_view c.feed_once.new.self))
+          (with_bytes-append s (take at piece) (take taken (take (length piece - at) (drop at piece))) ∙ ap (with_bytes s) on)
           (r.3 (with_bytes s (take at piece)) (c.loop-at.invariant.fed s h));
     }
 
@@ -46,8 +48,10 @@ pub returns-in-None-clause-fed : goal.returns-in-None-clause-fed
 returns-in-None-clause-fed g c = λ s h.
     let piece = c.args.piece.now in
     let at = c.loop-at.at in
-    let all : take at piece ++ take (length piece - at) (drop at piece) ≡ piece = ap (λ (ys : List ℕ). take at piece ++ ys) (take_rest piece at) ∙ take-append-drop at piece in
-    subst (IsAt g.B.ChunkBox.opening (g.row.SEALED - 16) (replay_view c.feed_once.new.self)) (with_bytes-append s (take at piece) (take (length piece - at) (drop at piece)) ∙ ap (with_bytes s) all)
+    let all : take at piece ++ take (length piece - at) (drop at piece) ≡ piece = ap (λ (ys : List ℕ). take at piece ++ ys) (take_rest piece at)
+    ∙ take-append-drop at piece in
+    subst (IsAt g.B.ChunkBox.opening (g.row.SEALED - 16) (replay_view c.feed_once.new.self))
+    (with_bytes-append s (take at piece) (take (length piece - at) (drop at piece)) ∙ ap (with_bytes s) all)
     (c.in-None.ensures.refused (with_bytes s (take at piece)) (c.loop-at.invariant.fed s h))
 
 pub feed_once-requires : goal.feed_once-requires
@@ -59,6 +63,7 @@ feed_once-requires g c =
     let e : length (take (length piece - at) (drop at piece)) ≡ length piece - at = omega (arith, left, left2) in
     let some : 0 < length (take (length piece - at) (drop at piece)) = omega (arith, e, c.loop-at-test.true) in
     let room = λ (o : c.loop-at.self.opener.status ≡ Open).
-    let more : vec_len c.loop-at.self.text + whole_text (g.row.SEALED - 16) (length c.loop-at.self.opener.held + length (take (length piece - at) (drop at piece))) ≤ vec_capacity c.loop-at.self.text =
+    let more : vec_len c.loop-at.self.text + whole_text (g.row.SEALED - 16)
+    (length c.loop-at.self.opener.held + length (take (length piece - at) (drop at piece))) ≤ vec_capacity c.loop-at.self.text =
     omega (arith, c.loop-at.invariant.room o, ap (λ (k : ℕ). whole_text (g.row.SEALED - 16) (length c.loop-at.self.opener.held + k)) e) in more in
     (search rules, (some, room))

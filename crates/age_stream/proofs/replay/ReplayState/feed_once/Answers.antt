@@ -18,19 +18,22 @@ returns-in-Ok-clause-taken g c =
     let long = c.push_lent.new.text.ok.0 in
     let was = c.args.self.now.text.ok.0 in
     let fits : step.taken ≤ length c.args.piece.now = omega (arith, ok.taken) in
-    let left = room_left (g.row.SEALED - 16) (length c.args.self.now.opener.held) step.taken (length c.args.piece.now) _ step.chunk after.lent after.unlent fits in
+    let left = room_left (g.row.SEALED - 16) (length c.args.self.now.opener.held) step.taken (length c.args.piece.now) _ step.chunk after.lent after.unlent
+    fits in
     let room = c.requires.room (ok.was_open c.requires.some) in (
       some,
       fits,
       omega (arith, len, long, was, room, left, c.push_lent.ensures.capacity),
-      λ s h. replay_step g.B.ChunkBox.opening (g.row.SEALED - 16) (replay_view c.args.self.now) _ s _ (chunk_texts step.chunk) h refl after.key refl (after.stands s.segment h.segment) (ok.texts s.segment h.segment) items,
+      λ s h. replay_step g.B.ChunkBox.opening (g.row.SEALED - 16) (replay_view c.args.self.now) _ s _ (chunk_texts step.chunk) h refl after.key refl
+          (after.stands s.segment h.segment) (ok.texts s.segment h.segment) items,
     )
 
 pub returns-in-Err-clause-refused : goal.returns-in-Err-clause-refused
 returns-in-Err-clause-refused g c =
     let after = rw c.in-Err.is at c.feed.follows.holds-at-none in
     let err = c.in-Err.ensures in
-    λ s h. replay_step g.B.ChunkBox.opening (g.row.SEALED - 16) (replay_view c.args.self.now) _ s _ [] h refl after.key refl (after.stands s.segment h.segment) (err.texts s.segment h.segment) (sym (append-nil c.args.self.now.text.items))
+    λ s h. replay_step g.B.ChunkBox.opening (g.row.SEALED - 16) (replay_view c.args.self.now) _ s _ [] h refl after.key refl (after.stands s.segment h.segment)
+    (err.texts s.segment h.segment) (sym (append-nil c.args.self.now.text.items))
 
 pub push_lent-requires : goal.push_lent-requires
 push_lent-requires g c =
@@ -38,6 +41,7 @@ push_lent-requires g c =
     let ok = c.in-Ok.ensures in
     let step = c.in-Ok.step in
     let fits : step.taken ≤ length c.args.piece.now = omega (arith, ok.taken) in
-    let left = room_left (g.row.SEALED - 16) (length c.args.self.now.opener.held) step.taken (length c.args.piece.now) _ step.chunk after.lent after.unlent fits in
+    let left = room_left (g.row.SEALED - 16) (length c.args.self.now.opener.held) step.taken (length c.args.piece.now) _ step.chunk after.lent after.unlent
+    fits in
     let room = c.requires.room (ok.was_open c.requires.some) in
     omega (arith, room, left)

@@ -7,13 +7,16 @@ use Rattle.age_stream.proofs.replay.ReplayState.take.Goals as goal
 pub returns-clause-held : goal.returns-clause-held
 returns-clause-held g c =
     IfOk-weaker c.deliver.result _ _
-    (λ _ f ds h. replays_more g.B.ChunkBox.opening (g.row.SEALED - 16) (replay_view c.args.self.now) (replay_view c.deliver.new.self) (ap (λ k. k.now) c.deliver.ensures.key) ds c.args.delivery.now h f) c.deliver.ensures.stands
+    (λ _ f ds h. replays_more g.B.ChunkBox.opening (g.row.SEALED - 16) (replay_view c.args.self.now) (replay_view c.deliver.new.self)
+    (ap (λ k. k.now) c.deliver.ensures.key) ds c.args.delivery.now h f) c.deliver.ensures.stands
 
 pub returns-clause-written : goal.returns-clause-written
 returns-clause-written g c =
     let positive : 0 < g.row.SEALED - 16 = omega (arith, c.args.self.now.sizes) in
     IfOk-weaker c.deliver.result _ _
     (λ _ f ds h.
-    let now = replays_more g.B.ChunkBox.opening (g.row.SEALED - 16) (replay_view c.args.self.now) (replay_view c.deliver.new.self) (ap (λ k. k.now) c.deliver.ensures.key) ds c.args.delivery.now h f in
-    written g.B.ChunkBox.sealing g.B.ChunkBox.opening (g.row.SEALED - 16) (replay_view c.args.self.now) (replay_view c.deliver.new.self) (g.met.B.ChunkBox.valid c.args.self.now.key.now) positive (ap (λ k. k.now) c.deliver.ensures.key) (ds ++ c.args.delivery.now ∷ []) now)
+    let now = replays_more g.B.ChunkBox.opening (g.row.SEALED - 16) (replay_view c.args.self.now) (replay_view c.deliver.new.self)
+    (ap (λ k. k.now) c.deliver.ensures.key) ds c.args.delivery.now h f in
+    written g.B.ChunkBox.sealing g.B.ChunkBox.opening (g.row.SEALED - 16) (replay_view c.args.self.now) (replay_view c.deliver.new.self)
+    (g.met.B.ChunkBox.valid c.args.self.now.key.now) positive (ap (λ k. k.now) c.deliver.ensures.key) (ds ++ c.args.delivery.now ∷ []) now)
     c.deliver.ensures.stands

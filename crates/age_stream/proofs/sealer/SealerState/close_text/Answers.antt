@@ -7,4 +7,5 @@ use Rattle.age_stream.proofs.sealer.SealerState.close_text.Goals as goal
 pub returns-clause-blocks : goal.returns-clause-blocks
 returns-clause-blocks g c =
     IfOk-weaker c.close.result _ _
-    (λ _ h text held. payload_is g.B.ChunkBox.sealing (g.row.SEALED - 16) (sealer_view c.args.self.now) text c.close.new.self.buffer.items held h) c.close.ensures.block
+    (λ _ h text held. payload_is g.B.ChunkBox.sealing (g.row.SEALED - 16) (sealer_view c.args.self.now) text c.close.new.self.buffer.items held h)
+    c.close.ensures.block
