@@ -3,8 +3,9 @@ use Rattle.std.specs.Prelude.{◌≡◌, ◌⊎◌, ℕ, ◌*◌, ◌≤◌, tru
 use Rattle.std.specs.Prelude.{take, Option, Some, codes}
 use Rattle.clap.specs.Words.{Row, Text, first_of}
 use Rattle.age_stanza.specs.Grammar.{HeadText}
-use Rattle.age_stream.specs.Payload.{chunk_count}
+use Rattle.age_stream.specs.Payload.{chunk_count, chunk_length, block_length}
 use Rattle.age_stream.specs.Headline.{IsPrefixOf}
+use Rattle.age_stream.specs.Nonce.{chunk_limit}
 use Rattle.age_keys.specs.Opened.{Opens}
 use Rattle.age_file.specs.Runs.{Run, IsFromStart, IsTexts, IsAuthenticRun}
 use Rattle.age_file.specs.Verdicts.{HasId, HasTag}
@@ -21,7 +22,7 @@ pub record IsRead (identity : Identity) (input : Option (List ℕ)) (r : Run) : 
   pub text : HeadText r.file.header r.file.header_bytes
   pub opens : Opens (allows_by identity) r.file.header r.file.key
   pub size : length r.file.nonce ≡ 16
-  pub skipped_size : length r.skipped ≡ r.first * 65552
+  pub skipped_size : length r.skipped ≡ r.first * block_length
   pub rest : List ℕ
   pub bytes : input
       ≡ Some (((r.file.header_bytes ++ r.file.nonce) ++ (r.skipped ++ r.bytes)) ++ rest)
@@ -67,11 +68,11 @@ IsWritersRest rows old p text =
 abbrev pub IsWritersOld : List Row → Files → Position → List ℕ → Type 0
 IsWritersOld rows old p text =
     (name : Text) (all : List ℕ) → first_of (codes "old") rows ≡ Some name → old name ≡ Some all
-    → (p.index * 65536 ≤ length text) × IsPrefixOf (take (p.index * 65536) text) all
+    → (p.index * chunk_length ≤ length text) × IsPrefixOf (take (p.index * chunk_length) text) all
 
 -- both, for the position in the file of `--position`
 pub record IsWritersResumption (rows : List Row) (old : Files) (text : List ℕ) : Type 0 where
-  pub few : chunk_count 65536 text ≤ 281474976710656
+  pub few : chunk_count chunk_length text ≤ chunk_limit
   pub old_text : (name : Text) (p : Position) → first_of (codes "position") rows ≡ Some name
       → IsPositionIn (old name) p → IsWritersOld rows old p text
   pub rest : (name : Text) (p : Position) → first_of (codes "position") rows ≡ Some name

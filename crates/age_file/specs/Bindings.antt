@@ -2,7 +2,7 @@
 use Rattle.std.specs.Prelude.{ℕ, List, ◌++◌, codes, replicate, fold}
 use Rattle.std.specs.Fmt.{decimal}
 use Rattle.sha2.specs.Sha256.{sha256}
-use Rattle.age_stanza.specs.Text.{base64_text as text}
+use Rattle.age_stanza.specs.Text.{base64_text}
 use Rattle.age_kdf.specs.Hmac.{hmac}
 
 -- the chain over chunks, one link a chunk: each is the digest of the link before it and the chunk
@@ -18,8 +18,8 @@ file_id front nonce = sha256 (front ++ nonce)
 
 -- the text of a position up to its tag
 unfoldable pub position_front : ℕ → List ℕ → List ℕ → List ℕ
-position_front index id links = codes "age-position/v2 " ++ decimal index ++ codes " " ++ text id
-    ++ codes " " ++ text links ++ codes " "
+position_front index id links = codes "age-position/v2 " ++ decimal index ++ codes " "
+    ++ base64_text id ++ codes " " ++ base64_text links ++ codes " "
 
 -- the tag of a position under a position key
 unfoldable pub position_tag : List ℕ → ℕ → List ℕ → List ℕ → List ℕ

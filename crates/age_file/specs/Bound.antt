@@ -2,8 +2,9 @@
 -- 65,536 bytes.
 use Rattle.std.specs.Prelude.{◌≡◌, ℕ, ◌*◌, ◌≤◌, List, take}
 use Rattle.age_stanza.specs.declared.header.Header.{Header}
-use Rattle.age_stream.specs.Payload.{chunk_count}
+use Rattle.age_stream.specs.Payload.{chunk_count, chunk_length}
 use Rattle.age_stream.specs.Headline.{IsPrefixOf}
+use Rattle.age_stream.specs.Nonce.{chunk_limit}
 use Rattle.age_file.specs.OldTexts.{IsBoundTo}
 use Rattle.age_file.specs.Runs.{Run, held, IsRun, IsTexts, IsDone}
 use Rattle.age_file.specs.Resumes.{ResumePorts, IsFrom}
@@ -13,13 +14,13 @@ use Rattle.age_file.specs.declared.position.Position.{Position}
 -- that chain only if they are these chunks, and no block that came and is tried opens, except as
 -- the writer of this text sealed it
 pub record BindsTo (text : List ℕ) (p : Position) (r : Run) : Type 0 where
-  pub few : chunk_count 65536 text ≤ 281474976710656
+  pub few : chunk_count chunk_length text ≤ chunk_limit
   pub to : IsBoundTo p r.copied text
   pub authentic : IsTexts text r
 
 -- then the copied bytes are the text's, and what was written begins it
 pub record Bound (text : List ℕ) (p : Position) (r : Run) : Type 0 where
-  pub copied : r.copied ≡ take (p.index * 65536) text
+  pub copied : r.copied ≡ take (p.index * chunk_length) text
   pub begins : IsPrefixOf (held r) text
 
 -- of every resumed run; and where the call is done, all of the text was written

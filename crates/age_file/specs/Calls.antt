@@ -4,8 +4,9 @@ use Rattle.std.specs.Prelude.{◌≡◌, ◌⊎◌, ℕ, ◌≤◌, List, [], �
 use Rattle.std.specs.Prelude.{Result, Ok, Err, MatchResult}
 use mathlib.Core.Logic.{inl, inr}
 use Rattle.age_stanza.specs.declared.header.Header.{Header}
-use Rattle.age_stream.specs.Payload.{chunk_count}
+use Rattle.age_stream.specs.Payload.{chunk_count, chunk_length}
 use Rattle.age_stream.specs.Headline.{IsPrefixOf}
+use Rattle.age_stream.specs.Nonce.{chunk_limit}
 use Rattle.age_keys.specs.declared.fault.KeyFault.{KeyFault}
 use Rattle.age_file.specs.Ports.{Ports}
 use Rattle.age_file.specs.Runs.{IsTexts, CarriesText}
@@ -137,5 +138,5 @@ module _ (Who : Type 0) (Allows : Who → Header → List ℕ → Type 0)
 
   abbrev pub CallsInARow : Type 0
   CallsInARow = (text : List ℕ) (first : FirstCall) (calls : List NextCall)
-      → chunk_count 65536 text ≤ 281474976710656 → AreInARow first calls → AreTexts text first calls
-      → AllAnswerRight text first calls
+      → chunk_count chunk_length text ≤ chunk_limit → AreInARow first calls
+      → AreTexts text first calls → AllAnswerRight text first calls

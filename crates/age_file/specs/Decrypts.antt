@@ -4,8 +4,9 @@ use Rattle.std.specs.Prelude.{IfOk, IfErr, OnOk, MatchResult}
 use Rattle.std.specs.Io.KnownBytes.{Appends}
 use Rattle.age_stanza.specs.declared.header.Header.{Header}
 use Rattle.age_stream.specs.declared.step.Status.TheVariants.{Failed}
-use Rattle.age_stream.specs.Payload.{chunk_count}
+use Rattle.age_stream.specs.Payload.{chunk_count, chunk_length}
 use Rattle.age_stream.specs.Authentic.{IsClosed}
+use Rattle.age_stream.specs.Nonce.{chunk_limit}
 use Rattle.age_keys.specs.declared.fault.KeyFault.{KeyFault}
 use Rattle.age_keys.specs.declared.fault.KeyFault.TheVariants.{Memory as KeyMemory}
 use Rattle.age_keys.specs.Keys.{IsScryptNotAlone}
@@ -72,7 +73,7 @@ pub record IsWhole (Allows : Header → List ℕ → Type 0) (Refused : Header �
   pub bytes : List ℕ
   pub file : FileOf header key nonce text bytes
   pub all : coming ≡ Some bytes
-  pub few : chunk_count 65536 text ≤ 281474976710656
+  pub few : chunk_count chunk_length text ≤ chunk_limit
   pub alone : ¬ IsScryptNotAlone header
   pub only : (k : List ℕ) → Allows header k → k ≡ key
   pub never : (fault : KeyFault) → Refused header fault → fault ≡ KeyMemory
@@ -81,7 +82,7 @@ pub record IsWhole (Allows : Header → List ℕ → Type 0) (Refused : Header �
 pub record IsUndamaged (Allows : Header → List ℕ → Type 0) (Refused : Header → KeyFault → Type 0)
     (coming : Option (List ℕ)) (text : List ℕ) : Type 0 where
   pub whole : IsWhole Allows Refused coming text
-  pub closed : IsClosed (box whole.key whole.nonce) (unbox whole.key whole.nonce) 65536 text
+  pub closed : IsClosed (box whole.key whole.nonce) (unbox whole.key whole.nonce) chunk_length text
 
 -- what may stop its decryption all the same
 abbrev pub StopsOutside : FileFault → Type 0

@@ -3,7 +3,7 @@ use Rattle.std.specs.Prelude.{◌≡◌, ℕ, ◌-◌, ◌^◌, ◌<◌, ◌≤�
 use Rattle.std.specs.Io.KnownBytes.{Consumes, Appends, IsAtEnd}
 use Rattle.age_stream.specs.Headline.{IsPrefixOf}
 use Rattle.age_stream.specs.Nonce.{chunk_limit}
-use Rattle.age_stream.specs.Payload.{chunk_count}
+use Rattle.age_stream.specs.Payload.{chunk_count, chunk_length}
 use Rattle.age_stream.specs.Sealing.{too_many}
 use Rattle.age_keys.specs.Scrypt.{scrypt_head}
 use Rattle.age_file.specs.AgeFile.{FileOf}
@@ -24,7 +24,7 @@ AgeFile s text bytes = FileOf (scrypt_head s.pass s.log s.salt s.key) s.key s.no
 pub record Encrypts (s : SecretView) (old new : Ports) (written : Written) : Type 0 where
   pub text : List ℕ
   pub file : List ℕ
-  pub few : chunk_count 65536 text ≤ 281474976710656
+  pub few : chunk_count chunk_length text ≤ chunk_limit
   pub is : AgeFile s text file
   pub read : Consumes old.source.remaining new.source.remaining text
   pub at_end : IsAtEnd new.source.remaining

@@ -1,13 +1,13 @@
 -- The text of a position. Not of the age format.
 use Rattle.std.specs.Prelude.{◌≡◌, ◌≢◌, ℕ, List, ◌++◌, length, codes}
 use Rattle.base64.specs.GeneralPurpose.{IsBytes}
-use Rattle.age_stanza.specs.Text.{base64_text as text}
+use Rattle.age_stanza.specs.Text.{base64_text}
 use Rattle.age_file.specs.declared.position.Position.{Position}
 use Rattle.age_file.specs.Bindings.{position_front}
 
 -- the text of a position
 abbrev pub position_text : Position → List ℕ
-position_text p = position_front p.index p.file_id p.chain ++ text p.tag ++ codes "\n"
+position_text p = position_front p.index p.file_id p.chain ++ base64_text p.tag ++ codes "\n"
 
 -- 32 bytes, as a digest has
 pub record IsDigest (bytes : List ℕ) : Type 0 where

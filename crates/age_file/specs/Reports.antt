@@ -6,6 +6,7 @@ use Rattle.std.specs.Io.KnownBytes.{Consumes, IsAtEnd}
 use Rattle.age_stanza.specs.declared.header.Stanza.{Stanza}
 use Rattle.age_stanza.specs.declared.header.Header.{Header}
 use Rattle.age_stanza.specs.Grammar.{HeadText}
+use Rattle.age_stream.specs.Payload.{chunk_length}
 use Rattle.age_file.specs.declared.report.StanzaReport.{StanzaReport}
 use Rattle.age_file.specs.declared.report.Report.{Report}
 
@@ -19,7 +20,7 @@ stanza_report s = record {
 
 -- how many chunks a plaintext of p bytes has
 abbrev pub chunk_count : ℕ → ℕ
-chunk_count p = if p == 0 then 1 else (p + 65535) / 65536
+chunk_count p = if p == 0 then 1 else (p + 65535) / chunk_length
 
 -- a plaintext of p bytes has a nonce and a payload of so many bytes together
 abbrev pub IsPlain : ℕ → ℕ → Type 0

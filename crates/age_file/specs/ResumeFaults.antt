@@ -7,6 +7,7 @@ use Rattle.age_stanza.specs.declared.header.Header.{Header}
 use Rattle.age_stream.specs.declared.fault.StreamKind.TheVariants.{Truncated}
 use Rattle.age_stream.specs.declared.fault.StreamFault.{StreamFault}
 use Rattle.age_stream.specs.declared.step.Status.TheVariants.{Failed}
+use Rattle.age_stream.specs.Payload.{chunk_length, block_length}
 use Rattle.age_keys.specs.declared.fault.KeyFault.{KeyFault}
 use Rattle.age_file.specs.Faults.{HasRisen, IsByAllPulls, IsShort}
 use Rattle.age_file.specs.Bindings.{chain}
@@ -41,7 +42,7 @@ module _ (Allows : Header → List ℕ → Type 0) (p : Position) where
     pub rest : List ℕ
     pub accepts : Accepts Allows p old.main.source.remaining new.main.source.remaining file rest
     pub copied : List ℕ
-    pub short : length copied < p.index * 65536
+    pub short : length copied < p.index * chunk_length
     pub writes : WritesOld p old new written copied
     pub none : position ≡ None
 
@@ -57,7 +58,7 @@ module _ (keep : Positions) (Allows : Header → List ℕ → Type 0) (p : Posit
       (skipped : List ℕ) : Type 0 where
     pub file : OpenedFile
     pub accepts : Accepts Allows p old.main.source.remaining new.main.source.remaining file skipped
-    pub short : length skipped < p.index * 65552
+    pub short : length skipped < p.index * block_length
     pub copied : List ℕ
     pub old_text : IsOldText p copied
     pub writes : WritesOld p old new written copied
@@ -69,8 +70,8 @@ module _ (keep : Positions) (Allows : Header → List ℕ → Type 0) (p : Posit
     pub skipped : List ℕ
     pub stops : StopsInSkipped old new written position skipped
     pub kind : fault.kind ≡ Truncated
-    pub least : fault.chunk * 65552 ≤ length skipped
-    pub most : length skipped < fault.chunk * 65552 + 65552
+    pub least : fault.chunk * block_length ≤ length skipped
+    pub most : length skipped < fault.chunk * block_length + block_length
     pub at_end : IsAtEnd new.main.source.remaining
 
   -- why a source or a sink failed, by where the run stood
@@ -100,8 +101,9 @@ module _ (keep : Positions) (Allows : Header → List ℕ → Type 0) (p : Posit
   ResumeFails Refused old new written position OldTextDiffers =
       (position ≡ None) × (f : OpenedFile) × (rest : List ℕ)
       × Accepts Allows p old.main.source.remaining new.main.source.remaining f rest
-      × (copied : List ℕ) × WritesOld p old new written copied × (length copied ≡ p.index * 65536)
-      × (chain (first_chunks 65536 p.index copied) ≢ p.chain)
+      × (copied : List ℕ) × WritesOld p old new written copied
+      × (length copied ≡ p.index * chunk_length)
+      × (chain (first_chunks chunk_length p.index copied) ≢ p.chain)
   ResumeFails Refused old new written position (Stream fault) =
       (EndsInSkipped old new written position fault
       ⊎ ((r : Run) × IsFrom p old.old new.old r

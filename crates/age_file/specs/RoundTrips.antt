@@ -1,8 +1,9 @@
 -- What was encrypted under a passphrase, decrypted with it.
 use Rattle.std.specs.Prelude.{◌≡◌, ℕ, ◌≤◌, List, [], length, Some, Result, MatchResult}
 use Rattle.base64.specs.GeneralPurpose.{IsBytes}
-use Rattle.age_stream.specs.Payload.{chunk_count}
+use Rattle.age_stream.specs.Payload.{chunk_count, chunk_length}
 use Rattle.age_stream.specs.Authentic.{IsClosed}
+use Rattle.age_stream.specs.Nonce.{chunk_limit}
 use Rattle.age_keys.specs.Passphrase.{PassphraseIdentity, IsPassphraseKey, PassphraseRefuses}
 use Rattle.age_file.specs.AgeFile.{box, unbox}
 use Rattle.age_file.specs.Ports.{Ports}
@@ -30,7 +31,7 @@ words_of s max_log = record { pass = s.pass; max_log = max_log }
 -- allows its work factor
 abbrev pub AgeFileIsWhole : Type 0
 AgeFileIsWhole = (s : SecretView) (max_log : ℕ) (text bytes : List ℕ) → IsSecret s → s.log ≤ max_log
-    → chunk_count 65536 text ≤ 281474976710656 → AgeFile s text bytes
+    → chunk_count chunk_length text ≤ chunk_limit → AgeFile s text bytes
     → IsWhole (IsPassphraseKey (words_of s max_log)) (PassphraseRefuses (words_of s max_log))
     (Some bytes) text
 
@@ -47,10 +48,10 @@ abbrev pub RoundTrip : Type 0
 RoundTrip = (keep : Positions) (s : SecretView) (max_log : ℕ) (text : List ℕ)
     (was file now last : Ports) (written : Written) (result : Result Done Stopped) → IsSecret s
     → s.log ≤ max_log
-    → IsClosed (box s.key s.nonce) (unbox s.key s.nonce) 65536 text
+    → IsClosed (box s.key s.nonce) (unbox s.key s.nonce) chunk_length text
     → WasEncrypted s text was file written → now.source.remaining ≡ file.sink.taken
     → now.sink.taken ≡ Some []
-    → DecryptAnswers PassphraseIdentity IsPassphraseKey PassphraseRefuses keep (words_of s max_log) now last
-    result
+    → DecryptAnswers PassphraseIdentity IsPassphraseKey PassphraseRefuses keep (words_of s max_log)
+    now last result
     → MatchResult result (λ done. last.sink.taken ≡ Some text)
     (λ stopped. StopsOutside stopped.fault)

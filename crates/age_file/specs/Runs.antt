@@ -8,9 +8,10 @@ use Rattle.std.specs.Io.KnownBytes.{Consumes, Appends, IsAtEnd}
 use Rattle.age_stanza.specs.declared.header.Header.{Header}
 use Rattle.age_stanza.specs.Grammar.{HeadText}
 use Rattle.age_stream.specs.declared.step.Status.TheVariants.{Done}
-use Rattle.age_stream.specs.Payload.{chunk_count}
+use Rattle.age_stream.specs.Payload.{chunk_count, chunk_length, block_length}
 use Rattle.age_stream.specs.Segment.{Segment, Outcome, outcome, released}
 use Rattle.age_stream.specs.Headline.{IsPrefixOf, IsAuthentic}
+use Rattle.age_stream.specs.Nonce.{chunk_limit}
 use Rattle.age_keys.specs.Opened.{Opens}
 use Rattle.age_file.specs.AgeFile.{box, unbox}
 use Rattle.age_file.specs.Bindings.{chain}
@@ -47,10 +48,10 @@ segment_of r = segment r.first r.bytes r.ended
 
 -- what the bytes come to, and the text that they release, each chunk of which opened
 abbrev pub outcome_of : Run → Outcome
-outcome_of r = outcome (unbox r.file.key r.file.nonce) 65536 (segment_of r)
+outcome_of r = outcome (unbox r.file.key r.file.nonce) chunk_length (segment_of r)
 
 abbrev pub text_of : Run → List ℕ
-text_of r = released (unbox r.file.key r.file.nonce) 65536 (segment_of r)
+text_of r = released (unbox r.file.key r.file.nonce) chunk_length (segment_of r)
 
 -- all that was written
 abbrev pub held : Run → List ℕ
@@ -68,8 +69,8 @@ pub record Reads (Allows : Header → List ℕ → Type 0) (old new : Option (Li
 pub record IsRun (Allows : Header → List ℕ → Type 0) (old new : Ports) (written : ℕ) (r : Run)
     : Type 0 where
   pub reads : Reads Allows old.source.remaining new.source.remaining r.file (r.skipped ++ r.bytes)
-  pub copied_size : length r.copied ≡ r.first * 65536
-  pub skipped_size : length r.skipped ≡ r.first * 65552
+  pub copied_size : length r.copied ≡ r.first * chunk_length
+  pub skipped_size : length r.skipped ≡ r.first * block_length
   pub at_end : r.ended ≡ true → IsAtEnd new.source.remaining
   pub wrote : Appends old.sink.taken new.sink.taken (held r)
   pub count : written ≡ length (held r)
@@ -77,14 +78,14 @@ pub record IsRun (Allows : Header → List ℕ → Type 0) (old new : Ports) (wr
 
 -- no block that came and is tried opens, except as the writer of this text sealed it
 abbrev pub IsTexts : List ℕ → Run → Type 0
-IsTexts text r = IsAuthentic (box r.file.key r.file.nonce) (unbox r.file.key r.file.nonce) 65536
-    text (segment_of r)
+IsTexts text r = IsAuthentic (box r.file.key r.file.nonce) (unbox r.file.key r.file.nonce)
+    chunk_length text (segment_of r)
 
 -- and the old text is that text's before the chunk that the run begins with
 pub record IsAuthenticRun (r : Run) (text : List ℕ) : Type 0 where
-  pub few : chunk_count 65536 text ≤ 281474976710656
-  pub within : r.first * 65536 ≤ length text
-  pub old_text : r.copied ≡ take (r.first * 65536) text
+  pub few : chunk_count chunk_length text ≤ chunk_limit
+  pub within : r.first * chunk_length ≤ length text
+  pub old_text : r.copied ≡ take (r.first * chunk_length) text
   pub authentic : IsTexts text r
 
 -- then what was written begins that text, or is all of it
@@ -96,16 +97,16 @@ WritesAll r = (text : List ℕ) → IsAuthenticRun r text → held r ≡ text
 
 -- a position stands after chunks of a text, and carries the chain over them
 abbrev pub CarriesText : List ℕ → Position → Type 0
-CarriesText text p = (p.index * 65536 ≤ length text)
-    × (p.chain ≡ chain (first_chunks 65536 p.index text))
+CarriesText text p = (p.index * chunk_length ≤ length text)
+    × (p.chain ≡ chain (first_chunks chunk_length p.index text))
 
 -- where a reader may go on: the whole chunks that were written, copied or released as not last,
 -- with the file's id, the chain over those chunks, and the tag; of an authentic run, that chain is
 -- the text's
 pub record IsPositionOf (r : Run) (p : Position) : Type 0 where
-  pub index : p.index ≡ min (length (held r) / 65536) (outcome_of r).index
+  pub index : p.index ≡ min (length (held r) / chunk_length) (outcome_of r).index
   pub own : HasId p r.file
-  pub chain_is : p.chain ≡ chain (first_chunks 65536 p.index (held r))
+  pub chain_is : p.chain ≡ chain (first_chunks chunk_length p.index (held r))
   pub tagged : HasTag p r.file
   pub carries : (text : List ℕ) → IsAuthenticRun r text → CarriesText text p
 

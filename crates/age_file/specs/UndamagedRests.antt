@@ -2,7 +2,7 @@
 use Rattle.std.specs.Prelude.{◌≡◌, ℕ, ◌<◌, List, Option}
 use Rattle.std.specs.Simd.{first_chunks}
 use Rattle.age_stanza.specs.declared.header.Header.{Header}
-use Rattle.age_stream.specs.Payload.{chunk_count}
+use Rattle.age_stream.specs.Payload.{chunk_count, chunk_length}
 use Rattle.age_stream.specs.Authentic.{IsClosed}
 use Rattle.age_keys.specs.declared.fault.KeyFault.{KeyFault}
 use Rattle.age_file.specs.AgeFile.{box, unbox}
@@ -29,9 +29,9 @@ pub record IsUndamagedRest (Allows : Header → List ℕ → Type 0)
     (Refused : Header → KeyFault → Type 0) (p : Position) (coming old_coming : Option (List ℕ))
     (text : List ℕ) : Type 0 where
   pub whole : IsWhole Allows Refused coming text
-  pub below : p.index < chunk_count 65536 text
+  pub below : p.index < chunk_count chunk_length text
   pub own : HasId p (opened whole)
   pub tagged : HasTag p (opened whole)
-  pub carries : p.chain ≡ chain (first_chunks 65536 p.index text)
+  pub carries : p.chain ≡ chain (first_chunks chunk_length p.index text)
   pub old_text : BeginsWith p old_coming text
-  pub closed : IsClosed (box whole.key whole.nonce) (unbox whole.key whole.nonce) 65536 text
+  pub closed : IsClosed (box whole.key whole.nonce) (unbox whole.key whole.nonce) chunk_length text

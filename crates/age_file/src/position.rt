@@ -3,7 +3,7 @@
 ghost use Rattle.std.specs.Prelude.{◌≡◌, ◌<◌, ◌++◌, ℕ, List, length, map, codes};
 ghost use Rattle.std.specs.List.{concat};
 ghost use Rattle.sha2.specs.Hashers.{Holds256};
-ghost use Rattle.age_stanza.specs.Text.{base64_text as text};
+ghost use Rattle.age_stanza.specs.Text.{base64_text};
 ghost use Rattle.age_file.specs.Bindings.{link, file_id, position_tag};
 
 use base64::engine::general_purpose::STANDARD_NO_PAD;
@@ -40,9 +40,9 @@ pub enum Positions {
 }
 
 /// The base64 text of 32 bytes, without padding.
-#[tactic(auto, unfolding(age_stanza::specs::Text::text))]
+#[tactic(auto, unfolding(age_stanza::specs::Text::base64_text))]
 pub(crate) fn spelled(bytes: &[u8; 32]) -> [u8; 43]
-    ensures { result ≡ text bytes.now }
+    ensures { result ≡ base64_text bytes.now }
 {
     let mut text = [0; 43];
     let Ok(_) = STANDARD_NO_PAD.encode_slice(bytes, &mut text) else {

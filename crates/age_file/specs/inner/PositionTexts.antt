@@ -1,7 +1,7 @@
 -- The text of a position. Not of the age format.
 use Rattle.std.specs.Prelude.{ℕ, List, ◌++◌, codes}
 use Rattle.std.specs.Fmt.{decimal}
-use Rattle.age_stanza.specs.Text.{base64_text as text}
+use Rattle.age_stanza.specs.Text.{base64_text}
 
 -- how a text begins that has this index
 abbrev pub index_text : ℕ → List ℕ
@@ -9,7 +9,7 @@ index_text index = codes "age-position/v2 " ++ decimal index
 
 -- a space, and the text of some bytes
 abbrev pub field_text : List ℕ → List ℕ
-field_text bytes = codes " " ++ text bytes
+field_text bytes = codes " " ++ base64_text bytes
 
 -- what follows the index
 abbrev pub fields_text : List ℕ → List ℕ → List ℕ → List ℕ
