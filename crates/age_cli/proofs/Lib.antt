@@ -1,10 +1,5 @@
-pub mod Cuts
-pub mod EncryptionSteps
-pub mod IdentitySteps
 pub mod RowSteps
 pub mod Telling
 pub mod StopSteps
-pub mod EventSteps
 pub mod OrderSteps
 pub mod HeadlineSteps
-pub mod PortSteps

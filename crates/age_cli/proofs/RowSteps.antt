@@ -11,11 +11,14 @@ use Rattle.age_commands.specs.declared.request.Request.TheVariants.{Decrypt, Res
 use Rattle.age_commands.specs.declared.request.Unlocking.{Unlocking}
 use Rattle.age_commands.specs.declared.request.Decrypting.{Decrypting}
 use Rattle.age_commands.specs.declared.request.Resuming.{Resuming}
-use Rattle.age_cli.specs.Files.{Files}
-use Rattle.age_cli.specs.Identities.{Options, options_of}
-use Rattle.age_cli.specs.inner.IdentitySteps.{options_asked}
-use Rattle.age_cli.specs.Decryptions.{DecryptsFile, DecryptsRows}
-use Rattle.age_cli.specs.Resumptions.{ResumesFile, ResumesRows}
+use Rattle.age_actions.specs.Files.{Files}
+use Rattle.age_actions.specs.Identities.{Options}
+use Rattle.age_cli.specs.Rows.{options_of}
+use Rattle.age_actions.specs.Identities.{options_asked}
+use Rattle.age_actions.specs.Decryptions.{DecryptsFile}
+use Rattle.age_cli.specs.Rows.{DecryptsRows}
+use Rattle.age_actions.specs.Resumptions.{ResumesFile}
+use Rattle.age_cli.specs.Rows.{ResumesRows}
 
 -- the arguments name one command
 pub one_command : (words : List Text) (name other : Text) (rows given : List Row) → Asks words name rows → Asks words other given → rows ≡ given

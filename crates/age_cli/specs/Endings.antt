@@ -1,24 +1,8 @@
 -- How runs end.
-use Rattle.std.specs.Prelude.{◌≡◌, ◌⊎◌, ℕ, Bool, true, false, if◌then◌else◌}
-use Rattle.age_cli.specs.declared.ending.Ending.{Ending}
-use Rattle.age_cli.specs.declared.ending.Ending.TheVariants.{Words, Usage, Fault, Unsaved}
-use Rattle.age_file.specs.declared.fault.FileFault.TheVariants.{Read, Write, Memory}
-
--- the command line was refused
-abbrev pub is_usage : Ending → Bool
-is_usage (Words text) = true
-is_usage (Usage usage) = true
-is_usage (Fault fault) = false
-is_usage (Unsaved fault second) = false
+use Rattle.std.specs.Prelude.{ℕ, if◌then◌else◌}
+use Rattle.age_actions.specs.Endings.{is_usage}
+use Rattle.age_actions.specs.declared.ending.Ending.{Ending}
 
 -- the status of the program: 1 on a fault, 2 for a bad command line
 abbrev pub status_of : Ending → ℕ
 status_of e = if is_usage e then 2 else 1
-
--- how a command ends before its output is written: its arguments are refused, a file can't be read
--- or created, or memory is refused
-abbrev pub EndsEarly : Ending → Type 0
-EndsEarly (Fault fault) = (fault ≡ Read) ⊎ ((fault ≡ Write) ⊎ (fault ≡ Memory))
-EndsEarly (Usage usage) = Unit {0}
-EndsEarly (Words text) = Unit {0}
-EndsEarly (Unsaved fault second) = ⊥

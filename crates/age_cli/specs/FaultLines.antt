@@ -4,8 +4,8 @@ use Rattle.std.specs.Prelude.{if◌then◌else◌}
 use Rattle.std.specs.Io.KnownBytes.{Appends}
 use Rattle.age_file.specs.Faults.{number_of, name_of, place_of, HasRisen}
 use Rattle.age_file.specs.declared.fault.FileFault.{FileFault}
-use Rattle.age_cli.specs.declared.ending.Ending.{Ending}
-use Rattle.age_cli.specs.declared.ending.Ending.TheVariants.{Words, Usage, Fault, Unsaved}
+use Rattle.age_actions.specs.declared.ending.Ending.{Ending}
+use Rattle.age_actions.specs.declared.ending.Ending.TheVariants.{Words, Usage, Fault, Unsaved}
 
 -- ` line L` of a header's fault, ` chunk I` of a payload's
 abbrev pub place_text : ℕ → Option ℕ → List ℕ

@@ -1,15 +1,9 @@
-pub mod EventOrders
-pub mod Orders
 pub mod Endings
 pub mod FaultLines
 pub mod ReportTexts
 pub mod Runs
-pub mod Files
-pub mod Identities
-pub mod Encryptions
-pub mod Decryptions
+pub mod Rows
+pub mod Orders
 pub mod Stops
 pub mod Headline
-pub mod Resumptions
 pub mod Promises
-pub mod inner

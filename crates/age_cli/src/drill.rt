@@ -2,16 +2,14 @@
 
 ghost use Rattle.std.specs.Prelude.{◌≡◌, ◌≤◌, ◌++◌, ◌∷◌, [], Some, IfOk, OnOk, length};
 ghost use Rattle.age_fileset.specs.Events.{Opened};
-ghost use Rattle.age_cli.specs.EventOrders.{Follows};
-ghost use Rattle.age_cli.specs.inner.Asking.{order_asked};
+ghost use Rattle.age_actions.specs.EventOrders.{Follows};
+ghost use Rattle.age_actions.specs.Orders.{order_asked};
 ghost use Rattle.age_commands.specs.declared.request.Request.TheVariants.{Drill};
 ghost use Rattle.age_stanza.specs.Grammar.{HasText};
 
-use crate::ending::{Ending, Usage};
-use crate::front::{fill_front, read_up_to};
-use crate::identity::{read_pass, trimmed};
 use crate::print::put_bytes;
 use crate::script::{Line, SCRIPT_MAX, has_too_many_lines, read_lines};
+use age_actions::{Ending, Usage, fill_first, read_pass, read_up_to, trimmed};
 use age_commands::Drilling;
 use age_file::{FileFault, Sink, flush_all};
 use age_fileset::FileSet;
@@ -218,7 +216,7 @@ fn drill_sealed<F: FileSet, O: Sink>(
     let script = read_script(alloc, files, asked.script)?;
     let mut source = files.open(alloc, asked.from)?;
     let mut bytes = Vec::new(alloc);
-    let read = fill_front(&mut source, &mut bytes, BYTES_MAX);
+    let read = fill_first(&mut source, &mut bytes, BYTES_MAX);
     let (key, start) = open_payload(alloc, &unlock, bytes.as_slice(), read)?;
     let payload = &mut bytes.as_mut_slice()[start..];
     if payload.len() > PAYLOAD_MAX {

@@ -9,19 +9,18 @@ ghost use Rattle.age_commands.specs.Asked.{Asks, AsksProgress, IsServed, refusal
 ghost use Rattle.age_cli.specs.Promises.{Inspecting, Encrypting, Decrypting, Resuming};
 ghost use Rattle.age_cli.specs.Promises.{SparingOthers, EncryptingStops, DecryptingStops};
 ghost use Rattle.age_cli.specs.Promises.{ResumingStops, Touching, Finishing, Judging, JudgingTold};
-ghost use Rattle.age_cli.specs.Endings.{EndsEarly, is_usage};
-ghost use Rattle.age_cli.specs.Stops.{PortsOf, StopsTold};
+ghost use Rattle.age_actions.specs.Endings.{EndsEarly, is_usage};
+ghost use Rattle.age_actions.specs.Stops.{PortsOf};
+ghost use Rattle.age_cli.specs.Endings.{status_of};
+ghost use Rattle.age_cli.specs.Stops.{StopsTold};
 ghost use Rattle.age_cli.specs.Headline.{IsWritersInput, IsWritersResumption, KeepsOut};
 ghost use Rattle.age_cli.specs.FaultLines.{TellsFault};
 ghost use Rattle.age_cli.specs.Runs.{Reports};
 
-use crate::decryption::decrypt_file;
 use crate::drill::drill_file;
-use crate::encryption::encrypt_file;
-use crate::ending::{Ending, Usage};
 use crate::inspection::{report, report_file};
-use crate::resumption::resume_file;
 use crate::tell::tell;
+use age_actions::{Ending, Usage, decrypt_file, encrypt_file, resume_file};
 use age_commands::{Request, read_request};
 use age_file::{FileFault, Sink, Source, flush_all, write_all};
 use age_fileset::FileSet;
@@ -114,6 +113,16 @@ fn obey<F: FileSet, I: Source, O: Sink, P: Meter>(
         Ok(Some(Request::Resume(asked))) => resume_file(alloc, files, &asked, progress),
         Ok(Some(Request::Drill(asked))) => drill_file(alloc, files, &asked, output),
         Ok(None) => Err(Ending::Usage(Usage::Unread)),
+    }
+}
+
+/// The status of the program for this ending.
+fn status(ending: &Ending) -> u8
+    ensures { result ≡ status_of ending.now }
+{
+    match ending {
+        Ending::Words(_) | Ending::Usage(_) => 2,
+        Ending::Fault(_) | Ending::Unsaved(_, _) => 1,
     }
 }
 
@@ -216,7 +225,7 @@ pub fn run<F: FileSet, I: Source, O: Sink, E: Sink, P: Meter>(
         Ok(()) => 0,
         Err(ending) => {
             tell(faults, &ending);
-            ending.status()
+            status(&ending)
         }
     }
 }

@@ -1,6 +1,6 @@
 //! Scripts of drills: one step a line.
 
-use crate::ending::{Ending, Usage};
+use age_actions::{Ending, Usage};
 use age_file::FileFault;
 use std::alloc::Global;
 

@@ -5,8 +5,8 @@ ghost use Rattle.std.specs.Io.KnownBytes.{Appends};
 ghost use Rattle.age_file.specs.Faults.{HasRisen, number_of, place_of};
 ghost use Rattle.age_cli.specs.FaultLines.{place_text, fault_line, TellsEnding};
 
-use crate::ending::{Ending, Usage};
 use crate::print::put_bytes;
+use age_actions::{Ending, Usage};
 use age_file::{Failed, FileFault, Sink, flush_all};
 use arrayvec::ArrayVec;
 use itoa::Buffer;
@@ -114,12 +114,29 @@ fn put_fault<E: Sink>(faults: &mut E, fault: FileFault) -> Result<(), FileFault>
     }
 }
 
+/// What is reported of a bad command line; the number of a script's line follows.
+fn usage_text(usage: Usage) -> &'static str {
+    match usage {
+        Usage::GiveOneIdentity => "give one of --pass, --file-key and --shared",
+        Usage::BadFileKey => "bad file key",
+        Usage::SameFile => "same file named twice",
+        Usage::BadPassphraseFile => "bad passphrase file",
+        Usage::BadSharedFile => "bad shared file",
+        Usage::BadRandomFile => "bad random file",
+        Usage::GiveClearOrPass => "give one of --clear and --pass",
+        Usage::ScriptTooLong => "script too long",
+        Usage::BadScriptLine(_) => "bad script line ",
+        Usage::PayloadTooLong => "payload too long",
+        Usage::Unread => "bad command line",
+    }
+}
+
 /// The text of a bad command line, which takes no memory either.
 fn put_usage_line<E: Sink>(faults: &mut E, usage: Usage) -> Result<(), FileFault> {
     put_bytes(faults, b"age_tool: ")?;
     match usage {
-        Usage::BadScriptLine(line) => put_number(faults, usage.text(), line as u64)?,
-        _ => put_bytes(faults, usage.text().as_bytes())?,
+        Usage::BadScriptLine(line) => put_number(faults, usage_text(usage), line as u64)?,
+        _ => put_bytes(faults, usage_text(usage).as_bytes())?,
     }
     put_bytes(faults, b"\n")
 }

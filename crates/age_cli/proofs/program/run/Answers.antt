@@ -1,5 +1,5 @@
 use Rattle.std.proofs.Common.{◌∙◌, sym}
-use Rattle.age_cli.specs.Stops.{PortsOf}
+use Rattle.age_actions.specs.Stops.{PortsOf}
 use Rattle.age_cli.proofs.HeadlineSteps.{kept_done, kept_stop, kept_resumption_done, kept_resumption_stop}
 use Rattle.age_cli.proofs.Telling.{tells_fault, failed_status, usage_status}
 use Rattle.age_cli.proofs.program.run.Goals as goal

@@ -1,0 +1,24 @@
+-- The random bytes at the front of a file are the secret's.
+use Rattle.std.proofs.Common.{◌≡◌, ◌∙◌, ◌++◌, ap, sym, List, ℕ, length, Option, Some, append_assoc}
+use Rattle.age_file.specs.Secrets.{SecretView}
+use Rattle.age_actions.specs.Encryptions.{IsRandomIn}
+use Rattle.age_actions.specs.inner.Randoms.{IsRandom}
+use Rattle.age_actions.specs.declared.encryption.Random.{Random}
+
+pub random_in : (held : Option (List ℕ)) (bytes rest : List ℕ) (r : Random) (s : SecretView) → held ≡ Some (bytes ++ rest) → IsRandom bytes r
+    → s.key ≡ r.file_key → s.salt ≡ r.salt → s.nonce ≡ r.payload_nonce → IsRandomIn held s
+random_in held bytes rest r s is random key salt nonce =
+    let whole : bytes ++ rest ≡ r.file_key ++ (r.salt ++ (r.payload_nonce ++ (random.rest ++ rest))) =
+    ap (λ (t : List ℕ). t ++ rest) random.parts
+    ∙ (append_assoc r.file_key (r.salt ++ (r.payload_nonce ++ random.rest)) rest
+    ∙ ap (λ (t : List ℕ). r.file_key ++ t) (append_assoc r.salt (r.payload_nonce ++ random.rest) rest
+    ∙ ap (λ (t : List ℕ). r.salt ++ t) (append_assoc r.payload_nonce random.rest rest))) in
+    record {
+      rest = random.rest ++ rest;
+      bytes = is ∙ ap Some (whole ∙ (ap (λ (t : List ℕ). t ++ (r.salt ++ (r.payload_nonce ++ (random.rest ++ rest)))) (sym key)
+          ∙ (ap (λ (t : List ℕ). s.key ++ (t ++ (r.payload_nonce ++ (random.rest ++ rest)))) (sym salt)
+          ∙ ap (λ (t : List ℕ). s.key ++ (s.salt ++ (t ++ (random.rest ++ rest)))) (sym nonce))));
+      key_length = ap length key ∙ random.key_length;
+      salt_length = ap length salt ∙ random.salt_length;
+      nonce_length = ap length nonce ∙ random.nonce_length;
+    }

@@ -1,0 +1,43 @@
+use Rattle.std.proofs.Common.{◌≡◌, inl, refl, sym, subst, Some, []}
+use Rattle.age_file.specs.Ports.{ports}
+use Rattle.age_file.specs.Decrypts.{DecryptFails}
+use Rattle.age_commands.specs.Requests.{text_of}
+use Rattle.age_actions.specs.Stops.{DecryptionStop, Leaves, OutStops, PortsOf, kept_for}
+use Rattle.age_actions.specs.Identities.{allows_by, refuses_by}
+use Rattle.age_actions.specs.declared.stop.Stop.{Stop}
+use Rattle.age_actions.proofs.StopSteps.{stop_wrote, holds_nothing}
+use Rattle.age_actions.proofs.decryption.write_from.Goals as goal
+
+pub returns-in-Err-clause-stops : goal.returns-in-Err-clause-stops
+returns-in-Err-clause-stops g c = λ told empty.
+    let entry = g.F.FileSet.entry in
+    let In = g.S.Source in
+    let Out = g.F.Out.Sink in
+    let stopped = c.in-Err.stopped in
+    let identity = c.args.identity.now in
+    let keep = kept_for (text_of c.args.asked.now.save) in
+    let label = (Out.view c.args.out).label in
+    let new = (Out.view c.decrypt_with.new.writer).taken in
+    let before = ports (In.view c.args.source.now) (Out.view c.args.out) in
+    let after = ports (In.view c.decrypt_with.new.reader) (Out.view c.decrypt_with.new.writer) in
+    let fails : DecryptFails keep (allows_by identity) (refuses_by identity) before after stopped.written stopped.position stopped.fault =
+    subst (λ k. DecryptFails k (allows_by identity) (refuses_by identity) before after stopped.written stopped.position stopped.fault) c.positions_for-positions.ensures c.in-Err.ensures.stopped in
+    let wrote = stop_wrote keep (allows_by identity) (refuses_by identity) before after stopped.written stopped.position stopped.fault fails in
+    let none : stopped.written ≡ 0 → new ≡ Some [] = λ zero. holds_nothing (Out.view c.args.out).taken new stopped.written wrote.0 empty wrote.1 zero in
+    subst (λ (s : Stop). OutStops (DecryptionStop (PortsOf In.view Out.view) keep identity (In.view c.args.source.now).remaining s.position s.fault)
+    (entry c.args.files.now label) (entry c.leave.new.files label) s.position s.fault) (sym c.from.ensures)
+    (inl (
+      stopped.written,
+      new,
+      (record {
+        before = before;
+        after = after;
+        before_is = record { source = c.args.source.now; sink = c.args.out; is = refl };
+        after_is = record { source = c.decrypt_with.new.reader; sink = c.decrypt_with.new.writer; is = refl };
+        coming = refl;
+        empty = empty;
+        fails = fails;
+        took = refl;
+      }),
+      subst (λ l. Leaves (stopped.written ≡ 0) new (entry c.args.files.now l) (entry c.leave.new.files l)) c.in-Err.ensures.named (c.leave.ensures.held told none),
+    ))

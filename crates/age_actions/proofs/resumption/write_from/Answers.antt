@@ -1,0 +1,55 @@
+use Rattle.std.proofs.Common.{◌≡◌, inl, inr, refl, sym, subst, Some, []}
+use Rattle.age_file.specs.Ports.{ports}
+use Rattle.age_file.specs.Resumes.{resume_ports}
+use Rattle.age_file.specs.ResumeFaults.{ResumeFails}
+use Rattle.age_commands.specs.Requests.{text_of}
+use Rattle.age_actions.specs.Stops.{ResumptionStop, Leaves, OutStops, kept_for}
+use Rattle.age_actions.specs.inner.Ports.{PortsOfEither}
+use Rattle.age_actions.specs.Identities.{allows_by, refuses_by}
+use Rattle.age_actions.specs.declared.stop.Stop.{Stop}
+use Rattle.age_actions.proofs.StopSteps.{resume_wrote, holds_nothing}
+use Rattle.age_actions.proofs.resumption.write_from.Goals as goal
+
+pub returns-in-Err-clause-stops : goal.returns-in-Err-clause-stops
+returns-in-Err-clause-stops g c = λ told empty.
+    let entry = g.F.FileSet.entry in
+    let In = g.F.In.Source in
+    let Read = g.S.Source in
+    let Out = g.F.Out.Sink in
+    let stopped = c.in-Err.stopped in
+    let identity = c.args.identity.now in
+    let keep = kept_for (text_of c.args.wanted.now.save) in
+    let from = c.args.position.now in
+    let label = (Out.view c.args.out).label in
+    let source = c.args.source.now in
+    let old = c.args.old.now in
+    let reader = c.resume_with.new.reader in
+    let old_reader = c.resume_with.new.old_reader in
+    let writer = c.resume_with.new.writer in
+    let before = resume_ports (ports (Read.view source) (Out.view c.args.out)) (In.view old) in
+    let after = resume_ports (ports (Read.view reader) (Out.view writer)) (In.view old_reader) in
+    let fails : ResumeFails keep (allows_by identity) from (refuses_by identity) before after stopped.written stopped.position stopped.fault =
+    subst (λ k. ResumeFails k (allows_by identity) from (refuses_by identity) before after stopped.written stopped.position stopped.fault) c.positions_for-positions.ensures c.in-Err.ensures.stopped in
+    let wrote = resume_wrote keep (allows_by identity) from (refuses_by identity) before after stopped.written stopped.position stopped.fault fails in
+    let none : stopped.written ≡ 0 → (Out.view writer).taken ≡ Some [] = λ zero. holds_nothing (Out.view c.args.out).taken (Out.view writer).taken stopped.written wrote.0 empty wrote.1 zero in
+    subst (λ (s : Stop). OutStops
+    (ResumptionStop (PortsOfEither Read.view In.view Out.view) keep identity from (Read.view source).remaining (In.view old).remaining s.position s.fault)
+    (entry c.args.files.now label) (entry c.leave.new.files label) s.position s.fault) (sym c.from.ensures)
+    (inl (
+      stopped.written,
+      (Out.view writer).taken,
+      (record {
+        before = before;
+        after = after;
+        before_is = inl (record { source = source; sink = c.args.out; is = refl });
+        after_is = inl (record { source = reader; sink = writer; is = refl });
+        old_before_is = inr (record { source = old; sink = c.args.out; is = refl });
+        old_after_is = inr (record { source = old_reader; sink = writer; is = refl });
+        coming = refl;
+        old_coming = refl;
+        empty = empty;
+        fails = fails;
+        took = refl;
+      }),
+      subst (λ l. Leaves (stopped.written ≡ 0) (Out.view writer).taken (entry c.args.files.now l) (entry c.leave.new.files l)) c.in-Err.ensures.named (c.leave.ensures.held told none),
+    ))

@@ -1,0 +1,221 @@
+//! The command that continues a decryption.
+
+ghost use Rattle.std.specs.Prelude.{◌≡◌, ◌⊎◌, [], ◌∷◌, ◌++◌, true, Some, IfOk, IfErr};
+ghost use Rattle.std.specs.Prelude.{OnOk};
+ghost use Rattle.age_fileset.specs.Events.{Opened, Closed};
+ghost use Rattle.age_actions.specs.EventOrders.{Follows};
+ghost use Rattle.age_actions.specs.Orders.{order_asked};
+ghost use Rattle.age_fileset.specs.FileSet.{IsMemoryOr};
+ghost use Rattle.age_actions.specs.Stops.{ResumptionStop, ResumesStop, OutStops, PortsOf, kept_for};
+ghost use Rattle.age_actions.specs.inner.Ports.{PortsOfEither};
+ghost use Rattle.age_commands.specs.declared.request.Request.TheVariants.{Resume};
+ghost use Rattle.age_actions.specs.declared.ending.Ending.TheVariants.{Fault};
+ghost use Rattle.age_file.specs.declared.fault.FileFault.TheVariants.{Read, BadPosition};
+ghost use Rattle.age_commands.specs.Requests.{text_of};
+ghost use Rattle.age_commands.specs.declared.request.Progress.TheVariants.{Silent};
+ghost use Rattle.age_actions.specs.Identities.{options_asked};
+ghost use Rattle.age_actions.specs.Resumptions.{IsPositionIn, ResumesOut, ResumesFile};
+ghost use Rattle.age_actions.specs.Endings.{EndsEarly, is_usage};
+ghost use Rattle.age_actions.specs.Files.{SparesBut, SparesBoth};
+
+use crate::decryption::{is_given_as, names_a_file_twice, positions_for};
+use crate::ending::{Ending, Usage};
+use crate::first_bytes::read_up_to;
+use crate::identity::{Identity, identity_of, read_secret, secret_file};
+use crate::output::{create_out, leave};
+use crate::stop::{Stop, end_of};
+use age_commands::{Decrypting, Progress, Resuming};
+use age_file::{FileFault, Position, Source, resume_with};
+use age_fileset::FileSet;
+use age_progress::{Meter, Metered};
+use std::alloc::Global;
+
+/// The position in a file.
+fn read_position<F: FileSet>(
+    alloc: Global,
+    files: &mut F,
+    name: &str,
+) -> Result<Position, FileFault>
+    ensures told { F.tells files.new ≡ F.tells files.old }
+    ensures kept { F.entry files.new ≡ F.entry files.old }
+    ensures read { IfOk result
+        (λ p. F.tells files.old ≡ true → IsPositionIn (F.entry files.old name.now) p) }
+    ensures noted { F.events files.new ≡ F.events files.old ++ Opened name.now ∷ [] }
+    ensures faults { IfErr result (λ f. IsMemoryOr Read f ⊎ (f ≡ BadPosition)) }
+{
+    let mut source = files.open(alloc, name)?;
+    match read_up_to(alloc, &mut source, 256)? {
+        Some(text) => Position::read(text.as_slice()),
+        None => Err(FileFault::BadPosition),
+    }
+}
+
+/// Writes the whole plaintext into the output, and ends that: the earlier output up to the
+/// position, and then a source's. If it stops before anything is written, the output is as it was.
+fn write_from<F: FileSet, S: Source>(
+    alloc: Global,
+    files: &mut F,
+    source: &mut S,
+    old: &mut F::In,
+    identity: &Identity<'_>,
+    position: &Position,
+    mut out: F::Out,
+    wanted: &Decrypting<'_>,
+) -> Result<(), Stop>
+    ensures told { F.tells files.new ≡ F.tells files.old }
+    ensures done { OnOk result (F.tells files.old ≡ true → (F.Out.view out).taken ≡ Some []
+        → ResumesOut identity.now position.now (S.view source.old).remaining
+        (F.In.view old.old).remaining (F.entry files.new (F.Out.view out).label)) }
+    ensures stops { IfErr result (λ stop. F.tells files.old ≡ true
+        → (F.Out.view out).taken ≡ Some []
+        → OutStops (ResumptionStop (PortsOfEither S.view F.In.view F.Out.view)
+        (kept_for (text_of wanted.now.save)) identity.now position.now
+        (S.view source.old).remaining (F.In.view old.old).remaining stop.position stop.fault)
+        (F.entry files.old (F.Out.view out).label) (F.entry files.new (F.Out.view out).label)
+        stop.position stop.fault) }
+    ensures others { SparesBut (F.Out.view out).label (F.entry files.old) (F.entry files.new) }
+    ensures noted { F.events files.new ≡ F.events files.old ++ Closed ∷ [] }
+{
+    let positions = positions_for(wanted.save);
+    match resume_with(alloc, positions, identity, position, source, old, &mut out) {
+        Ok(_) => {
+            files.close(out, wanted.durability)?;
+            Ok(())
+        }
+        Err(stopped) => {
+            leave(files, out, stopped.written, wanted.durability);
+            Err(Stop::from(stopped))
+        }
+    }
+}
+
+/// Writes the whole plaintext into the output, and ends that, with progress shown where it is asked
+/// for: how much of the input was read. If it stops before anything is written, the output is as it
+/// was.
+fn write_out<F: FileSet, P: Meter>(
+    alloc: Global,
+    files: &mut F,
+    mut source: F::In,
+    old: &mut F::In,
+    identity: &Identity<'_>,
+    position: &Position,
+    out: F::Out,
+    wanted: &Decrypting<'_>,
+    progress: &mut P,
+) -> Result<(), Stop>
+    ensures told { F.tells files.new ≡ F.tells files.old }
+    ensures done { OnOk result (F.tells files.old ≡ true → (F.Out.view out).taken ≡ Some []
+        → ResumesOut identity.now position.now (F.In.view source).remaining
+        (F.In.view old.old).remaining (F.entry files.new (F.Out.view out).label)) }
+    ensures stops { IfErr result (λ stop. F.tells files.old ≡ true
+        → (F.Out.view out).taken ≡ Some []
+        → OutStops (ResumptionStop (PortsOf F.In.view F.Out.view)
+        (kept_for (text_of wanted.now.save)) identity.now position.now
+        (F.In.view source).remaining (F.In.view old.old).remaining stop.position stop.fault)
+        (F.entry files.old (F.Out.view out).label) (F.entry files.new (F.Out.view out).label)
+        stop.position stop.fault) }
+    ensures others { SparesBut (F.Out.view out).label (F.entry files.old) (F.entry files.new) }
+    ensures noted { F.events files.new ≡ F.events files.old ++ Closed ∷ [] }
+    ensures silent { wanted.now.progress ≡ Silent → progress.new ≡ progress.old }
+{
+    match wanted.progress {
+        Progress::Silent => {
+            write_from(
+                alloc,
+                files,
+                &mut source,
+                old,
+                identity,
+                position,
+                out,
+                wanted,
+            )
+        }
+        Progress::Shown => {
+            progress.begin(files.length(&source));
+            let mut metered = Metered::new(source, &mut *progress);
+            let written = write_from(
+                alloc,
+                files,
+                &mut metered,
+                old,
+                identity,
+                position,
+                out,
+                wanted,
+            );
+            drop(metered);
+            progress.end();
+            written
+        }
+    }
+}
+
+/// Whether two files that have to differ are one: those of a decryption; the earlier output must
+/// differ from IN, OUT and the file of `--save`, and OUT from the position.
+fn names_one_twice<F: FileSet>(files: &F, asked: &Resuming<'_>) -> bool
+    ensures position_to { asked.now.position.now ≡ asked.now.decrypting.to.now → result ≡ true }
+    ensures old_from { asked.now.old.now ≡ asked.now.decrypting.from.now → result ≡ true }
+    ensures old_to { asked.now.old.now ≡ asked.now.decrypting.to.now → result ≡ true }
+    ensures saved_old { text_of asked.now.decrypting.save ≡ Some asked.now.old.now
+        → result ≡ true }
+    ensures saved_to { text_of asked.now.decrypting.save ≡ Some asked.now.decrypting.to.now
+        → result ≡ true }
+{
+    let others = &asked.decrypting;
+    names_a_file_twice(files, others)
+        || files.is_same(asked.position, others.to)
+        || files.is_same(asked.old, others.from)
+        || files.is_same(asked.old, others.to)
+        || is_given_as(files, others.save, asked.old)
+}
+
+/// Continues a decryption as asked. If it stops, its position is saved.
+pub fn resume_file<F: FileSet, P: Meter>(
+    alloc: Global,
+    files: &mut F,
+    asked: &Resuming<'_>,
+    progress: &mut P,
+) -> Result<(), Ending>
+    ensures done { OnOk result (F.tells files.old ≡ true
+        → ResumesFile (options_asked asked.now.decrypting.unlocking) asked.now.position.now
+        asked.now.old.now asked.now.decrypting.from.now asked.now.decrypting.to.now
+        (F.entry files.old) (F.entry files.new)) }
+    ensures stops { IfErr result (λ e. F.tells files.old ≡ true
+        → ((F.entry files.new ≡ F.entry files.old) × (EndsEarly e ⊎ (e ≡ Fault BadPosition)))
+        ⊎ ResumesStop (PortsOf F.In.view F.Out.view)
+        (options_asked asked.now.decrypting.unlocking) asked.now.position.now asked.now.old.now
+        asked.now.decrypting.from.now asked.now.decrypting.to.now
+        (text_of asked.now.decrypting.save) (F.entry files.old) (F.entry files.new) e) }
+    ensures usage { IfErr result (λ e. is_usage e ≡ true → F.entry files.new ≡ F.entry files.old) }
+    ensures spares { F.tells files.old ≡ true
+        → SparesBoth (Some asked.now.decrypting.to.now) (text_of asked.now.decrypting.save)
+        (F.entry files.old) (F.entry files.new) }
+    ensures order { Follows (order_asked (Resume asked.now)).whole (F.events files.old)
+        (F.events files.new) }
+    ensures order_done { OnOk result
+        (F.events files.new ≡ F.events files.old ++ (order_asked (Resume asked.now)).done) }
+    ensures order_usage { IfErr result (λ e. is_usage e ≡ true → Follows
+        (order_asked (Resume asked.now)).done (F.events files.old) (F.events files.new)) }
+    ensures order_told { F.tells files.old ≡ true → IfErr result (λ e. is_usage e ≡ true → Follows
+        (order_asked (Resume asked.now)).judged (F.events files.old) (F.events files.new)) }
+    ensures silent { asked.now.decrypting.progress ≡ Silent → progress.new ≡ progress.old }
+{
+    let wanted = &asked.decrypting;
+    let name = secret_file(&wanted.unlocking)?;
+    if names_one_twice(files, asked) {
+        return Err(Ending::Usage(Usage::SameFile));
+    }
+    let secret = read_secret(alloc, files, name)?;
+    let identity = identity_of(&wanted.unlocking, &secret)?;
+    let position = read_position(alloc, files, asked.position)?;
+    let mut old = files.open(alloc, asked.old)?;
+    let source = files.open(alloc, wanted.from)?;
+    let out = create_out(alloc, files, wanted.to, wanted.save, Some(asked.position))?;
+    match write_out(
+        alloc, files, source, &mut old, &identity, &position, out, wanted, progress,
+    ) {
+        Ok(()) => Ok(()),
+        Err(stop) => Err(end_of(alloc, files, wanted.save, stop, wanted.durability)),
+    }
+}

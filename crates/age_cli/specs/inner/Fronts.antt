@@ -1,9 +1,0 @@
--- What stands at the front of a source. What only private code cites.
-use Rattle.std.specs.Prelude.{ℕ, ◌<◌, ◌≤◌, List, length, Option}
-use Rattle.std.specs.Io.KnownBytes.{Consumes, IsAtEnd}
-
--- so many bytes, or all that came before the end
-pub record IsFront (old new : Option (List ℕ)) (most : ℕ) (bytes : List ℕ) : Type 0 where
-  pub read : Consumes old new bytes
-  pub within : length bytes ≤ most
-  pub at_end : length bytes < most → IsAtEnd new
