@@ -13,7 +13,8 @@ pub two_events : (old mid new : List Event) (a b : Event) → mid ≡ old ++ a �
 two_events old mid new a b m n = n ∙ (ap (λ x. x ++ b ∷ []) m ∙ append_assoc old (a ∷ []) (b ∷ []))
 
 -- of three
-pub three_events : (old one two new : List Event) (a b c : Event) → one ≡ old ++ a ∷ [] → two ≡ one ++ b ∷ [] → new ≡ two ++ c ∷ [] → new ≡ old ++ a ∷ b ∷ c ∷ []
+pub three_events : (old one two new : List Event) (a b c : Event) → one ≡ old ++ a ∷ [] → two ≡ one ++ b ∷ [] → new ≡ two ++ c ∷ [] → new
+    ≡ old ++ a ∷ b ∷ c ∷ []
 three_events old one two new a b c x y z = z ∙ (ap (λ t. t ++ c ∷ []) (two_events old one two a b x y) ∙ append_assoc old (a ∷ b ∷ []) (c ∷ []))
 
 -- what opens the input was read, then these files were opened
@@ -34,7 +35,8 @@ module _ (old material source output end : List Event) (secret reads : List Even
     rest = f.rest;
     did = f.did ∙ (ap (λ x. x ++ f.done) (at_output output (Created to ∷ Closed ∷ []) (two_events source created output (Created to) Closed m o))
         ∙ append_assoc old (secret ++ (reads ++ Created to ∷ Closed ∷ [])) f.done);
-    front = ap (λ x. (secret ++ (reads ++ Created to ∷ Closed ∷ [])) ++ x) f.front ∙ sym (append_assoc (secret ++ (reads ++ Created to ∷ Closed ∷ [])) f.done f.rest);
+    front = ap (λ x. (secret ++ (reads ++ Created to ∷ Closed ∷ [])) ++ x) f.front
+        ∙ sym (append_assoc (secret ++ (reads ++ Created to ∷ Closed ∷ [])) f.done f.rest);
   }
 
   -- the output could not be made
@@ -43,7 +45,8 @@ module _ (old material source output end : List Event) (secret reads : List Even
     done = secret ++ (reads ++ f.done);
     rest = f.rest;
     did = at_output end f.done f.did;
-    front = ap (λ x. secret ++ (reads ++ x)) f.front ∙ (ap (λ x. secret ++ x) (sym (append_assoc reads f.done f.rest)) ∙ sym (append_assoc secret (reads ++ f.done) f.rest));
+    front = ap (λ x. secret ++ (reads ++ x)) f.front ∙ (ap (λ x. secret ++ x) (sym (append_assoc reads f.done f.rest))
+        ∙ sym (append_assoc secret (reads ++ f.done) f.rest));
   }
 
 -- what follows an order follows a longer one

@@ -28,7 +28,8 @@ either_ports one other wrote inner same p (inr of) = of
 
 -- what an engine promises of ports of one kind it promises of those of another that has all of them
 module _ (One Other : Ports → Type 0) (all : (p : Ports) → One p → Other p) where
-  sealing : (s : SecretView) (input : Option (List ℕ)) (f : FileFault) (taken : Option (List ℕ)) → EncryptionStop One s input f taken → EncryptionStop Other s input f taken
+  sealing : (s : SecretView) (input : Option (List ℕ)) (f : FileFault) (taken : Option (List ℕ)) → EncryptionStop One s input f taken
+      → EncryptionStop Other s input f taken
   sealing s input f taken h = record {
     before = h.before;
     after = h.after;
@@ -58,12 +59,14 @@ module _ (One Other : Ports → Type 0) (all : (p : Ports) → One p → Other p
     took = h.took;
   }
 
-  pub opening_stops : (keep : Positions) (i : Identity) (input old new : Option (List ℕ)) (s : Stop) → OutStops (DecryptionStop One keep i input s.position s.fault) old new s.position s.fault
+  pub opening_stops : (keep : Positions) (i : Identity) (input old new : Option (List ℕ)) (s : Stop)
+      → OutStops (DecryptionStop One keep i input s.position s.fault) old new s.position s.fault
       → OutStops (DecryptionStop Other keep i input s.position s.fault) old new s.position s.fault
   opening_stops keep i input old new s (inl h) = inl (h.0, h.1, opening keep i input s.position s.fault h.0 h.1 h.2, h.3)
   opening_stops keep i input old new s (inr h) = inr h
 
-  resuming : (keep : Positions) (i : Identity) (from : Position) (input old_text : Option (List ℕ)) (at : Option Position) (f : FileFault) (written : ℕ) (taken : Option (List ℕ))
+  resuming : (keep : Positions) (i : Identity) (from : Position) (input old_text : Option (List ℕ)) (at : Option Position) (f : FileFault) (written : ℕ)
+      (taken : Option (List ℕ))
       → ResumptionStop One keep i from input old_text at f written taken → ResumptionStop Other keep i from input old_text at f written taken
   resuming keep i from input old_text at f written taken h = record {
     before = h.before;

@@ -71,7 +71,8 @@ module _ (keep : Positions) (A : Header → List ℕ → Type 0) (R : Header →
 
 -- what a resumed decryption wrote before it stopped; it begins the text of whose first chunks the old text is, and of which
 -- each run is authentic
-module _ (keep : Positions) (A : Header → List ℕ → Type 0) (p : Position) (R : Header → KeyFault → Type 0) (old new : ResumePorts) (written : ℕ) (position : Option Position) where
+module _ (keep : Positions) (A : Header → List ℕ → Type 0) (p : Position) (R : Header → KeyFault → Type 0) (old new : ResumePorts) (written : ℕ)
+    (position : Option Position) where
   abbrev pub RewriteBegins : List ℕ → Type 0
   RewriteBegins out = (text : List ℕ) → BeginsWith p old.old.remaining text
       → ((r : Run) → IsFrom p old.old new.old r → IsRun A old.main new.main written r → IsAuthenticRun r text) → IsPrefixOf out text

@@ -38,7 +38,8 @@ read_from None b bs t c = absurd (true≢false (sym t))
 read_from (Some x) None bs t c = absurd c
 read_from (Some x) (Some y) bs t c = (y, ap Some c, λ e. e)
 
-is_read : (identity : Identity) (input : Option (List ℕ)) (before after : Ports) (written : ℕ) (r : Run) → input ≡ before.source.remaining → is_some input ≡ true
+is_read : (identity : Identity) (input : Option (List ℕ)) (before after : Ports) (written : ℕ) (r : Run) → input ≡ before.source.remaining → is_some input
+    ≡ true
     → IsRun (allows_by identity) before after written r → IsRead identity input r
 is_read identity input before after written r coming told is =
     let read = (r.file.header_bytes ++ r.file.nonce) ++ (r.skipped ++ r.bytes) in
@@ -54,7 +55,8 @@ is_read identity input before after written r coming told is =
     }
 
 -- OUT where it stopped
-held_stop : (IsPorts : Ports → Type 0) (keep : Positions) (identity : Identity) (input old new : Option (List ℕ)) (position : Option Position) (fault : FileFault) (text : List ℕ)
+held_stop : (IsPorts : Ports → Type 0) (keep : Positions) (identity : Identity) (input old new : Option (List ℕ)) (position : Option Position)
+    (fault : FileFault) (text : List ℕ)
     → is_some input ≡ true → ((r : Run) → IsFromStart r → IsRead identity input r → IsAuthenticRun r text)
     → OutStops (DecryptionStop IsPorts keep identity input position fault) old new position fault → HoldsNoMore old new text
 held_stop IsPorts keep identity input old new position fault text told auth (inl (written, taken, s, leaves)) =
@@ -67,7 +69,8 @@ held_stop IsPorts keep identity input old new position fault text told auth (inr
 one_name : (a : Option Text) (x y : Text) → a ≡ Some x → a ≡ Some y → x ≡ y
 one_name a x y p q = ap (λ (o : Option Text). option_map_or (λ t. t) o []) (sym p ∙ q)
 
-pub kept_stop : (IsPorts : Ports → Type 0) (rows : List Row) (old new : Files) (e : Ending) (status : ℕ) (text : List ℕ) → (status ≡ 0 → ⊥) → IsWritersInput rows old text
+pub kept_stop : (IsPorts : Ports → Type 0) (rows : List Row) (old new : Files) (e : Ending) (status : ℕ) (text : List ℕ) → (status ≡ 0 → ⊥)
+    → IsWritersInput rows old text
     → FailsToDecrypt IsPorts rows old new e → KeepsOut rows old new status text
 kept_stop IsPorts rows old new e status text failed auth (inl same) = record {
   safe = λ to is. inl (ap (λ f. f to) same.0);
@@ -75,14 +78,16 @@ kept_stop IsPorts rows old new e status text failed auth (inl same) = record {
 }
 kept_stop IsPorts rows old new e status text failed auth (inr s) =
     let t = s.stops in
-    let here : HoldsNoMore (old s.to) (new s.to) text = held_stop IsPorts (kept_for (first_of (codes "save") rows)) t.identity (old s.from) (old s.to) (new s.to) t.position t.fault text t.there
+    let here : HoldsNoMore (old s.to) (new s.to) text = held_stop IsPorts (kept_for (first_of (codes "save") rows)) t.identity (old s.from) (old s.to)
+    (new s.to) t.position t.fault text t.there
     (auth s.from t.identity s.from_is t.opens) t.output in
     record {
       safe = λ to is. subst (λ (t : Text). HoldsNoMore (old t) (new t) text) (one_name (first_of (codes "OUT") rows) s.to to s.to_is is) here;
       whole = λ to is zero. absurd (failed zero);
     }
 
-pub kept_done : (rows : List Row) (old new : Files) (status : ℕ) (text : List ℕ) → IsWritersInput rows old text → DecryptsRows rows old new → KeepsOut rows old new status text
+pub kept_done : (rows : List Row) (old new : Files) (status : ℕ) (text : List ℕ) → IsWritersInput rows old text → DecryptsRows rows old new
+    → KeepsOut rows old new status text
 kept_done rows old new status text auth d =
     let t = d.decrypts in
     let o = t.output in
@@ -92,7 +97,11 @@ kept_done rows old new status text auth d =
     let all : held r ≡ text = o.ends.2.all text (auth d.from t.identity d.from_is t.opens r o.ends.1 read) in
     let holds : new d.to ≡ Some text = o.taken ∙ (appended o.before.sink.taken o.after.sink.taken (held r) o.empty is.wrote ∙ ap Some all) in
     record {
-      safe = λ to is. inr (text, subst (λ (t : Text). new t ≡ Some text) (one_name (first_of (codes "OUT") rows) d.to to d.to_is is) holds, ([], append-nil text));
+      safe = λ to is. inr (
+        text,
+        subst (λ (t : Text). new t ≡ Some text) (one_name (first_of (codes "OUT") rows) d.to to d.to_is is) holds,
+        ([], append-nil text),
+      );
       whole = λ to is zero. subst (λ (t : Text). new t ≡ Some text) (one_name (first_of (codes "OUT") rows) d.to to d.to_is is) holds;
     }
 
@@ -106,8 +115,10 @@ same_front : (n : ℕ) (a b x y : List ℕ) → length a ≡ n → length b ≡ 
 same_front n a b x y p q e = sym (take_at a x n p) ∙ (ap (take n) e ∙ take_at b y n q)
 
 -- what is so of the position, of the old text and of the input
-module _ (identity : Identity) (p : Position) (input old_text : Option (List ℕ)) (text : List ℕ) (told : is_some input ≡ true) (old_told : is_some old_text ≡ true)
-    (few : chunk_count 65536 text ≤ 281474976710656) (begins : (all : List ℕ) → old_text ≡ Some all → (p.index * 65536 ≤ length text) × IsPrefixOf (take (p.index * 65536) text) all)
+module _ (identity : Identity) (p : Position) (input old_text : Option (List ℕ)) (text : List ℕ) (told : is_some input ≡ true) (old_told : is_some old_text
+    ≡ true)
+    (few : chunk_count 65536 text ≤ 281474976710656) (begins : (all : List ℕ) → old_text ≡ Some all → (p.index * 65536 ≤ length text)
+    × IsPrefixOf (take (p.index * 65536) text) all)
     (auth : (r : Run) → BeginsAt p r → IsRead identity input r → IsTexts text r) where
   begins_with : (coming : Option (List ℕ)) → old_text ≡ coming → BeginsWith p coming text
   begins_with coming same =
@@ -137,11 +148,14 @@ module _ (identity : Identity) (p : Position) (input old_text : Option (List ℕ
       → OutStops (ResumptionStop IsPorts keep identity p input old_text position fault) old new position fault → HoldsNoMore old new text
   resumed_stop IsPorts keep old new position fault (inl (written, taken, s, leaves)) =
       let w = resume_wrote keep (allows_by identity) p (refuses_by identity) s.before s.after written position fault s.fails in
-      let front : IsPrefixOf w.0 text = w.2 text (begins_with s.before.old.remaining s.old_coming) (λ r from is. authentic_run s.before s.after written r s.coming s.old_coming from is) in
-      ⊎_elim (λ at. inr (w.0, at ∙ (s.took ∙ appended s.before.main.sink.taken s.after.main.sink.taken w.0 s.empty w.1.0), front)) (λ same. inl same) leaves.held
+      let front : IsPrefixOf w.0 text = w.2 text (begins_with s.before.old.remaining s.old_coming) (λ r from is. authentic_run s.before s.after written
+      r s.coming s.old_coming from is) in
+      ⊎_elim (λ at. inr (w.0, at ∙ (s.took ∙ appended s.before.main.sink.taken s.after.main.sink.taken w.0 s.empty w.1.0), front)) (λ same. inl same)
+      leaves.held
   resumed_stop IsPorts keep old new position fault (inr s) = inl s.0
 
-pub kept_resumption_stop : (IsPorts : Ports → Type 0) (rows : List Row) (old new : Files) (e : Ending) (status : ℕ) (text : List ℕ) → (status ≡ 0 → ⊥) → IsWritersResumption rows old text
+pub kept_resumption_stop : (IsPorts : Ports → Type 0) (rows : List Row) (old new : Files) (e : Ending) (status : ℕ) (text : List ℕ) → (status ≡ 0 → ⊥)
+    → IsWritersResumption rows old text
     → FailsToResume IsPorts rows old new e → KeepsOut rows old new status text
 kept_resumption_stop IsPorts rows old new e status text failed auth (inl same) = record {
   safe = λ to is. inl (ap (λ f. f to) same.0);
@@ -158,7 +172,8 @@ kept_resumption_stop IsPorts rows old new e status text failed auth (inr s) =
       whole = λ to is zero. absurd (failed zero);
     }
 
-pub kept_resumption_done : (rows : List Row) (old new : Files) (status : ℕ) (text : List ℕ) → IsWritersResumption rows old text → ResumesRows rows old new → KeepsOut rows old new status text
+pub kept_resumption_done : (rows : List Row) (old new : Files) (status : ℕ) (text : List ℕ) → IsWritersResumption rows old text → ResumesRows rows old new
+    → KeepsOut rows old new status text
 kept_resumption_done rows old new status text auth d =
     let t = d.resumes in
     let o = t.output in
@@ -171,6 +186,10 @@ kept_resumption_done rows old new status text auth d =
     let all : held r ≡ text = o.ends.2.all text run in
     let holds : new d.to ≡ Some text = o.taken ∙ (appended o.before.main.sink.taken o.after.main.sink.taken (held r) o.empty is.wrote ∙ ap Some all) in
     record {
-      safe = λ to is. inr (text, subst (λ (t : Text). new t ≡ Some text) (one_name (first_of (codes "OUT") rows) d.to to d.to_is is) holds, ([], append-nil text));
+      safe = λ to is. inr (
+        text,
+        subst (λ (t : Text). new t ≡ Some text) (one_name (first_of (codes "OUT") rows) d.to to d.to_is is) holds,
+        ([], append-nil text),
+      );
       whole = λ to is zero. subst (λ (t : Text). new t ≡ Some text) (one_name (first_of (codes "OUT") rows) d.to to d.to_is is) holds;
     }

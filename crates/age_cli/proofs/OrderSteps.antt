@@ -14,13 +14,15 @@ order_given : (name : Text) (rows : List Row) (r : Request) → IsRequest name r
 order_given name rows (Inspect file) is = ap (λ (n : Text). order_of n rows) is.0 ∙ ap inspecting_order (sym is.1)
 order_given name rows (Encrypt e) is =
     let f = is.1 in
-    let same : encrypting_order (first_of (codes "pass") rows) (first_of (codes "random") rows) (first_of (codes "IN") rows) (first_of (codes "OUT") rows) ≡ order_asked (Encrypt e) =
+    let same : encrypting_order (first_of (codes "pass") rows) (first_of (codes "random") rows) (first_of (codes "IN") rows) (first_of (codes "OUT") rows)
+    ≡ order_asked (Encrypt e) =
     rw (sym f.pass, sym f.random, sym f.from, sym f.to) refl in
     ap (λ (n : Text). order_of n rows) is.0 ∙ same
 order_given name rows (Decrypt d) is =
     let f = is.1 in
     let u = f.unlocking in
-    let same : decrypting_order (first_of (codes "pass") rows) (first_of (codes "shared") rows) (first_of (codes "IN") rows) (first_of (codes "OUT") rows) (first_of (codes "save") rows)
+    let same : decrypting_order (first_of (codes "pass") rows) (first_of (codes "shared") rows) (first_of (codes "IN") rows) (first_of (codes "OUT") rows)
+    (first_of (codes "save") rows)
     ≡ order_asked (Decrypt d) =
     rw (sym u.pass, sym u.shared, sym f.from, sym f.to, sym f.save) refl in
     ap (λ (n : Text). order_of n rows) is.0 ∙ same
@@ -28,7 +30,8 @@ order_given name rows (Resume r) is =
     let f = is.1 in
     let d = f.decrypting in
     let u = d.unlocking in
-    let same : resuming_order (first_of (codes "pass") rows) (first_of (codes "shared") rows) (first_of (codes "position") rows) (first_of (codes "old") rows) (first_of (codes "IN") rows)
+    let same : resuming_order (first_of (codes "pass") rows) (first_of (codes "shared") rows) (first_of (codes "position") rows) (first_of (codes "old") rows)
+    (first_of (codes "IN") rows)
     (first_of (codes "OUT") rows) (first_of (codes "save") rows) ≡ order_asked (Resume r) =
     rw (sym u.pass, sym u.shared, sym f.position, sym f.old, sym d.from, sym d.to, sym d.save) refl in
     ap (λ (n : Text). order_of n rows) is.0 ∙ same
@@ -38,7 +41,9 @@ order_given name rows (Drill d) is =
     rw (sym f.pass, sym f.script, sym f.from) refl in
     ap (λ (n : Text). order_of n rows) is.0 ∙ same
 
-pub asked_order : (words : List Text) (name : Text) (rows : List Row) (r : Request) → Requests words r → Asks words name rows → order_of name rows ≡ order_asked r
+pub asked_order : (words : List Text) (name : Text) (rows : List Row) (r : Request) → Requests words r → Asks words name rows → order_of name rows
+    ≡ order_asked r
 asked_order words name rows r (other, given, asked, request) asks =
-    let same : (name, rows) ≡ (other, given) = ap (λ (o : Option (Text × List Row)). option_map_or (λ p. p) o (name, rows)) (sym asks.command ∙ asked.command) in
+    let same : (name, rows) ≡ (other, given) = ap (λ (o : Option (Text × List Row)). option_map_or (λ p. p) o (name, rows)) (sym asks.command
+    ∙ asked.command) in
     ap (λ (p : Text × List Row). order_of p.0 p.1) same ∙ order_given other given r request

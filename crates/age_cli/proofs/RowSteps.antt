@@ -29,7 +29,8 @@ one_command words name other rows given a b =
 pub options_same : (rows : List Row) (u : Unlocking) → IsUnlocking rows u → options_of rows ≡ options_asked u
 options_same rows u is = rw (sym is.pass, sym is.file_key, sym is.shared, sym is.max_log) refl
 
-decrypts_given : (rows : List Row) (d : Decrypting) (old new : Files) → IsDecrypting rows d → DecryptsFile (options_asked d.unlocking) d.from.now d.to.now old new → DecryptsRows rows old new
+decrypts_given : (rows : List Row) (d : Decrypting) (old new : Files) → IsDecrypting rows d
+    → DecryptsFile (options_asked d.unlocking) d.from.now d.to.now old new → DecryptsRows rows old new
 decrypts_given rows d old new is did = record {
   from = d.from.now;
   to = d.to.now;
@@ -41,7 +42,8 @@ decrypts_given rows d old new is did = record {
 pub decrypts_rows : (words : List Text) (rows : List Row) (d : Decrypting) (old new : Files) → Requests words (Decrypt d) → Asks words (codes "decrypt") rows
     → DecryptsFile (options_asked d.unlocking) d.from.now d.to.now old new → DecryptsRows rows old new
 decrypts_rows words rows d old new (name, given, asked, request) asks did =
-    subst (λ (t : List Row). DecryptsRows t old new) (one_command words name (codes "decrypt") given rows asked asks) (decrypts_given given d old new request.1 did)
+    subst (λ (t : List Row). DecryptsRows t old new) (one_command words name (codes "decrypt") given rows asked asks)
+    (decrypts_given given d old new request.1 did)
 
 resumes_given : (rows : List Row) (r : Resuming) (old new : Files) → IsResuming rows r
     → ResumesFile (options_asked r.decrypting.unlocking) r.position.now r.old.now r.decrypting.from.now r.decrypting.to.now old new → ResumesRows rows old new
@@ -63,12 +65,14 @@ resumes_given rows r old new is did =
 pub resumes_rows : (words : List Text) (rows : List Row) (r : Resuming) (old new : Files) → Requests words (Resume r) → Asks words (codes "resume") rows
     → ResumesFile (options_asked r.decrypting.unlocking) r.position.now r.old.now r.decrypting.from.now r.decrypting.to.now old new → ResumesRows rows old new
 resumes_rows words rows r old new (name, given, asked, request) asks did =
-    subst (λ (t : List Row). ResumesRows t old new) (one_command words name (codes "resume") given rows asked asks) (resumes_given given r old new request.1 did)
+    subst (λ (t : List Row). ResumesRows t old new) (one_command words name (codes "resume") given rows asked asks)
+    (resumes_given given r old new request.1 did)
 
 silent_without : (given : Bool) → (given ≡ true → ⊥) → (if given then Shown else Silent) ≡ Silent
 silent_without true h = absurd (h refl)
 silent_without false h = refl
 
 -- where the arguments don't ask for progress, none is shown
-pub stays_silent : (words : List Text) (p : Progress) (name : Text) (rows : List Row) → Asks words name rows → IsProgress rows p → (AsksProgress words → ⊥) → p ≡ Silent
+pub stays_silent : (words : List Text) (p : Progress) (name : Text) (rows : List Row) → Asks words name rows → IsProgress rows p → (AsksProgress words → ⊥)
+    → p ≡ Silent
 stays_silent words p name rows asks is unasked = is ∙ silent_without (is_given (codes "progress") rows) (λ given. unasked (name, rows, asks, given))

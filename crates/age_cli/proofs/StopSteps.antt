@@ -23,7 +23,8 @@ module _ (IsPorts : Ports → Type 0) where
   abbrev SealsHere : Encrypting → Files → Files → Ending → Type 0
   SealsHere e old new ending = EncryptsStop IsPorts e.pass.now e.log (text_of e.random) e.from.now e.to.now old new ending
 
-  sealing_stop_given : (rows : List Row) (e : Encrypting) (old new : Files) (ending : Ending) → IsEncrypting rows e → ((new ≡ old) × EndsEarly ending) ⊎ SealsHere e old new ending
+  sealing_stop_given : (rows : List Row) (e : Encrypting) (old new : Files) (ending : Ending) → IsEncrypting rows e → ((new ≡ old) × EndsEarly ending)
+      ⊎ SealsHere e old new ending
       → FailsToEncrypt IsPorts rows old new ending
   sealing_stop_given rows e old new ending is (inl same) = inl same
   sealing_stop_given rows e old new ending is (inr did) = inr (record {
@@ -37,10 +38,12 @@ module _ (IsPorts : Ports → Type 0) where
         (subst (λ (random : Option Text). EncryptsStop IsPorts e.pass.now e.log random e.from.now e.to.now old new ending) is.random did);
   })
 
-  pub sealing_stop_rows : (words : List Text) (rows : List Row) (e : Encrypting) (old new : Files) (ending : Ending) → Requests words (Encrypt e) → Asks words (codes "encrypt") rows
+  pub sealing_stop_rows : (words : List Text) (rows : List Row) (e : Encrypting) (old new : Files) (ending : Ending) → Requests words (Encrypt e)
+      → Asks words (codes "encrypt") rows
       → ((new ≡ old) × EndsEarly ending) ⊎ SealsHere e old new ending → FailsToEncrypt IsPorts rows old new ending
   sealing_stop_rows words rows e old new ending (name, given, asked, request) asks did =
-      subst (λ (t : List Row). FailsToEncrypt IsPorts t old new ending) (one_command words name (codes "encrypt") given rows asked asks) (sealing_stop_given given e old new ending request.1 did)
+      subst (λ (t : List Row). FailsToEncrypt IsPorts t old new ending) (one_command words name (codes "encrypt") given rows asked asks)
+      (sealing_stop_given given e old new ending request.1 did)
 
   abbrev StopsHere : Decrypting → Files → Files → Ending → Type 0
   StopsHere d old new e = DecryptsStop IsPorts (options_asked d.unlocking) d.from.now d.to.now (text_of d.save) old new e
@@ -53,17 +56,21 @@ module _ (IsPorts : Ports → Type 0) where
     to = d.to.now;
     from_is = sym is.from;
     to_is = sym is.to;
-    stops = subst (λ (o : Options). DecryptsStop IsPorts o d.from.now d.to.now (first_of (codes "save") rows) old new e) (sym (options_same rows d.unlocking is.unlocking))
+    stops = subst (λ (o : Options). DecryptsStop IsPorts o d.from.now d.to.now (first_of (codes "save") rows) old new e)
+        (sym (options_same rows d.unlocking is.unlocking))
         (subst (λ (save : Option Text). DecryptsStop IsPorts (options_asked d.unlocking) d.from.now d.to.now save old new e) is.save did);
   })
 
-  pub stops_rows : (words : List Text) (rows : List Row) (d : Decrypting) (old new : Files) (e : Ending) → Requests words (Decrypt d) → Asks words (codes "decrypt") rows
+  pub stops_rows : (words : List Text) (rows : List Row) (d : Decrypting) (old new : Files) (e : Ending) → Requests words (Decrypt d)
+      → Asks words (codes "decrypt") rows
       → ((new ≡ old) × EndsEarly e) ⊎ StopsHere d old new e → FailsToDecrypt IsPorts rows old new e
   stops_rows words rows d old new e (name, given, asked, request) asks did =
-      subst (λ (t : List Row). FailsToDecrypt IsPorts t old new e) (one_command words name (codes "decrypt") given rows asked asks) (stops_given given d old new e request.1 did)
+      subst (λ (t : List Row). FailsToDecrypt IsPorts t old new e) (one_command words name (codes "decrypt") given rows asked asks)
+      (stops_given given d old new e request.1 did)
 
   abbrev ResumesHere : Resuming → Files → Files → Ending → Type 0
-  ResumesHere r old new e = ResumesStop IsPorts (options_asked r.decrypting.unlocking) r.position.now r.old.now r.decrypting.from.now r.decrypting.to.now (text_of r.decrypting.save) old new e
+  ResumesHere r old new e = ResumesStop IsPorts (options_asked r.decrypting.unlocking) r.position.now r.old.now r.decrypting.from.now r.decrypting.to.now
+      (text_of r.decrypting.save) old new e
 
   abbrev ResumeEarly : Files → Files → Ending → Type 0
   ResumeEarly old new e = (new ≡ old) × (EndsEarly e ⊎ (e ≡ Fault fault.BadPosition))
@@ -82,13 +89,17 @@ module _ (IsPorts : Ports → Type 0) where
         old_name_is = sym is.old;
         from_is = sym d.from;
         to_is = sym d.to;
-        stops = subst (λ (o : Options). ResumesStop IsPorts o r.position.now r.old.now r.decrypting.from.now r.decrypting.to.now (first_of (codes "save") rows) old new e)
+        stops = subst (λ (o : Options). ResumesStop IsPorts o r.position.now r.old.now r.decrypting.from.now r.decrypting.to.now (first_of (codes "save") rows)
+            old new e)
             (sym (options_same rows r.decrypting.unlocking d.unlocking))
-            (subst (λ (save : Option Text). ResumesStop IsPorts (options_asked r.decrypting.unlocking) r.position.now r.old.now r.decrypting.from.now r.decrypting.to.now save old new e)
+            (subst (λ (save : Option Text). ResumesStop IsPorts (options_asked r.decrypting.unlocking) r.position.now r.old.now r.decrypting.from.now
+            r.decrypting.to.now save old new e)
             d.save did);
       })
 
-  pub resumes_stop_rows : (words : List Text) (rows : List Row) (r : Resuming) (old new : Files) (e : Ending) → Requests words (Resume r) → Asks words (codes "resume") rows
+  pub resumes_stop_rows : (words : List Text) (rows : List Row) (r : Resuming) (old new : Files) (e : Ending) → Requests words (Resume r)
+      → Asks words (codes "resume") rows
       → ResumeEarly old new e ⊎ ResumesHere r old new e → FailsToResume IsPorts rows old new e
   resumes_stop_rows words rows r old new e (name, given, asked, request) asks did =
-      subst (λ (t : List Row). FailsToResume IsPorts t old new e) (one_command words name (codes "resume") given rows asked asks) (resumes_stop_given given r old new e request.1 did)
+      subst (λ (t : List Row). FailsToResume IsPorts t old new e) (one_command words name (codes "resume") given rows asked asks)
+      (resumes_stop_given given r old new e request.1 did)

@@ -52,8 +52,16 @@ risen old new e =
 
 -- ---- headers
 
-pub stops_at : (old new : Option (List ℕ)) (held piece : List ℕ) → length piece ≤ 65536 → (HasHeader held → ⊥) → NoFault held → Consumes old new (held ++ piece) → StopsAtHeader old new
-stops_at old new held piece most none sound consumed = record { before = held; last = piece; read = consumed; one_pull = most; no_header = none; no_fault = sound }
+pub stops_at : (old new : Option (List ℕ)) (held piece : List ℕ) → length piece ≤ 65536 → (HasHeader held → ⊥) → NoFault held → Consumes old new (held ++ piece)
+    → StopsAtHeader old new
+stops_at old new held piece most none sound consumed = record {
+  before = held;
+  last = piece;
+  read = consumed;
+  one_pull = most;
+  no_header = none;
+  no_fault = sound;
+}
 
 -- the last pull gave nothing
 pub stops_at_held : (old new : Option (List ℕ)) (held : List ℕ) → Consumes old new held → (HasHeader held → ⊥) → NoFault held → StopsAtHeader old new
@@ -67,7 +75,8 @@ stops_unread a =
     stops_at_held a a [] (Consumes-nil a) (none_held [] (omega arith) started.goes_on) (no_fault [] started.are_bytes started.goes_on)
 
 -- a fault that the bytes have is the fault that is told
-fails_by_kind : (old new : SourceView) (kind : HeadKind) (fault : HeadFault) → StopsAtHeader old.remaining new.remaining → TellsFault old.remaining new.remaining fault → HeadFails old new (fault_by_kind kind fault)
+fails_by_kind : (old new : SourceView) (kind : HeadKind) (fault : HeadFault) → StopsAtHeader old.remaining new.remaining
+    → TellsFault old.remaining new.remaining fault → HeadFails old new (fault_by_kind kind fault)
 fails_by_kind old new NotAge fault stops told = told
 fails_by_kind old new Armored fault stops told = told
 fails_by_kind old new BadStanzaLine fault stops told = told
@@ -79,14 +88,16 @@ fails_by_kind old new HeadCut fault stops told = told
 fails_by_kind old new Memory fault stops told = stops
 
 -- what is told of the bytes that were read is told of all that the source had
-whole_fault : (old new : Option (List ℕ)) (bytes : List ℕ) (fault : HeadFault) → Consumes old new bytes → (HasHeader bytes → ⊥) → IsFault bytes fault → IsSourcesFault old fault
+whole_fault : (old new : Option (List ℕ)) (bytes : List ℕ) (fault : HeadFault) → Consumes old new bytes → (HasHeader bytes → ⊥) → IsFault bytes fault
+    → IsSourcesFault old fault
 whole_fault None new bytes fault consumed none told = tt
 whole_fault (Some all) None bytes fault consumed none told = absurd consumed
 whole_fault (Some all) (Some rest) bytes fault consumed none told =
     let more = more_fault bytes rest fault none told in
     subst (λ (t : List ℕ). IsHeadFault t fault) (sym consumed) (more.0, inl more.1)
 
-whole_cut : (old new : Option (List ℕ)) (bytes : List ℕ) (fault : HeadFault) → Consumes old new bytes → IsAtEnd new → (HasHeader bytes → ⊥) → IsCut bytes fault → IsSourcesFault old fault
+whole_cut : (old new : Option (List ℕ)) (bytes : List ℕ) (fault : HeadFault) → Consumes old new bytes → IsAtEnd new → (HasHeader bytes → ⊥) → IsCut bytes fault
+    → IsSourcesFault old fault
 whole_cut None new bytes fault consumed ended none unwritten = tt
 whole_cut (Some all) None bytes fault consumed ended none unwritten = absurd consumed
 whole_cut (Some all) (Some rest) bytes fault consumed ended none unwritten =
@@ -94,27 +105,44 @@ whole_cut (Some all) (Some rest) bytes fault consumed ended none unwritten =
     subst (λ (t : List ℕ). IsHeadFault t fault) (sym same) (none, inr unwritten)
 
 -- the input ended inside the header
-pub end_fails : (old new : SourceView) (bytes : List ℕ) (fault : HeadFault) → StopsAtHeader old.remaining new.remaining → Consumes old.remaining new.remaining bytes → IsAtEnd new.remaining → (HasHeader bytes → ⊥) → IsCut bytes fault
+pub end_fails : (old new : SourceView) (bytes : List ℕ) (fault : HeadFault) → StopsAtHeader old.remaining new.remaining
+    → Consumes old.remaining new.remaining bytes → IsAtEnd new.remaining → (HasHeader bytes → ⊥) → IsCut bytes fault
     → HeadFails old new (fault_of fault)
 end_fails old new bytes fault stops consumed ended none unwritten =
-    fails_by_kind old new fault.kind fault stops (record { bytes = bytes; consumed = consumed; no_header = none; told = inr (ended, unwritten); of_all = whole_cut old.remaining new.remaining bytes fault consumed ended none unwritten })
+    fails_by_kind old new fault.kind fault stops (record {
+      bytes = bytes;
+      consumed = consumed;
+      no_header = none;
+      told = inr (ended, unwritten);
+      of_all = whole_cut old.remaining new.remaining bytes fault consumed ended none unwritten;
+    })
 
 -- a piece that was refused
-pub piece_fails : (old new : SourceView) (held piece : List ℕ) (fault : HeadFault) → length piece ≤ 65536 → (HasHeader held → ⊥) → NoFault held → Consumes old.remaining new.remaining (held ++ piece)
+pub piece_fails : (old new : SourceView) (held piece : List ℕ) (fault : HeadFault) → length piece ≤ 65536 → (HasHeader held → ⊥) → NoFault held
+    → Consumes old.remaining new.remaining (held ++ piece)
     → (fault ≡ memory_fault) ⊎ ((HasHeader (held ++ piece) → ⊥) × IsFault (held ++ piece) fault) → HeadFails old new (fault_of fault)
 piece_fails old new held piece fault most none sound consumed (inl memory) =
     subst (λ (f : HeadFault). HeadFails old new (fault_of f)) (sym memory) (stops_at old.remaining new.remaining held piece most none sound consumed)
 piece_fails old new held piece fault most none sound consumed (inr told) =
-    fails_by_kind old new fault.kind fault (stops_at old.remaining new.remaining held piece most none sound consumed) (record { bytes = held ++ piece; consumed = consumed; no_header = told.0; told = inl told.1; of_all = whole_fault old.remaining new.remaining (held ++ piece) fault consumed told.0 told.1 })
+    fails_by_kind old new fault.kind fault (stops_at old.remaining new.remaining held piece most none sound consumed)
+    (record {
+      bytes = held ++ piece;
+      consumed = consumed;
+      no_header = told.0;
+      told = inl told.1;
+      of_all = whole_fault old.remaining new.remaining (held ++ piece) fault consumed told.0 told.1;
+    })
 
 -- the same where more than the fault is asked
-pub piece_early : (old new : Option (List ℕ)) (held piece : List ℕ) (fault : HeadFault) (told : FileFault) → told ≡ fault_of fault → Consumes old new (held ++ piece)
+pub piece_early : (old new : Option (List ℕ)) (held piece : List ℕ) (fault : HeadFault) (told : FileFault) → told ≡ fault_of fault
+    → Consumes old new (held ++ piece)
     → (fault ≡ memory_fault) ⊎ ((HasHeader (held ++ piece) → ⊥) × IsFault (held ++ piece) fault) → told ≢ FileMemory → IsInHeader old new
 piece_early old new held piece fault told is consumed (inl memory) not = absurd (not (is ∙ ap fault_of memory))
 piece_early old new held piece fault told is consumed (inr refused) not = (held ++ piece, consumed, refused.0)
 
 -- a refill that gave nothing
-pub cut_pulled : (start now : Option (List ℕ)) (pulls : ℕ) (held bytes : List ℕ) → bytes ≡ [] → Pulled start now pulls (held ++ bytes) → Pulled start now pulls held
+pub cut_pulled : (start now : Option (List ℕ)) (pulls : ℕ) (held bytes : List ℕ) → bytes ≡ [] → Pulled start now pulls (held ++ bytes)
+    → Pulled start now pulls held
 cut_pulled start now pulls held bytes none h = subst (λ (t : List ℕ). Pulled start now pulls t) (ap (λ (t : List ℕ). held ++ t) none ∙ append-nil held) h
 
 -- ---- the pulls of a call, over its two sources
@@ -146,7 +174,8 @@ counted_on a b c pulls front h = record {
 }
 
 -- and back
-pub counted_back : (a b c d : Option (List ℕ)) (pulls total : ℕ) (x y : List ℕ) → Pulled a b pulls x → Pulled (preceded x c) d total (x ++ y) → Pulled (preceded y a) b total (y ++ x)
+pub counted_back : (a b c d : Option (List ℕ)) (pulls total : ℕ) (x y : List ℕ) → Pulled a b pulls x → Pulled (preceded x c) d total (x ++ y)
+    → Pulled (preceded y a) b total (y ++ x)
 counted_back a b c d pulls total x y h k = record {
   consumed = preceded_then y x a b h.consumed;
   each_gave = omega (arith, k.each_gave, length-append x y, length-append y x);
@@ -155,7 +184,8 @@ counted_back a b c d pulls total x y h k = record {
 }
 
 -- the part of a piece that a header ends in, and the part that is left in the intake
-pub head_pulled : (start now : Option (List ℕ)) (old new : Unread) (held piece : List ℕ) (taken : ℕ) → new.pulls ≡ old.pulls → piece ≡ old.bytes → new.bytes ≡ drop taken old.bytes
+pub head_pulled : (start now : Option (List ℕ)) (old new : Unread) (held piece : List ℕ) (taken : ℕ) → new.pulls ≡ old.pulls → piece ≡ old.bytes
+    → new.bytes ≡ drop taken old.bytes
     → Pulled start now old.pulls (held ++ old.bytes) → Pulled start now new.pulls ((held ++ take taken piece) ++ new.bytes)
 head_pulled start now old new held piece taken pulls is rest h =
     let e : held ++ old.bytes ≡ (held ++ take taken piece) ++ new.bytes =
@@ -165,11 +195,14 @@ head_pulled start now old new held piece taken pulls is rest h =
     subst (λ (k : ℕ). Pulled start now k ((held ++ take taken piece) ++ new.bytes)) (sym pulls) (subst (λ (t : List ℕ). Pulled start now old.pulls t) e h)
 
 -- a refill that gave bytes, all of which are counted now
-pub rest_pulled : (start now : Option (List ℕ)) (pulls new_pulls : ℕ) (used passed fresh : List ℕ) → new_pulls ≡ pulls → Pulled start now pulls ((used ++ passed) ++ fresh) → Pulled start now new_pulls (used ++ (passed ++ fresh))
+pub rest_pulled : (start now : Option (List ℕ)) (pulls new_pulls : ℕ) (used passed fresh : List ℕ) → new_pulls ≡ pulls
+    → Pulled start now pulls ((used ++ passed) ++ fresh) → Pulled start now new_pulls (used ++ (passed ++ fresh))
 rest_pulled start now pulls new_pulls used passed fresh same h =
-    subst (λ (k : ℕ). Pulled start now k (used ++ (passed ++ fresh))) (sym same) (subst (λ (t : List ℕ). Pulled start now pulls t) (append_assoc used passed fresh) h)
+    subst (λ (k : ℕ). Pulled start now k (used ++ (passed ++ fresh))) (sym same)
+    (subst (λ (t : List ℕ). Pulled start now pulls t) (append_assoc used passed fresh) h)
 
 -- an answer in other words, where it is known which fault comes
-pub answer_as : {T E : Type 0} {A B : T → Type 0} {C D Q : E → Type 0} (r : Result T E) → MatchResult r A C → IfErr r Q → ((x : T) → A x → B x) → ((y : E) → Q y → C y → D y) → MatchResult r B D
+pub answer_as : {T E : Type 0} {A B : T → Type 0} {C D Q : E → Type 0} (r : Result T E) → MatchResult r A C → IfErr r Q → ((x : T) → A x → B x)
+    → ((y : E) → Q y → C y → D y) → MatchResult r B D
 answer_as (Ok x) a q f g = f x a
 answer_as (Err y) a q f g = g y q a

@@ -58,7 +58,8 @@ abbrev Right : List ℕ → Option (List ℕ) → Option Position → Type 0
 Right text taken position = TookBeginning text taken × IfSome position (CarriesText text)
 
 -- nothing was written
-none_right : (text : List ℕ) (old new : Ports) (written : ℕ) (position : Option Position) → old.sink.taken ≡ Some [] → WritesNone old new written position → Right text new.sink.taken position
+none_right : (text : List ℕ) (old new : Ports) (written : ℕ) (position : Option Position) → old.sink.taken ≡ Some [] → WritesNone old new written position
+    → Right text new.sink.taken position
 none_right text old new written position empty w =
     (record { out = []; told = took old.sink.taken new.sink.taken [] empty w.0; begins = (text, refl) }, none_carries (CarriesText text) position w.2)
 
@@ -73,8 +74,10 @@ run_right text keep A old new written position r empty is of at auth = (
 
 -- ---- a decryption
 
-module _ (text : List ℕ) (few : chunk_count 65536 text ≤ 281474976710656) (keep : Positions) (A : Header → List ℕ → Type 0) (R : Header → KeyFault → Type 0) where
-  stop_right : (old new : Ports) (written : ℕ) (position : Option Position) (fault : FileFault) → old.sink.taken ≡ Some [] → (f : DecryptFails keep A R old new written position fault)
+module _ (text : List ℕ) (few : chunk_count 65536 text ≤ 281474976710656) (keep : Positions) (A : Header → List ℕ → Type 0) (R : Header → KeyFault
+    → Type 0) where
+  stop_right : (old new : Ports) (written : ℕ) (position : Option Position) (fault : FileFault) → old.sink.taken ≡ Some []
+      → (f : DecryptFails keep A R old new written position fault)
       → StopIsTexts text keep A R old new written position fault f → Right text new.sink.taken position
   stop_right old new written position (Stream x) empty f auth =
       run_right text keep A old new written position f.0 empty f.2.0.is f.2.0.of f.2.1 (from_start f.0 f.1 text few auth)
@@ -90,8 +93,10 @@ module _ (text : List ℕ) (few : chunk_count 65536 text ≤ 281474976710656) (k
 
 -- ---- a resumed one, where the old text begins the text
 
-module _ (text : List ℕ) (few : chunk_count 65536 text ≤ 281474976710656) (keep : Positions) (A : Header → List ℕ → Type 0) (R : Header → KeyFault → Type 0) where
-  module _ (p : Position) (old new : ResumePorts) (written : ℕ) (position : Option Position) (empty : old.main.sink.taken ≡ Some []) (before : TookBeginning text old.old.remaining) where
+module _ (text : List ℕ) (few : chunk_count 65536 text ≤ 281474976710656) (keep : Positions) (A : Header → List ℕ → Type 0) (R : Header → KeyFault
+    → Type 0) where
+  module _ (p : Position) (old new : ResumePorts) (written : ℕ) (position : Option Position) (empty : old.main.sink.taken ≡ Some [])
+      (before : TookBeginning text old.old.remaining) where
     copied_begins : (copied : List ℕ) → WritesOld p old new written copied → IsPrefixOf copied text
     copied_begins copied w = prefix_trans copied w.pulled text w.front (pulled_begins text old.old.remaining new.old.remaining w.pulled before w.read)
 
@@ -102,8 +107,11 @@ module _ (text : List ℕ) (few : chunk_count 65536 text ≤ 281474976710656) (k
     in_old_right s = (old_right s.copied s.writes, none_carries (CarriesText text) position s.none)
 
     in_skipped_right : (skipped : List ℕ) → StopsInSkipped keep A p old new written position skipped → Right text new.main.sink.taken position
-    in_skipped_right skipped s =
-        (old_right s.copied s.writes, some_told keep (IsSame p) (CarriesText text) position s.here (λ q same. same_carries p q s.copied text s.old_text (copied_begins s.copied s.writes) same))
+    in_skipped_right skipped s = (
+      old_right s.copied s.writes,
+      some_told keep (IsSame p) (CarriesText text) position s.here (λ q same. same_carries p q s.copied text s.old_text
+          (copied_begins s.copied s.writes) same),
+    )
 
     run_authentic : (r : Run) → IsFrom p old.old new.old r → IsTexts text r → IsAuthenticRun r text
     run_authentic r from auth =
@@ -114,7 +122,8 @@ module _ (text : List ℕ) (few : chunk_count 65536 text ≤ 281474976710656) (k
         → IsTexts text r → Right text new.main.sink.taken position
     resumed_right r from is of at auth = run_right text keep A old.main new.main written position r empty is of at (run_authentic r from auth)
 
-    next_right : (fault : FileFault) (f : ResumeFails keep A p R old new written position fault) → NextStopIsTexts text keep A p R old new written position fault f → Right text new.main.sink.taken position
+    next_right : (fault : FileFault) (f : ResumeFails keep A p R old new written position fault)
+        → NextStopIsTexts text keep A p R old new written position fault f → Right text new.main.sink.taken position
     next_right OtherFile f auth = none_right text old.main new.main written position empty f.0
     next_right PositionForged f auth = none_right text old.main new.main written position empty f.0
     next_right ShortText f auth = in_old_right f.0
@@ -139,25 +148,32 @@ began : (text : List ℕ) (taken : Option (List ℕ)) (result : Result Done Stop
 began text taken (Ok done) a = record { out = text; told = a; begins = ([], append-nil text) }
 began text taken (Err stopped) a = a.0
 
-module _ (Who : Type 0) (Allows : Who → Header → List ℕ → Type 0) (Refused : Who → Header → KeyFault → Type 0) (text : List ℕ) (few : chunk_count 65536 text ≤ 281474976710656) where
-  first_right : (keep : Positions) (who : Who) (old new : Ports) (result : Result Done Stopped) → old.sink.taken ≡ Some [] → (f : DecryptAnswers Who Allows Refused keep who old new result)
+module _ (Who : Type 0) (Allows : Who → Header → List ℕ → Type 0) (Refused : Who → Header → KeyFault → Type 0) (text : List ℕ) (few : chunk_count 65536 text
+    ≤ 281474976710656) where
+  first_right : (keep : Positions) (who : Who) (old new : Ports) (result : Result Done Stopped) → old.sink.taken ≡ Some []
+      → (f : DecryptAnswers Who Allows Refused keep who old new result)
       → AnswerIsTexts Who Allows Refused text keep who old new result f → AnswersRight text new.sink.taken result
   first_right keep who old new (Ok done) empty f auth =
       took old.sink.taken new.sink.taken (held f.0) empty f.2.wrote.is.wrote ∙ ap Some (f.2.all text (from_start f.0 f.1 text few auth))
   first_right keep who old new (Err s) empty f auth = stop_right text few keep (Allows who) (Refused who) old new s.written s.position s.fault empty f auth
 
-  call_right : (keep : Positions) (who : Who) (p : Position) (old new : ResumePorts) (result : Result Done Stopped) → old.main.sink.taken ≡ Some [] → TookBeginning text old.old.remaining
-      → (f : ResumeAnswers Who Allows Refused keep who p old new result) → NextAnswerIsTexts Who Allows Refused text keep who p old new result f → AnswersRight text new.main.sink.taken result
+  call_right : (keep : Positions) (who : Who) (p : Position) (old new : ResumePorts) (result : Result Done Stopped) → old.main.sink.taken ≡ Some []
+      → TookBeginning text old.old.remaining
+      → (f : ResumeAnswers Who Allows Refused keep who p old new result) → NextAnswerIsTexts Who Allows Refused text keep who p old new result f
+      → AnswersRight text new.main.sink.taken result
   call_right keep who p old new (Ok done) empty before f auth =
       let whole = run_authentic text few keep (Allows who) (Refused who) p old new done.written None empty before f.0 f.1 auth in
       took old.main.sink.taken new.main.sink.taken (held f.0) empty f.2.wrote.is.wrote ∙ ap Some (f.2.all text whole)
-  call_right keep who p old new (Err s) empty before f auth = next_right text few keep (Allows who) (Refused who) p old new s.written s.position empty before s.fault f auth
+  call_right keep who p old new (Err s) empty before f auth = next_right text few keep (Allows who) (Refused who) p old new s.written s.position empty
+      before s.fault f auth
 
-  last_began : (first : FirstCall Who Allows Refused) (calls : List (NextCall Who Allows Refused)) → AllAnswerRight Who Allows Refused text first calls → TookBeginning text (taken Who Allows Refused first calls)
+  last_began : (first : FirstCall Who Allows Refused) (calls : List (NextCall Who Allows Refused)) → AllAnswerRight Who Allows Refused text first calls
+      → TookBeginning text (taken Who Allows Refused first calls)
   last_began first [] a = began text first.new.sink.taken first.result a
   last_began first (c ∷ earlier) a = began text c.new.main.sink.taken c.result a.0
 
-  pub in_a_row : (first : FirstCall Who Allows Refused) (calls : List (NextCall Who Allows Refused)) → AreInARow Who Allows Refused first calls → AreTexts Who Allows Refused text first calls
+  pub in_a_row : (first : FirstCall Who Allows Refused) (calls : List (NextCall Who Allows Refused)) → AreInARow Who Allows Refused first calls
+      → AreTexts Who Allows Refused text first calls
       → AllAnswerRight Who Allows Refused text first calls
   in_a_row first [] row auth = first_right first.keep first.who first.old first.new first.result first.empty first.answers auth
   in_a_row first (c ∷ earlier) row auth =

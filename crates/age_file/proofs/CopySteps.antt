@@ -29,7 +29,8 @@ chain_more n i out chunk whole size =
     ∙ ap (λ (c : List ℕ). first_chunks n i out ++ c ∷ []) last)
     ∙ chain_on (first_chunks n i out) chunk
 
-copy_fails : (x y z : Side) (a b c : Tally) (p q : List ℕ) (fault : FileFault) → Passes x y p → b.sink.failed ≡ a.sink.failed → CopyFails y z b c q fault → CopyFails x z a c (p ++ q) fault
+copy_fails : (x y z : Side) (a b c : Tally) (p q : List ℕ) (fault : FileFault) → Passes x y p → b.sink.failed ≡ a.sink.failed → CopyFails y z b c q fault
+    → CopyFails x z a c (p ++ q) fault
 copy_fails x y z a b c p q ShortText f same g = (passes_then x y z p q f g.0, g.1, g.2, g.3 ∙ same)
 copy_fails x y z a b c p q Write f same g =
     let more : IsPrefixOf (p ++ q) ((p ++ g.0) ++ z.unread.bytes) =
@@ -40,8 +41,10 @@ copy_fails x y z a b c p q ReadNeverEnds f same g = (dries_then x y z p q ReadNe
 copy_fails x y z a b c p q other f same g = absurd g
 
 -- whole chunks, and then one that was not copied
-pub chunk_failed : (n chunks i : ℕ) (x y z : Side) (a b c : Tally) (p : List ℕ) (fault : FileFault) → length p ≡ i * n → i < chunks → Passes x y p → Appends a.sink.taken b.sink.taken p
-    → b.sink.label ≡ a.sink.label → b.sink.failed ≡ a.sink.failed → b.progress.written ≡ a.progress.written + length p → CopiesChunk n y z b c (Err fault) → CopiesAll n chunks x z a c (Err fault)
+pub chunk_failed : (n chunks i : ℕ) (x y z : Side) (a b c : Tally) (p : List ℕ) (fault : FileFault) → length p ≡ i * n → i < chunks → Passes x y p
+    → Appends a.sink.taken b.sink.taken p
+    → b.sink.label ≡ a.sink.label → b.sink.failed ≡ a.sink.failed → b.progress.written ≡ a.progress.written + length p → CopiesChunk n y z b c (Err fault)
+    → CopiesAll n chunks x z a c (Err fault)
 chunk_failed n chunks i x y z a b c p fault size lt f wrote named same count g = record {
   out = p ++ g.out;
   wrote = Appends-then a.sink.taken b.sink.taken c.sink.taken p g.out wrote g.wrote;
@@ -55,7 +58,8 @@ pub front_written : (used out unwritten bytes : List ℕ) (n : ℕ) → take n b
 front_written used out unwritten bytes n parts = (
   unwritten ++ drop n bytes,
   append_assoc used out (unwritten ++ drop n bytes)
-      ∙ ap (λ (t : List ℕ). used ++ t) (sym (append_assoc out unwritten (drop n bytes)) ∙ ap (λ (t : List ℕ). t ++ drop n bytes) (sym parts) ∙ take-append-drop n bytes),
+      ∙ ap (λ (t : List ℕ). used ++ t) (sym (append_assoc out unwritten (drop n bytes)) ∙ ap (λ (t : List ℕ). t ++ drop n bytes) (sym parts)
+      ∙ take-append-drop n bytes),
 )
 
 -- a pull gave no more

@@ -40,13 +40,19 @@ min_is x n i j positive low le (inr same) =
 pub no_piece : (s : Segment) → with_piece s [] ≡ s
 no_piece s = nothing s.start s.bytes s.ended s.late where
   nothing : (start : ℕ) (bytes : List ℕ) (ended late : Bool)
-      → with_piece (record { start = start; bytes = bytes; ended = ended; late = late }) [] ≡ record { start = start; bytes = bytes; ended = ended; late = late }
+      → with_piece (record { start = start; bytes = bytes; ended = ended; late = late }) [] ≡ record {
+        start = start;
+        bytes = bytes;
+        ended = ended;
+        late = late;
+      }
   nothing start bytes true late = ap (λ (l : Bool). record { start = start; bytes = bytes; ended = true; late = l }) (or-false late)
   nothing start bytes false late = ap (λ (b : List ℕ). record { start = start; bytes = b; ended = false; late = late }) (append-nil bytes)
 
 pub piece_start : (s : Segment) (piece : List ℕ) → (with_piece s piece).start ≡ s.start
 piece_start s piece = start_of s.start s.bytes s.ended s.late where
-  start_of : (start : ℕ) (bytes : List ℕ) (ended late : Bool) → (with_piece (record { start = start; bytes = bytes; ended = ended; late = late }) piece).start ≡ start
+  start_of : (start : ℕ) (bytes : List ℕ) (ended late : Bool) → (with_piece (record { start = start; bytes = bytes; ended = ended; late = late }) piece).start
+      ≡ start
   start_of start bytes true late = refl
   start_of start bytes false late = refl
 
@@ -64,7 +70,8 @@ pub no_chain : replicate 32 0 ≡ chain []
 unfolding chain
 no_chain = refl
 
-module _ (sealing : List ℕ → List ℕ → List ℕ) (opening : List ℕ → List ℕ → Option (List ℕ)) (valid : IsChunkBox sealing opening) (n : ℕ) (positive : 0 < n) (keep : Positions) where
+module _ (sealing : List ℕ → List ℕ → List ℕ) (opening : List ℕ → List ℕ → Option (List ℕ)) (valid : IsChunkBox sealing opening) (n : ℕ) (positive : 0
+    < n) (keep : Positions) where
   abbrev at : Segment → ℕ
   at s = (outcome opening n s).index
 
@@ -76,7 +83,8 @@ module _ (sealing : List ℕ → List ℕ → List ℕ) (opening : List ℕ → 
   index_stays s piece timely = (released_grows opening n s piece timely).1
 
   -- open segments have released whole chunks alone
-  open_text : (base : List ℕ) (s : Segment) → length base ≡ s.start * n → counted opening n s ≡ (outcome opening n s).texts → length (base ++ released opening n s) ≡ at s * n
+  open_text : (base : List ℕ) (s : Segment) → length base ≡ s.start * n → counted opening n s ≡ (outcome opening n s).texts
+      → length (base ++ released opening n s) ≡ at s * n
   open_text base s len all =
       let c = chunks_are_counted sealing opening valid n base s len in
       let text = base ++ released opening n s in
@@ -90,15 +98,18 @@ module _ (sealing : List ℕ → List ℕ → List ℕ) (opening : List ℕ → 
       omega (arith, c.count, length-take (at s - s.start) (outcome opening n s).texts)
 
   -- a segment is open, or more bytes leave its index
-  stays : (s : Segment) → IsTimely s → ((outcome opening n s).status ≡ Open) ⊎ ((more : List ℕ) → (at (with_piece s more) ≡ at s) × ((outcome opening n (with_piece s more)).texts ≡ (outcome opening n s).texts))
+  stays : (s : Segment) → IsTimely s → ((outcome opening n s).status ≡ Open) ⊎ ((more : List ℕ) → (at (with_piece s more) ≡ at s)
+      × ((outcome opening n (with_piece s more)).texts ≡ (outcome opening n s).texts))
   stays s timely = by_status (outcome opening n s).status refl where
     by_status : (status : Status) → (outcome opening n s).status ≡ status
-        → ((outcome opening n s).status ≡ Open) ⊎ ((more : List ℕ) → (at (with_piece s more) ≡ at s) × ((outcome opening n (with_piece s more)).texts ≡ (outcome opening n s).texts))
+        → ((outcome opening n s).status ≡ Open) ⊎ ((more : List ℕ) → (at (with_piece s more) ≡ at s)
+        × ((outcome opening n (with_piece s more)).texts ≡ (outcome opening n s).texts))
     by_status Open e = inl e
     by_status other e = inr (λ more. let after = (closed_stays opening n s timely (λ o. cc)).0 more in (after.index, after.texts))
 
   -- all was written
-  pub mark_all : (base : List ℕ) (s : Segment) (p : Progress) → length base ≡ s.start * n → IsTimely s → p.index ≡ at s → p.chain ≡ chain_if keep (first_chunks n p.index (base ++ released opening n s))
+  pub mark_all : (base : List ℕ) (s : Segment) (p : Progress) → length base ≡ s.start * n → IsTimely s → p.index ≡ at s → p.chain
+      ≡ chain_if keep (first_chunks n p.index (base ++ released opening n s))
       → CountsChunks keep opening n base s [] p
   mark_all base s p len timely index chain_is =
       let text = base ++ released opening n s in
@@ -111,7 +122,8 @@ module _ (sealing : List ℕ → List ℕ → List ℕ) (opening : List ℕ → 
               | inl o ↦ (let e : (at s + 1) * n ≡ at s * n + n = omega arith in inl (omega (arith, open_text base s len (c.all o), e, positive)))
               | inr same ↦ inr (same more).0
             ] in
-            index ∙ (min_is (length text) n (at s) (at (with_piece s more)) positive c.within (index_stays s more timely) side ∙ ap (λ (k : ℕ). min (k / n) (at (with_piece s more))) (sym x));
+            index ∙ (min_is (length text) n (at s) (at (with_piece s more)) positive c.within (index_stays s more timely) side
+            ∙ ap (λ (k : ℕ). min (k / n) (at (with_piece s more))) (sym x));
         chain_is = chain_is;
       }
 
@@ -121,7 +133,8 @@ module _ (sealing : List ℕ → List ℕ → List ℕ) (opening : List ℕ → 
       let text = base ++ released opening n s in
       let c = chunks_are_counted sealing opening valid n base s len in
       let x : length text - 0 ≡ length text = omega arith in
-      let e : p.index ≡ min (length text / n) (at s) = m.index [] ∙ (ap (λ (t : Segment). min ((length text - 0) / n) (at t)) (no_piece s) ∙ ap (λ (k : ℕ). min (k / n) (at s)) x) in
+      let e : p.index ≡ min (length text / n) (at s) = m.index [] ∙ (ap (λ (t : Segment). min ((length text - 0) / n) (at t)) (no_piece s)
+      ∙ ap (λ (k : ℕ). min (k / n) (at s)) x) in
       let below : at s ≤ length text / n = (le-div_iff_mul-le positive).1 c.within in
       omega (arith, e, below)
 
@@ -131,24 +144,28 @@ module _ (sealing : List ℕ → List ℕ → List ℕ) (opening : List ℕ → 
   front_stays base s next more len e =
       let c = chunks_are_counted sealing opening valid n base s len in
       ap (λ (t : List ℕ). first_chunks n (at s) (base ++ t)) e
-      ∙ (ap (first_chunks n (at s)) (sym (append_assoc base (released opening n s) more)) ∙ first_chunks-append n (at s) (base ++ released opening n s) more c.within)
+      ∙ (ap (first_chunks n (at s)) (sym (append_assoc base (released opening n s) more))
+      ∙ first_chunks-append n (at s) (base ++ released opening n s) more c.within)
 
   -- texts of the piece that came
   record IsMore (s : Segment) (piece : List ℕ) (ts : List (List ℕ)) : Type 0 where
     texts : (outcome opening n (with_piece s piece)).texts ≡ (outcome opening n s).texts ++ ts
     few : length ts ≤ 1
 
-  more_released : (s : Segment) (piece : List ℕ) (ts : List (List ℕ)) → IsMore s piece ts → released opening n (with_piece s piece) ≡ released opening n s ++ flat_map (λ (t : List ℕ). t) ts
+  more_released : (s : Segment) (piece : List ℕ) (ts : List (List ℕ)) → IsMore s piece ts → released opening n (with_piece s piece)
+      ≡ released opening n s ++ flat_map (λ (t : List ℕ). t) ts
   more_released s piece ts m = ap (flat_map (λ (t : List ℕ). t)) m.texts ∙ flat_map-append (λ (t : List ℕ). t) (outcome opening n s).texts ts
 
   -- the index rose: by one, and the text that came is one chunk more
   record IsRaised (base : List ℕ) (s : Segment) (piece : List ℕ) (ts : List (List ℕ)) : Type 0 where
     by_one : at (with_piece s piece) ≡ at s + 1
     one : length ts ≡ 1
-    chunks : first_chunks n (at (with_piece s piece)) (base ++ released opening n (with_piece s piece)) ≡ first_chunks n (at s) (base ++ released opening n s) ++ ts
+    chunks : first_chunks n (at (with_piece s piece)) (base ++ released opening n (with_piece s piece))
+        ≡ first_chunks n (at s) (base ++ released opening n s) ++ ts
     whole : length (base ++ released opening n (with_piece s piece)) ≡ at (with_piece s piece) * n
 
-  raised : (base : List ℕ) (s : Segment) (piece : List ℕ) (ts : List (List ℕ)) → length base ≡ s.start * n → IsTimely s → IsMore s piece ts → at s < at (with_piece s piece)
+  raised : (base : List ℕ) (s : Segment) (piece : List ℕ) (ts : List (List ℕ)) → length base ≡ s.start * n → IsTimely s → IsMore s piece ts → at s
+      < at (with_piece s piece)
       → IsRaised base s piece ts
   raised base s piece ts len timely m lt =
       let next = with_piece s piece in
@@ -163,7 +180,8 @@ module _ (sealing : List ℕ → List ℕ → List ℕ) (opening : List ℕ → 
       let most = texts_len base next len' in
       let by_one : at next ≡ at s + 1 = omega (arith, lt, most, start, size, count, m.few) in
       let one : length ts ≡ 1 = omega (arith, lt, most, start, size, count, m.few) in
-      let all : counted opening n next ≡ texts ++ ts = ap (take (at next - next.start)) m.texts ∙ take_all (at next - next.start) (texts ++ ts) (omega (arith, length-append texts ts, by_one, one, count, start)) in
+      let all : counted opening n next ≡ texts ++ ts = ap (take (at next - next.start)) m.texts
+      ∙ take_all (at next - next.start) (texts ++ ts) (omega (arith, length-append texts ts, by_one, one, count, start)) in
       let base_chunks = first_chunks n s.start base in
       let here : first_chunks n (at s) (base ++ released opening n s) ≡ base_chunks ++ texts =
       c.chunks (at s) (omega arith)
@@ -173,7 +191,15 @@ module _ (sealing : List ℕ → List ℕ → List ℕ) (opening : List ℕ → 
       c'.chunks (at next) (omega arith)
       ∙ (ap (λ (xs : List (List ℕ)). take (at next) (first_chunks n next.start base ++ xs)) all
       ∙ (ap (λ (k : ℕ). take (at next) (first_chunks n k base ++ (texts ++ ts))) start
-      ∙ take_all (at next) (base_chunks ++ (texts ++ ts)) (omega (arith, length-append base_chunks (texts ++ ts), length-append texts ts, length-first_chunks n s.start base, count, by_one, one)))) in
+      ∙ take_all (at next) (base_chunks ++ (texts ++ ts)) (omega (
+        arith,
+        length-append base_chunks (texts ++ ts),
+        length-append texts ts,
+        length-first_chunks n s.start base,
+        count,
+        by_one,
+        one,
+      )))) in
       record {
         by_one = by_one;
         one = one;
@@ -191,7 +217,8 @@ module _ (sealing : List ℕ → List ℕ → List ℕ) (opening : List ℕ → 
   one_text (t ∷ u ∷ us) e = absurd (omega (arith, e))
 
   -- a call that took bytes, and what it lent was written whole
-  pub mark_step : (base : List ℕ) (s : Segment) (piece : List ℕ) (ts : List (List ℕ)) (index : ℕ) (was now : Progress) → length base ≡ s.start * n → IsTimely s → IsTimely (with_piece s piece)
+  pub mark_step : (base : List ℕ) (s : Segment) (piece : List ℕ) (ts : List (List ℕ)) (index : ℕ) (was now : Progress) → length base ≡ s.start * n
+      → IsTimely s → IsTimely (with_piece s piece)
       → (outcome opening n (with_piece s piece)).texts ≡ (outcome opening n s).texts ++ ts → length ts ≤ 1 → index ≡ at (with_piece s piece)
       → Advances was.index was.chain index (link_if was.chain (flat_map (λ (t : List ℕ). t) ts)) now
       → CountsChunks keep opening n base s [] was → CountsChunks keep opening n base (with_piece s piece) [] now
@@ -207,7 +234,8 @@ module _ (sealing : List ℕ → List ℕ → List ℕ) (opening : List ℕ → 
             let f = a.further (omega (arith, old, is, lt)) in
             let chunk = flat_map (λ (t : List ℕ). t) ts in
             let e : first_chunks n (at next) (base ++ released opening n next) ≡ first_chunks n was.index (base ++ released opening n s) ++ chunk ∷ [] =
-            r.chunks ∙ (ap (λ (k : ℕ). first_chunks n k (base ++ released opening n s) ++ ts) (sym old) ∙ ap (λ (xs : List (List ℕ)). first_chunks n was.index (base ++ released opening n s) ++ xs) (one_text ts r.one)) in
+            r.chunks ∙ (ap (λ (k : ℕ). first_chunks n k (base ++ released opening n s) ++ ts) (sym old)
+            ∙ ap (λ (xs : List (List ℕ)). first_chunks n was.index (base ++ released opening n s) ++ xs) (one_text ts r.one)) in
             mark_all base next now len' timely' (f.0 ∙ is)
             (f.1 ∙ (ap (λ (l : Option (List ℕ)). link_if l chunk) m.chain_is
             ∙ (sym (chain_if_on keep (first_chunks n was.index (base ++ released opening n s)) chunk)
@@ -223,7 +251,8 @@ module _ (sealing : List ℕ → List ℕ → List ℕ) (opening : List ℕ → 
 
   -- a call that lent nothing
   pub mark_none : (base : List ℕ) (s : Segment) (piece : List ℕ) (was : Progress) → length base ≡ s.start * n → IsTimely s → IsTimely (with_piece s piece)
-      → (outcome opening n (with_piece s piece)).texts ≡ (outcome opening n s).texts ++ [] → CountsChunks keep opening n base s [] was → CountsChunks keep opening n base (with_piece s piece) [] was
+      → (outcome opening n (with_piece s piece)).texts ≡ (outcome opening n s).texts ++ [] → CountsChunks keep opening n base s [] was
+      → CountsChunks keep opening n base (with_piece s piece) [] was
   mark_none base s piece was len timely timely' texts m =
       let next = with_piece s piece in
       let len' : length base ≡ next.start * n = len ∙ ap (λ (k : ℕ). k * n) (sym (piece_start s piece)) in
@@ -245,11 +274,20 @@ module _ (sealing : List ℕ → List ℕ → List ℕ) (opening : List ℕ → 
   cut_len : (base : List ℕ) (s next : Segment) (out unwritten : List ℕ) → released opening n next ≡ released opening n s ++ (out ++ unwritten)
       → length (base ++ released opening n next) - length unwritten ≡ length (base ++ released opening n s) + length out
   cut_len base s next out unwritten e =
-      omega (arith, length-append base (released opening n next), ap length e, length-append (released opening n s) (out ++ unwritten), length-append out unwritten, length-append base (released opening n s))
+      omega (
+        arith,
+        length-append base (released opening n next),
+        ap length e,
+        length-append (released opening n s) (out ++ unwritten),
+        length-append out unwritten,
+        length-append base (released opening n s),
+      )
 
   -- the same, and some of what it lent was not written
-  pub mark_cut : (base : List ℕ) (s : Segment) (piece : List ℕ) (ts : List (List ℕ)) (out unwritten : List ℕ) (was now : Progress) → length base ≡ s.start * n → IsTimely s → IsTimely (with_piece s piece)
-      → (outcome opening n (with_piece s piece)).texts ≡ (outcome opening n s).texts ++ ts → length ts ≤ 1 → flat_map (λ (t : List ℕ). t) ts ≡ out ++ unwritten → 0 < length unwritten
+  pub mark_cut : (base : List ℕ) (s : Segment) (piece : List ℕ) (ts : List (List ℕ)) (out unwritten : List ℕ) (was now : Progress) → length base
+      ≡ s.start * n → IsTimely s → IsTimely (with_piece s piece)
+      → (outcome opening n (with_piece s piece)).texts ≡ (outcome opening n s).texts ++ ts → length ts ≤ 1 → flat_map (λ (t : List ℕ). t) ts ≡ out ++ unwritten
+      → 0 < length unwritten
       → now.index ≡ was.index → now.chain ≡ was.chain
       → CountsChunks keep opening n base s [] was → CountsChunks keep opening n base (with_piece s piece) unwritten now
   mark_cut base s piece ts out unwritten was now len timely timely' texts few parts some index chain_same m =
@@ -264,7 +302,8 @@ module _ (sealing : List ℕ → List ℕ → List ℕ) (opening : List ℕ → 
       let e = more_released s piece ts more_is ∙ ap (λ (t : List ℕ). released opening n s ++ t) parts in
       let left = cut_len base s next out unwritten e in
       let lent : 0 < length (flat_map (λ (t : List ℕ). t) ts) = omega (arith, ap length parts, length-append out unwritten, some) in
-      let size : length (outcome opening n next).texts ≡ length (outcome opening n s).texts + length ts = ap length texts ∙ length-append (outcome opening n s).texts ts in
+      let size : length (outcome opening n next).texts ≡ length (outcome opening n s).texts + length ts = ap length texts
+      ∙ length-append (outcome opening n s).texts ts in
       -- it lent something, so it was open
       let o : (outcome opening n s).status ≡ Open =
       elim (stays s timely) [
@@ -285,23 +324,37 @@ module _ (sealing : List ℕ → List ℕ → List ℕ) (opening : List ℕ → 
               | inl lt ↦
                   (let r = raised base s piece ts len timely more_is lt in
                   let all : length text' ≡ at s * n + n = r.whole ∙ (ap (λ (k : ℕ). k * n) r.by_one ∙ step) in
-                  inl (omega (arith, all, some, step, left, ap length e, length-append base (released opening n next), length-append (released opening n s) (out ++ unwritten), length-append out unwritten, length-append base (released opening n s))))
+                  inl (omega (
+                    arith,
+                    all,
+                    some,
+                    step,
+                    left,
+                    ap length e,
+                    length-append base (released opening n next),
+                    length-append (released opening n s) (out ++ unwritten),
+                    length-append out unwritten,
+                    length-append base (released opening n s),
+                  )))
               | inr le ↦
                   (let same : at next ≡ at s = omega (arith, le, index_stays s piece timely) in
                   elim (stays next timely') [
                     | inl o' ↦
-                        (let count' : next.start + length (outcome opening n next).texts ≡ at next = ap (λ (xs : List (List ℕ)). next.start + length xs) (sym (c'.all o')) ∙ c'.count in
+                        (let count' : next.start + length (outcome opening n next).texts
+                        ≡ at next = ap (λ (xs : List (List ℕ)). next.start + length xs) (sym (c'.all o')) ∙ c'.count in
                         absurd (some_text (omega (arith, count', count, size, same, start))))
                     | inr still ↦ inr ((still more).0 ∙ same)
                   ])
             ] in
             index ∙ (old ∙ min_is (length text' - length unwritten) n (at s) j positive (omega (arith, left, whole)) grows side);
         chain_is = chain_same ∙ (m.chain_is ∙ (ap (λ (k : ℕ). chain_if keep (first_chunks n k text)) old
-            ∙ (ap (chain_if keep) (sym (front_stays base s next (out ++ unwritten) len e)) ∙ ap (λ (k : ℕ). chain_if keep (first_chunks n k text')) (sym (index ∙ old)))));
+            ∙ (ap (chain_if keep) (sym (front_stays base s next (out ++ unwritten) len e))
+            ∙ ap (λ (k : ℕ). chain_if keep (first_chunks n k text')) (sym (index ∙ old)))));
       }
 
   -- the end, of whose text so much was written
-  pub mark_end : (base : List ℕ) (s : Segment) (out unwritten : List ℕ) (was now : Progress) → length base ≡ s.start * n → released opening n (with_end s) ≡ released opening n s ++ (out ++ unwritten)
+  pub mark_end : (base : List ℕ) (s : Segment) (out unwritten : List ℕ) (was now : Progress) → length base ≡ s.start * n → released opening n (with_end s)
+      ≡ released opening n s ++ (out ++ unwritten)
       → now.index ≡ was.index → now.chain ≡ was.chain → CountsChunks keep opening n base s [] was → CountsChunks keep opening n base (with_end s) unwritten now
   mark_end base s out unwritten was now len e index chain_same m =
       let next = with_end s in
@@ -318,25 +371,31 @@ module _ (sealing : List ℕ → List ℕ → List ℕ) (opening : List ℕ → 
             let still : j ≡ at s = ((closed_stays opening n next (λ u. cc) closes.0).0 more).index ∙ same in
             index ∙ (old ∙ min_is (length text' - length unwritten) n (at s) j positive (omega (arith, left, c.within)) (omega (arith, still)) (inr still));
         chain_is = chain_same ∙ (m.chain_is ∙ (ap (λ (k : ℕ). chain_if keep (first_chunks n k text)) old
-            ∙ (ap (chain_if keep) (sym (front_stays base s next (out ++ unwritten) len e)) ∙ ap (λ (k : ℕ). chain_if keep (first_chunks n k text')) (sym (index ∙ old)))));
+            ∙ (ap (chain_if keep) (sym (front_stays base s next (out ++ unwritten) len e))
+            ∙ ap (λ (k : ℕ). chain_if keep (first_chunks n k text')) (sym (index ∙ old)))));
       }
 
   -- before any byte
-  pub mark_fresh : (base : List ℕ) (k : ℕ) (p : Progress) → length base ≡ k * n → p.index ≡ k → p.chain ≡ chain_if keep (first_chunks n k base) → CountsChunks keep opening n base (fresh k) [] p
+  pub mark_fresh : (base : List ℕ) (k : ℕ) (p : Progress) → length base ≡ k * n → p.index ≡ k → p.chain ≡ chain_if keep (first_chunks n k base)
+      → CountsChunks keep opening n base (fresh k) [] p
   mark_fresh base k p len index chain_is =
       let none : released opening n (fresh k) ≡ [] = ap (λ (o : Outcome). flat_map (λ (t : List ℕ). t) o.texts) (fresh_is_open opening n k) in
       let same : base ≡ base ++ released opening n (fresh k) = sym (ap (λ (t : List ℕ). base ++ t) none ∙ append-nil base) in
       mark_all base (fresh k) p len (λ _. refl) (index ∙ sym (ap (λ (o : Outcome). o.index) (fresh_is_open opening n k)))
-      (chain_is ∙ (ap (λ (t : List ℕ). chain_if keep (first_chunks n k t)) same ∙ ap (λ (i : ℕ). chain_if keep (first_chunks n i (base ++ released opening n (fresh k)))) (sym index)))
+      (chain_is ∙ (ap (λ (t : List ℕ). chain_if keep (first_chunks n k t)) same
+      ∙ ap (λ (i : ℕ). chain_if keep (first_chunks n i (base ++ released opening n (fresh k)))) (sym index)))
 
   -- and at the end of a run, with bytes behind that were not fed
-  pub marked : (base : List ℕ) (s last : Segment) (more out unwritten : List ℕ) (p : Progress) → with_piece s more ≡ last → released opening n s ≡ out ++ unwritten → CountsChunks keep opening n base s unwritten p
+  pub marked : (base : List ℕ) (s last : Segment) (more out unwritten : List ℕ) (p : Progress) → with_piece s more ≡ last → released opening n s
+      ≡ out ++ unwritten → CountsChunks keep opening n base s unwritten p
       → HasCounted keep opening n (base ++ out) last p
   marked base s last more out unwritten p is parts m =
       let text = base ++ out in
       let left : length (base ++ released opening n s) - length unwritten ≡ length text =
       omega (arith, length-append base (released opening n s), ap length parts, length-append out unwritten, length-append base out) in
-      let e : p.index ≡ min (length text / n) (at last) = m.index more ∙ (ap (λ (t : Segment). min ((length (base ++ released opening n s) - length unwritten) / n) (at t)) is ∙ ap (λ (k : ℕ). min (k / n) (at last)) left) in
+      let e : p.index ≡ min (length text / n) (at last) = m.index more
+      ∙ (ap (λ (t : Segment). min ((length (base ++ released opening n s) - length unwritten) / n) (at t)) is
+      ∙ ap (λ (k : ℕ). min (k / n) (at last)) left) in
       let le : p.index ≤ length text / n = omega (arith, e) in
       let within : p.index * n ≤ length text = (le-div_iff_mul-le positive).0 le in
       record {

@@ -34,7 +34,8 @@ module _ (s : SecretView) (front : List ℕ) (begins : BeginsFile s front) where
       }
 
   -- the sink failed in the front
-  pub front_cut : (old new : Ports) (coming : new.source.remaining ≡ old.source.remaining) (failed : HasRisen old.sink.failed new.sink.failed) (out unwritten : List ℕ) → front ≡ out ++ unwritten → Appends old.sink.taken new.sink.taken out
+  pub front_cut : (old new : Ports) (coming : new.source.remaining ≡ old.source.remaining) (failed : HasRisen old.sink.failed new.sink.failed)
+      (out unwritten : List ℕ) → front ≡ out ++ unwritten → Appends old.sink.taken new.sink.taken out
       → EncryptsFront s old new Write
   front_cut old new coming failed out unwritten parts wrote =
       record {
@@ -44,14 +45,20 @@ module _ (s : SecretView) (front : List ℕ) (begins : BeginsFile s front) where
         is = file_of [];
         read = subst (λ t. Consumes old.source.remaining t []) (sym coming) (Consumes-nil old.source.remaining);
         wrote = wrote;
-        prefix = (unwritten ++ payload (box s.key s.nonce) 65536 [], sym (append_assoc out unwritten (payload (box s.key s.nonce) 65536 [])) ∙ ap (λ (t : List ℕ). t ++ payload (box s.key s.nonce) 65536 []) (sym parts));
+        prefix = (
+          unwritten ++ payload (box s.key s.nonce) 65536 [],
+          sym (append_assoc out unwritten (payload (box s.key s.nonce) 65536 []))
+              ∙ ap (λ (t : List ℕ). t ++ payload (box s.key s.nonce) 65536 []) (sym parts),
+        );
         why = failed;
       }
 
   -- the payload that followed
-  module _ (old mid new : Ports) (mid_written new_written : ℕ) (coming : mid.source.remaining ≡ old.source.remaining) (read_failed : mid.source.failed ≡ old.source.failed) (write_failed : mid.sink.failed ≡ old.sink.failed)
+  module _ (old mid new : Ports) (mid_written new_written : ℕ) (coming : mid.source.remaining ≡ old.source.remaining) (read_failed : mid.source.failed
+      ≡ old.source.failed) (write_failed : mid.sink.failed ≡ old.sink.failed)
       (wrote : Appends old.sink.taken mid.sink.taken front) (count : mid_written ≡ length front) where
-    pub sealed_all : (plain : ℕ) → SealsAll (box s.key s.nonce) 65536 mid new mid_written new_written plain → Encrypts s old new (record { plain = plain; file = new_written })
+    pub sealed_all : (plain : ℕ) → SealsAll (box s.key s.nonce) 65536 mid new mid_written new_written plain
+        → Encrypts s old new (record { plain = plain; file = new_written })
     sealed_all plain a =
         record {
           text = a.text;

@@ -12,7 +12,8 @@ first_chunks_more n zero xs = let z : 0 ≡ 0 * n = omega arith in ap (λ (k : �
 first_chunks_more n (suc c) xs =
     let e : n + c * n ≡ suc c * n = omega arith in
     ap (λ (rest : List (List ℕ)). take n xs ∷ rest)
-    (first_chunks_more n c (drop n xs) ∙ ap (λ (ys : List ℕ). first_chunks n c (drop n xs) ++ take n ys ∷ []) (drop-drop (c * n) n xs ∙ ap (λ (k : ℕ). drop k xs) e))
+    (first_chunks_more n c (drop n xs) ∙ ap (λ (ys : List ℕ). first_chunks n c (drop n xs) ++ take n ys ∷ []) (drop-drop (c * n) n xs
+    ∙ ap (λ (k : ℕ). drop k xs) e))
 
 pub first_chunks-append : (n c : ℕ) (xs ys : List ℕ) → c * n ≤ length xs → first_chunks n c (xs ++ ys) ≡ first_chunks n c xs
 first_chunks-append n zero xs ys h = refl

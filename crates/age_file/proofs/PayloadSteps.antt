@@ -26,16 +26,21 @@ use Rattle.age_file.proofs.ReleaseSteps.{releases_next}
 
 module _ (op : List ℕ → List ℕ → Option (List ℕ)) (n k : ℕ) where
   -- what was written is a beginning of the text of all bytes
-  prefix_of : (fed left out unwritten : List ℕ) → released op n (segment k fed false) ≡ out ++ unwritten → IsPrefixOf out (released op n (segment k (fed ++ left) false))
+  prefix_of : (fed left out unwritten : List ℕ) → released op n (segment k fed false) ≡ out ++ unwritten
+      → IsPrefixOf out (released op n (segment k (fed ++ left) false))
   prefix_of fed left out unwritten e =
       let r = (released_grows op n (segment k fed false) left (λ _. refl)).0 in
       (unwritten ++ r.0, sym (append_assoc out unwritten r.0) ∙ (ap (λ (t : List ℕ). t ++ r.0) (sym e) ∙ r.1))
 
-  exact : (fed left out unwritten : List ℕ) → released op n (segment k fed false) ≡ out ++ unwritten → left ≡ [] → unwritten ≡ [] → out ≡ released op n (segment k (fed ++ left) false)
+  exact : (fed left out unwritten : List ℕ) → released op n (segment k fed false) ≡ out ++ unwritten → left ≡ [] → unwritten ≡ [] → out
+      ≡ released op n (segment k (fed ++ left) false)
   exact fed left out unwritten e none whole =
-      sym (append-nil out) ∙ (ap (λ (t : List ℕ). out ++ t) (sym whole) ∙ (sym e ∙ ap (λ (t : List ℕ). released op n (segment k t false)) (sym (append-nil fed) ∙ ap (λ (t : List ℕ). fed ++ t) (sym none))))
+      sym (append-nil out)
+      ∙ (ap (λ (t : List ℕ). out ++ t) (sym whole)
+      ∙ (sym e ∙ ap (λ (t : List ℕ). released op n (segment k t false)) (sym (append-nil fed) ∙ ap (λ (t : List ℕ). fed ++ t) (sym none))))
 
-module _ {B : Type 0} (sealing : B → List ℕ → List ℕ → List ℕ) (opening : B → List ℕ → List ℕ → Option (List ℕ)) (valid : (key : B) → IsChunkBox (sealing key) (opening key)) (n : ℕ) (positive : 0 < n) where
+module _ {B : Type 0} (sealing : B → List ℕ → List ℕ → List ℕ) (opening : B → List ℕ → List ℕ → Option (List ℕ)) (valid : (key : B)
+    → IsChunkBox (sealing key) (opening key)) (n : ℕ) (positive : 0 < n) where
   abbrev pub stage_of : Flow B → Stage
   stage_of f = record { tally = f.tally; source = f.source; unread = f.unread }
 
@@ -54,27 +59,34 @@ module _ {B : Type 0} (sealing : B → List ℕ → List ℕ → List ℕ) (open
         (o.stands (fresh k) h).status ∙ ap (λ c. (outcome (opening c) n (next (fresh k))).status) (o.key ∙ key)
 
     -- what the progress then counts, behind a base
-    counts_of : (next : Segment → Segment) (old new : OpenerView B) (was now : Tally) (more unwritten : List ℕ) (last : Segment) → old.key ≡ K → Stands opening n old (fresh k)
-        → with_piece (next (fresh k)) more ≡ last → (o : Releases opening n next old new was now unwritten) → (keep : Positions) (base : List ℕ) → length base ≡ k * n → was.progress.index ≡ k
+    counts_of : (next : Segment → Segment) (old new : OpenerView B) (was now : Tally) (more unwritten : List ℕ) (last : Segment) → old.key ≡ K
+        → Stands opening n old (fresh k)
+        → with_piece (next (fresh k)) more ≡ last → (o : Releases opening n next old new was now unwritten) → (keep : Positions) (base : List ℕ)
+        → length base ≡ k * n → was.progress.index ≡ k
         → was.progress.chain ≡ chain_if keep (first_chunks n k base) → HasCounted keep (opening K) n (base ++ o.out) last now.progress
     counts_of next old new was now more unwritten last key h is o keep base len index chain_is =
         let e = from_start next old new was now unwritten key h o in
         let first = mark_fresh (sealing old.key) (opening old.key) (valid old.key) n positive keep base k was.progress len index chain_is in
-        let m = subst (λ c. CountsChunks keep (opening c) n base (next (fresh k)) unwritten now.progress) key (o.counts keep positive (fresh k) base len h first) in
+        let m = subst (λ c. CountsChunks keep (opening c) n base (next (fresh k)) unwritten now.progress) key
+        (o.counts keep positive (fresh k) base len h first) in
         marked (sealing K) (opening K) (valid K) n positive keep base (next (fresh k)) last more o.out unwritten now.progress is e m
 
     stop_fails : (old new : Flow B) (fed left out unwritten : List ℕ) (fault : FileFault) → released (opening K) n (segment k fed false) ≡ out ++ unwritten
         → new.opener.status ≡ (outcome (opening K) n (segment k fed false)).status
         → FlowFails old new left unwritten fault → PayloadFails (opening K) n (stage_of old) (stage_of new) (segment k (fed ++ left) false) out fault
     stop_fails old new fed left out unwritten (Stream f) e s h =
-        let same : fed ≡ fed ++ left = sym (append-nil fed) ∙ ap (λ (t : List ℕ). fed ++ t) (sym h.1) in
-        (ap (λ (t : List ℕ). (outcome (opening K) n (segment k t false)).status) (sym same) ∙ (sym s ∙ h.0), exact (opening K) n k fed left out unwritten e h.1 h.2, h.3)
+        let same : fed ≡ fed ++ left = sym (append-nil fed) ∙ ap (λ (t : List ℕ). fed ++ t) (sym h.1) in (
+          ap (λ (t : List ℕ). (outcome (opening K) n (segment k t false)).status) (sym same) ∙ (sym s ∙ h.0),
+          exact (opening K) n k fed left out unwritten e h.1 h.2,
+          h.3,
+        )
     stop_fails old new fed left out unwritten Write e s h = h
     stop_fails old new fed left out unwritten Read e s h = (exact (opening K) n k fed left out unwritten e h.0 h.1, h.2)
     stop_fails old new fed left out unwritten ReadNeverEnds e s h = (exact (opening K) n k fed left out unwritten e h.0 h.1, h.2, h.3)
     stop_fails old new fed left out unwritten other e s h = absurd h
 
-    pub pour_stopped : (old new : Flow B) (fault : FileFault) → old.opener.key ≡ K → Stands opening n old.opener (fresh k) → OpensAll opening n old new (Err fault)
+    pub pour_stopped : (old new : Flow B) (fault : FileFault) → old.opener.key ≡ K → Stands opening n old.opener (fresh k)
+        → OpensAll opening n old new (Err fault)
         → DecryptsPayload (opening K) n k (stage_of old) (stage_of new) (Err fault)
     pour_stopped old new fault key h a =
         let f = a.flows in
@@ -97,10 +109,13 @@ module _ {B : Type 0} (sealing : B → List ℕ → List ℕ → List ℕ) (open
           answered = stop_fails old new f.fed a.left f.releases.out a.unwritten fault e s a.answered;
         }
 
-    done_or_fails : (old mid : Flow B) (new : OpenerView B) (now : Tally) (bytes out unwritten : List ℕ) (result : Result (Unit {0}) FileFault) → NoneFailed (ports_in old) (ports_in mid)
+    done_or_fails : (old mid : Flow B) (new : OpenerView B) (now : Tally) (bytes out unwritten : List ℕ) (result : Result (Unit {0}) FileFault)
+        → NoneFailed (ports_in old) (ports_in mid)
         → released (opening K) n (segment k bytes true) ≡ out ++ unwritten → new.status ≡ (outcome (opening K) n (segment k bytes true)).status
-        → MatchResult result (λ _. (new.status ≡ Done) × (unwritten ≡ []) × (now.sink.failed ≡ mid.tally.sink.failed)) (FeedFails opening n new mid.tally now [] unwritten)
-        → MatchResult result (λ _. PayloadDone (opening K) n (stage_of old) (record { tally = now; source = mid.source; unread = mid.unread }) (segment k bytes true) out)
+        → MatchResult result (λ _. (new.status ≡ Done) × (unwritten ≡ []) × (now.sink.failed ≡ mid.tally.sink.failed))
+        (FeedFails opening n new mid.tally now [] unwritten)
+        → MatchResult result (λ _. PayloadDone (opening K) n (stage_of old) (record { tally = now; source = mid.source; unread = mid.unread })
+        (segment k bytes true) out)
         (PayloadFails (opening K) n (stage_of old) (record { tally = now; source = mid.source; unread = mid.unread }) (segment k bytes true) out)
     done_or_fails old mid new now bytes out unwritten (Ok u) same e s h =
         (refl, sym s ∙ h.0, sym (append-nil out) ∙ (ap (λ (t : List ℕ). out ++ t) (sym h.1) ∙ sym e), (same.0, h.2 ∙ same.1))
@@ -109,7 +124,8 @@ module _ {B : Type 0} (sealing : B → List ℕ → List ℕ → List ℕ) (open
     done_or_fails old mid new now bytes out unwritten (Err Write) same e s h = subst (λ (x : ℕ). HasRisen x now.sink.failed) same.1 h
     done_or_fails old mid new now bytes out unwritten (Err other) same e s h = absurd h
 
-    pub pour_ended : (old mid : Flow B) (new : OpenerView B) (now : Tally) (result : Result (Unit {0}) FileFault) → old.opener.key ≡ K → Stands opening n old.opener (fresh k)
+    pub pour_ended : (old mid : Flow B) (new : OpenerView B) (now : Tally) (result : Result (Unit {0}) FileFault) → old.opener.key ≡ K
+        → Stands opening n old.opener (fresh k)
         → OpensAll opening n old mid (Ok tt) → Closes opening n mid.opener new mid.tally now result
         → DecryptsPayload (opening K) n k (stage_of old) (record { tally = now; source = mid.source; unread = mid.unread }) result
     pour_ended old mid new now result key h a c =

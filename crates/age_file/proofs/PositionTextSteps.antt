@@ -86,7 +86,8 @@ same_unless xs ys test = same_if xs ys (from_not (pointwise eqb xs ys) test)
     from_not true e = refl
     from_not false e = absurd cc
 
-pub index_read : (r : Option ℕ) (front version : List ℕ) → take 16 front ≡ version → IfSome r (λ index. take (length front - 16) (drop 16 front) ≡ decimal index)
+pub index_read : (r : Option ℕ) (front version : List ℕ) → take 16 front ≡ version → IfSome r (λ index. take (length front - 16) (drop 16 front)
+    ≡ decimal index)
     → IfSome r (λ index. front ≡ version ++ decimal index)
 index_read None front version begins h = tt
 index_read (Some index) front version begins h =
@@ -106,10 +107,12 @@ module _ (field : List ℕ) where
   pub digest_read : IsBytes field → (bytes out : List ℕ) (n : ℕ) → 1 ≤ length field → get_or field 0 0 ≡ 32 → bytes ≡ take n out
       → decode_of standard_no_pad (take (length field - 1) (drop 1 field)) ≡ Ok (take n out) → field ≡ field_text bytes
   digest_read fits bytes out n size first same decoded =
-      let e : drop 1 field ≡ text (take n out) = text_of_decoded (drop 1 field) (take n out) (IsBytes-drop 1 field fits) (ap (decode_of standard_no_pad) behind ∙ decoded) in
+      let e : drop 1 field ≡ text (take n out) = text_of_decoded (drop 1 field) (take n out) (IsBytes-drop 1 field fits) (ap (decode_of standard_no_pad) behind
+      ∙ decoded) in
       with_first field (text bytes) size first (e ∙ ap text (sym same))
 
-  pub digest_short : (bytes out : List ℕ) (n : ℕ) → (n ≡ 32 → ⊥) → n ≤ length out → decode_of standard_no_pad (take (length field - 1) (drop 1 field)) ≡ Ok (take n out)
+  pub digest_short : (bytes out : List ℕ) (n : ℕ) → (n ≡ 32 → ⊥) → n ≤ length out → decode_of standard_no_pad (take (length field - 1) (drop 1 field))
+      ≡ Ok (take n out)
       → IsDigest bytes → field ≡ field_text bytes → ⊥
   digest_short bytes out n differs room decoded digest e =
       differs (decoded_size (drop 1 field) bytes out n room (ap (decode_of standard_no_pad) behind ∙ decoded) digest.fits (ap (drop 1) e) ∙ digest.size)
@@ -132,7 +135,8 @@ module _ (fields id links tag : List ℕ) (d1 : IsDigest id) (d2 : IsDigest link
   after_first = back_is (field_text id) (field_text links ++ (field_text tag ++ codes "\n")) fields 44 (length-field id d1) e
 
   after_second : drop 88 fields ≡ field_text tag ++ codes "\n"
-  after_second = sym (drop-drop 44 44 fields) ∙ back_is (field_text links) (field_text tag ++ codes "\n") (drop 44 fields) 44 (length-field links d2) after_first
+  after_second = sym (drop-drop 44 44 fields) ∙ back_is (field_text links) (field_text tag ++ codes "\n") (drop 44 fields) 44 (length-field links d2)
+      after_first
 
   after_third : drop 132 fields ≡ codes "\n"
   after_third = sym (drop-drop 44 88 fields) ∙ back_is (field_text tag) (codes "\n") (drop 88 fields) 44 (length-field tag d3) after_second
@@ -156,14 +160,17 @@ pub fields_are : (fields id links tag : List ℕ) → length fields ≡ 133 → 
     → take 44 (drop 88 fields) ≡ field_text tag → get_or fields 132 0 ≡ 10 → fields ≡ fields_text id links tag
 fields_are fields id links tag size a b c d =
     let end : drop 132 fields ≡ 10 ∷ [] = one_element (drop 132 fields) (omega (arith, length-drop 132 fields, size)) (get_or-drop 132 fields 0 0 ∙ d) in
-    let third : drop 88 fields ≡ field_text tag ++ (10 ∷ []) = sym (take-append-drop 44 (drop 88 fields)) ∙ ap (λ (xs : List ℕ). xs ++ drop 44 (drop 88 fields)) c ∙ ap (λ (xs : List ℕ). field_text tag ++ xs) (drop-drop 44 88 fields ∙ end) in
-    let second : drop 44 fields ≡ field_text links ++ (field_text tag ++ (10 ∷ [])) = sym (take-append-drop 44 (drop 44 fields)) ∙ ap (λ (xs : List ℕ). xs ++ drop 44 (drop 44 fields)) b ∙ ap (λ (xs : List ℕ). field_text links ++ xs) (drop-drop 44 44 fields ∙ third) in
+    let third : drop 88 fields ≡ field_text tag ++ (10 ∷ []) = sym (take-append-drop 44 (drop 88 fields))
+    ∙ ap (λ (xs : List ℕ). xs ++ drop 44 (drop 88 fields)) c ∙ ap (λ (xs : List ℕ). field_text tag ++ xs) (drop-drop 44 88 fields ∙ end) in
+    let second : drop 44 fields ≡ field_text links ++ (field_text tag ++ (10 ∷ [])) = sym (take-append-drop 44 (drop 44 fields))
+    ∙ ap (λ (xs : List ℕ). xs ++ drop 44 (drop 44 fields)) b ∙ ap (λ (xs : List ℕ). field_text links ++ xs) (drop-drop 44 44 fields ∙ third) in
     sym (take-append-drop 44 fields) ∙ ap (λ (xs : List ℕ). xs ++ drop 44 fields) a ∙ ap (λ (xs : List ℕ). field_text id ++ xs) second
 
 -- ---- the whole text
 
 regroup : (version digits space id links tag end : List ℕ)
-    → ((((((((version ++ digits) ++ space) ++ id) ++ space) ++ links) ++ space) ++ tag) ++ end) ≡ (version ++ digits) ++ ((space ++ id) ++ ((space ++ links) ++ ((space ++ tag) ++ end)))
+    → ((((((((version ++ digits) ++ space) ++ id) ++ space) ++ links) ++ space) ++ tag) ++ end)
+    ≡ (version ++ digits) ++ ((space ++ id) ++ ((space ++ links) ++ ((space ++ tag) ++ end)))
 regroup version digits space id links tag end = simp append_assoc
 
 -- a position's text in two parts
@@ -188,7 +195,8 @@ module _ (words : List ℕ) (p : Position) (d1 : IsDigest p.file_id) (d2 : IsDig
   words_are = e ∙ two_parts p
 
   sizes : length words ≡ length (index_text p.index) + 133
-  sizes = ap length words_are ∙ length-append (index_text p.index) (fields_text p.file_id p.chain p.tag) ∙ ap (λ (k : ℕ). length (index_text p.index) + k) (length-fields p.file_id p.chain p.tag d1 d2 d3)
+  sizes = ap length words_are ∙ length-append (index_text p.index) (fields_text p.file_id p.chain p.tag)
+      ∙ ap (λ (k : ℕ). length (index_text p.index) + k) (length-fields p.file_id p.chain p.tag d1 d2 d3)
 
   pub long_enough : 133 ≤ length words
   long_enough = omega (arith, sizes)
@@ -204,4 +212,5 @@ module _ (words : List ℕ) (p : Position) (d1 : IsDigest p.file_id) (d2 : IsDig
 pub words_of : (words : List ℕ) (at index : ℕ) (p : Position) → take at words ≡ index_text index → p.index ≡ index
     → take (length words - at) (drop at words) ≡ fields_text p.file_id p.chain p.tag → words ≡ position_text p
 words_of words at index p front same back =
-    sym (take-append-drop at words) ∙ ap (λ (xs : List ℕ). xs ++ drop at words) (front ∙ ap index_text (sym same)) ∙ ap (λ (xs : List ℕ). index_text p.index ++ xs) (sym (take_rest words at) ∙ back) ∙ sym (two_parts p)
+    sym (take-append-drop at words) ∙ ap (λ (xs : List ℕ). xs ++ drop at words) (front ∙ ap index_text (sym same))
+    ∙ ap (λ (xs : List ℕ). index_text p.index ++ xs) (sym (take_rest words at) ∙ back) ∙ sym (two_parts p)

@@ -9,9 +9,11 @@ read_last {S} source P s s' e x = subst (λ (t : S). P (source t)) (sym e) x
 
 pub ports_last : {S O : Type 0} (source : S → SourceView) (sink : O → SinkView) (P : Ports → Type 0) (s s' : S) (o o' : O) → s ≡ s' → o ≡ o'
     → P (ports (source s') (sink o')) → P (ports (source s) (sink o))
-ports_last {S} {O} source sink P s s' o o' e f x = subst (λ (t : S). P (ports (source t) (sink o))) (sym e) (subst (λ (t : O). P (ports (source s') (sink t))) (sym f) x)
+ports_last {S} {O} source sink P s s' o o' e f x = subst (λ (t : S). P (ports (source t) (sink o))) (sym e)
+    (subst (λ (t : O). P (ports (source s') (sink t))) (sym f) x)
 
-pub resume_last : {S O L : Type 0} (source : S → SourceView) (sink : O → SinkView) (text : L → SourceView) (P : ResumePorts → Type 0) (s s' : S) (o o' : O) (l l' : L) → s ≡ s' → o ≡ o' → l ≡ l'
+pub resume_last : {S O L : Type 0} (source : S → SourceView) (sink : O → SinkView) (text : L → SourceView) (P : ResumePorts → Type 0) (s s' : S) (o o' : O)
+    (l l' : L) → s ≡ s' → o ≡ o' → l ≡ l'
     → P (resume_ports (ports (source s') (sink o')) (text l')) → P (resume_ports (ports (source s) (sink o)) (text l))
 resume_last {S} {O} {L} source sink text P s s' o o' l l' e f h x =
     subst (λ (t : S). P (resume_ports (ports (source t) (sink o)) (text l))) (sym e)

@@ -58,7 +58,8 @@ module _ {B : Type 0} (opening : B → List ℕ → List ℕ → Option (List �
   -- a step, and then a step to any next segment
   pub releases_next : (a : List ℕ) (next next' : Segment → Segment) (old mid new : OpenerView B) (was between now : Tally) (unwritten : List ℕ)
       → ((s : Segment) → next (with_piece s a) ≡ next' s)
-      → Releases opening n (λ s. with_piece s a) old mid was between [] → Releases opening n next mid new between now unwritten → Releases opening n next' old new was now unwritten
+      → Releases opening n (λ s. with_piece s a) old mid was between [] → Releases opening n next mid new between now unwritten
+      → Releases opening n next' old new was now unwritten
   releases_next a next next' old mid new was between now unwritten same p q =
       let op = opening old.key in
       record {
@@ -71,21 +72,25 @@ module _ {B : Type 0} (opening : B → List ℕ → List ℕ → Option (List �
         text = λ s h.
             let r = released op n s in
             let t : released op n (next (with_piece s a)) ≡ released op n (with_piece s a) ++ (q.out ++ unwritten) =
-            subst (λ k. released (opening k) n (next (with_piece s a)) ≡ released (opening k) n (with_piece s a) ++ (q.out ++ unwritten)) p.key (q.text (with_piece s a) (p.stands s h)) in
+            subst (λ k. released (opening k) n (next (with_piece s a)) ≡ released (opening k) n (with_piece s a) ++ (q.out ++ unwritten)) p.key
+            (q.text (with_piece s a) (p.stands s h)) in
             let u : released op n (with_piece s a) ≡ r ++ p.out = p.text s h ∙ ap (λ (x : List ℕ). r ++ x) (append-nil p.out) in
             ap (released op n) (sym (same s)) ∙ (t ∙ (ap (λ (x : List ℕ). x ++ (q.out ++ unwritten)) u
             ∙ (append_assoc r p.out (q.out ++ unwritten) ∙ ap (λ (x : List ℕ). r ++ x) (sym (append_assoc p.out q.out unwritten)))));
         counts = λ keep positive s base len h m.
             let len' : length base ≡ (with_piece s a).start * n = len ∙ ap (λ (k : ℕ). k * n) (sym (piece_start s a)) in
-            let first = subst (λ k. CountsChunks keep (opening k) n base (with_piece s a) [] between.progress) (sym p.key) (p.counts keep positive s base len h m) in
+            let first = subst (λ k. CountsChunks keep (opening k) n base (with_piece s a) [] between.progress) (sym p.key)
+            (p.counts keep positive s base len h m) in
             let then = q.counts keep positive (with_piece s a) base len' (p.stands s h) first in
-            subst (λ (t : Segment). CountsChunks keep op n base t unwritten now.progress) (same s) (subst (λ k. CountsChunks keep (opening k) n base (next (with_piece s a)) unwritten now.progress) p.key then);
+            subst (λ (t : Segment). CountsChunks keep op n base t unwritten now.progress) (same s)
+            (subst (λ k. CountsChunks keep (opening k) n base (next (with_piece s a)) unwritten now.progress) p.key then);
       }
 
   pub releases_then : (a b : List ℕ) (old mid new : OpenerView B) (was between now : Tally) (unwritten : List ℕ)
       → Releases opening n (λ s. with_piece s a) old mid was between [] → Releases opening n (λ s. with_piece s b) mid new between now unwritten
       → Releases opening n (λ s. with_piece s (a ++ b)) old new was now unwritten
-  releases_then a b old mid new was between now unwritten p q = releases_next a (λ s. with_piece s b) (λ s. with_piece s (a ++ b)) old mid new was between now unwritten (λ s. pieces_join s a b) p q
+  releases_then a b old mid new was between now unwritten p q = releases_next a (λ s. with_piece s b) (λ s. with_piece s (a ++ b)) old mid new was
+      between now unwritten (λ s. pieces_join s a b) p q
 
   -- what `counts` asks of a piece that was fed
   abbrev pub IsMarkedOn : OpenerView B → List ℕ → Progress → Progress → List ℕ → Type 0
@@ -94,15 +99,19 @@ module _ {B : Type 0} (opening : B → List ℕ → List ℕ → Option (List �
       → CountsChunks keep (opening old.key) n base s [] was → CountsChunks keep (opening old.key) n base (with_piece s fed) unwritten now
 
   -- what the opener lent of a piece was written whole, and counted
-  pub counts_whole : (sealing : List ℕ → List ℕ → List ℕ) (old new : OpenerView B) (was now : Progress) (fed : List ℕ) (chunk : Option (Bor (List ℕ))) (index : ℕ)
+  pub counts_whole : (sealing : List ℕ → List ℕ → List ℕ) (old new : OpenerView B) (was now : Progress) (fed : List ℕ) (chunk : Option (Bor (List ℕ)))
+      (index : ℕ)
       → IsChunkBox sealing (opening old.key) → new.key ≡ old.key → index ≡ new.index
       → ((s : Segment) → Stands opening n old s → Stands opening n new (with_piece s fed))
-      → ((s : Segment) → Stands opening n old s → (outcome (opening old.key) n (with_piece s fed)).texts ≡ (outcome (opening old.key) n s).texts ++ chunk_texts chunk)
+      → ((s : Segment) → Stands opening n old s → (outcome (opening old.key) n (with_piece s fed)).texts
+      ≡ (outcome (opening old.key) n s).texts ++ chunk_texts chunk)
       → Advances was.index was.chain index (link_if was.chain (chunk_bytes chunk)) now → IsMarkedOn old fed was now []
   counts_whole sealing old new was now fed chunk index valid key is stands texts a keep positive s base len h m =
       let a' = subst (λ (l : Option (List ℕ)). Advances was.index was.chain index l now) (ap (link_if was.chain) (sym (lent_flat chunk))) a in
-      let at : index ≡ (outcome (opening old.key) n (with_piece s fed)).index = is ∙ ((stands s h).index ∙ ap (λ k. (outcome (opening k) n (with_piece s fed)).index) key) in
-      mark_step sealing (opening old.key) valid n positive keep base s fed (chunk_texts chunk) index was now len h.timely (stands s h).timely (texts s h) (chunk_few chunk) at a' m
+      let at : index ≡ (outcome (opening old.key) n (with_piece s fed)).index = is
+      ∙ ((stands s h).index ∙ ap (λ k. (outcome (opening k) n (with_piece s fed)).index) key) in
+      mark_step sealing (opening old.key) valid n positive keep base s fed (chunk_texts chunk) index was now len h.timely (stands s h).timely (texts s h)
+      (chunk_few chunk) at a' m
 
   -- the opener refused it, and lent nothing
   pub counts_refused : (sealing : List ℕ → List ℕ → List ℕ) (old new : OpenerView B) (was : Progress) (fed : List ℕ)
@@ -114,20 +123,25 @@ module _ {B : Type 0} (opening : B → List ℕ → List ℕ → Option (List �
       mark_none sealing (opening old.key) valid n positive keep base s fed was len h.timely (stands s h).timely (texts s h) m
 
   -- some of what it lent was not written
-  pub counts_cut : (sealing : List ℕ → List ℕ → List ℕ) (old new : OpenerView B) (was now : Progress) (fed : List ℕ) (chunk : Option (Bor (List ℕ))) (out unwritten : List ℕ)
+  pub counts_cut : (sealing : List ℕ → List ℕ → List ℕ) (old new : OpenerView B) (was now : Progress) (fed : List ℕ) (chunk : Option (Bor (List ℕ)))
+      (out unwritten : List ℕ)
       → IsChunkBox sealing (opening old.key)
       → ((s : Segment) → Stands opening n old s → Stands opening n new (with_piece s fed))
-      → ((s : Segment) → Stands opening n old s → (outcome (opening old.key) n (with_piece s fed)).texts ≡ (outcome (opening old.key) n s).texts ++ chunk_texts chunk)
+      → ((s : Segment) → Stands opening n old s → (outcome (opening old.key) n (with_piece s fed)).texts
+      ≡ (outcome (opening old.key) n s).texts ++ chunk_texts chunk)
       → chunk_bytes chunk ≡ out ++ unwritten → 0 < length unwritten → now.index ≡ was.index → now.chain ≡ was.chain → IsMarkedOn old fed was now unwritten
   counts_cut sealing old new was now fed chunk out unwritten valid stands texts lent some index chain_same keep positive s base len h m =
-      mark_cut sealing (opening old.key) valid n positive keep base s fed (chunk_texts chunk) out unwritten was now len h.timely (stands s h).timely (texts s h) (chunk_few chunk) (lent_flat chunk ∙ lent) some index chain_same m
+      mark_cut sealing (opening old.key) valid n positive keep base s fed (chunk_texts chunk) out unwritten was now len h.timely (stands s h).timely
+      (texts s h) (chunk_few chunk) (lent_flat chunk ∙ lent) some index chain_same m
 
   -- a call that took the front of a piece and lent a chunk, of which so much was written
   pub fed_front : (old new : OpenerView B) (was now : Tally) (piece : List ℕ) (taken : ℕ) (chunk : Option (Bor (List ℕ))) (out unwritten : List ℕ)
       → new.key ≡ old.key
       → ((s : Segment) → Stands opening n old s → Stands opening n new (with_piece s (take taken piece)))
-      → ((s : Segment) → Stands opening n old s → (outcome (opening old.key) n (with_piece s (take taken piece))).texts ≡ (outcome (opening old.key) n s).texts ++ chunk_texts chunk)
-      → chunk_bytes chunk ≡ out ++ unwritten → Appends was.sink.taken now.sink.taken out → now.sink.label ≡ was.sink.label → now.progress.written ≡ was.progress.written + length out
+      → ((s : Segment) → Stands opening n old s → (outcome (opening old.key) n (with_piece s (take taken piece))).texts
+      ≡ (outcome (opening old.key) n s).texts ++ chunk_texts chunk)
+      → chunk_bytes chunk ≡ out ++ unwritten → Appends was.sink.taken now.sink.taken out → now.sink.label ≡ was.sink.label → now.progress.written
+      ≡ was.progress.written + length out
       → IsMarkedOn old (take taken piece) was.progress now.progress unwritten
       → Releases opening n (λ s. with_piece s (take taken piece)) old new was now unwritten
   fed_front old new was now piece taken chunk out unwritten key stands texts lent wrote named count counts =
@@ -138,7 +152,8 @@ module _ {B : Type 0} (opening : B → List ℕ → List ℕ → Option (List �
         named = named;
         count = count;
         stands = stands;
-        text = λ s h. more_text (opening old.key) n s (with_piece s (take taken piece)) (chunk_texts chunk) (out ++ unwritten) (texts s h) (lent_flat chunk ∙ lent);
+        text = λ s h. more_text (opening old.key) n s (with_piece s (take taken piece)) (chunk_texts chunk) (out ++ unwritten) (texts s h) (lent_flat chunk
+            ∙ lent);
         counts = counts;
       }
 
@@ -151,7 +166,8 @@ module _ {B : Type 0} (opening : B → List ℕ → List ℕ → Option (List �
       let len : length (chunk_bytes chunk) ≡ length out = ap length (lent ∙ (ap (λ (t : List ℕ). out ++ t) whole ∙ append-nil out)) in
       (omega (arith, le, length-take taken piece), (omega (arith, le, room, count, len, length-take taken piece), whole, failed))
 
-  goes_then : (a b : List ℕ) (old mid new : OpenerView B) (was between now : Tally) → FeedGoes opening n old mid was between a [] → FeedGoes opening n mid new between now b [] → FeedGoes opening n old new was now (a ++ b) []
+  goes_then : (a b : List ℕ) (old mid new : OpenerView B) (was between now : Tally) → FeedGoes opening n old mid was between a []
+      → FeedGoes opening n mid new between now b [] → FeedGoes opening n old new was now (a ++ b) []
   goes_then a b old mid new was between now p q = (omega (arith, p.0, q.0, length-append a b), refl, q.2 ∙ p.2)
 
   -- one call more, for a piece of which the front was fed
@@ -171,7 +187,8 @@ module _ {B : Type 0} (opening : B → List ℕ → List ℕ → Option (List �
 
   -- a fault after steps that went on
   pub fails_then : (a : List ℕ) (old mid new : OpenerView B) (was between now : Tally) (left unwritten : List ℕ) (fault : FileFault)
-      → FeedGoes opening n old mid was between a [] → FeedFails opening n new between now left unwritten fault → FeedFails opening n new was now left unwritten fault
+      → FeedGoes opening n old mid was between a [] → FeedFails opening n new between now left unwritten fault
+      → FeedFails opening n new was now left unwritten fault
   fails_then a old mid new was between now left unwritten (Stream f) p h = (h.0, h.1, h.2, h.3 ∙ p.2)
   fails_then a old mid new was between now left unwritten Write p h = subst (λ (k : ℕ). HasRisen k now.sink.failed) p.2 h
   fails_then a old mid new was between now left unwritten other p h = h

@@ -61,7 +61,8 @@ take_prefix : (n : ℕ) (text : List ℕ) → IsPrefixOf (take n text) text
 take_prefix n text = (drop n text, take-append-drop n text)
 
 -- what was written of an old text is the beginning of the text that it is of
-old_of : (p : Position) (coming now : Option (List ℕ)) (pulled copied : List ℕ) → Consumes coming now pulled → IsPrefixOf copied pulled → length copied ≤ p.index * 65536
+old_of : (p : Position) (coming now : Option (List ℕ)) (pulled copied : List ℕ) → Consumes coming now pulled → IsPrefixOf copied pulled → length copied
+    ≤ p.index * 65536
     → (text : List ℕ) → BeginsWith p coming text → IsPrefixOf copied text
 old_of p coming now pulled copied read front le text b =
     let part = told_prefix b.all now pulled (subst (λ (c : Option (List ℕ)). Consumes c now pulled) b.told read) in
@@ -90,7 +91,8 @@ module _ (keep : Positions) (Allows : Header → List ℕ → Type 0) (Refused :
   reads_of a b unlocked s c rest read = record { text = s.text; opens = s.opens; size = s.size; read = read }
 
   -- no payload came to be opened
-  pub start_fails : (old new : ResumePorts) (fault : FileFault) → Consumes old.old.remaining new.old.remaining [] → Appends old.main.sink.taken new.main.sink.taken []
+  pub start_fails : (old new : ResumePorts) (fault : FileFault) → Consumes old.old.remaining new.old.remaining []
+      → Appends old.main.sink.taken new.main.sink.taken []
       → StartFails Allows Refused old.main.source new.main.source fault → ResumeFails keep Allows p Refused old new 0 None fault
   start_fails old new Read unread none f = inl ((none, refl, refl), f.0, f.1)
   start_fails old new ReadNeverEnds unread none f =
@@ -105,23 +107,37 @@ module _ (keep : Positions) (Allows : Header → List ℕ → Type 0) (Refused :
 
   -- the position was refused
   pub verdict_fails : (old new : ResumePorts) (u : Unread) (unlocked : Unlocked) (fault : FileFault) → Appends old.main.sink.taken new.main.sink.taken []
-      → StartsAt Allows old.main.source (side new.main.source u) unlocked → PositionRefused p unlocked.id unlocked.key unlocked.nonce fault → ResumeFails keep Allows p Refused old new 0 None fault
-  verdict_fails old new u unlocked OtherFile none s f =
-      ((none, refl, refl), opened old.main.source (side new.main.source u) unlocked s, u.bytes, reads_of old.main.source (side new.main.source u) unlocked s new.main.source.remaining u.bytes s.pulled.consumed, λ own. f (own ∙ sym s.id))
-  verdict_fails old new u unlocked PositionForged none s f =
-      ((none, refl, refl), opened old.main.source (side new.main.source u) unlocked s, u.bytes, reads_of old.main.source (side new.main.source u) unlocked s new.main.source.remaining u.bytes s.pulled.consumed, f.0 ∙ s.id, f.1)
+      → StartsAt Allows old.main.source (side new.main.source u) unlocked → PositionRefused p unlocked.id unlocked.key unlocked.nonce fault
+      → ResumeFails keep Allows p Refused old new 0 None fault
+  verdict_fails old new u unlocked OtherFile none s f = (
+    (none, refl, refl),
+    opened old.main.source (side new.main.source u) unlocked s,
+    u.bytes,
+    reads_of old.main.source (side new.main.source u) unlocked s new.main.source.remaining u.bytes s.pulled.consumed,
+    λ own. f (own ∙ sym s.id),
+  )
+  verdict_fails old new u unlocked PositionForged none s f = (
+    (none, refl, refl),
+    opened old.main.source (side new.main.source u) unlocked s,
+    u.bytes,
+    reads_of old.main.source (side new.main.source u) unlocked s new.main.source.remaining u.bytes s.pulled.consumed,
+    f.0 ∙ s.id,
+    f.1,
+  )
   verdict_fails old new u unlocked other none s f = absurd f
 
   -- the position is this file's
   abbrev pub IsVerified : Unlocked → Type 0
   IsVerified unlocked = (p.file_id ≡ unlocked.id) × (p.tag ≡ position_tag (position_key unlocked.key unlocked.nonce) p.index p.file_id p.chain)
 
-  accepts_of : (a : SourceView) (b : Side) (unlocked : Unlocked) (s : StartsAt Allows a b unlocked) → IsVerified unlocked → (c : Option (List ℕ)) (rest : List ℕ)
+  accepts_of : (a : SourceView) (b : Side) (unlocked : Unlocked) (s : StartsAt Allows a b unlocked) → IsVerified unlocked
+      → (c : Option (List ℕ)) (rest : List ℕ)
       → Consumes a.remaining c ((s.front ++ unlocked.nonce) ++ rest) → Accepts Allows p a.remaining c (opened a b unlocked s) rest
   accepts_of a b unlocked s v c rest read = record { reads = reads_of a b unlocked s c rest read; own = v.0 ∙ s.id; tagged = v.1 }
 
   -- the file was started, and the old text's pulls are counted on from there
-  module _ (a : SourceView) (unlocked : Unlocked) (s1 : Stage) (u : Unread) (s : StartsAt Allows a (side s1.source u) unlocked) (v : IsVerified unlocked) (same : s1.source.failed ≡ a.failed)
+  module _ (a : SourceView) (unlocked : Unlocked) (s1 : Stage) (u : Unread) (s : StartsAt Allows a (side s1.source u) unlocked) (v : IsVerified unlocked)
+      (same : s1.source.failed ≡ a.failed)
       (first : Tally) (zero : first.progress.written ≡ 0) (x z : Side) (none : x.unread.bytes ≡ []) (pulls : x.unread.pulls ≡ u.pulls) where
     abbrev file : OpenedFile
     file = opened a (side s1.source u) unlocked s
@@ -134,22 +150,29 @@ module _ (keep : Positions) (Allows : Header → List ℕ → Type 0) (Refused :
     started = head ++ u.bytes
 
     -- what was used of the old text, from its start
-    old_pulled : (used : List ℕ) → Uses x z used → Pulled (preceded started x.source.remaining) z.source.remaining z.unread.pulls (started ++ (used ++ z.unread.bytes))
+    old_pulled : (used : List ℕ) → Uses x z used → Pulled (preceded started x.source.remaining) z.source.remaining z.unread.pulls
+        (started ++ (used ++ z.unread.bytes))
     old_pulled used uses =
         let none_used = counted_on a.remaining s1.source.remaining x.source.remaining u.pulls started s.pulled in
         let fresh = subst (λ (k : ℕ). Pulled (preceded started x.source.remaining) x.source.remaining k (started ++ [])) (sym pulls) none_used in
-        uses (preceded started x.source.remaining) started (subst (λ (t : List ℕ). Pulled (preceded started x.source.remaining) x.source.remaining x.unread.pulls (started ++ t)) (sym none) fresh)
+        uses (preceded started x.source.remaining) started
+        (subst (λ (t : List ℕ). Pulled (preceded started x.source.remaining) x.source.remaining x.unread.pulls (started ++ t)) (sym none) fresh)
 
-    old_dried : (used : List ℕ) → z.unread.bytes ≡ [] → Uses x z used → Pulled (preceded started x.source.remaining) z.source.remaining z.unread.pulls (started ++ used)
+    old_dried : (used : List ℕ) → z.unread.bytes ≡ [] → Uses x z used → Pulled (preceded started x.source.remaining) z.source.remaining z.unread.pulls
+        (started ++ used)
     old_dried used empty uses =
-        subst (λ (t : List ℕ). Pulled (preceded started x.source.remaining) z.source.remaining z.unread.pulls (started ++ t)) (ap (λ (t : List ℕ). used ++ t) empty ∙ append-nil used) (old_pulled used uses)
+        subst (λ (t : List ℕ). Pulled (preceded started x.source.remaining) z.source.remaining z.unread.pulls (started ++ t))
+        (ap (λ (t : List ℕ). used ++ t) empty ∙ append-nil used) (old_pulled used uses)
 
-    old_read : (y : List ℕ) → Pulled (preceded started x.source.remaining) z.source.remaining z.unread.pulls (started ++ y) → Consumes x.source.remaining z.source.remaining y
+    old_read : (y : List ℕ) → Pulled (preceded started x.source.remaining) z.source.remaining z.unread.pulls (started ++ y)
+        → Consumes x.source.remaining z.source.remaining y
     old_read y h = preceded_consumed started y x.source.remaining z.source.remaining h.consumed
 
     -- the copy of the old text stopped
-    stops_in_old : (out pulled : List ℕ) → Appends first.sink.taken s1.tally.sink.taken out → s1.tally.progress.written ≡ first.progress.written + length out → length out < p.index * 65536
-        → Consumes x.source.remaining z.source.remaining pulled → IsPrefixOf out pulled → StopsInOld Allows p (before a first x) (after s1 z) s1.tally.progress.written None
+    stops_in_old : (out pulled : List ℕ) → Appends first.sink.taken s1.tally.sink.taken out → s1.tally.progress.written ≡ first.progress.written + length out
+        → length out < p.index * 65536
+        → Consumes x.source.remaining z.source.remaining pulled → IsPrefixOf out pulled
+        → StopsInOld Allows p (before a first x) (after s1 z) s1.tally.progress.written None
     stops_in_old out pulled wrote count short read front = record {
       file = file;
       rest = u.bytes;
@@ -167,7 +190,8 @@ module _ (keep : Positions) (Allows : Header → List ℕ → Type 0) (Refused :
       none = refl;
     }
 
-    pub copy_fails : (fault : FileFault) → CopiesText keep 65536 p.index p.chain x z first s1.tally (Err fault) → ResumeFails keep Allows p Refused (before a first x) (after s1 z) s1.tally.progress.written None fault
+    pub copy_fails : (fault : FileFault) → CopiesText keep 65536 p.index p.chain x z first s1.tally (Err fault)
+        → ResumeFails keep Allows p Refused (before a first x) (after s1 z) s1.tally.progress.written None fault
     unfolding stops_in_old
     copy_fails ShortText c =
         let f = c.answered in
@@ -217,7 +241,8 @@ module _ (keep : Positions) (Allows : Header → List ℕ → Type 0) (Refused :
     -- ---- a run that went on behind the old text
 
     -- the old text was copied, and is the position's
-    module _ (c : CopiesText keep 65536 p.index p.chain x z first s1.tally (Ok tt)) (limit : p.index < 281474976710656) (kept : s1.unread.bytes ≡ u.bytes) (on : s1.unread.pulls ≡ z.unread.pulls) where
+    module _ (c : CopiesText keep 65536 p.index p.chain x z first s1.tally (Ok tt)) (limit : p.index < 281474976710656) (kept : s1.unread.bytes
+        ≡ u.bytes) (on : s1.unread.pulls ≡ z.unread.pulls) where
       old_text : IsOldText p c.out
       old_text =
           let f = c.answered in
@@ -235,15 +260,18 @@ module _ (keep : Positions) (Allows : Header → List ℕ → Type 0) (Refused :
 
       pub again : Pulled (preceded old_bytes a.remaining) s1.source.remaining s1.unread.pulls ((old_bytes ++ head) ++ s1.unread.bytes)
       again =
-          let back = counted_back a.remaining s1.source.remaining x.source.remaining z.source.remaining u.pulls z.unread.pulls started old_bytes s.pulled old_used in
+          let back = counted_back a.remaining s1.source.remaining x.source.remaining z.source.remaining u.pulls z.unread.pulls started old_bytes s.pulled
+          old_used in
           let bytes = ap (λ (t : List ℕ). old_bytes ++ (head ++ t)) (sym kept) ∙ sym (append_assoc old_bytes head s1.unread.bytes) in
           subst (λ (k : ℕ). Pulled (preceded old_bytes a.remaining) s1.source.remaining k ((old_bytes ++ head) ++ s1.unread.bytes)) (sym on)
           (subst (λ (t : List ℕ). Pulled (preceded old_bytes a.remaining) s1.source.remaining z.unread.pulls t) bytes back)
 
-      read_on : (s2 : Stage) (y : List ℕ) → Pulled (preceded old_bytes a.remaining) s2.source.remaining s2.unread.pulls (old_bytes ++ y) → Consumes a.remaining s2.source.remaining y
+      read_on : (s2 : Stage) (y : List ℕ) → Pulled (preceded old_bytes a.remaining) s2.source.remaining s2.unread.pulls (old_bytes ++ y)
+          → Consumes a.remaining s2.source.remaining y
       read_on s2 y h = preceded_consumed old_bytes y a.remaining s2.source.remaining h.consumed
 
-      never_end : (s2 : Stage) (y : List ℕ) → Pulled (preceded old_bytes a.remaining) s2.source.remaining s2.unread.pulls (old_bytes ++ y) → s2.unread.pulls ≡ 2 ^ 63 → NeverEnd (before a first x) (after s2 z)
+      never_end : (s2 : Stage) (y : List ℕ) → Pulled (preceded old_bytes a.remaining) s2.source.remaining s2.unread.pulls (old_bytes ++ y) → s2.unread.pulls
+          ≡ 2 ^ 63 → NeverEnd (before a first x) (after s2 z)
       never_end s2 y h all =
           let both = length-append old_bytes y in
           (y, old_bytes, read_on s2 y h, old_is_read, (omega (arith, h.each_gave, all, both), omega (arith, h.small, all, both)))
@@ -264,8 +292,10 @@ module _ (keep : Positions) (Allows : Header → List ℕ → Type 0) (Refused :
           }
 
       -- the run stopped in the blocks that are skipped
-      stops_in_skipped : (s2 : Stage) (position : Option Position) (skipped : List ℕ) → s2.tally ≡ s1.tally → Told keep (IsSame p) position → length skipped < p.index * 65552
-          → Consumes a.remaining s2.source.remaining (head ++ skipped) → StopsInSkipped keep Allows p (before a first x) (after s2 z) s2.tally.progress.written position skipped
+      stops_in_skipped : (s2 : Stage) (position : Option Position) (skipped : List ℕ) → s2.tally ≡ s1.tally → Told keep (IsSame p) position → length skipped
+          < p.index * 65552
+          → Consumes a.remaining s2.source.remaining (head ++ skipped) → StopsInSkipped keep Allows p (before a first x) (after s2 z) s2.tally.progress.written
+          position skipped
       stops_in_skipped s2 position skipped still at short read = record {
         file = file;
         accepts = accepts_of a (side s1.source u) unlocked s v s2.source.remaining skipped read;
@@ -276,12 +306,16 @@ module _ (keep : Positions) (Allows : Header → List ℕ → Type 0) (Refused :
         here = at;
       }
 
-      dried : (s2 : Stage) (skipped : List ℕ) → s2.unread.bytes ≡ [] → Uses (side_at s1) (side_at s2) skipped → Pulled (preceded old_bytes a.remaining) s2.source.remaining s2.unread.pulls (old_bytes ++ (head ++ skipped))
+      dried : (s2 : Stage) (skipped : List ℕ) → s2.unread.bytes ≡ [] → Uses (side_at s1) (side_at s2) skipped
+          → Pulled (preceded old_bytes a.remaining) s2.source.remaining s2.unread.pulls (old_bytes ++ (head ++ skipped))
       dried s2 skipped empty uses =
-          let bytes = ap (λ (t : List ℕ). (old_bytes ++ head) ++ t) (ap (λ (t : List ℕ). skipped ++ t) empty ∙ append-nil skipped) ∙ append_assoc old_bytes head skipped in
-          subst (λ (t : List ℕ). Pulled (preceded old_bytes a.remaining) s2.source.remaining s2.unread.pulls t) bytes (uses (preceded old_bytes a.remaining) (old_bytes ++ head) again)
+          let bytes = ap (λ (t : List ℕ). (old_bytes ++ head) ++ t) (ap (λ (t : List ℕ). skipped ++ t) empty ∙ append-nil skipped)
+          ∙ append_assoc old_bytes head skipped in
+          subst (λ (t : List ℕ). Pulled (preceded old_bytes a.remaining) s2.source.remaining s2.unread.pulls t) bytes
+          (uses (preceded old_bytes a.remaining) (old_bytes ++ head) again)
 
-      skipped_fails : (s2 : Stage) (position : Option Position) (fault : FileFault) → s2.tally ≡ s1.tally → Told keep (IsSame p) position → SkipFails 65552 p.index (side_at s1) (side_at s2) fault
+      skipped_fails : (s2 : Stage) (position : Option Position) (fault : FileFault) → s2.tally ≡ s1.tally → Told keep (IsSame p) position
+          → SkipFails 65552 p.index (side_at s1) (side_at s2) fault
           → ResumeFails keep Allows p Refused (before a first x) (after s2 z) s2.tally.progress.written position fault
       skipped_fails s2 position (Stream fault) still at f =
           let e = f.2 in
@@ -413,7 +447,8 @@ module _ (keep : Positions) (Allows : Header → List ℕ → Type 0) (Refused :
           )
 
       -- the position is that from which the run began, where nothing was decrypted
-      same_position : (s2 : Stage) (next : Position) → s2.tally ≡ s1.tally → IsPositionAt unlocked s2.tally.progress.index (chain (first_chunks 65536 p.index c.out)) next → IsSame p next
+      same_position : (s2 : Stage) (next : Position) → s2.tally ≡ s1.tally
+          → IsPositionAt unlocked s2.tally.progress.index (chain (first_chunks 65536 p.index c.out)) next → IsSame p next
       same_position s2 next still h =
           let index : next.index ≡ p.index = h.index_is ∙ (ap (λ (t : Tally). t.progress.index) still ∙ c.answered.3) in
           let id : next.file_id ≡ p.file_id = h.file_id_is ∙ sym v.0 in
@@ -422,7 +457,8 @@ module _ (keep : Positions) (Allows : Header → List ℕ → Type 0) (Refused :
             index = index;
             file_id_is = id;
             chain_is = links;
-            tag_is = own_tag (position_key unlocked.key unlocked.nonce) next.tag next.index p.index next.file_id p.file_id next.chain p.chain (sym index) (sym id) (sym links) h.tag_is ∙ sym v.1;
+            tag_is = own_tag (position_key unlocked.key unlocked.nonce) next.tag next.index p.index next.file_id p.file_id next.chain p.chain (sym index)
+                (sym id) (sym links) h.tag_is ∙ sym v.1;
           }
 
       told_same : (how : Positions) (s2 : Stage) (position : Option Position) → s2.tally ≡ s1.tally
@@ -433,12 +469,15 @@ module _ (keep : Positions) (Allows : Header → List ℕ → Type 0) (Refused :
 
       pub resume_fails : (key : List ℕ) (s2 : Stage) (position : Option Position) (fault : FileFault) → key ≡ payload_key unlocked.key unlocked.nonce
           → PositionAt unlocked s2.tally.progress.index s2.tally.progress.chain position
-          → ResumesPayload (λ nonce block. opening key nonce [] block) p.index s1 s2 (Err fault) → ResumeFails keep Allows p Refused (before a first x) (after s2 z) s2.tally.progress.written position fault
+          → ResumesPayload (λ nonce block. opening key nonce [] block) p.index s1 s2 (Err fault)
+          → ResumeFails keep Allows p Refused (before a first x) (after s2 z) s2.tally.progress.written position fault
       resume_fails key s2 position fault key_is at (inl stopped) =
           let is : Err fault ≡ Err stopped.fault = stopped.is in
           let e : stopped.fault ≡ fault = cc in
-          let links : s2.tally.progress.chain ≡ chain_if keep (first_chunks 65536 p.index c.out) = ap (λ (t : Tally). t.progress.chain) stopped.same ∙ c.answered.4 in
-          skipped_fails s2 position fault stopped.same (told_same keep s2 position stopped.same (subst (λ (l : Option (List ℕ)). PositionAt unlocked s2.tally.progress.index l position) links at))
+          let links : s2.tally.progress.chain ≡ chain_if keep (first_chunks 65536 p.index c.out) = ap (λ (t : Tally). t.progress.chain) stopped.same
+          ∙ c.answered.4 in
+          skipped_fails s2 position fault stopped.same
+          (told_same keep s2 position stopped.same (subst (λ (l : Option (List ℕ)). PositionAt unlocked s2.tally.progress.index l position) links at))
           (subst (λ (f : FileFault). SkipFails 65552 p.index (side_at s1) (side_at s2) f) e stopped.fails)
       resume_fails key s2 position fault key_is at (inr after_blocks) =
           let b = decrypted key s2 (Err fault) key_is after_blocks in

@@ -21,7 +21,8 @@ use Rattle.age_file.specs.declared.encryption.Written.{Written}
 use Rattle.age_file.proofs.CallSteps.{took}
 use Rattle.age_file.proofs.Undamaged.{told, none_left, undamaged, undamaged_done}
 
-pub whole : PassphraseOpens → (s : SecretView) (max_log : ℕ) (text bytes : List ℕ) → IsSecret s → s.log ≤ max_log → chunk_count 65536 text ≤ 281474976710656 → AgeFile s text bytes
+pub whole : PassphraseOpens → (s : SecretView) (max_log : ℕ) (text bytes : List ℕ) → IsSecret s → s.log ≤ max_log → chunk_count 65536 text ≤ 281474976710656
+    → AgeFile s text bytes
     → IsWhole (IsPassphraseKey (words_of s max_log)) (PassphraseRefuses (words_of s max_log)) (Some bytes) text
 whole opens s max_log text bytes is within few file =
     let a = opens (words_of s max_log) s.log s.salt s.key is.within.least is.within.most within is.salt_length is.salt_bytes is.key_length in
@@ -51,10 +52,17 @@ took_file s text old new written e =
     let t = told old.source.remaining new.source.remaining text d.text e.source d.read in
     let none = none_left new.source.remaining t.0 t.2 d.at_end in
     let same : d.text ≡ text = sym (t.1 ∙ (ap (λ (x : List ℕ). d.text ++ x) none ∙ append-nil d.text)) in
-    record { bytes = d.file; told_bytes = took old.sink.taken new.sink.taken d.file e.sink d.wrote; few = subst (λ (x : List ℕ). chunk_count 65536 x ≤ 281474976710656) same d.few; is = subst (λ (x : List ℕ). AgeFile s x d.file) same d.is }
+    record {
+      bytes = d.file;
+      told_bytes = took old.sink.taken new.sink.taken d.file e.sink d.wrote;
+      few = subst (λ (x : List ℕ). chunk_count 65536 x ≤ 281474976710656) same d.few;
+      is = subst (λ (x : List ℕ). AgeFile s x d.file) same d.is;
+    }
 
-undamaged_of : PassphraseOpens → (s : SecretView) (max_log : ℕ) (text : List ℕ) (coming : Option (List ℕ)) → IsSecret s → s.log ≤ max_log → chunk_count 65536 text ≤ 281474976710656
-    → IsClosed (box s.key s.nonce) (unbox s.key s.nonce) 65536 text → TookFile s text coming → IsUndamaged (IsPassphraseKey (words_of s max_log)) (PassphraseRefuses (words_of s max_log)) coming text
+undamaged_of : PassphraseOpens → (s : SecretView) (max_log : ℕ) (text : List ℕ) (coming : Option (List ℕ)) → IsSecret s → s.log ≤ max_log
+    → chunk_count 65536 text ≤ 281474976710656
+    → IsClosed (box s.key s.nonce) (unbox s.key s.nonce) 65536 text → TookFile s text coming
+    → IsUndamaged (IsPassphraseKey (words_of s max_log)) (PassphraseRefuses (words_of s max_log)) coming text
 undamaged_of opens s max_log text coming is within few closed f =
     let a = opens (words_of s max_log) s.log s.salt s.key is.within.least is.within.most within is.salt_length is.salt_bytes is.key_length in
     record {
@@ -73,14 +81,21 @@ undamaged_of opens s max_log text coming is within few closed f =
       closed = closed;
     }
 
-answered : (keep : Positions) → OneHeader → (w : PassphraseIdentity) (text : List ℕ) (now last : Ports) (result : Result Done Stopped) → IsUndamaged (IsPassphraseKey w) (PassphraseRefuses w) now.source.remaining text → now.sink.taken ≡ Some []
-    → DecryptAnswers PassphraseIdentity IsPassphraseKey PassphraseRefuses keep w now last result → MatchResult result (λ done. last.sink.taken ≡ Some text) (λ stopped. StopsOutside stopped.fault)
-answered keep one w text now last (Ok done) u empty f = took now.sink.taken last.sink.taken text empty (undamaged_done one (IsPassphraseKey w) (PassphraseRefuses w) now last done.written f.0 text u f.1 f.2).0
-answered keep one w text now last (Err s) u empty f = undamaged keep one (IsPassphraseKey w) (PassphraseRefuses w) now last s.written s.position s.fault text u f
+answered : (keep : Positions) → OneHeader → (w : PassphraseIdentity) (text : List ℕ) (now last : Ports) (result : Result Done Stopped)
+    → IsUndamaged (IsPassphraseKey w) (PassphraseRefuses w) now.source.remaining text → now.sink.taken ≡ Some []
+    → DecryptAnswers PassphraseIdentity IsPassphraseKey PassphraseRefuses keep w now last result
+    → MatchResult result (λ done. last.sink.taken ≡ Some text) (λ stopped. StopsOutside stopped.fault)
+answered keep one w text now last (Ok done) u empty f = took now.sink.taken last.sink.taken text empty
+    (undamaged_done one (IsPassphraseKey w) (PassphraseRefuses w) now last done.written f.0 text u f.1 f.2).0
+answered keep one w text now last (Err s) u empty f = undamaged keep one (IsPassphraseKey w) (PassphraseRefuses w) now last s.written s.position s.fault
+    text u f
 
-pub there_and_back : OneHeader → PassphraseOpens → (keep : Positions) (s : SecretView) (max_log : ℕ) (text : List ℕ) (was file now last : Ports) (written : Written) (result : Result Done Stopped) → IsSecret s → s.log ≤ max_log
-    → IsClosed (box s.key s.nonce) (unbox s.key s.nonce) 65536 text → WasEncrypted s text was file written → now.source.remaining ≡ file.sink.taken → now.sink.taken ≡ Some []
-    → DecryptAnswers PassphraseIdentity IsPassphraseKey PassphraseRefuses keep (words_of s max_log) now last result → MatchResult result (λ done. last.sink.taken ≡ Some text) (λ stopped. StopsOutside stopped.fault)
+pub there_and_back : OneHeader → PassphraseOpens → (keep : Positions) (s : SecretView) (max_log : ℕ) (text : List ℕ) (was file now last : Ports)
+    (written : Written) (result : Result Done Stopped) → IsSecret s → s.log ≤ max_log
+    → IsClosed (box s.key s.nonce) (unbox s.key s.nonce) 65536 text → WasEncrypted s text was file written → now.source.remaining ≡ file.sink.taken
+    → now.sink.taken ≡ Some []
+    → DecryptAnswers PassphraseIdentity IsPassphraseKey PassphraseRefuses keep (words_of s max_log) now last result
+    → MatchResult result (λ done. last.sink.taken ≡ Some text) (λ stopped. StopsOutside stopped.fault)
 there_and_back one opens keep s max_log text was file now last written result is within closed e coming empty f =
     let took = took_file s text was file written e in
     let held = subst (TookFile s text) (sym coming) took in

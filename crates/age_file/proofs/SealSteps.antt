@@ -36,7 +36,8 @@ pub record IsAtLimit {B : Type 0} (n : ℕ) (s : SealerView B) (piece : List ℕ
 
 pub at_limit : {B : Type 0} (n : ℕ) (s : SealerView B) (piece : List ℕ) → s.failed ≡ false → needs_too_many n s piece ≡ true → IsAtLimit n s piece
 at_limit n s piece sound refused =
-    let tests = and_parts (nat_lt 0 (length piece)) (length s.held == n && s.index == 281474976710655) (ap (λ (b : Bool). b || (nat_lt 0 (length piece) && (length s.held == n && s.index == 281474976710655))) (sym sound) ∙ refused) in
+    let tests = and_parts (nat_lt 0 (length piece)) (length s.held == n && s.index == 281474976710655)
+    (ap (λ (b : Bool). b || (nat_lt 0 (length piece) && (length s.held == n && s.index == 281474976710655))) (sym sound) ∙ refused) in
     let full = and_parts (length s.held == n) (s.index == 281474976710655) tests.1 in
     record { more = ltb-true 0 (length piece) tests.0; full = eqb-true (length s.held) n full.0; index = eqb-true s.index 281474976710655 full.1 }
 
@@ -49,7 +50,8 @@ too_long n s piece positive limit text holds =
     omega (arith, limit.more, before, exact, positive, length-append text piece)
 
 -- the front of a piece that a sealer took, where what it lent was written but for a part that wasn't
-pub some_sealed : {B : Type 0} (sealing : B → List ℕ → List ℕ → List ℕ) (n : ℕ) (old new : SealerView B) (was now : Tally) (piece : List ℕ) (taken : ℕ) (chunk : Option (Bor (List ℕ))) (out unwritten : List ℕ)
+pub some_sealed : {B : Type 0} (sealing : B → List ℕ → List ℕ → List ℕ) (n : ℕ) (old new : SealerView B) (was now : Tally) (piece : List ℕ) (taken : ℕ)
+    (chunk : Option (Bor (List ℕ))) (out unwritten : List ℕ)
     → chunk_bytes chunk ≡ out ++ unwritten → Wrote was now out
     → ((text : List ℕ) → Holds n old text → front_of (sealing old.key) n (text ++ take taken piece) ≡ front_of (sealing old.key) n text ++ chunk_bytes chunk)
     → SealsSome sealing n old new was now piece (take taken piece) (drop taken piece) unwritten
@@ -93,28 +95,34 @@ module _ {B : Type 0} (sealing : B → List ℕ → List ℕ → List ℕ) (n : 
             ∙ (two
             ∙ (ap (λ (k : B). front_of (sealing k) n (text ++ front) ++ (q.out ++ unwritten)) goes.key
             ∙ (ap (λ (t : List ℕ). t ++ (q.out ++ unwritten)) (one ∙ ap (λ (t : List ℕ). front_of key n text ++ t) (append-nil p.out))
-            ∙ (append_assoc (front_of key n text) p.out (q.out ++ unwritten) ∙ ap (λ (t : List ℕ). front_of key n text ++ t) (sym (append_assoc p.out q.out unwritten)))))));
+            ∙ (append_assoc (front_of key n text) p.out (q.out ++ unwritten)
+            ∙ ap (λ (t : List ℕ). front_of key n text ++ t) (sym (append_assoc p.out q.out unwritten)))))));
       }
 
   -- only the part that was fed
-  pub fed_alone : (a b : SealerView B) (was now : Tally) (piece fed left unwritten : List ℕ) → SealsSome sealing n a b was now piece fed left unwritten → SealsSome sealing n a b was now fed fed [] unwritten
+  pub fed_alone : (a b : SealerView B) (was now : Tally) (piece fed left unwritten : List ℕ) → SealsSome sealing n a b was now piece fed left unwritten
+      → SealsSome sealing n a b was now fed fed [] unwritten
   fed_alone a b was now piece fed left unwritten p = record { out = p.out; parts = sym (append-nil fed); wrote = p.wrote; blocks = p.blocks }
 
   -- the rest of a piece, as a slice has it
   pub next_some : (a b c : SealerView B) (was mid now : Tally) (piece : List ℕ) (at : ℕ) (fed left unwritten : List ℕ)
       → SealsSome sealing n a b was mid (take at piece) (take at piece) [] [] → GoesOn sealing n a b (take at piece)
-      → SealsSome sealing n b c mid now (take (length piece - at) (drop at piece)) fed left unwritten → SealsSome sealing n a c was now piece (take at piece ++ fed) left unwritten
+      → SealsSome sealing n b c mid now (take (length piece - at) (drop at piece)) fed left unwritten
+      → SealsSome sealing n a c was now piece (take at piece ++ fed) left unwritten
   next_some a b c was mid now piece at fed left unwritten p goes q =
-      subst (λ (t : List ℕ). SealsSome sealing n a c was now t (take at piece ++ fed) left unwritten) (ap (λ (t : List ℕ). take at piece ++ t) (take_rest piece at) ∙ take-append-drop at piece)
+      subst (λ (t : List ℕ). SealsSome sealing n a c was now t (take at piece ++ fed) left unwritten)
+      (ap (λ (t : List ℕ). take at piece ++ t) (take_rest piece at) ∙ take-append-drop at piece)
       (some_then a b c was mid now (take at piece) (take (length piece - at) (drop at piece)) fed left unwritten p goes q)
 
   -- what was fed up to the next place
-  pub fed_is : (piece : List ℕ) (at taken : ℕ) (fed left : List ℕ) → take (length piece - at) (drop at piece) ≡ fed ++ left → taken ≡ length fed → take at piece ++ fed ≡ take (at + taken) piece
+  pub fed_is : (piece : List ℕ) (at taken : ℕ) (fed left : List ℕ) → take (length piece - at) (drop at piece) ≡ fed ++ left → taken ≡ length fed
+      → take at piece ++ fed ≡ take (at + taken) piece
   fed_is piece at taken fed left parts len =
       let e : fed ≡ take taken (drop at piece) = sym (take_at fed left taken (sym len)) ∙ ap (take taken) (sym parts ∙ take_rest piece at) in
       ap (λ (t : List ℕ). take at piece ++ t) e ∙ sym (take-add at taken piece)
 
-  pub fails_then : (a b : SealerView B) (was mid now : Tally) (front rest : List ℕ) (fault : FileFault) → mid.sink.failed ≡ was.sink.failed → GoesOn sealing n a b front
+  pub fails_then : (a b : SealerView B) (was mid now : Tally) (front rest : List ℕ) (fault : FileFault) → mid.sink.failed ≡ was.sink.failed
+      → GoesOn sealing n a b front
       → SealFails sealing n b mid now rest fault → SealFails sealing n a was now (front ++ rest) fault
   fails_then a b was mid now front rest (Stream fault) same goes f =
       (λ text h. subst (λ (t : List ℕ). 281474976710656 * n < length t) (append_assoc text front rest) (f.0 (text ++ front) (goes.holds text h)), f.1)
@@ -142,7 +150,8 @@ module _ (sealing : List ℕ → List ℕ → List ℕ) (opening : List ℕ → 
       omega (arith, (payload_is_longer sealing opening valid n text).1, mul-le q (n + 16) (length text) 65552 few most)
 
 -- after a piece's front the count of what was written has room for a block
-pub room_left : {B : Type 0} (sealing : B → List ℕ → List ℕ → List ℕ) (opening : List ℕ → List ℕ → Option (List ℕ)) (n : ℕ) (a b : SealerView B) (was now : Tally) (piece : List ℕ) (at : ℕ)
+pub room_left : {B : Type 0} (sealing : B → List ℕ → List ℕ → List ℕ) (opening : List ℕ → List ℕ → Option (List ℕ)) (n : ℕ) (a b : SealerView B)
+    (was now : Tally) (piece : List ℕ) (at : ℕ)
     → IsChunkBox (sealing a.key) opening → n + 16 ≤ 65552 → HasRoom sealing n a was.progress.written (length piece)
     → SealsSome sealing n a b was now (take at piece) (take at piece) [] [] → now.progress.written ≤ 2 ^ 127
 room_left sealing opening n a b was now piece at valid most room some =
@@ -151,7 +160,8 @@ room_left sealing opening n a b was now piece at valid most room some =
     let blocks = some.blocks text room.holds in
     let fits = front_small (sealing a.key) opening valid n (text ++ fed) most in
     let len : length (front_of (sealing a.key) n (text ++ fed)) ≡ length (front_of (sealing a.key) n text) + length some.out =
-    ap length blocks ∙ (length-append (front_of (sealing a.key) n text) (some.out ++ []) ∙ ap (λ (t : List ℕ). length (front_of (sealing a.key) n text) + length t) (append-nil some.out)) in
+    ap length blocks ∙ (length-append (front_of (sealing a.key) n text) (some.out ++ [])
+    ∙ ap (λ (t : List ℕ). length (front_of (sealing a.key) n text) + length t) (append-nil some.out)) in
     let short : length (text ++ fed) ≤ 2 ^ 96 = omega (arith, length-append text fed, length-take at piece, room.small) in
     let product : length (text ++ fed) * 65552 ≤ 2 ^ 96 * 65552 = mul-le (length (text ++ fed)) 65552 (2 ^ 96) 65552 short (omega arith) in
     omega (arith, some.wrote.count, room.count, len, fits, product)

@@ -36,7 +36,8 @@ pub no_front : (sealing : List ℕ → List ℕ → List ℕ) (n : ℕ) → 0 < 
 no_front sealing n positive = ap (λ (q : ℕ). block_bytes (map (pair sealing false) (enumerate_from 0 (first_chunks n q [])))) (zero_div n positive)
 
 module _ {B : Type 0} (sealing : B → List ℕ → List ℕ → List ℕ) (n : ℕ) (a b d : SealerView B) (was mid now : Tally) (text piece fed left unwritten : List ℕ)
-    (goes : GoesOn sealing n a b text) (fresh : Holds n a []) (wrote : Wrote was mid (front_of (sealing a.key) n text)) (some : SealsSome sealing n b d mid now piece fed left unwritten) (positive : 0 < n) where
+    (goes : GoesOn sealing n a b text) (fresh : Holds n a []) (wrote : Wrote was mid (front_of (sealing a.key) n text))
+    (some : SealsSome sealing n b d mid now piece fed left unwritten) (positive : 0 < n) where
   -- the blocks that the piece brought
   brought : front_of (sealing a.key) n (text ++ fed) ≡ front_of (sealing a.key) n text ++ (some.out ++ unwritten)
   brought =
@@ -51,7 +52,8 @@ module _ {B : Type 0} (sealing : B → List ℕ → List ℕ → List ℕ) (n : 
       }
 
   -- a whole piece
-  pub piece_done : left ≡ [] → unwritten ≡ [] → GoesOn sealing n b d fed → GoesOn sealing n a d (text ++ piece) × Wrote was now (front_of (sealing a.key) n (text ++ piece))
+  pub piece_done : left ≡ [] → unwritten ≡ [] → GoesOn sealing n b d fed → GoesOn sealing n a d (text ++ piece)
+      × Wrote was now (front_of (sealing a.key) n (text ++ piece))
   piece_done none whole more =
       let same : fed ≡ piece = sym (some.parts ∙ ap (λ (t : List ℕ). fed ++ t) none ∙ append-nil fed) in
       let blocks : front_of (sealing a.key) n text ++ some.out ≡ front_of (sealing a.key) n (text ++ piece) =
@@ -65,17 +67,23 @@ module _ {B : Type 0} (sealing : B → List ℕ → List ℕ → List ℕ) (n : 
   pub piece_cut : (out : List ℕ) × Wrote was now out × IsPrefixOf out (payload (sealing a.key) n (text ++ piece))
   piece_cut =
       let key = sealing a.key in
-      let first : IsPrefixOf (front_of key n text ++ some.out) (front_of key n (text ++ fed)) = (unwritten, append_assoc (front_of key n text) some.out unwritten ∙ sym brought) in
+      let first : IsPrefixOf (front_of key n text ++ some.out) (front_of key n (text ++ fed)) = (
+        unwritten,
+        append_assoc (front_of key n text) some.out unwritten ∙ sym brought,
+      ) in
       let grown = sealed_grows key n (text ++ fed) left positive in
       let whole : (text ++ fed) ++ left ≡ text ++ piece = append_assoc text fed left ∙ ap (λ (t : List ℕ). text ++ t) (sym some.parts) in
       let second : IsPrefixOf (front_of key n (text ++ fed)) (payload key n (text ++ piece)) =
-      subst (λ (t : List ℕ). IsPrefixOf (front_of key n (text ++ fed)) (payload key n t)) whole (prefix_trans _ _ _ grown (front_begins key n ((text ++ fed) ++ left))) in
+      subst (λ (t : List ℕ). IsPrefixOf (front_of key n (text ++ fed)) (payload key n t)) whole
+      (prefix_trans _ _ _ grown (front_begins key n ((text ++ fed) ++ left))) in
       (front_of key n text ++ some.out, both, prefix_trans _ _ _ first second)
 
 -- why no more came
-pub pull_fails : (n : ℕ) (old new : Ports) (text : List ℕ) (x z : Side) (fault : FileFault) → x.source.failed ≡ old.source.failed → new.source.failed ≡ z.source.failed → z.unread.pulls ≤ length text
+pub pull_fails : (n : ℕ) (old new : Ports) (text : List ℕ) (x z : Side) (fault : FileFault) → x.source.failed ≡ old.source.failed → new.source.failed
+    ≡ z.source.failed → z.unread.pulls ≤ length text
     → PullFails x z fault → SealingFails n old new text fault
-pull_fails n old new text x z Read same is gave f = subst (λ (k : ℕ). HasRisen k new.source.failed) same (subst (λ (k : ℕ). HasRisen x.source.failed k) (sym is) f)
+pull_fails n old new text x z Read same is gave f = subst (λ (k : ℕ). HasRisen k new.source.failed) same
+    (subst (λ (k : ℕ). HasRisen x.source.failed k) (sym is) f)
 pull_fails n old new text x z ReadNeverEnds same is gave f = omega (arith, gave, f.0)
 pull_fails n old new text x z (Head fault) same is gave f = absurd f
 pull_fails n old new text x z (Key fault) same is gave f = absurd f
@@ -90,10 +98,13 @@ pull_fails n old new text x z PositionForged same is gave f = absurd f
 pull_fails n old new text x z OldTextDiffers same is gave f = absurd f
 
 -- why a piece wasn't sealed
-pub seal_fails : {B : Type 0} (sealing : B → List ℕ → List ℕ → List ℕ) (n : ℕ) (a b : SealerView B) (old new : Ports) (was now : Tally) (text piece : List ℕ) (fault : FileFault)
-    → was.sink.failed ≡ old.sink.failed → new.sink.failed ≡ now.sink.failed → GoesOn sealing n a b text → Holds n a [] → SealFails sealing n b was now piece fault → SealingFails n old new (text ++ piece) fault
+pub seal_fails : {B : Type 0} (sealing : B → List ℕ → List ℕ → List ℕ) (n : ℕ) (a b : SealerView B) (old new : Ports) (was now : Tally) (text piece : List ℕ)
+    (fault : FileFault)
+    → was.sink.failed ≡ old.sink.failed → new.sink.failed ≡ now.sink.failed → GoesOn sealing n a b text → Holds n a []
+    → SealFails sealing n b was now piece fault → SealingFails n old new (text ++ piece) fault
 seal_fails sealing n a b old new was now text piece (Stream fault) same is goes fresh f = (f.0 text (goes.holds [] fresh), f.1)
-seal_fails sealing n a b old new was now text piece Write same is goes fresh f = subst (λ (k : ℕ). HasRisen k new.sink.failed) same (subst (λ (k : ℕ). HasRisen was.sink.failed k) (sym is) f)
+seal_fails sealing n a b old new was now text piece Write same is goes fresh f = subst (λ (k : ℕ). HasRisen k new.sink.failed) same
+    (subst (λ (k : ℕ). HasRisen was.sink.failed k) (sym is) f)
 seal_fails sealing n a b old new was now text piece (Head fault) same is goes fresh f = absurd f
 seal_fails sealing n a b old new was now text piece (Key fault) same is goes fresh f = absurd f
 seal_fails sealing n a b old new was now text piece NonceCut same is goes fresh f = absurd f
@@ -114,7 +125,8 @@ module _ {B : Type 0} (sealing : B → List ℕ → List ℕ → List ℕ) (n : 
   whole : payload (sealing a.key) n text ≡ (front_of (sealing a.key) n text ++ out) ++ unwritten
   whole =
       ap (λ (k : B). payload (sealing k) n text) (sym key)
-      ∙ (blocks text holds ∙ (ap (λ (k : B). front_of (sealing k) n text ++ (out ++ unwritten)) key ∙ sym (append_assoc (front_of (sealing a.key) n text) out unwritten)))
+      ∙ (blocks text holds ∙ (ap (λ (k : B). front_of (sealing k) n text ++ (out ++ unwritten)) key
+      ∙ sym (append_assoc (front_of (sealing a.key) n text) out unwritten)))
 
   pub last_written : Wrote was now (front_of (sealing a.key) n text ++ out)
   last_written =
@@ -127,4 +139,5 @@ module _ {B : Type 0} (sealing : B → List ℕ → List ℕ → List ℕ) (n : 
   last_begins = (unwritten, sym whole)
 
   pub last_whole : unwritten ≡ [] → Wrote was now (payload (sealing a.key) n text)
-  last_whole none = subst (λ (t : List ℕ). Wrote was now t) (sym (whole ∙ ap (λ (t : List ℕ). (front_of (sealing a.key) n text ++ out) ++ t) none ∙ append-nil (front_of (sealing a.key) n text ++ out))) last_written
+  last_whole none = subst (λ (t : List ℕ). Wrote was now t) (sym (whole ∙ ap (λ (t : List ℕ). (front_of (sealing a.key) n text ++ out) ++ t) none
+      ∙ append-nil (front_of (sealing a.key) n text ++ out))) last_written

@@ -25,15 +25,19 @@ pub uses_then : (x y z : Side) (p q r : List ℕ) → p ++ q ≡ r → Uses x y 
 uses_then x y z p q r e f g = λ start used h.
     let first = subst (λ (t : List ℕ). Pulled start y.source.remaining y.unread.pulls t) (sym (append_assoc used p y.unread.bytes)) (f start used h) in
     let e' : (used ++ p) ++ (q ++ z.unread.bytes) ≡ used ++ (r ++ z.unread.bytes) =
-    append_assoc used p (q ++ z.unread.bytes) ∙ ap (λ (t : List ℕ). used ++ t) (sym (append_assoc p q z.unread.bytes) ∙ ap (λ (t : List ℕ). t ++ z.unread.bytes) e) in
+    append_assoc used p (q ++ z.unread.bytes) ∙ ap (λ (t : List ℕ). used ++ t) (sym (append_assoc p q z.unread.bytes)
+    ∙ ap (λ (t : List ℕ). t ++ z.unread.bytes) e) in
     subst (λ (t : List ℕ). Pulled start z.source.remaining z.unread.pulls t) e' (g start (used ++ p) first)
 
-pub uses_front : (v : SourceView) (x y : Unread) (piece : List ℕ) (n : ℕ) → y.pulls ≡ x.pulls → piece ≡ x.bytes → y.bytes ≡ drop n x.bytes → Uses (side v x) (side v y) (take n piece)
+pub uses_front : (v : SourceView) (x y : Unread) (piece : List ℕ) (n : ℕ) → y.pulls ≡ x.pulls → piece ≡ x.bytes → y.bytes ≡ drop n x.bytes
+    → Uses (side v x) (side v y) (take n piece)
 uses_front v x y piece n pulls is rest = λ start used h.
-    subst (λ (t : List ℕ). Pulled start v.remaining y.pulls t) (append_assoc used (take n piece) y.bytes) (head_pulled start v.remaining x y used piece n pulls is rest h)
+    subst (λ (t : List ℕ). Pulled start v.remaining y.pulls t) (append_assoc used (take n piece) y.bytes)
+    (head_pulled start v.remaining x y used piece n pulls is rest h)
 
 -- no byte came for the rest of a nonce
-pub nonce_fails : (x y z : Side) (p : List ℕ) (fault : FileFault) → length p < 16 → y.source.failed ≡ x.source.failed → Uses x y p → Uses y z [] → z.unread.bytes ≡ [] → PullFails y z fault → NonceFails x z fault
+pub nonce_fails : (x y z : Side) (p : List ℕ) (fault : FileFault) → length p < 16 → y.source.failed ≡ x.source.failed → Uses x y p → Uses y z []
+    → z.unread.bytes ≡ [] → PullFails y z fault → NonceFails x z fault
 nonce_fails x y z p Read lt e f g none h = ((p, lt, uses_then x y z p [] p (append-nil p) f g, none), subst (λ (m : ℕ). HasRisen m z.source.failed) e h)
 nonce_fails x y z p ReadNeverEnds lt e f g none h = ((p, lt, uses_then x y z p [] p (append-nil p) f g, none), h.0)
 nonce_fails x y z p other lt e f g none h = absurd h
@@ -43,7 +47,8 @@ in_header_short : (a b : Option (List ℕ)) → IsInHeader a b → IsShort a b
 in_header_short a b none = (none.0, none.1, λ h front rest text parts. absurd (none.2 (h, front, rest, text, parts)))
 
 -- there is one header in front of the bytes, and fewer than 16 behind it
-after_short : OneHeader → (a b : Option (List ℕ)) (h : Header) (front short : List ℕ) → HeadText h front → length short < 16 → Consumes a b (front ++ short) → IsShort a b
+after_short : OneHeader → (a b : Option (List ℕ)) (h : Header) (front short : List ℕ) → HeadText h front → length short < 16 → Consumes a b (front ++ short)
+    → IsShort a b
 after_short one a b h front short text lt consumed = (
   front ++ short,
   consumed,
@@ -53,14 +58,16 @@ after_short one a b h front short text lt consumed = (
 )
 
 module _ (Allows : Header → List ℕ → Type 0) (Refused : Header → KeyFault → Type 0) where
-  pub head_to_start : (a b : SourceView) (fault : FileFault) → HeadFails a b fault → (fault ≢ Memory → IsInHeader a.remaining b.remaining) → StartFails Allows Refused a b fault
+  pub head_to_start : (a b : SourceView) (fault : FileFault) → HeadFails a b fault → (fault ≢ Memory → IsInHeader a.remaining b.remaining)
+      → StartFails Allows Refused a b fault
   head_to_start a b (Head f) h early = h
   head_to_start a b Read h early = (in_header_short a.remaining b.remaining (early (λ e. cc)), h)
   head_to_start a b Memory h early = h
   head_to_start a b ReadNeverEnds h early = (in_header_short a.remaining b.remaining (early (λ e. cc)), h)
   head_to_start a b other h early = absurd h
 
-  pub key_to_start : (a b : SourceView) (h : Header) (front rest : List ℕ) (fault : KeyFault) → StopsAtHeader a.remaining b.remaining → HeadText h front → Consumes a.remaining b.remaining (front ++ rest)
+  pub key_to_start : (a b : SourceView) (h : Header) (front rest : List ℕ) (fault : KeyFault) → StopsAtHeader a.remaining b.remaining → HeadText h front
+      → Consumes a.remaining b.remaining (front ++ rest)
       → Refuses Allows Refused h fault → StartFails Allows Refused a b (fault_of_key fault)
   key_to_start a b h front rest KeyMemory stops text consumed refuses = stops
   key_to_start a b h front rest ScryptNotAlone stops text consumed refuses = (h, front, rest, text, consumed, λ e. cc, refuses)
@@ -72,17 +79,33 @@ module _ (Allows : Header → List ℕ → Type 0) (Refused : Header → KeyFaul
   key_to_start a b h front rest BadX25519 stops text consumed refuses = (h, front, rest, text, consumed, λ e. cc, refuses)
 
   -- what was pulled where a nonce fell short
-  short_pulled : (a : Option (List ℕ)) (y z : Side) (front : List ℕ) (u : UsesShort y z) → Pulled a y.source.remaining y.unread.pulls (front ++ y.unread.bytes) → Pulled a z.source.remaining z.unread.pulls (front ++ u.0)
+  short_pulled : (a : Option (List ℕ)) (y z : Side) (front : List ℕ) (u : UsesShort y z) → Pulled a y.source.remaining y.unread.pulls (front ++ y.unread.bytes)
+      → Pulled a z.source.remaining z.unread.pulls (front ++ u.0)
   short_pulled a y z front u p =
       cut_pulled a z.source.remaining z.unread.pulls (front ++ u.0) z.unread.bytes u.3
       (subst (λ (t : List ℕ). Pulled a z.source.remaining z.unread.pulls t) (sym (append_assoc front u.0 z.unread.bytes)) (u.2 a front p))
 
-  pub nonce_to_start : OneHeader → (a : SourceView) (y z : Side) (h : Header) (front key : List ℕ) (fault : FileFault) → y.source.failed ≡ a.failed → HeadText h front → Opens Allows h key
+  pub nonce_to_start : OneHeader → (a : SourceView) (y z : Side) (h : Header) (front key : List ℕ) (fault : FileFault) → y.source.failed ≡ a.failed
+      → HeadText h front → Opens Allows h key
       → Pulled a.remaining y.source.remaining y.unread.pulls (front ++ y.unread.bytes) → NonceFails y z fault → StartFails Allows Refused a z.source fault
-  nonce_to_start one a y z h front key NonceCut e text opens p f = (h, front, key, f.0.0, text, opens, f.0.1, (short_pulled a.remaining y z front f.0 p).consumed, f.1)
-  nonce_to_start one a y z h front key Read e text opens p f =
-      (after_short one a.remaining z.source.remaining h front f.0.0 text f.0.1 (short_pulled a.remaining y z front f.0 p).consumed, subst (λ (m : ℕ). HasRisen m z.source.failed) e f.1)
+  nonce_to_start one a y z h front key NonceCut e text opens p f = (
+    h,
+    front,
+    key,
+    f.0.0,
+    text,
+    opens,
+    f.0.1,
+    (short_pulled a.remaining y z front f.0 p).consumed,
+    f.1,
+  )
+  nonce_to_start one a y z h front key Read e text opens p f = (
+    after_short one a.remaining z.source.remaining h front f.0.0 text f.0.1 (short_pulled a.remaining y z front f.0 p).consumed,
+    subst (λ (m : ℕ). HasRisen m z.source.failed) e f.1,
+  )
   nonce_to_start one a y z h front key ReadNeverEnds e text opens p f =
-      let all = short_pulled a.remaining y z front f.0 p in
-      (after_short one a.remaining z.source.remaining h front f.0.0 text f.0.1 all.consumed, (front ++ f.0.0, all.consumed, (omega (arith, all.each_gave, f.1), omega (arith, all.small, f.1))))
+      let all = short_pulled a.remaining y z front f.0 p in (
+        after_short one a.remaining z.source.remaining h front f.0.0 text f.0.1 all.consumed,
+        (front ++ f.0.0, all.consumed, (omega (arith, all.each_gave, f.1), omega (arith, all.small, f.1))),
+      )
   nonce_to_start one a y z h front key other e text opens p f = absurd f

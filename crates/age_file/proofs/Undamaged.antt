@@ -34,7 +34,8 @@ use Rattle.age_file.specs.declared.fault.FileFault.{FileFault}
 use Rattle.age_file.specs.declared.fault.FileFault.TheVariants.{Head, Key, NonceCut, Stream, Read, Write, Memory, ReadNeverEnds}
 
 -- a source that told its bytes tells those that are left
-pub told : (before after : Option (List ℕ)) (bytes used : List ℕ) → before ≡ Some bytes → Consumes before after used → (rest : List ℕ) × (bytes ≡ used ++ rest) × (after ≡ Some rest)
+pub told : (before after : Option (List ℕ)) (bytes used : List ℕ) → before ≡ Some bytes → Consumes before after used → (rest : List ℕ) × (bytes ≡ used ++ rest)
+    × (after ≡ Some rest)
 told before after bytes used is consumed = left after (subst (λ (b : Option (List ℕ)). Consumes b after used) is consumed) where
   left : (after : Option (List ℕ)) → Consumes (Some bytes) after used → (rest : List ℕ) × (bytes ≡ used ++ rest) × (after ≡ Some rest)
   left None h = absurd h
@@ -55,12 +56,14 @@ reaches : (text : List ℕ) (k : ℕ) → k < chunk_count 65536 text → k * 655
 reaches text k below = omega (arith, below)
 
 -- an end without bytes
-no_bytes : (op : List ℕ → List ℕ → Option (List ℕ)) (k : ℕ) → (outcome op 65536 (segment k [] true)).status ≡ Failed (record { kind = Truncated; chunk = k + 0 })
+no_bytes : (op : List ℕ → List ℕ → Option (List ℕ)) (k : ℕ) → (outcome op 65536 (segment k [] true)).status
+    ≡ Failed (record { kind = Truncated; chunk = k + 0 })
 unfolding outcome
 no_bytes op k = refl
 
 -- a segment that failed stays so with more bytes and an end
-failed_stays : (op : List ℕ → List ℕ → Option (List ℕ)) (n k : ℕ) (bytes more : List ℕ) (ended : Bool) (fault : StreamFault) → (outcome op n (segment k bytes ended)).status ≡ Failed fault
+failed_stays : (op : List ℕ → List ℕ → Option (List ℕ)) (n k : ℕ) (bytes more : List ℕ) (ended : Bool) (fault : StreamFault)
+    → (outcome op n (segment k bytes ended)).status ≡ Failed fault
     → (ended ≡ true → more ≡ []) → (outcome op n (segment k (bytes ++ more) true)).status ≡ Failed fault
 failed_stays op n k bytes more true fault e none =
     let same : bytes ≡ bytes ++ more = sym (ap (λ (t : List ℕ). bytes ++ t) (none refl) ∙ append-nil bytes) in
@@ -73,7 +76,8 @@ failed_stays op n k bytes more false fault e none =
     let still : (outcome op n fed).status ≡ Open → ⊥ = λ o. let clash : Open ≡ Failed fault = sym o ∙ later in cc in
     (closed_stays op n fed (λ _. refl) still).1.fault fault later
 
-module _ (one : OneHeader) (Allows : Header → List ℕ → Type 0) (Refused : Header → KeyFault → Type 0) (coming : Option (List ℕ)) (text : List ℕ) (u : IsWhole Allows Refused coming text) where
+module _ (one : OneHeader) (Allows : Header → List ℕ → Type 0) (Refused : Header → KeyFault → Type 0) (coming : Option (List ℕ)) (text : List ℕ)
+    (u : IsWhole Allows Refused coming text) where
   -- what was read of the header is the file's
   pub record IsFront (h : Header) (front behind : List ℕ) : Type 0 where
     pub header_is : h ≡ u.header
@@ -83,17 +87,30 @@ module _ (one : OneHeader) (Allows : Header → List ℕ → Type 0) (Refused : 
   fronts : (h : Header) (front behind : List ℕ) → HeadText h front → u.bytes ≡ front ++ behind → IsFront h front behind
   fronts h front behind text_is parts =
       let file = u.file in
-      let e : file.front ++ (u.nonce ++ payload (box u.key u.nonce) 65536 text) ≡ front ++ behind = sym (append_assoc file.front u.nonce (payload (box u.key u.nonce) 65536 text)) ∙ (sym file.parts ∙ parts) in
+      let e : file.front ++ (u.nonce ++ payload (box u.key u.nonce) 65536 text)
+      ≡ front ++ behind = sym (append_assoc file.front u.nonce (payload (box u.key u.nonce) 65536 text)) ∙ (sym file.parts ∙ parts) in
       let same = one u.header h file.front front (u.nonce ++ payload (box u.key u.nonce) 65536 text) behind file.head.spells text_is.spells e in
-      record { header_is = sym same.0; front_is = sym same.1; rest_is = sym (same_front file.front front (u.nonce ++ payload (box u.key u.nonce) 65536 text) behind (ap length same.1) e).1 }
+      record {
+        header_is = sym same.0;
+        front_is = sym same.1;
+        rest_is = sym (same_front file.front front (u.nonce ++ payload (box u.key u.nonce) 65536 text) behind (ap length same.1) e).1;
+      }
 
   no_head_fault : (fault : HeadFault) → IsSourcesFault coming fault → ⊥
   no_head_fault fault f =
       let here : IsHeadFault u.bytes fault = subst (λ (c : Option (List ℕ)). IsSourcesFault c fault) u.all f in
       let file = u.file in
-      here.0 (u.header, file.front, u.nonce ++ payload (box u.key u.nonce) 65536 text, file.head, file.parts ∙ append_assoc file.front u.nonce (payload (box u.key u.nonce) 65536 text))
+      here.0 (
+        u.header,
+        file.front,
+        u.nonce ++ payload (box u.key u.nonce) 65536 text,
+        file.head,
+        file.parts
+            ∙ append_assoc file.front u.nonce (payload (box u.key u.nonce) 65536 text),
+      )
 
-  no_key_fault : (after : Option (List ℕ)) (h : Header) (front rest : List ℕ) (fault : KeyFault) → HeadText h front → Consumes coming after (front ++ rest) → (fault ≡ KeyMemory → ⊥) → Refuses Allows Refused h fault → ⊥
+  no_key_fault : (after : Option (List ℕ)) (h : Header) (front rest : List ℕ) (fault : KeyFault) → HeadText h front → Consumes coming after (front ++ rest)
+      → (fault ≡ KeyMemory → ⊥) → Refuses Allows Refused h fault → ⊥
   no_key_fault after h front rest fault text_is consumed not refuses =
       let t = told coming after u.bytes (front ++ rest) u.all consumed in
       let same = fronts h front (rest ++ t.0) text_is (t.1 ∙ append_assoc front rest t.0) in
@@ -104,12 +121,21 @@ module _ (one : OneHeader) (Allows : Header → List ℕ → Type 0) (Refused : 
         | inr (inr memory) ↦ not memory.0
       ]
 
-  no_nonce_cut : (after : Option (List ℕ)) (h : Header) (front short : List ℕ) → HeadText h front → length short < 16 → Consumes coming after (front ++ short) → IsAtEnd after → ⊥
+  no_nonce_cut : (after : Option (List ℕ)) (h : Header) (front short : List ℕ) → HeadText h front → length short < 16 → Consumes coming after (front ++ short)
+      → IsAtEnd after → ⊥
   no_nonce_cut after h front short text_is lt consumed ended =
       let t = told coming after u.bytes (front ++ short) u.all consumed in
       let same = fronts h front (short ++ t.0) text_is (t.1 ∙ append_assoc front short t.0) in
       let none : t.0 ≡ [] = none_left after t.0 t.2 ended in
-      omega (arith, lt, ap length same.rest_is, length-append short t.0, ap length none, length-append u.nonce (payload (box u.key u.nonce) 65536 text), u.file.size)
+      omega (
+        arith,
+        lt,
+        ap length same.rest_is,
+        length-append short t.0,
+        ap length none,
+        length-append u.nonce (payload (box u.key u.nonce) 65536 text),
+        u.file.size,
+      )
 
   -- what was read behind the nonce is the payload's beginning
   pub record IsOpenedAs (key nonce behind : List ℕ) (after : Option (List ℕ)) : Type 0 where
@@ -120,7 +146,8 @@ module _ (one : OneHeader) (Allows : Header → List ℕ → Type 0) (Refused : 
     pub payload_is : behind ++ left ≡ payload (box u.key u.nonce) 65536 text
 
   -- the file's front is that which was read
-  pub front_is : (after : Option (List ℕ)) (h : Header) (front nonce behind : List ℕ) → HeadText h front → Consumes coming after ((front ++ nonce) ++ behind) → front ≡ u.file.front
+  pub front_is : (after : Option (List ℕ)) (h : Header) (front nonce behind : List ℕ) → HeadText h front → Consumes coming after ((front ++ nonce) ++ behind)
+      → front ≡ u.file.front
   front_is after h front nonce behind text_is consumed =
       let t = told coming after u.bytes ((front ++ nonce) ++ behind) u.all consumed in
       let parts : u.bytes ≡ front ++ (nonce ++ (behind ++ t.0)) = t.1 ∙ (append_assoc (front ++ nonce) behind t.0 ∙ append_assoc front nonce (behind ++ t.0)) in
@@ -142,18 +169,23 @@ module _ (one : OneHeader) (Allows : Header → List ℕ → Type 0) (Refused : 
       }
 
   -- from a chunk of the text on, whose blocks are the writer's
-  module _ (k : ℕ) (below : k < chunk_count 65536 text) (authentic : IsAuthentic (box u.key u.nonce) (unbox u.key u.nonce) 65536 text (segment k (drop (k * 65552) (payload (box u.key u.nonce) 65536 text)) true)) where
+  module _ (k : ℕ) (below : k < chunk_count 65536 text) (authentic : IsAuthentic (box u.key u.nonce) (unbox u.key u.nonce) 65536 text
+      (segment k (drop (k * 65552) (payload (box u.key u.nonce) 65536 text)) true)) where
     -- the rest of the payload opens to its end
     rest_done : (outcome (unbox u.key u.nonce) 65536 (segment k (drop (k * 65552) (payload (box u.key u.nonce) 65536 text)) true)).status ≡ Done
     rest_done =
         let valid = box_valid (payload_key u.key u.nonce) in
         let positive : 0 < 65536 = omega arith in
         let s = segment k (drop (k * 65552) (payload (box u.key u.nonce) 65536 text)) true in
-        let reached : IsReached (box u.key u.nonce) (unbox u.key u.nonce) 65536 text s = record { limit = omega (arith, below, u.few); within = reaches text k below } in
+        let reached : IsReached (box u.key u.nonce) (unbox u.key u.nonce) 65536 text s = record {
+          limit = omega (arith, below, u.few);
+          within = reaches text k below;
+        } in
         let rest : IsRest (box u.key u.nonce) (unbox u.key u.nonce) 65536 text s = record { below = below; bytes = refl; ended = refl; timely = refl } in
         ((released_is_written (box u.key u.nonce) (unbox u.key u.nonce) valid 65536 positive s text u.few reached authentic).whole rest).1
 
-    pub no_stream_fault : (after : Option (List ℕ)) (key nonce passed bytes : List ℕ) (ended : Bool) (fault : StreamFault) → IsOpenedAs key nonce (passed ++ bytes) after → length passed ≡ k * 65552
+    pub no_stream_fault : (after : Option (List ℕ)) (key nonce passed bytes : List ℕ) (ended : Bool) (fault : StreamFault)
+        → IsOpenedAs key nonce (passed ++ bytes) after → length passed ≡ k * 65552
         → (ended ≡ true → IsAtEnd after) → (outcome (unbox key nonce) 65536 (segment k bytes ended)).status ≡ Failed fault → ⊥
     no_stream_fault after key nonce passed bytes ended fault o size at_end failed =
         let all = payload (box u.key u.nonce) 65536 text in
@@ -163,7 +195,8 @@ module _ (one : OneHeader) (Allows : Header → List ℕ → Type 0) (Refused : 
         subst (λ (x : List ℕ). (outcome (unbox x u.nonce) 65536 (segment k bytes ended)).status ≡ Failed fault) o.key_is
         (subst (λ (x : List ℕ). (outcome (unbox key x) 65536 (segment k bytes ended)).status ≡ Failed fault) o.nonce_is failed) in
         let stays = failed_stays (unbox u.key u.nonce) 65536 k bytes o.left ended fault here (λ e. none_left after o.left o.left_is (at_end e)) in
-        let clash : Done ≡ Failed fault = sym rest_done ∙ (ap (λ (x : List ℕ). (outcome (unbox u.key u.nonce) 65536 (segment k x true)).status) (sym rest) ∙ stays) in
+        let clash : Done ≡ Failed fault = sym rest_done ∙ (ap (λ (x : List ℕ). (outcome (unbox u.key u.nonce) 65536 (segment k x true)).status) (sym rest)
+        ∙ stays) in
         cc
 
     -- the blocks before that chunk are all there
@@ -171,13 +204,20 @@ module _ (one : OneHeader) (Allows : Header → List ℕ → Type 0) (Refused : 
     no_early_end after key nonce passed o short ended =
         let all = payload (box u.key u.nonce) 65536 text in
         let none : o.left ≡ [] = none_left after o.left o.left_is ended in
-        let nothing : drop (k * 65552) all ≡ [] = drop_all (k * 65552) all (omega (arith, short, ap length o.payload_is, length-append passed o.left, ap length none)) in
+        let nothing : drop (k * 65552) all ≡ [] = drop_all (k * 65552) all (omega (
+          arith,
+          short,
+          ap length o.payload_is,
+          length-append passed o.left,
+          ap length none,
+        )) in
         let clash : Done ≡ Failed (record { kind = Truncated; chunk = k + 0 }) =
         sym rest_done ∙ (ap (λ (x : List ℕ). (outcome (unbox u.key u.nonce) 65536 (segment k x true)).status) nothing ∙ no_bytes (unbox u.key u.nonce) k) in
         cc
 
 -- no fault of what is before a payload
-module _ (one : OneHeader) (Allows : Header → List ℕ → Type 0) (Refused : Header → KeyFault → Type 0) (before after : SourceView) (text : List ℕ) (u : IsWhole Allows Refused before.remaining text) where
+module _ (one : OneHeader) (Allows : Header → List ℕ → Type 0) (Refused : Header → KeyFault → Type 0) (before after : SourceView) (text : List ℕ)
+    (u : IsWhole Allows Refused before.remaining text) where
   pub start_undamaged : (fault : FileFault) → StartFails Allows Refused before after fault → StopsOutside fault
   start_undamaged (Head x) f = absurd (no_head_fault one Allows Refused before.remaining text u x f.of_all)
   start_undamaged (Key x) f = absurd (no_key_fault one Allows Refused before.remaining text u after.remaining f.0 f.1 f.2 x f.3 f.4 f.5 f.6)
@@ -189,16 +229,24 @@ module _ (one : OneHeader) (Allows : Header → List ℕ → Type 0) (Refused : 
   start_undamaged other f = absurd f
 
 -- the payload of a text from a chunk on, of which no block opens except as its writer sealed it
-pub own_authentic : (key nonce text : List ℕ) → chunk_count 65536 text ≤ 281474976710656 → IsClosed (box key nonce) (unbox key nonce) 65536 text → (k : ℕ) → k < chunk_count 65536 text
+pub own_authentic : (key nonce text : List ℕ) → chunk_count 65536 text ≤ 281474976710656 → IsClosed (box key nonce) (unbox key nonce) 65536 text → (k : ℕ)
+    → k < chunk_count 65536 text
     → IsAuthentic (box key nonce) (unbox key nonce) 65536 text (segment k (drop (k * 65552) (payload (box key nonce) 65536 text)) true)
 own_authentic key nonce text few closed k below =
-    rest_is_authentic (box key nonce) (unbox key nonce) 65536 text (record { valid = box_valid (payload_key key nonce); some = omega arith; few = few; closed = closed })
+    rest_is_authentic (box key nonce) (unbox key nonce) 65536 text (record {
+      valid = box_valid (payload_key key nonce);
+      some = omega arith;
+      few = few;
+      closed = closed;
+    })
     (segment k (drop (k * 65552) (payload (box key nonce) 65536 text)) true)
     (record { below = below; bytes = refl; ended = refl; timely = refl })
 
 -- blocks that are those of a segment are as authentic
-pub authentic_as : (text : List ℕ) (k : ℕ) (key nonce own_key own_nonce bytes all : List ℕ) (ended : Bool) → key ≡ own_key → nonce ≡ own_nonce → bytes ≡ all → ended ≡ true
-    → IsAuthentic (box own_key own_nonce) (unbox own_key own_nonce) 65536 text (segment k all true) → IsAuthentic (box key nonce) (unbox key nonce) 65536 text (segment k bytes ended)
+pub authentic_as : (text : List ℕ) (k : ℕ) (key nonce own_key own_nonce bytes all : List ℕ) (ended : Bool) → key ≡ own_key → nonce ≡ own_nonce → bytes
+    ≡ all → ended ≡ true
+    → IsAuthentic (box own_key own_nonce) (unbox own_key own_nonce) 65536 text (segment k all true)
+    → IsAuthentic (box key nonce) (unbox key nonce) 65536 text (segment k bytes ended)
 authentic_as text k key nonce own_key own_nonce bytes all ended keys nonces blocks ends a =
     subst (λ (x : List ℕ). IsAuthentic (box x nonce) (unbox x nonce) 65536 text (segment k bytes ended)) (sym keys)
     (subst (λ (x : List ℕ). IsAuthentic (box own_key x) (unbox own_key x) 65536 text (segment k bytes ended)) (sym nonces)

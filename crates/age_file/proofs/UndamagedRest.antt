@@ -25,13 +25,16 @@ use Rattle.age_file.proofs.Undamaged.{own_authentic, IsOpenedAs}
 
 module _ (one : OneHeader) (Allows : Header → List ℕ → Type 0) (Refused : Header → KeyFault → Type 0) (p : Position) (old new : ResumePorts) (text : List ℕ)
     (u : IsUndamagedRest Allows Refused p old.main.source.remaining old.old.remaining text) where
-  opened_of : (f : OpenedFile) (rest : List ℕ) → Reads Allows old.main.source.remaining new.main.source.remaining f rest → IsOpenedAs one Allows Refused old.main.source.remaining text u.whole f.key f.nonce rest new.main.source.remaining
-  opened_of f rest r = opened_as one Allows Refused old.main.source.remaining text u.whole new.main.source.remaining f.header f.header_bytes f.key f.nonce rest r.text r.opens.allowed r.size r.read
+  opened_of : (f : OpenedFile) (rest : List ℕ) → Reads Allows old.main.source.remaining new.main.source.remaining f rest
+      → IsOpenedAs one Allows Refused old.main.source.remaining text u.whole f.key f.nonce rest new.main.source.remaining
+  opened_of f rest r = opened_as one Allows Refused old.main.source.remaining text u.whole new.main.source.remaining f.header f.header_bytes f.key
+      f.nonce rest r.text r.opens.allowed r.size r.read
 
   own_file : (f : OpenedFile) (rest : List ℕ) → Reads Allows old.main.source.remaining new.main.source.remaining f rest → HasId p f
   own_file f rest r =
       let o = opened_of f rest r in
-      let front = front_is one Allows Refused old.main.source.remaining text u.whole new.main.source.remaining f.header f.header_bytes f.nonce rest r.text r.read in
+      let front = front_is one Allows Refused old.main.source.remaining text u.whole new.main.source.remaining f.header f.header_bytes f.nonce rest
+      r.text r.read in
       u.own ∙ (ap (λ (x : List ℕ). file_id x u.whole.nonce) (sym front) ∙ ap (file_id f.header_bytes) (sym o.nonce_is))
 
   own_tag : (f : OpenedFile) (rest : List ℕ) → Reads Allows old.main.source.remaining new.main.source.remaining f rest → HasTag p f
@@ -42,20 +45,34 @@ module _ (one : OneHeader) (Allows : Header → List ℕ → Type 0) (Refused : 
       ∙ ap (λ (x : List ℕ). position_tag (position_key f.key x) p.index p.file_id p.chain) (sym o.nonce_is))
 
   -- the old text is long enough
-  old_is_long : (written : ℕ) (copied : List ℕ) (w : WritesOld p old new written copied) → copied ≡ w.pulled → IsAtEnd new.old.remaining → p.index * 65536 ≤ length copied
+  old_is_long : (written : ℕ) (copied : List ℕ) (w : WritesOld p old new written copied) → copied ≡ w.pulled → IsAtEnd new.old.remaining → p.index * 65536
+      ≤ length copied
   old_is_long written copied w whole ended =
       let b = u.old_text in
       let t = told old.old.remaining new.old.remaining b.all w.pulled b.told w.read in
       let none = none_left new.old.remaining t.0 t.2 ended in
-      omega (arith, b.within, length-take (p.index * 65536) text, ap length b.begins.1, length-append (take (p.index * 65536) text) b.begins.0, ap length t.1, length-append w.pulled t.0, ap length none, ap length whole)
+      omega (
+        arith,
+        b.within,
+        length-take (p.index * 65536) text,
+        ap length b.begins.1,
+        length-append (take (p.index * 65536) text) b.begins.0,
+        ap length t.1,
+        length-append w.pulled t.0,
+        ap length none,
+        ap length whole,
+      )
 
   -- and has the position's chain
-  old_is_same : (written : ℕ) (copied : List ℕ) → WritesOld p old new written copied → length copied ≡ p.index * 65536 → chain (first_chunks 65536 p.index copied) ≡ p.chain
+  old_is_same : (written : ℕ) (copied : List ℕ) → WritesOld p old new written copied → length copied ≡ p.index * 65536
+      → chain (first_chunks 65536 p.index copied) ≡ p.chain
   old_is_same written copied w size =
       let front = w.of text u.old_text in
-      sym (u.carries ∙ (ap (λ (t : List ℕ). chain (first_chunks 65536 p.index t)) (sym front.1) ∙ ap chain (first_chunks-append 65536 p.index copied front.0 (omega (arith, size)))))
+      sym (u.carries ∙ (ap (λ (t : List ℕ). chain (first_chunks 65536 p.index t)) (sym front.1)
+      ∙ ap chain (first_chunks-append 65536 p.index copied front.0 (omega (arith, size)))))
 
-  pub undamaged_rest : (keep : Positions) (written : ℕ) (position : Option Position) (fault : FileFault) → ResumeFails keep Allows p Refused old new written position fault → StopsOutside fault
+  pub undamaged_rest : (keep : Positions) (written : ℕ) (position : Option Position) (fault : FileFault)
+      → ResumeFails keep Allows p Refused old new written position fault → StopsOutside fault
   undamaged_rest keep written position (Head x) f = start_undamaged one Allows Refused old.main.source new.main.source text u.whole (Head x) f.1
   undamaged_rest keep written position (Key x) f = start_undamaged one Allows Refused old.main.source new.main.source text u.whole (Key x) f.1
   undamaged_rest keep written position NonceCut f = start_undamaged one Allows Refused old.main.source new.main.source text u.whole NonceCut f.1
@@ -68,7 +85,9 @@ module _ (one : OneHeader) (Allows : Header → List ℕ → Type 0) (Refused : 
   undamaged_rest keep written position OldTextDiffers f = absurd (f.7 (old_is_same written f.4 f.5 f.6))
   undamaged_rest keep written position (Stream x) (inl ends, unfailed) =
       let a = ends.stops.accepts in
-      absurd (no_early_end one Allows Refused old.main.source.remaining text u.whole p.index u.below (own_authentic u.whole.key u.whole.nonce text u.whole.few u.closed p.index u.below) new.main.source.remaining ends.stops.file.key ends.stops.file.nonce ends.skipped
+      absurd (no_early_end one Allows Refused old.main.source.remaining text u.whole p.index u.below
+      (own_authentic u.whole.key u.whole.nonce text u.whole.few u.closed p.index u.below) new.main.source.remaining ends.stops.file.key
+      ends.stops.file.nonce ends.skipped
       (opened_of ends.stops.file ends.skipped a.reads) ends.stops.short ends.at_end)
   undamaged_rest keep written position (Stream x) (inr run, unfailed) =
       absurd (run_opens one Allows Refused old.main new.main text u.whole u.closed written run.0 (omega (arith, run.1.index, u.below)) x run.2.0.is run.3)

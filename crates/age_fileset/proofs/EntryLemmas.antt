@@ -65,7 +65,8 @@ entry_of-push es q e none same =
 
 pub entry_of-push-other : (es : List MemEntry) (r : List ℕ) (e : MemEntry) → (r ≡ e.name → ⊥) → entry_of (es ++ e ∷ []) r ≡ entry_of es r
 entry_of-push-other es r e other =
-    let found : find (has_name r) (es ++ e ∷ []) ≡ find (has_name r) es = rw (find-append (has_name r) es (e ∷ []), has_name-other r e (λ h. other (sym h))) (go (find (has_name r) es)) in
+    let found : find (has_name r) (es ++ e ∷ []) ≡ find (has_name r) es = rw (find-append (has_name r) es (e ∷ []), has_name-other r e (λ h. other (sym h)))
+    (go (find (has_name r) es)) in
     ap bytes_in found
   where
     go : (o : Option MemEntry) → option_or o None ≡ o

@@ -18,7 +18,8 @@ pub record Reads (parser : Parsing) (rest bytes : List ℕ) : Type 0 where
   pub parts : fed ++ rest ≡ bytes
 
 -- what a front of the bytes was told, of them all
-pub fault_fed : (old new : Parsing) (rest piece behind bytes : List ℕ) (fault : HeadFault) → Reads old rest bytes → piece ++ behind ≡ rest → Feeds old piece (Err fault) new → IsTold bytes fault
+pub fault_fed : (old new : Parsing) (rest piece behind bytes : List ℕ) (fault : HeadFault) → Reads old rest bytes → piece ++ behind ≡ rest
+    → Feeds old piece (Err fault) new → IsTold bytes fault
 fault_fed old new rest piece behind bytes fault reads parts feeds = told (subst (λ (p : Parsing). Feeds p piece (Err fault) new) reads.is feeds) where
   joined : (reads.fed ++ piece) ++ behind ≡ bytes
   joined = append_assoc reads.fed piece behind ∙ ap (λ (t : List ℕ). reads.fed ++ t) parts ∙ reads.parts
@@ -32,21 +33,24 @@ fault_fed old new rest piece behind bytes fault reads parts feeds = told (subst 
   told f = elim f.1 [ inl memory ↦ inl memory | inr e ↦ whole e ]
 
 -- a header that ends in a piece
-pub header_fed : (old new : Parsing) (rest piece behind bytes : List ℕ) (taken : ℕ) (h : Header) → Reads old rest bytes → piece ++ behind ≡ rest → Feeds old piece (Ok (Ready taken h)) new
+pub header_fed : (old new : Parsing) (rest piece behind bytes : List ℕ) (taken : ℕ) (h : Header) → Reads old rest bytes → piece ++ behind ≡ rest
+    → Feeds old piece (Ok (Ready taken h)) new
     → HeadText h (take (length bytes - length rest + taken) bytes)
-header_fed old new rest piece behind bytes taken h reads parts feeds = found (subst (λ (p : Parsing). Feeds p piece (Ok (Ready taken h)) new) reads.is feeds) where
-  joined : (reads.fed ++ piece) ++ behind ≡ bytes
-  joined = append_assoc reads.fed piece behind ∙ ap (λ (t : List ℕ). reads.fed ++ t) parts ∙ reads.parts
+header_fed old new rest piece behind bytes taken h reads parts feeds = found (subst (λ (p : Parsing). Feeds p piece (Ok (Ready taken h)) new) reads.is feeds)
+  where
+    joined : (reads.fed ++ piece) ++ behind ≡ bytes
+    joined = append_assoc reads.fed piece behind ∙ ap (λ (t : List ℕ). reads.fed ++ t) parts ∙ reads.parts
 
-  found : Feeds (reading reads.fed) piece (Ok (Ready taken h)) new → HeadText h (take (length bytes - length rest + taken) bytes)
-  found f =
-      let within = f.1 in
-      let size : length bytes ≡ length reads.fed + length rest = sym (ap length reads.parts) ∙ length-append reads.fed rest in
-      let at : length bytes - length rest + taken ≡ length reads.fed + taken = omega arith in
-      let front : take (length bytes - length rest + taken) bytes ≡ reads.fed ++ take taken piece =
-      ap (λ n. take n bytes) at ∙ ap (take (length reads.fed + taken)) (sym joined ∙ append_assoc reads.fed piece behind) ∙ take-append-add reads.fed (piece ++ behind) taken
-      ∙ ap (λ (t : List ℕ). reads.fed ++ t) (take-append-le taken piece behind within) in
-      subst (HeadText h) (sym front) f.2
+    found : Feeds (reading reads.fed) piece (Ok (Ready taken h)) new → HeadText h (take (length bytes - length rest + taken) bytes)
+    found f =
+        let within = f.1 in
+        let size : length bytes ≡ length reads.fed + length rest = sym (ap length reads.parts) ∙ length-append reads.fed rest in
+        let at : length bytes - length rest + taken ≡ length reads.fed + taken = omega arith in
+        let front : take (length bytes - length rest + taken) bytes ≡ reads.fed ++ take taken piece =
+        ap (λ n. take n bytes) at ∙ ap (take (length reads.fed + taken)) (sym joined ∙ append_assoc reads.fed piece behind)
+        ∙ take-append-add reads.fed (piece ++ behind) taken
+        ∙ ap (λ (t : List ℕ). reads.fed ++ t) (take-append-le taken piece behind within) in
+        subst (HeadText h) (sym front) f.2
 
 -- the end of the bytes
 pub cut_fed : (old new : Parsing) (rest bytes : List ℕ) (fault : HeadFault) → Reads old rest bytes → length rest ≡ 0 → Cuts old fault new → IsTold bytes fault
@@ -59,7 +63,8 @@ cut_fed old new [] bytes fault reads none cuts = told (subst (λ (p : Parsing). 
 cut_fed old new (x ∷ rest) bytes fault reads none cuts = absurd (omega arith)
 
 -- a piece more
-pub more_fed : (old new : Parsing) (rest piece behind bytes : List ℕ) → Reads old rest bytes → piece ++ behind ≡ rest → Feeds old piece (Ok More) new → Reads new behind bytes
+pub more_fed : (old new : Parsing) (rest piece behind bytes : List ℕ) → Reads old rest bytes → piece ++ behind ≡ rest → Feeds old piece (Ok More) new
+    → Reads new behind bytes
 more_fed old new rest piece behind bytes reads parts feeds = record {
   fed = reads.fed ++ piece;
   is = goes (subst (λ (p : Parsing). Feeds p piece (Ok More) new) reads.is feeds);

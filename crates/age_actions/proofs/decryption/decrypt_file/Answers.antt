@@ -26,10 +26,13 @@ returns-in-Ok-clause-done g c = λ told.
     let input = ap (λ f. f d.from.now) (sym k1) ∙ sym (c.in_ok-source.ensures.found t1).1 in
     record {
       identity = identity;
-      opens = c.in_ok-identity.ensures (entry c.args.files.now) (subst (λ (n : Option Text). IsSecretIn (entry c.args.files.now) n (bytes_of c.in_ok-secret.secret)) c.in_ok-name.ensures.name (c.in_ok-secret.ensures.read told));
+      opens = c.in_ok-identity.ensures (entry c.args.files.now)
+          (subst (λ (n : Option Text). IsSecretIn (entry c.args.files.now) n (bytes_of c.in_ok-secret.secret)) c.in_ok-name.ensures.name
+          (c.in_ok-secret.ensures.read told));
       there = ap (λ f. is_some (f d.from.now)) (sym k1) ∙ (c.in_ok-source.ensures.found t1).0;
       output = subst (λ o. DecryptsOut identity o (entry c.write_out.new.files d.to.now)) (sym input)
-          (subst (λ l. DecryptsOut identity (g.F.In.Source.view c.in_ok-source.source).remaining (entry c.write_out.new.files l)) made.1 (c.in-Ok.ensures.done t3 made.0));
+          (subst (λ l. DecryptsOut identity (g.F.In.Source.view c.in_ok-source.source).remaining (entry c.write_out.new.files l)) made.1
+          (c.in-Ok.ensures.done t3 made.0));
       others = λ q other. c.in-Ok.ensures.others q (λ e. other (e ∙ made.1)) ∙ ap (λ f. f q) k3;
     }
 
@@ -67,7 +70,9 @@ returns-clause-stops g c = λ told.
     let out = subst (λ l. OutStops (Engine remaining) (made_in l) (mid l) stop.position stop.fault) made.1 (c.in-Err.ensures.stops t3 made.0) in
     inr (record {
       identity = identity;
-      opens = c.in_ok-identity.ensures (entry c.args.files.now) (subst (λ (n : Option Text). IsSecretIn (entry c.args.files.now) n (bytes_of c.in_ok-secret.secret)) c.in_ok-name.ensures.name (c.in_ok-secret.ensures.read told));
+      opens = c.in_ok-identity.ensures (entry c.args.files.now)
+          (subst (λ (n : Option Text). IsSecretIn (entry c.args.files.now) n (bytes_of c.in_ok-secret.secret)) c.in_ok-name.ensures.name
+          (c.in_ok-secret.ensures.read told));
       there = ap (λ f. is_some (f d.from.now)) (sym k1) ∙ (c.in_ok-source.ensures.found t1).0;
       position = stop.position;
       fault = stop.fault;
@@ -95,7 +100,8 @@ returns-clause-order g c =
     let events = g.F.FileSet.events in
     subst (λ o. Follows ((o ++ (opening (Some d.from.now) ++ making (Some d.to.now))) ++ replacing save) (events c.args.files.now) (events c.end_of.new.files))
     c.in_ok-name.ensures.one
-    (stop_follows _ _ _ _ _ _ (Opened d.from.now ∷ []) d.to.now save c.in_ok-secret.ensures.noted c.in_ok-source.ensures.noted _ c.in_ok-out.ensures.noted c.in-Err.ensures.noted c.end_of.ensures.noted)
+    (stop_follows _ _ _ _ _ _ (Opened d.from.now ∷ []) d.to.now save c.in_ok-secret.ensures.noted c.in_ok-source.ensures.noted _ c.in_ok-out.ensures.noted
+    c.in-Err.ensures.noted c.end_of.ensures.noted)
 
 pub returns-in_err-out-clause-order : goal.returns-in_err-out-clause-order
 returns-in_err-out-clause-order g c =
@@ -114,4 +120,5 @@ returns-in_err-out-clause-order_usage g c =
     every_fault c.from_residual-in_err-out.result _ (λ e usage.
     subst (λ o. Follows (o ++ (opening (Some d.from.now) ++ making (Some d.to.now))) (events c.args.files.now) (events c.create_out.new.files))
     c.in_ok-name.ensures.one
-    (unmade _ _ _ [] _ _ (Opened d.from.now ∷ []) d.to.now (text_of d.save) c.in_ok-secret.ensures.noted c.in_ok-source.ensures.noted c.in_err-out.ensures.noted_err))
+    (unmade _ _ _ [] _ _ (Opened d.from.now ∷ []) d.to.now (text_of d.save) c.in_ok-secret.ensures.noted c.in_ok-source.ensures.noted
+    c.in_err-out.ensures.noted_err))

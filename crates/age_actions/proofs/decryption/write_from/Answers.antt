@@ -21,7 +21,8 @@ returns-in-Err-clause-stops g c = λ told empty.
     let before = ports (In.view c.args.source.now) (Out.view c.args.out) in
     let after = ports (In.view c.decrypt_with.new.reader) (Out.view c.decrypt_with.new.writer) in
     let fails : DecryptFails keep (allows_by identity) (refuses_by identity) before after stopped.written stopped.position stopped.fault =
-    subst (λ k. DecryptFails k (allows_by identity) (refuses_by identity) before after stopped.written stopped.position stopped.fault) c.positions_for-positions.ensures c.in-Err.ensures.stopped in
+    subst (λ k. DecryptFails k (allows_by identity) (refuses_by identity) before after stopped.written stopped.position stopped.fault)
+    c.positions_for-positions.ensures c.in-Err.ensures.stopped in
     let wrote = stop_wrote keep (allows_by identity) (refuses_by identity) before after stopped.written stopped.position stopped.fault fails in
     let none : stopped.written ≡ 0 → new ≡ Some [] = λ zero. holds_nothing (Out.view c.args.out).taken new stopped.written wrote.0 empty wrote.1 zero in
     subst (λ (s : Stop). OutStops (DecryptionStop (PortsOf In.view Out.view) keep identity (In.view c.args.source.now).remaining s.position s.fault)
@@ -39,5 +40,6 @@ returns-in-Err-clause-stops g c = λ told empty.
         fails = fails;
         took = refl;
       }),
-      subst (λ l. Leaves (stopped.written ≡ 0) new (entry c.args.files.now l) (entry c.leave.new.files l)) c.in-Err.ensures.named (c.leave.ensures.held told none),
+      subst (λ l. Leaves (stopped.written ≡ 0) new (entry c.args.files.now l) (entry c.leave.new.files l)) c.in-Err.ensures.named
+          (c.leave.ensures.held told none),
     ))

@@ -28,14 +28,20 @@ returns-in-Ok-clause-done g c = λ told.
     record {
       secret = secret;
       made = record {
-        passphrase = (c.in_ok-pass.pass.items, c.in_ok-pass.ensures.read told, ap (λ s. s.pass) is ∙ (c.trimmed.ensures ∙ ap without_line_feed c.as_slice.ensures.value));
+        passphrase = (
+          c.in_ok-pass.pass.items,
+          c.in_ok-pass.ensures.read told,
+          ap (λ s. s.pass) is
+              ∙ (c.trimmed.ensures ∙ ap without_line_feed c.as_slice.ensures.value),
+        );
         log_is = ap (λ s. s.log) is;
         within = subst (λ (s : SecretView). IsWithinLimits s.pass s.log) (sym is) c.in-Some.ensures.0;
         random_is = random_in _ random.0 random.1 c.in_ok-random.random secret held random.3 (ap (λ s. s.key) is) (ap (λ s. s.salt) is) (ap (λ s. s.nonce) is);
       };
       there = ap (λ f. is_some (f c.args.asked.now.from.now)) (sym k2) ∙ (c.in_ok-source.ensures.found t2).0;
       output = subst (λ o. EncryptsOut secret o (entry c.write_out.new.files c.args.asked.now.to.now)) (sym input)
-          (subst (λ l. EncryptsOut secret (g.F.In.Source.view c.in_ok-source.source).remaining (entry c.write_out.new.files l)) made.1 (c.in-Ok.ensures.done t4 made.0));
+          (subst (λ l. EncryptsOut secret (g.F.In.Source.view c.in_ok-source.source).remaining (entry c.write_out.new.files l)) made.1
+          (c.in-Ok.ensures.done t4 made.0));
       others = λ q other. c.in-Ok.ensures.others q (λ e. other (e ∙ made.1)) ∙ ap (λ f. f q) k4;
     }
 
@@ -63,11 +69,17 @@ returns-clause-stops g c = λ told.
     let fault = c.in-Err.fault in
     let Engine : Option (List ℕ) → Option (List ℕ) → Type 0 =
     λ read. EncryptionStop (PortsOf g.F.In.Source.view g.F.Out.Sink.view) secret read fault in
-    let out = subst (λ l. SealedOutStops (Engine (g.F.In.Source.view c.in_ok-source.source).remaining) (made_in l) (new l) fault) made.1 (c.in-Err.ensures.stops t4 made.0) in
+    let out = subst (λ l. SealedOutStops (Engine (g.F.In.Source.view c.in_ok-source.source).remaining) (made_in l) (new l) fault) made.1
+    (c.in-Err.ensures.stops t4 made.0) in
     inr (record {
       secret = secret;
       made = record {
-        passphrase = (c.in_ok-pass.pass.items, c.in_ok-pass.ensures.read told, ap (λ s. s.pass) is ∙ (c.trimmed.ensures ∙ ap without_line_feed c.as_slice.ensures.value));
+        passphrase = (
+          c.in_ok-pass.pass.items,
+          c.in_ok-pass.ensures.read told,
+          ap (λ s. s.pass) is
+              ∙ (c.trimmed.ensures ∙ ap without_line_feed c.as_slice.ensures.value),
+        );
         log_is = ap (λ s. s.log) is;
         within = subst (λ (s : SecretView). IsWithinLimits s.pass s.log) (sym is) c.in-Some.ensures.0;
         random_is = random_in _ random.0 random.1 c.in_ok-random.random secret held random.3 (ap (λ s. s.key) is) (ap (λ s. s.salt) is) (ap (λ s. s.nonce) is);

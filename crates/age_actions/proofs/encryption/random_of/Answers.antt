@@ -15,7 +15,8 @@ returns c =
     let nonce = c.in_ok-payload_nonce.payload_nonce.now in
     record {
       rest = drop 16 zs;
-      parts = cut_in_two 16 xs key ys a.0 a.1 ∙ ap (λ (t : List ℕ). key ++ t) (cut_in_two 16 ys salt zs b.0 b.1 ∙ ap (λ (t : List ℕ). salt ++ t) (cut_in_two 16 zs nonce (drop 16 zs) d.same refl));
+      parts = cut_in_two 16 xs key ys a.0 a.1 ∙ ap (λ (t : List ℕ). key ++ t) (cut_in_two 16 ys salt zs b.0 b.1
+          ∙ ap (λ (t : List ℕ). salt ++ t) (cut_in_two 16 zs nonce (drop 16 zs) d.same refl));
       key_length = front_length 16 xs key a.0 (omega (arith, a.2));
       salt_length = front_length 16 ys salt b.0 (omega (arith, b.2));
       nonce_length = front_length 16 zs nonce d.same d.enough;

@@ -27,5 +27,6 @@ returns-in-Err-clause-stops g c = λ told empty.
         fails = c.in-Err.ensures.fails;
         took = refl;
       }),
-      subst (λ l. Leaves (fault ≡ Memory) new (entry c.args.files.now l) (entry c.leave_sealed.new.files l)) c.in-Err.ensures.named (c.leave_sealed.ensures.held told none),
+      subst (λ l. Leaves (fault ≡ Memory) new (entry c.args.files.now l) (entry c.leave_sealed.new.files l)) c.in-Err.ensures.named
+          (c.leave_sealed.ensures.held told none),
     )

@@ -11,6 +11,15 @@ pieces-preserved g c =
     let items = c.in_ok-extend_from_slice.ensures.items in
     record {
       read = rw items (Consumes-then _ _ _ c.pieces.held.items (take n buffer) kept.read c.in_ok-n.ensures.bytes);
-      within = omega (arith, kept.within, ap length items, length-append c.pieces.held.items (take n buffer), length-take n buffer, c.in_ok-n.ensures.count, c.pieces-test.true, c.len.ensures);
+      within = omega (
+        arith,
+        kept.within,
+        ap length items,
+        length-append c.pieces.held.items (take n buffer),
+        length-take n buffer,
+        c.in_ok-n.ensures.count,
+        c.pieces-test.true,
+        c.len.ensures,
+      );
       room = c.pull_some.array_long;
     }

@@ -34,13 +34,16 @@ returns-in-Ok-clause-done g c = λ told.
     record {
       identity = identity;
       position = position;
-      opens = c.in_ok-identity.ensures (entry c.args.files.now) (subst (λ (n : Option Text). IsSecretIn (entry c.args.files.now) n (bytes_of c.in_ok-secret.secret)) c.in_ok-name.ensures.name (c.in_ok-secret.ensures.read told));
+      opens = c.in_ok-identity.ensures (entry c.args.files.now)
+          (subst (λ (n : Option Text). IsSecretIn (entry c.args.files.now) n (bytes_of c.in_ok-secret.secret)) c.in_ok-name.ensures.name
+          (c.in_ok-secret.ensures.read told));
       position_is = ap (λ f. f r.position.now) (sym k1) ∙ c.in_ok-position.ensures.read t1;
       there = ap (λ f. is_some (f r.decrypting.from.now)) (sym k3) ∙ (c.in_ok-source.ensures.found t3).0;
       old_there = ap (λ f. is_some (f r.old.now)) (sym k2) ∙ (c.in_ok-old.ensures.found t2).0;
       output = subst (λ o. ResumesOut identity position o (entry c.args.files.now r.old.now) out) (sym input)
           (subst (λ o. ResumesOut identity position (g.F.In.Source.view c.in_ok-source.source).remaining o out) (sym old_text)
-          (subst (λ l. ResumesOut identity position (g.F.In.Source.view c.in_ok-source.source).remaining (g.F.In.Source.view c.in_ok-old.old).remaining (entry c.write_out.new.files l)) made.1 (c.in-Ok.ensures.done t5 made.0)));
+          (subst (λ l. ResumesOut identity position (g.F.In.Source.view c.in_ok-source.source).remaining (g.F.In.Source.view c.in_ok-old.old).remaining
+          (entry c.write_out.new.files l)) made.1 (c.in-Ok.ensures.done t5 made.0)));
       others = λ q other. c.in-Ok.ensures.others q (λ e. other (e ∙ made.1)) ∙ ap (λ f. f q) k5;
     }
 
@@ -49,7 +52,8 @@ returns-clause-spares g c = λ told q other none.
     let t4 = c.in_ok-source.ensures.told ∙ (c.in_ok-old.ensures.told ∙ (c.in_ok-position.ensures.told ∙ (c.in_ok-secret.ensures.told ∙ told))) in
     let made = c.in_ok-out.ensures.made t4 in
     let t6 = c.in-Err.ensures.told ∙ (c.in_ok-out.ensures.told ∙ t4) in
-    let k5 = c.in_ok-out.ensures.kept ∙ (c.in_ok-source.ensures.kept ∙ (c.in_ok-old.ensures.kept ∙ (c.in_ok-position.ensures.kept ∙ c.in_ok-secret.ensures.kept))) in
+    let k5 = c.in_ok-out.ensures.kept
+    ∙ (c.in_ok-source.ensures.kept ∙ (c.in_ok-old.ensures.kept ∙ (c.in_ok-position.ensures.kept ∙ c.in_ok-secret.ensures.kept))) in
     c.end_of.ensures.others t6 q (λ e. cc) none ∙ (c.in-Err.ensures.others q (λ e. other (ap Some (sym (e ∙ made.1)))) ∙ ap (λ f. f q) k5)
 
 pub returns-clause-stops : goal.returns-clause-stops
@@ -87,7 +91,9 @@ returns-clause-stops g c = λ told.
     let out = subst (λ l. OutStops (Engine read old_read) (made_in l) (mid l) stop.position stop.fault) made.1 (c.in-Err.ensures.stops t5 made.0) in
     inr (record {
       identity = identity;
-      opens = c.in_ok-identity.ensures (entry c.args.files.now) (subst (λ (n : Option Text). IsSecretIn (entry c.args.files.now) n (bytes_of c.in_ok-secret.secret)) c.in_ok-name.ensures.name (c.in_ok-secret.ensures.read told));
+      opens = c.in_ok-identity.ensures (entry c.args.files.now)
+          (subst (λ (n : Option Text). IsSecretIn (entry c.args.files.now) n (bytes_of c.in_ok-secret.secret)) c.in_ok-name.ensures.name
+          (c.in_ok-secret.ensures.read told));
       from_position = position;
       position_is = ap (λ f. f r.position.now) (sym k1) ∙ c.in_ok-position.ensures.read t1;
       there = ap (λ f. is_some (f d.from.now)) (sym k3) ∙ (c.in_ok-source.ensures.found t3).0;
@@ -108,10 +114,12 @@ returns-clause-order g c =
     let d = r.decrypting in
     let save = text_of d.save in
     let events = g.F.FileSet.events in
-    subst (λ o. Follows ((o ++ ((Opened r.position.now ∷ Opened r.old.now ∷ Opened d.from.now ∷ []) ++ making (Some d.to.now))) ++ replacing save) (events c.args.files.now) (events c.end_of.new.files))
+    subst (λ o. Follows ((o ++ ((Opened r.position.now ∷ Opened r.old.now ∷ Opened d.from.now ∷ []) ++ making (Some d.to.now))) ++ replacing save)
+    (events c.args.files.now) (events c.end_of.new.files))
     c.in_ok-name.ensures.one
     (stop_follows _ _ _ _ _ _ (Opened r.position.now ∷ Opened r.old.now ∷ Opened d.from.now ∷ []) d.to.now save c.in_ok-secret.ensures.noted
-    (three_events _ _ _ _ _ _ _ c.in_ok-position.ensures.noted c.in_ok-old.ensures.noted c.in_ok-source.ensures.noted) _ c.in_ok-out.ensures.noted c.in-Err.ensures.noted c.end_of.ensures.noted)
+    (three_events _ _ _ _ _ _ _ c.in_ok-position.ensures.noted c.in_ok-old.ensures.noted c.in_ok-source.ensures.noted) _ c.in_ok-out.ensures.noted
+    c.in-Err.ensures.noted c.end_of.ensures.noted)
 
 pub returns-in_err-out-clause-order : goal.returns-in_err-out-clause-order
 returns-in_err-out-clause-order g c =
@@ -120,7 +128,8 @@ returns-in_err-out-clause-order g c =
     let save = text_of d.save in
     let events = g.F.FileSet.events in
     longer _ (replacing save) _ _
-    (subst (λ o. Follows (o ++ ((Opened r.position.now ∷ Opened r.old.now ∷ Opened d.from.now ∷ []) ++ making (Some d.to.now))) (events c.args.files.now) (events c.create_out.new.files))
+    (subst (λ o. Follows (o ++ ((Opened r.position.now ∷ Opened r.old.now ∷ Opened d.from.now ∷ []) ++ making (Some d.to.now))) (events c.args.files.now)
+    (events c.create_out.new.files))
     c.in_ok-name.ensures.one
     (unmade _ _ _ [] _ _ (Opened r.position.now ∷ Opened r.old.now ∷ Opened d.from.now ∷ []) d.to.now save c.in_ok-secret.ensures.noted
     (three_events _ _ _ _ _ _ _ c.in_ok-position.ensures.noted c.in_ok-old.ensures.noted c.in_ok-source.ensures.noted) c.in_err-out.ensures.noted_err))
@@ -131,7 +140,8 @@ returns-in_err-out-clause-order_usage g c =
     let d = r.decrypting in
     let events = g.F.FileSet.events in
     every_fault c.from_residual-in_err-out.result _ (λ e usage.
-    subst (λ o. Follows (o ++ ((Opened r.position.now ∷ Opened r.old.now ∷ Opened d.from.now ∷ []) ++ making (Some d.to.now))) (events c.args.files.now) (events c.create_out.new.files))
+    subst (λ o. Follows (o ++ ((Opened r.position.now ∷ Opened r.old.now ∷ Opened d.from.now ∷ []) ++ making (Some d.to.now))) (events c.args.files.now)
+    (events c.create_out.new.files))
     c.in_ok-name.ensures.one
     (unmade _ _ _ [] _ _ (Opened r.position.now ∷ Opened r.old.now ∷ Opened d.from.now ∷ []) d.to.now (text_of d.save) c.in_ok-secret.ensures.noted
     (three_events _ _ _ _ _ _ _ c.in_ok-position.ensures.noted c.in_ok-old.ensures.noted c.in_ok-source.ensures.noted) c.in_err-out.ensures.noted_err))

@@ -29,9 +29,11 @@ returns-in-Err-clause-stops g c = λ told empty.
     let before = resume_ports (ports (Read.view source) (Out.view c.args.out)) (In.view old) in
     let after = resume_ports (ports (Read.view reader) (Out.view writer)) (In.view old_reader) in
     let fails : ResumeFails keep (allows_by identity) from (refuses_by identity) before after stopped.written stopped.position stopped.fault =
-    subst (λ k. ResumeFails k (allows_by identity) from (refuses_by identity) before after stopped.written stopped.position stopped.fault) c.positions_for-positions.ensures c.in-Err.ensures.stopped in
+    subst (λ k. ResumeFails k (allows_by identity) from (refuses_by identity) before after stopped.written stopped.position stopped.fault)
+    c.positions_for-positions.ensures c.in-Err.ensures.stopped in
     let wrote = resume_wrote keep (allows_by identity) from (refuses_by identity) before after stopped.written stopped.position stopped.fault fails in
-    let none : stopped.written ≡ 0 → (Out.view writer).taken ≡ Some [] = λ zero. holds_nothing (Out.view c.args.out).taken (Out.view writer).taken stopped.written wrote.0 empty wrote.1 zero in
+    let none : stopped.written ≡ 0 → (Out.view writer).taken ≡ Some [] = λ zero. holds_nothing (Out.view c.args.out).taken (Out.view writer).taken
+    stopped.written wrote.0 empty wrote.1 zero in
     subst (λ (s : Stop). OutStops
     (ResumptionStop (PortsOfEither Read.view In.view Out.view) keep identity from (Read.view source).remaining (In.view old).remaining s.position s.fault)
     (entry c.args.files.now label) (entry c.leave.new.files label) s.position s.fault) (sym c.from.ensures)
@@ -51,5 +53,6 @@ returns-in-Err-clause-stops g c = λ told empty.
         fails = fails;
         took = refl;
       }),
-      subst (λ l. Leaves (stopped.written ≡ 0) (Out.view writer).taken (entry c.args.files.now l) (entry c.leave.new.files l)) c.in-Err.ensures.named (c.leave.ensures.held told none),
+      subst (λ l. Leaves (stopped.written ≡ 0) (Out.view writer).taken (entry c.args.files.now l) (entry c.leave.new.files l)) c.in-Err.ensures.named
+          (c.leave.ensures.held told none),
     ))

@@ -16,7 +16,8 @@ returns-in-Silent-clause-stops g c =
     let new = entry c.write_from.new.files label in
     let keep = kept_for (text_of c.args.wanted.now.save) in
     IfErr-weaker c.write_from.result _ _ (λ stop stops told empty.
-    resuming_stops _ _ (either_ports In.view In.view Out.view (λ s. s) (λ s. refl)) keep c.args.identity.now c.args.position.now _ _ old new stop (stops told empty)) c.write_from.ensures.stops
+    resuming_stops _ _ (either_ports In.view In.view Out.view (λ s. s) (λ s. refl)) keep c.args.identity.now c.args.position.now _ _ old new stop
+    (stops told empty)) c.write_from.ensures.stops
 
 pub returns-in-Shown-clause-stops : goal.returns-in-Shown-clause-stops
 returns-in-Shown-clause-stops g c =
@@ -31,12 +32,15 @@ returns-in-Shown-clause-stops g c =
     let from = c.args.position.now in
     let old_text = (In.view c.args.old.now).remaining in
     IfErr-weaker c.write_from-written.result _ _ (λ stop stops told empty.
-    subst (λ s. OutStops (ResumptionStop (PortsOf In.view Out.view) keep identity from (In.view s).remaining old_text stop.position stop.fault) old new stop.position stop.fault) c.new-metered.ensures.source
-    (resuming_stops _ _ (either_ports _ In.view Out.view (λ m. m.source) (λ m. refl)) keep identity from _ old_text old new stop (stops told empty))) c.write_from-written.ensures.stops
+    subst (λ s. OutStops (ResumptionStop (PortsOf In.view Out.view) keep identity from (In.view s).remaining old_text stop.position stop.fault) old new
+    stop.position stop.fault) c.new-metered.ensures.source
+    (resuming_stops _ _ (either_ports _ In.view Out.view (λ m. m.source) (λ m. refl)) keep identity from _ old_text old new stop (stops told empty)))
+    c.write_from-written.ensures.stops
 
 pub returns-in-Shown-clause-done : goal.returns-in-Shown-clause-done
 returns-in-Shown-clause-done g c =
     let In = g.F.In.Source in
     let new = g.F.FileSet.entry c.write_from-written.new.files (g.F.Out.Sink.view c.args.out).label in
     on_ok_weaker c.write_from-written.result (λ did told empty.
-    subst (λ s. ResumesOut c.args.identity.now c.args.position.now (In.view s).remaining (In.view c.args.old.now).remaining new) c.new-metered.ensures.source (did told empty)) c.write_from-written.ensures.done
+    subst (λ s. ResumesOut c.args.identity.now c.args.position.now (In.view s).remaining (In.view c.args.old.now).remaining new) c.new-metered.ensures.source
+    (did told empty)) c.write_from-written.ensures.done

@@ -56,21 +56,24 @@ returns-in-Ok-Some-Encrypt-clause-encrypts_stop g c = λ rows asks told.
     let w = texts c.args.words.now in
     let here = c.in-Ok-Some-Encrypt in
     let request = subst (λ (o : Option Request). IfSome o (Requests w)) (here.field-0-is ∙ ap Some here.field-0-0-is) here.ensures.asked in
-    IfErr-weaker c.encrypt_file.result _ _ (λ e did. sealing_stop_rows (PortsOf g.F.In.Source.view g.F.Out.Sink.view) w rows here.asked _ _ e request asks (did told)) c.encrypt_file.ensures.stops
+    IfErr-weaker c.encrypt_file.result _ _ (λ e did. sealing_stop_rows (PortsOf g.F.In.Source.view g.F.Out.Sink.view) w rows here.asked _ _ e request
+    asks (did told)) c.encrypt_file.ensures.stops
 
 pub returns-in-Ok-Some-Decrypt-clause-decrypts_stop : goal.returns-in-Ok-Some-Decrypt-clause-decrypts_stop
 returns-in-Ok-Some-Decrypt-clause-decrypts_stop g c = λ rows asks told.
     let w = texts c.args.words.now in
     let here = c.in-Ok-Some-Decrypt in
     let request = subst (λ (o : Option Request). IfSome o (Requests w)) (here.field-0-is ∙ ap Some here.field-0-0-is) here.ensures.asked in
-    IfErr-weaker c.decrypt_file.result _ _ (λ e did. stops_rows (PortsOf g.F.In.Source.view g.F.Out.Sink.view) w rows here.asked _ _ e request asks (did told)) c.decrypt_file.ensures.stops
+    IfErr-weaker c.decrypt_file.result _ _ (λ e did. stops_rows (PortsOf g.F.In.Source.view g.F.Out.Sink.view) w rows here.asked _ _ e request asks (did told))
+    c.decrypt_file.ensures.stops
 
 pub returns-in-Ok-Some-Resume-clause-resumes_stop : goal.returns-in-Ok-Some-Resume-clause-resumes_stop
 returns-in-Ok-Some-Resume-clause-resumes_stop g c = λ rows asks told.
     let w = texts c.args.words.now in
     let here = c.in-Ok-Some-Resume in
     let request = subst (λ (o : Option Request). IfSome o (Requests w)) (here.field-0-is ∙ ap Some here.field-0-0-is) here.ensures.asked in
-    IfErr-weaker c.resume_file.result _ _ (λ e did. resumes_stop_rows (PortsOf g.F.In.Source.view g.F.Out.Sink.view) w rows here.asked _ _ e request asks (did told)) c.resume_file.ensures.stops
+    IfErr-weaker c.resume_file.result _ _ (λ e did. resumes_stop_rows (PortsOf g.F.In.Source.view g.F.Out.Sink.view) w rows here.asked _ _ e request
+    asks (did told)) c.resume_file.ensures.stops
 
 pub returns-in-Ok-Some-Encrypt-clause-touches : goal.returns-in-Ok-Some-Encrypt-clause-touches
 returns-in-Ok-Some-Encrypt-clause-touches g c = λ name rows asks.
@@ -97,7 +100,8 @@ returns-in-Ok-Some-Encrypt-clause-judged g c = λ name rows asks.
     let request = subst (λ (o : Option Request). IfSome o (Requests w)) (here.field-0-is ∙ ap Some here.field-0-0-is) here.ensures.asked in
     let same = asked_order w name rows (Encrypt here.asked) request asks in
     let events = g.F.FileSet.events in
-    IfErr-weaker c.encrypt_file.result _ _ (λ e did usage. subst (λ (o : Order). Follows o.done (events c.args.files.now) (events c.encrypt_file.new.files)) (sym same) (did usage)) c.encrypt_file.ensures.order_usage
+    IfErr-weaker c.encrypt_file.result _ _ (λ e did usage. subst (λ (o : Order). Follows o.done (events c.args.files.now) (events c.encrypt_file.new.files))
+    (sym same) (did usage)) c.encrypt_file.ensures.order_usage
 
 pub returns-in-Ok-Some-Encrypt-clause-judged_told : goal.returns-in-Ok-Some-Encrypt-clause-judged_told
 returns-in-Ok-Some-Encrypt-clause-judged_told g c = λ name rows asks told.
@@ -106,7 +110,8 @@ returns-in-Ok-Some-Encrypt-clause-judged_told g c = λ name rows asks told.
     let request = subst (λ (o : Option Request). IfSome o (Requests w)) (here.field-0-is ∙ ap Some here.field-0-0-is) here.ensures.asked in
     let same = asked_order w name rows (Encrypt here.asked) request asks in
     let events = g.F.FileSet.events in
-    IfErr-weaker c.encrypt_file.result _ _ (λ e did usage. subst (λ (o : Order). Follows o.judged (events c.args.files.now) (events c.encrypt_file.new.files)) (sym same) (did usage)) (c.encrypt_file.ensures.order_told told)
+    IfErr-weaker c.encrypt_file.result _ _ (λ e did usage. subst (λ (o : Order). Follows o.judged (events c.args.files.now) (events c.encrypt_file.new.files))
+    (sym same) (did usage)) (c.encrypt_file.ensures.order_told told)
 
 pub returns-in-Ok-Some-Decrypt-clause-touches : goal.returns-in-Ok-Some-Decrypt-clause-touches
 returns-in-Ok-Some-Decrypt-clause-touches g c = λ name rows asks.
@@ -133,7 +138,8 @@ returns-in-Ok-Some-Decrypt-clause-judged g c = λ name rows asks.
     let request = subst (λ (o : Option Request). IfSome o (Requests w)) (here.field-0-is ∙ ap Some here.field-0-0-is) here.ensures.asked in
     let same = asked_order w name rows (Decrypt here.asked) request asks in
     let events = g.F.FileSet.events in
-    IfErr-weaker c.decrypt_file.result _ _ (λ e did usage. subst (λ (o : Order). Follows o.done (events c.args.files.now) (events c.decrypt_file.new.files)) (sym same) (did usage)) c.decrypt_file.ensures.order_usage
+    IfErr-weaker c.decrypt_file.result _ _ (λ e did usage. subst (λ (o : Order). Follows o.done (events c.args.files.now) (events c.decrypt_file.new.files))
+    (sym same) (did usage)) c.decrypt_file.ensures.order_usage
 
 pub returns-in-Ok-Some-Decrypt-clause-judged_told : goal.returns-in-Ok-Some-Decrypt-clause-judged_told
 returns-in-Ok-Some-Decrypt-clause-judged_told g c = λ name rows asks told.
@@ -142,7 +148,8 @@ returns-in-Ok-Some-Decrypt-clause-judged_told g c = λ name rows asks told.
     let request = subst (λ (o : Option Request). IfSome o (Requests w)) (here.field-0-is ∙ ap Some here.field-0-0-is) here.ensures.asked in
     let same = asked_order w name rows (Decrypt here.asked) request asks in
     let events = g.F.FileSet.events in
-    IfErr-weaker c.decrypt_file.result _ _ (λ e did usage. subst (λ (o : Order). Follows o.judged (events c.args.files.now) (events c.decrypt_file.new.files)) (sym same) (did usage)) (c.decrypt_file.ensures.order_told told)
+    IfErr-weaker c.decrypt_file.result _ _ (λ e did usage. subst (λ (o : Order). Follows o.judged (events c.args.files.now) (events c.decrypt_file.new.files))
+    (sym same) (did usage)) (c.decrypt_file.ensures.order_told told)
 
 pub returns-in-Ok-Some-Resume-clause-touches : goal.returns-in-Ok-Some-Resume-clause-touches
 returns-in-Ok-Some-Resume-clause-touches g c = λ name rows asks.
@@ -169,7 +176,8 @@ returns-in-Ok-Some-Resume-clause-judged g c = λ name rows asks.
     let request = subst (λ (o : Option Request). IfSome o (Requests w)) (here.field-0-is ∙ ap Some here.field-0-0-is) here.ensures.asked in
     let same = asked_order w name rows (Resume here.asked) request asks in
     let events = g.F.FileSet.events in
-    IfErr-weaker c.resume_file.result _ _ (λ e did usage. subst (λ (o : Order). Follows o.done (events c.args.files.now) (events c.resume_file.new.files)) (sym same) (did usage)) c.resume_file.ensures.order_usage
+    IfErr-weaker c.resume_file.result _ _ (λ e did usage. subst (λ (o : Order). Follows o.done (events c.args.files.now) (events c.resume_file.new.files))
+    (sym same) (did usage)) c.resume_file.ensures.order_usage
 
 pub returns-in-Ok-Some-Resume-clause-judged_told : goal.returns-in-Ok-Some-Resume-clause-judged_told
 returns-in-Ok-Some-Resume-clause-judged_told g c = λ name rows asks told.
@@ -178,7 +186,8 @@ returns-in-Ok-Some-Resume-clause-judged_told g c = λ name rows asks told.
     let request = subst (λ (o : Option Request). IfSome o (Requests w)) (here.field-0-is ∙ ap Some here.field-0-0-is) here.ensures.asked in
     let same = asked_order w name rows (Resume here.asked) request asks in
     let events = g.F.FileSet.events in
-    IfErr-weaker c.resume_file.result _ _ (λ e did usage. subst (λ (o : Order). Follows o.judged (events c.args.files.now) (events c.resume_file.new.files)) (sym same) (did usage)) (c.resume_file.ensures.order_told told)
+    IfErr-weaker c.resume_file.result _ _ (λ e did usage. subst (λ (o : Order). Follows o.judged (events c.args.files.now) (events c.resume_file.new.files))
+    (sym same) (did usage)) (c.resume_file.ensures.order_told told)
 
 pub returns-in-Ok-Some-Drill-clause-touches : goal.returns-in-Ok-Some-Drill-clause-touches
 returns-in-Ok-Some-Drill-clause-touches g c = λ name rows asks.
@@ -205,7 +214,8 @@ returns-in-Ok-Some-Drill-clause-judged g c = λ name rows asks.
     let request = subst (λ (o : Option Request). IfSome o (Requests w)) (here.field-0-is ∙ ap Some here.field-0-0-is) here.ensures.asked in
     let same = asked_order w name rows (Drill here.asked) request asks in
     let events = g.F.FileSet.events in
-    every_fault c.drill_file.result _ (λ e usage. subst (λ (o : Order). Follows o.done (events c.args.files.now) (events c.drill_file.new.files)) (sym same) c.drill_file.ensures.order)
+    every_fault c.drill_file.result _ (λ e usage. subst (λ (o : Order). Follows o.done (events c.args.files.now) (events c.drill_file.new.files))
+    (sym same) c.drill_file.ensures.order)
 
 pub returns-in-Ok-Some-Drill-clause-judged_told : goal.returns-in-Ok-Some-Drill-clause-judged_told
 returns-in-Ok-Some-Drill-clause-judged_told g c = λ name rows asks told.
@@ -214,7 +224,8 @@ returns-in-Ok-Some-Drill-clause-judged_told g c = λ name rows asks told.
     let request = subst (λ (o : Option Request). IfSome o (Requests w)) (here.field-0-is ∙ ap Some here.field-0-0-is) here.ensures.asked in
     let same = asked_order w name rows (Drill here.asked) request asks in
     let events = g.F.FileSet.events in
-    every_fault c.drill_file.result _ (λ e usage. subst (λ (o : Order). Follows o.judged (events c.args.files.now) (events c.drill_file.new.files)) (sym same) c.drill_file.ensures.order)
+    every_fault c.drill_file.result _ (λ e usage. subst (λ (o : Order). Follows o.judged (events c.args.files.now) (events c.drill_file.new.files))
+    (sym same) c.drill_file.ensures.order)
 
 pub returns-then-is_empty-clause-touches : goal.returns-then-is_empty-clause-touches
 returns-then-is_empty-clause-touches g c =

@@ -40,7 +40,8 @@ loop-at-preserved g c =
       unfailed = after.unfailed;
       key = after.key ∙ ekey;
       holds = subst (λ (t : List ℕ). Holds 65536 c.feed.follows.lender-at-none t) on (after.holds (take at text) inv.holds);
-      wrote = subst (λ (t : List ℕ). Appends (g.O.Sink.view c.args.sink.now).taken (g.O.Sink.view c.put.new.sink).taken t) grown (Appends-then _ _ _ _ _ inv.wrote put);
+      wrote = subst (λ (t : List ℕ). Appends (g.O.Sink.view c.args.sink.now).taken (g.O.Sink.view c.put.new.sink).taken t) grown
+          (Appends-then _ _ _ _ _ inv.wrote put);
     }
 
 pub returns : goal.returns
@@ -52,4 +53,7 @@ returns g c =
     let whole = payload (g.B.ChunkBox.sealing c.args.key.now) 65536 in
     let last0 = c.in_ok-finish.ensures.chunk here inv.holds in
     let last = rw inv.key at last0 in
-    record { sealed = subst (λ (t : List ℕ). Appends (g.O.Sink.view c.args.sink.now).taken (g.O.Sink.view c.put-2.new.sink).taken t) (sym last ∙ ap whole all) (Appends-then _ _ _ _ _ inv.wrote c.in_ok-put-2.ensures) }
+    record {
+      sealed = subst (λ (t : List ℕ). Appends (g.O.Sink.view c.args.sink.now).taken (g.O.Sink.view c.put-2.new.sink).taken t) (sym last
+          ∙ ap whole all) (Appends-then _ _ _ _ _ inv.wrote c.in_ok-put-2.ensures);
+    }

@@ -12,7 +12,8 @@ invariant-loop-at g l =
       unfailed : l.sealer.failed ≡ false;
       key : l.sealer.key ≡ l.key;
       holds : Holds 65536 l.sealer (take l.at l.text);
-      wrote : Appends (g.O.Sink.view l.initial.sink).taken (g.O.Sink.view l.sink).taken (block_bytes (sealed_before_last (g.B.ChunkBox.sealing l.key) 65536 (take l.at l.text)));
+      wrote : Appends (g.O.Sink.view l.initial.sink).taken (g.O.Sink.view l.sink).taken
+          (block_bytes (sealed_before_last (g.B.ChunkBox.sealing l.key) 65536 (take l.at l.text)));
     }
 
 abbrev pub decreases-loop-at : goal.decreases-loop-at

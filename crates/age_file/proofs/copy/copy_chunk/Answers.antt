@@ -62,13 +62,21 @@ returns-in_err-some_bytes-clause-copied g c =
     let new = side_of g.S.Source.view c.some_bytes.new.reader in
     let was = tally_of g.O.Sink.view c.args.writer.now in
     let now = tally_of g.O.Sink.view c.parts.writer in
-    let dries = dries_same old mid new kept.copied c.in_err-some_bytes.field-0.0 kept.passes (record { uses = c.some_bytes.ensures.uses; used = a.0; why = a.1 }) in
+    let dries = dries_same old mid new kept.copied c.in_err-some_bytes.field-0.0 kept.passes (record {
+      uses = c.some_bytes.ensures.uses;
+      used = a.0;
+      why = a.1;
+    }) in
     record {
       out = kept.copied;
       wrote = kept.wrote;
       named = kept.named;
       count = kept.count;
-      answered = rw (p.1, p.2) (omega (arith, kept.size, c.parts-test.true), copy_dry old new was now kept.copied c.in_err-some_bytes.field-0.0 dries kept.failures);
+      answered = rw (p.1, p.2) (
+        omega (arith, kept.size, c.parts-test.true),
+        copy_dry old new was now kept.copied c.in_err-some_bytes.field-0.0 dries
+            kept.failures,
+      );
     }
 
 pub returns-in_err-write_all-clause-copied : goal.returns-in_err-write_all-clause-copied
@@ -85,12 +93,29 @@ returns-in_err-write_all-clause-copied g c =
     let bytes = c.bytes-in-parts.result.now in
     record {
       out = kept.copied ++ put.out;
-      wrote = Appends-then (g.O.Sink.view c.args.writer.now.sink.now).taken (g.O.Sink.view c.parts.writer.sink.now).taken (g.O.Sink.view c.write_all.new.sink).taken kept.copied put.out kept.wrote put.wrote;
+      wrote = Appends-then (g.O.Sink.view c.args.writer.now.sink.now).taken (g.O.Sink.view c.parts.writer.sink.now).taken
+          (g.O.Sink.view c.write_all.new.sink).taken kept.copied put.out kept.wrote put.wrote;
       named = c.in_err-write_all.ensures.named ∙ kept.named;
       count = omega (arith, kept.count, put.count, length-append kept.copied put.out);
       answered = rw (p.1, p.2, c.in_err-write_all.ensures.fault) (
-        omega (arith, kept.size, put.stopped, ap length put.parts, length-append put.out put.unwritten, length-take n bytes, c.min-n.ensures, length-append kept.copied put.out),
-        (kept.copied, used, subst (λ (t : List ℕ). IsPrefixOf (kept.copied ++ put.out) (kept.copied ++ t)) c.bytes-in-parts.ensures.bytes (front_written kept.copied put.out put.unwritten bytes n put.parts), subst (λ (m : ℕ). HasRisen m (g.O.Sink.view c.write_all.new.sink).failed) kept.failures put.answered),
+        omega (
+          arith,
+          kept.size,
+          put.stopped,
+          ap length put.parts,
+          length-append put.out put.unwritten,
+          length-take n bytes,
+          c.min-n.ensures,
+          length-append kept.copied put.out,
+        ),
+        (
+          kept.copied,
+          used,
+          subst (λ (t : List ℕ). IsPrefixOf (kept.copied ++ put.out) (kept.copied ++ t)) c.bytes-in-parts.ensures.bytes
+              (front_written kept.copied put.out put.unwritten bytes n put.parts),
+          subst (λ (m : ℕ). HasRisen m (g.O.Sink.view c.write_all.new.sink).failed)
+              kept.failures put.answered,
+        ),
       );
     }
 
@@ -107,20 +132,32 @@ parts-preserved g c =
     let put = c.in_ok-write_all.ensures.writes in
     let whole : put.out ≡ take n bytes = all_out (take n bytes) put.out put.unwritten put.parts put.answered.0 in
     let wrote = subst (λ (t : List ℕ). Appends (g.O.Sink.view c.parts.writer.sink.now).taken (g.O.Sink.view c.write_all.new.sink).taken t) whole put.wrote in
-    let front = uses_front (g.S.Source.view c.some_bytes.new.reader.source.now) c.some_bytes.new.reader.intake.now c.use_front.new.self bytes n c.use_front.ensures.pulls c.bytes-in-parts.ensures.bytes c.use_front.ensures.bytes in
+    let front = uses_front (g.S.Source.view c.some_bytes.new.reader.source.now) c.some_bytes.new.reader.intake.now c.use_front.new.self bytes n
+    c.use_front.ensures.pulls c.bytes-in-parts.ensures.bytes c.use_front.ensures.bytes in
     record {
       same_reader = (c.in_ok-some_bytes.ensures.same.0 ∙ kept.same_reader.0, c.in_ok-some_bytes.ensures.same.1 ∙ kept.same_reader.1);
       same_writer = kept.same_writer;
       copied = kept.copied ++ take n bytes;
-      size = omega (arith, kept.size, c.min-n.ensures, length-append kept.copied (take n bytes), length-take n bytes, ap length c.bytes.ensures.bytes, ap length c.bytes-in-parts.ensures.bytes);
-      passes = passes_then old there new kept.copied (take n bytes) (passes_same old mid there kept.copied kept.passes (record { uses = c.some_bytes.ensures.uses; unfailed = r.1 })) (record { uses = front; unfailed = refl });
-      wrote = Appends-then (g.O.Sink.view c.args.writer.now.sink.now).taken (g.O.Sink.view c.parts.writer.sink.now).taken (g.O.Sink.view c.write_all.new.sink).taken kept.copied (take n bytes) kept.wrote wrote;
+      size = omega (
+        arith,
+        kept.size,
+        c.min-n.ensures,
+        length-append kept.copied (take n bytes),
+        length-take n bytes,
+        ap length c.bytes.ensures.bytes,
+        ap length c.bytes-in-parts.ensures.bytes,
+      );
+      passes = passes_then old there new kept.copied (take n bytes) (passes_same old mid there kept.copied kept.passes
+          (record { uses = c.some_bytes.ensures.uses; unfailed = r.1 })) (record { uses = front; unfailed = refl });
+      wrote = Appends-then (g.O.Sink.view c.args.writer.now.sink.now).taken (g.O.Sink.view c.parts.writer.sink.now).taken
+          (g.O.Sink.view c.write_all.new.sink).taken kept.copied (take n bytes) kept.wrote wrote;
       failures = put.answered.1 ∙ kept.failures;
       named = c.in_ok-write_all.ensures.named ∙ kept.named;
       count = omega (arith, kept.count, put.count, ap length whole, length-append kept.copied (take n bytes));
       index = kept.index;
       chain = kept.chain;
-      hashed = λ links kept_is. subst (λ (t : List ℕ). Holds256 c.update-in-parts.new.self t) (append_assoc links kept.copied (take n bytes)) (c.update-in-parts.ensures (links ++ kept.copied) (kept.hashed links kept_is));
+      hashed = λ links kept_is. subst (λ (t : List ℕ). Holds256 c.update-in-parts.new.self t) (append_assoc links kept.copied (take n bytes))
+          (c.update-in-parts.ensures (links ++ kept.copied) (kept.hashed links kept_is));
     }
 
 pub returns-clause-copied : goal.returns-clause-copied

@@ -27,7 +27,8 @@ returns-in_err-copy_chunk-clause-copied g c =
     let was = tally_of g.O.Sink.view c.args.writer.now in
     let between = tally_of g.O.Sink.view c.loop-copied.writer in
     let now = tally_of g.O.Sink.view c.copy_chunk.new.writer in
-    rw (p.1, p.2) (chunk_failed 65536 c.args.chunks c.loop-copied._copied old mid new was between now kept.out c.in_err-copy_chunk.field-0.0 kept.size (omega arith) kept.passes kept.wrote kept.named kept.failures (omega (arith, kept.count, c.requires.fresh.0)) c.in_err-copy_chunk.ensures.copied)
+    rw (p.1, p.2) (chunk_failed 65536 c.args.chunks c.loop-copied._copied old mid new was between now kept.out c.in_err-copy_chunk.field-0.0 kept.size
+    (omega arith) kept.passes kept.wrote kept.named kept.failures (omega (arith, kept.count, c.requires.fresh.0)) c.in_err-copy_chunk.ensures.copied)
 
 pub loop-copied-init : goal.loop-copied-init
 loop-copied-init g c = record {
@@ -55,14 +56,16 @@ loop-copied-preserved g c =
     let new = side_of g.S.Source.view c.copy_chunk.new.reader in
     let next : suc i ≡ i + 1 = omega arith in
     let links : c.copy_chunk.new.writer.progress.chain ≡ chain_if Kept (first_chunks 65536 (i + 1) (kept.out ++ step.out)) =
-    goes.4 ∙ ap (λ (xs : Option (List ℕ)). link_if xs step.out) kept.chain_is ∙ ap Some (sym (chain_more 65536 i kept.out step.out kept.size goes.0)) ∙ ap (λ (k : ℕ). chain_if Kept (first_chunks 65536 k (kept.out ++ step.out))) next in
+    goes.4 ∙ ap (λ (xs : Option (List ℕ)). link_if xs step.out) kept.chain_is ∙ ap Some (sym (chain_more 65536 i kept.out step.out kept.size goes.0))
+    ∙ ap (λ (k : ℕ). chain_if Kept (first_chunks 65536 k (kept.out ++ step.out))) next in
     record {
       same_reader = (c.in_ok-copy_chunk.ensures.same_reader.0 ∙ kept.same_reader.0, c.in_ok-copy_chunk.ensures.same_reader.1 ∙ kept.same_reader.1);
       same_writer = c.in_ok-copy_chunk.ensures.same_writer ∙ kept.same_writer;
       out = kept.out ++ step.out;
       size = omega (arith, kept.size, goes.0, length-append kept.out step.out);
       passes = passes_then old mid new kept.out step.out kept.passes goes.1;
-      wrote = Appends-then (g.O.Sink.view c.args.writer.now.sink.now).taken (g.O.Sink.view c.loop-copied.writer.sink.now).taken (g.O.Sink.view c.copy_chunk.new.writer.sink.now).taken kept.out step.out kept.wrote step.wrote;
+      wrote = Appends-then (g.O.Sink.view c.args.writer.now.sink.now).taken (g.O.Sink.view c.loop-copied.writer.sink.now).taken
+          (g.O.Sink.view c.copy_chunk.new.writer.sink.now).taken kept.out step.out kept.wrote step.wrote;
       failures = goes.2 ∙ kept.failures;
       named = step.named ∙ kept.named;
       count = omega (arith, kept.count, step.count, length-append kept.out step.out);

@@ -10,7 +10,8 @@ returns-clause-fails g c =
     let r = rw c.if-branch.false at c.in_ok-refill.ensures in
     let cuts = rw kept.parser_is at c.end.ensures in
     let all = cut_pulled _ _ _ kept.held _ r.answered.0 (r.pulled _ kept.held kept.pulled) in
-    rw c.from.ensures (end_fails _ _ kept.held c.end.result (stops_at_held _ _ kept.held all.consumed kept.none kept.sound) all.consumed r.answered.2 cuts.2 (cuts.3, kept.short, cuts.0))
+    rw c.from.ensures (end_fails _ _ kept.held c.end.result (stops_at_held _ _ kept.held all.consumed kept.none kept.sound) all.consumed r.answered.2
+    cuts.2 (cuts.3, kept.short, cuts.0))
 
 pub returns-in-Ready-clause-found : goal.returns-in-Ready-clause-found
 returns-in-Ready-clause-found g c =
@@ -22,7 +23,8 @@ returns-in-Ready-clause-found g c =
       text = feeds.2;
       len_is = omega (arith, kept.len_is, feeds.1, length-append kept.held (take taken c.bytes-piece.result.now), length-take taken c.bytes-piece.result.now);
       hashed = c.update-in-Ready.ensures kept.held kept.hashed;
-      pulled = head_pulled _ _ c.refill.new.self c.use_front.new.self kept.held c.bytes-piece.result.now taken c.use_front.ensures.pulls c.bytes-piece.ensures.bytes c.use_front.ensures.bytes (c.refill.ensures.pulled _ kept.held kept.pulled);
+      pulled = head_pulled _ _ c.refill.new.self c.use_front.new.self kept.held c.bytes-piece.result.now taken c.use_front.ensures.pulls
+          c.bytes-piece.ensures.bytes c.use_front.ensures.bytes (c.refill.ensures.pulled _ kept.held kept.pulled);
     }
 
 pub returns-in-Ready-clause-last : goal.returns-in-Ready-clause-last
@@ -37,7 +39,8 @@ returns-in_err-feed-clause-fails g c =
     let kept = c.pieces.invariant in
     let feeds = rw kept.parser_is at c.in_err-feed.ensures in
     let all = rw (← c.bytes-piece.ensures.bytes) at (c.refill.ensures.pulled _ kept.held kept.pulled) in
-    rw (p.1, p.2) (piece_fails _ _ kept.held c.bytes-piece.result.now c.in_err-feed.field-0.0 c.bytes-piece.ensures.most kept.none kept.sound all.consumed feeds.1)
+    rw (p.1, p.2) (piece_fails _ _ kept.held c.bytes-piece.result.now c.in_err-feed.field-0.0 c.bytes-piece.ensures.most kept.none kept.sound all.consumed
+    feeds.1)
 
 pub returns-in_err-refill-clause-early : goal.returns-in_err-refill-clause-early
 returns-in_err-refill-clause-early g c =

@@ -19,7 +19,8 @@ pulls-preserved g c =
       small = omega (arith, kept.small, c.bytes-in-pulls.ensures.most, same, r.answered.3);
       most = omega (arith, same, r.answered.2);
       pulled = λ start used h.
-          rest_pulled start _ c.refill.new.self.pulls c.use_all-in-pulls.new.self.pulls used kept.passed fresh same (rw (← c.bytes-in-pulls.ensures.bytes) at (r.pulled start (used ++ kept.passed) (kept.pulled start used h)));
+          rest_pulled start _ c.refill.new.self.pulls c.use_all-in-pulls.new.self.pulls used kept.passed fresh same
+          (rw (← c.bytes-in-pulls.ensures.bytes) at (r.pulled start (used ++ kept.passed) (kept.pulled start used h)));
       unread = c.use_all-in-pulls.ensures.bytes;
       unfailed = r.answered.4 ∙ kept.unfailed;
     }

@@ -13,7 +13,8 @@ use Rattle.age_file.proofs.ReaderSteps.{read_last}
 use Rattle.age_file.proofs.inspection.inspect.Goals as goal
 
 -- a rest that could not be read, behind a header that was
-rest_to_head : (first : SourceView) (mid now : Side) (front : List ℕ) (fault : FileFault) → mid.source.failed ≡ first.failed → Pulled first.remaining mid.source.remaining mid.unread.pulls (front ++ mid.unread.bytes)
+rest_to_head : (first : SourceView) (mid now : Side) (front : List ℕ) (fault : FileFault) → mid.source.failed ≡ first.failed
+    → Pulled first.remaining mid.source.remaining mid.unread.pulls (front ++ mid.unread.bytes)
     → RestFails mid now fault → HeadFails first now.source fault
 rest_to_head first mid now front Read same h f = subst (λ (k : ℕ). HasRisen k now.source.failed) same f
 rest_to_head first mid now front ReadNeverEnds same h f = f first.remaining front h
@@ -41,7 +42,8 @@ returns-clause-ok g c =
     let counted = c.in_ok-rest.ensures.counts first.remaining head.front head.pulled in
     let reports = rw c.in_ok-stanzas.was at c.reports_of.ensures in (
       head.front ++ counted.0,
-      read_last g.S.Source.view (λ v. Consumes first.remaining v.remaining (head.front ++ counted.0)) _ c.count_rest.new.reader.source.now (search rules) counted.2,
+      read_last g.S.Source.view (λ v. Consumes first.remaining v.remaining (head.front ++ counted.0)) _ c.count_rest.new.reader.source.now (search rules)
+          counted.2,
       read_last g.S.Source.view (λ v. IsAtEnd v.remaining) _ c.count_rest.new.reader.source.now (search rules) c.in_ok-rest.ensures.ended,
       record {
         h = c.in_ok-head.head.header;

@@ -22,7 +22,8 @@ returns-in_err-text-clause-closed g c =
         count = omega arith;
         stands = after.stands;
         text = c.in_err-text.ensures.text;
-        counts = λ keep positive s base len h m. mark_end (seals c.args.opener.now.key) (opens c.args.opener.now.key) (box_valid c.args.opener.now.key) 65536 positive keep base s [] [] _ _ len (c.in_err-text.ensures.text s h) refl refl m;
+        counts = λ keep positive s base len h m. mark_end (seals c.args.opener.now.key) (opens c.args.opener.now.key) (box_valid c.args.opener.now.key)
+            65536 positive keep base s [] [] _ _ len (c.in_err-text.ensures.text s h) refl refl m;
       };
       answered = rw (p.1, p.2) (after.fault, refl, refl, refl);
     }
@@ -43,7 +44,8 @@ returns-clause-closed g c =
         text = λ s h. c.in_ok-text.ensures.text s h ∙ ap (λ (t : List ℕ). released (opens c.args.opener.now.key) 65536 s ++ t) put.parts;
         counts = λ keep positive s base len h m.
             let more = c.in_ok-text.ensures.text s h ∙ ap (λ (t : List ℕ). released (opens c.args.opener.now.key) 65536 s ++ t) put.parts in
-            mark_end (seals c.args.opener.now.key) (opens c.args.opener.now.key) (box_valid c.args.opener.now.key) 65536 positive keep base s put.out put.unwritten _ _ len more refl refl m;
+            mark_end (seals c.args.opener.now.key) (opens c.args.opener.now.key) (box_valid c.args.opener.now.key) 65536 positive keep base s put.out
+            put.unwritten _ _ len more refl refl m;
       };
       answered = answer_as c.write_all.result put.answered c.write_all.ensures.fault (λ _ all. (after.done, all.0, all.1)) (λ _ is risen. rw is risen);
     }

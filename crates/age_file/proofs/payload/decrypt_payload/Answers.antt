@@ -25,7 +25,11 @@ turns-preserved g c =
     let new = flow_of g.S.Source.view g.O.Sink.view c.turn.new.opener c.turn.new.reader c.turn.new.writer in
     let o = on opens 65536 old mid new c.turns.invariant.flows c.turns.invariant.same (rw c.if-branch.true at c.in_ok-turn.ensures.turned) in
     record {
-      same_reader = (c.in_ok-turn.ensures.same_reader.0 ∙ c.turns.invariant.same_reader.0, c.in_ok-turn.ensures.same_reader.1 ∙ c.turns.invariant.same_reader.1);
+      same_reader = (
+        c.in_ok-turn.ensures.same_reader.0 ∙ c.turns.invariant.same_reader.0,
+        c.in_ok-turn.ensures.same_reader.1
+            ∙ c.turns.invariant.same_reader.1,
+      );
       same_writer = c.in_ok-turn.ensures.same_writer ∙ c.turns.invariant.same_writer;
       flows = o.flows;
       same = o.same;
@@ -40,7 +44,8 @@ returns-clause-decrypts g c =
     let new = flow_of g.S.Source.view g.O.Sink.view c.turn.new.opener c.turn.new.reader c.turn.new.writer in
     let now = tally_of g.O.Sink.view c.finish.new.writer in
     let opened = all_done opens 65536 old mid new c.turns.invariant.flows c.turns.invariant.same (rw c.if-branch.false at c.in_ok-turn.ensures.turned) in
-    pour_ended seals opens box_valid 65536 positive c.args.key.now c.args.index old new c.finish.new.opener now c.finish.result (ap (λ o. o.key) c.at-opener.ensures.view) c.at-opener.ensures.stands opened c.finish.ensures.closed
+    pour_ended seals opens box_valid 65536 positive c.args.key.now c.args.index old new c.finish.new.opener now c.finish.result
+    (ap (λ o. o.key) c.at-opener.ensures.view) c.at-opener.ensures.stands opened c.finish.ensures.closed
 
 pub returns-in_err-turn-clause-decrypts : goal.returns-in_err-turn-clause-decrypts
 returns-in_err-turn-clause-decrypts g c =
@@ -50,4 +55,5 @@ returns-in_err-turn-clause-decrypts g c =
     let mid = flow_of g.S.Source.view g.O.Sink.view c.turns.opener c.turns.reader c.turns.writer in
     let new = flow_of g.S.Source.view g.O.Sink.view c.turn.new.opener c.turn.new.reader c.turn.new.writer in
     let opened = all_stopped opens 65536 old mid new c.in_err-turn.field-0.0 c.turns.invariant.flows c.turns.invariant.same c.in_err-turn.ensures.turned in
-    rw (p.1, p.2) (pour_stopped seals opens box_valid 65536 positive c.args.key.now c.args.index old new c.in_err-turn.field-0.0 (ap (λ o. o.key) c.at-opener.ensures.view) c.at-opener.ensures.stands opened)
+    rw (p.1, p.2) (pour_stopped seals opens box_valid 65536 positive c.args.key.now c.args.index old new c.in_err-turn.field-0.0
+    (ap (λ o. o.key) c.at-opener.ensures.view) c.at-opener.ensures.stands opened)

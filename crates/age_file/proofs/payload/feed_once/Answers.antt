@@ -30,7 +30,8 @@ returns-in_err-step-clause-fed g c =
         count = omega arith;
         stands = after.stands;
         text = λ s h. more_text (opens key) 65536 s (with_piece s piece) [] [] (c.in_err-step.ensures.texts s h) refl;
-        counts = counts_refused opens 65536 (seals key) c.args.opener.now c.feed.follows.lender-at-none c.args.writer.now.progress piece (box_valid key) after.stands c.in_err-step.ensures.texts;
+        counts = counts_refused opens 65536 (seals key) c.args.opener.now c.feed.follows.lender-at-none c.args.writer.now.progress piece (box_valid key)
+            after.stands c.in_err-step.ensures.texts;
       };
       answered = rw (p.1, p.2) (after.fault, refl, refl, refl);
     }
@@ -52,7 +53,8 @@ returns-in_default-clause-fed g c =
       left = drop step.taken piece;
       unwritten = [];
       parts = sym (take-append-drop step.taken piece);
-      releases = fed_front opens 65536 c.args.opener.now new was was piece step.taken None [] [] after.key after.stands texts refl (Appends-nil _) refl (omega arith)
+      releases = fed_front opens 65536 c.args.opener.now new was was piece step.taken None [] [] after.key after.stands texts refl (Appends-nil _) refl
+          (omega arith)
           (counts_refused opens 65536 (seals key) c.args.opener.now new c.args.writer.now.progress (take step.taken piece) (box_valid key) after.stands texts);
       answered = goes_front opens 65536 c.args.opener.now new was was piece step.taken None [] [] (omega (arith, ok.taken)) room refl (omega arith) refl refl;
     }
@@ -75,8 +77,10 @@ returns-in_err-write_all-clause-fed g c =
       left = drop step.taken piece;
       unwritten = put.unwritten;
       parts = sym (take-append-drop step.taken piece);
-      releases = fed_front opens 65536 c.args.opener.now c.feed.follows.lender-at-none was _ piece step.taken chunk put.out put.unwritten after.key after.stands texts put.parts put.wrote c.in_err-write_all.ensures.named put.count
-          (counts_cut opens 65536 (seals key) c.args.opener.now c.feed.follows.lender-at-none c.args.writer.now.progress _ (take step.taken piece) chunk put.out put.unwritten (box_valid key) after.stands texts put.parts put.stopped refl refl);
+      releases = fed_front opens 65536 c.args.opener.now c.feed.follows.lender-at-none was _ piece step.taken chunk put.out put.unwritten after.key
+          after.stands texts put.parts put.wrote c.in_err-write_all.ensures.named put.count
+          (counts_cut opens 65536 (seals key) c.args.opener.now c.feed.follows.lender-at-none c.args.writer.now.progress _ (take step.taken piece) chunk
+          put.out put.unwritten (box_valid key) after.stands texts put.parts put.stopped refl refl);
       answered = rw (p.1, p.2, c.in_err-write_all.ensures.fault) put.answered;
     }
 
@@ -101,7 +105,10 @@ returns-clause-fed g c =
       left = drop step.taken piece;
       unwritten = [];
       parts = sym (take-append-drop step.taken piece);
-      releases = fed_front opens 65536 c.args.opener.now c.feed.follows.lender-at-none was now piece step.taken chunk put.out [] after.key after.stands texts whole put.wrote c.in_ok-write_all.ensures.named count
-          (counts_whole opens 65536 (seals key) c.args.opener.now c.feed.follows.lender-at-none c.args.writer.now.progress c.count.new.self (take step.taken piece) chunk step.index (box_valid key) after.key after.index after.stands texts c.count.ensures.counted);
-      answered = goes_front opens 65536 c.args.opener.now c.feed.follows.lender-at-none was now piece step.taken chunk put.out [] (omega (arith, ok.taken)) room whole count none put.answered.1;
+      releases = fed_front opens 65536 c.args.opener.now c.feed.follows.lender-at-none was now piece step.taken chunk put.out [] after.key after.stands
+          texts whole put.wrote c.in_ok-write_all.ensures.named count
+          (counts_whole opens 65536 (seals key) c.args.opener.now c.feed.follows.lender-at-none c.args.writer.now.progress c.count.new.self
+          (take step.taken piece) chunk step.index (box_valid key) after.key after.index after.stands texts c.count.ensures.counted);
+      answered = goes_front opens 65536 c.args.opener.now c.feed.follows.lender-at-none was now piece step.taken chunk put.out [] (omega (arith, ok.taken))
+          room whole count none put.answered.1;
     }

@@ -40,7 +40,15 @@ loop-at-preserved g c =
     (on piece fed.fed fed.left at c.in_ok-at.field-0 fed.parts fed.answered.0) kept.releases kept.goes fed.releases fed.answered.1 in
     record {
       same = c.in_ok-at.ensures.same ∙ kept.same;
-      within = omega (arith, ap length fed.parts, length-append fed.fed fed.left, fed.answered.0, length-drop at piece, ap length (take_rest piece at), kept.within);
+      within = omega (
+        arith,
+        ap length fed.parts,
+        length-append fed.fed fed.left,
+        fed.answered.0,
+        length-drop at piece,
+        ap length (take_rest piece at),
+        kept.within,
+      );
       releases = both.releases;
       goes = both.goes;
     }
@@ -61,8 +69,10 @@ returns-in_err-at g c =
         left = fed.left;
         unwritten = fed.unwritten;
         parts = all_of piece fed.fed fed.left at fed.parts;
-        releases = releases_then opens 65536 (take at piece) fed.fed c.args.opener.now c.loop-at.opener c.feed_once.new.opener was mid now fed.unwritten kept.releases fed.releases;
-        answered = rw (p.1, p.2) (fails_then opens 65536 (take at piece) c.args.opener.now c.loop-at.opener c.feed_once.new.opener was mid now fed.left fed.unwritten c.in_err-at.field-0.0 kept.goes fed.answered);
+        releases = releases_then opens 65536 (take at piece) fed.fed c.args.opener.now c.loop-at.opener c.feed_once.new.opener was mid now fed.unwritten
+            kept.releases fed.releases;
+        answered = rw (p.1, p.2) (fails_then opens 65536 (take at piece) c.args.opener.now c.loop-at.opener c.feed_once.new.opener was mid now fed.left
+            fed.unwritten c.in_err-at.field-0.0 kept.goes fed.answered);
       };
       same = c.in_err-at.ensures.same ∙ kept.same;
     }

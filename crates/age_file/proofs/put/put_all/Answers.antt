@@ -30,7 +30,8 @@ loop-at-preserved g c =
     ap (λ (ys : List ℕ). take at bytes ++ take n ys) (take_rest bytes at) ∙ sym (take-add at n bytes) in
     record {
       within = omega (arith, kept.within, c.in_ok-n.ensures.bound);
-      wrote = subst (λ (t : List ℕ). Appends (g.O.Sink.view c.args.sink.now).taken (g.O.Sink.view c.put.new.self).taken t) on (Appends-then _ _ _ (take at bytes) (take n (take (length bytes - at) (drop at bytes))) kept.wrote c.in_ok-n.ensures.bytes);
+      wrote = subst (λ (t : List ℕ). Appends (g.O.Sink.view c.args.sink.now).taken (g.O.Sink.view c.put.new.self).taken t) on
+          (Appends-then _ _ _ (take at bytes) (take n (take (length bytes - at) (drop at bytes))) kept.wrote c.in_ok-n.ensures.bytes);
       count = omega (arith, kept.count);
       failed = c.in_ok-n.ensures.counted ∙ kept.failed;
       named = c.in_ok-n.ensures.named ∙ kept.named;

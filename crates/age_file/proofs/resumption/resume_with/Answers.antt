@@ -30,13 +30,17 @@ returns-in-Err g c =
     let new = resume_ports (ports (g.S.Source.view c.start.new.reader.source.now) (g.O.Sink.view c.args.writer.now)) (g.L.Source.view c.args.old_reader.now) in
     let Allows = g.U.Unlock.allows c.args.unlock.now in
     let Refused = g.U.Unlock.refuses c.args.unlock.now in
-    let fails = start_fails c.args.positions Allows Refused c.args.position.now old new c.in-Err.fault (Consumes-nil _) (Appends-nil _) c.in-Err.ensures.fails in
-    read_last g.S.Source.view (λ v. ResumesText c.args.positions (g.U.Unlock.allows c.args.unlock.now) (g.U.Unlock.refuses c.args.unlock.now) c.args.position.now old (resume_ports (ports v (g.O.Sink.view c.args.writer.now)) (g.L.Source.view c.args.old_reader.now)) (Err c.early-in-Err.result)) _ c.start.new.reader.source.now (search rules)
+    let fails = start_fails c.args.positions Allows Refused c.args.position.now old new c.in-Err.fault (Consumes-nil _) (Appends-nil _)
+    c.in-Err.ensures.fails in
+    read_last g.S.Source.view (λ v. ResumesText c.args.positions (g.U.Unlock.allows c.args.unlock.now) (g.U.Unlock.refuses c.args.unlock.now)
+    c.args.position.now old (resume_ports (ports v (g.O.Sink.view c.args.writer.now)) (g.L.Source.view c.args.old_reader.now)) (Err c.early-in-Err.result))
+    _ c.start.new.reader.source.now (search rules)
     (record {
       done = tt;
       stopped = rw c.early-in-Err.ensures fails;
       undamaged = λ text whole.
-          rw c.early-in-Err.ensures (undamaged_rest c.one_header.ensures Allows Refused c.args.position.now old new text whole c.args.positions 0 None c.in-Err.fault fails);
+          rw c.early-in-Err.ensures (undamaged_rest c.one_header.ensures Allows Refused c.args.position.now old new text whole c.args.positions 0 None
+          c.in-Err.fault fails);
       settled = tt;
       named = refl;
     })
@@ -49,12 +53,15 @@ returns-in-Err-verify g c =
     let Refused = g.U.Unlock.refuses c.args.unlock.now in
     let fails = verdict_fails c.args.positions Allows Refused c.args.position.now old new c.start.new.reader.intake.now c.in-Ok.unlocked c.in-Err-verify.fault
     (Appends-nil _) c.in-Ok.ensures.found c.in-Err-verify.ensures in
-    read_last g.S.Source.view (λ v. ResumesText c.args.positions (g.U.Unlock.allows c.args.unlock.now) (g.U.Unlock.refuses c.args.unlock.now) c.args.position.now old (resume_ports (ports v (g.O.Sink.view c.args.writer.now)) (g.L.Source.view c.args.old_reader.now)) (Err c.early-in-Err-verify.result)) _ c.start.new.reader.source.now (search rules)
+    read_last g.S.Source.view (λ v. ResumesText c.args.positions (g.U.Unlock.allows c.args.unlock.now) (g.U.Unlock.refuses c.args.unlock.now)
+    c.args.position.now old (resume_ports (ports v (g.O.Sink.view c.args.writer.now)) (g.L.Source.view c.args.old_reader.now))
+    (Err c.early-in-Err-verify.result)) _ c.start.new.reader.source.now (search rules)
     (record {
       done = tt;
       stopped = rw c.early-in-Err-verify.ensures fails;
       undamaged = λ text whole.
-          rw c.early-in-Err-verify.ensures (undamaged_rest c.one_header.ensures Allows Refused c.args.position.now old new text whole c.args.positions 0 None c.in-Err-verify.fault fails);
+          rw c.early-in-Err-verify.ensures (undamaged_rest c.one_header.ensures Allows Refused c.args.position.now old new text whole c.args.positions
+          0 None c.in-Err-verify.fault fails);
       settled = tt;
       named = refl;
     })
@@ -66,19 +73,23 @@ returns-in-Err-copy_old g c =
     let z = side_of g.L.Source.view c.copy_old.new.reader in
     let s1 = stage (tally_of g.O.Sink.view c.copy_old.new.writer) (g.S.Source.view c.start.new.reader.source.now) c.start.new.reader.intake.now in
     let old = resume_ports (ports (g.S.Source.view c.args.reader.now) (g.O.Sink.view c.args.writer.now)) (g.L.Source.view c.args.old_reader.now) in
-    let new = resume_ports (ports (g.S.Source.view c.start.new.reader.source.now) (g.O.Sink.view c.copy_old.new.writer.sink.now)) (g.L.Source.view c.copy_old.new.reader.source.now) in
+    let new = resume_ports (ports (g.S.Source.view c.start.new.reader.source.now) (g.O.Sink.view c.copy_old.new.writer.sink.now))
+    (g.L.Source.view c.copy_old.new.reader.source.now) in
     let Allows = g.U.Unlock.allows c.args.unlock.now in
     let Refused = g.U.Unlock.refuses c.args.unlock.now in
     let fails = copy_fails c.args.positions Allows Refused c.args.position.now (g.S.Source.view c.args.reader.now) c.in-Ok.unlocked
-    s1 c.start.new.reader.intake.now c.in-Ok.ensures.found c.in-Ok-verify.ensures c.in-Ok.ensures.unfailed first c.new-progress.ensures.written x z (c.count_on.ensures.bytes ∙ c.in-Ok-Ok.ensures'.0) c.count_on.ensures.pulls
+    s1 c.start.new.reader.intake.now c.in-Ok.ensures.found c.in-Ok-verify.ensures c.in-Ok.ensures.unfailed first c.new-progress.ensures.written x z
+    (c.count_on.ensures.bytes ∙ c.in-Ok-Ok.ensures'.0) c.count_on.ensures.pulls
     c.in-Err-copy_old.fault c.in-Err-copy_old.ensures.copied in
-    resume_last g.S.Source.view g.O.Sink.view g.L.Source.view (λ p. ResumesText c.args.positions (g.U.Unlock.allows c.args.unlock.now) (g.U.Unlock.refuses c.args.unlock.now) c.args.position.now old p (Err c.after.result))
+    resume_last g.S.Source.view g.O.Sink.view g.L.Source.view (λ p. ResumesText c.args.positions (g.U.Unlock.allows c.args.unlock.now)
+    (g.U.Unlock.refuses c.args.unlock.now) c.args.position.now old p (Err c.after.result))
     _ c.start.new.reader.source.now _ c.copy_old.new.writer.sink.now _ c.copy_old.new.reader.source.now (search rules) (search rules) (search rules)
     (record {
       done = tt;
       stopped = rw c.after.ensures fails;
       undamaged = λ text whole.
-          rw c.after.ensures (undamaged_rest c.one_header.ensures Allows Refused c.args.position.now old new text whole c.args.positions c.copy_old.new.writer.progress.written None c.in-Err-copy_old.fault fails);
+          rw c.after.ensures (undamaged_rest c.one_header.ensures Allows Refused c.args.position.now old new text whole c.args.positions
+          c.copy_old.new.writer.progress.written None c.in-Err-copy_old.fault fails);
       settled = tt;
       named = c.in-Err-copy_old.ensures.copied.named;
     })
@@ -93,8 +104,10 @@ open_rest-requires-clause-pulled g c =
     let copied = c.in-Ok-copy_old.ensures.copied in (
       preceded (copied.out ++ z.unread.bytes) (g.S.Source.view c.args.reader.now).remaining,
       (copied.out ++ z.unread.bytes) ++ (found.front ++ c.in-Ok.unlocked.nonce),
-      again c.args.positions (g.U.Unlock.allows c.args.unlock.now) (g.U.Unlock.refuses c.args.unlock.now) c.args.position.now (g.S.Source.view c.args.reader.now) c.in-Ok.unlocked
-          s1 c.start.new.reader.intake.now found c.in-Ok-verify.ensures c.in-Ok.ensures.unfailed first c.new-progress.ensures.written x z (c.count_on.ensures.bytes ∙ c.in-Ok-Ok.ensures'.0) c.count_on.ensures.pulls
+      again c.args.positions (g.U.Unlock.allows c.args.unlock.now) (g.U.Unlock.refuses c.args.unlock.now) c.args.position.now
+          (g.S.Source.view c.args.reader.now) c.in-Ok.unlocked
+          s1 c.start.new.reader.intake.now found c.in-Ok-verify.ensures c.in-Ok.ensures.unfailed first c.new-progress.ensures.written x z
+          (c.count_on.ensures.bytes ∙ c.in-Ok-Ok.ensures'.0) c.count_on.ensures.pulls
           copied c.args.position.now.within c.count_on-2.ensures.bytes c.count_on-2.ensures.pulls,
     )
 
@@ -106,20 +119,25 @@ returns-in-Ok-open_rest g c =
     let s1 = stage (tally_of g.O.Sink.view c.copy_old.new.writer) (g.S.Source.view c.start.new.reader.source.now) c.count_on-2.new.self in
     let s2 = stage_of g.S.Source.view g.O.Sink.view c.open_rest.new.reader c.open_rest.new.writer in
     let old = resume_ports (ports (g.S.Source.view c.args.reader.now) (g.O.Sink.view c.args.writer.now)) (g.L.Source.view c.args.old_reader.now) in
-    let new = resume_ports (ports (g.S.Source.view c.open_rest.new.reader.source.now) (g.O.Sink.view c.open_rest.new.writer.sink.now)) (g.L.Source.view c.copy_old.new.reader.source.now) in
+    let new = resume_ports (ports (g.S.Source.view c.open_rest.new.reader.source.now) (g.O.Sink.view c.open_rest.new.writer.sink.now))
+    (g.L.Source.view c.copy_old.new.reader.source.now) in
     let Allows = g.U.Unlock.allows c.args.unlock.now in
     let Refused = g.U.Unlock.refuses c.args.unlock.now in
     let done = resume_done c.args.positions Allows Refused c.args.position.now (g.S.Source.view c.args.reader.now) c.in-Ok.unlocked
-    s1 c.start.new.reader.intake.now c.in-Ok.ensures.found c.in-Ok-verify.ensures c.in-Ok.ensures.unfailed first c.new-progress.ensures.written x z (c.count_on.ensures.bytes ∙ c.in-Ok-Ok.ensures'.0) c.count_on.ensures.pulls
-    c.in-Ok-copy_old.ensures.copied c.args.position.now.within c.count_on-2.ensures.bytes c.count_on-2.ensures.pulls c.payload_key-key.result s2 c.payload_key-key.ensures c.in-Ok-open_rest.ensures.resumes in
-    resume_last g.S.Source.view g.O.Sink.view g.L.Source.view (λ p. ResumesText c.args.positions (g.U.Unlock.allows c.args.unlock.now) (g.U.Unlock.refuses c.args.unlock.now) c.args.position.now old p (Ok (record { written = c.open_rest.new.writer.progress.written })))
+    s1 c.start.new.reader.intake.now c.in-Ok.ensures.found c.in-Ok-verify.ensures c.in-Ok.ensures.unfailed first c.new-progress.ensures.written x z
+    (c.count_on.ensures.bytes ∙ c.in-Ok-Ok.ensures'.0) c.count_on.ensures.pulls
+    c.in-Ok-copy_old.ensures.copied c.args.position.now.within c.count_on-2.ensures.bytes c.count_on-2.ensures.pulls c.payload_key-key.result s2
+    c.payload_key-key.ensures c.in-Ok-open_rest.ensures.resumes in
+    resume_last g.S.Source.view g.O.Sink.view g.L.Source.view (λ p. ResumesText c.args.positions (g.U.Unlock.allows c.args.unlock.now)
+    (g.U.Unlock.refuses c.args.unlock.now) c.args.position.now old p (Ok (record { written = c.open_rest.new.writer.progress.written })))
     _ c.open_rest.new.reader.source.now _ c.open_rest.new.writer.sink.now _ c.copy_old.new.reader.source.now (search rules) (search rules) (search rules)
     (record {
       done = done;
       stopped = tt;
       undamaged = λ text whole. undamaged_rest_done c.one_header.ensures Allows Refused c.args.position.now old new text whole _ done.0 done.1 done.2;
       settled = c.in-Ok-open_rest.ensures.settled;
-      named = resumed_label (λ nonce block. opening c.payload_key-key.result nonce [] block) c.args.position.now.index s1 s2 _ c.in-Ok-open_rest.ensures.resumes ∙ c.in-Ok-copy_old.ensures.copied.named;
+      named = resumed_label (λ nonce block. opening c.payload_key-key.result nonce [] block) c.args.position.now.index s1 s2 _ c.in-Ok-open_rest.ensures.resumes
+          ∙ c.in-Ok-copy_old.ensures.copied.named;
     })
 
 pub returns : goal.returns
@@ -130,20 +148,26 @@ returns g c =
     let s1 = stage (tally_of g.O.Sink.view c.copy_old.new.writer) (g.S.Source.view c.start.new.reader.source.now) c.count_on-2.new.self in
     let s2 = stage_of g.S.Source.view g.O.Sink.view c.open_rest.new.reader c.open_rest.new.writer in
     let old = resume_ports (ports (g.S.Source.view c.args.reader.now) (g.O.Sink.view c.args.writer.now)) (g.L.Source.view c.args.old_reader.now) in
-    let new = resume_ports (ports (g.S.Source.view c.open_rest.new.reader.source.now) (g.O.Sink.view c.open_rest.new.writer.sink.now)) (g.L.Source.view c.copy_old.new.reader.source.now) in
+    let new = resume_ports (ports (g.S.Source.view c.open_rest.new.reader.source.now) (g.O.Sink.view c.open_rest.new.writer.sink.now))
+    (g.L.Source.view c.copy_old.new.reader.source.now) in
     let Allows = g.U.Unlock.allows c.args.unlock.now in
     let Refused = g.U.Unlock.refuses c.args.unlock.now in
     let fails = resume_fails c.args.positions Allows Refused c.args.position.now (g.S.Source.view c.args.reader.now) c.in-Ok.unlocked
-    s1 c.start.new.reader.intake.now c.in-Ok.ensures.found c.in-Ok-verify.ensures c.in-Ok.ensures.unfailed first c.new-progress.ensures.written x z (c.count_on.ensures.bytes ∙ c.in-Ok-Ok.ensures'.0) c.count_on.ensures.pulls
-    c.in-Ok-copy_old.ensures.copied c.args.position.now.within c.count_on-2.ensures.bytes c.count_on-2.ensures.pulls c.payload_key-key.result s2 c.position_of-next.result c.in-Err-open_rest.fault c.payload_key-key.ensures
+    s1 c.start.new.reader.intake.now c.in-Ok.ensures.found c.in-Ok-verify.ensures c.in-Ok.ensures.unfailed first c.new-progress.ensures.written x z
+    (c.count_on.ensures.bytes ∙ c.in-Ok-Ok.ensures'.0) c.count_on.ensures.pulls
+    c.in-Ok-copy_old.ensures.copied c.args.position.now.within c.count_on-2.ensures.bytes c.count_on-2.ensures.pulls c.payload_key-key.result s2
+    c.position_of-next.result c.in-Err-open_rest.fault c.payload_key-key.ensures
     c.position_of-next.ensures c.in-Err-open_rest.ensures.resumes in
-    resume_last g.S.Source.view g.O.Sink.view g.L.Source.view (λ p. ResumesText c.args.positions (g.U.Unlock.allows c.args.unlock.now) (g.U.Unlock.refuses c.args.unlock.now) c.args.position.now old p (Err c.after-in-Err-open_rest.result))
+    resume_last g.S.Source.view g.O.Sink.view g.L.Source.view (λ p. ResumesText c.args.positions (g.U.Unlock.allows c.args.unlock.now)
+    (g.U.Unlock.refuses c.args.unlock.now) c.args.position.now old p (Err c.after-in-Err-open_rest.result))
     _ c.open_rest.new.reader.source.now _ c.open_rest.new.writer.sink.now _ c.copy_old.new.reader.source.now (search rules) (search rules) (search rules)
     (record {
       done = tt;
       stopped = rw c.after-in-Err-open_rest.ensures fails;
       undamaged = λ text whole.
-          rw c.after-in-Err-open_rest.ensures (undamaged_rest c.one_header.ensures Allows Refused c.args.position.now old new text whole c.args.positions c.open_rest.new.writer.progress.written c.position_of-next.result c.in-Err-open_rest.fault fails);
+          rw c.after-in-Err-open_rest.ensures (undamaged_rest c.one_header.ensures Allows Refused c.args.position.now old new text whole c.args.positions
+          c.open_rest.new.writer.progress.written c.position_of-next.result c.in-Err-open_rest.fault fails);
       settled = tt;
-      named = resumed_label (λ nonce block. opening c.payload_key-key.result nonce [] block) c.args.position.now.index s1 s2 _ c.in-Err-open_rest.ensures.resumes ∙ c.in-Ok-copy_old.ensures.copied.named;
+      named = resumed_label (λ nonce block. opening c.payload_key-key.result nonce [] block) c.args.position.now.index s1 s2 _
+          c.in-Err-open_rest.ensures.resumes ∙ c.in-Ok-copy_old.ensures.copied.named;
     })

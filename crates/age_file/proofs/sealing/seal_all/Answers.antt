@@ -36,12 +36,14 @@ returns-in_err-finish-clause-fails g c =
     let new = ports (g.S.Source.view c.seal_source.new.reader.source.now) (g.O.Sink.view c.finish.new.writer.sink.now) in
     let wrote : Wrote was mid (front_of (seals a.key) n s.text) = record { bytes = s.moved.wrote; count = s.moved.count } in
     let out = last_written seals n a b was mid now s.text s.key s.holds wrote l.out l.unwritten l.wrote l.blocks in
-    rw (p.1, p.2) (subst (λ k. SealsFront (seals k) n old new c.args.writer.now.progress.written c.finish.new.writer.progress.written c.in_err-finish.field-0.0) (ap (λ v. v.key) c.new-sealer.ensures) (record {
+    rw (p.1, p.2) (subst (λ k. SealsFront (seals k) n old new c.args.writer.now.progress.written c.finish.new.writer.progress.written c.in_err-finish.field-0.0)
+    (ap (λ v. v.key) c.new-sealer.ensures) (record {
       text = s.text;
       out = front_of (seals a.key) n s.text ++ l.out;
       moved = record { read = s.moved.read; wrote = out.bytes; count = out.count; small = s.moved.small };
       prefix = last_begins seals n a b was mid now s.text s.key s.holds wrote l.out l.unwritten l.wrote l.blocks;
-      fails = subst (λ (f : FileFault). SealingFails n old new s.text f) (sym l.answered.0) (subst (λ (k : ℕ). HasRisen k new.sink.failed) s.none_failed.1 l.answered.1);
+      fails = subst (λ (f : FileFault). SealingFails n old new s.text f) (sym l.answered.0) (subst (λ (k : ℕ). HasRisen k new.sink.failed) s.none_failed.1
+          l.answered.1);
     }))
 
 pub returns-clause-sealed : goal.returns-clause-sealed
@@ -58,7 +60,8 @@ returns-clause-sealed g c =
     let new = ports (g.S.Source.view c.seal_source.new.reader.source.now) (g.O.Sink.view c.finish.new.writer.sink.now) in
     let wrote : Wrote was mid (front_of (seals a.key) n s.text) = record { bytes = s.moved.wrote; count = s.moved.count } in
     let out = last_whole seals n a b was mid now s.text s.key s.holds wrote l.out l.unwritten l.wrote l.blocks l.answered.0 in
-    subst (λ k. SealsAll (seals k) n old new c.args.writer.now.progress.written c.finish.new.writer.progress.written c.in_ok-plain.plain) (ap (λ v. v.key) c.new-sealer.ensures) (record {
+    subst (λ k. SealsAll (seals k) n old new c.args.writer.now.progress.written c.finish.new.writer.progress.written c.in_ok-plain.plain)
+    (ap (λ v. v.key) c.new-sealer.ensures) (record {
       text = s.text;
       few = omega (arith, l.limit, s.holds.index);
       moved = record { read = s.moved.read; wrote = out.bytes; count = out.count; small = s.moved.small };

@@ -43,7 +43,8 @@ returns-in_ok-write_all-clause-sealed g c =
       fed = take step.taken piece;
       left = drop step.taken piece;
       unwritten = put.unwritten;
-      some = some_sealed seals n c.args.sealer.now _ _ _ piece step.taken step.chunk put.out put.unwritten is (record { bytes = put.wrote; count = put.count }) ok.chunk;
+      some = some_sealed seals n c.args.sealer.now _ _ _ piece step.taken step.chunk put.out put.unwritten is (record { bytes = put.wrote; count = put.count })
+          ok.chunk;
       answered = (
         omega (arith, ok.taken, step_len_le n held piece, length-take c.in_ok-step.step.taken c.args.piece.now),
         λ more. omega (arith, ok.taken, step_len_some n held piece more),
@@ -89,6 +90,7 @@ returns-in_err-write_all-clause-sealed g c =
       fed = take step.taken piece;
       left = drop step.taken piece;
       unwritten = put.unwritten;
-      some = some_sealed seals n c.args.sealer.now _ _ _ piece step.taken step.chunk put.out put.unwritten is (record { bytes = put.wrote; count = put.count }) ok.chunk;
+      some = some_sealed seals n c.args.sealer.now _ _ _ piece step.taken step.chunk put.out put.unwritten is (record { bytes = put.wrote; count = put.count })
+          ok.chunk;
       answered = rw (p.1, p.2, c.in_err-write_all.ensures.fault) put.answered;
     }

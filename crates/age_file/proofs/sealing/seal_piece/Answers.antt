@@ -33,7 +33,8 @@ seal_once-requires g c =
     let key = c.args.sealer.now.key in
     record {
       feeding = kept.goes.feeding;
-      room = room_left seals (opens key) 65536 c.args.sealer.now c.loop-at.sealer _ _ c.args.piece.now c.loop-at.at (box_valid key) (omega arith) c.requires.room kept.some;
+      room = room_left seals (opens key) 65536 c.args.sealer.now c.loop-at.sealer _ _ c.args.piece.now c.loop-at.at (box_valid key) (omega arith)
+          c.requires.room kept.some;
     }
 
 pub loop-at-preserved : goal.loop-at-preserved
@@ -49,13 +50,24 @@ loop-at-preserved g c =
     let a = c.args.sealer.now in
     let b = c.loop-at.sealer in
     let d = c.seal_once.new.sealer in
-    let same : take at piece ++ s.fed ≡ take (at + c.in_ok-at.field-0) piece = fed_is seals n piece at c.in_ok-at.field-0 s.fed s.left s.some.parts s.answered.0 in
+    let same : take at piece ++ s.fed ≡ take (at + c.in_ok-at.field-0) piece = fed_is seals n piece at c.in_ok-at.field-0 s.fed s.left s.some.parts
+    s.answered.0 in
     let whole : SealsSome seals n a d was now piece (take at piece ++ s.fed) s.left [] =
-    subst (λ (t : List ℕ). SealsSome seals n a d was now piece (take at piece ++ s.fed) s.left t) s.answered.2 (next_some seals n a b d was mid now piece at s.fed s.left s.unwritten kept.some kept.goes s.some) in
+    subst (λ (t : List ℕ). SealsSome seals n a d was now piece (take at piece ++ s.fed) s.left t) s.answered.2
+    (next_some seals n a b d was mid now piece at s.fed s.left s.unwritten kept.some kept.goes s.some) in
     record {
       same_writer = c.in_ok-at.ensures.same_writer ∙ kept.same_writer;
-      within = omega (arith, ap length s.some.parts, length-append s.fed s.left, s.answered.0, length-drop c.loop-at.at c.args.piece.now, ap length (take_rest c.args.piece.now c.loop-at.at), kept.within);
-      some = subst (λ (t : List ℕ). SealsSome seals n a d was now t t [] []) same (fed_alone seals n a d was now piece (take at piece ++ s.fed) s.left [] whole);
+      within = omega (
+        arith,
+        ap length s.some.parts,
+        length-append s.fed s.left,
+        s.answered.0,
+        length-drop c.loop-at.at c.args.piece.now,
+        ap length (take_rest c.args.piece.now c.loop-at.at),
+        kept.within,
+      );
+      some = subst (λ (t : List ℕ). SealsSome seals n a d was now t t [] []) same (fed_alone seals n a d was now piece (take at piece ++ s.fed) s.left
+          [] whole);
       goes = subst (λ (t : List ℕ). GoesOn seals n a d t) same (goes_then seals n a b d (take at piece) s.fed kept.goes s.answered.4);
       failures = s.answered.3 ∙ kept.failures;
       named = c.in_ok-at.ensures.named ∙ kept.named;
@@ -75,11 +87,14 @@ returns-in_err-at-clause-sealed g c =
     let a = c.args.sealer.now in
     let b = c.loop-at.sealer in
     let d = c.seal_once.new.sealer in
-    let whole : take at piece ++ take (length piece - at) (drop at piece) ≡ piece = ap (λ (t : List ℕ). take at piece ++ t) (take_rest piece at) ∙ take-append-drop at piece in
+    let whole : take at piece ++ take (length piece - at) (drop at piece) ≡ piece = ap (λ (t : List ℕ). take at piece ++ t) (take_rest piece at)
+    ∙ take-append-drop at piece in
     record {
       fed = take at piece ++ s.fed;
       left = s.left;
       unwritten = s.unwritten;
       some = next_some seals n a b d was mid now piece at s.fed s.left s.unwritten kept.some kept.goes s.some;
-      answered = rw (p.1, p.2) (subst (λ (t : List ℕ). SealFails seals n a was now t c.in_err-at.field-0.0) whole (fails_then seals n a b was mid now (take at piece) (take (length piece - at) (drop at piece)) c.in_err-at.field-0.0 kept.failures kept.goes s.answered));
+      answered = rw (p.1, p.2) (subst (λ (t : List ℕ). SealFails seals n a was now t c.in_err-at.field-0.0) whole
+          (fails_then seals n a b was mid now (take at piece) (take (length piece - at) (drop at piece)) c.in_err-at.field-0.0 kept.failures kept.goes
+          s.answered));
     }

@@ -21,7 +21,12 @@ pulls-init g c =
       same_reader = (refl, refl);
       same_writer = refl;
       text = [];
-      pulled = record { consumed = Consumes-nil _; each_gave = omega (arith, c.requires.unread.1); small = omega (arith, c.requires.unread.1); most = omega (arith, c.requires.unread.1) };
+      pulled = record {
+        consumed = Consumes-nil _;
+        each_gave = omega (arith, c.requires.unread.1);
+        small = omega (arith, c.requires.unread.1);
+        most = omega (arith, c.requires.unread.1);
+      };
       unread = c.requires.unread.0;
       plain_is = refl;
       goes = record { key = refl; feeding = c.requires.fresh.0; holds = λ text h. rw (append-nil text) h };
@@ -61,7 +66,8 @@ returns-in_err-refill-clause-fails g c =
       prefix = front_begins (seals c.args.sealer.now.key) n kept.text;
       fails = pull_fails n (ports (g.S.Source.view c.args.reader.now.source.now) (g.O.Sink.view c.args.writer.now.sink.now))
           (ports (g.S.Source.view c.refill.new.source) (g.O.Sink.view c.pulls.writer.sink.now)) kept.text
-          (side (g.S.Source.view c.pulls.reader.source.now) c.pulls.reader.intake.now) (side (g.S.Source.view c.refill.new.source) c.refill.new.self) c.in_err-refill.field-0.0 kept.read_failed refl all.each_gave r.answered.2;
+          (side (g.S.Source.view c.pulls.reader.source.now) c.pulls.reader.intake.now) (side (g.S.Source.view c.refill.new.source) c.refill.new.self)
+          c.in_err-refill.field-0.0 kept.read_failed refl all.each_gave r.answered.2;
     })
 
 pub seal_piece-requires : goal.seal_piece-requires
@@ -97,13 +103,15 @@ returns-in_err-seal_piece-clause-fails g c =
     let old = ports (g.S.Source.view c.args.reader.now.source.now) (g.O.Sink.view c.args.writer.now.sink.now) in
     let new = ports (g.S.Source.view c.refill.new.source) (g.O.Sink.view c.seal_piece.new.writer.sink.now) in
     let all = rw (← c.bytes.ensures.bytes) at (r.pulled old.source.remaining kept.text kept.pulled) in
-    let unwritten = piece_cut seals n c.args.sealer.now c.pulls.sealer c.seal_piece.new.sealer was mid now kept.text piece s.fed s.left s.unwritten kept.goes c.requires.fresh.1 kept.wrote s.some positive in
+    let unwritten = piece_cut seals n c.args.sealer.now c.pulls.sealer c.seal_piece.new.sealer was mid now kept.text piece s.fed s.left s.unwritten
+    kept.goes c.requires.fresh.1 kept.wrote s.some positive in
     rw (p.1, p.2) (record {
       text = kept.text ++ piece;
       out = unwritten.0;
       moved = record { read = all.consumed; wrote = unwritten.1.bytes; count = unwritten.1.count; small = omega (arith, all.small, all.most) };
       prefix = unwritten.2;
-      fails = seal_fails seals n c.args.sealer.now c.pulls.sealer old new mid now kept.text piece c.in_err-seal_piece.field-0.0 kept.write_failed refl kept.goes c.requires.fresh.1 s.answered;
+      fails = seal_fails seals n c.args.sealer.now c.pulls.sealer old new mid now kept.text piece c.in_err-seal_piece.field-0.0 kept.write_failed refl
+          kept.goes c.requires.fresh.1 s.answered;
     })
 
 pub pulls-preserved : goal.pulls-preserved
@@ -118,14 +126,21 @@ pulls-preserved g c =
     let mid = tally_of g.O.Sink.view c.pulls.writer in
     let now = tally_of g.O.Sink.view c.seal_piece.new.writer in
     let all = rw (← c.bytes.ensures.bytes) at (r.pulled (g.S.Source.view c.args.reader.now.source.now).remaining kept.text kept.pulled) in
-    let done = piece_done seals n c.args.sealer.now c.pulls.sealer c.seal_piece.new.sealer was mid now kept.text piece s.fed s.left s.unwritten kept.goes c.requires.fresh.1 kept.wrote s.some positive s.answered.0 s.answered.1 s.answered.3 in
+    let done = piece_done seals n c.args.sealer.now c.pulls.sealer c.seal_piece.new.sealer was mid now kept.text piece s.fed s.left s.unwritten kept.goes
+    c.requires.fresh.1 kept.wrote s.some positive s.answered.0 s.answered.1 s.answered.3 in
     record {
       same_reader = kept.same_reader;
       same_writer = c.in_ok-seal_piece.ensures.same_writer ∙ kept.same_writer;
       text = kept.text ++ piece;
-      pulled = subst (λ (k : ℕ). Pulled (g.S.Source.view c.args.reader.now.source.now).remaining (g.S.Source.view c.refill.new.source).remaining k (kept.text ++ piece)) (sym c.use_all.ensures.pulls) all;
+      pulled = subst (λ (k : ℕ). Pulled (g.S.Source.view c.args.reader.now.source.now).remaining (g.S.Source.view c.refill.new.source).remaining k
+          (kept.text ++ piece)) (sym c.use_all.ensures.pulls) all;
       unread = c.use_all.ensures.bytes;
-      plain_is = omega (arith, kept.plain_is, length-append kept.text c.bytes.result.now, ap length (c.bytes.ensures.bytes ∙ sym c.bytes-in-pulls.ensures.bytes));
+      plain_is = omega (
+        arith,
+        kept.plain_is,
+        length-append kept.text c.bytes.result.now,
+        ap length (c.bytes.ensures.bytes ∙ sym c.bytes-in-pulls.ensures.bytes),
+      );
       goes = done.0;
       wrote = done.1;
       read_failed = r.answered.4 ∙ kept.read_failed;

@@ -45,10 +45,12 @@ parts-preserved g c =
     let new = side (g.S.Source.view c.some_bytes.new.reader.source.now) c.use_front.new.self in
     let n = c.min-n.result in
     let piece = c.bytes.result.now in
-    let front = uses_front (g.S.Source.view c.some_bytes.new.reader.source.now) c.some_bytes.new.reader.intake.now c.use_front.new.self piece n c.use_front.ensures.pulls c.bytes.ensures.bytes c.use_front.ensures.bytes in
+    let front = uses_front (g.S.Source.view c.some_bytes.new.reader.source.now) c.some_bytes.new.reader.intake.now c.use_front.new.self piece n
+    c.use_front.ensures.pulls c.bytes.ensures.bytes c.use_front.ensures.bytes in
     record {
       same = (c.in_ok-some_bytes.ensures.same.0 ∙ kept.same.0, c.in_ok-some_bytes.ensures.same.1 ∙ kept.same.1);
       passed = kept.passed ++ take n piece;
       size = omega (arith, kept.size, c.min-n.ensures, length-append kept.passed (take n piece), length-take n piece);
-      passes = passes_then old there new kept.passed (take n piece) (passes_same old mid there kept.passed kept.passes (record { uses = c.some_bytes.ensures.uses; unfailed = r.1 })) (record { uses = front; unfailed = refl });
+      passes = passes_then old there new kept.passed (take n piece) (passes_same old mid there kept.passed kept.passes
+          (record { uses = c.some_bytes.ensures.uses; unfailed = r.1 })) (record { uses = front; unfailed = refl });
     }

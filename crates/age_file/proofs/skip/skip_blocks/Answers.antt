@@ -21,7 +21,8 @@ returns-in_err-skip_block-clause-skipped g c =
     let old = side_of g.S.Source.view c.args.reader.now in
     let mid = side_of g.S.Source.view c.loop-block.reader in
     let new = side_of g.S.Source.view c.skip_block.new.reader in
-    rw (p.1, p.2) (pass_fails 65552 c.args.blocks c.loop-block.block old mid new kept.passed c.in_err-skip_block.field-0.0 kept.size (omega arith) kept.passes c.in_err-skip_block.ensures.skipped)
+    rw (p.1, p.2) (pass_fails 65552 c.args.blocks c.loop-block.block old mid new kept.passed c.in_err-skip_block.field-0.0 kept.size (omega arith)
+    kept.passes c.in_err-skip_block.ensures.skipped)
 
 pub loop-block-preserved : goal.loop-block-preserved
 loop-block-preserved g c =

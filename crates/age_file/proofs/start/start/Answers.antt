@@ -8,21 +8,25 @@ use Rattle.age_file.proofs.start.start.Goals as goal
 pub returns-in_err-head-clause-fails : goal.returns-in_err-head-clause-fails
 returns-in_err-head-clause-fails g c =
     let p = err_from_is_err_and c.from_residual.result c.from_residual.ensures.1 in
-    rw (p.1, p.2) (head_to_start (g.U.Unlock.allows c.args.unlock.now) (g.U.Unlock.refuses c.args.unlock.now) _ _ c.in_err-head.field-0.0 c.in_err-head.ensures.fails c.in_err-head.ensures.early)
+    rw (p.1, p.2) (head_to_start (g.U.Unlock.allows c.args.unlock.now) (g.U.Unlock.refuses c.args.unlock.now) _ _ c.in_err-head.field-0.0
+    c.in_err-head.ensures.fails c.in_err-head.ensures.early)
 
 pub returns-in_err-key-clause-fails : goal.returns-in_err-key-clause-fails
 returns-in_err-key-clause-fails g c =
     let p = err_from_is_err_and c.from_residual-in_err-key.result c.from_residual-in_err-key.ensures.1 in
     let head = c.in_ok-head.ensures.found in
-    rw (p.1, p.2) (key_to_start (g.U.Unlock.allows c.args.unlock.now) (g.U.Unlock.refuses c.args.unlock.now) _ _ c.in_ok-head.head.header head.front c.read_head.new.reader.intake.now.bytes c.in_err-key.field-0.0 c.in_ok-head.ensures.last head.text head.pulled.consumed c.in_err-key.ensures.refused)
+    rw (p.1, p.2) (key_to_start (g.U.Unlock.allows c.args.unlock.now) (g.U.Unlock.refuses c.args.unlock.now) _ _ c.in_ok-head.head.header head.front
+    c.read_head.new.reader.intake.now.bytes c.in_err-key.field-0.0 c.in_ok-head.ensures.last head.text head.pulled.consumed c.in_err-key.ensures.refused)
 
 pub returns-in_err-nonce-clause-fails : goal.returns-in_err-nonce-clause-fails
 returns-in_err-nonce-clause-fails g c =
     let p = err_from_is_err_and c.from_residual-in_err-nonce.result c.from_residual-in_err-nonce.ensures.1 in
     let head = c.in_ok-head.ensures.found in
-    rw (p.1, p.2) (nonce_to_start (g.U.Unlock.allows c.args.unlock.now) (g.U.Unlock.refuses c.args.unlock.now) c.one_header.ensures (g.S.Source.view c.args.reader.now.source.now)
+    rw (p.1, p.2) (nonce_to_start (g.U.Unlock.allows c.args.unlock.now) (g.U.Unlock.refuses c.args.unlock.now) c.one_header.ensures
+    (g.S.Source.view c.args.reader.now.source.now)
     (side_of g.S.Source.view c.read_head.new.reader) (side_of g.S.Source.view c.take_nonce.new.reader)
-    c.in_ok-head.head.header head.front c.in_ok-key.key c.in_err-nonce.field-0.0 c.in_ok-head.ensures.unfailed head.text c.in_ok-key.ensures.key head.pulled c.in_err-nonce.ensures.fails)
+    c.in_ok-head.head.header head.front c.in_ok-key.key c.in_err-nonce.field-0.0 c.in_ok-head.ensures.unfailed head.text c.in_ok-key.ensures.key
+    head.pulled c.in_err-nonce.ensures.fails)
 
 pub returns-clause-found : goal.returns-clause-found
 returns-clause-found g c =
@@ -37,5 +41,6 @@ returns-clause-found g c =
       opens = c.in_ok-key.ensures.key;
       size = search rules;
       id = c.file_id-id.ensures head.front head.hashed;
-      pulled = subst (λ (t : List ℕ). Pulled first last.source.remaining last.unread.pulls t) (sym (append_assoc head.front nonce last.unread.bytes)) (c.in_ok-nonce.ensures.found first head.front head.pulled);
+      pulled = subst (λ (t : List ℕ). Pulled first last.source.remaining last.unread.pulls t) (sym (append_assoc head.front nonce last.unread.bytes))
+          (c.in_ok-nonce.ensures.found first head.front head.pulled);
     }

@@ -14,8 +14,15 @@ returns-then-not-branch-clause-fails g c =
     let old = side_of g.S.Source.view c.args.reader.now in
     let mid = side_of g.S.Source.view c.parts.reader in
     let new = side_of g.S.Source.view c.some_bytes.new.reader in
-    let short = take c.parts.have c.parts.nonce in
-    ((short, omega (arith, length-take c.parts.have c.parts.nonce), uses_then old mid new short [] short (append-nil short) kept.uses c.some_bytes.ensures.uses, r.0), r.1)
+    let short = take c.parts.have c.parts.nonce in (
+      (
+        short,
+        omega (arith, length-take c.parts.have c.parts.nonce),
+        uses_then old mid new short [] short (append-nil short) kept.uses c.some_bytes.ensures.uses,
+        r.0,
+      ),
+      r.1,
+    )
 
 pub returns-in_err-some_bytes-clause-fails : goal.returns-in_err-some_bytes-clause-fails
 returns-in_err-some_bytes-clause-fails g c =
@@ -26,7 +33,8 @@ returns-in_err-some_bytes-clause-fails g c =
     let mid = side_of g.S.Source.view c.parts.reader in
     let new = side_of g.S.Source.view c.some_bytes.new.reader in
     let few = length-take c.parts.have c.parts.nonce in
-    rw (p.1, p.2) (nonce_fails old mid new (take c.parts.have c.parts.nonce) c.in_err-some_bytes.field-0.0 (omega (arith, few)) kept.unfailed kept.uses c.some_bytes.ensures.uses a.0 a.1)
+    rw (p.1, p.2) (nonce_fails old mid new (take c.parts.have c.parts.nonce) c.in_err-some_bytes.field-0.0 (omega (arith, few)) kept.unfailed kept.uses
+    c.some_bytes.ensures.uses a.0 a.1)
 
 pub parts-preserved : goal.parts-preserved
 parts-preserved g c =
@@ -40,7 +48,8 @@ parts-preserved g c =
     let mid = side_of g.S.Source.view c.parts.reader in
     let there = side_of g.S.Source.view c.some_bytes.new.reader in
     let new = side source c.use_front.new.self in
-    let front = uses_front source c.some_bytes.new.reader.intake.now c.use_front.new.self piece n c.use_front.ensures.pulls c.bytes.ensures.bytes c.use_front.ensures.bytes in
+    let front = uses_front source c.some_bytes.new.reader.intake.now c.use_front.new.self piece n c.use_front.ensures.pulls c.bytes.ensures.bytes
+    c.use_front.ensures.bytes in
     record {
       same = (c.in_ok-some_bytes.ensures.same.0 ∙ kept.same.0, c.in_ok-some_bytes.ensures.same.1 ∙ kept.same.1);
       most = omega (arith, kept.most, c.copy_some-n.ensures.count);

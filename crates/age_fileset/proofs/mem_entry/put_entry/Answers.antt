@@ -11,7 +11,8 @@ returns-in-Some-clause-ok c =
 pub returns-in-Some-clause-others : goal.returns-in-Some-clause-others
 returns-in-Some-clause-others c =
     let at : position (has_name c.args.name) c.args.entries.now.items ≡ Some c.in-Some.at = search rules in
-    λ q other. entry_of-set-other c.args.entries.now.items c.in-Some.at c.args.name q (record { name = c.args.name; bytes = c.args.bytes }) c.index_mut.result.now at refl other
+    λ q other. entry_of-set-other c.args.entries.now.items c.in-Some.at c.args.name q (record { name = c.args.name; bytes = c.args.bytes })
+    c.index_mut.result.now at refl other
 
 pub returns-in_ok-push-in-None-clause-ok : goal.returns-in_ok-push-in-None-clause-ok
 returns-in_ok-push-in-None-clause-ok c =
@@ -20,7 +21,8 @@ returns-in_ok-push-in-None-clause-ok c =
 
 pub returns-in_ok-push-in-None-clause-others : goal.returns-in_ok-push-in-None-clause-others
 returns-in_ok-push-in-None-clause-others c =
-    rw c.in_ok-push-in-None.ensures.items (λ q other. entry_of-push-other c.args.entries.now.items q (record { name = c.args.name; bytes = c.args.bytes }) other)
+    rw c.in_ok-push-in-None.ensures.items (λ q other. entry_of-push-other c.args.entries.now.items q (record { name = c.args.name; bytes = c.args.bytes })
+    other)
 
 pub returns-in_err-push-in-None-clause-there : goal.returns-in_err-push-in-None-clause-there
 returns-in_err-push-in-None-clause-there c =

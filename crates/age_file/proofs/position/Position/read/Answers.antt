@@ -10,7 +10,8 @@ returns-in_default-index_of-clause-refused c = λ p d1 d2 d3 e.
 
 pub returns-in-Some-position_of-clause-read : goal.returns-in-Some-position_of-clause-read
 returns-in-Some-position_of-clause-read c =
-    words_of c.args.text.now c.in-Some.at c.in-Some-index_of.index c.in-Some-position_of.position c.in-Some-index_of.ensures.some c.in-Some-position_of.ensures.index c.in-Some-position_of.ensures.fields
+    words_of c.args.text.now c.in-Some.at c.in-Some-index_of.index c.in-Some-position_of.position c.in-Some-index_of.ensures.some
+    c.in-Some-position_of.ensures.index c.in-Some-position_of.ensures.fields
 
 pub returns-in-None-clause-refused : goal.returns-in-None-clause-refused
 returns-in-None-clause-refused c = λ p d1 d2 d3 e.
