@@ -1,8 +1,9 @@
 use Rattle.std.proofs.Common.{refl, subst}
-use Rattle.std.proofs.lemmas.Result.{IfErr-weaker}
+use Rattle.std.proofs.lemmas.Result.{on_ok_weaker, IfErr-weaker}
 use Rattle.age_commands.specs.Requests.{text_of}
 use Rattle.age_actions.specs.Stops.{DecryptionStop, OutStops, PortsOf, kept_for}
 use Rattle.age_actions.proofs.PortSteps.{inner_ports, opening_stops}
+use Rattle.age_actions.specs.Decryptions.{DecryptsOut}
 use Rattle.age_actions.proofs.decryption.write_out.Goals as goal
 
 pub returns-in-Shown-clause-stops : goal.returns-in-Shown-clause-stops
@@ -20,3 +21,11 @@ returns-in-Shown-clause-stops g c =
     stop.fault) c.new-metered.ensures.source
     (opening_stops _ _ (inner_ports _ In.view Out.view (λ m. m.source) (λ m. refl)) keep identity _ old new stop (stops told empty)))
     c.write_from-written.ensures.stops
+
+pub returns-in-Shown-clause-done : goal.returns-in-Shown-clause-done
+returns-in-Shown-clause-done g c =
+    let In = g.F.In.Source in
+    let new = g.F.FileSet.entry c.write_from-written.new.files (g.F.Out.Sink.view c.args.out).label in
+    on_ok_weaker c.write_from-written.result (λ did told empty.
+    subst (λ s. DecryptsOut c.args.identity.now (In.view s).remaining new) c.new-metered.ensures.source (did told empty))
+    c.write_from-written.ensures.done

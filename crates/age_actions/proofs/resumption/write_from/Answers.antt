@@ -56,3 +56,20 @@ returns-in-Err-clause-stops g c = λ told empty.
       subst (λ l. Leaves (stopped.written ≡ 0) (Out.view writer).taken (entry c.args.files.now l) (entry c.leave.new.files l)) c.in-Err.ensures.named
           (c.leave.ensures.held told none),
     ))
+
+pub returns-in_ok-close-in-Ok-clause-done : goal.returns-in_ok-close-in-Ok-clause-done
+returns-in_ok-close-in-Ok-clause-done g c = λ told empty.
+    let writer = c.resume_with.new.writer in
+    let Read = g.S.Source in
+    let Out = g.F.Out.Sink in
+    record {
+      before = resume_ports (ports (Read.view c.args.source.now) (Out.view c.args.out)) (g.F.In.Source.view c.args.old.now);
+      after = resume_ports (ports (Read.view c.resume_with.new.reader) (Out.view writer)) (g.F.In.Source.view c.resume_with.new.old_reader);
+      done = c.in-Ok.field-0;
+      coming = refl;
+      old_coming = refl;
+      empty = empty;
+      ends = c.in-Ok.ensures.done;
+      taken = subst (λ l. g.F.FileSet.entry c.close.new.self l ≡ (Out.view writer).taken) c.in-Ok.ensures.named
+          (c.in_ok-close-in-Ok.ensures.put told);
+    }
