@@ -1,19 +1,19 @@
 -- What a command did, of the arguments that ask for it.
-use Rattle.std.proofs.Common.{◌≡◌, ◌∙◌, ap, sym, subst, refl, codes, List, [], Option, Bool, true, false}
+use Rattle.std.proofs.Common.{◌≡◌, ◌∙◌, ap, sym, subst, refl, codes, List, [], Option, Some, Bool, true, false}
 use Rattle.std.specs.Prelude.{if◌then◌else◌}
 use Rattle.std.specs.Option.{option_map_or}
-use Rattle.clap.specs.Words.{Row, Text}
+use Rattle.clap.specs.Words.{Row, Text, first_of}
 use Rattle.age_commands.specs.Asked.{Asks, AsksProgress, is_given}
-use Rattle.age_commands.specs.Requests.{IsProgress, IsUnlocking, IsDecrypting, IsResuming, Requests}
+use Rattle.age_commands.specs.Requests.{text_of, IsProgress, IsUnlocking, IsDecrypting, IsResuming, Requests}
 use Rattle.age_commands.specs.declared.request.Progress.{Progress}
 use Rattle.age_commands.specs.declared.request.Progress.TheVariants.{Shown, Silent}
 use Rattle.age_commands.specs.declared.request.Request.TheVariants.{Decrypt, Resume}
 use Rattle.age_commands.specs.declared.request.Unlocking.{Unlocking}
 use Rattle.age_commands.specs.declared.request.Decrypting.{Decrypting}
 use Rattle.age_commands.specs.declared.request.Resuming.{Resuming}
-use Rattle.age_actions.specs.Files.{Files}
+use Rattle.age_actions.specs.Files.{Files, SparesBoth}
 use Rattle.age_actions.specs.Identities.{Options}
-use Rattle.age_cli.specs.Rows.{options_of}
+use Rattle.age_cli.specs.Rows.{options_of, Spares}
 use Rattle.age_actions.specs.Identities.{options_asked}
 use Rattle.age_actions.specs.Decryptions.{DecryptsFile}
 use Rattle.age_cli.specs.Rows.{DecryptsRows}
@@ -44,6 +44,14 @@ pub decrypts_rows : (words : List Text) (rows : List Row) (d : Decrypting) (old 
 decrypts_rows words rows d old new (name, given, asked, request) asks did =
     subst (λ (t : List Row). DecryptsRows t old new) (one_command words name (codes "decrypt") given rows asked asks)
     (decrypts_given given d old new request.1 did)
+
+pub decrypt_spares : (words : List Text) (name : Text) (rows : List Row) (d : Decrypting) (old new : Files) → Requests words (Decrypt d) → Asks words name rows
+    → SparesBoth (Some d.to.now) (text_of d.save) old new → Spares rows old new
+decrypt_spares words name rows d old new (asked_name, given, asked, request) asks did =
+    let save = first_of (codes "save") given in
+    subst (λ (t : List Row). Spares t old new) (one_command words asked_name name given rows asked asks)
+    (subst (λ (o : Option Text). SparesBoth o save old new) request.1.to
+    (subst (λ (o : Option Text). SparesBoth (Some d.to.now) o old new) request.1.save did))
 
 resumes_given : (rows : List Row) (r : Resuming) (old new : Files) → IsResuming rows r
     → ResumesFile (options_asked r.decrypting.unlocking) r.position.now r.old.now r.decrypting.from.now r.decrypting.to.now old new → ResumesRows rows old new

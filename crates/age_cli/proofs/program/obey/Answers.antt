@@ -14,7 +14,7 @@ use Rattle.age_actions.proofs.EventSteps.{every_fault, none_done}
 use Rattle.age_cli.proofs.OrderSteps.{asked_order}
 use Rattle.age_commands.proofs.Simple.{no_command}
 use Rattle.age_cli.proofs.RowSteps.{stays_silent}
-use Rattle.age_cli.proofs.RowSteps.{decrypts_rows, resumes_rows}
+use Rattle.age_cli.proofs.RowSteps.{decrypts_rows, decrypt_spares, resumes_rows}
 use Rattle.age_cli.proofs.program.obey.Goals as goal
 
 pub returns-then-is_empty-clause-inspects : goal.returns-then-is_empty-clause-inspects
@@ -323,3 +323,10 @@ returns-in-Ok-Some-Resume-clause-silent g c = λ unasked.
     let here = c.in-Ok-Some-Resume in
     let request = subst (λ (o : Option Request). IfSome o (Requests w)) (here.field-0-is ∙ ap Some here.field-0-0-is) here.ensures.asked in
     c.resume_file.ensures.silent (stays_silent w _ (request.0) request.1 request.2 request.3.1.decrypting.progress unasked)
+
+pub returns-in-Ok-Some-Decrypt-clause-spares : goal.returns-in-Ok-Some-Decrypt-clause-spares
+returns-in-Ok-Some-Decrypt-clause-spares g c = λ rows name asks told.
+    let w = texts c.args.words.now in
+    let here = c.in-Ok-Some-Decrypt in
+    let request = subst (λ (o : Option Request). IfSome o (Requests w)) (here.field-0-is ∙ ap Some here.field-0-0-is) here.ensures.asked in
+    decrypt_spares w name rows here.asked _ _ request asks (c.decrypt_file.ensures.spares told)

@@ -52,3 +52,6 @@ returns-in-Err-clause-headline_resumed g c = λ rows text asks told auth.
 pub returns-in-Err-clause-judged : goal.returns-in-Err-clause-judged
 returns-in-Err-clause-judged g c = λ name rows asks two.
     c.in-Err.ensures.judged name rows asks (usage_status c.in-Err.ending (sym c.status.ensures ∙ two))
+
+pub returns-in-Ok-clause-decrypts : goal.returns-in-Ok-clause-decrypts
+returns-in-Ok-clause-decrypts g c = λ rows asks zero told. c.in-Ok.ensures.decrypts rows asks told
