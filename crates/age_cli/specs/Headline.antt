@@ -41,7 +41,7 @@ abbrev pub HoldsNoMore : Option (List ℕ) → Option (List ℕ) → List ℕ �
 HoldsNoMore old new text =
     (new ≡ old) ⊎ ((held : List ℕ) × (new ≡ Some held) × IsPrefixOf held text)
 
--- whatever the status, OUT is so; and with status 0 it holds all of the text
+-- whatever the status, OUT is as it was or holds a beginning of the text; with status 0, all of it
 pub record KeepsOut (rows : List Row) (old new : Files) (status : ℕ) (text : List ℕ) : Type 0 where
   pub safe : (to : Text) → first_of (codes "OUT") rows ≡ Some to
       → HoldsNoMore (old to) (new to) text

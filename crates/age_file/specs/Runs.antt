@@ -46,7 +46,7 @@ pub record IsFromStart (r : Run) : Type 0 where
 abbrev pub segment_of : Run → Segment
 segment_of r = segment r.first r.bytes r.ended
 
--- what the bytes come to, and the text that they release, each chunk of which opened
+-- the outcome of the bytes, and the text that they release, every chunk of which opened
 abbrev pub outcome_of : Run → Outcome
 outcome_of r = outcome (unbox r.file.key r.file.nonce) chunk_length (segment_of r)
 
@@ -65,7 +65,8 @@ pub record Reads (Allows : Header → List ℕ → Type 0) (old new : Option (Li
   pub size : length f.nonce ≡ 16
   pub read : Consumes old new ((f.header_bytes ++ f.nonce) ++ rest)
 
--- this run is what was read and written: so many bytes, which begin the text
+-- the run matches what was read and written: so many bytes, the old text and then the beginning of
+-- the text that was released
 pub record IsRun (Allows : Header → List ℕ → Type 0) (old new : Ports) (written : ℕ) (r : Run)
     : Type 0 where
   pub reads : Reads Allows old.source.remaining new.source.remaining r.file (r.skipped ++ r.bytes)
@@ -76,7 +77,7 @@ pub record IsRun (Allows : Header → List ℕ → Type 0) (old new : Ports) (wr
   pub count : written ≡ length (held r)
   pub prefix : IsPrefixOf r.out (text_of r)
 
--- no block that came and is tried opens, except as the writer of this text sealed it
+-- every block that is tried and opens is one that the writer of this text sealed there
 abbrev pub IsTexts : List ℕ → Run → Type 0
 IsTexts text r = IsAuthentic (box r.file.key r.file.nonce) (unbox r.file.key r.file.nonce)
     chunk_length text (segment_of r)
@@ -110,7 +111,7 @@ pub record IsPositionOf (r : Run) (p : Position) : Type 0 where
   pub tagged : HasTag p r.file
   pub carries : (text : List ℕ) → IsAuthenticRun r text → CarriesText text p
 
--- a position is told where positions are kept, and none where they are dropped
+-- a position is returned if positions are kept, and none if they are dropped
 abbrev pub Told : Positions → (Position → Type 0) → Option Position → Type 0
 Told Kept Is position = IsSomeAnd position Is
 Told Dropped Is position = position ≡ None

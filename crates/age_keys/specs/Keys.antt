@@ -20,7 +20,7 @@ header_mac key h = hmac (hkdf32 key [] (codes "header")) (mac_text h)
 abbrev pub IsMacOf : Header → List ℕ → Type 0
 IsMacOf h key = h.mac ≡ header_mac key h
 
--- the key of the payload that follows a nonce
+-- the payload key: HKDF of the file key, with the payload nonce as its salt
 unfoldable pub payload_key : List ℕ → List ℕ → List ℕ
 payload_key key nonce = hkdf32 key nonce (codes "payload")
 
