@@ -63,8 +63,8 @@ DecryptStops keep Allows Refused old new stopped = DecryptFails keep Allows Refu
 abbrev pub WritesText : Option (List ℕ) → Option (List ℕ) → ℕ → List ℕ → Type 0
 WritesText old new written text = Appends old new text × (written ≡ length text)
 
--- the source is an age file of this text, and the unlocker yields its key and no other, and can fail
--- only by running out of memory
+-- the source is an age file of this text, and the unlocker yields its key and no other, and can
+-- fail only by running out of memory
 pub record IsWhole (Allows : Header → List ℕ → Type 0) (Refused : Header → KeyFault → Type 0)
     (coming : Option (List ℕ)) (text : List ℕ) : Type 0 where
   pub header : Header

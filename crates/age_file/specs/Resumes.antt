@@ -21,8 +21,8 @@ resume_ports main old = record { main = main; old = old }
 abbrev pub NoPortFailed : ResumePorts → ResumePorts → Type 0
 NoPortFailed old new = NoneFailed old.main new.main × (new.old.failed ≡ old.old.failed)
 
--- only these bytes were written, the first of those that were read from the old text; if that begins
--- with the chunks of a text before the position, these bytes begin that text
+-- only these bytes were written, the first of those that were read from the old text; if that
+-- begins with the chunks of a text before the position, these bytes begin that text
 pub record WritesOld (p : Position) (old new : ResumePorts) (written : ℕ) (copied : List ℕ)
     : Type 0 where
   pub pulled : List ℕ
