@@ -42,6 +42,3 @@ pub use put::{flush_all, put_all, write_all};
 pub use report::{Report, StanzaReport, StanzaReports};
 pub use resumption::{resume, resume_with};
 pub use secret::Secret;
-
-#[cfg(test)]
-mod tests;

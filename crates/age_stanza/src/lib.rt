@@ -45,6 +45,3 @@ pub use valid::{is_argument, is_header};
 /// The greatest length of a header in bytes, from the version line to the end
 /// line's LF.
 pub const HEAD_MAX: usize = 1_048_576;
-
-#[cfg(test)]
-mod tests;

@@ -44,6 +44,3 @@ pub use replay::{Drill, Replay};
 pub use sealer::Sealer;
 pub use step::{Status, Step};
 pub use whole_text::{SealFault, seal_all, seal_into};
-
-#[cfg(test)]
-mod tests;

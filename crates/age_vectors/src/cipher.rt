@@ -505,15 +505,3 @@ pub fn rfc_aead() -> bool
         &SEALED_A_5,
     )
 }
-
-#[cfg(test)]
-mod tests {
-    use super::*;
-
-    #[test]
-    fn rfc_8439(rt: HostRuntime) {
-        assert!(rt; rfc_chacha());
-        assert!(rt; rfc_poly1305());
-        assert!(rt; rfc_aead());
-    }
-}

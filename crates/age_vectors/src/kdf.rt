@@ -148,15 +148,3 @@ pub fn rfc_pbkdf2() -> bool
     pbkdf2_once(b"passwd", b"salt", &mut key);
     key == PBKDF2_KEY
 }
-
-#[cfg(test)]
-mod tests {
-    use super::*;
-
-    #[test]
-    fn rfcs(rt: HostRuntime) {
-        assert!(rt; rfc_hmac());
-        assert!(rt; rfc_hkdf());
-        assert!(rt; rfc_pbkdf2());
-    }
-}

@@ -18,7 +18,7 @@ const SALT: [u8; 16] = [
 ];
 
 /// The file key of each header here that opens.
-pub(crate) const KEY: [u8; 16] = [0, 1, 2, 3, 4, 5, 6, 7, 8, 9, 10, 11, 12, 13, 14, 15];
+pub const FILE_KEY: [u8; 16] = [0, 1, 2, 3, 4, 5, 6, 7, 8, 9, 10, 11, 12, 13, 14, 15];
 
 /// The header of the passphrase `kudebafon`, at work factor 1.
 const WRITTEN: [u8; 149] = *b"age-encryption.org/v1\n-> scrypt EBESExQVFhcYGRobHB0eHw 1\n\
@@ -56,10 +56,10 @@ pub(crate) fn opened<U: Unlock>(alloc: Global, text: &[u8], unlock: &U) -> Resul
 /// Whether a text's header opens to the file key of all headers here. Where it does, it does so by
 /// the definitions.
 pub(crate) fn is_opened<U: Unlock>(alloc: Global, text: &[u8], unlock: &U) -> bool
-    ensures { IsTrue result → OpensIn (U.allows unlock.now) text.now KEY }
+    ensures { IsTrue result → OpensIn (U.allows unlock.now) text.now FILE_KEY }
 {
     match opened(alloc, text, unlock) {
-        Ok(key) => key == KEY,
+        Ok(key) => key == FILE_KEY,
         Err(_number) => false,
     }
 }
@@ -74,9 +74,9 @@ fn by_passphrase(alloc: Global, text: &[u8], pass: &[u8], max_log: u32) -> Resul
 
 /// Whether `scrypt_header` makes Python's header. Where it does, the definition gives it.
 fn writes_python_s_header(alloc: Global) -> bool
-    ensures { IsTrue result → HeadText (scrypt_head (codes "kudebafon") 1 SALT KEY) WRITTEN }
+    ensures { IsTrue result → HeadText (scrypt_head (codes "kudebafon") 1 SALT FILE_KEY) WRITTEN }
 {
-    let Ok(header) = scrypt_header(alloc, b"kudebafon", 1, &SALT, &FileKey::new(KEY)) else {
+    let Ok(header) = scrypt_header(alloc, b"kudebafon", 1, &SALT, &FileKey::new(FILE_KEY)) else {
         return false;
     };
     match encode_head(alloc, &header) {
@@ -87,10 +87,10 @@ fn writes_python_s_header(alloc: Global) -> bool
 
 /// The right passphrase and others, and limits.
 fn passphrase_rows(alloc: Global) -> bool {
-    by_passphrase(alloc, &WRITTEN, b"kudebafon", 1) == Ok(KEY)
-        && by_passphrase(alloc, &WRITTEN, b"kudebafon", 22) == Ok(KEY)
+    by_passphrase(alloc, &WRITTEN, b"kudebafon", 1) == Ok(FILE_KEY)
+        && by_passphrase(alloc, &WRITTEN, b"kudebafon", 22) == Ok(FILE_KEY)
         && by_passphrase(alloc, &WRITTEN, b"Kudebafon", 1) == Err(13)
-        && by_passphrase(alloc, AT_TEN, b"kudebafon", 10) == Ok(KEY)
+        && by_passphrase(alloc, AT_TEN, b"kudebafon", 10) == Ok(FILE_KEY)
         && by_passphrase(alloc, AT_TEN, b"kudebafon", 9) == Err(11)
         && Passphrase::new(b"", 1).is_none()
         && Passphrase::new(b"x", 0).is_none()
@@ -99,9 +99,9 @@ fn passphrase_rows(alloc: Global) -> bool {
 
 /// A known key, right and wrong.
 fn known_key_rows(alloc: Global) -> bool {
-    let mut other = KEY;
+    let mut other = FILE_KEY;
     other[15] ^= 1;
-    is_opened(alloc, &WRITTEN, &KnownKey::new(KEY))
+    is_opened(alloc, &WRITTEN, &KnownKey::new(FILE_KEY))
         && opened(alloc, &WRITTEN, &KnownKey::new(other)) == Err(14)
         && KnownKey::read("000102030405060708090A0b0c0d0e0f").is_some()
         && KnownKey::read("000102030405060708090A0b0c0d0e0").is_none()
@@ -225,7 +225,7 @@ fn is_noticed(alloc: Global, bit: usize) -> Result<bool, AllocError>
 /// shape that is refused, with its number; each bit of the MAC and of the body inverted. False too
 /// where memory is refused. True says that the definition gives Python's header.
 pub fn key_rows(alloc: Global) -> bool
-    ensures { IsTrue result → HeadText (scrypt_head (codes "kudebafon") 1 SALT KEY) WRITTEN }
+    ensures { IsTrue result → HeadText (scrypt_head (codes "kudebafon") 1 SALT FILE_KEY) WRITTEN }
 {
     if !passphrase_rows(alloc) || !known_key_rows(alloc) || !stanza_rows(alloc) {
         return false;
@@ -237,14 +237,4 @@ pub fn key_rows(alloc: Global) -> bool
         return false;
     }
     writes_python_s_header(alloc)
-}
-
-#[cfg(test)]
-mod tests {
-    use super::*;
-
-    #[test]
-    fn keys(rt: HostRuntime) {
-        assert!(rt; key_rows(rt.alloc()));
-    }
 }

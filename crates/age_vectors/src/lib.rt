@@ -1,9 +1,9 @@
-//! Outside vectors and worked examples of the constructions under an age file, and the tests that
-//! cross crates.
+//! Outside vectors and worked examples of the constructions under an age file.
 //!
 //! Each public function runs the vectors of one standard, or the worked examples of one layer, and
 //! answers whether every one came out. Where a contract stands beside it, true says more: that the
-//! definition itself, and not only this program, gives the values of the standard.
+//! definition itself, and not only this program, gives the values of the standard. The tests of
+//! `age_tests` ask each one.
 #![tactic(auto)]
 
 mod cipher;
@@ -22,10 +22,7 @@ pub use delivery::delivery_rows;
 pub use header::header_rows;
 pub use hostile::hostile_rows;
 pub use kdf::{rfc_hkdf, rfc_hmac, rfc_pbkdf2};
-pub use keys::key_rows;
+pub use keys::{FILE_KEY, key_rows};
 pub use scrypt::rfc_scrypt;
-pub use shared::shared_rows;
+pub use shared::{X25519_HEADER, X25519_RECIPIENT, X25519_SECRET, shared_rows};
 pub use stops::stop_rows;
-
-#[cfg(test)]
-mod tests;

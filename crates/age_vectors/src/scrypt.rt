@@ -27,13 +27,3 @@ pub fn rfc_scrypt(alloc: Global) -> bool
         Err(_) => false,
     }
 }
-
-#[cfg(test)]
-mod tests {
-    use super::*;
-
-    #[test]
-    fn rfc(rt: HostRuntime) {
-        assert!(rt; rfc_scrypt(rt.alloc()));
-    }
-}

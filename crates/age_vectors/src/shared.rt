@@ -3,22 +3,24 @@ ghost use Rattle.std.specs.Prelude.{IsTrue};
 ghost use Rattle.age_keys.specs.SharedSecret.{IsSharedKey};
 ghost use Rattle.age_vectors.specs.Keys.{OpensIn};
 
-use crate::keys::{KEY, around, is_opened, opened};
+use crate::keys::{FILE_KEY, around, is_opened, opened};
 use age_keys::SharedSecret;
 use std::alloc::Global;
 
-pub(crate) const SECRET: [u8; 32] = [
+/// What X25519 gave for both sides.
+pub const X25519_SECRET: [u8; 32] = [
     64, 65, 66, 67, 68, 69, 70, 71, 72, 73, 74, 75, 76, 77, 78, 79, 80, 81, 82, 83, 84, 85, 86, 87,
     88, 89, 90, 91, 92, 93, 94, 95,
 ];
 
-pub(crate) const RECIPIENT: [u8; 32] = [
+/// The recipient's public key.
+pub const X25519_RECIPIENT: [u8; 32] = [
     96, 97, 98, 99, 100, 101, 102, 103, 104, 105, 106, 107, 108, 109, 110, 111, 112, 113, 114, 115,
     116, 117, 118, 119, 120, 121, 122, 123, 124, 125, 126, 127,
 ];
 
 /// A header of one X25519 stanza.
-pub(crate) const ONE: [u8; 168] =
+pub const X25519_HEADER: [u8; 168] =
     *b"age-encryption.org/v1\n-> X25519 AQIDBAUGBwgJCgsMDQ4PEBESExQVFhcYGRobHB0eHyA\n\
         jZAdkj7SfLxba9aaDaLOH15VqHxjezbflkA4yhWbOAQ\n\
         --- bFHWTtINPd+NDhBKPJJS9Mjszxl4rvMbhTUfrtdiPco\n";
@@ -65,7 +67,7 @@ fn refuses(alloc: Global, stanzas: &[u8], number: u8) -> bool {
             opened(
                 alloc,
                 text.as_slice(),
-                &SharedSecret::new(&SECRET, &RECIPIENT),
+                &SharedSecret::new(&X25519_SECRET, &X25519_RECIPIENT),
             ) == Err(number)
         }
         Err(_) => false,
@@ -74,10 +76,10 @@ fn refuses(alloc: Global, stanzas: &[u8], number: u8) -> bool {
 
 /// Another secret, a zero secret, and stanzas that are refused.
 fn refused_rows(alloc: Global) -> bool {
-    let other = SharedSecret::new(&RECIPIENT, &RECIPIENT);
-    let zero = SharedSecret::new(&[0; 32], &RECIPIENT);
-    opened(alloc, &ONE, &other) == Err(13)
-        && opened(alloc, &ONE, &zero) == Err(15)
+    let other = SharedSecret::new(&X25519_RECIPIENT, &X25519_RECIPIENT);
+    let zero = SharedSecret::new(&[0; 32], &X25519_RECIPIENT);
+    opened(alloc, &X25519_HEADER, &other) == Err(13)
+        && opened(alloc, &X25519_HEADER, &zero) == Err(15)
         && refuses(alloc, SHORT_FIRST, 15)
         && refuses(alloc, SHORT_SECOND, 15)
         && refuses(alloc, b"-> x\n\n", 12)
@@ -90,11 +92,11 @@ fn refused_rows(alloc: Global) -> bool {
 /// open.
 pub fn shared_rows(alloc: Global) -> bool
     ensures one { IsTrue result
-        → OpensIn (IsSharedKey (record { secret = SECRET; recipient = RECIPIENT })) ONE KEY }
+        → OpensIn (IsSharedKey (record { secret = X25519_SECRET; recipient = X25519_RECIPIENT })) X25519_HEADER FILE_KEY }
     ensures first { IsTrue result
-        → OpensIn (IsSharedKey (record { secret = SECRET; recipient = RECIPIENT })) BOTH KEY }
+        → OpensIn (IsSharedKey (record { secret = X25519_SECRET; recipient = X25519_RECIPIENT })) BOTH FILE_KEY }
 {
-    let shared = SharedSecret::new(&SECRET, &RECIPIENT);
+    let shared = SharedSecret::new(&X25519_SECRET, &X25519_RECIPIENT);
     if !refused_rows(alloc) {
         return false;
     }
@@ -104,15 +106,5 @@ pub fn shared_rows(alloc: Global) -> bool
     if !is_opened(alloc, &BOTH, &shared) {
         return false;
     }
-    is_opened(alloc, &ONE, &shared)
-}
-
-#[cfg(test)]
-mod tests {
-    use super::*;
-
-    #[test]
-    fn shared_secrets(rt: HostRuntime) {
-        assert!(rt; shared_rows(rt.alloc()));
-    }
+    is_opened(alloc, &X25519_HEADER, &shared)
 }

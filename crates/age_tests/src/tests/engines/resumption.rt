@@ -3,6 +3,7 @@
 ghost use Rattle.std.specs.Prelude.{◌<◌};
 
 use super::*;
+use age_file::resume;
 
 /// What a resumed run reads: a file, an old text, and the position.
 #[derive(Drop)]

@@ -3,6 +3,7 @@
 ghost use Rattle.std.specs.Prelude.{◌≤◌};
 
 use super::*;
+use age_file::{Failed, Reading, Sink, Source, Writing};
 use std::io::{self, ErrorKind, Read, Write};
 
 /// Hands on to a reader or a writer; the call numbered `fail_call`, from 0, fails, and moves

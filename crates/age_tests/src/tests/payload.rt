@@ -1,15 +1,9 @@
 //! Worked examples that run, and each public function once. The longer ones stand in the crate of
 //! the vectors.
-use crate::clear_box::ClearBox;
-use crate::delivery::Delivery;
-use crate::drilling::drill;
-use crate::fault::{Memory, StreamFault, StreamKind};
-use crate::nonce::{CHUNK_LIMIT, nonce_of};
-use crate::opener::Opener;
-use crate::replay::Replay;
-use crate::sealer::Sealer;
-use crate::step::Status;
-use crate::whole_text::{SealFault, seal_all, seal_into};
+use age_stream::{
+    CHUNK_LIMIT, ClearBox, Delivery, Memory, Opener, Replay, SealFault, Sealer, Status,
+    StreamFault, StreamKind, drill, nonce_of, seal_all, seal_into,
+};
 use std::test::Fail;
 
 const SEALED_8: &[u8; 40] =

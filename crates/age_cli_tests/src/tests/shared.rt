@@ -2,11 +2,10 @@
 //! elsewhere. Their header is Python's.
 
 use super::see::see;
-use crate::keys::KEY;
-use crate::shared::{ONE, RECIPIENT, SECRET};
 use age_fileset::MemFiles;
 use age_keys::{FileKey, PayloadKey, payload_key};
 use age_stream::seal_all;
+use age_vectors::{FILE_KEY, X25519_HEADER, X25519_RECIPIENT, X25519_SECRET};
 use std::alloc::Global;
 use std::test::Fail;
 
@@ -14,11 +13,11 @@ const NONCE: &[u8; 16] = b"sixteen bytes...";
 
 /// The file of a text, and the shared secret.
 fn files_with(alloc: Global, room: usize, text: &[u8]) -> Result<MemFiles, Fail> {
-    let mut secret = SECRET.to_vec(alloc)?;
-    secret.extend_from_slice(&RECIPIENT)?;
-    let key = payload_key(&FileKey::new(KEY), NONCE);
+    let mut secret = X25519_SECRET.to_vec(alloc)?;
+    secret.extend_from_slice(&X25519_RECIPIENT)?;
+    let key = payload_key(&FileKey::new(FILE_KEY), NONCE);
     let sealed = seal_all::<PayloadKey, 65_552>(alloc, &key, text).unwrap_or(Vec::new(alloc));
-    let mut file = ONE.to_vec(alloc)?;
+    let mut file = X25519_HEADER.to_vec(alloc)?;
     file.extend_from_slice(NONCE)?;
     file.extend_from_slice(sealed.as_slice())?;
     let mut files = MemFiles::new(alloc, room);
@@ -77,7 +76,7 @@ const REPORT: &str =
 /// The file, and a file with these parts as shared secret and recipient.
 fn empty_file_with(alloc: Global, secret: &[u8], recipient: &[u8]) -> Result<MemFiles, Fail> {
     let mut files = MemFiles::new(alloc, 1_000);
-    let mut file = ONE.to_vec(alloc)?;
+    let mut file = X25519_HEADER.to_vec(alloc)?;
     file.extend_from_slice(EMPTY)?;
     files.put(alloc, "IN", file)?;
     let mut shared = secret.to_vec(alloc)?;
@@ -91,7 +90,7 @@ const DECRYPT: &[&str] = &["decrypt", "--shared", "SHARED", "IN", "OUT"];
 #[test]
 fn an_empty_file_is_reported_and_opened(rt: HostRuntime) -> Result<(), Fail> {
     let alloc = rt.alloc();
-    let mut files = empty_file_with(alloc, &SECRET, &RECIPIENT)?;
+    let mut files = empty_file_with(alloc, &X25519_SECRET, &X25519_RECIPIENT)?;
     assert_eq!(rt; files.get("IN").unwrap_or(b"").len(), 200);
     see(&rt, alloc, &mut files, &["inspect", "IN"], (0, REPORT, ""))?;
     see(&rt, alloc, &mut files, DECRYPT, (0, "", ""))?;
@@ -102,10 +101,10 @@ fn an_empty_file_is_reported_and_opened(rt: HostRuntime) -> Result<(), Fail> {
 #[test]
 fn another_secret_and_a_zero_secret(rt: HostRuntime) -> Result<(), Fail> {
     let alloc = rt.alloc();
-    let mut files = empty_file_with(alloc, &RECIPIENT, &RECIPIENT)?;
+    let mut files = empty_file_with(alloc, &X25519_RECIPIENT, &X25519_RECIPIENT)?;
     let wrong = "age_tool: 13 WrongKey\n";
     see(&rt, alloc, &mut files, DECRYPT, (1, "", wrong))?;
-    let mut files = empty_file_with(alloc, &[0; 32], &RECIPIENT)?;
+    let mut files = empty_file_with(alloc, &[0; 32], &X25519_RECIPIENT)?;
     let bad = "age_tool: 15 BadX25519\n";
     see(&rt, alloc, &mut files, DECRYPT, (1, "", bad))
 }
@@ -113,7 +112,7 @@ fn another_secret_and_a_zero_secret(rt: HostRuntime) -> Result<(), Fail> {
 #[test]
 fn a_header_for_nobody_of_the_kind(rt: HostRuntime) -> Result<(), Fail> {
     let alloc = rt.alloc();
-    let mut files = empty_file_with(alloc, &SECRET, &RECIPIENT)?;
+    let mut files = empty_file_with(alloc, &X25519_SECRET, &X25519_RECIPIENT)?;
     let other = b"age-encryption.org/v1\n-> x\n\n--- AAAAAAAAAAAAAAAAAAAAAAAAAAAAAAAAAAAAAAAAAAA\n";
     files.put(alloc, "IN", other.to_vec(alloc)?)?;
     let none = "age_tool: 12 NoMatch\n";
@@ -125,10 +124,10 @@ fn a_header_for_nobody_of_the_kind(rt: HostRuntime) -> Result<(), Fail> {
 fn a_shared_file_of_another_length(rt: HostRuntime) -> Result<(), Fail> {
     let alloc = rt.alloc();
     let bad = "age_tool: bad shared file\n";
-    let mut files = empty_file_with(alloc, &SECRET, &RECIPIENT[1..])?;
+    let mut files = empty_file_with(alloc, &X25519_SECRET, &X25519_RECIPIENT[1..])?;
     see(&rt, alloc, &mut files, DECRYPT, (2, "", bad))?;
     assert!(rt; files.get("OUT").is_none());
-    let mut files = empty_file_with(alloc, &SECRET, &[1; 33])?;
+    let mut files = empty_file_with(alloc, &X25519_SECRET, &[1; 33])?;
     see(&rt, alloc, &mut files, DECRYPT, (2, "", bad))?;
     assert!(rt; files.get("OUT").is_none());
     Ok(())

@@ -5,7 +5,9 @@ ghost use Rattle.std.specs.Prelude.{◌<◌};
 mod machine;
 mod resumption;
 
-use super::*;
+use age_file::{
+    Done, FileFault, MemSink, MemSource, Position, Positions, Stopped, decrypt, decrypt_with,
+};
 use age_keys::{FileKey, KnownKey, PayloadKey, payload_key};
 use age_stream::seal_all;
 use sha2::{Digest, Sha256};
