@@ -10,26 +10,46 @@ use std::alloc::Global;
 use std::io;
 use std::process::ExitCode;
 
-/// The arguments after the program's name.
-fn words_of<'a>(alloc: Global, words: &'a [String]) -> io::Result<Vec<&'a str>> {
-    let mut texts = Vec::new(alloc);
-    for word in words.iter().skip(1) {
-        texts.push(word.as_str())?;
-    }
-    Ok(texts)
+/// The words of the command line. Fails if memory is refused, or if some word is no text.
+fn args_of(rt: &HostRuntime) -> io::Result<Vec<String>> {
+    Ok(std::env::args(rt)?.collect(rt.alloc())?)
 }
 
-/// Runs the program on the machine. Fails if the arguments can't be read.
-fn run_on(rt: &HostRuntime) -> io::Result<u8> {
+/// The words after the program's name.
+fn words_of<'a>(alloc: Global, args: &'a [String]) -> io::Result<Vec<&'a str>> {
+    let mut words = Vec::new(alloc);
+    for arg in args.iter().skip(1) {
+        words.push(arg.as_str())?;
+    }
+    Ok(words)
+}
+
+/// Reports that the command line can't be read.
+fn unread(rt: &HostRuntime, error: &io::Error) -> ExitCode {
+    if error.kind() == io::ErrorKind::OutOfMemory {
+        let _ = eprintln!(rt; "age_tool: 28 Memory");
+        return ExitCode::from(1);
+    }
+    let _ = eprintln!(rt; "age_tool: bad command line");
+    ExitCode::from(2)
+}
+
+fn main(rt: HostRuntime) -> ExitCode {
     let alloc = rt.alloc();
-    let args: Vec<String> = std::env::args(rt)?.collect(alloc)?;
-    let words = words_of(alloc, args.as_slice())?;
-    let mut files = HostFiles::new(rt);
+    let args = match args_of(&rt) {
+        Ok(args) => args,
+        Err(error) => return unread(&rt, &error),
+    };
+    let words = match words_of(alloc, args.as_slice()) {
+        Ok(words) => words,
+        Err(error) => return unread(&rt, &error),
+    };
+    let mut files = HostFiles::new(&rt);
     let mut input = Reading::new(rt.reader());
-    let mut output = Writing::new(io::writer(rt));
+    let mut output = Writing::new(io::writer(&rt));
     let mut faults = Writing::new(rt.stderr());
     let mut progress = ProgressLine::new(Writing::new(rt.stderr()));
-    Ok(run(
+    ExitCode::from(run(
         alloc,
         words.as_slice(),
         &mut files,
@@ -38,19 +58,4 @@ fn run_on(rt: &HostRuntime) -> io::Result<u8> {
         &mut faults,
         &mut progress,
     ))
-}
-
-fn main(rt: HostRuntime) -> ExitCode {
-    match run_on(&rt) {
-        Ok(status) => ExitCode::from(status),
-        Err(error) if error.kind() == io::ErrorKind::OutOfMemory => {
-            let _ = eprintln!(rt; "age_tool: 28 Memory");
-            ExitCode::from(1)
-        }
-        // Some word is no text, so the command line is a bad one.
-        Err(_) => {
-            let _ = eprintln!(rt; "age_tool: bad command line");
-            ExitCode::from(2)
-        }
-    }
 }

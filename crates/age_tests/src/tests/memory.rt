@@ -22,15 +22,26 @@ fn a_source_gives_by_steps_and_fails_once(rt: HostRuntime) -> Result<(), Fail> {
 
 #[test]
 fn a_sink_takes_what_it_has_room_for(rt: HostRuntime) -> Result<(), Fail> {
-    let mut sink = MemSink::new(rt.alloc(), 5, 3, Some(2))?;
-    assert_eq!(rt; sink.put(b"abcd"), Ok(3));
-    assert_eq!(rt; sink.put(b""), Ok(0));
-    assert_eq!(rt; sink.flush(), Err(Failed));
-    assert_eq!(rt; sink.flush(), Ok(()));
-    assert_eq!(rt; sink.put(b"def"), Ok(2));
-    assert_eq!(rt; sink.put(b"f"), Err(Failed));
-    assert_eq!(rt; sink.failures(), 2);
+    let mut sink = MemSink::new(rt.alloc(), 5, 3, None)?;
+    let puts = [
+        sink.put(b"abcd"),
+        sink.put(b""),
+        sink.put(b"def"),
+        sink.put(b"f"),
+    ];
+    assert!(rt; puts == [Ok(3), Ok(0), Ok(2), Err(Failed)]);
+    assert_eq!(rt; sink.failures(), 1);
     assert_eq!(rt; sink.bytes(), b"abcde".as_slice());
+    Ok(())
+}
+
+#[test]
+fn a_sink_fails_once(rt: HostRuntime) -> Result<(), Fail> {
+    let mut sink = MemSink::new(rt.alloc(), 5, 3, Some(1))?;
+    assert!(rt; sink.put(b"ab") == Ok(2));
+    assert!(rt; sink.flush() == Err(Failed));
+    assert!(rt; sink.flush() == Ok(()));
+    assert_eq!(rt; sink.failures(), 1);
     Ok(())
 }
 
@@ -47,21 +58,27 @@ fn what_is_written_before_a_failure_is_counted(rt: HostRuntime) -> Result<(), Fa
 }
 
 #[test]
-fn readers_and_writers_of_std(rt: HostRuntime) -> Result<(), Fail> {
+fn a_reader_of_std(rt: HostRuntime) {
     let mut source = Reading::new(b"abc".as_slice());
     let mut into = [0u8; 2];
-    assert_eq!(rt; source.pull(&mut into), Ok(2));
-    assert_eq!(rt; source.pull(&mut into), Ok(1));
-    assert_eq!(rt; source.pull(&mut into), Ok(0));
+    let pulls = [
+        source.pull(&mut into),
+        source.pull(&mut into),
+        source.pull(&mut into),
+    ];
+    assert!(rt; pulls == [Ok(2), Ok(1), Ok(0)]);
     assert_eq!(rt; source.failures(), 0);
+}
+
+#[test]
+fn a_writer_of_std(rt: HostRuntime) {
     let mut held = [0u8; 3];
     let mut sink = Writing::new(held.as_mut_slice());
-    assert_eq!(rt; sink.put(b"abcd"), Ok(3));
-    assert_eq!(rt; sink.flush(), Ok(()));
+    assert!(rt; sink.put(b"abcd") == Ok(3));
+    assert!(rt; sink.flush() == Ok(()));
     // A writer that takes nothing has failed.
-    assert_eq!(rt; sink.put(b"d"), Err(Failed));
+    assert!(rt; sink.put(b"d") == Err(Failed));
     assert_eq!(rt; sink.failures(), 1);
-    Ok(())
 }
 
 #[test]
