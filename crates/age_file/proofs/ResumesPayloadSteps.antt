@@ -3,22 +3,22 @@ use Rattle.std.proofs.Common.{◌≡◌, ◌∙◌, ℕ, ◌^◌, ◌≤◌, ◌
 use Rattle.std.specs.Prelude.{Result}
 use Rattle.std.proofs.lemmas.List.{length-append}
 use Rattle.age_file.specs.inner.Intakes.{Pulled}
-use Rattle.age_file.specs.inner.Payloads.{Stage, HasPlace}
+use Rattle.age_file.specs.inner.Payloads.{HasPlace}
+use Rattle.age_file.specs.inner.Readers.{WriterView, Stage}
 use Rattle.age_file.specs.inner.Skips.{Passes}
-use Rattle.age_file.specs.inner.ResumesPayload.{HasPulled, side_at, ResumesPayload}
-use Rattle.age_file.specs.inner.Releases.{Tally}
+use Rattle.age_file.specs.inner.ResumesPayload.{HasPulled, ResumesPayload}
 use Rattle.age_file.specs.declared.fault.FileFault.{FileFault}
 
 -- there is room behind the blocks that were passed over
-pub place_after : (old mid : Stage) (passed : List ℕ) → old.tally.progress.written ≤ 2 ^ 64 → mid.tally.progress.written ≡ old.tally.progress.written
-    → HasPulled old → Passes (side_at old) (side_at mid) passed → HasPlace mid
+pub place_after : (old mid : Stage) (passed : List ℕ) → old.writer.progress.written ≤ 2 ^ 64 → mid.writer.progress.written ≡ old.writer.progress.written
+    → HasPulled old → Passes old.reader mid.reader passed → HasPlace mid
 place_after old mid passed room same (start, used, pulled) passes =
-    let all : Pulled start mid.source.remaining mid.unread.pulls (used ++ (passed ++ mid.unread.bytes)) = passes.uses start used pulled in
-    (omega (arith, all.small, same, room, length-append used (passed ++ mid.unread.bytes), length-append passed mid.unread.bytes), all.most)
+    let all : Pulled start mid.reader.source.remaining mid.reader.unread.pulls (used ++ (passed ++ mid.reader.unread.bytes)) = passes.uses start used pulled in
+    (omega (arith, all.small, same, room, length-append used (passed ++ mid.reader.unread.bytes), length-append passed mid.reader.unread.bytes), all.most)
 
 -- the sink goes by its name
 pub resumed_label : (opening : List ℕ → List ℕ → Option (List ℕ)) (index : ℕ) (old new : Stage) (result : Result (Unit {0}) FileFault)
     → ResumesPayload opening index old new result
-    → new.tally.sink.label ≡ old.tally.sink.label
-resumed_label opening index old new result (inl stopped) = ap (λ (t : Tally). t.sink.label) stopped.same
-resumed_label opening index old new result (inr behind) = behind.decrypts.named ∙ ap (λ (t : Tally). t.sink.label) behind.same
+    → new.writer.sink.label ≡ old.writer.sink.label
+resumed_label opening index old new result (inl stopped) = ap (λ (t : WriterView). t.sink.label) stopped.same
+resumed_label opening index old new result (inr behind) = behind.decrypts.named ∙ ap (λ (t : WriterView). t.sink.label) behind.same

@@ -5,7 +5,6 @@ pub mod Counts
 pub mod Decrypts
 pub mod Encrypts
 pub mod Faults
-pub mod Flows
 pub mod Intakes
 pub mod Payloads
 pub mod PositionTexts

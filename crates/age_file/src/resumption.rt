@@ -1,7 +1,7 @@
 //! Continues a decryption that stopped.
 
 ghost use Rattle.std.specs.Prelude.{◌≡◌, ◌^◌, ◌<◌, ◌≤◌, [], OnOk, true};
-ghost use Rattle.age_file.specs.inner.Readers.{side_of, tally_of, stage_of, SameReader, SameWriter};
+ghost use Rattle.age_file.specs.inner.Readers.{view_of_reader, view_of_writer, stage_of, SameReader, SameWriter};
 ghost use Rattle.age_file.specs.inner.Copies.{CopiesText};
 ghost use Rattle.age_file.specs.inner.ResumesPayload.{HasPulled, ResumesPayload};
 ghost use Rattle.age_file.specs.Ports.{ports};
@@ -52,8 +52,8 @@ fn copy_old<L: Source, O: Sink>(
     requires fresh { (writer.old.progress.written ≡ 0) × (writer.old.progress.index ≡ 0)
         × (writer.old.progress.chain ≡ chain_if Kept []) }
     ensures copied { CopiesText positions 65536 position.now.index position.now.chain
-        (side_of L.view reader.old) (side_of L.view reader.new) (tally_of O.view writer.old)
-        (tally_of O.view writer.new) result }
+        (view_of_reader L.view reader.old) (view_of_reader L.view reader.new) (view_of_writer O.view writer.old)
+        (view_of_writer O.view writer.new) result }
     ensures same_reader { SameReader reader.old reader.new }
     ensures same_writer { SameWriter writer.old writer.new }
 {

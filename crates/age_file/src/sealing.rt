@@ -3,7 +3,7 @@
 ghost use Rattle.std.specs.Prelude.{◌≡◌, ◌^◌, ◌≤◌, [], length, IfOk, OnOk, IfErr, true};
 ghost use Rattle.age_stream.specs.Sealing.{Holds};
 ghost use Rattle.age_file.specs.inner.Boxes.{seals};
-ghost use Rattle.age_file.specs.inner.Readers.{tally_of, ports_of, SameReader, SameWriter};
+ghost use Rattle.age_file.specs.inner.Readers.{view_of_writer, ports_of, SameReader, SameWriter};
 ghost use Rattle.age_file.specs.inner.Seals.{IsFeeding, HasRoom, SealsOnce, SealsPiece, SealsLast};
 ghost use Rattle.age_file.specs.inner.Seals.{SealsSource, SealsAll, SealsFront};
 
@@ -25,8 +25,8 @@ fn seal_once<O: Sink>(
 ) -> Result<usize, FileFault>
     requires feeding { IsFeeding sealer.old }
     requires room { writer.old.progress.written ≤ 2 ^ 127 }
-    ensures sealed { SealsOnce seals 65536 sealer.old sealer.new (tally_of O.view writer.old)
-        (tally_of O.view writer.new) piece.now result }
+    ensures sealed { SealsOnce seals 65536 sealer.old sealer.new (view_of_writer O.view writer.old)
+        (view_of_writer O.view writer.new) piece.now result }
     ensures named { (O.view writer.new.sink.now).label ≡ (O.view writer.old.sink.now).label }
     ensures same_writer { SameWriter writer.old writer.new }
 {
@@ -46,8 +46,8 @@ fn seal_piece<O: Sink>(
 ) -> Result<(), FileFault>
     requires feeding { IsFeeding sealer.old }
     requires room { HasRoom seals 65536 sealer.old writer.old.progress.written (length piece.now) }
-    ensures sealed { SealsPiece seals 65536 sealer.old sealer.new (tally_of O.view writer.old)
-        (tally_of O.view writer.new) piece.now result }
+    ensures sealed { SealsPiece seals 65536 sealer.old sealer.new (view_of_writer O.view writer.old)
+        (view_of_writer O.view writer.new) piece.now result }
     ensures named { (O.view writer.new.sink.now).label ≡ (O.view writer.old.sink.now).label }
     ensures same_writer { SameWriter writer.old writer.new }
 {
@@ -65,8 +65,8 @@ fn seal_last<O: Sink>(
 ) -> Result<(), FileFault>
     requires feeding { IsFeeding sealer.old }
     requires room { writer.old.progress.written ≤ 2 ^ 127 }
-    ensures sealed { SealsLast seals 65536 sealer.old (tally_of O.view writer.old)
-        (tally_of O.view writer.new) result }
+    ensures sealed { SealsLast seals 65536 sealer.old (view_of_writer O.view writer.old)
+        (view_of_writer O.view writer.new) result }
     ensures named { (O.view writer.new.sink.now).label ≡ (O.view writer.old.sink.now).label }
     ensures same_writer { SameWriter writer.old writer.new }
 {
@@ -81,8 +81,8 @@ fn finish<O: Sink>(
 ) -> Result<(), FileFault>
     requires feeding { IsFeeding sealer.old }
     requires room { writer.old.progress.written ≤ 2 ^ 127 }
-    ensures sealed { SealsLast seals 65536 sealer.old (tally_of O.view writer.old)
-        (tally_of O.view writer.new) result }
+    ensures sealed { SealsLast seals 65536 sealer.old (view_of_writer O.view writer.old)
+        (view_of_writer O.view writer.new) result }
     ensures settled { OnOk result ((O.view writer.new.sink.now).settled ≡ true) }
     ensures named { (O.view writer.new.sink.now).label ≡ (O.view writer.old.sink.now).label }
     ensures same_writer { SameWriter writer.old writer.new }

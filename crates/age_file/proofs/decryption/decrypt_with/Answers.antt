@@ -2,9 +2,7 @@ use Rattle.std.proofs.Common.{refl, rules, Ok, Err}
 use Rattle.std.proofs.KnownBytes.{Appends-nil}
 use Rattle.age_file.proofs.Bytes.{stops_unread}
 use Rattle.age_file.specs.Ports.{ports}
-use Rattle.age_file.specs.inner.Releases.{tally}
-use Rattle.age_file.specs.inner.Payloads.{stage}
-use Rattle.age_file.specs.inner.Readers.{stage_of}
+use Rattle.age_file.specs.inner.Readers.{writer_view, stage, view_of_reader, stage_of}
 use Rattle.age_file.specs.Decrypts.{Decrypts}
 use Rattle.age_file.proofs.ReaderSteps.{read_last, ports_last}
 use Rattle.age_file.proofs.DecryptSteps.{decrypted, decrypt_done, decrypt_fails, start_fails}
@@ -40,8 +38,7 @@ returns-in-Err g c =
 
 pub returns-in-Ok-decrypt_payload : goal.returns-in-Ok-decrypt_payload
 returns-in-Ok-decrypt_payload g c =
-    let old = stage (tally (g.O.Sink.view c.args.writer.now) c.new-progress.result) (g.S.Source.view c.start.new.reader.source.now)
-    c.start.new.reader.intake.now in
+    let old = stage (view_of_reader g.S.Source.view c.start.new.reader) (writer_view (g.O.Sink.view c.args.writer.now) c.new-progress.result) in
     let new = stage_of g.S.Source.view g.O.Sink.view c.decrypt_payload.new.reader c.decrypt_payload.new.writer in
     let before = ports (g.S.Source.view c.args.reader.now) (g.O.Sink.view c.args.writer.now) in
     let after = ports (g.S.Source.view c.decrypt_payload.new.reader.source.now) (g.O.Sink.view c.decrypt_payload.new.writer.sink.now) in
@@ -65,8 +62,7 @@ returns-in-Ok-decrypt_payload g c =
 
 pub returns : goal.returns
 returns g c =
-    let old = stage (tally (g.O.Sink.view c.args.writer.now) c.new-progress.result) (g.S.Source.view c.start.new.reader.source.now)
-    c.start.new.reader.intake.now in
+    let old = stage (view_of_reader g.S.Source.view c.start.new.reader) (writer_view (g.O.Sink.view c.args.writer.now) c.new-progress.result) in
     let new = stage_of g.S.Source.view g.O.Sink.view c.decrypt_payload.new.reader c.decrypt_payload.new.writer in
     let before = ports (g.S.Source.view c.args.reader.now) (g.O.Sink.view c.args.writer.now) in
     let after = ports (g.S.Source.view c.decrypt_payload.new.reader.source.now) (g.O.Sink.view c.decrypt_payload.new.writer.sink.now) in

@@ -1,12 +1,9 @@
 use Rattle.std.proofs.Common.{◌∙◌, ◌++◌, [], None, refl, rules, Ok, Err}
 use Rattle.age_cipher.specs.Opening.{opening}
 use Rattle.std.proofs.KnownBytes.{Appends-nil, Consumes-nil}
-use Rattle.age_file.specs.inner.Releases.{tally}
-use Rattle.age_file.specs.inner.Unread.{side}
-use Rattle.age_file.specs.inner.Payloads.{stage}
+use Rattle.age_file.specs.inner.Readers.{reader_view, writer_view, stage, view_of_reader, view_of_writer, stage_of}
 use Rattle.age_file.specs.Ports.{ports}
 use Rattle.age_file.specs.Resumes.{resume_ports}
-use Rattle.age_file.specs.inner.Readers.{side_of, tally_of, stage_of}
 use Rattle.age_file.specs.ResumePromises.{ResumesText}
 use Rattle.age_file.proofs.ReaderSteps.{read_last, resume_last}
 use Rattle.age_file.proofs.Bytes.{stops_unread, preceded}
@@ -68,10 +65,10 @@ returns-in-Err-verify g c =
 
 pub returns-in-Err-copy_old : goal.returns-in-Err-copy_old
 returns-in-Err-copy_old g c =
-    let first = tally (g.O.Sink.view c.args.writer.now) c.new-progress.result in
-    let x = side (g.L.Source.view c.args.old_reader.now) c.count_on.new.self in
-    let z = side_of g.L.Source.view c.copy_old.new.reader in
-    let s1 = stage (tally_of g.O.Sink.view c.copy_old.new.writer) (g.S.Source.view c.start.new.reader.source.now) c.start.new.reader.intake.now in
+    let first = writer_view (g.O.Sink.view c.args.writer.now) c.new-progress.result in
+    let x = reader_view (g.L.Source.view c.args.old_reader.now) c.count_on.new.self in
+    let z = view_of_reader g.L.Source.view c.copy_old.new.reader in
+    let s1 = stage (view_of_reader g.S.Source.view c.start.new.reader) (view_of_writer g.O.Sink.view c.copy_old.new.writer) in
     let old = resume_ports (ports (g.S.Source.view c.args.reader.now) (g.O.Sink.view c.args.writer.now)) (g.L.Source.view c.args.old_reader.now) in
     let new = resume_ports (ports (g.S.Source.view c.start.new.reader.source.now) (g.O.Sink.view c.copy_old.new.writer.sink.now))
     (g.L.Source.view c.copy_old.new.reader.source.now) in
@@ -96,10 +93,10 @@ returns-in-Err-copy_old g c =
 
 pub open_rest-requires-clause-pulled : goal.open_rest-requires-clause-pulled
 open_rest-requires-clause-pulled g c =
-    let first = tally (g.O.Sink.view c.args.writer.now) c.new-progress.result in
-    let x = side (g.L.Source.view c.args.old_reader.now) c.count_on.new.self in
-    let z = side_of g.L.Source.view c.copy_old.new.reader in
-    let s1 = stage (tally_of g.O.Sink.view c.copy_old.new.writer) (g.S.Source.view c.start.new.reader.source.now) c.count_on-2.new.self in
+    let first = writer_view (g.O.Sink.view c.args.writer.now) c.new-progress.result in
+    let x = reader_view (g.L.Source.view c.args.old_reader.now) c.count_on.new.self in
+    let z = view_of_reader g.L.Source.view c.copy_old.new.reader in
+    let s1 = stage (reader_view (g.S.Source.view c.start.new.reader.source.now) c.count_on-2.new.self) (view_of_writer g.O.Sink.view c.copy_old.new.writer) in
     let found = c.in-Ok.ensures.found in
     let copied = c.in-Ok-copy_old.ensures.copied in (
       preceded (copied.out ++ z.unread.bytes) (g.S.Source.view c.args.reader.now).remaining,
@@ -113,10 +110,10 @@ open_rest-requires-clause-pulled g c =
 
 pub returns-in-Ok-open_rest : goal.returns-in-Ok-open_rest
 returns-in-Ok-open_rest g c =
-    let first = tally (g.O.Sink.view c.args.writer.now) c.new-progress.result in
-    let x = side (g.L.Source.view c.args.old_reader.now) c.count_on.new.self in
-    let z = side_of g.L.Source.view c.copy_old.new.reader in
-    let s1 = stage (tally_of g.O.Sink.view c.copy_old.new.writer) (g.S.Source.view c.start.new.reader.source.now) c.count_on-2.new.self in
+    let first = writer_view (g.O.Sink.view c.args.writer.now) c.new-progress.result in
+    let x = reader_view (g.L.Source.view c.args.old_reader.now) c.count_on.new.self in
+    let z = view_of_reader g.L.Source.view c.copy_old.new.reader in
+    let s1 = stage (reader_view (g.S.Source.view c.start.new.reader.source.now) c.count_on-2.new.self) (view_of_writer g.O.Sink.view c.copy_old.new.writer) in
     let s2 = stage_of g.S.Source.view g.O.Sink.view c.open_rest.new.reader c.open_rest.new.writer in
     let old = resume_ports (ports (g.S.Source.view c.args.reader.now) (g.O.Sink.view c.args.writer.now)) (g.L.Source.view c.args.old_reader.now) in
     let new = resume_ports (ports (g.S.Source.view c.open_rest.new.reader.source.now) (g.O.Sink.view c.open_rest.new.writer.sink.now))
@@ -142,10 +139,10 @@ returns-in-Ok-open_rest g c =
 
 pub returns : goal.returns
 returns g c =
-    let first = tally (g.O.Sink.view c.args.writer.now) c.new-progress.result in
-    let x = side (g.L.Source.view c.args.old_reader.now) c.count_on.new.self in
-    let z = side_of g.L.Source.view c.copy_old.new.reader in
-    let s1 = stage (tally_of g.O.Sink.view c.copy_old.new.writer) (g.S.Source.view c.start.new.reader.source.now) c.count_on-2.new.self in
+    let first = writer_view (g.O.Sink.view c.args.writer.now) c.new-progress.result in
+    let x = reader_view (g.L.Source.view c.args.old_reader.now) c.count_on.new.self in
+    let z = view_of_reader g.L.Source.view c.copy_old.new.reader in
+    let s1 = stage (reader_view (g.S.Source.view c.start.new.reader.source.now) c.count_on-2.new.self) (view_of_writer g.O.Sink.view c.copy_old.new.writer) in
     let s2 = stage_of g.S.Source.view g.O.Sink.view c.open_rest.new.reader c.open_rest.new.writer in
     let old = resume_ports (ports (g.S.Source.view c.args.reader.now) (g.O.Sink.view c.args.writer.now)) (g.L.Source.view c.args.old_reader.now) in
     let new = resume_ports (ports (g.S.Source.view c.open_rest.new.reader.source.now) (g.O.Sink.view c.open_rest.new.writer.sink.now))

@@ -9,7 +9,7 @@ use Rattle.age_file.specs.inner.Seals.{front_of, Wrote, SealingFails, SealsAll, 
 use Rattle.age_file.proofs.SealSteps.{front_small}
 use Rattle.age_file.proofs.SourceSteps.{last_written, last_begins, last_whole}
 use Rattle.age_file.specs.declared.fault.FileFault.{FileFault}
-use Rattle.age_file.specs.inner.Readers.{tally_of}
+use Rattle.age_file.specs.inner.Readers.{view_of_writer}
 use Rattle.age_file.proofs.sealing.seal_all.Goals as goal
 
 pub finish-requires : goal.finish-requires
@@ -29,9 +29,9 @@ returns-in_err-finish-clause-fails g c =
     let n : ℕ = 65536 in
     let a = c.new-sealer.result in
     let b = c.seal_source.new.sealer in
-    let was = tally_of g.O.Sink.view c.args.writer.now in
-    let mid = tally_of g.O.Sink.view c.seal_source.new.writer in
-    let now = tally_of g.O.Sink.view c.finish.new.writer in
+    let was = view_of_writer g.O.Sink.view c.args.writer.now in
+    let mid = view_of_writer g.O.Sink.view c.seal_source.new.writer in
+    let now = view_of_writer g.O.Sink.view c.finish.new.writer in
     let old = ports (g.S.Source.view c.args.reader.now.source.now) (g.O.Sink.view c.args.writer.now.sink.now) in
     let new = ports (g.S.Source.view c.seal_source.new.reader.source.now) (g.O.Sink.view c.finish.new.writer.sink.now) in
     let wrote : Wrote was mid (front_of (seals a.key) n s.text) = record { bytes = s.moved.wrote; count = s.moved.count } in
@@ -53,9 +53,9 @@ returns-clause-sealed g c =
     let n : ℕ = 65536 in
     let a = c.new-sealer.result in
     let b = c.seal_source.new.sealer in
-    let was = tally_of g.O.Sink.view c.args.writer.now in
-    let mid = tally_of g.O.Sink.view c.seal_source.new.writer in
-    let now = tally_of g.O.Sink.view c.finish.new.writer in
+    let was = view_of_writer g.O.Sink.view c.args.writer.now in
+    let mid = view_of_writer g.O.Sink.view c.seal_source.new.writer in
+    let now = view_of_writer g.O.Sink.view c.finish.new.writer in
     let old = ports (g.S.Source.view c.args.reader.now.source.now) (g.O.Sink.view c.args.writer.now.sink.now) in
     let new = ports (g.S.Source.view c.seal_source.new.reader.source.now) (g.O.Sink.view c.finish.new.writer.sink.now) in
     let wrote : Wrote was mid (front_of (seals a.key) n s.text) = record { bytes = s.moved.wrote; count = s.moved.count } in

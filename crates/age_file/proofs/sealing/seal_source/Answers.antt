@@ -3,20 +3,19 @@ use Rattle.std.proofs.lemmas.Result.{err_from_is_err_and}
 use Rattle.std.proofs.KnownBytes.{Appends-nil, Consumes-nil}
 use Rattle.std.proofs.lemmas.List.{length-append}
 use Rattle.age_file.specs.inner.Boxes.{seals}
-use Rattle.age_file.specs.inner.Unread.{side}
+use Rattle.age_file.specs.inner.Readers.{reader_view, view_of_writer}
 use Rattle.age_file.specs.inner.Intakes.{Pulled}
 use Rattle.age_file.specs.inner.Seals.{Wrote, front_of}
 use Rattle.age_file.specs.Ports.{ports}
 use Rattle.age_file.proofs.Bytes.{cut_pulled}
 use Rattle.age_file.proofs.SourceSteps.{front_begins, no_front, piece_done, piece_cut, pull_fails, seal_fails}
-use Rattle.age_file.specs.inner.Readers.{tally_of}
 use Rattle.age_file.proofs.sealing.seal_source.Goals as goal
 
 pub pulls-init : goal.pulls-init
 pulls-init g c =
     let n : ℕ = 65536 in
     let none = no_front (seals c.args.sealer.now.key) n (omega arith) in
-    let now = tally_of g.O.Sink.view c.args.writer.now in
+    let now = view_of_writer g.O.Sink.view c.args.writer.now in
     record {
       same_reader = (refl, refl);
       same_writer = refl;
@@ -66,7 +65,7 @@ returns-in_err-refill-clause-fails g c =
       prefix = front_begins (seals c.args.sealer.now.key) n kept.text;
       fails = pull_fails n (ports (g.S.Source.view c.args.reader.now.source.now) (g.O.Sink.view c.args.writer.now.sink.now))
           (ports (g.S.Source.view c.refill.new.source) (g.O.Sink.view c.pulls.writer.sink.now)) kept.text
-          (side (g.S.Source.view c.pulls.reader.source.now) c.pulls.reader.intake.now) (side (g.S.Source.view c.refill.new.source) c.refill.new.self)
+          (reader_view (g.S.Source.view c.pulls.reader.source.now) c.pulls.reader.intake.now) (reader_view (g.S.Source.view c.refill.new.source) c.refill.new.self)
           c.in_err-refill.field-0.0 kept.read_failed refl all.each_gave r.answered.2;
     })
 
@@ -97,9 +96,9 @@ returns-in_err-seal_piece-clause-fails g c =
     let n : ℕ = 65536 in
     let positive : 0 < n = omega arith in
     let piece = c.bytes.result.now in
-    let was = tally_of g.O.Sink.view c.args.writer.now in
-    let mid = tally_of g.O.Sink.view c.pulls.writer in
-    let now = tally_of g.O.Sink.view c.seal_piece.new.writer in
+    let was = view_of_writer g.O.Sink.view c.args.writer.now in
+    let mid = view_of_writer g.O.Sink.view c.pulls.writer in
+    let now = view_of_writer g.O.Sink.view c.seal_piece.new.writer in
     let old = ports (g.S.Source.view c.args.reader.now.source.now) (g.O.Sink.view c.args.writer.now.sink.now) in
     let new = ports (g.S.Source.view c.refill.new.source) (g.O.Sink.view c.seal_piece.new.writer.sink.now) in
     let all = rw (← c.bytes.ensures.bytes) at (r.pulled old.source.remaining kept.text kept.pulled) in
@@ -122,9 +121,9 @@ pulls-preserved g c =
     let n : ℕ = 65536 in
     let positive : 0 < n = omega arith in
     let piece = c.bytes.result.now in
-    let was = tally_of g.O.Sink.view c.args.writer.now in
-    let mid = tally_of g.O.Sink.view c.pulls.writer in
-    let now = tally_of g.O.Sink.view c.seal_piece.new.writer in
+    let was = view_of_writer g.O.Sink.view c.args.writer.now in
+    let mid = view_of_writer g.O.Sink.view c.pulls.writer in
+    let now = view_of_writer g.O.Sink.view c.seal_piece.new.writer in
     let all = rw (← c.bytes.ensures.bytes) at (r.pulled (g.S.Source.view c.args.reader.now.source.now).remaining kept.text kept.pulled) in
     let done = piece_done seals n c.args.sealer.now c.pulls.sealer c.seal_piece.new.sealer was mid now kept.text piece s.fed s.left s.unwritten kept.goes
     c.requires.fresh.1 kept.wrote s.some positive s.answered.0 s.answered.1 s.answered.3 in

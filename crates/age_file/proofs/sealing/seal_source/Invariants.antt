@@ -2,7 +2,7 @@ use Rattle.std.proofs.Common.{◌-◌, ◌^◌, ◌≡◌, ℕ, [], List, length
 use Rattle.age_file.specs.inner.Boxes.{seals}
 use Rattle.age_file.specs.inner.Intakes.{Pulled}
 use Rattle.age_file.specs.inner.Seals.{Wrote, GoesOn, front_of}
-use Rattle.age_file.specs.inner.Readers.{tally_of, SameReader, SameWriter}
+use Rattle.age_file.specs.inner.Readers.{view_of_writer, SameReader, SameWriter}
 use Rattle.age_file.proofs.sealing.seal_source.Given as goal
 
 -- the text that came so far
@@ -15,7 +15,7 @@ invariant-pulls g l = record {
   unread : l.reader.intake.now.bytes ≡ [];
   plain_is : l.plain ≡ length text;
   goes : GoesOn seals 65536 l.fn.sealer l.sealer text;
-  wrote : Wrote (tally_of g.O.Sink.view l.fn.writer) (tally_of g.O.Sink.view l.writer)
+  wrote : Wrote (view_of_writer g.O.Sink.view l.fn.writer) (view_of_writer g.O.Sink.view l.writer)
       (front_of (seals l.fn.sealer.key) 65536 text);
   read_failed : (g.S.Source.view l.reader.source.now).failed ≡ (g.S.Source.view l.fn.reader.source.now).failed;
   write_failed : (g.O.Sink.view l.writer.sink.now).failed ≡ (g.O.Sink.view l.fn.writer.sink.now).failed;
