@@ -1,7 +1,11 @@
 -- From what was read and decrypted to what a decryption did.
 use Rattle.std.proofs.Common.{None, refl, inl, inr, ◌≡◌, ℕ, ◌*◌, ◌<◌, List, [], ◌++◌, length, Option, sym, ap, subst, ◌∙◌, arith}
 use Rattle.std.proofs.Common.{append_assoc}
-use Rattle.std.specs.Prelude.{Result, MatchResult, Ok, Err}
+use Rattle.std.specs.Prelude.{Result, MatchResult, OnOk, Ok, Err, true}
+use Rattle.age_stanza.specs.Laws.{OneHeader}
+use Rattle.age_file.specs.declared.decryption.Done.{Done}
+use Rattle.age_file.specs.declared.decryption.Stopped.{Stopped}
+use Rattle.age_file.proofs.Undamaged.{undamaged, undamaged_done}
 use Rattle.age_stanza.specs.declared.header.Header.{Header}
 use Rattle.age_keys.specs.declared.fault.KeyFault.{KeyFault}
 use Rattle.age_cipher.specs.Opening.{opening}
@@ -15,9 +19,9 @@ use Rattle.age_file.specs.inner.Readers.{Stage}
 use Rattle.age_file.specs.Starts.{StartFails}
 use Rattle.age_file.specs.inner.Starts.{StartsAt}
 use Rattle.age_file.specs.Runs.{Run, IsFromStart, segment_of, held, IsRun, IsPositionOf, Told, IsDone}
-use Rattle.age_file.specs.Decrypts.{DecryptFails}
+use Rattle.age_file.specs.Decrypts.{DecryptFails, Decrypts}
 use Rattle.age_file.proofs.RunSteps.{writes_of, writes_all, told_is}
-use Rattle.age_file.specs.inner.Decrypts.{PositionAt}
+use Rattle.age_file.specs.inner.Decrypts.{PositionAt, EndsAs}
 use Rattle.age_file.specs.Ports.{Ports, NoneFailed}
 use Rattle.age_file.specs.Bindings.{file_id, chain, position_tag}
 use Rattle.age_file.specs.inner.Bindings.{chain_if}
@@ -122,7 +126,7 @@ module _ (keep : Positions) (Allows : Header → List ℕ → Type 0) (Refused :
         answered = p.answered;
       }
 
-  pub decrypt_done : (a : SourceView) (unlocked : Unlocked) (old new : Stage) → old.reader.source.failed ≡ a.failed
+  decrypt_done : (a : SourceView) (unlocked : Unlocked) (old new : Stage) → old.reader.source.failed ≡ a.failed
       → (p : IsDecrypted a unlocked old new (Ok tt))
       → IsFromStart p.run × IsDone Allows (before a old) (after new) new.writer.progress.written p.run × NoneFailed (before a old) (after new)
   decrypt_done a unlocked old new same p =
@@ -138,7 +142,7 @@ module _ (keep : Positions) (Allows : Header → List ℕ → Type 0) (Refused :
         (f.3.0 ∙ same, f.3.1),
       )
 
-  pub decrypt_fails : (a : SourceView) (unlocked : Unlocked) (old new : Stage) (fault : FileFault) (position : Option Position)
+  decrypt_fails : (a : SourceView) (unlocked : Unlocked) (old new : Stage) (fault : FileFault) (position : Option Position)
       → old.reader.source.failed ≡ a.failed → IsDecrypted a unlocked old new (Err fault)
       → PositionAt unlocked new.writer.progress.index new.writer.progress.chain position
       → DecryptFails keep Allows Refused (before a old) (after new) new.writer.progress.written position fault
@@ -147,6 +151,33 @@ module _ (keep : Positions) (Allows : Header → List ℕ → Type 0) (Refused :
       fails a old new p.run ((p.run.file.header_bytes ++ p.run.file.nonce) ++ p.run.bytes) position fault p.from same p.pulled p.is
       (told_is keep p.run unlocked new.writer.progress.index position (first_fits p.run p.from) p.key_is p.nonce_is p.id p.is.prefix
       p.counts.index told) p.answered
+
+  -- the whole run
+  pub run_ended : OneHeader → (a : SourceView) (unlocked : Unlocked) (old new : Stage) (run : Result (Unit {0}) FileFault) (result : Result Done Stopped)
+      → old.reader.source.failed ≡ a.failed
+      → new.writer.sink.label ≡ old.writer.sink.label → OnOk run (new.writer.sink.settled ≡ true) → IsDecrypted a unlocked old new run
+      → EndsAs unlocked new.writer.progress run result
+      → Decrypts keep Allows Refused (before a old) (after new) result
+  run_ended one a unlocked old new (Ok done) result same named settled p is =
+      let d = decrypt_done a unlocked old new same p in
+      subst (λ (r : Result Done Stopped). Decrypts keep Allows Refused (before a old) (after new) r) (sym is)
+      (record {
+        done = (p.run, d.0, d.1, d.2);
+        stopped = tt;
+        undamaged = λ text whole. undamaged_done one Allows Refused (before a old) (after new) new.writer.progress.written p.run text whole d.0 d.1;
+        settled = settled;
+        named = named;
+      })
+  run_ended one a unlocked old new (Err fault) result same named settled p (next, at, is) =
+      let fails = decrypt_fails a unlocked old new fault next same p at in
+      subst (λ (r : Result Done Stopped). Decrypts keep Allows Refused (before a old) (after new) r) (sym is)
+      (record {
+        done = tt;
+        stopped = fails;
+        undamaged = λ text whole. undamaged keep one Allows Refused (before a old) (after new) new.writer.progress.written next fault text whole fails;
+        settled = tt;
+        named = named;
+      })
 
   -- no payload came to be opened
   pub start_fails : (old new : Ports) (fault : FileFault) → Appends old.sink.taken new.sink.taken [] → StartFails Allows Refused old.source new.source fault

@@ -10,7 +10,6 @@ pub mod Payloads
 pub mod PositionTexts
 pub mod Readers
 pub mod Releases
-pub mod ResumesPayload
 pub mod Seals
 pub mod Skips
 pub mod Starts
