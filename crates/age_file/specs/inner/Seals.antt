@@ -121,22 +121,8 @@ SealingFails n old new text Write = HasRisen old.sink.failed new.sink.failed
 SealingFails n old new text ReadNeverEnds = 2 ^ 63 ≤ length text
 SealingFails n old new text other = ⊥
 
--- a source was read to its end, and but for the last chunk its text was sealed and written
-module _ {B : Type 0} (sealing : B → List ℕ → List ℕ → List ℕ) (n : ℕ) where
-  pub record SealsSource (before after : SealerView B) (old new : Ports)
-      (written_old written_new plain : ℕ) : Type 0 where
-    pub text : List ℕ
-    pub moved : ReadsWrites old new written_old written_new text
-        (front_of (sealing before.key) n text)
-    pub at_end : IsAtEnd new.source.remaining
-    pub plain_is : plain ≡ length text
-    pub none_failed : NoneFailed old new
-    pub key : after.key ≡ before.key
-    pub feeding : IsFeeding after
-    pub holds : Holds n after text
-
 module _ (sealing : List ℕ → List ℕ → List ℕ) (n : ℕ) where
-  -- all of it was
+  -- a source was read to its end, and its text was sealed and written
   pub record SealsAll (old new : Ports) (written_old written_new plain : ℕ) : Type 0 where
     pub text : List ℕ
     pub few : chunk_count n text ≤ chunk_limit
