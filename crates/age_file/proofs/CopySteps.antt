@@ -28,8 +28,8 @@ chain_more n i out chunk whole size =
     ∙ ap (λ (c : List ℕ). first_chunks n i out ++ c ∷ []) last)
     ∙ chain_on (first_chunks n i out) chunk
 
-copy_fails : (x y z : ReaderView) (a b c : WriterView) (p q : List ℕ) (fault : FileFault) → Passes x y p → b.sink.failed ≡ a.sink.failed → CopyFails y z b c q fault
-    → CopyFails x z a c (p ++ q) fault
+copy_fails : (x y z : ReaderView) (a b c : WriterView) (p q : List ℕ) (fault : FileFault) → Passes x y p → b.sink.failed ≡ a.sink.failed
+    → CopyFails y z b c q fault → CopyFails x z a c (p ++ q) fault
 copy_fails x y z a b c p q ShortText f same g = (passes_then x y z p q f g.0, g.1, g.2, g.3 ∙ same)
 copy_fails x y z a b c p q Write f same g =
     let more : IsPrefixOf (p ++ q) ((p ++ g.0) ++ z.unread.bytes) =
@@ -62,7 +62,8 @@ front_written used out unwritten bytes n parts = (
 )
 
 -- a pull gave no more
-pub copy_dry : (x z : ReaderView) (a b : WriterView) (p : List ℕ) (fault : FileFault) → Dries x z p fault → b.sink.failed ≡ a.sink.failed → CopyFails x z a b p fault
+pub copy_dry : (x z : ReaderView) (a b : WriterView) (p : List ℕ) (fault : FileFault) → Dries x z p fault → b.sink.failed ≡ a.sink.failed
+    → CopyFails x z a b p fault
 copy_dry x z a b p Read g same = (g, same)
 copy_dry x z a b p ReadNeverEnds g same = (g, same)
 copy_dry x z a b p other g same = absurd g.why

@@ -140,8 +140,8 @@ module _ (keep : Positions) (Allows : Header → List ℕ → Type 0) (Refused :
   accepts_of a b unlocked s v c rest read = record { reads = reads_of a b unlocked s c rest read; own = v.0 ∙ s.id; tagged = v.1 }
 
   -- the file was started, and the old text's pulls are counted on from there
-  module _ (a : SourceView) (unlocked : Unlocked) (s1 : Stage) (u : Unread) (s : StartsAt Allows a (reader_view s1.reader.source u) unlocked) (v : IsVerified unlocked)
-      (same : s1.reader.source.failed ≡ a.failed)
+  module _ (a : SourceView) (unlocked : Unlocked) (s1 : Stage) (u : Unread) (s : StartsAt Allows a (reader_view s1.reader.source u) unlocked)
+      (v : IsVerified unlocked) (same : s1.reader.source.failed ≡ a.failed)
       (first : WriterView) (zero : first.progress.written ≡ 0) (x z : ReaderView) (none : x.unread.bytes ≡ []) (pulls : x.unread.pulls ≡ u.pulls) where
     abbrev file : OpenedFile
     file = opened a (reader_view s1.reader.source u) unlocked s

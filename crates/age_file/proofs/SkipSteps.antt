@@ -43,8 +43,8 @@ within n blocks j p q size lt short =
     omega (arith, more, size, short, length-append p q)
 
 -- whole blocks, and then one that was not whole
-pub pass_fails : (n blocks j : ℕ) (x y z : ReaderView) (p : List ℕ) (fault : FileFault) → length p ≡ j * n → j < blocks → Passes x y p → SkipsBlock n y z (Err fault)
-    → SkipFails n blocks x z fault
+pub pass_fails : (n blocks j : ℕ) (x y z : ReaderView) (p : List ℕ) (fault : FileFault) → length p ≡ j * n → j < blocks → Passes x y p
+    → SkipsBlock n y z (Err fault) → SkipFails n blocks x z fault
 pass_fails n blocks j x y z p Read size lt f g = (p ++ g.0, within n blocks j p g.0 size lt g.1, dries_then x y z p g.0 Read f g.2)
 pass_fails n blocks j x y z p ReadNeverEnds size lt f g = (p ++ g.0, within n blocks j p g.0 size lt g.1, dries_then x y z p g.0 ReadNeverEnds f g.2)
 pass_fails n blocks j x y z p (Stream fault) size lt f g = absurd g.2.why

@@ -34,8 +34,8 @@ zero_div n positive = omega arith
 pub no_front : (sealing : List ℕ → List ℕ → List ℕ) (n : ℕ) → 0 < n → front_of sealing n [] ≡ []
 no_front sealing n positive = ap (λ (q : ℕ). block_bytes (map (pair sealing false) (enumerate_from 0 (first_chunks n q [])))) (zero_div n positive)
 
-module _ {B : Type 0} (sealing : B → List ℕ → List ℕ → List ℕ) (n : ℕ) (a b d : SealerView B) (was mid now : WriterView) (text piece fed left unwritten : List ℕ)
-    (goes : GoesOn sealing n a b text) (fresh : Holds n a []) (wrote : Wrote was mid (front_of (sealing a.key) n text))
+module _ {B : Type 0} (sealing : B → List ℕ → List ℕ → List ℕ) (n : ℕ) (a b d : SealerView B) (was mid now : WriterView)
+    (text piece fed left unwritten : List ℕ) (goes : GoesOn sealing n a b text) (fresh : Holds n a []) (wrote : Wrote was mid (front_of (sealing a.key) n text))
     (some : SealsSome sealing n b d mid now piece fed left unwritten) (positive : 0 < n) where
   -- the blocks that the piece brought
   brought : front_of (sealing a.key) n (text ++ fed) ≡ front_of (sealing a.key) n text ++ (some.out ++ unwritten)
@@ -97,8 +97,8 @@ pull_fails n old new text x z PositionForged same is gave f = absurd f
 pull_fails n old new text x z OldTextDiffers same is gave f = absurd f
 
 -- why a piece wasn't sealed
-pub seal_fails : {B : Type 0} (sealing : B → List ℕ → List ℕ → List ℕ) (n : ℕ) (a b : SealerView B) (old new : Ports) (was now : WriterView) (text piece : List ℕ)
-    (fault : FileFault)
+pub seal_fails : {B : Type 0} (sealing : B → List ℕ → List ℕ → List ℕ) (n : ℕ) (a b : SealerView B) (old new : Ports) (was now : WriterView)
+    (text piece : List ℕ) (fault : FileFault)
     → was.sink.failed ≡ old.sink.failed → new.sink.failed ≡ now.sink.failed → GoesOn sealing n a b text → Holds n a []
     → SealFails sealing n b was now piece fault → SealingFails n old new (text ++ piece) fault
 seal_fails sealing n a b old new was now text piece (Stream fault) same is goes fresh f = (f.0 text (goes.holds [] fresh), f.1)

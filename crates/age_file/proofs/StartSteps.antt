@@ -80,8 +80,8 @@ module _ (Allows : Header → List ℕ → Type 0) (Refused : Header → KeyFaul
   key_to_start a b h front rest BadX25519 stops text consumed refuses = (h, front, rest, text, consumed, λ e. cc, refuses)
 
   -- what was pulled where a nonce fell short
-  short_pulled : (a : Option (List ℕ)) (y z : ReaderView) (front : List ℕ) (u : UsesShort y z) → Pulled a y.source.remaining y.unread.pulls (front ++ y.unread.bytes)
-      → Pulled a z.source.remaining z.unread.pulls (front ++ u.0)
+  short_pulled : (a : Option (List ℕ)) (y z : ReaderView) (front : List ℕ) (u : UsesShort y z)
+      → Pulled a y.source.remaining y.unread.pulls (front ++ y.unread.bytes) → Pulled a z.source.remaining z.unread.pulls (front ++ u.0)
   short_pulled a y z front u p =
       cut_pulled a z.source.remaining z.unread.pulls (front ++ u.0) z.unread.bytes u.3
       (subst (λ (t : List ℕ). Pulled a z.source.remaining z.unread.pulls t) (sym (append_assoc front u.0 z.unread.bytes)) (u.2 a front p))

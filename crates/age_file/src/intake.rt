@@ -91,8 +91,8 @@ impl Intake {
     /// Pulls, where all bytes were used. False: the source is at its end.
     pub(crate) fn refill<S: Source>(&mut self, source: &mut S) -> Result<bool, FileFault>
         requires { self.old.bytes ≡ [] }
-        ensures { Refills (reader_view (S.view source.old) self.old) (reader_view (S.view source.new) self.new)
-            result }
+        ensures { Refills (reader_view (S.view source.old) self.old)
+            (reader_view (S.view source.new) self.new) result }
     {
         if self.pulls == MOST_PULLS {
             return Err(FileFault::ReadNeverEnds);

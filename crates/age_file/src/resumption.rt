@@ -1,7 +1,8 @@
 //! Continues a decryption that stopped.
 
 ghost use Rattle.std.specs.Prelude.{◌≡◌, []};
-ghost use Rattle.age_file.specs.inner.Readers.{view_of_reader, view_of_writer, SameReader, SameWriter};
+ghost use Rattle.age_file.specs.inner.Readers.{view_of_reader, view_of_writer};
+ghost use Rattle.age_file.specs.inner.Readers.{SameReader, SameWriter};
 ghost use Rattle.age_file.specs.inner.Copies.{CopiesText};
 ghost use Rattle.age_file.specs.Ports.{ports};
 ghost use Rattle.age_file.specs.declared.position.Positions.TheVariants.{Kept};
@@ -50,8 +51,8 @@ fn copy_old<L: Source, O: Sink>(
     requires fresh { (writer.old.progress.written ≡ 0) × (writer.old.progress.index ≡ 0)
         × (writer.old.progress.chain ≡ chain_if Kept []) }
     ensures copied { CopiesText positions 65536 position.now.index position.now.chain
-        (view_of_reader L.view reader.old) (view_of_reader L.view reader.new) (view_of_writer O.view writer.old)
-        (view_of_writer O.view writer.new) result }
+        (view_of_reader L.view reader.old) (view_of_reader L.view reader.new)
+        (view_of_writer O.view writer.old) (view_of_writer O.view writer.new) result }
     ensures same_reader { SameReader reader.old reader.new }
     ensures same_writer { SameWriter writer.old writer.new }
 {

@@ -14,8 +14,8 @@ const BLOCK: usize = 65_552;
 
 /// Passes over a block. False: the source ended within it.
 fn skip_block<S: Source>(reader: &mut Reader<'_, S>) -> Result<bool, FileFault>
-    ensures skipped { SkipsBlock 65552 (view_of_reader S.view reader.old) (view_of_reader S.view reader.new)
-        result }
+    ensures skipped { SkipsBlock 65552 (view_of_reader S.view reader.old)
+        (view_of_reader S.view reader.new) result }
     ensures same { SameReader reader.old reader.new }
 {
     let mut left = BLOCK;

@@ -27,7 +27,8 @@ pub(crate) struct Unlocked {
 
 /// Pulls if the buffer is empty; false at the end of the source.
 pub(crate) fn some_bytes<S: Source>(reader: &mut Reader<'_, S>) -> Result<bool, FileFault>
-    ensures answers { SomeAnswers (view_of_reader S.view reader.old) (view_of_reader S.view reader.new) result }
+    ensures answers { SomeAnswers (view_of_reader S.view reader.old)
+        (view_of_reader S.view reader.new) result }
     ensures uses { Uses (view_of_reader S.view reader.old) (view_of_reader S.view reader.new) [] }
     ensures same { SameReader reader.old reader.new }
 {
@@ -50,7 +51,8 @@ fn copy_some(from: &[u8], into: &mut [u8; 16], have: usize) -> usize
 
 /// Reads the payload nonce.
 fn take_nonce<S: Source>(reader: &mut Reader<'_, S>) -> Result<[u8; 16], FileFault>
-    ensures found { IfOk result (Uses (view_of_reader S.view reader.old) (view_of_reader S.view reader.new)) }
+    ensures found { IfOk result (Uses (view_of_reader S.view reader.old)
+        (view_of_reader S.view reader.new)) }
     ensures unfailed { OnOk result ((S.view reader.new.source.now).failed ≡
         (S.view reader.old.source.now).failed) }
     ensures fails { IfErr result (NonceFails (view_of_reader S.view reader.old)

@@ -18,7 +18,8 @@ use Rattle.age_file.specs.declared.fault.FileFault.TheVariants.{ReadNeverEnds, O
 
 -- what was written of the old text, fewer bytes than were to be copied: all that the source gave,
 -- or its front where the sink failed
-abbrev pub CopyFails : ReaderView → ReaderView → WriterView → WriterView → List ℕ → FileFault → Type 0
+abbrev pub CopyFails : ReaderView → ReaderView → WriterView → WriterView → List ℕ → FileFault
+    → Type 0
 CopyFails old new was now out ShortText = Passes old new out × (new.unread.bytes ≡ [])
     × IsAtEnd new.source.remaining × (now.sink.failed ≡ was.sink.failed)
 CopyFails old new was now out Write = (used : List ℕ) × Passes old new used
@@ -52,26 +53,27 @@ pub record Copies (Goes : List ℕ → Type 0) (size : ℕ) (old new : ReaderVie
       (λ fault. (length out < size) × CopyFails old new was now out fault)
 
 -- a chunk was copied
-abbrev pub CopiesChunk : ℕ → ReaderView → ReaderView → WriterView → WriterView → Result (Unit {0}) FileFault → Type 0
+abbrev pub CopiesChunk : ℕ → ReaderView → ReaderView → WriterView → WriterView
+    → Result (Unit {0}) FileFault → Type 0
 CopiesChunk n old new was now result = Copies (ChunkGoes n old new was now) n old new was now result
 
 -- so many were
-abbrev pub CopiesAll : ℕ → ℕ → ReaderView → ReaderView → WriterView → WriterView → Result (Unit {0}) FileFault
-    → Type 0
+abbrev pub CopiesAll : ℕ → ℕ → ReaderView → ReaderView → WriterView → WriterView
+    → Result (Unit {0}) FileFault → Type 0
 CopiesAll n chunks old new was now result = Copies (ChunksGo n chunks old new was now) (chunks * n)
     old new was now result
 
 -- why the old text was not copied, or is not the one whose chain this is
-abbrev pub TextFails : ℕ → ℕ → List ℕ → ReaderView → ReaderView → WriterView → WriterView → List ℕ → FileFault
-    → Type 0
+abbrev pub TextFails : ℕ → ℕ → List ℕ → ReaderView → ReaderView → WriterView → WriterView
+    → List ℕ → FileFault → Type 0
 TextFails n chunks links old new was now out OldTextDiffers = ChunksGo n chunks old new was now out
     × (now.progress.chain ≢ Some links)
 TextFails n chunks links old new was now out fault = (length out < chunks * n)
     × CopyFails old new was now out fault
 
 -- so many chunks were copied, which have this chain; it goes on where positions are kept
-abbrev pub TextGoes : Positions → ℕ → ℕ → List ℕ → ReaderView → ReaderView → WriterView → WriterView → List ℕ
-    → Type 0
+abbrev pub TextGoes : Positions → ℕ → ℕ → List ℕ → ReaderView → ReaderView → WriterView
+    → WriterView → List ℕ → Type 0
 TextGoes keep n chunks links old new was now out = (length out ≡ chunks * n) × Passes old new out
     × (now.sink.failed ≡ was.sink.failed) × (now.progress.index ≡ chunks)
     × (now.progress.chain ≡ chain_if keep (first_chunks n chunks out))

@@ -36,14 +36,16 @@ module _ {B : Type 0} (opening : B → List ℕ → List ℕ → Option (List �
         → CountsChunks keep (opening old.key) n base (next s) unwritten now.progress
 
   -- a fault of the opener, or of the sink, with what was left of the piece and not written
-  abbrev pub FeedFails : OpenerView B → WriterView → WriterView → List ℕ → List ℕ → FileFault → Type 0
+  abbrev pub FeedFails : OpenerView B → WriterView → WriterView → List ℕ → List ℕ → FileFault
+      → Type 0
   FeedFails new was now left unwritten (Stream fault) = (new.status ≡ Failed fault) × (left ≡ [])
       × (unwritten ≡ []) × (now.sink.failed ≡ was.sink.failed)
   FeedFails new was now left unwritten Write = HasRisen was.sink.failed now.sink.failed
   FeedFails new was now left unwritten other = ⊥
 
   -- what the opener holds and what was written is no more than what it held, and was fed
-  abbrev pub FeedGoes : OpenerView B → OpenerView B → WriterView → WriterView → List ℕ → List ℕ → Type 0
+  abbrev pub FeedGoes : OpenerView B → OpenerView B → WriterView → WriterView → List ℕ → List ℕ
+      → Type 0
   FeedGoes old new was now fed unwritten =
       (length new.held + now.progress.written
       ≤ length old.held + was.progress.written + length fed) × (unwritten ≡ [])

@@ -1,4 +1,4 @@
-use Rattle.std.proofs.Common.{refl, rules, Ok, Err}
+use Rattle.std.proofs.Common.{refl, rules, Err}
 use Rattle.std.proofs.KnownBytes.{Appends-nil}
 use Rattle.age_file.proofs.Bytes.{stops_unread}
 use Rattle.age_file.specs.Ports.{ports}

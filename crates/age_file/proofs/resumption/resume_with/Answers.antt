@@ -1,12 +1,11 @@
-use Rattle.std.proofs.Common.{◌∙◌, ◌++◌, [], None, refl, rules, Ok, Err}
-use Rattle.age_cipher.specs.Opening.{opening}
+use Rattle.std.proofs.Common.{◌∙◌, None, refl, rules, Err}
 use Rattle.std.proofs.KnownBytes.{Appends-nil, Consumes-nil}
 use Rattle.age_file.specs.inner.Readers.{reader_view, writer_view, stage, view_of_reader, view_of_writer, stage_of}
 use Rattle.age_file.specs.Ports.{ports}
 use Rattle.age_file.specs.Resumes.{resume_ports}
 use Rattle.age_file.specs.ResumePromises.{ResumesText}
 use Rattle.age_file.proofs.ReaderSteps.{read_last, resume_last}
-use Rattle.age_file.proofs.Bytes.{stops_unread, preceded}
+use Rattle.age_file.proofs.Bytes.{stops_unread}
 use Rattle.age_file.proofs.ResumeSteps.{place_after, start_fails, verdict_fails, copy_fails, skip_stopped, rest_ended}
 use Rattle.age_file.proofs.UndamagedRest.{undamaged_rest}
 use Rattle.age_file.proofs.resumption.resume_with.Goals as goal

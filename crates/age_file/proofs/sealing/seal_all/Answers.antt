@@ -58,7 +58,8 @@ returns-in_err-refill-clause-fails g c =
       moved = record { read = all.consumed; wrote = kept.wrote.bytes; count = kept.wrote.count; small = omega (arith, all.small, all.most) };
       prefix = front_begins (seals c.new-sealer.result.key) n kept.text;
       fails = pull_fails n old new kept.text
-          (reader_view (g.S.Source.view c.pulls.reader.source.now) c.pulls.reader.intake.now) (reader_view (g.S.Source.view c.refill.new.source) c.refill.new.self)
+          (reader_view (g.S.Source.view c.pulls.reader.source.now) c.pulls.reader.intake.now)
+          (reader_view (g.S.Source.view c.refill.new.source) c.refill.new.self)
           c.in_err-refill.field-0.0 kept.read_failed refl all.each_gave r.answered.2;
     }))
 
@@ -198,7 +199,8 @@ returns-clause-sealed g c =
     let now = view_of_writer g.O.Sink.view c.finish.new.writer in
     let old = ports (g.S.Source.view c.args.reader.now.source.now) (g.O.Sink.view c.args.writer.now.sink.now) in
     let new = ports (g.S.Source.view c.refill.new.source) (g.O.Sink.view c.finish.new.writer.sink.now) in
-    let out = last_whole seals n a b was mid now kept.text kept.goes.key (kept.goes.holds [] kept.fresh) kept.wrote l.out l.unwritten l.wrote l.blocks l.answered.0 in
+    let out = last_whole seals n a b was mid now kept.text kept.goes.key (kept.goes.holds [] kept.fresh) kept.wrote l.out l.unwritten l.wrote l.blocks
+    l.answered.0 in
     subst (λ k. SealsAll (seals k) n old new c.args.writer.now.progress.written c.finish.new.writer.progress.written c.pulls.plain)
     (ap (λ v. v.key) c.new-sealer.ensures) (record {
       text = kept.text;
