@@ -23,7 +23,7 @@ use Rattle.age_file.specs.Decrypts.{DecryptFails, Decrypts}
 use Rattle.age_file.proofs.RunSteps.{writes_of, writes_all, told_is}
 use Rattle.age_file.specs.inner.Decrypts.{PositionAt, EndsAs}
 use Rattle.age_file.specs.Ports.{Ports, NoneFailed}
-use Rattle.age_file.specs.Bindings.{file_id, chain, position_tag}
+use Rattle.age_file.specs.Bindings.{file_id, position_tag}
 use Rattle.age_file.specs.inner.Bindings.{chain_if}
 use Rattle.age_file.specs.declared.position.Positions.{Positions}
 use Rattle.age_file.specs.inner.Counts.{HasCounted}

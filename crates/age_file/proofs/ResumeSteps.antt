@@ -30,7 +30,7 @@ use Rattle.age_file.specs.inner.Counts.{HasCounted}
 use Rattle.age_file.specs.inner.Skips.{Passes, SkipFails}
 use Rattle.age_file.specs.inner.Payloads.{HasPlace, DecryptsPayload, PayloadFails, PayloadDone}
 use Rattle.age_file.specs.Runs.{Run, segment_of, held, Reads, IsRun, IsPositionOf, IsDone}
-use Rattle.age_file.specs.Resumes.{ResumePorts, NoPortFailed, WritesOld, IsFrom, Accepts, IsSame}
+use Rattle.age_file.specs.Resumes.{ResumePorts, WritesOld, IsFrom, Accepts, IsSame}
 use Rattle.age_file.proofs.RunSteps.{writes_of, writes_all, told_is}
 use Rattle.age_file.specs.Verdicts.{OpenedFile}
 use Rattle.age_file.specs.inner.Verdicts.{PositionRefused}
