@@ -8,8 +8,7 @@ use Rattle.age_file.proofs.FirstChunks.{first_chunks-append, first_chunks_more}
 use Rattle.age_stream.specs.Headline.{IsPrefixOf}
 use Rattle.age_file.specs.Faults.{HasRisen}
 use Rattle.age_file.specs.Bindings.{link, chain}
-use Rattle.age_file.specs.inner.Releases.{Tally}
-use Rattle.age_file.specs.inner.Unread.{Side}
+use Rattle.age_file.specs.inner.Readers.{ReaderView, WriterView}
 use Rattle.age_file.specs.inner.Skips.{Passes, Dries}
 use Rattle.age_file.specs.inner.Copies.{CopyFails, CopiesChunk, CopiesAll}
 use Rattle.age_file.specs.declared.fault.FileFault.{FileFault}
@@ -29,8 +28,8 @@ chain_more n i out chunk whole size =
     ∙ ap (λ (c : List ℕ). first_chunks n i out ++ c ∷ []) last)
     ∙ chain_on (first_chunks n i out) chunk
 
-copy_fails : (x y z : Side) (a b c : Tally) (p q : List ℕ) (fault : FileFault) → Passes x y p → b.sink.failed ≡ a.sink.failed → CopyFails y z b c q fault
-    → CopyFails x z a c (p ++ q) fault
+copy_fails : (x y z : ReaderView) (a b c : WriterView) (p q : List ℕ) (fault : FileFault) → Passes x y p → b.sink.failed ≡ a.sink.failed
+    → CopyFails y z b c q fault → CopyFails x z a c (p ++ q) fault
 copy_fails x y z a b c p q ShortText f same g = (passes_then x y z p q f g.0, g.1, g.2, g.3 ∙ same)
 copy_fails x y z a b c p q Write f same g =
     let more : IsPrefixOf (p ++ q) ((p ++ g.0) ++ z.unread.bytes) =
@@ -41,7 +40,7 @@ copy_fails x y z a b c p q ReadNeverEnds f same g = (dries_then x y z p q ReadNe
 copy_fails x y z a b c p q other f same g = absurd g
 
 -- whole chunks, and then one that was not copied
-pub chunk_failed : (n chunks i : ℕ) (x y z : Side) (a b c : Tally) (p : List ℕ) (fault : FileFault) → length p ≡ i * n → i < chunks → Passes x y p
+pub chunk_failed : (n chunks i : ℕ) (x y z : ReaderView) (a b c : WriterView) (p : List ℕ) (fault : FileFault) → length p ≡ i * n → i < chunks → Passes x y p
     → Appends a.sink.taken b.sink.taken p
     → b.sink.label ≡ a.sink.label → b.sink.failed ≡ a.sink.failed → b.progress.written ≡ a.progress.written + length p → CopiesChunk n y z b c (Err fault)
     → CopiesAll n chunks x z a c (Err fault)
@@ -63,7 +62,8 @@ front_written used out unwritten bytes n parts = (
 )
 
 -- a pull gave no more
-pub copy_dry : (x z : Side) (a b : Tally) (p : List ℕ) (fault : FileFault) → Dries x z p fault → b.sink.failed ≡ a.sink.failed → CopyFails x z a b p fault
+pub copy_dry : (x z : ReaderView) (a b : WriterView) (p : List ℕ) (fault : FileFault) → Dries x z p fault → b.sink.failed ≡ a.sink.failed
+    → CopyFails x z a b p fault
 copy_dry x z a b p Read g same = (g, same)
 copy_dry x z a b p ReadNeverEnds g same = (g, same)
 copy_dry x z a b p other g same = absurd g.why

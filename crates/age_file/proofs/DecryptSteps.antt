@@ -1,7 +1,11 @@
 -- From what was read and decrypted to what a decryption did.
 use Rattle.std.proofs.Common.{None, refl, inl, inr, ◌≡◌, ℕ, ◌*◌, ◌<◌, List, [], ◌++◌, length, Option, sym, ap, subst, ◌∙◌, arith}
 use Rattle.std.proofs.Common.{append_assoc}
-use Rattle.std.specs.Prelude.{Result, MatchResult, Ok, Err}
+use Rattle.std.specs.Prelude.{Result, MatchResult, OnOk, Ok, Err, true}
+use Rattle.age_stanza.specs.Laws.{OneHeader}
+use Rattle.age_file.specs.declared.decryption.Done.{Done}
+use Rattle.age_file.specs.declared.decryption.Stopped.{Stopped}
+use Rattle.age_file.proofs.Undamaged.{undamaged, undamaged_done}
 use Rattle.age_stanza.specs.declared.header.Header.{Header}
 use Rattle.age_keys.specs.declared.fault.KeyFault.{KeyFault}
 use Rattle.age_cipher.specs.Opening.{opening}
@@ -10,16 +14,16 @@ use Rattle.age_file.specs.Faults.{HasRisen}
 use Rattle.age_io.specs.Views.{SourceView}
 use Rattle.age_file.specs.inner.Intakes.{Pulled}
 use Rattle.age_file.specs.AgeFile.{unbox}
-use Rattle.age_file.specs.inner.Payloads.{Stage, DecryptsPayload, PayloadFails, PayloadDone}
-use Rattle.age_file.specs.inner.ResumesPayload.{side_at}
+use Rattle.age_file.specs.inner.Payloads.{DecryptsPayload, PayloadFails, PayloadDone}
+use Rattle.age_file.specs.inner.Readers.{Stage}
 use Rattle.age_file.specs.Starts.{StartFails}
 use Rattle.age_file.specs.inner.Starts.{StartsAt}
 use Rattle.age_file.specs.Runs.{Run, IsFromStart, segment_of, held, IsRun, IsPositionOf, Told, IsDone}
-use Rattle.age_file.specs.Decrypts.{DecryptFails}
+use Rattle.age_file.specs.Decrypts.{DecryptFails, Decrypts}
 use Rattle.age_file.proofs.RunSteps.{writes_of, writes_all, told_is}
-use Rattle.age_file.specs.inner.Decrypts.{PositionAt}
+use Rattle.age_file.specs.inner.Decrypts.{PositionAt, EndsAs}
 use Rattle.age_file.specs.Ports.{Ports, NoneFailed}
-use Rattle.age_file.specs.Bindings.{file_id, chain, position_tag}
+use Rattle.age_file.specs.Bindings.{file_id, position_tag}
 use Rattle.age_file.specs.inner.Bindings.{chain_if}
 use Rattle.age_file.specs.declared.position.Positions.{Positions}
 use Rattle.age_file.specs.inner.Counts.{HasCounted}
@@ -43,22 +47,22 @@ first_fits r from = omega (arith, from.zero)
 
 module _ (keep : Positions) (Allows : Header → List ℕ → Type 0) (Refused : Header → KeyFault → Type 0) where
   abbrev pub before : SourceView → Stage → Ports
-  before a old = record { source = a; sink = old.tally.sink }
+  before a old = record { source = a; sink = old.writer.sink }
 
   abbrev pub after : Stage → Ports
-  after new = record { source = new.source; sink = new.tally.sink }
+  after new = record { source = new.reader.source; sink = new.writer.sink }
 
   fails : (a : SourceView) (old new : Stage) (r : Run) (pulled : List ℕ) (p : Option Position) (fault : FileFault) → IsFromStart r
-      → old.source.failed ≡ a.failed → Pulled a.remaining new.source.remaining new.unread.pulls pulled
-      → IsRun Allows (before a old) (after new) new.tally.progress.written r → Told keep (IsPositionOf r) p
+      → old.reader.source.failed ≡ a.failed → Pulled a.remaining new.reader.source.remaining new.reader.unread.pulls pulled
+      → IsRun Allows (before a old) (after new) new.writer.progress.written r → Told keep (IsPositionOf r) p
       → PayloadFails (unbox r.file.key r.file.nonce) 65536 old new (segment_of r) r.out fault
-      → DecryptFails keep Allows Refused (before a old) (after new) new.tally.progress.written p fault
+      → DecryptFails keep Allows Refused (before a old) (after new) new.writer.progress.written p fault
   fails a old new r pulled p (Stream x) from same h is at f =
       (r, from, (record { is = is; whole = f.1; of = writes_of r (first_fits r from) is.prefix }, at), f.0, (f.2.0 ∙ same, f.2.1))
   fails a old new r pulled p Write from same h is at f = (r, from, (is, writes_of r (first_fits r from) is.prefix, at), f)
   fails a old new r pulled p Read from same h is at f = (
     inr (r, from, (record { is = is; whole = f.0; of = writes_of r (first_fits r from) is.prefix }, at)),
-    subst (λ (m : ℕ). HasRisen m new.source.failed) same f.1,
+    subst (λ (m : ℕ). HasRisen m new.reader.source.failed) same f.1,
   )
   fails a old new r pulled p ReadNeverEnds from same h is at f = (
     inr (r, from, (record { is = is; whole = f.0; of = writes_of r (first_fits r from) is.prefix }, at)),
@@ -73,25 +77,25 @@ module _ (keep : Positions) (Allows : Header → List ℕ → Type 0) (Refused :
     pub key_is : run.file.key ≡ unlocked.key
     pub nonce_is : run.file.nonce ≡ unlocked.nonce
     pub id : unlocked.id ≡ file_id run.file.header_bytes run.file.nonce
-    pub is : IsRun Allows (before a old) (after new) new.tally.progress.written run
-    pub pulled : Pulled a.remaining new.source.remaining new.unread.pulls ((run.file.header_bytes ++ run.file.nonce) ++ run.bytes)
-    pub counts : HasCounted keep (unbox run.file.key run.file.nonce) 65536 (held run) (segment_of run) new.tally.progress
+    pub is : IsRun Allows (before a old) (after new) new.writer.progress.written run
+    pub pulled : Pulled a.remaining new.reader.source.remaining new.reader.unread.pulls ((run.file.header_bytes ++ run.file.nonce) ++ run.bytes)
+    pub counts : HasCounted keep (unbox run.file.key run.file.nonce) 65536 (held run) (segment_of run) new.writer.progress
     pub answered : MatchResult result (λ _. PayloadDone (unbox run.file.key run.file.nonce) 65536 old new (segment_of run) run.out)
         (PayloadFails (unbox run.file.key run.file.nonce) 65536 old new (segment_of run) run.out)
 
   pub decrypted : (a : SourceView) (unlocked : Unlocked) (key : List ℕ) (old new : Stage) (result : Result (Unit {0}) FileFault)
-      → old.tally.progress.written ≡ 0 → old.tally.progress.index ≡ 0 → old.tally.progress.chain ≡ chain_if keep []
-      → key ≡ payload_key unlocked.key unlocked.nonce → StartsAt Allows a (side_at old) unlocked
+      → old.writer.progress.written ≡ 0 → old.writer.progress.index ≡ 0 → old.writer.progress.chain ≡ chain_if keep []
+      → key ≡ payload_key unlocked.key unlocked.nonce → StartsAt Allows a old.reader unlocked
       → DecryptsPayload (λ nonce block. opening key nonce [] block) 65536 0 old new result → IsDecrypted a unlocked old new result
   decrypted a unlocked key old new result none index chain_none is s q =
       let p = subst (λ (t : List ℕ). DecryptsPayload (λ nonce block. opening t nonce [] block) 65536 0 old new result) is q in
       let head = s.front ++ unlocked.nonce in
-      let all : Pulled a.remaining new.source.remaining new.unread.pulls ((head ++ old.unread.bytes) ++ p.fresh) =
-      p.pulled a.remaining (head ++ old.unread.bytes) s.pulled in
-      let parts : (head ++ old.unread.bytes) ++ p.fresh ≡ head ++ p.bytes =
-      append_assoc head old.unread.bytes p.fresh ∙ ap (λ (t : List ℕ). head ++ t) p.parts in
-      let pulls : Pulled a.remaining new.source.remaining new.unread.pulls (head ++ p.bytes) =
-      subst (λ (t : List ℕ). Pulled a.remaining new.source.remaining new.unread.pulls t) parts all in
+      let all : Pulled a.remaining new.reader.source.remaining new.reader.unread.pulls ((head ++ old.reader.unread.bytes) ++ p.fresh) =
+      p.pulled a.remaining (head ++ old.reader.unread.bytes) s.pulled in
+      let parts : (head ++ old.reader.unread.bytes) ++ p.fresh ≡ head ++ p.bytes =
+      append_assoc head old.reader.unread.bytes p.fresh ∙ ap (λ (t : List ℕ). head ++ t) p.parts in
+      let pulls : Pulled a.remaining new.reader.source.remaining new.reader.unread.pulls (head ++ p.bytes) =
+      subst (λ (t : List ℕ). Pulled a.remaining new.reader.source.remaining new.reader.unread.pulls t) parts all in
       let zero_len : length {A = ℕ} [] ≡ 0 * 65536 = omega arith in
       let zero_size : length {A = ℕ} [] ≡ 0 * 65552 = omega arith in
       record {
@@ -122,9 +126,9 @@ module _ (keep : Positions) (Allows : Header → List ℕ → Type 0) (Refused :
         answered = p.answered;
       }
 
-  pub decrypt_done : (a : SourceView) (unlocked : Unlocked) (old new : Stage) → old.source.failed ≡ a.failed
+  decrypt_done : (a : SourceView) (unlocked : Unlocked) (old new : Stage) → old.reader.source.failed ≡ a.failed
       → (p : IsDecrypted a unlocked old new (Ok tt))
-      → IsFromStart p.run × IsDone Allows (before a old) (after new) new.tally.progress.written p.run × NoneFailed (before a old) (after new)
+      → IsFromStart p.run × IsDone Allows (before a old) (after new) new.writer.progress.written p.run × NoneFailed (before a old) (after new)
   decrypt_done a unlocked old new same p =
       let f = p.answered in
       let limit = first_fits p.run p.from in (
@@ -138,15 +142,42 @@ module _ (keep : Positions) (Allows : Header → List ℕ → Type 0) (Refused :
         (f.3.0 ∙ same, f.3.1),
       )
 
-  pub decrypt_fails : (a : SourceView) (unlocked : Unlocked) (old new : Stage) (fault : FileFault) (position : Option Position)
-      → old.source.failed ≡ a.failed → IsDecrypted a unlocked old new (Err fault)
-      → PositionAt unlocked new.tally.progress.index new.tally.progress.chain position
-      → DecryptFails keep Allows Refused (before a old) (after new) new.tally.progress.written position fault
+  decrypt_fails : (a : SourceView) (unlocked : Unlocked) (old new : Stage) (fault : FileFault) (position : Option Position)
+      → old.reader.source.failed ≡ a.failed → IsDecrypted a unlocked old new (Err fault)
+      → PositionAt unlocked new.writer.progress.index new.writer.progress.chain position
+      → DecryptFails keep Allows Refused (before a old) (after new) new.writer.progress.written position fault
   decrypt_fails a unlocked old new fault position same p at =
-      let told = subst (λ (c : Option (List ℕ)). PositionAt unlocked new.tally.progress.index c position) p.counts.chain_is at in
+      let told = subst (λ (c : Option (List ℕ)). PositionAt unlocked new.writer.progress.index c position) p.counts.chain_is at in
       fails a old new p.run ((p.run.file.header_bytes ++ p.run.file.nonce) ++ p.run.bytes) position fault p.from same p.pulled p.is
-      (told_is keep p.run unlocked new.tally.progress.index position (first_fits p.run p.from) p.key_is p.nonce_is p.id p.is.prefix
+      (told_is keep p.run unlocked new.writer.progress.index position (first_fits p.run p.from) p.key_is p.nonce_is p.id p.is.prefix
       p.counts.index told) p.answered
+
+  -- the whole run
+  pub run_ended : OneHeader → (a : SourceView) (unlocked : Unlocked) (old new : Stage) (run : Result (Unit {0}) FileFault) (result : Result Done Stopped)
+      → old.reader.source.failed ≡ a.failed
+      → new.writer.sink.label ≡ old.writer.sink.label → OnOk run (new.writer.sink.settled ≡ true) → IsDecrypted a unlocked old new run
+      → EndsAs unlocked new.writer.progress run result
+      → Decrypts keep Allows Refused (before a old) (after new) result
+  run_ended one a unlocked old new (Ok done) result same named settled p is =
+      let d = decrypt_done a unlocked old new same p in
+      subst (λ (r : Result Done Stopped). Decrypts keep Allows Refused (before a old) (after new) r) (sym is)
+      (record {
+        done = (p.run, d.0, d.1, d.2);
+        stopped = tt;
+        undamaged = λ text whole. undamaged_done one Allows Refused (before a old) (after new) new.writer.progress.written p.run text whole d.0 d.1;
+        settled = settled;
+        named = named;
+      })
+  run_ended one a unlocked old new (Err fault) result same named settled p (next, at, is) =
+      let fails = decrypt_fails a unlocked old new fault next same p at in
+      subst (λ (r : Result Done Stopped). Decrypts keep Allows Refused (before a old) (after new) r) (sym is)
+      (record {
+        done = tt;
+        stopped = fails;
+        undamaged = λ text whole. undamaged keep one Allows Refused (before a old) (after new) new.writer.progress.written next fault text whole fails;
+        settled = tt;
+        named = named;
+      })
 
   -- no payload came to be opened
   pub start_fails : (old new : Ports) (fault : FileFault) → Appends old.sink.taken new.sink.taken [] → StartFails Allows Refused old.source new.source fault

@@ -1,157 +1,170 @@
--- What flows, one turn after another.
-use Rattle.std.proofs.Common.{◌≡◌, ℕ, ◌+◌, ◌≤◌, List, [], ◌++◌, length, Option, refl, sym, ap, subst, ◌∙◌, arith, append-nil, append_assoc, Bool, true, false}
-use Rattle.std.specs.Prelude.{Result, MatchResult, Ok, Err}
+-- What flows from a source through an opener to a sink, one turn after another. A chunk has n bytes.
+use Rattle.std.proofs.Common.{◌≡◌, ℕ, ◌+◌, ◌*◌, ◌^◌, ◌<◌, ◌≤◌, List, [], ◌++◌, length, Option, refl, sym, ap, subst, ◌∙◌, arith}
+use Rattle.std.proofs.Common.{append-nil, append_assoc, Bool, true, false}
+use Rattle.std.specs.Prelude.{Result, Ok, Err}
+use Rattle.std.specs.Io.KnownBytes.{IsAtEnd}
+use Rattle.std.proofs.lemmas.List.{length-append}
+use Rattle.age_io.specs.Views.{SourceView}
+use Rattle.age_stream.specs.declared.step.Status.TheVariants.{Failed}
 use Rattle.age_stream.specs.Deliveries.{with_piece}
+use Rattle.age_stream.specs.Opening.{OpenerView}
 use Rattle.age_file.specs.Faults.{HasRisen}
 use Rattle.age_file.specs.Ports.{NoneFailed}
-use Rattle.age_file.specs.inner.Unread.{Unread, side}
-use Rattle.age_file.specs.inner.Intakes.{Pulled, Refills, Refilled, PullFails}
+use Rattle.age_file.specs.inner.Unread.{Unread}
+use Rattle.age_file.specs.inner.Readers.{ReaderView, reader_view, WriterView, Stage, stage, ports_at}
+use Rattle.age_file.specs.inner.Intakes.{Pulled, Refills, PullFails}
 use Rattle.age_file.specs.inner.Releases.{Releases, FeedsPiece, FeedFails}
-use Rattle.age_file.specs.inner.Flows.{Flow, HasRoom, ports_in, FlowFails, TurnGoes, Flows, Turns, OpensAll}
 use Rattle.age_file.specs.declared.fault.FileFault.{FileFault}
 use Rattle.age_file.specs.declared.fault.FileFault.TheVariants.{Stream, Read, Write, ReadNeverEnds}
 use Rattle.age_file.proofs.ReleaseSteps.{releases_none, releases_then}
 
-joined_parts : (a pf qf x y m left : List ℕ) → a ++ pf ≡ x ++ m → m ++ qf ≡ y ++ left → a ++ (pf ++ qf) ≡ (x ++ y) ++ left
-joined_parts a pf qf x y m left p q =
-    sym (append_assoc a pf qf) ∙ (ap (λ (t : List ℕ). t ++ qf) p ∙ (append_assoc x m qf ∙ (ap (λ (t : List ℕ). x ++ t) q ∙ sym (append_assoc x y left))))
+-- why it stopped, with what was left and not written
+abbrev pub FlowFails : {B : Type 0} → OpenerView B → Stage → Stage → List ℕ → List ℕ → FileFault → Type 0
+FlowFails opener old new left unwritten (Stream fault) = (opener.status ≡ Failed fault) × (left ≡ []) × (unwritten ≡ [])
+    × NoneFailed (ports_at old) (ports_at new)
+FlowFails opener old new left unwritten Write = HasRisen old.writer.sink.failed new.writer.sink.failed
+FlowFails opener old new left unwritten Read = (left ≡ []) × (unwritten ≡ []) × HasRisen old.reader.source.failed new.reader.source.failed
+FlowFails opener old new left unwritten ReadNeverEnds = (left ≡ []) × (unwritten ≡ []) × (new.reader.unread.pulls ≡ 2 ^ 63)
+    × NoneFailed (ports_at old) (ports_at new)
+FlowFails opener old new left unwritten other = ⊥
 
 module _ {B : Type 0} (opening : B → List ℕ → List ℕ → Option (List ℕ)) (n : ℕ) where
-  pub flows_none : (f : Flow B) → Flows opening n f f f.unread.bytes []
-  flows_none f =
+  -- of what was unread and what was pulled, so much was fed, and the rest was left
+  pub record Flows (a b : OpenerView B) (old new : Stage) (left unwritten : List ℕ) : Type 0 where
+    pub fed : List ℕ
+    pub fresh : List ℕ
+    pub parts : old.reader.unread.bytes ++ fresh ≡ fed ++ left
+    pub releases : Releases opening n (λ s. with_piece s fed) a b old.writer new.writer unwritten
+    pub pulled : (start : Option (List ℕ)) (bytes : List ℕ) → Pulled start old.reader.source.remaining old.reader.unread.pulls bytes
+        → Pulled start new.reader.source.remaining new.reader.unread.pulls (bytes ++ fresh)
+
+  -- all but what is unread was fed and written, and there is room for it: few bytes for the pulls that were made
+  pub record GoesOn (a b : OpenerView B) (old new : Stage) : Type 0 where
+    pub flows : Flows a b old new new.reader.unread.bytes []
+    pub same : NoneFailed (ports_at old) (ports_at new)
+    pub room : length b.held + new.writer.progress.written + length new.reader.unread.bytes ≤ 2 ^ 64 + 65536 * new.reader.unread.pulls
+    pub most : new.reader.unread.pulls ≤ 2 ^ 63
+
+  -- all that the source gave was fed, up to its end
+  pub record Ends (a b : OpenerView B) (old new : Stage) : Type 0 where
+    pub flows : Flows a b old new [] []
+    pub same : NoneFailed (ports_at old) (ports_at new)
+    pub at_end : IsAtEnd new.reader.source.remaining
+    pub room : length b.held + new.writer.progress.written < 2 ^ 128
+
+  -- it stopped before
+  pub record Stops (a b : OpenerView B) (old new : Stage) (fault : FileFault) : Type 0 where
+    pub left : List ℕ
+    pub unwritten : List ℕ
+    pub flows : Flows a b old new left unwritten
+    pub why : FlowFails b old new left unwritten fault
+
+  pub begins : (a : OpenerView B) (old : Stage) → length a.held + old.writer.progress.written + length old.reader.unread.bytes
+      ≤ 2 ^ 64 + 65536 * old.reader.unread.pulls
+      → old.reader.unread.pulls ≤ 2 ^ 63 → GoesOn a a old old
+  begins a old room most =
       record {
-        fed = [];
-        fresh = [];
-        parts = append-nil f.unread.bytes;
-        releases = releases_none opening n f.opener f.tally;
-        pulled = λ start bytes h. subst (λ (t : List ℕ). Pulled start f.source.remaining f.unread.pulls t) (sym (append-nil bytes)) h;
-      }
-
-  pub flows_then : (old mid new : Flow B) (left unwritten : List ℕ) → Flows opening n old mid mid.unread.bytes [] → Flows opening n mid new left unwritten
-      → Flows opening n old new left unwritten
-  flows_then old mid new left unwritten p q =
-      record {
-        fed = p.fed ++ q.fed;
-        fresh = p.fresh ++ q.fresh;
-        parts = joined_parts old.unread.bytes p.fresh q.fresh p.fed q.fed mid.unread.bytes left p.parts q.parts;
-        releases = releases_then opening n p.fed q.fed old.opener mid.opener new.opener old.tally mid.tally new.tally unwritten p.releases q.releases;
-        pulled = λ start bytes h. subst (λ (t : List ℕ). Pulled start new.source.remaining new.unread.pulls t) (append_assoc bytes p.fresh q.fresh)
-            (q.pulled start (bytes ++ p.fresh) (p.pulled start bytes h));
-      }
-
-  -- the failures of a turn
-  pull_fails : (old new : Flow B) (mid : Unread) (fault : FileFault) → new.unread.bytes ≡ [] → new.tally.sink.failed ≡ old.tally.sink.failed
-      → PullFails (side old.source mid) (side new.source new.unread) fault
-      → FlowFails old new new.unread.bytes [] fault
-  pull_fails old new mid Read none same h = (none, refl, h)
-  pull_fails old new mid ReadNeverEnds none same h = (none, refl, h.0, (h.1, same))
-  pull_fails old new mid other none same h = absurd h
-
-  turn_answers : (old new : Flow B) (mid : Unread) (result : Result Bool FileFault) → mid.pulls ≡ old.unread.pulls → HasRoom old
-      → length new.opener.held + new.tally.progress.written ≤ length old.opener.held + old.tally.progress.written + length old.unread.bytes
-      → new.tally.sink.failed ≡ old.tally.sink.failed
-      → Refilled (side old.source mid) (side new.source new.unread) result
-      → MatchResult result (TurnGoes old new new.unread.bytes []) (FlowFails old new new.unread.bytes [])
-  turn_answers old new mid (Ok true) count room goes same h = (
-    refl,
-    refl,
-    (h.4, same),
-    (omega (arith, room.0, goes, h.1, h.3, count), h.2),
-    h.3
-        ∙ ap (λ (k : ℕ). k + 1) count,
-  )
-  turn_answers old new mid (Ok false) count room goes same h = (h.0, refl, (h.3, same), h.2, omega (arith, room.0, room.1, goes))
-  turn_answers old new mid (Err fault) count room goes same h = pull_fails old new mid fault h.0 same h.2
-
-  -- a piece was fed whole, and the next was pulled
-  pub turned : (old new : Flow B) (mid : Unread) (piece : List ℕ) (result : Result Bool FileFault) → piece ≡ old.unread.bytes → mid.pulls ≡ old.unread.pulls
-      → HasRoom old
-      → FeedsPiece opening n old.opener new.opener old.tally new.tally piece (Ok tt)
-      → Refills (side old.source mid) (side new.source new.unread) result
-      → Turns opening n old new result
-  turned old new mid piece result is count room f r =
-      let goes = f.answered.1 in
-      let all : f.fed ≡ old.unread.bytes = sym (append-nil f.fed) ∙ (ap (λ (t : List ℕ). f.fed ++ t) (sym f.answered.0) ∙ (sym f.parts ∙ is)) in
-      record {
-        left = new.unread.bytes;
-        unwritten = [];
         flows = record {
-          fed = f.fed;
-          fresh = new.unread.bytes;
-          parts = ap (λ (t : List ℕ). t ++ new.unread.bytes) (sym all);
-          releases = subst (λ (t : List ℕ). Releases opening n (λ s. with_piece s f.fed) old.opener new.opener old.tally new.tally t) goes.1 f.releases;
-          pulled = λ start bytes h. r.pulled start bytes (subst (λ (k : ℕ). Pulled start old.source.remaining k bytes) (sym count) h);
-        };
-        answered = turn_answers old new mid result count room (omega (arith, goes.0, ap length all)) goes.2 r.answered;
-      }
-
-  feed_fails : (old new : Flow B) (left unwritten : List ℕ) (fault : FileFault) → new.source.failed ≡ old.source.failed
-      → FeedFails opening n new.opener old.tally new.tally left unwritten fault → FlowFails old new left unwritten fault
-  feed_fails old new left unwritten (Stream f) same h = (h.0, h.1, h.2, (same, h.3))
-  feed_fails old new left unwritten Write same h = h
-  feed_fails old new left unwritten other same h = absurd h
-
-  -- a piece was refused, or the sink failed
-  pub stopped : (old new : Flow B) (piece : List ℕ) (fault : FileFault) → piece ≡ old.unread.bytes → new.source.remaining ≡ old.source.remaining
-      → new.source.failed ≡ old.source.failed → new.unread ≡ old.unread
-      → FeedsPiece opening n old.opener new.opener old.tally new.tally piece (Err fault)
-      → Turns opening n old new (Err fault)
-  stopped old new piece fault is coming same unread f =
-      record {
-        left = f.left;
-        unwritten = f.unwritten;
-        flows = record {
-          fed = f.fed;
+          fed = [];
           fresh = [];
-          parts = append-nil old.unread.bytes ∙ (sym is ∙ f.parts);
-          releases = f.releases;
-          pulled = λ start bytes h. subst (λ (t : List ℕ). Pulled start new.source.remaining new.unread.pulls t) (sym (append-nil bytes))
-              (subst (λ (c : Option (List ℕ)). Pulled start c new.unread.pulls bytes) (sym coming)
-              (subst (λ (u : Unread). Pulled start old.source.remaining u.pulls bytes) (sym unread) h));
+          parts = append-nil old.reader.unread.bytes;
+          releases = releases_none opening n a old.writer;
+          pulled = λ start bytes h. subst (λ (t : List ℕ). Pulled start old.reader.source.remaining old.reader.unread.pulls t) (sym (append-nil bytes)) h;
         };
-        answered = feed_fails old new f.left f.unwritten fault same f.answered;
+        same = (refl, refl);
+        room = room;
+        most = most;
       }
 
-  flow_fails_then : (old mid new : Flow B) (left unwritten : List ℕ) (fault : FileFault) → NoneFailed (ports_in old) (ports_in mid)
-      → FlowFails mid new left unwritten fault → FlowFails old new left unwritten fault
-  flow_fails_then old mid new left unwritten (Stream f) p h = (h.0, h.1, h.2, (h.3.0 ∙ p.0, h.3.1 ∙ p.1))
-  flow_fails_then old mid new left unwritten Write p h = subst (λ (k : ℕ). HasRisen k new.tally.sink.failed) p.1 h
-  flow_fails_then old mid new left unwritten Read p h = (h.0, h.1, subst (λ (k : ℕ). HasRisen k new.source.failed) p.0 h.2)
-  flow_fails_then old mid new left unwritten ReadNeverEnds p h = (h.0, h.1, h.2, (h.3.0 ∙ p.0, h.3.1 ∙ p.1))
-  flow_fails_then old mid new left unwritten other p h = absurd h
+  module _ (a b c : OpenerView B) (old : Stage) (source : SourceView) (u v : Unread) (was now : WriterView) (piece : List ℕ) (is : piece ≡ u.bytes)
+      (pulls : v.pulls ≡ u.pulls)
+      (p : GoesOn a b old (stage (reader_view source u) was)) where
+    -- so much of the piece that was unread was fed
+    fed_on : (fed left unwritten : List ℕ) → piece ≡ fed ++ left → Releases opening n (λ s. with_piece s fed) b c was now unwritten
+        → Flows a c old (stage (reader_view source v) now) left unwritten
+    fed_on fed left unwritten parts releases =
+        let f = p.flows in
+        record {
+          fed = f.fed ++ fed;
+          fresh = f.fresh;
+          parts = f.parts ∙ (ap (λ (t : List ℕ). f.fed ++ t) (sym is ∙ parts) ∙ sym (append_assoc f.fed fed left));
+          releases = releases_then opening n f.fed fed a b c old.writer was now unwritten f.releases releases;
+          pulled = λ start bytes h. subst (λ (k : ℕ). Pulled start source.remaining k (bytes ++ f.fresh)) (sym pulls) (f.pulled start bytes h);
+        }
 
-  pub all_stopped : (old mid new : Flow B) (fault : FileFault) → Flows opening n old mid mid.unread.bytes [] → NoneFailed (ports_in old) (ports_in mid)
-      → Turns opening n mid new (Err fault) → OpensAll opening n old new (Err fault)
-  all_stopped old mid new fault p same t =
-      record {
-        left = t.left;
-        unwritten = t.unwritten;
-        flows = flows_then old mid new t.left t.unwritten p t.flows;
-        answered = flow_fails_then old mid new t.left t.unwritten fault same t.answered;
-      }
+    pub fed_all : v.bytes ≡ [] → FeedsPiece opening n b c was now piece (Ok tt) → GoesOn a c old (stage (reader_view source v) now)
+    fed_all used f =
+        let goes = f.answered.1 in
+        let flows = fed_on f.fed f.left f.unwritten f.parts f.releases in
+        let whole = subst (λ (t : List ℕ). Flows a c old (stage (reader_view source v) now) f.left t) goes.1 flows in
+        record {
+          flows = subst (λ (t : List ℕ). Flows a c old (stage (reader_view source v) now) t []) (f.answered.0 ∙ sym used) whole;
+          same = (p.same.0, goes.2 ∙ p.same.1);
+          room = omega (arith, p.room, goes.0, pulls, ap length used, ap length is, ap length f.parts, length-append f.fed f.left);
+          most = omega (arith, p.most, pulls);
+        }
 
-  pub all_done : (old mid new : Flow B) → Flows opening n old mid mid.unread.bytes [] → NoneFailed (ports_in old) (ports_in mid)
-      → Turns opening n mid new (Ok false) → OpensAll opening n old new (Ok tt)
-  all_done old mid new p same t =
-      record {
-        left = t.left;
-        unwritten = t.unwritten;
-        flows = flows_then old mid new t.left t.unwritten p t.flows;
-        answered = (t.answered.0, t.answered.1, (t.answered.2.0 ∙ same.0, t.answered.2.1 ∙ same.1), t.answered.3, t.answered.4);
-      }
+    feed_fails : (left unwritten : List ℕ) (fault : FileFault) → FeedFails opening n c was now left unwritten fault
+        → FlowFails c old (stage (reader_view source v) now) left unwritten fault
+    feed_fails left unwritten (Stream f) h = (h.0, h.1, h.2, (p.same.0, h.3 ∙ p.same.1))
+    feed_fails left unwritten Write h = subst (λ (k : ℕ). HasRisen k now.sink.failed) p.same.1 h
+    feed_fails left unwritten other h = absurd h
 
-  pub record On (old new : Flow B) : Type 0 where
-    pub flows : Flows opening n old new new.unread.bytes []
-    pub same : NoneFailed (ports_in old) (ports_in new)
-    pub room : HasRoom new
+    -- the piece was refused, or the sink failed
+    pub feed_stops : (fault : FileFault) → FeedsPiece opening n b c was now piece (Err fault) → Stops a c old (stage (reader_view source v) now) fault
+    feed_stops fault f =
+        record {
+          left = f.left;
+          unwritten = f.unwritten;
+          flows = fed_on f.fed f.left f.unwritten f.parts f.releases;
+          why = feed_fails f.left f.unwritten fault f.answered;
+        }
 
-  pub on : (old mid new : Flow B) → Flows opening n old mid mid.unread.bytes [] → NoneFailed (ports_in old) (ports_in mid) → Turns opening n mid new (Ok true)
-      → On old new
-  on old mid new p same t =
-      let a = t.answered in
-      record {
-        flows = flows_then old mid new new.unread.bytes [] p (subst (λ (c : List ℕ). Flows opening n mid new new.unread.bytes c) a.1
-            (subst (λ (l : List ℕ). Flows opening n mid new l t.unwritten) a.0 t.flows));
-        same = (a.2.0 ∙ same.0, a.2.1 ∙ same.1);
-        room = a.3;
-      }
+  -- where all was fed, the next piece is pulled
+  module _ (a b : OpenerView B) (old : Stage) (x z : ReaderView) (now : WriterView) (used : x.unread.bytes ≡ []) (p : GoesOn a b old (stage x now)) where
+    pulled_on : (result : Result Bool FileFault) → Refills x z result → Flows a b old (stage z now) z.unread.bytes []
+    pulled_on result r =
+        let f = p.flows in
+        record {
+          fed = f.fed;
+          fresh = f.fresh ++ z.unread.bytes;
+          parts = sym (append_assoc old.reader.unread.bytes f.fresh z.unread.bytes)
+              ∙ ap (λ (t : List ℕ). t ++ z.unread.bytes) (f.parts ∙ (ap (λ (t : List ℕ). f.fed ++ t) used ∙ append-nil f.fed));
+          releases = f.releases;
+          pulled = λ start bytes h. subst (λ (t : List ℕ). Pulled start z.source.remaining z.unread.pulls t) (append_assoc bytes f.fresh z.unread.bytes)
+              (r.pulled start (bytes ++ f.fresh) (f.pulled start bytes h));
+        }
+
+    pub pulled_more : Refills x z (Ok true) → GoesOn a b old (stage z now)
+    pulled_more r =
+        let h = r.answered in
+        record {
+          flows = pulled_on (Ok true) r;
+          same = (h.4 ∙ p.same.0, p.same.1);
+          room = omega (arith, p.room, h.1, h.3, ap length used);
+          most = h.2;
+        }
+
+    pub pulled_none : Refills x z (Ok false) → Ends a b old (stage z now)
+    pulled_none r =
+        let h = r.answered in
+        record {
+          flows = subst (λ (t : List ℕ). Flows a b old (stage z now) t []) h.0 (pulled_on (Ok false) r);
+          same = (h.3 ∙ p.same.0, p.same.1);
+          at_end = h.2;
+          room = omega (arith, p.room, p.most);
+        }
+
+    pull_fails : (fault : FileFault) → z.unread.bytes ≡ [] → PullFails x z fault → FlowFails b old (stage z now) z.unread.bytes [] fault
+    pull_fails Read none h = (none, refl, subst (λ (k : ℕ). HasRisen k z.source.failed) p.same.0 h)
+    pull_fails ReadNeverEnds none h = (none, refl, h.0, (h.1 ∙ p.same.0, p.same.1))
+    pull_fails other none h = absurd h
+
+    pub pull_stops : (fault : FileFault) → Refills x z (Err fault) → Stops a b old (stage z now) fault
+    pull_stops fault r =
+        record {
+          left = z.unread.bytes;
+          unwritten = [];
+          flows = pulled_on (Err fault) r;
+          why = pull_fails fault r.answered.0 r.answered.2;
+        }

@@ -10,10 +10,10 @@ use Rattle.age_stream.specs.Headline.{IsPrefixOf}
 use Rattle.age_stream.proofs.PublicLaws.{fresh_is_open, released_grows}
 use Rattle.age_file.specs.Faults.{HasRisen}
 use Rattle.age_file.specs.Ports.{NoneFailed}
-use Rattle.age_file.specs.inner.Releases.{Tally, Releases, Closes, FeedFails}
-use Rattle.age_file.specs.inner.Flows.{Flow, ports_in, FlowFails, OpensAll}
+use Rattle.age_file.specs.inner.Readers.{WriterView, Stage, stage, ports_at}
+use Rattle.age_file.specs.inner.Releases.{Releases, Closes, FeedFails}
 use Rattle.age_file.specs.Runs.{segment}
-use Rattle.age_file.specs.inner.Payloads.{Stage, DecryptsPayload, PayloadFails, PayloadDone}
+use Rattle.age_file.specs.inner.Payloads.{DecryptsPayload, PayloadFails, PayloadDone}
 use Rattle.age_file.specs.declared.fault.FileFault.{FileFault}
 use Rattle.age_file.specs.declared.fault.FileFault.TheVariants.{Stream, Read, Write, ReadNeverEnds}
 use Rattle.age_stream.specs.ChunkBoxes.{IsChunkBox}
@@ -22,6 +22,7 @@ use Rattle.age_file.specs.inner.Bindings.{chain_if}
 use Rattle.age_file.specs.declared.position.Positions.{Positions}
 use Rattle.age_file.specs.inner.Counts.{CountsChunks, HasCounted}
 use Rattle.age_file.proofs.CountSteps.{no_piece, mark_fresh, marked}
+use Rattle.age_file.proofs.FlowSteps.{FlowFails, Ends, Stops}
 use Rattle.age_file.proofs.ReleaseSteps.{releases_next}
 
 module _ (op : List ℕ → List ℕ → Option (List ℕ)) (n k : ℕ) where
@@ -41,25 +42,22 @@ module _ (op : List ℕ → List ℕ → Option (List ℕ)) (n k : ℕ) where
 
 module _ {B : Type 0} (sealing : B → List ℕ → List ℕ → List ℕ) (opening : B → List ℕ → List ℕ → Option (List ℕ)) (valid : (key : B)
     → IsChunkBox (sealing key) (opening key)) (n : ℕ) (positive : 0 < n) where
-  abbrev pub stage_of : Flow B → Stage
-  stage_of f = record { tally = f.tally; source = f.source; unread = f.unread }
-
   module _ (K : B) (k : ℕ) where
     -- the text of a segment that an opener was given from its start
-    from_start : (next : Segment → Segment) (old new : OpenerView B) (was now : Tally) (unwritten : List ℕ) → old.key ≡ K → Stands opening n old (fresh k)
+    from_start : (next : Segment → Segment) (old new : OpenerView B) (was now : WriterView) (unwritten : List ℕ) → old.key ≡ K → Stands opening n old (fresh k)
         → (o : Releases opening n next old new was now unwritten) → released (opening K) n (next (fresh k)) ≡ o.out ++ unwritten
     from_start next old new was now unwritten key h o =
         let t = subst (λ c. released (opening c) n (next (fresh k)) ≡ released (opening c) n (fresh k) ++ (o.out ++ unwritten)) key (o.text (fresh k) h) in
         t ∙ ap (λ (x : Outcome). flat_map (λ (y : List ℕ). y) x.texts ++ (o.out ++ unwritten)) (fresh_is_open (opening K) n k)
 
     -- where the opener then stands
-    status_of : (next : Segment → Segment) (old new : OpenerView B) (was now : Tally) (unwritten : List ℕ) → old.key ≡ K → Stands opening n old (fresh k)
+    status_of : (next : Segment → Segment) (old new : OpenerView B) (was now : WriterView) (unwritten : List ℕ) → old.key ≡ K → Stands opening n old (fresh k)
         → (o : Releases opening n next old new was now unwritten) → new.status ≡ (outcome (opening K) n (next (fresh k))).status
     status_of next old new was now unwritten key h o =
         (o.stands (fresh k) h).status ∙ ap (λ c. (outcome (opening c) n (next (fresh k))).status) (o.key ∙ key)
 
     -- what the progress then counts, behind a base
-    counts_of : (next : Segment → Segment) (old new : OpenerView B) (was now : Tally) (more unwritten : List ℕ) (last : Segment) → old.key ≡ K
+    counts_of : (next : Segment → Segment) (old new : OpenerView B) (was now : WriterView) (more unwritten : List ℕ) (last : Segment) → old.key ≡ K
         → Stands opening n old (fresh k)
         → with_piece (next (fresh k)) more ≡ last → (o : Releases opening n next old new was now unwritten) → (keep : Positions) (base : List ℕ)
         → length base ≡ k * n → was.progress.index ≡ k
@@ -71,30 +69,30 @@ module _ {B : Type 0} (sealing : B → List ℕ → List ℕ → List ℕ) (open
         (o.counts keep positive (fresh k) base len h first) in
         marked (sealing K) (opening K) (valid K) n positive keep base (next (fresh k)) last more o.out unwritten now.progress is e m
 
-    stop_fails : (old new : Flow B) (fed left out unwritten : List ℕ) (fault : FileFault) → released (opening K) n (segment k fed false) ≡ out ++ unwritten
-        → new.opener.status ≡ (outcome (opening K) n (segment k fed false)).status
-        → FlowFails old new left unwritten fault → PayloadFails (opening K) n (stage_of old) (stage_of new) (segment k (fed ++ left) false) out fault
-    stop_fails old new fed left out unwritten (Stream f) e s h =
+    stop_fails : (o : OpenerView B) (old new : Stage) (fed left out unwritten : List ℕ) (fault : FileFault) → released (opening K) n (segment k fed false)
+        ≡ out ++ unwritten
+        → o.status ≡ (outcome (opening K) n (segment k fed false)).status
+        → FlowFails o old new left unwritten fault → PayloadFails (opening K) n old new (segment k (fed ++ left) false) out fault
+    stop_fails o old new fed left out unwritten (Stream f) e s h =
         let same : fed ≡ fed ++ left = sym (append-nil fed) ∙ ap (λ (t : List ℕ). fed ++ t) (sym h.1) in (
           ap (λ (t : List ℕ). (outcome (opening K) n (segment k t false)).status) (sym same) ∙ (sym s ∙ h.0),
           exact (opening K) n k fed left out unwritten e h.1 h.2,
           h.3,
         )
-    stop_fails old new fed left out unwritten Write e s h = h
-    stop_fails old new fed left out unwritten Read e s h = (exact (opening K) n k fed left out unwritten e h.0 h.1, h.2)
-    stop_fails old new fed left out unwritten ReadNeverEnds e s h = (exact (opening K) n k fed left out unwritten e h.0 h.1, h.2, h.3)
-    stop_fails old new fed left out unwritten other e s h = absurd h
+    stop_fails o old new fed left out unwritten Write e s h = h
+    stop_fails o old new fed left out unwritten Read e s h = (exact (opening K) n k fed left out unwritten e h.0 h.1, h.2)
+    stop_fails o old new fed left out unwritten ReadNeverEnds e s h = (exact (opening K) n k fed left out unwritten e h.0 h.1, h.2, h.3)
+    stop_fails o old new fed left out unwritten other e s h = absurd h
 
-    pub pour_stopped : (old new : Flow B) (fault : FileFault) → old.opener.key ≡ K → Stands opening n old.opener (fresh k)
-        → OpensAll opening n old new (Err fault)
-        → DecryptsPayload (opening K) n k (stage_of old) (stage_of new) (Err fault)
-    pour_stopped old new fault key h a =
-        let f = a.flows in
+    pub pour_stopped : (a b : OpenerView B) (old new : Stage) (fault : FileFault) → a.key ≡ K → Stands opening n a (fresh k) → Stops opening n a b old new fault
+        → DecryptsPayload (opening K) n k old new (Err fault)
+    pour_stopped a b old new fault key h t =
+        let f = t.flows in
         let next : Segment → Segment = λ s. with_piece s f.fed in
-        let e = from_start next old.opener new.opener old.tally new.tally a.unwritten key h f.releases in
-        let s = status_of next old.opener new.opener old.tally new.tally a.unwritten key h f.releases in
+        let e = from_start next a b old.writer new.writer t.unwritten key h f.releases in
+        let s = status_of next a b old.writer new.writer t.unwritten key h f.releases in
         record {
-          bytes = f.fed ++ a.left;
+          bytes = f.fed ++ t.left;
           ended = false;
           out = f.releases.out;
           fresh = f.fresh;
@@ -104,50 +102,46 @@ module _ {B : Type 0} (sealing : B → List ℕ → List ℕ → List ℕ) (open
           wrote = f.releases.wrote;
           named = f.releases.named;
           count = f.releases.count;
-          counts = counts_of next old.opener new.opener old.tally new.tally a.left a.unwritten (segment k (f.fed ++ a.left) false) key h refl f.releases;
-          prefix = prefix_of (opening K) n k f.fed a.left f.releases.out a.unwritten e;
-          answered = stop_fails old new f.fed a.left f.releases.out a.unwritten fault e s a.answered;
+          counts = counts_of next a b old.writer new.writer t.left t.unwritten (segment k (f.fed ++ t.left) false) key h refl f.releases;
+          prefix = prefix_of (opening K) n k f.fed t.left f.releases.out t.unwritten e;
+          answered = stop_fails b old new f.fed t.left f.releases.out t.unwritten fault e s t.why;
         }
 
-    done_or_fails : (old mid : Flow B) (new : OpenerView B) (now : Tally) (bytes out unwritten : List ℕ) (result : Result (Unit {0}) FileFault)
-        → NoneFailed (ports_in old) (ports_in mid)
-        → released (opening K) n (segment k bytes true) ≡ out ++ unwritten → new.status ≡ (outcome (opening K) n (segment k bytes true)).status
-        → MatchResult result (λ _. (new.status ≡ Done) × (unwritten ≡ []) × (now.sink.failed ≡ mid.tally.sink.failed))
-        (FeedFails opening n new mid.tally now [] unwritten)
-        → MatchResult result (λ _. PayloadDone (opening K) n (stage_of old) (record { tally = now; source = mid.source; unread = mid.unread })
-        (segment k bytes true) out)
-        (PayloadFails (opening K) n (stage_of old) (record { tally = now; source = mid.source; unread = mid.unread }) (segment k bytes true) out)
-    done_or_fails old mid new now bytes out unwritten (Ok u) same e s h =
+    done_or_fails : (c : OpenerView B) (old mid : Stage) (now : WriterView) (bytes out unwritten : List ℕ) (result : Result (Unit {0}) FileFault)
+        → NoneFailed (ports_at old) (ports_at mid)
+        → released (opening K) n (segment k bytes true) ≡ out ++ unwritten → c.status ≡ (outcome (opening K) n (segment k bytes true)).status
+        → MatchResult result (λ _. (c.status ≡ Done) × (unwritten ≡ []) × (now.sink.failed ≡ mid.writer.sink.failed))
+        (FeedFails opening n c mid.writer now [] unwritten)
+        → MatchResult result (λ _. PayloadDone (opening K) n old (stage mid.reader now) (segment k bytes true) out)
+        (PayloadFails (opening K) n old (stage mid.reader now) (segment k bytes true) out)
+    done_or_fails c old mid now bytes out unwritten (Ok u) same e s h =
         (refl, sym s ∙ h.0, sym (append-nil out) ∙ (ap (λ (t : List ℕ). out ++ t) (sym h.1) ∙ sym e), (same.0, h.2 ∙ same.1))
-    done_or_fails old mid new now bytes out unwritten (Err (Stream f)) same e s h =
+    done_or_fails c old mid now bytes out unwritten (Err (Stream f)) same e s h =
         (sym s ∙ h.0, sym (append-nil out) ∙ (ap (λ (t : List ℕ). out ++ t) (sym h.2) ∙ sym e), (same.0, h.3 ∙ same.1))
-    done_or_fails old mid new now bytes out unwritten (Err Write) same e s h = subst (λ (x : ℕ). HasRisen x now.sink.failed) same.1 h
-    done_or_fails old mid new now bytes out unwritten (Err other) same e s h = absurd h
+    done_or_fails c old mid now bytes out unwritten (Err Write) same e s h = subst (λ (x : ℕ). HasRisen x now.sink.failed) same.1 h
+    done_or_fails c old mid now bytes out unwritten (Err other) same e s h = absurd h
 
-    pub pour_ended : (old mid : Flow B) (new : OpenerView B) (now : Tally) (result : Result (Unit {0}) FileFault) → old.opener.key ≡ K
-        → Stands opening n old.opener (fresh k)
-        → OpensAll opening n old mid (Ok tt) → Closes opening n mid.opener new mid.tally now result
-        → DecryptsPayload (opening K) n k (stage_of old) (record { tally = now; source = mid.source; unread = mid.unread }) result
-    pour_ended old mid new now result key h a c =
-        let f = a.flows in
-        let go = a.answered in
-        let first = subst (λ (t : List ℕ). Releases opening n (λ s. with_piece s f.fed) old.opener mid.opener old.tally mid.tally t) go.1 f.releases in
+    pub pour_ended : (a b c : OpenerView B) (old mid : Stage) (now : WriterView) (result : Result (Unit {0}) FileFault) → a.key ≡ K
+        → Stands opening n a (fresh k)
+        → Ends opening n a b old mid → Closes opening n b c mid.writer now result → DecryptsPayload (opening K) n k old (stage mid.reader now) result
+    pour_ended a b c old mid now result key h t end =
+        let f = t.flows in
         let next : Segment → Segment = λ s. with_end (with_piece s f.fed) in
-        let all = releases_next opening n f.fed with_end next old.opener mid.opener new old.tally mid.tally now c.unwritten (λ s. refl) first c.releases in
-        let e = from_start next old.opener new old.tally now c.unwritten key h all in
-        let s = status_of next old.opener new old.tally now c.unwritten key h all in
+        let all = releases_next opening n f.fed with_end next a b c old.writer mid.writer now end.unwritten (λ s. refl) f.releases end.releases in
+        let e = from_start next a c old.writer now end.unwritten key h all in
+        let s = status_of next a c old.writer now end.unwritten key h all in
         record {
           bytes = f.fed;
           ended = true;
           out = all.out;
           fresh = f.fresh;
-          parts = f.parts ∙ (ap (λ (t : List ℕ). f.fed ++ t) go.0 ∙ append-nil f.fed);
+          parts = f.parts ∙ append-nil f.fed;
           pulled = f.pulled;
-          at_end = λ x. go.3;
+          at_end = λ x. t.at_end;
           wrote = all.wrote;
           named = all.named;
           count = all.count;
-          counts = counts_of next old.opener new old.tally now [] c.unwritten (segment k f.fed true) key h (no_piece (segment k f.fed true)) all;
-          prefix = (c.unwritten, sym e);
-          answered = done_or_fails old mid new now f.fed all.out c.unwritten result go.2 e s c.answered;
+          counts = counts_of next a c old.writer now [] end.unwritten (segment k f.fed true) key h (no_piece (segment k f.fed true)) all;
+          prefix = (end.unwritten, sym e);
+          answered = done_or_fails c old mid now f.fed all.out end.unwritten result t.same e s end.answered;
         }

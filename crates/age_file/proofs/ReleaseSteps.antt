@@ -12,7 +12,8 @@ use Rattle.age_stream.specs.Opening.{OpenerView, Stands, chunk_texts}
 use Rattle.age_stream.proofs.PublicLaws.{pieces_join}
 use Rattle.age_stream.specs.Lent.{chunk_bytes}
 use Rattle.age_file.specs.Faults.{HasRisen}
-use Rattle.age_file.specs.inner.Releases.{Tally, Releases, FeedGoes, FeedFails}
+use Rattle.age_file.specs.inner.Releases.{Releases, FeedGoes, FeedFails}
+use Rattle.age_file.specs.inner.Readers.{WriterView}
 use Rattle.age_file.specs.declared.fault.FileFault.{FileFault}
 use Rattle.age_file.specs.declared.fault.FileFault.TheVariants.{Stream, Write}
 use Rattle.age_stream.specs.ChunkBoxes.{IsChunkBox}
@@ -42,7 +43,7 @@ more_text op n s next ts text e f =
     ∙ (flat_map-append (λ (t : List ℕ). t) (outcome op n s).texts ts ∙ ap (λ (x : List ℕ). released op n s ++ x) f)
 
 module _ {B : Type 0} (opening : B → List ℕ → List ℕ → Option (List ℕ)) (n : ℕ) where
-  pub releases_none : (o : OpenerView B) (was : Tally) → Releases opening n (λ s. with_piece s []) o o was was []
+  pub releases_none : (o : OpenerView B) (was : WriterView) → Releases opening n (λ s. with_piece s []) o o was was []
   releases_none o was =
       record {
         out = [];
@@ -56,7 +57,7 @@ module _ {B : Type 0} (opening : B → List ℕ → List ℕ → Option (List �
       }
 
   -- a step, and then a step to any next segment
-  pub releases_next : (a : List ℕ) (next next' : Segment → Segment) (old mid new : OpenerView B) (was between now : Tally) (unwritten : List ℕ)
+  pub releases_next : (a : List ℕ) (next next' : Segment → Segment) (old mid new : OpenerView B) (was between now : WriterView) (unwritten : List ℕ)
       → ((s : Segment) → next (with_piece s a) ≡ next' s)
       → Releases opening n (λ s. with_piece s a) old mid was between [] → Releases opening n next mid new between now unwritten
       → Releases opening n next' old new was now unwritten
@@ -86,7 +87,7 @@ module _ {B : Type 0} (opening : B → List ℕ → List ℕ → Option (List �
             (subst (λ k. CountsChunks keep (opening k) n base (next (with_piece s a)) unwritten now.progress) p.key then);
       }
 
-  pub releases_then : (a b : List ℕ) (old mid new : OpenerView B) (was between now : Tally) (unwritten : List ℕ)
+  pub releases_then : (a b : List ℕ) (old mid new : OpenerView B) (was between now : WriterView) (unwritten : List ℕ)
       → Releases opening n (λ s. with_piece s a) old mid was between [] → Releases opening n (λ s. with_piece s b) mid new between now unwritten
       → Releases opening n (λ s. with_piece s (a ++ b)) old new was now unwritten
   releases_then a b old mid new was between now unwritten p q = releases_next a (λ s. with_piece s b) (λ s. with_piece s (a ++ b)) old mid new was
@@ -135,7 +136,7 @@ module _ {B : Type 0} (opening : B → List ℕ → List ℕ → Option (List �
       (texts s h) (chunk_few chunk) (lent_flat chunk ∙ lent) some index chain_same m
 
   -- a call that took the front of a piece and lent a chunk, of which so much was written
-  pub fed_front : (old new : OpenerView B) (was now : Tally) (piece : List ℕ) (taken : ℕ) (chunk : Option (Bor (List ℕ))) (out unwritten : List ℕ)
+  pub fed_front : (old new : OpenerView B) (was now : WriterView) (piece : List ℕ) (taken : ℕ) (chunk : Option (Bor (List ℕ))) (out unwritten : List ℕ)
       → new.key ≡ old.key
       → ((s : Segment) → Stands opening n old s → Stands opening n new (with_piece s (take taken piece)))
       → ((s : Segment) → Stands opening n old s → (outcome (opening old.key) n (with_piece s (take taken piece))).texts
@@ -158,7 +159,7 @@ module _ {B : Type 0} (opening : B → List ℕ → List ℕ → Option (List �
       }
 
   -- how much it then holds and wrote
-  pub goes_front : (old new : OpenerView B) (was now : Tally) (piece : List ℕ) (taken : ℕ) (chunk : Option (Bor (List ℕ))) (out unwritten : List ℕ)
+  pub goes_front : (old new : OpenerView B) (was now : WriterView) (piece : List ℕ) (taken : ℕ) (chunk : Option (Bor (List ℕ))) (out unwritten : List ℕ)
       → taken ≤ length piece → length new.held + length (chunk_bytes chunk) ≤ length old.held + taken
       → chunk_bytes chunk ≡ out ++ unwritten → now.progress.written ≡ was.progress.written + length out → unwritten ≡ [] → now.sink.failed ≡ was.sink.failed
       → (taken ≡ length (take taken piece)) × FeedGoes opening n old new was now (take taken piece) unwritten
@@ -166,16 +167,16 @@ module _ {B : Type 0} (opening : B → List ℕ → List ℕ → Option (List �
       let len : length (chunk_bytes chunk) ≡ length out = ap length (lent ∙ (ap (λ (t : List ℕ). out ++ t) whole ∙ append-nil out)) in
       (omega (arith, le, length-take taken piece), (omega (arith, le, room, count, len, length-take taken piece), whole, failed))
 
-  goes_then : (a b : List ℕ) (old mid new : OpenerView B) (was between now : Tally) → FeedGoes opening n old mid was between a []
+  goes_then : (a b : List ℕ) (old mid new : OpenerView B) (was between now : WriterView) → FeedGoes opening n old mid was between a []
       → FeedGoes opening n mid new between now b [] → FeedGoes opening n old new was now (a ++ b) []
   goes_then a b old mid new was between now p q = (omega (arith, p.0, q.0, length-append a b), refl, q.2 ∙ p.2)
 
   -- one call more, for a piece of which the front was fed
-  pub record Both (old new : OpenerView B) (was now : Tally) (fed : List ℕ) : Type 0 where
+  pub record Both (old new : OpenerView B) (was now : WriterView) (fed : List ℕ) : Type 0 where
     pub releases : Releases opening n (λ s. with_piece s fed) old new was now []
     pub goes : FeedGoes opening n old new was now fed []
 
-  pub both_then : (a b c : List ℕ) (old mid new : OpenerView B) (was between now : Tally) (unwritten : List ℕ) → a ++ b ≡ c
+  pub both_then : (a b c : List ℕ) (old mid new : OpenerView B) (was between now : WriterView) (unwritten : List ℕ) → a ++ b ≡ c
       → Releases opening n (λ s. with_piece s a) old mid was between [] → FeedGoes opening n old mid was between a []
       → Releases opening n (λ s. with_piece s b) mid new between now unwritten → FeedGoes opening n mid new between now b unwritten
       → Both old new was now c
@@ -186,7 +187,7 @@ module _ {B : Type 0} (opening : B → List ℕ → List ℕ → Option (List �
       (record { releases = releases_then a b old mid new was between now [] p q'; goes = goes_then a b old mid new was between now pg qg' })
 
   -- a fault after steps that went on
-  pub fails_then : (a : List ℕ) (old mid new : OpenerView B) (was between now : Tally) (left unwritten : List ℕ) (fault : FileFault)
+  pub fails_then : (a : List ℕ) (old mid new : OpenerView B) (was between now : WriterView) (left unwritten : List ℕ) (fault : FileFault)
       → FeedGoes opening n old mid was between a [] → FeedFails opening n new between now left unwritten fault
       → FeedFails opening n new was now left unwritten fault
   fails_then a old mid new was between now left unwritten (Stream f) p h = (h.0, h.1, h.2, h.3 ∙ p.2)

@@ -1,7 +1,12 @@
 -- From what was read, copied, skipped and decrypted to what a resumed decryption did.
 use Rattle.std.proofs.Common.{◌≡◌, ℕ, ◌+◌, ◌*◌, ◌<◌, ◌≤◌, List, [], ◌++◌, length, take, drop, Option, Some, None, refl, inl, inr, sym, ap, subst, ◌∙◌}
 use Rattle.std.proofs.Common.{suc, ◌^◌, arith, append-nil, append_assoc}
-use Rattle.std.specs.Prelude.{Result, MatchResult, Ok, Err}
+use Rattle.std.specs.Prelude.{Result, MatchResult, OnOk, Ok, Err, true}
+use Rattle.age_stanza.specs.Laws.{OneHeader}
+use Rattle.age_file.specs.ResumePromises.{ResumesText}
+use Rattle.age_file.specs.declared.decryption.Done.{Done}
+use Rattle.age_file.specs.declared.decryption.Stopped.{Stopped}
+use Rattle.age_file.proofs.UndamagedRest.{undamaged_rest, undamaged_rest_done}
 use Rattle.std.specs.Simd.{first_chunks}
 use Rattle.std.specs.Io.KnownBytes.{Consumes, Appends}
 use Rattle.std.proofs.lemmas.List.{length-append, length-take, take_at, take-append-drop, take-append-le}
@@ -17,16 +22,15 @@ use Rattle.age_file.specs.inner.Bindings.{chain_if}
 use Rattle.age_file.specs.declared.position.Positions.TheVariants.{Kept, Dropped}
 use Rattle.age_file.specs.inner.Copies.{CopiesText}
 use Rattle.age_file.specs.Faults.{HasRisen}
-use Rattle.age_file.specs.inner.ResumesPayload.{side_at, ResumesPayload, DecryptsAfter}
+use Rattle.age_file.specs.inner.Readers.{ReaderView, reader_view, WriterView, Stage, stage}
 use Rattle.age_file.specs.inner.Intakes.{Pulled}
 use Rattle.age_file.specs.Runs.{Told}
-use Rattle.age_file.specs.inner.Decrypts.{IsPositionAt, PositionAt}
+use Rattle.age_file.specs.inner.Decrypts.{IsPositionAt, PositionAt, EndsAs}
 use Rattle.age_file.specs.inner.Counts.{HasCounted}
-use Rattle.age_file.specs.inner.Skips.{SkipFails}
-use Rattle.age_file.specs.inner.Payloads.{Stage, DecryptsPayload, PayloadFails, PayloadDone}
-use Rattle.age_file.specs.inner.Releases.{Tally}
+use Rattle.age_file.specs.inner.Skips.{Passes, SkipFails}
+use Rattle.age_file.specs.inner.Payloads.{HasPlace, DecryptsPayload, PayloadFails, PayloadDone}
 use Rattle.age_file.specs.Runs.{Run, segment_of, held, Reads, IsRun, IsPositionOf, IsDone}
-use Rattle.age_file.specs.Resumes.{ResumePorts, NoPortFailed, WritesOld, IsFrom, Accepts, IsSame}
+use Rattle.age_file.specs.Resumes.{ResumePorts, WritesOld, IsFrom, Accepts, IsSame}
 use Rattle.age_file.proofs.RunSteps.{writes_of, writes_all, told_is}
 use Rattle.age_file.specs.Verdicts.{OpenedFile}
 use Rattle.age_file.specs.inner.Verdicts.{PositionRefused}
@@ -35,7 +39,7 @@ use Rattle.age_file.specs.ResumeFaults.{NeverEnd, StopsInOld, StopsInSkipped, Re
 use Rattle.age_file.specs.Starts.{StartFails}
 use Rattle.age_file.specs.inner.Starts.{Uses, StartsAt}
 use Rattle.age_io.specs.Views.{SourceView}
-use Rattle.age_file.specs.inner.Unread.{Unread, Side, side}
+use Rattle.age_file.specs.inner.Unread.{Unread}
 use Rattle.age_file.specs.declared.fault.FileFault.{FileFault}
 use Rattle.age_file.specs.declared.fault.FileFault.TheVariants.{Stream, OtherFile, ShortText, Read, Write, ReadNeverEnds, PositionForged, OldTextDiffers}
 use Rattle.age_file.specs.declared.position.Position.{Position}
@@ -77,16 +81,16 @@ old_text_of p copied size same = record { size = size; same = same; bound = λ t
 -- ---- a run that stopped in the old text, or before it
 
 module _ (keep : Positions) (Allows : Header → List ℕ → Type 0) (Refused : Header → KeyFault → Type 0) (p : Position) where
-  abbrev pub before : SourceView → Tally → Side → ResumePorts
+  abbrev pub before : SourceView → WriterView → ReaderView → ResumePorts
   before a first x = record { main = record { source = a; sink = first.sink }; old = x.source }
 
-  abbrev pub after : Stage → Side → ResumePorts
-  after new z = record { main = record { source = new.source; sink = new.tally.sink }; old = z.source }
+  abbrev pub after : Stage → ReaderView → ResumePorts
+  after new z = record { main = record { source = new.reader.source; sink = new.writer.sink }; old = z.source }
 
-  abbrev opened : (a : SourceView) (b : Side) (unlocked : Unlocked) → StartsAt Allows a b unlocked → OpenedFile
+  abbrev opened : (a : SourceView) (b : ReaderView) (unlocked : Unlocked) → StartsAt Allows a b unlocked → OpenedFile
   opened a b unlocked s = record { header = s.header; header_bytes = s.front; key = unlocked.key; nonce = unlocked.nonce }
 
-  reads_of : (a : SourceView) (b : Side) (unlocked : Unlocked) (s : StartsAt Allows a b unlocked) (c : Option (List ℕ)) (rest : List ℕ)
+  reads_of : (a : SourceView) (b : ReaderView) (unlocked : Unlocked) (s : StartsAt Allows a b unlocked) (c : Option (List ℕ)) (rest : List ℕ)
       → Consumes a.remaining c ((s.front ++ unlocked.nonce) ++ rest) → Reads Allows a.remaining c (opened a b unlocked s) rest
   reads_of a b unlocked s c rest read = record { text = s.text; opens = s.opens; size = s.size; read = read }
 
@@ -107,20 +111,20 @@ module _ (keep : Positions) (Allows : Header → List ℕ → Type 0) (Refused :
 
   -- the position was refused
   pub verdict_fails : (old new : ResumePorts) (u : Unread) (unlocked : Unlocked) (fault : FileFault) → Appends old.main.sink.taken new.main.sink.taken []
-      → StartsAt Allows old.main.source (side new.main.source u) unlocked → PositionRefused p unlocked.id unlocked.key unlocked.nonce fault
+      → StartsAt Allows old.main.source (reader_view new.main.source u) unlocked → PositionRefused p unlocked.id unlocked.key unlocked.nonce fault
       → ResumeFails keep Allows p Refused old new 0 None fault
   verdict_fails old new u unlocked OtherFile none s f = (
     (none, refl, refl),
-    opened old.main.source (side new.main.source u) unlocked s,
+    opened old.main.source (reader_view new.main.source u) unlocked s,
     u.bytes,
-    reads_of old.main.source (side new.main.source u) unlocked s new.main.source.remaining u.bytes s.pulled.consumed,
+    reads_of old.main.source (reader_view new.main.source u) unlocked s new.main.source.remaining u.bytes s.pulled.consumed,
     λ own. f (own ∙ sym s.id),
   )
   verdict_fails old new u unlocked PositionForged none s f = (
     (none, refl, refl),
-    opened old.main.source (side new.main.source u) unlocked s,
+    opened old.main.source (reader_view new.main.source u) unlocked s,
     u.bytes,
-    reads_of old.main.source (side new.main.source u) unlocked s new.main.source.remaining u.bytes s.pulled.consumed,
+    reads_of old.main.source (reader_view new.main.source u) unlocked s new.main.source.remaining u.bytes s.pulled.consumed,
     f.0 ∙ s.id,
     f.1,
   )
@@ -130,17 +134,17 @@ module _ (keep : Positions) (Allows : Header → List ℕ → Type 0) (Refused :
   abbrev pub IsVerified : Unlocked → Type 0
   IsVerified unlocked = (p.file_id ≡ unlocked.id) × (p.tag ≡ position_tag (position_key unlocked.key unlocked.nonce) p.index p.file_id p.chain)
 
-  accepts_of : (a : SourceView) (b : Side) (unlocked : Unlocked) (s : StartsAt Allows a b unlocked) → IsVerified unlocked
+  accepts_of : (a : SourceView) (b : ReaderView) (unlocked : Unlocked) (s : StartsAt Allows a b unlocked) → IsVerified unlocked
       → (c : Option (List ℕ)) (rest : List ℕ)
       → Consumes a.remaining c ((s.front ++ unlocked.nonce) ++ rest) → Accepts Allows p a.remaining c (opened a b unlocked s) rest
   accepts_of a b unlocked s v c rest read = record { reads = reads_of a b unlocked s c rest read; own = v.0 ∙ s.id; tagged = v.1 }
 
   -- the file was started, and the old text's pulls are counted on from there
-  module _ (a : SourceView) (unlocked : Unlocked) (s1 : Stage) (u : Unread) (s : StartsAt Allows a (side s1.source u) unlocked) (v : IsVerified unlocked)
-      (same : s1.source.failed ≡ a.failed)
-      (first : Tally) (zero : first.progress.written ≡ 0) (x z : Side) (none : x.unread.bytes ≡ []) (pulls : x.unread.pulls ≡ u.pulls) where
+  module _ (a : SourceView) (unlocked : Unlocked) (s1 : Stage) (u : Unread) (s : StartsAt Allows a (reader_view s1.reader.source u) unlocked)
+      (v : IsVerified unlocked) (same : s1.reader.source.failed ≡ a.failed)
+      (first : WriterView) (zero : first.progress.written ≡ 0) (x z : ReaderView) (none : x.unread.bytes ≡ []) (pulls : x.unread.pulls ≡ u.pulls) where
     abbrev file : OpenedFile
-    file = opened a (side s1.source u) unlocked s
+    file = opened a (reader_view s1.reader.source u) unlocked s
 
     abbrev head : List ℕ
     head = s.front ++ unlocked.nonce
@@ -153,7 +157,7 @@ module _ (keep : Positions) (Allows : Header → List ℕ → Type 0) (Refused :
     old_pulled : (used : List ℕ) → Uses x z used → Pulled (preceded started x.source.remaining) z.source.remaining z.unread.pulls
         (started ++ (used ++ z.unread.bytes))
     old_pulled used uses =
-        let none_used = counted_on a.remaining s1.source.remaining x.source.remaining u.pulls started s.pulled in
+        let none_used = counted_on a.remaining s1.reader.source.remaining x.source.remaining u.pulls started s.pulled in
         let fresh = subst (λ (k : ℕ). Pulled (preceded started x.source.remaining) x.source.remaining k (started ++ [])) (sym pulls) none_used in
         uses (preceded started x.source.remaining) started
         (subst (λ (t : List ℕ). Pulled (preceded started x.source.remaining) x.source.remaining x.unread.pulls (started ++ t)) (sym none) fresh)
@@ -169,14 +173,14 @@ module _ (keep : Positions) (Allows : Header → List ℕ → Type 0) (Refused :
     old_read y h = preceded_consumed started y x.source.remaining z.source.remaining h.consumed
 
     -- the copy of the old text stopped
-    stops_in_old : (out pulled : List ℕ) → Appends first.sink.taken s1.tally.sink.taken out → s1.tally.progress.written ≡ first.progress.written + length out
+    stops_in_old : (out pulled : List ℕ) → Appends first.sink.taken s1.writer.sink.taken out → s1.writer.progress.written ≡ first.progress.written + length out
         → length out < p.index * 65536
         → Consumes x.source.remaining z.source.remaining pulled → IsPrefixOf out pulled
-        → StopsInOld Allows p (before a first x) (after s1 z) s1.tally.progress.written None
+        → StopsInOld Allows p (before a first x) (after s1 z) s1.writer.progress.written None
     stops_in_old out pulled wrote count short read front = record {
       file = file;
       rest = u.bytes;
-      accepts = accepts_of a (side s1.source u) unlocked s v s1.source.remaining u.bytes s.pulled.consumed;
+      accepts = accepts_of a (reader_view s1.reader.source u) unlocked s v s1.reader.source.remaining u.bytes s.pulled.consumed;
       copied = out;
       short = short;
       writes = record {
@@ -190,8 +194,8 @@ module _ (keep : Positions) (Allows : Header → List ℕ → Type 0) (Refused :
       none = refl;
     }
 
-    pub copy_fails : (fault : FileFault) → CopiesText keep 65536 p.index p.chain x z first s1.tally (Err fault)
-        → ResumeFails keep Allows p Refused (before a first x) (after s1 z) s1.tally.progress.written None fault
+    pub copy_fails : (fault : FileFault) → CopiesText keep 65536 p.index p.chain x z first s1.writer (Err fault)
+        → ResumeFails keep Allows p Refused (before a first x) (after s1 z) s1.writer.progress.written None fault
     unfolding stops_in_old
     copy_fails ShortText c =
         let f = c.answered in
@@ -223,7 +227,7 @@ module _ (keep : Positions) (Allows : Header → List ℕ → Type 0) (Refused :
           refl,
           file,
           u.bytes,
-          accepts_of a (side s1.source u) unlocked s v s1.source.remaining u.bytes s.pulled.consumed,
+          accepts_of a (reader_view s1.reader.source u) unlocked s v s1.reader.source.remaining u.bytes s.pulled.consumed,
           c.out,
           record {
             pulled = c.out ++ z.unread.bytes;
@@ -241,8 +245,8 @@ module _ (keep : Positions) (Allows : Header → List ℕ → Type 0) (Refused :
     -- ---- a run that went on behind the old text
 
     -- the old text was copied, and is the position's
-    module _ (c : CopiesText keep 65536 p.index p.chain x z first s1.tally (Ok tt)) (limit : p.index < 281474976710656) (kept : s1.unread.bytes
-        ≡ u.bytes) (on : s1.unread.pulls ≡ z.unread.pulls) where
+    module _ (c : CopiesText keep 65536 p.index p.chain x z first s1.writer (Ok tt)) (limit : p.index < 281474976710656) (kept : s1.reader.unread.bytes
+        ≡ u.bytes) (on : s1.reader.unread.pulls ≡ z.unread.pulls) where
       old_text : IsOldText p c.out
       old_text =
           let f = c.answered in
@@ -258,199 +262,93 @@ module _ (keep : Positions) (Allows : Header → List ℕ → Type 0) (Refused :
       old_is_read : Consumes x.source.remaining z.source.remaining old_bytes
       old_is_read = old_read old_bytes old_used
 
-      pub again : Pulled (preceded old_bytes a.remaining) s1.source.remaining s1.unread.pulls ((old_bytes ++ head) ++ s1.unread.bytes)
+      pub again : Pulled (preceded old_bytes a.remaining) s1.reader.source.remaining s1.reader.unread.pulls ((old_bytes ++ head) ++ s1.reader.unread.bytes)
       again =
-          let back = counted_back a.remaining s1.source.remaining x.source.remaining z.source.remaining u.pulls z.unread.pulls started old_bytes s.pulled
+          let back = counted_back a.remaining s1.reader.source.remaining x.source.remaining z.source.remaining u.pulls z.unread.pulls started old_bytes s.pulled
           old_used in
-          let bytes = ap (λ (t : List ℕ). old_bytes ++ (head ++ t)) (sym kept) ∙ sym (append_assoc old_bytes head s1.unread.bytes) in
-          subst (λ (k : ℕ). Pulled (preceded old_bytes a.remaining) s1.source.remaining k ((old_bytes ++ head) ++ s1.unread.bytes)) (sym on)
-          (subst (λ (t : List ℕ). Pulled (preceded old_bytes a.remaining) s1.source.remaining z.unread.pulls t) bytes back)
+          let bytes = ap (λ (t : List ℕ). old_bytes ++ (head ++ t)) (sym kept) ∙ sym (append_assoc old_bytes head s1.reader.unread.bytes) in
+          subst (λ (k : ℕ). Pulled (preceded old_bytes a.remaining) s1.reader.source.remaining k ((old_bytes ++ head) ++ s1.reader.unread.bytes)) (sym on)
+          (subst (λ (t : List ℕ). Pulled (preceded old_bytes a.remaining) s1.reader.source.remaining z.unread.pulls t) bytes back)
 
-      read_on : (s2 : Stage) (y : List ℕ) → Pulled (preceded old_bytes a.remaining) s2.source.remaining s2.unread.pulls (old_bytes ++ y)
-          → Consumes a.remaining s2.source.remaining y
-      read_on s2 y h = preceded_consumed old_bytes y a.remaining s2.source.remaining h.consumed
+      read_on : (now : ReaderView) (y : List ℕ) → Pulled (preceded old_bytes a.remaining) now.source.remaining now.unread.pulls (old_bytes ++ y)
+          → Consumes a.remaining now.source.remaining y
+      read_on now y h = preceded_consumed old_bytes y a.remaining now.source.remaining h.consumed
 
-      never_end : (s2 : Stage) (y : List ℕ) → Pulled (preceded old_bytes a.remaining) s2.source.remaining s2.unread.pulls (old_bytes ++ y) → s2.unread.pulls
-          ≡ 2 ^ 63 → NeverEnd (before a first x) (after s2 z)
+      never_end : (s2 : Stage) (y : List ℕ) → Pulled (preceded old_bytes a.remaining) s2.reader.source.remaining s2.reader.unread.pulls (old_bytes ++ y)
+          → s2.reader.unread.pulls ≡ 2 ^ 63 → NeverEnd (before a first x) (after s2 z)
       never_end s2 y h all =
           let both = length-append old_bytes y in
-          (y, old_bytes, read_on s2 y h, old_is_read, (omega (arith, h.each_gave, all, both), omega (arith, h.small, all, both)))
+          (y, old_bytes, read_on s2.reader y h, old_is_read, (omega (arith, h.each_gave, all, both), omega (arith, h.small, all, both)))
 
       -- the old text, and no more, was written
-      writes_old : (s2 : Stage) → s2.tally ≡ s1.tally → WritesOld p (before a first x) (after s2 z) s2.tally.progress.written c.out
-      writes_old s2 still =
+      writes_old : (m : ReaderView) → WritesOld p (before a first x) (after (stage m s1.writer) z) s1.writer.progress.written c.out
+      writes_old m =
           let le : length c.out ≤ p.index * 65536 = omega (arith, c.answered.0) in
           let front : IsPrefixOf c.out (c.out ++ z.unread.bytes) = (z.unread.bytes, refl) in
-          let written : s2.tally.progress.written ≡ s1.tally.progress.written = ap (λ (t : Tally). t.progress.written) still in
           record {
             pulled = old_bytes;
             read = old_is_read;
             front = front;
-            wrote = subst (λ (t : Option (List ℕ)). Appends first.sink.taken t c.out) (sym (ap (λ (t : Tally). t.sink.taken) still)) c.wrote;
-            count = omega (arith, c.count, zero, written);
+            wrote = c.wrote;
+            count = omega (arith, c.count, zero);
             of = old_of p x.source.remaining z.source.remaining old_bytes c.out old_is_read front le;
           }
 
       -- the run stopped in the blocks that are skipped
-      stops_in_skipped : (s2 : Stage) (position : Option Position) (skipped : List ℕ) → s2.tally ≡ s1.tally → Told keep (IsSame p) position → length skipped
-          < p.index * 65552
-          → Consumes a.remaining s2.source.remaining (head ++ skipped) → StopsInSkipped keep Allows p (before a first x) (after s2 z) s2.tally.progress.written
-          position skipped
-      stops_in_skipped s2 position skipped still at short read = record {
+      stops_in_skipped : (m : ReaderView) (position : Option Position) (skipped : List ℕ) → Told keep (IsSame p) position → length skipped < p.index * 65552
+          → Consumes a.remaining m.source.remaining (head ++ skipped)
+          → StopsInSkipped keep Allows p (before a first x) (after (stage m s1.writer) z) s1.writer.progress.written position skipped
+      stops_in_skipped m position skipped at short read = record {
         file = file;
-        accepts = accepts_of a (side s1.source u) unlocked s v s2.source.remaining skipped read;
+        accepts = accepts_of a (reader_view s1.reader.source u) unlocked s v m.source.remaining skipped read;
         short = short;
         copied = c.out;
         old_text = old_text;
-        writes = writes_old s2 still;
+        writes = writes_old m;
         here = at;
       }
 
-      dried : (s2 : Stage) (skipped : List ℕ) → s2.unread.bytes ≡ [] → Uses (side_at s1) (side_at s2) skipped
-          → Pulled (preceded old_bytes a.remaining) s2.source.remaining s2.unread.pulls (old_bytes ++ (head ++ skipped))
-      dried s2 skipped empty uses =
+      dried : (m : ReaderView) (skipped : List ℕ) → m.unread.bytes ≡ [] → Uses s1.reader m skipped
+          → Pulled (preceded old_bytes a.remaining) m.source.remaining m.unread.pulls (old_bytes ++ (head ++ skipped))
+      dried m skipped empty uses =
           let bytes = ap (λ (t : List ℕ). (old_bytes ++ head) ++ t) (ap (λ (t : List ℕ). skipped ++ t) empty ∙ append-nil skipped)
           ∙ append_assoc old_bytes head skipped in
-          subst (λ (t : List ℕ). Pulled (preceded old_bytes a.remaining) s2.source.remaining s2.unread.pulls t) bytes
+          subst (λ (t : List ℕ). Pulled (preceded old_bytes a.remaining) m.source.remaining m.unread.pulls t) bytes
           (uses (preceded old_bytes a.remaining) (old_bytes ++ head) again)
 
-      skipped_fails : (s2 : Stage) (position : Option Position) (fault : FileFault) → s2.tally ≡ s1.tally → Told keep (IsSame p) position
-          → SkipFails 65552 p.index (side_at s1) (side_at s2) fault
-          → ResumeFails keep Allows p Refused (before a first x) (after s2 z) s2.tally.progress.written position fault
-      skipped_fails s2 position (Stream fault) still at f =
+      skipped_fails : (m : ReaderView) (position : Option Position) (fault : FileFault) → Told keep (IsSame p) position
+          → SkipFails 65552 p.index s1.reader m fault
+          → ResumeFails keep Allows p Refused (before a first x) (after (stage m s1.writer) z) s1.writer.progress.written position fault
+      skipped_fails m position (Stream fault) at f =
           let e = f.2 in
-          let all = read_on s2 (head ++ e.bytes) (dried s2 e.bytes e.used e.passes.uses) in
-          let more : suc fault.chunk * 65552 ≤ p.index * 65552 = mul-le-mul_right 65552 f.1 in
-          let failed : s2.tally.sink.failed ≡ first.sink.failed = ap (λ (t : Tally). t.sink.failed) still ∙ c.answered.2 in (
+          let all = read_on m (head ++ e.bytes) (dried m e.bytes e.used e.passes.uses) in
+          let more : suc fault.chunk * 65552 ≤ p.index * 65552 = mul-le-mul_right 65552 f.1 in (
             inl (record {
               skipped = e.bytes;
-              stops = stops_in_skipped s2 position e.bytes still at (omega (arith, e.most, more)) all;
+              stops = stops_in_skipped m position e.bytes at (omega (arith, e.most, more)) all;
               kind = f.0;
               least = e.least;
               most = e.most;
               at_end = e.at_end;
             }),
-            ((e.passes.unfailed ∙ same, failed), c.answered.1.unfailed),
+            ((e.passes.unfailed ∙ same, c.answered.2), c.answered.1.unfailed),
           )
-      skipped_fails s2 position Read still at f =
-          let all = read_on s2 (head ++ f.0) (dried s2 f.0 f.2.used f.2.uses) in
-          inr (inr (inl (f.0, stops_in_skipped s2 position f.0 still at f.1 all, subst (λ (m : ℕ). HasRisen m s2.source.failed) same f.2.why)))
-      skipped_fails s2 position ReadNeverEnds still at f =
-          let all = dried s2 f.0 f.2.used f.2.uses in
-          inr (inr (inl (f.0, stops_in_skipped s2 position f.0 still at f.1 (read_on s2 (head ++ f.0) all), never_end s2 (head ++ f.0) all f.2.why.0)))
-      skipped_fails s2 position other still at f = absurd f
-
-      -- what was read and decrypted after the blocks that were skipped
-      record IsDecrypted (s2 : Stage) (result : Result (Unit {0}) FileFault) : Type 0 where
-        run : Run
-        file_is : run.file ≡ file
-        from : IsFrom p x.source z.source run
-        is : IsRun Allows (before a first x).main (after s2 z).main s2.tally.progress.written run
-        pulled : Pulled (preceded old_bytes a.remaining) s2.source.remaining s2.unread.pulls (old_bytes ++ (head ++ (run.skipped ++ run.bytes)))
-        counts : HasCounted keep (unbox run.file.key run.file.nonce) 65536 (held run) (segment_of run) s2.tally.progress
-        mid : Stage
-        read_failed : mid.source.failed ≡ a.failed
-        write_failed : mid.tally.sink.failed ≡ first.sink.failed
-        answered : MatchResult result (λ _. PayloadDone (unbox run.file.key run.file.nonce) 65536 mid s2 (segment_of run) run.out)
-            (PayloadFails (unbox run.file.key run.file.nonce) 65536 mid s2 (segment_of run) run.out)
-
-      decrypted : (key : List ℕ) (s2 : Stage) (result : Result (Unit {0}) FileFault) → key ≡ payload_key unlocked.key unlocked.nonce
-          → DecryptsAfter (λ nonce block. opening key nonce [] block) p.index s1 s2 result → IsDecrypted s2 result
-      decrypted key s2 result key_is b =
-          let q = subst (λ (t : List ℕ). DecryptsPayload (λ nonce block. opening t nonce [] block) 65536 p.index b.mid s2 result) key_is b.decrypts in
-          let front = old_bytes ++ head in
-          let start = preceded old_bytes a.remaining in
-          let after_blocks : Pulled start b.mid.source.remaining b.mid.unread.pulls (front ++ (b.passed ++ b.mid.unread.bytes)) =
-          b.passes.uses start front again in
-          let all : Pulled start s2.source.remaining s2.unread.pulls ((front ++ (b.passed ++ b.mid.unread.bytes)) ++ q.fresh) =
-          q.pulled start (front ++ (b.passed ++ b.mid.unread.bytes)) after_blocks in
-          let parts : (front ++ (b.passed ++ b.mid.unread.bytes)) ++ q.fresh ≡ old_bytes ++ (head ++ (b.passed ++ q.bytes)) =
-          append_assoc front (b.passed ++ b.mid.unread.bytes) q.fresh
-          ∙ (ap (λ (t : List ℕ). front ++ t) (append_assoc b.passed b.mid.unread.bytes q.fresh ∙ ap (λ (t : List ℕ). b.passed ++ t) q.parts)
-          ∙ append_assoc old_bytes head (b.passed ++ q.bytes)) in
-          let pulls : Pulled start s2.source.remaining s2.unread.pulls (old_bytes ++ (head ++ (b.passed ++ q.bytes))) =
-          subst (λ (t : List ℕ). Pulled start s2.source.remaining s2.unread.pulls t) parts all in
-          let wrote : Appends s1.tally.sink.taken s2.tally.sink.taken q.out =
-          subst (λ (t : Option (List ℕ)). Appends t s2.tally.sink.taken q.out) (ap (λ (t : Tally). t.sink.taken) b.same) q.wrote in
-          let written : b.mid.tally.progress.written ≡ s1.tally.progress.written = ap (λ (t : Tally). t.progress.written) b.same in
-          let index : b.mid.tally.progress.index ≡ p.index = ap (λ (t : Tally). t.progress.index) b.same ∙ c.answered.3 in
-          let links : b.mid.tally.progress.chain ≡ chain_if keep (first_chunks 65536 p.index c.out) =
-          ap (λ (t : Tally). t.progress.chain) b.same ∙ c.answered.4 in
-          let read = read_on s2 (head ++ (b.passed ++ q.bytes)) pulls in
-          record {
-            run = record { file = file; first = p.index; copied = c.out; skipped = b.passed; bytes = q.bytes; ended = q.ended; out = q.out };
-            file_is = refl;
-            from = record { index = refl; own = v.0 ∙ s.id; tagged = v.1; old_text = old_text; more = z.unread.bytes; old_read = old_is_read };
-            is = record {
-              reads = reads_of a (side s1.source u) unlocked s s2.source.remaining (b.passed ++ q.bytes) read;
-              copied_size = c.answered.0;
-              skipped_size = b.size;
-              at_end = q.at_end;
-              wrote = Appends-then first.sink.taken s1.tally.sink.taken s2.tally.sink.taken c.out q.out c.wrote wrote;
-              count = omega (arith, q.count, written, c.count, zero, length-append c.out q.out);
-              prefix = q.prefix;
-            };
-            pulled = pulls;
-            counts = q.counts keep c.out c.answered.0 index links;
-            mid = b.mid;
-            read_failed = b.passes.unfailed ∙ same;
-            write_failed = ap (λ (t : Tally). t.sink.failed) b.same ∙ c.answered.2;
-            answered = q.answered;
-          }
-
-      first_fits : (s2 : Stage) (result : Result (Unit {0}) FileFault) (b : IsDecrypted s2 result) → b.run.first < 281474976710656
-      first_fits s2 result b = omega (arith, b.from.index, limit)
-
-      decrypted_fails : (s2 : Stage) (position : Option Position) (fault : FileFault) (b : IsDecrypted s2 (Err fault))
-          → Told keep (IsPositionOf b.run) position
-          → PayloadFails (unbox b.run.file.key b.run.file.nonce) 65536 b.mid s2 (segment_of b.run) b.run.out fault
-          → ResumeFails keep Allows p Refused (before a first x) (after s2 z) s2.tally.progress.written position fault
-      decrypted_fails s2 position (Stream fault) b h f =
-          let of = writes_of b.run (first_fits s2 (Err (Stream fault)) b) b.is.prefix in (
-            inr (b.run, b.from, (record { is = b.is; whole = f.1; of = of }, h), f.0),
-            ((f.2.0 ∙ b.read_failed, f.2.1 ∙ b.write_failed), c.answered.1.unfailed),
-          )
-      decrypted_fails s2 position Write b h f = (
-        inr (b.run, b.from, (b.is, writes_of b.run (first_fits s2 (Err Write) b) b.is.prefix, h)),
-        subst (λ (m : ℕ). HasRisen m s2.tally.sink.failed) b.write_failed f,
-      )
-      decrypted_fails s2 position Read b h f =
-          let of = writes_of b.run (first_fits s2 (Err Read) b) b.is.prefix in
-          let why = subst (λ (m : ℕ). HasRisen m s2.source.failed) b.read_failed f.1 in
-          inr (inr (inr (b.run, b.from, (record { is = b.is; whole = f.0; of = of }, h), why)))
-      decrypted_fails s2 position ReadNeverEnds b h f =
-          let of = writes_of b.run (first_fits s2 (Err ReadNeverEnds) b) b.is.prefix in
-          let why = never_end s2 (head ++ (b.run.skipped ++ b.run.bytes)) b.pulled f.1 in
-          inr (inr (inr (b.run, b.from, (record { is = b.is; whole = f.0; of = of }, h), why)))
-      decrypted_fails s2 position other b h f = absurd f
-
-      -- ---- the whole run
-
-      pub resume_done : (key : List ℕ) (s2 : Stage) → key ≡ payload_key unlocked.key unlocked.nonce
-          → ResumesPayload (λ nonce block. opening key nonce [] block) p.index s1 s2 (Ok tt)
-          → (r : Run) × IsFrom p x.source z.source r × IsDone Allows (before a first x).main (after s2 z).main s2.tally.progress.written r
-          × NoPortFailed (before a first x) (after s2 z)
-      resume_done key s2 key_is (inl stopped) = (let clash : Ok tt ≡ Err stopped.fault = stopped.is in absurd cc)
-      resume_done key s2 key_is (inr after_blocks) =
-          let b = decrypted key s2 (Ok tt) key_is after_blocks in
-          let f = b.answered in
-          let fits = first_fits s2 (Ok tt) b in (
-            b.run,
-            b.from,
-            record {
-              wrote = record { is = b.is; whole = f.2; of = writes_of b.run fits b.is.prefix };
-              ended = f.0;
-              done = f.1;
-              all = writes_all b.run fits f.2 f.1;
-            },
-            ((f.3.0 ∙ b.read_failed, f.3.1 ∙ b.write_failed), c.answered.1.unfailed),
-          )
+      skipped_fails m position Read at f =
+          let all = read_on m (head ++ f.0) (dried m f.0 f.2.used f.2.uses) in
+          inr (inr (inl (f.0, stops_in_skipped m position f.0 at f.1 all, subst (λ (k : ℕ). HasRisen k m.source.failed) same f.2.why)))
+      skipped_fails m position ReadNeverEnds at f =
+          let all = dried m f.0 f.2.used f.2.uses in
+          inr (inr (inl (
+            f.0,
+            stops_in_skipped m position f.0 at f.1 (read_on m (head ++ f.0) all),
+            never_end (stage m s1.writer) (head ++ f.0) all f.2.why.0,
+          )))
+      skipped_fails m position other at f = absurd f
 
       -- the position is that from which the run began, where nothing was decrypted
-      same_position : (s2 : Stage) (next : Position) → s2.tally ≡ s1.tally
-          → IsPositionAt unlocked s2.tally.progress.index (chain (first_chunks 65536 p.index c.out)) next → IsSame p next
-      same_position s2 next still h =
-          let index : next.index ≡ p.index = h.index_is ∙ (ap (λ (t : Tally). t.progress.index) still ∙ c.answered.3) in
+      same_position : (next : Position) → IsPositionAt unlocked s1.writer.progress.index (chain (first_chunks 65536 p.index c.out)) next → IsSame p next
+      same_position next h =
+          let index : next.index ≡ p.index = h.index_is ∙ c.answered.3 in
           let id : next.file_id ≡ p.file_id = h.file_id_is ∙ sym v.0 in
           let links : next.chain ≡ p.chain = h.chain_is ∙ c.answered.5 in
           record {
@@ -461,30 +359,155 @@ module _ (keep : Positions) (Allows : Header → List ℕ → Type 0) (Refused :
                 (sym id) (sym links) h.tag_is ∙ sym v.1;
           }
 
-      told_same : (how : Positions) (s2 : Stage) (position : Option Position) → s2.tally ≡ s1.tally
-          → PositionAt unlocked s2.tally.progress.index (chain_if how (first_chunks 65536 p.index c.out)) position → Told how (IsSame p) position
-      told_same Kept s2 (Some next) still at = same_position s2 next still at
-      told_same Kept s2 None still at = absurd at
-      told_same Dropped s2 position still at = at
+      told_same : (how : Positions) (position : Option Position)
+          → PositionAt unlocked s1.writer.progress.index (chain_if how (first_chunks 65536 p.index c.out)) position → Told how (IsSame p) position
+      told_same Kept (Some next) at = same_position next at
+      told_same Kept None at = absurd at
+      told_same Dropped position at = at
 
-      pub resume_fails : (key : List ℕ) (s2 : Stage) (position : Option Position) (fault : FileFault) → key ≡ payload_key unlocked.key unlocked.nonce
-          → PositionAt unlocked s2.tally.progress.index s2.tally.progress.chain position
-          → ResumesPayload (λ nonce block. opening key nonce [] block) p.index s1 s2 (Err fault)
-          → ResumeFails keep Allows p Refused (before a first x) (after s2 z) s2.tally.progress.written position fault
-      resume_fails key s2 position fault key_is at (inl stopped) =
-          let is : Err fault ≡ Err stopped.fault = stopped.is in
-          let e : stopped.fault ≡ fault = cc in
-          let links : s2.tally.progress.chain ≡ chain_if keep (first_chunks 65536 p.index c.out) = ap (λ (t : Tally). t.progress.chain) stopped.same
-          ∙ c.answered.4 in
-          skipped_fails s2 position fault stopped.same
-          (told_same keep s2 position stopped.same (subst (λ (l : Option (List ℕ)). PositionAt unlocked s2.tally.progress.index l position) links at))
-          (subst (λ (f : FileFault). SkipFails 65552 p.index (side_at s1) (side_at s2) f) e stopped.fails)
-      resume_fails key s2 position fault key_is at (inr after_blocks) =
-          let b = decrypted key s2 (Err fault) key_is after_blocks in
-          let links = subst (λ (l : Option (List ℕ)). PositionAt unlocked s2.tally.progress.index l position) b.counts.chain_is at in
-          let key_of = ap (λ (f : OpenedFile). f.key) b.file_is in
-          let nonce_of = ap (λ (f : OpenedFile). f.nonce) b.file_is in
-          let id = s.id ∙ ap (λ (f : OpenedFile). file_id f.header_bytes f.nonce) (sym b.file_is) in
-          let told = told_is keep b.run unlocked s2.tally.progress.index position (first_fits s2 (Err fault) b) key_of nonce_of id b.is.prefix
-          b.counts.index links in
-          decrypted_fails s2 position fault b told b.answered
+      -- the blocks before were not all passed over
+      pub skip_stopped : OneHeader → (m : ReaderView) (fault : FileFault) (result : Result Done Stopped) → EndsAs unlocked s1.writer.progress (Err fault) result
+          → SkipFails 65552 p.index s1.reader m fault → ResumesText keep Allows Refused p (before a first x) (after (stage m s1.writer) z) result
+      skip_stopped one m fault result (next, at, is) f =
+          let told = told_same keep next (subst (λ (l : Option (List ℕ)). PositionAt unlocked s1.writer.progress.index l next) c.answered.4 at) in
+          let fails = skipped_fails m next fault told f in
+          let old = before a first x in
+          let new = after (stage m s1.writer) z in
+          subst (λ (r : Result Done Stopped). ResumesText keep Allows Refused p old new r) (sym is)
+          (record {
+            done = tt;
+            stopped = fails;
+            undamaged = λ text whole. undamaged_rest one Allows Refused p old new text whole keep s1.writer.progress.written next fault fails;
+            settled = tt;
+            named = c.named;
+          })
+
+      -- they were
+      module _ (m : ReaderView) (passed : List ℕ) (size : length passed ≡ p.index * 65552) (passes : Passes s1.reader m passed) where
+        after_blocks : Pulled (preceded old_bytes a.remaining) m.source.remaining m.unread.pulls ((old_bytes ++ head) ++ (passed ++ m.unread.bytes))
+        after_blocks = passes.uses (preceded old_bytes a.remaining) (old_bytes ++ head) again
+
+        -- there is room for what is behind them
+        pub place_after : HasPlace (stage m s1.writer)
+        place_after =
+            let all = after_blocks in
+            let both = length-append (old_bytes ++ head) (passed ++ m.unread.bytes) in
+            (omega (arith, all.small, both, length-append passed m.unread.bytes, c.count, zero, c.answered.0, limit), all.most)
+
+        -- what was read and decrypted behind them
+        record IsDecrypted (s2 : Stage) (result : Result (Unit {0}) FileFault) : Type 0 where
+          run : Run
+          file_is : run.file ≡ file
+          from : IsFrom p x.source z.source run
+          is : IsRun Allows (before a first x).main (after s2 z).main s2.writer.progress.written run
+          pulled : Pulled (preceded old_bytes a.remaining) s2.reader.source.remaining s2.reader.unread.pulls
+              (old_bytes ++ (head ++ (run.skipped ++ run.bytes)))
+          counts : HasCounted keep (unbox run.file.key run.file.nonce) 65536 (held run) (segment_of run) s2.writer.progress
+          answered : MatchResult result (λ _. PayloadDone (unbox run.file.key run.file.nonce) 65536 (stage m s1.writer) s2 (segment_of run) run.out)
+              (PayloadFails (unbox run.file.key run.file.nonce) 65536 (stage m s1.writer) s2 (segment_of run) run.out)
+          named : s2.writer.sink.label ≡ first.sink.label
+
+        decrypted : (key : List ℕ) (s2 : Stage) (result : Result (Unit {0}) FileFault) → key ≡ payload_key unlocked.key unlocked.nonce
+            → DecryptsPayload (λ nonce block. opening key nonce [] block) 65536 p.index (stage m s1.writer) s2 result → IsDecrypted s2 result
+        decrypted key s2 result key_is b =
+            let q = subst (λ (t : List ℕ). DecryptsPayload (λ nonce block. opening t nonce [] block) 65536 p.index (stage m s1.writer) s2 result) key_is b in
+            let front = old_bytes ++ head in
+            let start = preceded old_bytes a.remaining in
+            let all : Pulled start s2.reader.source.remaining s2.reader.unread.pulls ((front ++ (passed ++ m.unread.bytes)) ++ q.fresh) =
+            q.pulled start (front ++ (passed ++ m.unread.bytes)) after_blocks in
+            let parts : (front ++ (passed ++ m.unread.bytes)) ++ q.fresh ≡ old_bytes ++ (head ++ (passed ++ q.bytes)) =
+            append_assoc front (passed ++ m.unread.bytes) q.fresh
+            ∙ (ap (λ (t : List ℕ). front ++ t) (append_assoc passed m.unread.bytes q.fresh ∙ ap (λ (t : List ℕ). passed ++ t) q.parts)
+            ∙ append_assoc old_bytes head (passed ++ q.bytes)) in
+            let pulls : Pulled start s2.reader.source.remaining s2.reader.unread.pulls (old_bytes ++ (head ++ (passed ++ q.bytes))) =
+            subst (λ (t : List ℕ). Pulled start s2.reader.source.remaining s2.reader.unread.pulls t) parts all in
+            let read = read_on s2.reader (head ++ (passed ++ q.bytes)) pulls in
+            record {
+              run = record { file = file; first = p.index; copied = c.out; skipped = passed; bytes = q.bytes; ended = q.ended; out = q.out };
+              file_is = refl;
+              from = record { index = refl; own = v.0 ∙ s.id; tagged = v.1; old_text = old_text; more = z.unread.bytes; old_read = old_is_read };
+              is = record {
+                reads = reads_of a (reader_view s1.reader.source u) unlocked s s2.reader.source.remaining (passed ++ q.bytes) read;
+                copied_size = c.answered.0;
+                skipped_size = size;
+                at_end = q.at_end;
+                wrote = Appends-then first.sink.taken s1.writer.sink.taken s2.writer.sink.taken c.out q.out c.wrote q.wrote;
+                count = omega (arith, q.count, c.count, zero, length-append c.out q.out);
+                prefix = q.prefix;
+              };
+              pulled = pulls;
+              counts = q.counts keep c.out c.answered.0 c.answered.3 c.answered.4;
+              answered = q.answered;
+              named = q.named ∙ c.named;
+            }
+
+        first_fits : (s2 : Stage) (result : Result (Unit {0}) FileFault) (b : IsDecrypted s2 result) → b.run.first < 281474976710656
+        first_fits s2 result b = omega (arith, b.from.index, limit)
+
+        decrypted_fails : (s2 : Stage) (position : Option Position) (fault : FileFault) (b : IsDecrypted s2 (Err fault))
+            → Told keep (IsPositionOf b.run) position
+            → PayloadFails (unbox b.run.file.key b.run.file.nonce) 65536 (stage m s1.writer) s2 (segment_of b.run) b.run.out fault
+            → ResumeFails keep Allows p Refused (before a first x) (after s2 z) s2.writer.progress.written position fault
+        decrypted_fails s2 position (Stream fault) b h f =
+            let of = writes_of b.run (first_fits s2 (Err (Stream fault)) b) b.is.prefix in (
+              inr (b.run, b.from, (record { is = b.is; whole = f.1; of = of }, h), f.0),
+              ((f.2.0 ∙ (passes.unfailed ∙ same), f.2.1 ∙ c.answered.2), c.answered.1.unfailed),
+            )
+        decrypted_fails s2 position Write b h f = (
+          inr (b.run, b.from, (b.is, writes_of b.run (first_fits s2 (Err Write) b) b.is.prefix, h)),
+          subst (λ (k : ℕ). HasRisen k s2.writer.sink.failed) c.answered.2 f,
+        )
+        decrypted_fails s2 position Read b h f =
+            let of = writes_of b.run (first_fits s2 (Err Read) b) b.is.prefix in
+            let why = subst (λ (k : ℕ). HasRisen k s2.reader.source.failed) (passes.unfailed ∙ same) f.1 in
+            inr (inr (inr (b.run, b.from, (record { is = b.is; whole = f.0; of = of }, h), why)))
+        decrypted_fails s2 position ReadNeverEnds b h f =
+            let of = writes_of b.run (first_fits s2 (Err ReadNeverEnds) b) b.is.prefix in
+            let why = never_end s2 (head ++ (b.run.skipped ++ b.run.bytes)) b.pulled f.1 in
+            inr (inr (inr (b.run, b.from, (record { is = b.is; whole = f.0; of = of }, h), why)))
+        decrypted_fails s2 position other b h f = absurd f
+
+        -- the whole run
+        pub rest_ended : OneHeader → (key : List ℕ) (s2 : Stage) (run : Result (Unit {0}) FileFault) (result : Result Done Stopped)
+            → key ≡ payload_key unlocked.key unlocked.nonce
+            → DecryptsPayload (λ nonce block. opening key nonce [] block) 65536 p.index (stage m s1.writer) s2 run → OnOk run (s2.writer.sink.settled ≡ true)
+            → EndsAs unlocked s2.writer.progress run result → ResumesText keep Allows Refused p (before a first x) (after s2 z) result
+        rest_ended one key s2 (Ok done) result key_is d settled is =
+            let b = decrypted key s2 (Ok done) key_is d in
+            let f = b.answered in
+            let fits = first_fits s2 (Ok done) b in
+            let old = before a first x in
+            let new = after s2 z in
+            let all : IsDone Allows old.main new.main s2.writer.progress.written b.run = record {
+              wrote = record { is = b.is; whole = f.2; of = writes_of b.run fits b.is.prefix };
+              ended = f.0;
+              done = f.1;
+              all = writes_all b.run fits f.2 f.1;
+            } in
+            subst (λ (r : Result Done Stopped). ResumesText keep Allows Refused p old new r) (sym is)
+            (record {
+              done = (b.run, b.from, all, ((f.3.0 ∙ (passes.unfailed ∙ same), f.3.1 ∙ c.answered.2), c.answered.1.unfailed));
+              stopped = tt;
+              undamaged = λ text whole. undamaged_rest_done one Allows Refused p old new text whole s2.writer.progress.written b.run b.from all;
+              settled = settled;
+              named = b.named;
+            })
+        rest_ended one key s2 (Err fault) result key_is d settled (next, at, is) =
+            let b = decrypted key s2 (Err fault) key_is d in
+            let links = subst (λ (l : Option (List ℕ)). PositionAt unlocked s2.writer.progress.index l next) b.counts.chain_is at in
+            let key_of = ap (λ (f : OpenedFile). f.key) b.file_is in
+            let nonce_of = ap (λ (f : OpenedFile). f.nonce) b.file_is in
+            let id = s.id ∙ ap (λ (f : OpenedFile). file_id f.header_bytes f.nonce) (sym b.file_is) in
+            let told = told_is keep b.run unlocked s2.writer.progress.index next (first_fits s2 (Err fault) b) key_of nonce_of id b.is.prefix
+            b.counts.index links in
+            let fails = decrypted_fails s2 next fault b told b.answered in
+            let old = before a first x in
+            let new = after s2 z in
+            subst (λ (r : Result Done Stopped). ResumesText keep Allows Refused p old new r) (sym is)
+            (record {
+              done = tt;
+              stopped = fails;
+              undamaged = λ text whole. undamaged_rest one Allows Refused p old new text whole keep s2.writer.progress.written next fault fails;
+              settled = tt;
+              named = b.named;
+            })

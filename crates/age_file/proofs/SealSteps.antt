@@ -15,7 +15,7 @@ use Rattle.age_stream.specs.Sealing.{SealerView, Holds, step_len, needs_too_many
 use Rattle.age_stream.specs.Lent.{chunk_bytes}
 use Rattle.age_stream.proofs.PublicLaws.{payload_is_longer}
 use Rattle.age_file.specs.Faults.{HasRisen}
-use Rattle.age_file.specs.inner.Releases.{Tally}
+use Rattle.age_file.specs.inner.Readers.{WriterView}
 use Rattle.age_file.specs.inner.Seals.{front_of, IsTooLong, SealsSome, GoesOn, SealFails, HasRoom, Wrote}
 use Rattle.age_file.specs.declared.fault.FileFault.{FileFault}
 use Rattle.age_file.specs.declared.fault.FileFault.TheVariants.{Head, Key, NonceCut, Stream, BadPosition, OtherFile, ShortText, Read, Write, Memory}
@@ -50,7 +50,7 @@ too_long n s piece positive limit text holds =
     omega (arith, limit.more, before, exact, positive, length-append text piece)
 
 -- the front of a piece that a sealer took, where what it lent was written but for a part that wasn't
-pub some_sealed : {B : Type 0} (sealing : B → List ℕ → List ℕ → List ℕ) (n : ℕ) (old new : SealerView B) (was now : Tally) (piece : List ℕ) (taken : ℕ)
+pub some_sealed : {B : Type 0} (sealing : B → List ℕ → List ℕ → List ℕ) (n : ℕ) (old new : SealerView B) (was now : WriterView) (piece : List ℕ) (taken : ℕ)
     (chunk : Option (Bor (List ℕ))) (out unwritten : List ℕ)
     → chunk_bytes chunk ≡ out ++ unwritten → Wrote was now out
     → ((text : List ℕ) → Holds n old text → front_of (sealing old.key) n (text ++ take taken piece) ≡ front_of (sealing old.key) n text ++ chunk_bytes chunk)
@@ -75,7 +75,7 @@ module _ {B : Type 0} (sealing : B → List ℕ → List ℕ → List ℕ) (n : 
       }
 
   -- what a piece's front gave, and then what of the rest
-  pub some_then : (a b c : SealerView B) (was mid now : Tally) (front rest fed left unwritten : List ℕ)
+  pub some_then : (a b c : SealerView B) (was mid now : WriterView) (front rest fed left unwritten : List ℕ)
       → SealsSome sealing n a b was mid front front [] [] → GoesOn sealing n a b front → SealsSome sealing n b c mid now rest fed left unwritten
       → SealsSome sealing n a c was now (front ++ rest) (front ++ fed) left unwritten
   some_then a b c was mid now front rest fed left unwritten p goes q =
@@ -100,12 +100,12 @@ module _ {B : Type 0} (sealing : B → List ℕ → List ℕ → List ℕ) (n : 
       }
 
   -- only the part that was fed
-  pub fed_alone : (a b : SealerView B) (was now : Tally) (piece fed left unwritten : List ℕ) → SealsSome sealing n a b was now piece fed left unwritten
+  pub fed_alone : (a b : SealerView B) (was now : WriterView) (piece fed left unwritten : List ℕ) → SealsSome sealing n a b was now piece fed left unwritten
       → SealsSome sealing n a b was now fed fed [] unwritten
   fed_alone a b was now piece fed left unwritten p = record { out = p.out; parts = sym (append-nil fed); wrote = p.wrote; blocks = p.blocks }
 
   -- the rest of a piece, as a slice has it
-  pub next_some : (a b c : SealerView B) (was mid now : Tally) (piece : List ℕ) (at : ℕ) (fed left unwritten : List ℕ)
+  pub next_some : (a b c : SealerView B) (was mid now : WriterView) (piece : List ℕ) (at : ℕ) (fed left unwritten : List ℕ)
       → SealsSome sealing n a b was mid (take at piece) (take at piece) [] [] → GoesOn sealing n a b (take at piece)
       → SealsSome sealing n b c mid now (take (length piece - at) (drop at piece)) fed left unwritten
       → SealsSome sealing n a c was now piece (take at piece ++ fed) left unwritten
@@ -121,7 +121,7 @@ module _ {B : Type 0} (sealing : B → List ℕ → List ℕ → List ℕ) (n : 
       let e : fed ≡ take taken (drop at piece) = sym (take_at fed left taken (sym len)) ∙ ap (take taken) (sym parts ∙ take_rest piece at) in
       ap (λ (t : List ℕ). take at piece ++ t) e ∙ sym (take-add at taken piece)
 
-  pub fails_then : (a b : SealerView B) (was mid now : Tally) (front rest : List ℕ) (fault : FileFault) → mid.sink.failed ≡ was.sink.failed
+  pub fails_then : (a b : SealerView B) (was mid now : WriterView) (front rest : List ℕ) (fault : FileFault) → mid.sink.failed ≡ was.sink.failed
       → GoesOn sealing n a b front
       → SealFails sealing n b mid now rest fault → SealFails sealing n a was now (front ++ rest) fault
   fails_then a b was mid now front rest (Stream fault) same goes f =
@@ -151,7 +151,7 @@ module _ (sealing : List ℕ → List ℕ → List ℕ) (opening : List ℕ → 
 
 -- after a piece's front the count of what was written has room for a block
 pub room_left : {B : Type 0} (sealing : B → List ℕ → List ℕ → List ℕ) (opening : List ℕ → List ℕ → Option (List ℕ)) (n : ℕ) (a b : SealerView B)
-    (was now : Tally) (piece : List ℕ) (at : ℕ)
+    (was now : WriterView) (piece : List ℕ) (at : ℕ)
     → IsChunkBox (sealing a.key) opening → n + 16 ≤ 65552 → HasRoom sealing n a was.progress.written (length piece)
     → SealsSome sealing n a b was now (take at piece) (take at piece) [] [] → now.progress.written ≤ 2 ^ 127
 room_left sealing opening n a b was now piece at valid most room some =

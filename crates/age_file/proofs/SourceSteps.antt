@@ -10,10 +10,9 @@ use Rattle.age_stream.specs.Payload.{pair, block_bytes, payload, sealed_before_l
 use Rattle.age_stream.specs.Sealing.{SealerView, Holds}
 use Rattle.age_stream.proofs.PublicLaws.{sealed_grows}
 use Rattle.age_file.specs.Faults.{HasRisen}
-use Rattle.age_file.specs.inner.Unread.{Side}
+use Rattle.age_file.specs.inner.Readers.{ReaderView, WriterView}
 use Rattle.age_file.specs.inner.Intakes.{PullFails}
 use Rattle.age_file.specs.Ports.{Ports}
-use Rattle.age_file.specs.inner.Releases.{Tally}
 use Rattle.age_file.specs.inner.Seals.{front_of, SealsSome, GoesOn, SealFails, SealingFails, Wrote}
 use Rattle.age_file.specs.declared.fault.FileFault.{FileFault}
 use Rattle.age_file.specs.declared.fault.FileFault.TheVariants.{Head, Key, NonceCut, Stream, BadPosition, OtherFile, ShortText, Read, Write, Memory}
@@ -35,8 +34,8 @@ zero_div n positive = omega arith
 pub no_front : (sealing : List ℕ → List ℕ → List ℕ) (n : ℕ) → 0 < n → front_of sealing n [] ≡ []
 no_front sealing n positive = ap (λ (q : ℕ). block_bytes (map (pair sealing false) (enumerate_from 0 (first_chunks n q [])))) (zero_div n positive)
 
-module _ {B : Type 0} (sealing : B → List ℕ → List ℕ → List ℕ) (n : ℕ) (a b d : SealerView B) (was mid now : Tally) (text piece fed left unwritten : List ℕ)
-    (goes : GoesOn sealing n a b text) (fresh : Holds n a []) (wrote : Wrote was mid (front_of (sealing a.key) n text))
+module _ {B : Type 0} (sealing : B → List ℕ → List ℕ → List ℕ) (n : ℕ) (a b d : SealerView B) (was mid now : WriterView)
+    (text piece fed left unwritten : List ℕ) (goes : GoesOn sealing n a b text) (fresh : Holds n a []) (wrote : Wrote was mid (front_of (sealing a.key) n text))
     (some : SealsSome sealing n b d mid now piece fed left unwritten) (positive : 0 < n) where
   -- the blocks that the piece brought
   brought : front_of (sealing a.key) n (text ++ fed) ≡ front_of (sealing a.key) n text ++ (some.out ++ unwritten)
@@ -79,7 +78,7 @@ module _ {B : Type 0} (sealing : B → List ℕ → List ℕ → List ℕ) (n : 
       (front_of key n text ++ some.out, both, prefix_trans _ _ _ first second)
 
 -- why no more came
-pub pull_fails : (n : ℕ) (old new : Ports) (text : List ℕ) (x z : Side) (fault : FileFault) → x.source.failed ≡ old.source.failed → new.source.failed
+pub pull_fails : (n : ℕ) (old new : Ports) (text : List ℕ) (x z : ReaderView) (fault : FileFault) → x.source.failed ≡ old.source.failed → new.source.failed
     ≡ z.source.failed → z.unread.pulls ≤ length text
     → PullFails x z fault → SealingFails n old new text fault
 pull_fails n old new text x z Read same is gave f = subst (λ (k : ℕ). HasRisen k new.source.failed) same
@@ -98,8 +97,8 @@ pull_fails n old new text x z PositionForged same is gave f = absurd f
 pull_fails n old new text x z OldTextDiffers same is gave f = absurd f
 
 -- why a piece wasn't sealed
-pub seal_fails : {B : Type 0} (sealing : B → List ℕ → List ℕ → List ℕ) (n : ℕ) (a b : SealerView B) (old new : Ports) (was now : Tally) (text piece : List ℕ)
-    (fault : FileFault)
+pub seal_fails : {B : Type 0} (sealing : B → List ℕ → List ℕ → List ℕ) (n : ℕ) (a b : SealerView B) (old new : Ports) (was now : WriterView)
+    (text piece : List ℕ) (fault : FileFault)
     → was.sink.failed ≡ old.sink.failed → new.sink.failed ≡ now.sink.failed → GoesOn sealing n a b text → Holds n a []
     → SealFails sealing n b was now piece fault → SealingFails n old new (text ++ piece) fault
 seal_fails sealing n a b old new was now text piece (Stream fault) same is goes fresh f = (f.0 text (goes.holds [] fresh), f.1)
@@ -119,7 +118,7 @@ seal_fails sealing n a b old new was now text piece OldTextDiffers same is goes 
 
 -- ---- the last block
 
-module _ {B : Type 0} (sealing : B → List ℕ → List ℕ → List ℕ) (n : ℕ) (a b : SealerView B) (was mid now : Tally) (text : List ℕ)
+module _ {B : Type 0} (sealing : B → List ℕ → List ℕ → List ℕ) (n : ℕ) (a b : SealerView B) (was mid now : WriterView) (text : List ℕ)
     (key : b.key ≡ a.key) (holds : Holds n b text) (wrote : Wrote was mid (front_of (sealing a.key) n text)) (out unwritten : List ℕ) (last : Wrote mid now out)
     (blocks : (t : List ℕ) → Holds n b t → payload (sealing b.key) n t ≡ front_of (sealing b.key) n t ++ (out ++ unwritten)) where
   whole : payload (sealing a.key) n text ≡ (front_of (sealing a.key) n text ++ out) ++ unwritten

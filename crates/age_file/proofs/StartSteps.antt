@@ -11,7 +11,8 @@ use Rattle.age_keys.specs.declared.fault.KeyFault.{KeyFault}
 use Rattle.age_keys.specs.declared.fault.KeyFault.TheVariants.{ScryptNotAlone, BadScrypt, WorkTooHigh, NoMatch, WrongKey, MacMismatch, BadX25519}
 use Rattle.age_keys.specs.declared.fault.KeyFault.TheVariants.{Memory as KeyMemory}
 use Rattle.age_keys.specs.Opened.{Opens, Refuses}
-use Rattle.age_file.specs.inner.Unread.{Unread, Side, side}
+use Rattle.age_file.specs.inner.Unread.{Unread}
+use Rattle.age_file.specs.inner.Readers.{ReaderView, reader_view}
 use Rattle.age_file.specs.inner.Intakes.{Pulled, PullFails}
 use Rattle.age_file.specs.Faults.{HasRisen, HeadFails, IsShort, StopsAtHeader}
 use Rattle.age_file.specs.inner.Faults.{IsInHeader, fault_of_key}
@@ -21,7 +22,7 @@ use Rattle.age_file.specs.declared.fault.FileFault.{FileFault}
 use Rattle.age_file.specs.declared.fault.FileFault.TheVariants.{Head, NonceCut, Read, Memory, ReadNeverEnds}
 use Rattle.age_file.proofs.Bytes.{cut_pulled, head_pulled}
 
-pub uses_then : (x y z : Side) (p q r : List ℕ) → p ++ q ≡ r → Uses x y p → Uses y z q → Uses x z r
+pub uses_then : (x y z : ReaderView) (p q r : List ℕ) → p ++ q ≡ r → Uses x y p → Uses y z q → Uses x z r
 uses_then x y z p q r e f g = λ start used h.
     let first = subst (λ (t : List ℕ). Pulled start y.source.remaining y.unread.pulls t) (sym (append_assoc used p y.unread.bytes)) (f start used h) in
     let e' : (used ++ p) ++ (q ++ z.unread.bytes) ≡ used ++ (r ++ z.unread.bytes) =
@@ -30,13 +31,13 @@ uses_then x y z p q r e f g = λ start used h.
     subst (λ (t : List ℕ). Pulled start z.source.remaining z.unread.pulls t) e' (g start (used ++ p) first)
 
 pub uses_front : (v : SourceView) (x y : Unread) (piece : List ℕ) (n : ℕ) → y.pulls ≡ x.pulls → piece ≡ x.bytes → y.bytes ≡ drop n x.bytes
-    → Uses (side v x) (side v y) (take n piece)
+    → Uses (reader_view v x) (reader_view v y) (take n piece)
 uses_front v x y piece n pulls is rest = λ start used h.
     subst (λ (t : List ℕ). Pulled start v.remaining y.pulls t) (append_assoc used (take n piece) y.bytes)
     (head_pulled start v.remaining x y used piece n pulls is rest h)
 
 -- no byte came for the rest of a nonce
-pub nonce_fails : (x y z : Side) (p : List ℕ) (fault : FileFault) → length p < 16 → y.source.failed ≡ x.source.failed → Uses x y p → Uses y z []
+pub nonce_fails : (x y z : ReaderView) (p : List ℕ) (fault : FileFault) → length p < 16 → y.source.failed ≡ x.source.failed → Uses x y p → Uses y z []
     → z.unread.bytes ≡ [] → PullFails y z fault → NonceFails x z fault
 nonce_fails x y z p Read lt e f g none h = ((p, lt, uses_then x y z p [] p (append-nil p) f g, none), subst (λ (m : ℕ). HasRisen m z.source.failed) e h)
 nonce_fails x y z p ReadNeverEnds lt e f g none h = ((p, lt, uses_then x y z p [] p (append-nil p) f g, none), h.0)
@@ -79,13 +80,13 @@ module _ (Allows : Header → List ℕ → Type 0) (Refused : Header → KeyFaul
   key_to_start a b h front rest BadX25519 stops text consumed refuses = (h, front, rest, text, consumed, λ e. cc, refuses)
 
   -- what was pulled where a nonce fell short
-  short_pulled : (a : Option (List ℕ)) (y z : Side) (front : List ℕ) (u : UsesShort y z) → Pulled a y.source.remaining y.unread.pulls (front ++ y.unread.bytes)
-      → Pulled a z.source.remaining z.unread.pulls (front ++ u.0)
+  short_pulled : (a : Option (List ℕ)) (y z : ReaderView) (front : List ℕ) (u : UsesShort y z)
+      → Pulled a y.source.remaining y.unread.pulls (front ++ y.unread.bytes) → Pulled a z.source.remaining z.unread.pulls (front ++ u.0)
   short_pulled a y z front u p =
       cut_pulled a z.source.remaining z.unread.pulls (front ++ u.0) z.unread.bytes u.3
       (subst (λ (t : List ℕ). Pulled a z.source.remaining z.unread.pulls t) (sym (append_assoc front u.0 z.unread.bytes)) (u.2 a front p))
 
-  pub nonce_to_start : OneHeader → (a : SourceView) (y z : Side) (h : Header) (front key : List ℕ) (fault : FileFault) → y.source.failed ≡ a.failed
+  pub nonce_to_start : OneHeader → (a : SourceView) (y z : ReaderView) (h : Header) (front key : List ℕ) (fault : FileFault) → y.source.failed ≡ a.failed
       → HeadText h front → Opens Allows h key
       → Pulled a.remaining y.source.remaining y.unread.pulls (front ++ y.unread.bytes) → NonceFails y z fault → StartFails Allows Refused a z.source fault
   nonce_to_start one a y z h front key NonceCut e text opens p f = (

@@ -18,13 +18,13 @@ stanza_report s = record {
   body = length s.body;
 }
 
--- how many chunks a plaintext of p bytes has
-abbrev pub chunk_count : ℕ → ℕ
-chunk_count p = if p == 0 then 1 else (p + 65535) / chunk_length
+-- how many chunks a plaintext of p bytes makes
+abbrev pub chunks_for : ℕ → ℕ
+chunks_for p = if p == 0 then 1 else (p + 65535) / chunk_length
 
 -- a plaintext of p bytes has a nonce and a payload of so many bytes together
 abbrev pub IsPlain : ℕ → ℕ → Type 0
-IsPlain rest p = (16 + p + 16 * chunk_count p ≡ rest) × (chunk_count p ≤ 2 ^ 48)
+IsPlain rest p = (16 + p + 16 * chunks_for p ≡ rest) × (chunks_for p ≤ 2 ^ 48)
 
 -- the one plaintext's length that so many bytes would hold, or none
 abbrev pub IsPlainOf : ℕ → Option ℕ → Type 0

@@ -5,13 +5,11 @@ pub mod Counts
 pub mod Decrypts
 pub mod Encrypts
 pub mod Faults
-pub mod Flows
 pub mod Intakes
 pub mod Payloads
 pub mod PositionTexts
 pub mod Readers
 pub mod Releases
-pub mod ResumesPayload
 pub mod Seals
 pub mod Skips
 pub mod Starts

@@ -3,7 +3,8 @@
 ghost use Rattle.std.specs.Prelude.{◌≡◌, ◌+◌, ◌^◌, ◌<◌, ◌≤◌, [], IsSome};
 ghost use Rattle.age_file.specs.declared.position.Positions.TheVariants.{Kept};
 ghost use Rattle.age_file.specs.inner.Bindings.{chain_if};
-ghost use Rattle.age_file.specs.inner.Readers.{side_of, tally_of, SameReader, SameWriter};
+ghost use Rattle.age_file.specs.inner.Readers.{view_of_reader, view_of_writer};
+ghost use Rattle.age_file.specs.inner.Readers.{SameReader, SameWriter};
 ghost use Rattle.age_file.specs.inner.Copies.{CopiesChunk, CopiesAll};
 
 use crate::fault::FileFault;
@@ -24,8 +25,9 @@ fn copy_chunk<S: Source, O: Sink>(
     requires room { writer.old.progress.written ≤ 2 ^ 64 }
     requires limit { writer.old.progress.index + 1 < 281474976710656 }
     requires kept { IsSome writer.old.progress.chain }
-    ensures copied { CopiesChunk 65536 (side_of S.view reader.old) (side_of S.view reader.new)
-        (tally_of O.view writer.old) (tally_of O.view writer.new) result }
+    ensures copied { CopiesChunk 65536 (view_of_reader S.view reader.old)
+        (view_of_reader S.view reader.new) (view_of_writer O.view writer.old)
+        (view_of_writer O.view writer.new) result }
     ensures same_reader { SameReader reader.old reader.new }
     ensures same_writer { SameWriter writer.old writer.new }
 {
@@ -60,8 +62,9 @@ pub(crate) fn copy_chunks<S: Source, O: Sink>(
     requires limit { chunks < 281474976710656 }
     requires fresh { (writer.old.progress.written ≡ 0) × (writer.old.progress.index ≡ 0)
         × (writer.old.progress.chain ≡ chain_if Kept []) }
-    ensures copied { CopiesAll 65536 chunks (side_of S.view reader.old) (side_of S.view reader.new)
-        (tally_of O.view writer.old) (tally_of O.view writer.new) result }
+    ensures copied { CopiesAll 65536 chunks (view_of_reader S.view reader.old)
+        (view_of_reader S.view reader.new) (view_of_writer O.view writer.old)
+        (view_of_writer O.view writer.new) result }
     ensures same_reader { SameReader reader.old reader.new }
     ensures same_writer { SameWriter writer.old writer.new }
 {

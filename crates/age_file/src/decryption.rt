@@ -4,7 +4,7 @@ ghost use Rattle.std.specs.Prelude.{◌≡◌, None, true};
 ghost use Rattle.age_file.specs.Ports.{ports};
 ghost use Rattle.age_file.specs.declared.position.Positions.TheVariants.{Kept};
 ghost use Rattle.age_file.specs.Decrypts.{Decrypts};
-ghost use Rattle.age_file.specs.inner.Decrypts.{PositionAt};
+ghost use Rattle.age_file.specs.inner.Decrypts.{PositionAt, EndsAs};
 
 use crate::fault::FileFault;
 use crate::intake::Intake;
@@ -72,12 +72,31 @@ impl Stopped {
 }
 
 /// Where a reader of this file may continue, if a chain was kept.
-pub(crate) fn position_of(unlocked: &Unlocked, progress: &Progress) -> Option<Position>
+fn position_of(unlocked: &Unlocked, progress: &Progress) -> Option<Position>
     ensures { PositionAt unlocked.now progress.now.index progress.now.chain result }
 {
     let chain = progress.chain?;
     let key = position_key(&unlocked.key, &unlocked.nonce);
     Some(Position::tagged(&key, progress.index, unlocked.id, chain))
+}
+
+/// How a run ended: with what it wrote, and with the position of a stop, if a chain was kept.
+pub(crate) fn ended(
+    run: Result<(), FileFault>,
+    unlocked: &Unlocked,
+    progress: &Progress,
+) -> Result<Done, Stopped>
+    ensures { EndsAs unlocked.now progress.now run result }
+{
+    match run {
+        Ok(()) => Ok(Done {
+            written: progress.written,
+        }),
+        Err(fault) => {
+            let next = position_of(unlocked, progress);
+            Err(Stopped::after(fault, progress, next))
+        }
+    }
 }
 
 /// Decrypts a file, and hands out the position of a stop: [`decrypt_with`], with positions kept.
@@ -131,13 +150,6 @@ pub fn decrypt_with<U: Unlock, S: Source, O: Sink>(
         sink: writer,
         progress,
     };
-    match decrypt_payload(&key, 0, &mut reader, &mut writer) {
-        Ok(()) => Ok(Done {
-            written: writer.progress.written,
-        }),
-        Err(fault) => {
-            let next = position_of(&unlocked, &writer.progress);
-            Err(Stopped::after(fault, &writer.progress, next))
-        }
-    }
+    let run = decrypt_payload(&key, 0, &mut reader, &mut writer);
+    ended(run, &unlocked, &writer.progress)
 }

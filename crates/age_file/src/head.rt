@@ -4,7 +4,7 @@ ghost use Rattle.std.specs.Prelude.{◌≡◌, ◌≢◌, [], IfOk, IfErr, OnOk}
 ghost use Rattle.age_file.specs.declared.fault.FileFault.TheVariants.{Memory};
 ghost use Rattle.age_file.specs.Faults.{HeadFails, StopsAtHeader};
 ghost use Rattle.age_file.specs.inner.Faults.{IsInHeader};
-ghost use Rattle.age_file.specs.inner.Readers.{side_of, SameReader};
+ghost use Rattle.age_file.specs.inner.Readers.{view_of_reader, SameReader};
 ghost use Rattle.age_file.specs.inner.Intakes.{ReadsHead};
 
 use crate::fault::FileFault;
@@ -29,7 +29,7 @@ pub(crate) fn read_head<S: Source>(
 ) -> Result<Head, FileFault>
     requires { (reader.old.intake.now.bytes ≡ []) × (reader.old.intake.now.pulls ≡ 0) }
     ensures found { IfOk result (ReadsHead (S.view reader.old.source.now)
-        (side_of S.view reader.new)) }
+        (view_of_reader S.view reader.new)) }
     ensures last { OnOk result (StopsAtHeader (S.view reader.old.source.now).remaining
         (S.view reader.new.source.now).remaining) }
     ensures unfailed { OnOk result ((S.view reader.new.source.now).failed ≡

@@ -4,7 +4,7 @@ ghost use Rattle.std.specs.Prelude.{◌≡◌, ◌+◌, ◌^◌, ◌<◌, ◌≤
 ghost use Rattle.std.specs.Prelude.{OnOk, map};
 ghost use Rattle.std.specs.Io.KnownBytes.{IsAtEnd};
 ghost use Rattle.age_file.specs.Faults.{HeadFails};
-ghost use Rattle.age_file.specs.inner.Readers.{side_of, SameReader};
+ghost use Rattle.age_file.specs.inner.Readers.{view_of_reader, SameReader};
 ghost use Rattle.age_file.specs.inner.Intakes.{CountsRest, RestFails};
 ghost use Rattle.age_file.specs.Reports.{stanza_report, IsPlainOf, Inspects};
 
@@ -20,14 +20,14 @@ use std::alloc::{AllocError, Global};
 /// Counts the bytes that are left, to the end of the source.
 fn count_rest<S: Source>(reader: &mut Reader<'_, S>) -> Result<u128, FileFault>
     requires { reader.old.intake.now.pulls ≤ 2 ^ 63 }
-    ensures counts { IfOk result (CountsRest (side_of S.view reader.old)
-        (side_of S.view reader.new)) }
+    ensures counts { IfOk result (CountsRest (view_of_reader S.view reader.old)
+        (view_of_reader S.view reader.new)) }
     ensures ended { OnOk result (IsAtEnd (S.view reader.new.source.now).remaining) }
     ensures small { IfOk result (λ n. n ≤ 65536 * (2 ^ 63 + 1)) }
     ensures unfailed { OnOk result ((S.view reader.new.source.now).failed ≡
         (S.view reader.old.source.now).failed) }
-    ensures fails { IfErr result (RestFails (side_of S.view reader.old)
-        (side_of S.view reader.new)) }
+    ensures fails { IfErr result (RestFails (view_of_reader S.view reader.old)
+        (view_of_reader S.view reader.new)) }
     ensures same { SameReader reader.old reader.new }
 {
     let mut count = reader.intake.bytes().len() as u128;

@@ -1,8 +1,8 @@
 //! The bytes that were pulled from a source and not used yet.
 
-ghost use Rattle.std.specs.Prelude.{◌≡◌, ◌≤◌, ◌^◌, [], length, drop, IfOk, take};
+ghost use Rattle.std.specs.Prelude.{◌≡◌, ◌≤◌, [], length, drop, IfOk};
 ghost use Rattle.age_file.specs.inner.Intakes.{Refills};
-ghost use Rattle.age_file.specs.inner.Unread.{Unread, side};
+ghost use Rattle.age_file.specs.inner.Readers.{reader_view};
 
 use crate::fault::FileFault;
 use age_io::Source;
@@ -27,7 +27,11 @@ pub(crate) struct Intake {
 }
 
 impl Model for Intake {
+    ghost use Rattle.age_file.specs.inner.Unread.{Unread};
+
     ghost Value = { Unread };
+
+    ghost use Rattle.std.specs.Prelude.{◌≡◌, ◌≤◌, ◌^◌, length, drop, take};
 
     ghost view = { λ i. record {
       bytes = drop i.from (take i.to i.buffer.items);
@@ -87,8 +91,8 @@ impl Intake {
     /// Pulls, where all bytes were used. False: the source is at its end.
     pub(crate) fn refill<S: Source>(&mut self, source: &mut S) -> Result<bool, FileFault>
         requires { self.old.bytes ≡ [] }
-        ensures { Refills (side (S.view source.old) self.old) (side (S.view source.new) self.new)
-            result }
+        ensures { Refills (reader_view (S.view source.old) self.old)
+            (reader_view (S.view source.new) self.new) result }
     {
         if self.pulls == MOST_PULLS {
             return Err(FileFault::ReadNeverEnds);

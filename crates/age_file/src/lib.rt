@@ -38,7 +38,7 @@ pub use fault::FileFault;
 pub use inspection::inspect;
 pub use laws::{age_file_is_whole, bound_positions, calls_in_a_row, round_trip, runs_in_a_row};
 pub use position::{Position, Positions};
-pub use put::{flush_all, put_all, write_all};
+pub use put::{flush_all, write_all};
 pub use report::{Report, StanzaReport, StanzaReports};
 pub use resumption::{resume, resume_with};
 pub use secret::Secret;

@@ -4,9 +4,8 @@ ghost use Rattle.std.specs.Prelude.{◌≡◌, ◌+◌, ◌^◌, ◌<◌, ◌≤
 ghost use Rattle.std.specs.Prelude.{true};
 ghost use Rattle.age_file.specs.inner.Boxes.{opens};
 ghost use Rattle.age_file.specs.inner.Releases.{FeedsOnce, FeedsPiece, Closes};
-ghost use Rattle.age_file.specs.inner.Flows.{HasRoom, Turns};
 ghost use Rattle.age_file.specs.inner.Payloads.{HasPlace, DecryptsPayload};
-ghost use Rattle.age_file.specs.inner.Readers.{tally_of, flow_of, stage_of, SameReader, SameWriter};
+ghost use Rattle.age_file.specs.inner.Readers.{view_of_writer, stage_of, SameReader, SameWriter};
 
 use crate::fault::FileFault;
 use crate::put::{flush_all, write_all};
@@ -26,8 +25,8 @@ fn feed_once<O: Sink>(
 ) -> Result<usize, FileFault>
     requires small { length opener.old.held + writer.old.progress.written + length piece.now
         < 2 ^ 128 }
-    ensures fed { FeedsOnce opens 65536 opener.old opener.new (tally_of O.view writer.old)
-        (tally_of O.view writer.new) piece.now result }
+    ensures fed { FeedsOnce opens 65536 opener.old opener.new (view_of_writer O.view writer.old)
+        (view_of_writer O.view writer.new) piece.now result }
     ensures some { IfOk result (λ n. 0 < length piece.now → 0 < n) }
     ensures same { SameWriter writer.old writer.new }
 {
@@ -49,8 +48,8 @@ fn feed_piece<O: Sink>(
 ) -> Result<(), FileFault>
     requires small { length opener.old.held + writer.old.progress.written + length piece.now
         < 2 ^ 128 }
-    ensures fed { FeedsPiece opens 65536 opener.old opener.new (tally_of O.view writer.old)
-        (tally_of O.view writer.new) piece.now result }
+    ensures fed { FeedsPiece opens 65536 opener.old opener.new (view_of_writer O.view writer.old)
+        (view_of_writer O.view writer.new) piece.now result }
     ensures same { SameWriter writer.old writer.new }
 {
     let mut at = 0;
@@ -60,31 +59,14 @@ fn feed_piece<O: Sink>(
     Ok(())
 }
 
-/// One turn: feeds the buffer, and refills it; false at the end of the source.
-fn turn<S: Source, O: Sink>(
-    opener: &mut PayloadOpener<'_>,
-    reader: &mut Reader<'_, S>,
-    writer: &mut Writer<'_, O>,
-) -> Result<bool, FileFault>
-    requires { HasRoom (flow_of S.view O.view opener.old reader.old writer.old) }
-    ensures turned { Turns opens 65536 (flow_of S.view O.view opener.old reader.old writer.old)
-        (flow_of S.view O.view opener.new reader.new writer.new) result }
-    ensures same_reader { SameReader reader.old reader.new }
-    ensures same_writer { SameWriter writer.old writer.new }
-{
-    feed_piece(opener, reader.intake.bytes(), writer)?;
-    reader.intake.use_all();
-    reader.intake.refill(reader.source)
-}
-
 /// Ends the opener, and writes the chunk that comes out.
 fn close<O: Sink>(
     opener: &mut PayloadOpener<'_>,
     writer: &mut Writer<'_, O>,
 ) -> Result<(), FileFault>
     requires { length opener.old.held + writer.old.progress.written < 2 ^ 128 }
-    ensures closed { Closes opens 65536 opener.old opener.new (tally_of O.view writer.old)
-        (tally_of O.view writer.new) result }
+    ensures closed { Closes opens 65536 opener.old opener.new (view_of_writer O.view writer.old)
+        (view_of_writer O.view writer.new) result }
     ensures same { SameWriter writer.old writer.new }
 {
     let text = opener.end()?;
@@ -97,8 +79,8 @@ fn finish<O: Sink>(
     writer: &mut Writer<'_, O>,
 ) -> Result<(), FileFault>
     requires { length opener.old.held + writer.old.progress.written < 2 ^ 128 }
-    ensures closed { Closes opens 65536 opener.old opener.new (tally_of O.view writer.old)
-        (tally_of O.view writer.new) result }
+    ensures closed { Closes opens 65536 opener.old opener.new (view_of_writer O.view writer.old)
+        (view_of_writer O.view writer.new) result }
     ensures settled { OnOk result ((O.view writer.new.sink.now).settled ≡ true) }
     ensures same { SameWriter writer.old writer.new }
 {
@@ -124,6 +106,12 @@ pub(crate) fn decrypt_payload<S: Source, O: Sink>(
     ensures same_writer { SameWriter writer.old writer.new }
 {
     let mut opener = PayloadOpener::at(key, index);
-    'turns: while turn(&mut opener, reader, writer)? {}
+    'turns: loop {
+        feed_piece(&mut opener, reader.intake.bytes(), writer)?;
+        reader.intake.use_all();
+        if !reader.intake.refill(reader.source)? {
+            break;
+        }
+    }
     finish(&mut opener, writer)
 }

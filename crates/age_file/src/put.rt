@@ -8,26 +8,10 @@ ghost use Rattle.age_file.specs.Writes.{Writes};
 ghost use Rattle.age_file.specs.declared.fault.FileFault.TheVariants.{Write};
 
 use crate::fault::FileFault;
-use age_io::{Failed, Sink};
+use age_io::Sink;
 
 /// Writes all of some bytes, and adds to `written` as many as the sink took. Where it fails, those
-/// that it took before are counted.
-pub fn put_all<O: Sink>(sink: &mut O, bytes: &[u8], written: &mut u128) -> Result<(), Failed>
-    requires { written.old + length bytes.now < 2 ^ 128 }
-    ensures writes { Writes (O.view sink.old) (O.view sink.new) written.old written.new bytes.now
-        result }
-    ensures named { (O.view sink.new).label ≡ (O.view sink.old).label }
-{
-    let mut at = 0;
-    while at < bytes.len() {
-        let n = sink.put(&bytes[at..])?;
-        at += n;
-        *written += n as u128;
-    }
-    Ok(())
-}
-
-/// Writes all of some bytes, and counts them in the same way. It refuses with `Write` (27) alone.
+/// that it took before are counted. It refuses with `Write` (27) alone.
 pub fn write_all<O: Sink>(sink: &mut O, bytes: &[u8], written: &mut u128) -> Result<(), FileFault>
     requires { written.old + length bytes.now < 2 ^ 128 }
     ensures writes { Writes (O.view sink.old) (O.view sink.new) written.old written.new bytes.now
@@ -35,7 +19,13 @@ pub fn write_all<O: Sink>(sink: &mut O, bytes: &[u8], written: &mut u128) -> Res
     ensures fault { IfErr result (λ fault. fault ≡ Write) }
     ensures named { (O.view sink.new).label ≡ (O.view sink.old).label }
 {
-    put_all(sink, bytes, written).map_err(|_| FileFault::Write)
+    let mut at = 0;
+    while at < bytes.len() {
+        let n = sink.put(&bytes[at..]).map_err(|_| FileFault::Write)?;
+        at += n;
+        *written += n as u128;
+    }
+    Ok(())
 }
 
 /// Sends on what a sink took. It refuses with `Write` (27) alone.

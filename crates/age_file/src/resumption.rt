@@ -1,19 +1,18 @@
 //! Continues a decryption that stopped.
 
-ghost use Rattle.std.specs.Prelude.{◌≡◌, ◌^◌, ◌<◌, ◌≤◌, [], OnOk, true};
-ghost use Rattle.age_file.specs.inner.Readers.{side_of, tally_of, stage_of, SameReader, SameWriter};
+ghost use Rattle.std.specs.Prelude.{◌≡◌, []};
+ghost use Rattle.age_file.specs.inner.Readers.{view_of_reader, view_of_writer};
+ghost use Rattle.age_file.specs.inner.Readers.{SameReader, SameWriter};
 ghost use Rattle.age_file.specs.inner.Copies.{CopiesText};
-ghost use Rattle.age_file.specs.inner.ResumesPayload.{HasPulled, ResumesPayload};
 ghost use Rattle.age_file.specs.Ports.{ports};
 ghost use Rattle.age_file.specs.declared.position.Positions.TheVariants.{Kept};
 ghost use Rattle.age_file.specs.inner.Bindings.{chain_if};
 ghost use Rattle.age_file.specs.inner.Verdicts.{VerdictOn};
 ghost use Rattle.age_file.specs.Resumes.{resume_ports};
 ghost use Rattle.age_file.specs.ResumePromises.{ResumesText};
-ghost use Rattle.age_cipher.specs.Opening.{opening};
 
 use crate::copy::copy_chunks;
-use crate::decryption::{Done, Stopped, position_of};
+use crate::decryption::{Done, Stopped, ended};
 use crate::fault::FileFault;
 use crate::intake::Intake;
 use crate::payload::decrypt_payload;
@@ -23,7 +22,7 @@ use crate::reader::{Reader, Writer};
 use crate::skip::skip_blocks;
 use crate::start::{Unlocked, start};
 use age_io::{Sink, Source};
-use age_keys::{PayloadKey, Unlock, payload_key, position_key};
+use age_keys::{Unlock, payload_key, position_key};
 use age_stanza::one_header;
 use std::alloc::Global;
 
@@ -52,8 +51,8 @@ fn copy_old<L: Source, O: Sink>(
     requires fresh { (writer.old.progress.written ≡ 0) × (writer.old.progress.index ≡ 0)
         × (writer.old.progress.chain ≡ chain_if Kept []) }
     ensures copied { CopiesText positions 65536 position.now.index position.now.chain
-        (side_of L.view reader.old) (side_of L.view reader.new) (tally_of O.view writer.old)
-        (tally_of O.view writer.new) result }
+        (view_of_reader L.view reader.old) (view_of_reader L.view reader.new)
+        (view_of_writer O.view writer.old) (view_of_writer O.view writer.new) result }
     ensures same_reader { SameReader reader.old reader.new }
     ensures same_writer { SameWriter writer.old writer.new }
 {
@@ -63,27 +62,6 @@ fn copy_old<L: Source, O: Sink>(
     }
     writer.progress.keep(positions);
     Ok(())
-}
-
-/// Passes over the blocks before an index, and opens those from it on.
-fn open_rest<S: Source, O: Sink>(
-    key: &PayloadKey,
-    index: u64,
-    reader: &mut Reader<'_, S>,
-    writer: &mut Writer<'_, O>,
-) -> Result<(), FileFault>
-    requires limit { index < 281474976710656 }
-    requires room { writer.old.progress.written ≤ 2 ^ 64 }
-    requires pulled { HasPulled (stage_of S.view O.view reader.old writer.old) }
-    ensures resumes { ResumesPayload (λ nonce block. opening key.now nonce [] block) index
-        (stage_of S.view O.view reader.old writer.old)
-        (stage_of S.view O.view reader.new writer.new) result }
-    ensures settled { OnOk result ((O.view writer.new.sink.now).settled ≡ true) }
-    ensures same_reader { SameReader reader.old reader.new }
-    ensures same_writer { SameWriter writer.old writer.new }
-{
-    skip_blocks(reader, index)?;
-    decrypt_payload(key, index, reader, writer)
 }
 
 /// Continues a decryption that stopped, and hands out the position of a stop: [`resume_with`], with
@@ -169,14 +147,12 @@ pub fn resume_with<U: Unlock, S: Source, L: Source, O: Sink>(
         Err(fault) => return Err(Stopped::after(fault, &writer.progress, None)),
     }
     reader.intake.count_on(old_reader.intake);
+    drop(old_intake);
     let key = payload_key(&unlocked.key, &unlocked.nonce);
-    match open_rest(&key, position.index, &mut reader, &mut writer) {
-        Ok(()) => Ok(Done {
-            written: writer.progress.written,
-        }),
-        Err(fault) => {
-            let next = position_of(&unlocked, &writer.progress);
-            Err(Stopped::after(fault, &writer.progress, next))
-        }
+    match skip_blocks(&mut reader, position.index) {
+        Ok(()) => {}
+        Err(fault) => return ended(Err(fault), &unlocked, &writer.progress),
     }
+    let run = decrypt_payload(&key, position.index, &mut reader, &mut writer);
+    ended(run, &unlocked, &writer.progress)
 }

@@ -1,11 +1,10 @@
 //! Seals what a source gives, and writes each block.
 
 ghost use Rattle.std.specs.Prelude.{◌≡◌, ◌^◌, ◌≤◌, [], length, IfOk, OnOk, IfErr, true};
-ghost use Rattle.age_stream.specs.Sealing.{Holds};
 ghost use Rattle.age_file.specs.inner.Boxes.{seals};
-ghost use Rattle.age_file.specs.inner.Readers.{tally_of, ports_of, SameReader, SameWriter};
+ghost use Rattle.age_file.specs.inner.Readers.{view_of_writer, ports_of, SameReader, SameWriter};
 ghost use Rattle.age_file.specs.inner.Seals.{IsFeeding, HasRoom, SealsOnce, SealsPiece, SealsLast};
-ghost use Rattle.age_file.specs.inner.Seals.{SealsSource, SealsAll, SealsFront};
+ghost use Rattle.age_file.specs.inner.Seals.{SealsAll, SealsFront};
 
 use crate::fault::FileFault;
 use crate::put::{flush_all, write_all};
@@ -25,8 +24,8 @@ fn seal_once<O: Sink>(
 ) -> Result<usize, FileFault>
     requires feeding { IsFeeding sealer.old }
     requires room { writer.old.progress.written ≤ 2 ^ 127 }
-    ensures sealed { SealsOnce seals 65536 sealer.old sealer.new (tally_of O.view writer.old)
-        (tally_of O.view writer.new) piece.now result }
+    ensures sealed { SealsOnce seals 65536 sealer.old sealer.new (view_of_writer O.view writer.old)
+        (view_of_writer O.view writer.new) piece.now result }
     ensures named { (O.view writer.new.sink.now).label ≡ (O.view writer.old.sink.now).label }
     ensures same_writer { SameWriter writer.old writer.new }
 {
@@ -46,8 +45,8 @@ fn seal_piece<O: Sink>(
 ) -> Result<(), FileFault>
     requires feeding { IsFeeding sealer.old }
     requires room { HasRoom seals 65536 sealer.old writer.old.progress.written (length piece.now) }
-    ensures sealed { SealsPiece seals 65536 sealer.old sealer.new (tally_of O.view writer.old)
-        (tally_of O.view writer.new) piece.now result }
+    ensures sealed { SealsPiece seals 65536 sealer.old sealer.new (view_of_writer O.view writer.old)
+        (view_of_writer O.view writer.new) piece.now result }
     ensures named { (O.view writer.new.sink.now).label ≡ (O.view writer.old.sink.now).label }
     ensures same_writer { SameWriter writer.old writer.new }
 {
@@ -65,8 +64,8 @@ fn seal_last<O: Sink>(
 ) -> Result<(), FileFault>
     requires feeding { IsFeeding sealer.old }
     requires room { writer.old.progress.written ≤ 2 ^ 127 }
-    ensures sealed { SealsLast seals 65536 sealer.old (tally_of O.view writer.old)
-        (tally_of O.view writer.new) result }
+    ensures sealed { SealsLast seals 65536 sealer.old (view_of_writer O.view writer.old)
+        (view_of_writer O.view writer.new) result }
     ensures named { (O.view writer.new.sink.now).label ≡ (O.view writer.old.sink.now).label }
     ensures same_writer { SameWriter writer.old writer.new }
 {
@@ -81,45 +80,14 @@ fn finish<O: Sink>(
 ) -> Result<(), FileFault>
     requires feeding { IsFeeding sealer.old }
     requires room { writer.old.progress.written ≤ 2 ^ 127 }
-    ensures sealed { SealsLast seals 65536 sealer.old (tally_of O.view writer.old)
-        (tally_of O.view writer.new) result }
+    ensures sealed { SealsLast seals 65536 sealer.old (view_of_writer O.view writer.old)
+        (view_of_writer O.view writer.new) result }
     ensures settled { OnOk result ((O.view writer.new.sink.now).settled ≡ true) }
     ensures named { (O.view writer.new.sink.now).label ≡ (O.view writer.old.sink.now).label }
     ensures same_writer { SameWriter writer.old writer.new }
 {
     seal_last(sealer, writer)?;
     flush_all(writer.sink)
-}
-
-/// Seals all chunks but the last of what a source gives, up to its end, and returns how many bytes
-/// it gave.
-fn seal_source<S: Source, O: Sink>(
-    sealer: &mut PayloadSealer<'_>,
-    reader: &mut Reader<'_, S>,
-    writer: &mut Writer<'_, O>,
-) -> Result<u128, FileFault>
-    requires fresh { IsFeeding sealer.old × Holds 65536 sealer.old [] }
-    requires unread { (reader.old.intake.now.bytes ≡ []) × (reader.old.intake.now.pulls ≡ 0) }
-    requires room { writer.old.progress.written ≤ 2 ^ 126 }
-    ensures sealed { IfOk result (SealsSource seals 65536 sealer.old sealer.new
-        (ports_of S.view O.view reader.old writer.old)
-        (ports_of S.view O.view reader.new writer.new) writer.old.progress.written
-        writer.new.progress.written) }
-    ensures fails { IfErr result (SealsFront (seals sealer.old.key) 65536
-        (ports_of S.view O.view reader.old writer.old)
-        (ports_of S.view O.view reader.new writer.new) writer.old.progress.written
-        writer.new.progress.written) }
-    ensures named { (O.view writer.new.sink.now).label ≡ (O.view writer.old.sink.now).label }
-    ensures same_reader { SameReader reader.old reader.new }
-    ensures same_writer { SameWriter writer.old writer.new }
-{
-    let mut plain = 0;
-    'pulls: while reader.intake.refill(reader.source)? {
-        seal_piece(sealer, reader.intake.bytes(), writer)?;
-        plain += reader.intake.bytes().len() as u128;
-        reader.intake.use_all();
-    }
-    Ok(plain)
 }
 
 /// Writes the payload of what a source gives, up to its end, flushes, and returns how many bytes
@@ -145,7 +113,12 @@ pub(crate) fn seal_all<S: Source, O: Sink>(
     ensures same_writer { SameWriter writer.old writer.new }
 {
     let mut sealer = PayloadSealer::new(key);
-    let plain = seal_source(&mut sealer, reader, writer)?;
+    let mut plain = 0;
+    'pulls: while reader.intake.refill(reader.source)? {
+        seal_piece(&mut sealer, reader.intake.bytes(), writer)?;
+        plain += reader.intake.bytes().len() as u128;
+        reader.intake.use_all();
+    }
     finish(&mut sealer, writer)?;
     Ok(plain)
 }

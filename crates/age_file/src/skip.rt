@@ -1,7 +1,7 @@
 //! Passes over the blocks of a payload that were opened before.
 
 ghost use Rattle.age_file.specs.inner.Skips.{SkipsBlock, SkipsBlocks};
-ghost use Rattle.age_file.specs.inner.Readers.{side_of, SameReader};
+ghost use Rattle.age_file.specs.inner.Readers.{view_of_reader, SameReader};
 
 use crate::fault::FileFault;
 use crate::reader::Reader;
@@ -14,8 +14,8 @@ const BLOCK: usize = 65_552;
 
 /// Passes over a block. False: the source ended within it.
 fn skip_block<S: Source>(reader: &mut Reader<'_, S>) -> Result<bool, FileFault>
-    ensures skipped { SkipsBlock 65552 (side_of S.view reader.old) (side_of S.view reader.new)
-        result }
+    ensures skipped { SkipsBlock 65552 (view_of_reader S.view reader.old)
+        (view_of_reader S.view reader.new) result }
     ensures same { SameReader reader.old reader.new }
 {
     let mut left = BLOCK;
@@ -35,8 +35,8 @@ pub(crate) fn skip_blocks<S: Source>(
     reader: &mut Reader<'_, S>,
     blocks: u64,
 ) -> Result<(), FileFault>
-    ensures skipped { SkipsBlocks 65552 blocks (side_of S.view reader.old)
-        (side_of S.view reader.new) result }
+    ensures skipped { SkipsBlocks 65552 blocks (view_of_reader S.view reader.old)
+        (view_of_reader S.view reader.new) result }
     ensures same { SameReader reader.old reader.new }
 {
     for block in 0..blocks {

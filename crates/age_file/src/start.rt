@@ -4,7 +4,7 @@ ghost use Rattle.std.specs.Prelude.{◌≡◌, ◌+◌, ◌-◌, ◌≤◌, [], 
 ghost use Rattle.std.specs.Prelude.{IfOk, IfErr};
 ghost use Rattle.std.specs.Prelude.{OnOk};
 ghost use Rattle.age_file.specs.Starts.{StartFails};
-ghost use Rattle.age_file.specs.inner.Readers.{side_of, SameReader};
+ghost use Rattle.age_file.specs.inner.Readers.{view_of_reader, SameReader};
 ghost use Rattle.age_file.specs.inner.Starts.{Uses, SomeAnswers, NonceFails, StartsAt};
 
 use crate::fault::FileFault;
@@ -27,8 +27,9 @@ pub(crate) struct Unlocked {
 
 /// Pulls if the buffer is empty; false at the end of the source.
 pub(crate) fn some_bytes<S: Source>(reader: &mut Reader<'_, S>) -> Result<bool, FileFault>
-    ensures answers { SomeAnswers (side_of S.view reader.old) (side_of S.view reader.new) result }
-    ensures uses { Uses (side_of S.view reader.old) (side_of S.view reader.new) [] }
+    ensures answers { SomeAnswers (view_of_reader S.view reader.old)
+        (view_of_reader S.view reader.new) result }
+    ensures uses { Uses (view_of_reader S.view reader.old) (view_of_reader S.view reader.new) [] }
     ensures same { SameReader reader.old reader.new }
 {
     if !reader.intake.bytes().is_empty() {
@@ -50,11 +51,12 @@ fn copy_some(from: &[u8], into: &mut [u8; 16], have: usize) -> usize
 
 /// Reads the payload nonce.
 fn take_nonce<S: Source>(reader: &mut Reader<'_, S>) -> Result<[u8; 16], FileFault>
-    ensures found { IfOk result (Uses (side_of S.view reader.old) (side_of S.view reader.new)) }
+    ensures found { IfOk result (Uses (view_of_reader S.view reader.old)
+        (view_of_reader S.view reader.new)) }
     ensures unfailed { OnOk result ((S.view reader.new.source.now).failed ≡
         (S.view reader.old.source.now).failed) }
-    ensures fails { IfErr result (NonceFails (side_of S.view reader.old)
-        (side_of S.view reader.new)) }
+    ensures fails { IfErr result (NonceFails (view_of_reader S.view reader.old)
+        (view_of_reader S.view reader.new)) }
     ensures same { SameReader reader.old reader.new }
 {
     let mut nonce = [0; 16];
@@ -78,7 +80,7 @@ pub(crate) fn start<U: Unlock, S: Source>(
 ) -> Result<Unlocked, FileFault>
     requires { (reader.old.intake.now.bytes ≡ []) × (reader.old.intake.now.pulls ≡ 0) }
     ensures found { IfOk result (StartsAt (U.allows unlock.now) (S.view reader.old.source.now)
-        (side_of S.view reader.new)) }
+        (view_of_reader S.view reader.new)) }
     ensures unfailed { OnOk result ((S.view reader.new.source.now).failed ≡
         (S.view reader.old.source.now).failed) }
     ensures fails { IfErr result (StartFails (U.allows unlock.now) (U.refuses unlock.now)

@@ -10,8 +10,7 @@ use Rattle.age_file.specs.Bindings.{chain}
 use Rattle.age_file.specs.inner.Bindings.{link_if, chain_if}
 use Rattle.age_file.specs.declared.position.Positions.{Positions}
 use Rattle.age_file.specs.declared.position.Positions.TheVariants.{Kept}
-use Rattle.age_file.specs.inner.Releases.{Tally}
-use Rattle.age_file.specs.inner.Unread.{Side}
+use Rattle.age_file.specs.inner.Readers.{ReaderView, WriterView}
 use Rattle.age_file.specs.inner.Skips.{Passes, Dries}
 use Rattle.age_file.specs.declared.fault.FileFault.{FileFault}
 use Rattle.age_file.specs.declared.fault.FileFault.TheVariants.{ShortText, Read, Write}
@@ -19,7 +18,8 @@ use Rattle.age_file.specs.declared.fault.FileFault.TheVariants.{ReadNeverEnds, O
 
 -- what was written of the old text, fewer bytes than were to be copied: all that the source gave,
 -- or its front where the sink failed
-abbrev pub CopyFails : Side → Side → Tally → Tally → List ℕ → FileFault → Type 0
+abbrev pub CopyFails : ReaderView → ReaderView → WriterView → WriterView → List ℕ → FileFault
+    → Type 0
 CopyFails old new was now out ShortText = Passes old new out × (new.unread.bytes ≡ [])
     × IsAtEnd new.source.remaining × (now.sink.failed ≡ was.sink.failed)
 CopyFails old new was now out Write = (used : List ℕ) × Passes old new used
@@ -30,20 +30,20 @@ CopyFails old new was now out ReadNeverEnds = Dries old new out ReadNeverEnds
 CopyFails old new was now out other = ⊥
 
 -- a chunk was copied, and counted with its link
-abbrev pub ChunkGoes : ℕ → Side → Side → Tally → Tally → List ℕ → Type 0
+abbrev pub ChunkGoes : ℕ → ReaderView → ReaderView → WriterView → WriterView → List ℕ → Type 0
 ChunkGoes n old new was now out = (length out ≡ n) × Passes old new out
     × (now.sink.failed ≡ was.sink.failed)
     × (now.progress.index ≡ was.progress.index + 1)
     × (now.progress.chain ≡ link_if was.progress.chain out)
 
 -- so many chunks were copied, and the chain is over them
-abbrev pub ChunksGo : ℕ → ℕ → Side → Side → Tally → Tally → List ℕ → Type 0
+abbrev pub ChunksGo : ℕ → ℕ → ReaderView → ReaderView → WriterView → WriterView → List ℕ → Type 0
 ChunksGo n chunks old new was now out = (length out ≡ chunks * n) × Passes old new out
     × (now.sink.failed ≡ was.sink.failed)
     × (now.progress.index ≡ chunks)
     × (now.progress.chain ≡ chain_if Kept (first_chunks n chunks out))
 
-pub record Copies (Goes : List ℕ → Type 0) (size : ℕ) (old new : Side) (was now : Tally)
+pub record Copies (Goes : List ℕ → Type 0) (size : ℕ) (old new : ReaderView) (was now : WriterView)
     (result : Result (Unit {0}) FileFault) : Type 0 where
   pub out : List ℕ
   pub wrote : Appends was.sink.taken now.sink.taken out
@@ -53,34 +53,35 @@ pub record Copies (Goes : List ℕ → Type 0) (size : ℕ) (old new : Side) (wa
       (λ fault. (length out < size) × CopyFails old new was now out fault)
 
 -- a chunk was copied
-abbrev pub CopiesChunk : ℕ → Side → Side → Tally → Tally → Result (Unit {0}) FileFault → Type 0
+abbrev pub CopiesChunk : ℕ → ReaderView → ReaderView → WriterView → WriterView
+    → Result (Unit {0}) FileFault → Type 0
 CopiesChunk n old new was now result = Copies (ChunkGoes n old new was now) n old new was now result
 
 -- so many were
-abbrev pub CopiesAll : ℕ → ℕ → Side → Side → Tally → Tally → Result (Unit {0}) FileFault
-    → Type 0
+abbrev pub CopiesAll : ℕ → ℕ → ReaderView → ReaderView → WriterView → WriterView
+    → Result (Unit {0}) FileFault → Type 0
 CopiesAll n chunks old new was now result = Copies (ChunksGo n chunks old new was now) (chunks * n)
     old new was now result
 
 -- why the old text was not copied, or is not the one whose chain this is
-abbrev pub TextFails : ℕ → ℕ → List ℕ → Side → Side → Tally → Tally → List ℕ → FileFault
-    → Type 0
+abbrev pub TextFails : ℕ → ℕ → List ℕ → ReaderView → ReaderView → WriterView → WriterView
+    → List ℕ → FileFault → Type 0
 TextFails n chunks links old new was now out OldTextDiffers = ChunksGo n chunks old new was now out
     × (now.progress.chain ≢ Some links)
 TextFails n chunks links old new was now out fault = (length out < chunks * n)
     × CopyFails old new was now out fault
 
 -- so many chunks were copied, which have this chain; it goes on where positions are kept
-abbrev pub TextGoes : Positions → ℕ → ℕ → List ℕ → Side → Side → Tally → Tally → List ℕ
-    → Type 0
+abbrev pub TextGoes : Positions → ℕ → ℕ → List ℕ → ReaderView → ReaderView → WriterView
+    → WriterView → List ℕ → Type 0
 TextGoes keep n chunks links old new was now out = (length out ≡ chunks * n) × Passes old new out
     × (now.sink.failed ≡ was.sink.failed) × (now.progress.index ≡ chunks)
     × (now.progress.chain ≡ chain_if keep (first_chunks n chunks out))
     × (chain (first_chunks n chunks out) ≡ links)
 
 -- the old text was copied, and has this chain
-pub record CopiesText (keep : Positions) (n chunks : ℕ) (links : List ℕ) (old new : Side)
-    (was now : Tally) (result : Result (Unit {0}) FileFault) : Type 0 where
+pub record CopiesText (keep : Positions) (n chunks : ℕ) (links : List ℕ) (old new : ReaderView)
+    (was now : WriterView) (result : Result (Unit {0}) FileFault) : Type 0 where
   pub out : List ℕ
   pub wrote : Appends was.sink.taken now.sink.taken out
   pub named : now.sink.label ≡ was.sink.label

@@ -1,9 +1,13 @@
 -- What a decryption did.
-use Rattle.std.specs.Prelude.{◌≡◌, ℕ, List, Option, Some, None, IsSomeAnd}
+use Rattle.std.specs.Prelude.{◌≡◌, ℕ, List, Option, Some, None, IsSomeAnd, Result, Ok, Err}
 use Rattle.age_keys.specs.Keys.{position_key}
 use Rattle.age_file.specs.Bindings.{position_tag}
 use Rattle.age_file.specs.declared.position.Position.{Position}
 use Rattle.age_file.specs.declared.start.Unlocked.{Unlocked}
+use Rattle.age_file.specs.declared.progress.Progress.{Progress}
+use Rattle.age_file.specs.declared.decryption.Done.{Done}
+use Rattle.age_file.specs.declared.decryption.Stopped.{Stopped}
+use Rattle.age_file.specs.declared.fault.FileFault.{FileFault}
 
 -- where it is told: the position of this index and chain, in the file that was unlocked
 pub record IsPositionAt (unlocked : Unlocked) (index : ℕ) (links : List ℕ) (p : Position)
@@ -18,3 +22,10 @@ abbrev pub PositionAt : Unlocked → ℕ → Option (List ℕ) → Option Positi
 PositionAt unlocked index (Some links) position =
     IsSomeAnd position (IsPositionAt unlocked index links)
 PositionAt unlocked index None position = position ≡ None
+
+-- how a run ended: with what was written, and where it stopped with a position
+abbrev pub EndsAs : Unlocked → Progress → Result (Unit {0}) FileFault → Result Done Stopped → Type 0
+EndsAs unlocked p (Ok done) result = result ≡ Ok (record { written = p.written })
+EndsAs unlocked p (Err fault) result =
+    (next : Option Position) × PositionAt unlocked p.index p.chain next
+    × (result ≡ Err (record { fault = fault; written = p.written; position = next }))

@@ -7,7 +7,7 @@ use Rattle.age_io.specs.Views.{SourceView}
 use Rattle.sha2.specs.Hashers.{Holds256}
 use Rattle.age_stanza.specs.Grammar.{HeadText}
 use Rattle.age_file.specs.Faults.{HasRisen, NeverEnds}
-use Rattle.age_file.specs.inner.Unread.{Side}
+use Rattle.age_file.specs.inner.Readers.{ReaderView}
 use Rattle.age_file.specs.declared.head.Head.{Head}
 use Rattle.age_file.specs.declared.fault.FileFault.{FileFault}
 use Rattle.age_file.specs.declared.fault.FileFault.TheVariants.{Read, ReadNeverEnds}
@@ -20,13 +20,13 @@ pub record Pulled (start now : Option (List ℕ)) (pulls : ℕ) (bytes : List �
   pub most : pulls ≤ 2 ^ 63
 
 -- why a source gave nothing: the pull failed, or none was made, after so many that gave some
-abbrev pub PullFails : Side → Side → FileFault → Type 0
+abbrev pub PullFails : ReaderView → ReaderView → FileFault → Type 0
 PullFails old new Read = HasRisen old.source.failed new.source.failed
 PullFails old new ReadNeverEnds = (new.unread.pulls ≡ 2 ^ 63)
     × (new.source.failed ≡ old.source.failed)
 PullFails old new other = ⊥
 
-abbrev pub Refilled : Side → Side → Result Bool FileFault → Type 0
+abbrev pub Refilled : ReaderView → ReaderView → Result Bool FileFault → Type 0
 Refilled old new (Ok true) = (0 < length new.unread.bytes) × (length new.unread.bytes ≤ 65536)
     × (new.unread.pulls ≤ 2 ^ 63) × (new.unread.pulls ≡ old.unread.pulls + 1)
     × (new.source.failed ≡ old.source.failed)
@@ -36,14 +36,14 @@ Refilled old new (Err fault) = (new.unread.bytes ≡ []) × (new.unread.pulls �
     × PullFails old new fault
 
 -- one pull, where no byte was left: what was pulled from any start is now that and the fresh bytes
-pub record Refills (old new : Side) (result : Result Bool FileFault) : Type 0 where
+pub record Refills (old new : ReaderView) (result : Result Bool FileFault) : Type 0 where
   pub answered : Refilled old new result
   pub pulled : (start : Option (List ℕ)) (bytes : List ℕ)
       → Pulled start old.source.remaining old.unread.pulls bytes
       → Pulled start new.source.remaining new.unread.pulls (bytes ++ new.unread.bytes)
 
 -- a header was read, and what follows it is in the intake
-pub record ReadsHead (old : SourceView) (new : Side) (head : Head) : Type 0 where
+pub record ReadsHead (old : SourceView) (new : ReaderView) (head : Head) : Type 0 where
   pub front : List ℕ
   pub text : HeadText head.header front
   pub len_is : head.len ≡ length front
@@ -52,13 +52,13 @@ pub record ReadsHead (old : SourceView) (new : Side) (head : Head) : Type 0 wher
       (front ++ new.unread.bytes)
 
 -- the rest of a source was read to its end: so many bytes, those in the intake among them
-abbrev pub CountsRest : Side → Side → ℕ → Type 0
+abbrev pub CountsRest : ReaderView → ReaderView → ℕ → Type 0
 CountsRest old new count = (start : Option (List ℕ)) (used : List ℕ)
     → Pulled start old.source.remaining old.unread.pulls (used ++ old.unread.bytes)
     → (rest : List ℕ) × (count ≡ length rest) × Consumes start new.source.remaining (used ++ rest)
 
 -- why the rest could not be read
-abbrev pub RestFails : Side → Side → FileFault → Type 0
+abbrev pub RestFails : ReaderView → ReaderView → FileFault → Type 0
 RestFails old new Read = HasRisen old.source.failed new.source.failed
 RestFails old new ReadNeverEnds = (start : Option (List ℕ)) (used : List ℕ)
     → Pulled start old.source.remaining old.unread.pulls (used ++ old.unread.bytes)

@@ -1,28 +1,48 @@
 -- Where a run stands, by its reader and its writer. Only private functions cite this.
 use Rattle.std.specs.Prelude.{◌≡◌}
 use Rattle.age_io.specs.Views.{SourceView, SinkView}
-use Rattle.age_stream.specs.Opening.{OpenerView}
 use Rattle.age_file.specs.Ports.{Ports, ports}
-use Rattle.age_file.specs.inner.Releases.{Tally, tally}
-use Rattle.age_file.specs.inner.Unread.{Side, side}
-use Rattle.age_file.specs.inner.Flows.{Flow, flow}
-use Rattle.age_file.specs.inner.Payloads.{Stage, stage}
+use Rattle.age_file.specs.inner.Unread.{Unread}
+use Rattle.age_file.specs.declared.progress.Progress.{Progress}
 use Rattle.age_file.specs.declared.reader.Reader.{Reader}
 use Rattle.age_file.specs.declared.reader.Writer.{Writer}
 
-abbrev pub side_of : {S : Type 0} → (S → SourceView) → Reader S → Side
-side_of source r = side (source r.source.now) r.intake.now
+-- what is seen of a source, and what was pulled of it and not used yet
+pub record ReaderView : Type 0 where
+  pub source : SourceView
+  pub unread : Unread
 
-abbrev pub tally_of : {O : Type 0} → (O → SinkView) → Writer O → Tally
-tally_of sink w = tally (sink w.sink.now) w.progress
+abbrev pub reader_view : SourceView → Unread → ReaderView
+reader_view source unread = record { source = source; unread = unread }
+
+-- what is seen of a sink, and how far the run has come
+pub record WriterView : Type 0 where
+  pub sink : SinkView
+  pub progress : Progress
+
+abbrev pub writer_view : SinkView → Progress → WriterView
+writer_view sink progress = record { sink = sink; progress = progress }
+
+-- where a run stands
+pub record Stage : Type 0 where
+  pub reader : ReaderView
+  pub writer : WriterView
+
+abbrev pub stage : ReaderView → WriterView → Stage
+stage reader writer = record { reader = reader; writer = writer }
+
+abbrev pub ports_at : Stage → Ports
+ports_at s = ports s.reader.source s.writer.sink
+
+abbrev pub view_of_reader : {S : Type 0} → (S → SourceView) → Reader S → ReaderView
+view_of_reader source r = reader_view (source r.source.now) r.intake.now
+
+abbrev pub view_of_writer : {O : Type 0} → (O → SinkView) → Writer O → WriterView
+view_of_writer sink w = writer_view (sink w.sink.now) w.progress
 
 abbrev pub stage_of : {S O : Type 0} → (S → SourceView) → (O → SinkView) → Reader S → Writer O
     → Stage
-stage_of source sink r w = stage (tally_of sink w) (source r.source.now) r.intake.now
-
-abbrev pub flow_of : {B S O : Type 0} → (S → SourceView) → (O → SinkView) → OpenerView B
-    → Reader S → Writer O → Flow B
-flow_of source sink opener r w = flow opener (tally_of sink w) (source r.source.now) r.intake.now
+stage_of source sink r w = stage (view_of_reader source r) (view_of_writer sink w)
 
 abbrev pub ports_of : {S O : Type 0} → (S → SourceView) → (O → SinkView) → Reader S → Writer O
     → Ports

@@ -4,31 +4,22 @@ use Rattle.std.specs.Prelude.{◌≡◌, ℕ, ◌+◌, ◌*◌, ◌<◌, ◌≤�
 use Rattle.std.specs.Prelude.{length, Option, Result}
 use Rattle.std.specs.Prelude.{MatchResult}
 use Rattle.std.specs.Io.KnownBytes.{Appends}
-use Rattle.age_io.specs.Views.{SinkView}
 use Rattle.age_stream.specs.declared.step.Status.TheVariants.{Failed, Done}
 use Rattle.age_stream.specs.Segment.{Segment, released}
 use Rattle.age_stream.specs.Deliveries.{with_piece, with_end}
 use Rattle.age_stream.specs.Opening.{OpenerView, Stands}
 use Rattle.age_file.specs.Faults.{HasRisen}
+use Rattle.age_file.specs.inner.Readers.{WriterView}
 use Rattle.age_file.specs.inner.Counts.{CountsChunks}
 use Rattle.age_file.specs.declared.position.Positions.{Positions}
-use Rattle.age_file.specs.declared.progress.Progress.{Progress}
 use Rattle.age_file.specs.declared.fault.FileFault.{FileFault}
 use Rattle.age_file.specs.declared.fault.FileFault.TheVariants.{Stream, Write}
-
--- what is seen of a sink, and how far the run has come
-pub record Tally : Type 0 where
-  pub sink : SinkView
-  pub progress : Progress
-
-abbrev pub tally : SinkView → Progress → Tally
-tally sink progress = record { sink = sink; progress = progress }
 
 module _ {B : Type 0} (opening : B → List ℕ → List ℕ → Option (List ℕ)) (n : ℕ) where
   -- for each segment that the opener stood for, it stands for the next, whose text is more by what
   -- was written and what wasn't; behind any base, the progress goes on counting the chunks that
   -- were written
-  pub record Releases (next : Segment → Segment) (old new : OpenerView B) (was now : Tally)
+  pub record Releases (next : Segment → Segment) (old new : OpenerView B) (was now : WriterView)
       (unwritten : List ℕ) : Type 0 where
     pub out : List ℕ
     pub key : new.key ≡ old.key
@@ -45,21 +36,23 @@ module _ {B : Type 0} (opening : B → List ℕ → List ℕ → Option (List �
         → CountsChunks keep (opening old.key) n base (next s) unwritten now.progress
 
   -- a fault of the opener, or of the sink, with what was left of the piece and not written
-  abbrev pub FeedFails : OpenerView B → Tally → Tally → List ℕ → List ℕ → FileFault → Type 0
+  abbrev pub FeedFails : OpenerView B → WriterView → WriterView → List ℕ → List ℕ → FileFault
+      → Type 0
   FeedFails new was now left unwritten (Stream fault) = (new.status ≡ Failed fault) × (left ≡ [])
       × (unwritten ≡ []) × (now.sink.failed ≡ was.sink.failed)
   FeedFails new was now left unwritten Write = HasRisen was.sink.failed now.sink.failed
   FeedFails new was now left unwritten other = ⊥
 
   -- what the opener holds and what was written is no more than what it held, and was fed
-  abbrev pub FeedGoes : OpenerView B → OpenerView B → Tally → Tally → List ℕ → List ℕ → Type 0
+  abbrev pub FeedGoes : OpenerView B → OpenerView B → WriterView → WriterView → List ℕ → List ℕ
+      → Type 0
   FeedGoes old new was now fed unwritten =
       (length new.held + now.progress.written
       ≤ length old.held + was.progress.written + length fed) × (unwritten ≡ [])
       × (now.sink.failed ≡ was.sink.failed)
 
   -- one call: the opener took the front of the piece
-  pub record FeedsOnce (old new : OpenerView B) (was now : Tally) (piece : List ℕ)
+  pub record FeedsOnce (old new : OpenerView B) (was now : WriterView) (piece : List ℕ)
       (result : Result ℕ FileFault) : Type 0 where
     pub fed : List ℕ
     pub left : List ℕ
@@ -71,7 +64,7 @@ module _ {B : Type 0} (opening : B → List ℕ → List ℕ → Option (List �
         (FeedFails new was now left unwritten)
 
   -- calls for a whole piece
-  pub record FeedsPiece (old new : OpenerView B) (was now : Tally) (piece : List ℕ)
+  pub record FeedsPiece (old new : OpenerView B) (was now : WriterView) (piece : List ℕ)
       (result : Result (Unit {0}) FileFault) : Type 0 where
     pub fed : List ℕ
     pub left : List ℕ
@@ -82,7 +75,7 @@ module _ {B : Type 0} (opening : B → List ℕ → List ℕ → Option (List �
         (FeedFails new was now left unwritten)
 
   -- the end, for each segment that the opener stood for
-  pub record Closes (old new : OpenerView B) (was now : Tally)
+  pub record Closes (old new : OpenerView B) (was now : WriterView)
       (result : Result (Unit {0}) FileFault) : Type 0 where
     pub unwritten : List ℕ
     pub releases : Releases with_end old new was now unwritten

@@ -10,12 +10,12 @@ use Rattle.age_stream.specs.Payload.{sealed_before_last, block_bytes, payload, c
 use Rattle.age_stream.specs.Headline.{IsPrefixOf}
 use Rattle.age_file.specs.Faults.{HasRisen}
 use Rattle.age_file.specs.Ports.{Ports, NoneFailed}
-use Rattle.age_file.specs.inner.Releases.{Tally}
+use Rattle.age_file.specs.inner.Readers.{WriterView}
 use Rattle.age_file.specs.declared.fault.FileFault.{FileFault}
 use Rattle.age_file.specs.declared.fault.FileFault.TheVariants.{Stream, Read, Write, ReadNeverEnds}
 
 -- so many bytes were written
-pub record Wrote (was now : Tally) (out : List ℕ) : Type 0 where
+pub record Wrote (was now : WriterView) (out : List ℕ) : Type 0 where
   pub bytes : Appends was.sink.taken now.sink.taken out
   pub count : now.progress.written ≡ was.progress.written + length out
 
@@ -48,7 +48,7 @@ module _ {B : Type 0} (sealing : B → List ℕ → List ℕ → List ℕ) (n : 
     pub feeding : IsFeeding new
     pub holds : (text : List ℕ) → Holds n old text → Holds n new (text ++ fed)
 
-  abbrev pub SealFails : SealerView B → Tally → Tally → List ℕ → FileFault → Type 0
+  abbrev pub SealFails : SealerView B → WriterView → WriterView → List ℕ → FileFault → Type 0
   SealFails old was now piece (Stream fault) = IsTooLong n old piece
       × (fault ≡ too_many (chunk_limit - 1))
   SealFails old was now piece Write = HasRisen was.sink.failed now.sink.failed
@@ -56,7 +56,7 @@ module _ {B : Type 0} (sealing : B → List ℕ → List ℕ → List ℕ) (n : 
 
   -- of a piece the sealer was fed the front; its blocks grew by what was written, and by what
   -- wasn't where the sink failed
-  pub record SealsSome (old new : SealerView B) (was now : Tally)
+  pub record SealsSome (old new : SealerView B) (was now : WriterView)
       (piece fed left unwritten : List ℕ) : Type 0 where
     pub out : List ℕ
     pub parts : piece ≡ fed ++ left
@@ -65,7 +65,7 @@ module _ {B : Type 0} (sealing : B → List ℕ → List ℕ → List ℕ) (n : 
         ≡ front_of (sealing old.key) n text ++ (out ++ unwritten)
 
   -- one feed
-  pub record SealsOnce (old new : SealerView B) (was now : Tally) (piece : List ℕ)
+  pub record SealsOnce (old new : SealerView B) (was now : WriterView) (piece : List ℕ)
       (result : Result ℕ FileFault) : Type 0 where
     pub fed : List ℕ
     pub left : List ℕ
@@ -77,7 +77,7 @@ module _ {B : Type 0} (sealing : B → List ℕ → List ℕ → List ℕ) (n : 
         (SealFails old was now piece)
 
   -- a whole piece
-  pub record SealsPiece (old new : SealerView B) (was now : Tally) (piece : List ℕ)
+  pub record SealsPiece (old new : SealerView B) (was now : WriterView) (piece : List ℕ)
       (result : Result (Unit {0}) FileFault) : Type 0 where
     pub fed : List ℕ
     pub left : List ℕ
@@ -91,8 +91,8 @@ module _ {B : Type 0} (sealing : B → List ℕ → List ℕ → List ℕ) (n : 
 -- the last block of what the sealer holds: what of it was written, and what wasn't where the sink
 -- failed
 module _ {B : Type 0} (sealing : B → List ℕ → List ℕ → List ℕ) (n : ℕ) where
-  pub record SealsLast (old : SealerView B) (was now : Tally) (result : Result (Unit {0}) FileFault)
-      : Type 0 where
+  pub record SealsLast (old : SealerView B) (was now : WriterView)
+      (result : Result (Unit {0}) FileFault) : Type 0 where
     pub out : List ℕ
     pub unwritten : List ℕ
     pub limit : old.index < chunk_limit
@@ -121,22 +121,8 @@ SealingFails n old new text Write = HasRisen old.sink.failed new.sink.failed
 SealingFails n old new text ReadNeverEnds = 2 ^ 63 ≤ length text
 SealingFails n old new text other = ⊥
 
--- a source was read to its end, and but for the last chunk its text was sealed and written
-module _ {B : Type 0} (sealing : B → List ℕ → List ℕ → List ℕ) (n : ℕ) where
-  pub record SealsSource (before after : SealerView B) (old new : Ports)
-      (written_old written_new plain : ℕ) : Type 0 where
-    pub text : List ℕ
-    pub moved : ReadsWrites old new written_old written_new text
-        (front_of (sealing before.key) n text)
-    pub at_end : IsAtEnd new.source.remaining
-    pub plain_is : plain ≡ length text
-    pub none_failed : NoneFailed old new
-    pub key : after.key ≡ before.key
-    pub feeding : IsFeeding after
-    pub holds : Holds n after text
-
 module _ (sealing : List ℕ → List ℕ → List ℕ) (n : ℕ) where
-  -- all of it was
+  -- a source was read to its end, and its text was sealed and written
   pub record SealsAll (old new : Ports) (written_old written_new plain : ℕ) : Type 0 where
     pub text : List ℕ
     pub few : chunk_count n text ≤ chunk_limit

@@ -9,20 +9,20 @@ use Rattle.age_stanza.specs.Grammar.{HeadText}
 use Rattle.age_keys.specs.Opened.{Opens}
 use Rattle.age_file.specs.Faults.{HasRisen}
 use Rattle.age_file.specs.Bindings.{file_id}
-use Rattle.age_file.specs.inner.Unread.{Side}
+use Rattle.age_file.specs.inner.Readers.{ReaderView}
 use Rattle.age_file.specs.inner.Intakes.{Pulled, PullFails}
 use Rattle.age_file.specs.declared.start.Unlocked.{Unlocked}
 use Rattle.age_file.specs.declared.fault.FileFault.{FileFault}
 use Rattle.age_file.specs.declared.fault.FileFault.TheVariants.{NonceCut, Read, ReadNeverEnds}
 
 -- bytes of the intake were used, behind those that were used before
-abbrev pub Uses : Side → Side → List ℕ → Type 0
+abbrev pub Uses : ReaderView → ReaderView → List ℕ → Type 0
 Uses old new bytes = (start : Option (List ℕ)) (used : List ℕ)
     → Pulled start old.source.remaining old.unread.pulls (used ++ old.unread.bytes)
     → Pulled start new.source.remaining new.unread.pulls (used ++ (bytes ++ new.unread.bytes))
 
 -- some byte is there, or the source is at its end
-abbrev pub SomeAnswers : Side → Side → Result Bool FileFault → Type 0
+abbrev pub SomeAnswers : ReaderView → ReaderView → Result Bool FileFault → Type 0
 SomeAnswers old new (Ok true) = (0 < length new.unread.bytes)
     × (new.source.failed ≡ old.source.failed)
 SomeAnswers old new (Ok false) = (new.unread.bytes ≡ []) × IsAtEnd new.source.remaining
@@ -30,18 +30,18 @@ SomeAnswers old new (Ok false) = (new.unread.bytes ≡ []) × IsAtEnd new.source
 SomeAnswers old new (Err fault) = (new.unread.bytes ≡ []) × PullFails old new fault
 
 -- so few bytes of a nonce were used, and no byte is left
-abbrev pub UsesShort : Side → Side → Type 0
+abbrev pub UsesShort : ReaderView → ReaderView → Type 0
 UsesShort old new = (short : List ℕ) × (length short < 16) × Uses old new short
     × (new.unread.bytes ≡ [])
 
-abbrev pub NonceFails : Side → Side → FileFault → Type 0
+abbrev pub NonceFails : ReaderView → ReaderView → FileFault → Type 0
 NonceFails old new NonceCut = UsesShort old new × IsAtEnd new.source.remaining
 NonceFails old new Read = UsesShort old new × HasRisen old.source.failed new.source.failed
 NonceFails old new ReadNeverEnds = UsesShort old new × (new.unread.pulls ≡ 2 ^ 63)
 NonceFails old new other = ⊥
 
 -- a header was read and opened, and the nonce behind it was read
-pub record StartsAt (Allows : Header → List ℕ → Type 0) (old : SourceView) (new : Side)
+pub record StartsAt (Allows : Header → List ℕ → Type 0) (old : SourceView) (new : ReaderView)
     (unlocked : Unlocked) : Type 0 where
   pub header : Header
   pub front : List ℕ

@@ -1,6 +1,6 @@
 //! Sources, sinks and files over memory, by their plans of failures.
 
-use age_file::{Failed, FileFault, MemSink, MemSource, Reading, Sink, Source, Writing, put_all};
+use age_file::{Failed, FileFault, MemSink, MemSource, Reading, Sink, Source, Writing, write_all};
 use age_fileset::{CreateFault, FileSet, MemFiles};
 use age_io::Durability;
 use std::test::Fail;
@@ -49,9 +49,12 @@ fn a_sink_fails_once(rt: HostRuntime) -> Result<(), Fail> {
 fn what_is_written_before_a_failure_is_counted(rt: HostRuntime) -> Result<(), Fail> {
     let mut sink = MemSink::new(rt.alloc(), 5, 2, None)?;
     let mut written = 10;
-    assert_eq!(rt; put_all(&mut sink, b"abcd", &mut written), Ok(()));
+    assert_eq!(rt; write_all(&mut sink, b"abcd", &mut written), Ok(()));
     assert_eq!(rt; written, 14);
-    assert_eq!(rt; put_all(&mut sink, b"efg", &mut written), Err(Failed));
+    assert_eq!(rt;
+        write_all(&mut sink, b"efg", &mut written),
+        Err(FileFault::Write)
+    );
     assert_eq!(rt; written, 15);
     assert_eq!(rt; sink.into_bytes().as_slice(), b"abcde".as_slice());
     Ok(())

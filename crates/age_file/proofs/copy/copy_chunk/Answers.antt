@@ -7,12 +7,11 @@ use Rattle.sha2.specs.Hashers.{Holds256}
 use Rattle.age_stream.specs.Headline.{IsPrefixOf}
 use Rattle.age_file.specs.Faults.{HasRisen}
 use Rattle.age_file.specs.inner.Bindings.{link_if}
-use Rattle.age_file.specs.inner.Unread.{side}
+use Rattle.age_file.specs.inner.Readers.{reader_view, view_of_reader, view_of_writer}
 use Rattle.age_file.proofs.Bytes.{Appends-then}
 use Rattle.age_file.proofs.StartSteps.{uses_front}
 use Rattle.age_file.proofs.SkipSteps.{passes_then, passes_same, dries_same}
 use Rattle.age_file.proofs.CopySteps.{copy_dry, all_out, front_written}
-use Rattle.age_file.specs.inner.Readers.{tally_of, side_of}
 use Rattle.age_file.proofs.copy.copy_chunk.Goals as goal
 
 pub parts-init : goal.parts-init
@@ -40,9 +39,9 @@ pub returns-then-not-branch-clause-copied : goal.returns-then-not-branch-clause-
 returns-then-not-branch-clause-copied g c =
     let kept = c.parts.invariant in
     let r = rw c.if-not-branch.true at c.in_ok-some_bytes.ensures.answers in
-    let old = side_of g.S.Source.view c.args.reader.now in
-    let mid = side_of g.S.Source.view c.parts.reader in
-    let new = side_of g.S.Source.view c.some_bytes.new.reader in
+    let old = view_of_reader g.S.Source.view c.args.reader.now in
+    let mid = view_of_reader g.S.Source.view c.parts.reader in
+    let new = view_of_reader g.S.Source.view c.some_bytes.new.reader in
     let passes = passes_same old mid new kept.copied kept.passes (record { uses = c.some_bytes.ensures.uses; unfailed = r.2 }) in
     record {
       out = kept.copied;
@@ -57,11 +56,11 @@ returns-in_err-some_bytes-clause-copied g c =
     let p = err_from_is_err_and c.from_residual.result c.from_residual.ensures.1 in
     let kept = c.parts.invariant in
     let a = c.in_err-some_bytes.ensures.answers in
-    let old = side_of g.S.Source.view c.args.reader.now in
-    let mid = side_of g.S.Source.view c.parts.reader in
-    let new = side_of g.S.Source.view c.some_bytes.new.reader in
-    let was = tally_of g.O.Sink.view c.args.writer.now in
-    let now = tally_of g.O.Sink.view c.parts.writer in
+    let old = view_of_reader g.S.Source.view c.args.reader.now in
+    let mid = view_of_reader g.S.Source.view c.parts.reader in
+    let new = view_of_reader g.S.Source.view c.some_bytes.new.reader in
+    let was = view_of_writer g.O.Sink.view c.args.writer.now in
+    let now = view_of_writer g.O.Sink.view c.parts.writer in
     let dries = dries_same old mid new kept.copied c.in_err-some_bytes.field-0.0 kept.passes (record {
       uses = c.some_bytes.ensures.uses;
       used = a.0;
@@ -85,9 +84,9 @@ returns-in_err-write_all-clause-copied g c =
     let kept = c.parts.invariant in
     let r = rw c.if-not-branch.false at c.in_ok-some_bytes.ensures.answers in
     let put = c.in_err-write_all.ensures.writes in
-    let old = side_of g.S.Source.view c.args.reader.now in
-    let mid = side_of g.S.Source.view c.parts.reader in
-    let new = side_of g.S.Source.view c.some_bytes.new.reader in
+    let old = view_of_reader g.S.Source.view c.args.reader.now in
+    let mid = view_of_reader g.S.Source.view c.parts.reader in
+    let new = view_of_reader g.S.Source.view c.some_bytes.new.reader in
     let used = passes_same old mid new kept.copied kept.passes (record { uses = c.some_bytes.ensures.uses; unfailed = r.1 }) in
     let n = c.min-n.result in
     let bytes = c.bytes-in-parts.result.now in
@@ -123,10 +122,10 @@ pub parts-preserved : goal.parts-preserved
 parts-preserved g c =
     let kept = c.parts.invariant in
     let r = rw c.if-not-branch.false at c.in_ok-some_bytes.ensures.answers in
-    let old = side_of g.S.Source.view c.args.reader.now in
-    let mid = side_of g.S.Source.view c.parts.reader in
-    let there = side_of g.S.Source.view c.some_bytes.new.reader in
-    let new = side (g.S.Source.view c.some_bytes.new.reader.source.now) c.use_front.new.self in
+    let old = view_of_reader g.S.Source.view c.args.reader.now in
+    let mid = view_of_reader g.S.Source.view c.parts.reader in
+    let there = view_of_reader g.S.Source.view c.some_bytes.new.reader in
+    let new = reader_view (g.S.Source.view c.some_bytes.new.reader.source.now) c.use_front.new.self in
     let n = c.min-n.result in
     let bytes = c.bytes-in-parts.result.now in
     let put = c.in_ok-write_all.ensures.writes in

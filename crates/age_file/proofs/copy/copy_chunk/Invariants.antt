@@ -2,7 +2,7 @@ use Rattle.std.proofs.Common.{◌≡◌, ◌+◌, ◌++◌, ℕ, List, Some, len
 use Rattle.std.specs.Io.KnownBytes.{Appends}
 use Rattle.sha2.specs.Hashers.{Holds256}
 use Rattle.age_file.specs.inner.Skips.{Passes}
-use Rattle.age_file.specs.inner.Readers.{side_of, SameReader, SameWriter}
+use Rattle.age_file.specs.inner.Readers.{view_of_reader, SameReader, SameWriter}
 use Rattle.age_file.proofs.copy.copy_chunk.Given as goal
 
 -- what was copied so far
@@ -12,7 +12,7 @@ invariant-parts g l = record {
   same_writer : SameWriter l.fn.writer l.writer;
   copied : List ℕ;
   size : length copied + l.left ≡ 65536;
-  passes : Passes (side_of g.S.Source.view l.fn.reader) (side_of g.S.Source.view l.reader) copied;
+  passes : Passes (view_of_reader g.S.Source.view l.fn.reader) (view_of_reader g.S.Source.view l.reader) copied;
   wrote : Appends (g.O.Sink.view l.fn.writer.sink.now).taken (g.O.Sink.view l.writer.sink.now).taken copied;
   failures : (g.O.Sink.view l.writer.sink.now).failed ≡ (g.O.Sink.view l.fn.writer.sink.now).failed;
   named : (g.O.Sink.view l.writer.sink.now).label ≡ (g.O.Sink.view l.fn.writer.sink.now).label;

@@ -8,7 +8,7 @@ use Rattle.age_file.proofs.Bytes.{Appends-then}
 use Rattle.age_file.proofs.SkipSteps.{passes_then}
 use Rattle.age_file.proofs.CopySteps.{chain_more, chunk_failed}
 use Rattle.std.proofs.KnownBytes.{Appends-nil}
-use Rattle.age_file.specs.inner.Readers.{tally_of, side_of}
+use Rattle.age_file.specs.inner.Readers.{view_of_reader, view_of_writer}
 use Rattle.age_file.proofs.copy.copy_chunks.Goals as goal
 
 pub copy_chunk-requires-clause-room : goal.copy_chunk-requires-clause-room
@@ -21,12 +21,12 @@ pub returns-in_err-copy_chunk-clause-copied : goal.returns-in_err-copy_chunk-cla
 returns-in_err-copy_chunk-clause-copied g c =
     let p = err_from_is_err_and c.from_residual.result c.from_residual.ensures.1 in
     let kept = c.loop-copied.invariant in
-    let old = side_of g.S.Source.view c.args.reader.now in
-    let mid = side_of g.S.Source.view c.loop-copied.reader in
-    let new = side_of g.S.Source.view c.copy_chunk.new.reader in
-    let was = tally_of g.O.Sink.view c.args.writer.now in
-    let between = tally_of g.O.Sink.view c.loop-copied.writer in
-    let now = tally_of g.O.Sink.view c.copy_chunk.new.writer in
+    let old = view_of_reader g.S.Source.view c.args.reader.now in
+    let mid = view_of_reader g.S.Source.view c.loop-copied.reader in
+    let new = view_of_reader g.S.Source.view c.copy_chunk.new.reader in
+    let was = view_of_writer g.O.Sink.view c.args.writer.now in
+    let between = view_of_writer g.O.Sink.view c.loop-copied.writer in
+    let now = view_of_writer g.O.Sink.view c.copy_chunk.new.writer in
     rw (p.1, p.2) (chunk_failed 65536 c.args.chunks c.loop-copied._copied old mid new was between now kept.out c.in_err-copy_chunk.field-0.0 kept.size
     (omega arith) kept.passes kept.wrote kept.named kept.failures (omega (arith, kept.count, c.requires.fresh.0)) c.in_err-copy_chunk.ensures.copied)
 
@@ -51,9 +51,9 @@ loop-copied-preserved g c =
     let step = c.in_ok-copy_chunk.ensures.copied in
     let goes = step.answered in
     let i = c.loop-copied._copied in
-    let old = side_of g.S.Source.view c.args.reader.now in
-    let mid = side_of g.S.Source.view c.loop-copied.reader in
-    let new = side_of g.S.Source.view c.copy_chunk.new.reader in
+    let old = view_of_reader g.S.Source.view c.args.reader.now in
+    let mid = view_of_reader g.S.Source.view c.loop-copied.reader in
+    let new = view_of_reader g.S.Source.view c.copy_chunk.new.reader in
     let next : suc i ≡ i + 1 = omega arith in
     let links : c.copy_chunk.new.writer.progress.chain ≡ chain_if Kept (first_chunks 65536 (i + 1) (kept.out ++ step.out)) =
     goes.4 ∙ ap (λ (xs : Option (List ℕ)). link_if xs step.out) kept.chain_is ∙ ap Some (sym (chain_more 65536 i kept.out step.out kept.size goes.0))

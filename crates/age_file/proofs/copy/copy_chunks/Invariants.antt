@@ -4,7 +4,7 @@ use Rattle.std.specs.Simd.{first_chunks}
 use Rattle.age_file.specs.inner.Bindings.{chain_if}
 use Rattle.age_file.specs.declared.position.Positions.TheVariants.{Kept}
 use Rattle.age_file.specs.inner.Skips.{Passes}
-use Rattle.age_file.specs.inner.Readers.{side_of, SameReader, SameWriter}
+use Rattle.age_file.specs.inner.Readers.{view_of_reader, SameReader, SameWriter}
 use Rattle.age_file.proofs.copy.copy_chunks.Given as goal
 
 -- the chunks that were copied so far
@@ -14,7 +14,7 @@ invariant-loop-copied g l = record {
   same_writer : SameWriter l.fn.writer l.writer;
   out : List ℕ;
   size : length out ≡ l._copied * 65536;
-  passes : Passes (side_of g.S.Source.view l.fn.reader) (side_of g.S.Source.view l.reader) out;
+  passes : Passes (view_of_reader g.S.Source.view l.fn.reader) (view_of_reader g.S.Source.view l.reader) out;
   wrote : Appends (g.O.Sink.view l.fn.writer.sink.now).taken (g.O.Sink.view l.writer.sink.now).taken out;
   failures : (g.O.Sink.view l.writer.sink.now).failed ≡ (g.O.Sink.view l.fn.writer.sink.now).failed;
   named : (g.O.Sink.view l.writer.sink.now).label ≡ (g.O.Sink.view l.fn.writer.sink.now).label;

@@ -1,14 +1,12 @@
-use Rattle.std.proofs.Common.{refl, rules, Ok, Err}
+use Rattle.std.proofs.Common.{refl, rules, Err}
 use Rattle.std.proofs.KnownBytes.{Appends-nil}
 use Rattle.age_file.proofs.Bytes.{stops_unread}
 use Rattle.age_file.specs.Ports.{ports}
-use Rattle.age_file.specs.inner.Releases.{tally}
-use Rattle.age_file.specs.inner.Payloads.{stage}
-use Rattle.age_file.specs.inner.Readers.{stage_of}
+use Rattle.age_file.specs.inner.Readers.{writer_view, stage, view_of_reader, stage_of}
 use Rattle.age_file.specs.Decrypts.{Decrypts}
 use Rattle.age_file.proofs.ReaderSteps.{read_last, ports_last}
-use Rattle.age_file.proofs.DecryptSteps.{decrypted, decrypt_done, decrypt_fails, start_fails}
-use Rattle.age_file.proofs.Undamaged.{undamaged, undamaged_done}
+use Rattle.age_file.proofs.DecryptSteps.{decrypted, run_ended, start_fails}
+use Rattle.age_file.proofs.Undamaged.{undamaged}
 use Rattle.age_file.proofs.decryption.decrypt_with.Goals as goal
 
 pub returns-in_default : goal.returns-in_default
@@ -38,53 +36,18 @@ returns-in-Err g c =
       named = refl;
     })
 
-pub returns-in-Ok-decrypt_payload : goal.returns-in-Ok-decrypt_payload
-returns-in-Ok-decrypt_payload g c =
-    let old = stage (tally (g.O.Sink.view c.args.writer.now) c.new-progress.result) (g.S.Source.view c.start.new.reader.source.now)
-    c.start.new.reader.intake.now in
-    let new = stage_of g.S.Source.view g.O.Sink.view c.decrypt_payload.new.reader c.decrypt_payload.new.writer in
-    let before = ports (g.S.Source.view c.args.reader.now) (g.O.Sink.view c.args.writer.now) in
-    let after = ports (g.S.Source.view c.decrypt_payload.new.reader.source.now) (g.O.Sink.view c.decrypt_payload.new.writer.sink.now) in
-    let Allows = g.U.Unlock.allows c.args.unlock.now in
-    let Refused = g.U.Unlock.refuses c.args.unlock.now in
-    let ran = decrypted c.args.positions Allows Refused (g.S.Source.view c.args.reader.now) c.in-Ok-start.unlocked c.payload_key-key.result old new _
-    c.new-progress.ensures.written c.new-progress.ensures.index c.new-progress.ensures.chain c.payload_key-key.ensures c.in-Ok-start.ensures.found
-    c.in-Ok-decrypt_payload.ensures.decrypts in
-    let done = decrypt_done c.args.positions Allows Refused (g.S.Source.view c.args.reader.now) c.in-Ok-start.unlocked old new c.in-Ok-start.ensures.unfailed
-    ran in
-    ports_last g.S.Source.view g.O.Sink.view (λ p. Decrypts c.args.positions Allows Refused before p
-    (Ok (record { written = c.decrypt_payload.new.writer.progress.written })))
-    _ c.decrypt_payload.new.reader.source.now _ c.decrypt_payload.new.writer.sink.now (search rules) (search rules)
-    (record {
-      done = (ran.run, done.0, done.1, done.2);
-      stopped = tt;
-      undamaged = λ text whole. undamaged_done c.one_header.ensures Allows Refused before after _ ran.run text whole done.0 done.1;
-      settled = c.in-Ok-decrypt_payload.ensures.settled;
-      named = c.in-Ok-decrypt_payload.ensures.decrypts.named;
-    })
-
 pub returns : goal.returns
 returns g c =
-    let old = stage (tally (g.O.Sink.view c.args.writer.now) c.new-progress.result) (g.S.Source.view c.start.new.reader.source.now)
-    c.start.new.reader.intake.now in
-    let new = stage_of g.S.Source.view g.O.Sink.view c.decrypt_payload.new.reader c.decrypt_payload.new.writer in
-    let before = ports (g.S.Source.view c.args.reader.now) (g.O.Sink.view c.args.writer.now) in
-    let after = ports (g.S.Source.view c.decrypt_payload.new.reader.source.now) (g.O.Sink.view c.decrypt_payload.new.writer.sink.now) in
+    let old = stage (view_of_reader g.S.Source.view c.start.new.reader) (writer_view (g.O.Sink.view c.args.writer.now) c.new-progress.result) in
+    let new = stage_of g.S.Source.view g.O.Sink.view c.decrypt_payload-run.new.reader c.decrypt_payload-run.new.writer in
+    let first = g.S.Source.view c.args.reader.now in
+    let before = ports first (g.O.Sink.view c.args.writer.now) in
     let Allows = g.U.Unlock.allows c.args.unlock.now in
     let Refused = g.U.Unlock.refuses c.args.unlock.now in
-    let ran = decrypted c.args.positions Allows Refused (g.S.Source.view c.args.reader.now) c.in-Ok-start.unlocked c.payload_key-key.result old new _
-    c.new-progress.ensures.written c.new-progress.ensures.index c.new-progress.ensures.chain c.payload_key-key.ensures c.in-Ok-start.ensures.found
-    c.in-Err-decrypt_payload.ensures.decrypts in
-    let fails = decrypt_fails c.args.positions Allows Refused (g.S.Source.view c.args.reader.now) c.in-Ok-start.unlocked old new c.in-Err-decrypt_payload.fault
-    c.position_of-next.result c.in-Ok-start.ensures.unfailed ran c.position_of-next.ensures in
-    ports_last g.S.Source.view g.O.Sink.view (λ p. Decrypts c.args.positions Allows Refused before p (Err c.after.result))
-    _ c.decrypt_payload.new.reader.source.now _ c.decrypt_payload.new.writer.sink.now (search rules) (search rules)
-    (record {
-      done = tt;
-      stopped = rw c.after.ensures fails;
-      undamaged = λ text whole.
-          rw c.after.ensures (undamaged c.args.positions c.one_header.ensures Allows Refused before after c.decrypt_payload.new.writer.progress.written
-          c.position_of-next.result c.in-Err-decrypt_payload.fault text whole fails);
-      settled = tt;
-      named = c.in-Err-decrypt_payload.ensures.decrypts.named;
-    })
+    let d = c.decrypt_payload-run.ensures in
+    let ran = decrypted c.args.positions Allows Refused first c.in-Ok-start.unlocked c.payload_key-key.result old new _
+    c.new-progress.ensures.written c.new-progress.ensures.index c.new-progress.ensures.chain c.payload_key-key.ensures c.in-Ok-start.ensures.found d.decrypts in
+    ports_last g.S.Source.view g.O.Sink.view (λ p. Decrypts c.args.positions Allows Refused before p c.ended.result)
+    _ c.decrypt_payload-run.new.reader.source.now _ c.decrypt_payload-run.new.writer.sink.now (search rules) (search rules)
+    (run_ended c.args.positions Allows Refused c.one_header.ensures first c.in-Ok-start.unlocked old new _ c.ended.result c.in-Ok-start.ensures.unfailed
+    d.decrypts.named d.settled ran c.ended.ensures)

@@ -4,8 +4,7 @@ use Rattle.std.specs.Io.KnownBytes.{Consumes, IsAtEnd}
 use Rattle.age_file.specs.Faults.{HasRisen, HeadFails}
 use Rattle.age_file.specs.inner.Intakes.{Pulled, RestFails}
 use Rattle.age_io.specs.Views.{SourceView}
-use Rattle.age_file.specs.inner.Unread.{Side}
-use Rattle.age_file.specs.inner.Readers.{side_of}
+use Rattle.age_file.specs.inner.Readers.{ReaderView, view_of_reader}
 use Rattle.age_file.specs.declared.fault.FileFault.{FileFault}
 use Rattle.age_file.specs.declared.fault.FileFault.TheVariants.{Read, ReadNeverEnds}
 use Rattle.age_file.proofs.Bytes.{stops_unread}
@@ -13,7 +12,7 @@ use Rattle.age_file.proofs.ReaderSteps.{read_last}
 use Rattle.age_file.proofs.inspection.inspect.Goals as goal
 
 -- a rest that could not be read, behind a header that was
-rest_to_head : (first : SourceView) (mid now : Side) (front : List ℕ) (fault : FileFault) → mid.source.failed ≡ first.failed
+rest_to_head : (first : SourceView) (mid now : ReaderView) (front : List ℕ) (fault : FileFault) → mid.source.failed ≡ first.failed
     → Pulled first.remaining mid.source.remaining mid.unread.pulls (front ++ mid.unread.bytes)
     → RestFails mid now fault → HeadFails first now.source fault
 rest_to_head first mid now front Read same h f = subst (λ (k : ℕ). HasRisen k now.source.failed) same f
@@ -30,8 +29,8 @@ returns-in_err-rest-clause-fails g c =
     let p = err_from_is_err_and c.from_residual-in_err-rest.result c.from_residual-in_err-rest.ensures.1 in
     let head = c.in_ok-head.ensures.found in
     let first = g.S.Source.view c.args.source.now in
-    let mid = side_of g.S.Source.view c.read_head.new.reader in
-    let last = side_of g.S.Source.view c.count_rest.new.reader in
+    let mid = view_of_reader g.S.Source.view c.read_head.new.reader in
+    let last = view_of_reader g.S.Source.view c.count_rest.new.reader in
     let fails = rest_to_head first mid last head.front c.in_err-rest.field-0.0 c.in_ok-head.ensures.unfailed head.pulled c.in_err-rest.ensures.fails in
     rw (p.1, p.2) (read_last g.S.Source.view (λ v. HeadFails first v c.in_err-rest.field-0.0) _ c.count_rest.new.reader.source.now (search rules) fails)
 

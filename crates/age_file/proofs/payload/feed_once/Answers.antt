@@ -5,9 +5,8 @@ use Rattle.std.proofs.KnownBytes.{Appends-nil}
 use Rattle.age_stream.specs.Deliveries.{with_piece}
 use Rattle.age_file.specs.inner.Boxes.{opens, seals}
 use Rattle.age_keys.specs.inner.PayloadBox.{box_valid}
-use Rattle.age_file.specs.inner.Releases.{tally}
+use Rattle.age_file.specs.inner.Readers.{writer_view, view_of_writer}
 use Rattle.age_file.proofs.ReleaseSteps.{more_text, fed_front, goes_front, counts_whole, counts_refused, counts_cut}
-use Rattle.age_file.specs.inner.Readers.{tally_of}
 use Rattle.age_file.proofs.payload.feed_once.Goals as goal
 
 -- the opener refused the piece
@@ -45,7 +44,7 @@ returns-in_default-clause-fed g c =
     let piece = c.args.piece.now in
     let key = c.args.opener.now.key in
     let new = c.feed.follows.lender-at-none in
-    let was = tally_of g.O.Sink.view c.args.writer.now in
+    let was = view_of_writer g.O.Sink.view c.args.writer.now in
     let texts = rw c.in_default.is at ok.texts in
     let room = rw c.in_default.is at after.fits in
     record {
@@ -71,7 +70,7 @@ returns-in_err-write_all-clause-fed g c =
     let key = c.args.opener.now.key in
     let texts = rw c.in-Some.is at ok.texts in
     let chunk = Some c.in-Some.chunk in
-    let was = tally_of g.O.Sink.view c.args.writer.now in
+    let was = view_of_writer g.O.Sink.view c.args.writer.now in
     record {
       fed = take step.taken piece;
       left = drop step.taken piece;
@@ -98,8 +97,8 @@ returns-clause-fed g c =
     let room = rw c.in-Some.is at after.fits in
     let none : [] ≡ [] = refl in
     let count = c.count.ensures.same ∙ put.count in
-    let was = tally_of g.O.Sink.view c.args.writer.now in
-    let now = tally (g.O.Sink.view c.write_all.new.sink) c.count.new.self in
+    let was = view_of_writer g.O.Sink.view c.args.writer.now in
+    let now = writer_view (g.O.Sink.view c.write_all.new.sink) c.count.new.self in
     record {
       fed = take step.taken piece;
       left = drop step.taken piece;

@@ -3,7 +3,7 @@ use Rattle.std.proofs.lemmas.Result.{err_from_is_err_and}
 use Rattle.std.proofs.lemmas.List.{take_rest, take-append-drop, length-append, length-drop, append_assoc, take_at, take_all}
 use Rattle.age_file.specs.inner.Boxes.{opens}
 use Rattle.age_file.proofs.ReleaseSteps.{both_then, releases_none, releases_then, fails_then}
-use Rattle.age_file.specs.inner.Readers.{tally_of}
+use Rattle.age_file.specs.inner.Readers.{view_of_writer}
 use Rattle.age_file.proofs.payload.feed_piece.Goals as goal
 
 -- the front of what is left of a piece
@@ -19,7 +19,7 @@ all_of piece fed left at parts =
 
 pub loop-at-init : goal.loop-at-init
 loop-at-init g c =
-    let was = tally_of g.O.Sink.view c.args.writer.now in
+    let was = view_of_writer g.O.Sink.view c.args.writer.now in
     record {
       same = refl;
       within = omega arith;
@@ -34,9 +34,9 @@ loop-at-preserved g c =
     let piece = c.args.piece.now in
     let at = c.loop-at.at in
     let both = both_then opens 65536 (take at piece) fed.fed (take (at + c.in_ok-at.field-0) piece) c.args.opener.now c.loop-at.opener c.feed_once.new.opener
-    (tally_of g.O.Sink.view c.args.writer.now)
-    (tally_of g.O.Sink.view c.loop-at.writer)
-    (tally_of g.O.Sink.view c.feed_once.new.writer) fed.unwritten
+    (view_of_writer g.O.Sink.view c.args.writer.now)
+    (view_of_writer g.O.Sink.view c.loop-at.writer)
+    (view_of_writer g.O.Sink.view c.feed_once.new.writer) fed.unwritten
     (on piece fed.fed fed.left at c.in_ok-at.field-0 fed.parts fed.answered.0) kept.releases kept.goes fed.releases fed.answered.1 in
     record {
       same = c.in_ok-at.ensures.same ∙ kept.same;
@@ -60,9 +60,9 @@ returns-in_err-at g c =
     let fed = c.in_err-at.ensures.fed in
     let piece = c.args.piece.now in
     let at = c.loop-at.at in
-    let was = tally_of g.O.Sink.view c.args.writer.now in
-    let mid = tally_of g.O.Sink.view c.loop-at.writer in
-    let now = tally_of g.O.Sink.view c.feed_once.new.writer in
+    let was = view_of_writer g.O.Sink.view c.args.writer.now in
+    let mid = view_of_writer g.O.Sink.view c.loop-at.writer in
+    let now = view_of_writer g.O.Sink.view c.feed_once.new.writer in
     record {
       fed = record {
         fed = take at piece ++ fed.fed;

@@ -2,13 +2,13 @@ use Rattle.std.proofs.Common.{length, ◌-◌, ◌≤◌, take, []}
 use Rattle.age_stream.specs.Deliveries.{with_piece}
 use Rattle.age_file.specs.inner.Boxes.{opens}
 use Rattle.age_file.specs.inner.Releases.{Releases, FeedGoes}
-use Rattle.age_file.specs.inner.Readers.{tally_of, SameWriter}
+use Rattle.age_file.specs.inner.Readers.{view_of_writer, SameWriter}
 use Rattle.age_file.proofs.payload.feed_piece.Given as goal
 
 abbrev pub invariant-loop-at : goal.invariant-loop-at
 invariant-loop-at g l =
-    let was = tally_of g.O.Sink.view l.fn.writer in
-    let now = tally_of g.O.Sink.view l.writer in
+    let was = view_of_writer g.O.Sink.view l.fn.writer in
+    let now = view_of_writer g.O.Sink.view l.writer in
     record {
       same : SameWriter l.fn.writer l.writer;
       within : l.at ≤ length l.piece;

@@ -1,18 +1,13 @@
-use Rattle.std.proofs.Common.{◌∙◌, ◌++◌, [], None, refl, rules, Ok, Err}
-use Rattle.age_cipher.specs.Opening.{opening}
+use Rattle.std.proofs.Common.{◌∙◌, None, refl, rules, Err}
 use Rattle.std.proofs.KnownBytes.{Appends-nil, Consumes-nil}
-use Rattle.age_file.specs.inner.Releases.{tally}
-use Rattle.age_file.specs.inner.Unread.{side}
-use Rattle.age_file.specs.inner.Payloads.{stage}
+use Rattle.age_file.specs.inner.Readers.{reader_view, writer_view, stage, view_of_reader, view_of_writer, stage_of}
 use Rattle.age_file.specs.Ports.{ports}
 use Rattle.age_file.specs.Resumes.{resume_ports}
-use Rattle.age_file.specs.inner.Readers.{side_of, tally_of, stage_of}
 use Rattle.age_file.specs.ResumePromises.{ResumesText}
 use Rattle.age_file.proofs.ReaderSteps.{read_last, resume_last}
-use Rattle.age_file.proofs.Bytes.{stops_unread, preceded}
-use Rattle.age_file.proofs.ResumesPayloadSteps.{resumed_label}
-use Rattle.age_file.proofs.ResumeSteps.{again, start_fails, verdict_fails, copy_fails, resume_done, resume_fails}
-use Rattle.age_file.proofs.UndamagedRest.{undamaged_rest, undamaged_rest_done}
+use Rattle.age_file.proofs.Bytes.{stops_unread}
+use Rattle.age_file.proofs.ResumeSteps.{place_after, start_fails, verdict_fails, copy_fails, skip_stopped, rest_ended}
+use Rattle.age_file.proofs.UndamagedRest.{undamaged_rest}
 use Rattle.age_file.proofs.resumption.resume_with.Goals as goal
 
 pub returns-in_default : goal.returns-in_default
@@ -68,10 +63,10 @@ returns-in-Err-verify g c =
 
 pub returns-in-Err-copy_old : goal.returns-in-Err-copy_old
 returns-in-Err-copy_old g c =
-    let first = tally (g.O.Sink.view c.args.writer.now) c.new-progress.result in
-    let x = side (g.L.Source.view c.args.old_reader.now) c.count_on.new.self in
-    let z = side_of g.L.Source.view c.copy_old.new.reader in
-    let s1 = stage (tally_of g.O.Sink.view c.copy_old.new.writer) (g.S.Source.view c.start.new.reader.source.now) c.start.new.reader.intake.now in
+    let first = writer_view (g.O.Sink.view c.args.writer.now) c.new-progress.result in
+    let x = reader_view (g.L.Source.view c.args.old_reader.now) c.count_on.new.self in
+    let z = view_of_reader g.L.Source.view c.copy_old.new.reader in
+    let s1 = stage (view_of_reader g.S.Source.view c.start.new.reader) (view_of_writer g.O.Sink.view c.copy_old.new.writer) in
     let old = resume_ports (ports (g.S.Source.view c.args.reader.now) (g.O.Sink.view c.args.writer.now)) (g.L.Source.view c.args.old_reader.now) in
     let new = resume_ports (ports (g.S.Source.view c.start.new.reader.source.now) (g.O.Sink.view c.copy_old.new.writer.sink.now))
     (g.L.Source.view c.copy_old.new.reader.source.now) in
@@ -94,80 +89,58 @@ returns-in-Err-copy_old g c =
       named = c.in-Err-copy_old.ensures.copied.named;
     })
 
-pub open_rest-requires-clause-pulled : goal.open_rest-requires-clause-pulled
-open_rest-requires-clause-pulled g c =
-    let first = tally (g.O.Sink.view c.args.writer.now) c.new-progress.result in
-    let x = side (g.L.Source.view c.args.old_reader.now) c.count_on.new.self in
-    let z = side_of g.L.Source.view c.copy_old.new.reader in
-    let s1 = stage (tally_of g.O.Sink.view c.copy_old.new.writer) (g.S.Source.view c.start.new.reader.source.now) c.count_on-2.new.self in
-    let found = c.in-Ok.ensures.found in
-    let copied = c.in-Ok-copy_old.ensures.copied in (
-      preceded (copied.out ++ z.unread.bytes) (g.S.Source.view c.args.reader.now).remaining,
-      (copied.out ++ z.unread.bytes) ++ (found.front ++ c.in-Ok.unlocked.nonce),
-      again c.args.positions (g.U.Unlock.allows c.args.unlock.now) (g.U.Unlock.refuses c.args.unlock.now) c.args.position.now
-          (g.S.Source.view c.args.reader.now) c.in-Ok.unlocked
-          s1 c.start.new.reader.intake.now found c.in-Ok-verify.ensures c.in-Ok.ensures.unfailed first c.new-progress.ensures.written x z
-          (c.count_on.ensures.bytes ∙ c.in-Ok-Ok.ensures'.0) c.count_on.ensures.pulls
-          copied c.args.position.now.within c.count_on-2.ensures.bytes c.count_on-2.ensures.pulls,
-    )
-
-pub returns-in-Ok-open_rest : goal.returns-in-Ok-open_rest
-returns-in-Ok-open_rest g c =
-    let first = tally (g.O.Sink.view c.args.writer.now) c.new-progress.result in
-    let x = side (g.L.Source.view c.args.old_reader.now) c.count_on.new.self in
-    let z = side_of g.L.Source.view c.copy_old.new.reader in
-    let s1 = stage (tally_of g.O.Sink.view c.copy_old.new.writer) (g.S.Source.view c.start.new.reader.source.now) c.count_on-2.new.self in
-    let s2 = stage_of g.S.Source.view g.O.Sink.view c.open_rest.new.reader c.open_rest.new.writer in
-    let old = resume_ports (ports (g.S.Source.view c.args.reader.now) (g.O.Sink.view c.args.writer.now)) (g.L.Source.view c.args.old_reader.now) in
-    let new = resume_ports (ports (g.S.Source.view c.open_rest.new.reader.source.now) (g.O.Sink.view c.open_rest.new.writer.sink.now))
-    (g.L.Source.view c.copy_old.new.reader.source.now) in
-    let Allows = g.U.Unlock.allows c.args.unlock.now in
-    let Refused = g.U.Unlock.refuses c.args.unlock.now in
-    let done = resume_done c.args.positions Allows Refused c.args.position.now (g.S.Source.view c.args.reader.now) c.in-Ok.unlocked
+pub decrypt_payload-run-requires-clause-room : goal.decrypt_payload-run-requires-clause-room
+decrypt_payload-run-requires-clause-room g c =
+    let first = writer_view (g.O.Sink.view c.args.writer.now) c.new-progress.result in
+    let x = reader_view (g.L.Source.view c.args.old_reader.now) c.count_on.new.self in
+    let z = view_of_reader g.L.Source.view c.copy_old.new.reader in
+    let s1 = stage (reader_view (g.S.Source.view c.start.new.reader.source.now) c.count_on-2.new.self) (view_of_writer g.O.Sink.view c.copy_old.new.writer) in
+    let skipped = c.in-Ok-skip_blocks.ensures.skipped in
+    place_after c.args.positions (g.U.Unlock.allows c.args.unlock.now) (g.U.Unlock.refuses c.args.unlock.now) c.args.position.now
+    (g.S.Source.view c.args.reader.now) c.in-Ok.unlocked
     s1 c.start.new.reader.intake.now c.in-Ok.ensures.found c.in-Ok-verify.ensures c.in-Ok.ensures.unfailed first c.new-progress.ensures.written x z
     (c.count_on.ensures.bytes ∙ c.in-Ok-Ok.ensures'.0) c.count_on.ensures.pulls
-    c.in-Ok-copy_old.ensures.copied c.args.position.now.within c.count_on-2.ensures.bytes c.count_on-2.ensures.pulls c.payload_key-key.result s2
-    c.payload_key-key.ensures c.in-Ok-open_rest.ensures.resumes in
+    c.in-Ok-copy_old.ensures.copied c.args.position.now.within c.count_on-2.ensures.bytes c.count_on-2.ensures.pulls
+    (view_of_reader g.S.Source.view c.skip_blocks.new.reader) skipped.0 skipped.1 skipped.2
+
+pub returns-in-Err-skip_blocks : goal.returns-in-Err-skip_blocks
+returns-in-Err-skip_blocks g c =
+    let first = writer_view (g.O.Sink.view c.args.writer.now) c.new-progress.result in
+    let x = reader_view (g.L.Source.view c.args.old_reader.now) c.count_on.new.self in
+    let z = view_of_reader g.L.Source.view c.copy_old.new.reader in
+    let s1 = stage (reader_view (g.S.Source.view c.start.new.reader.source.now) c.count_on-2.new.self) (view_of_writer g.O.Sink.view c.copy_old.new.writer) in
+    let old = resume_ports (ports (g.S.Source.view c.args.reader.now) (g.O.Sink.view c.args.writer.now)) (g.L.Source.view c.args.old_reader.now) in
+    let Allows = g.U.Unlock.allows c.args.unlock.now in
+    let Refused = g.U.Unlock.refuses c.args.unlock.now in
     resume_last g.S.Source.view g.O.Sink.view g.L.Source.view (λ p. ResumesText c.args.positions (g.U.Unlock.allows c.args.unlock.now)
-    (g.U.Unlock.refuses c.args.unlock.now) c.args.position.now old p (Ok (record { written = c.open_rest.new.writer.progress.written })))
-    _ c.open_rest.new.reader.source.now _ c.open_rest.new.writer.sink.now _ c.copy_old.new.reader.source.now (search rules) (search rules) (search rules)
-    (record {
-      done = done;
-      stopped = tt;
-      undamaged = λ text whole. undamaged_rest_done c.one_header.ensures Allows Refused c.args.position.now old new text whole _ done.0 done.1 done.2;
-      settled = c.in-Ok-open_rest.ensures.settled;
-      named = resumed_label (λ nonce block. opening c.payload_key-key.result nonce [] block) c.args.position.now.index s1 s2 _ c.in-Ok-open_rest.ensures.resumes
-          ∙ c.in-Ok-copy_old.ensures.copied.named;
-    })
+    (g.U.Unlock.refuses c.args.unlock.now) c.args.position.now old p c.ended.result)
+    _ c.skip_blocks.new.reader.source.now _ c.copy_old.new.writer.sink.now _ c.copy_old.new.reader.source.now (search rules) (search rules) (search rules)
+    (skip_stopped c.args.positions Allows Refused c.args.position.now (g.S.Source.view c.args.reader.now) c.in-Ok.unlocked
+    s1 c.start.new.reader.intake.now c.in-Ok.ensures.found c.in-Ok-verify.ensures c.in-Ok.ensures.unfailed first c.new-progress.ensures.written x z
+    (c.count_on.ensures.bytes ∙ c.in-Ok-Ok.ensures'.0) c.count_on.ensures.pulls
+    c.in-Ok-copy_old.ensures.copied c.args.position.now.within c.count_on-2.ensures.bytes c.count_on-2.ensures.pulls c.one_header.ensures
+    (view_of_reader g.S.Source.view c.skip_blocks.new.reader) c.in-Err-skip_blocks.fault c.ended.result c.ended.ensures
+    c.in-Err-skip_blocks.ensures.skipped)
 
 pub returns : goal.returns
 returns g c =
-    let first = tally (g.O.Sink.view c.args.writer.now) c.new-progress.result in
-    let x = side (g.L.Source.view c.args.old_reader.now) c.count_on.new.self in
-    let z = side_of g.L.Source.view c.copy_old.new.reader in
-    let s1 = stage (tally_of g.O.Sink.view c.copy_old.new.writer) (g.S.Source.view c.start.new.reader.source.now) c.count_on-2.new.self in
-    let s2 = stage_of g.S.Source.view g.O.Sink.view c.open_rest.new.reader c.open_rest.new.writer in
+    let first = writer_view (g.O.Sink.view c.args.writer.now) c.new-progress.result in
+    let x = reader_view (g.L.Source.view c.args.old_reader.now) c.count_on.new.self in
+    let z = view_of_reader g.L.Source.view c.copy_old.new.reader in
+    let s1 = stage (reader_view (g.S.Source.view c.start.new.reader.source.now) c.count_on-2.new.self) (view_of_writer g.O.Sink.view c.copy_old.new.writer) in
+    let s2 = stage_of g.S.Source.view g.O.Sink.view c.decrypt_payload-run.new.reader c.decrypt_payload-run.new.writer in
     let old = resume_ports (ports (g.S.Source.view c.args.reader.now) (g.O.Sink.view c.args.writer.now)) (g.L.Source.view c.args.old_reader.now) in
-    let new = resume_ports (ports (g.S.Source.view c.open_rest.new.reader.source.now) (g.O.Sink.view c.open_rest.new.writer.sink.now))
-    (g.L.Source.view c.copy_old.new.reader.source.now) in
     let Allows = g.U.Unlock.allows c.args.unlock.now in
     let Refused = g.U.Unlock.refuses c.args.unlock.now in
-    let fails = resume_fails c.args.positions Allows Refused c.args.position.now (g.S.Source.view c.args.reader.now) c.in-Ok.unlocked
+    let skipped = c.in-Ok-skip_blocks.ensures.skipped in
+    let d = c.decrypt_payload-run.ensures in
+    resume_last g.S.Source.view g.O.Sink.view g.L.Source.view (λ p. ResumesText c.args.positions (g.U.Unlock.allows c.args.unlock.now)
+    (g.U.Unlock.refuses c.args.unlock.now) c.args.position.now old p c.ended-2.result)
+    _ c.decrypt_payload-run.new.reader.source.now _ c.decrypt_payload-run.new.writer.sink.now _ c.copy_old.new.reader.source.now (search rules)
+    (search rules) (search rules)
+    (rest_ended c.args.positions Allows Refused c.args.position.now (g.S.Source.view c.args.reader.now) c.in-Ok.unlocked
     s1 c.start.new.reader.intake.now c.in-Ok.ensures.found c.in-Ok-verify.ensures c.in-Ok.ensures.unfailed first c.new-progress.ensures.written x z
     (c.count_on.ensures.bytes ∙ c.in-Ok-Ok.ensures'.0) c.count_on.ensures.pulls
-    c.in-Ok-copy_old.ensures.copied c.args.position.now.within c.count_on-2.ensures.bytes c.count_on-2.ensures.pulls c.payload_key-key.result s2
-    c.position_of-next.result c.in-Err-open_rest.fault c.payload_key-key.ensures
-    c.position_of-next.ensures c.in-Err-open_rest.ensures.resumes in
-    resume_last g.S.Source.view g.O.Sink.view g.L.Source.view (λ p. ResumesText c.args.positions (g.U.Unlock.allows c.args.unlock.now)
-    (g.U.Unlock.refuses c.args.unlock.now) c.args.position.now old p (Err c.after-in-Err-open_rest.result))
-    _ c.open_rest.new.reader.source.now _ c.open_rest.new.writer.sink.now _ c.copy_old.new.reader.source.now (search rules) (search rules) (search rules)
-    (record {
-      done = tt;
-      stopped = rw c.after-in-Err-open_rest.ensures fails;
-      undamaged = λ text whole.
-          rw c.after-in-Err-open_rest.ensures (undamaged_rest c.one_header.ensures Allows Refused c.args.position.now old new text whole c.args.positions
-          c.open_rest.new.writer.progress.written c.position_of-next.result c.in-Err-open_rest.fault fails);
-      settled = tt;
-      named = resumed_label (λ nonce block. opening c.payload_key-key.result nonce [] block) c.args.position.now.index s1 s2 _
-          c.in-Err-open_rest.ensures.resumes ∙ c.in-Ok-copy_old.ensures.copied.named;
-    })
+    c.in-Ok-copy_old.ensures.copied c.args.position.now.within c.count_on-2.ensures.bytes c.count_on-2.ensures.pulls
+    (view_of_reader g.S.Source.view c.skip_blocks.new.reader) skipped.0 skipped.1 skipped.2 c.one_header.ensures c.payload_key-key.result s2 _ c.ended-2.result
+    c.payload_key-key.ensures d.decrypts d.settled c.ended-2.ensures)

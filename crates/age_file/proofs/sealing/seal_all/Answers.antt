@@ -1,71 +1,212 @@
-use Rattle.std.proofs.Common.{◌*◌, ◌^◌, ◌≤◌, length, ap, sym, subst, ◌∙◌, arith, ℕ, ◌++◌}
+use Rattle.std.proofs.Common.{◌≡◌, ◌<◌, ◌*◌, ◌^◌, ◌≤◌, length, ap, sym, subst, ◌∙◌, arith, List, ℕ, [], ◌++◌, refl, append-nil}
 use Rattle.std.proofs.lemmas.Result.{err_from_is_err_and}
 use Rattle.std.proofs.lemmas.Nat.{mul-le}
+use Rattle.std.proofs.KnownBytes.{Appends-nil, Consumes-nil}
+use Rattle.std.proofs.lemmas.List.{length-append}
 use Rattle.age_file.specs.inner.Boxes.{opens, seals}
 use Rattle.age_keys.specs.inner.PayloadBox.{box_valid}
-use Rattle.age_file.specs.Ports.{ports}
+use Rattle.age_file.specs.inner.Readers.{reader_view, view_of_writer}
+use Rattle.age_file.specs.inner.Intakes.{Pulled}
 use Rattle.age_file.specs.Faults.{HasRisen}
-use Rattle.age_file.specs.inner.Seals.{front_of, Wrote, SealingFails, SealsAll, SealsFront}
-use Rattle.age_file.proofs.SealSteps.{front_small}
-use Rattle.age_file.proofs.SourceSteps.{last_written, last_begins, last_whole}
+use Rattle.age_file.specs.inner.Seals.{Wrote, front_of, SealingFails, SealsAll, SealsFront}
+use Rattle.age_file.specs.Ports.{ports}
 use Rattle.age_file.specs.declared.fault.FileFault.{FileFault}
-use Rattle.age_file.specs.inner.Readers.{tally_of}
+use Rattle.age_file.proofs.Bytes.{cut_pulled}
+use Rattle.age_file.proofs.SealSteps.{front_small}
+use Rattle.age_file.proofs.SourceSteps.{front_begins, no_front, piece_done, piece_cut, pull_fails, seal_fails, last_written, last_begins, last_whole}
 use Rattle.age_file.proofs.sealing.seal_all.Goals as goal
+
+pub pulls-init : goal.pulls-init
+pulls-init g c =
+    let n : ℕ = 65536 in
+    let none = no_front (seals c.new-sealer.result.key) n (omega arith) in
+    let now = view_of_writer g.O.Sink.view c.args.writer.now in
+    record {
+      feeding = rw c.new-sealer.ensures (record { unfinished = refl; sound = refl });
+      fresh = rw c.new-sealer.ensures (record { index = refl; held = refl });
+      same_reader = (refl, refl);
+      same_writer = refl;
+      text = [];
+      pulled = record {
+        consumed = Consumes-nil _;
+        each_gave = omega (arith, c.requires.unread.1);
+        small = omega (arith, c.requires.unread.1);
+        most = omega (arith, c.requires.unread.1);
+      };
+      unread = c.requires.unread.0;
+      plain_is = refl;
+      goes = record { key = refl; feeding = rw c.new-sealer.ensures (record { unfinished = refl; sound = refl }); holds = λ text h. rw (append-nil text) h };
+      wrote = subst (λ (t : List ℕ). Wrote now now t) (sym none) (record { bytes = Appends-nil now.sink.taken; count = omega arith });
+      read_failed = refl;
+      write_failed = refl;
+      named = refl;
+    }
+
+pub returns-in_err-refill-clause-fails : goal.returns-in_err-refill-clause-fails
+returns-in_err-refill-clause-fails g c =
+    let p = err_from_is_err_and c.from_residual.result c.from_residual.ensures.1 in
+    let kept = c.pulls.invariant in
+    let r = c.in_err-refill.ensures in
+    let all = cut_pulled _ _ _ kept.text _ r.answered.0 (r.pulled _ kept.text kept.pulled) in
+    let n : ℕ = 65536 in
+    let old = ports (g.S.Source.view c.args.reader.now.source.now) (g.O.Sink.view c.args.writer.now.sink.now) in
+    let new = ports (g.S.Source.view c.refill.new.source) (g.O.Sink.view c.pulls.writer.sink.now) in
+    rw (p.1, p.2) (subst (λ k. SealsFront (seals k) n old new c.args.writer.now.progress.written c.pulls.writer.progress.written c.in_err-refill.field-0.0)
+    (ap (λ v. v.key) c.new-sealer.ensures) (record {
+      text = kept.text;
+      out = front_of (seals c.new-sealer.result.key) n kept.text;
+      moved = record { read = all.consumed; wrote = kept.wrote.bytes; count = kept.wrote.count; small = omega (arith, all.small, all.most) };
+      prefix = front_begins (seals c.new-sealer.result.key) n kept.text;
+      fails = pull_fails n old new kept.text
+          (reader_view (g.S.Source.view c.pulls.reader.source.now) c.pulls.reader.intake.now)
+          (reader_view (g.S.Source.view c.refill.new.source) c.refill.new.self)
+          c.in_err-refill.field-0.0 kept.read_failed refl all.each_gave r.answered.2;
+    }))
+
+pub seal_piece-requires : goal.seal_piece-requires
+seal_piece-requires g c =
+    let kept = c.pulls.invariant in
+    let text = kept.text in
+    let n : ℕ = 65536 in
+    let pulled = kept.pulled in
+    let blocks : front_of (seals c.new-sealer.result.key) n text ≡ front_of (seals c.pulls.sealer.key) n text =
+    ap (λ k. front_of (seals k) n text) (sym kept.goes.key) in
+    record {
+      feeding = kept.goes.feeding;
+      room = record {
+        text = text;
+        holds = kept.goes.holds [] kept.fresh;
+        small = omega (arith, pulled.small, pulled.most, c.bytes.ensures.most);
+        count = omega (arith, c.requires.room, kept.wrote.count, ap length blocks);
+      };
+    }
+
+pub returns-in_err-seal_piece-clause-fails : goal.returns-in_err-seal_piece-clause-fails
+returns-in_err-seal_piece-clause-fails g c =
+    let p = err_from_is_err_and c.from_residual-in_err-seal_piece.result c.from_residual-in_err-seal_piece.ensures.1 in
+    let kept = c.pulls.invariant in
+    let r = rw c.if-branch.true at c.in_ok-refill.ensures in
+    let s = c.in_err-seal_piece.ensures.sealed in
+    let n : ℕ = 65536 in
+    let positive : 0 < n = omega arith in
+    let piece = c.bytes.result.now in
+    let was = view_of_writer g.O.Sink.view c.args.writer.now in
+    let mid = view_of_writer g.O.Sink.view c.pulls.writer in
+    let now = view_of_writer g.O.Sink.view c.seal_piece.new.writer in
+    let old = ports (g.S.Source.view c.args.reader.now.source.now) (g.O.Sink.view c.args.writer.now.sink.now) in
+    let new = ports (g.S.Source.view c.refill.new.source) (g.O.Sink.view c.seal_piece.new.writer.sink.now) in
+    let all = rw (← c.bytes.ensures.bytes) at (r.pulled old.source.remaining kept.text kept.pulled) in
+    let unwritten = piece_cut seals n c.new-sealer.result c.pulls.sealer c.seal_piece.new.sealer was mid now kept.text piece s.fed s.left s.unwritten
+    kept.goes kept.fresh kept.wrote s.some positive in
+    rw (p.1, p.2) (subst (λ k. SealsFront (seals k) n old new c.args.writer.now.progress.written c.seal_piece.new.writer.progress.written
+    c.in_err-seal_piece.field-0.0)
+    (ap (λ v. v.key) c.new-sealer.ensures) (record {
+      text = kept.text ++ piece;
+      out = unwritten.0;
+      moved = record { read = all.consumed; wrote = unwritten.1.bytes; count = unwritten.1.count; small = omega (arith, all.small, all.most) };
+      prefix = unwritten.2;
+      fails = seal_fails seals n c.new-sealer.result c.pulls.sealer old new mid now kept.text piece c.in_err-seal_piece.field-0.0 kept.write_failed refl
+          kept.goes kept.fresh s.answered;
+    }))
+
+pub pulls-preserved : goal.pulls-preserved
+pulls-preserved g c =
+    let kept = c.pulls.invariant in
+    let r = rw c.if-branch.true at c.in_ok-refill.ensures in
+    let s = c.in_ok-seal_piece.ensures.sealed in
+    let n : ℕ = 65536 in
+    let positive : 0 < n = omega arith in
+    let piece = c.bytes.result.now in
+    let was = view_of_writer g.O.Sink.view c.args.writer.now in
+    let mid = view_of_writer g.O.Sink.view c.pulls.writer in
+    let now = view_of_writer g.O.Sink.view c.seal_piece.new.writer in
+    let all = rw (← c.bytes.ensures.bytes) at (r.pulled (g.S.Source.view c.args.reader.now.source.now).remaining kept.text kept.pulled) in
+    let done = piece_done seals n c.new-sealer.result c.pulls.sealer c.seal_piece.new.sealer was mid now kept.text piece s.fed s.left s.unwritten kept.goes
+    kept.fresh kept.wrote s.some positive s.answered.0 s.answered.1 s.answered.3 in
+    record {
+      feeding = kept.feeding;
+      fresh = kept.fresh;
+      same_reader = kept.same_reader;
+      same_writer = c.in_ok-seal_piece.ensures.same_writer ∙ kept.same_writer;
+      text = kept.text ++ piece;
+      pulled = subst (λ (k : ℕ). Pulled (g.S.Source.view c.args.reader.now.source.now).remaining (g.S.Source.view c.refill.new.source).remaining k
+          (kept.text ++ piece)) (sym c.use_all.ensures.pulls) all;
+      unread = c.use_all.ensures.bytes;
+      plain_is = omega (
+        arith,
+        kept.plain_is,
+        length-append kept.text c.bytes.result.now,
+        ap length (c.bytes.ensures.bytes ∙ sym c.bytes-in-pulls.ensures.bytes),
+      );
+      goes = done.0;
+      wrote = done.1;
+      read_failed = r.answered.4 ∙ kept.read_failed;
+      write_failed = s.answered.2 ∙ kept.write_failed;
+      named = c.in_ok-seal_piece.ensures.named ∙ kept.named;
+    }
 
 pub finish-requires : goal.finish-requires
 finish-requires g c =
-    let s = c.in_ok-plain.ensures.sealed in
+    let kept = c.pulls.invariant in
+    let r = rw c.if-branch.false at c.in_ok-refill.ensures in
+    let all = cut_pulled _ _ _ kept.text _ r.answered.0 (r.pulled _ kept.text kept.pulled) in
+    let small : length kept.text ≤ 2 ^ 80 = omega (arith, all.small, all.most) in
     let n : ℕ = 65536 in
     let key = c.new-sealer.result.key in
-    let fits = front_small (seals key) (opens key) (box_valid key) n s.text (omega arith) in
-    let product : length s.text * 65552 ≤ 2 ^ 80 * 65552 = mul-le (length s.text) 65552 (2 ^ 80) 65552 s.moved.small (omega arith) in
-    record { feeding = s.feeding; room = omega (arith, c.requires.room, s.moved.count, fits, product) }
+    let fits = front_small (seals key) (opens key) (box_valid key) n kept.text (omega arith) in
+    let product : length kept.text * 65552 ≤ 2 ^ 80 * 65552 = mul-le (length kept.text) 65552 (2 ^ 80) 65552 small (omega arith) in
+    record { feeding = kept.goes.feeding; room = omega (arith, c.requires.room, kept.wrote.count, fits, product) }
 
 pub returns-in_err-finish-clause-fails : goal.returns-in_err-finish-clause-fails
 returns-in_err-finish-clause-fails g c =
     let p = err_from_is_err_and c.from_residual-in_err-finish.result c.from_residual-in_err-finish.ensures.1 in
-    let s = c.in_ok-plain.ensures.sealed in
+    let kept = c.pulls.invariant in
+    let r = rw c.if-branch.false at c.in_ok-refill.ensures in
+    let all = cut_pulled _ _ _ kept.text _ r.answered.0 (r.pulled _ kept.text kept.pulled) in
+    let small : length kept.text ≤ 2 ^ 80 = omega (arith, all.small, all.most) in
     let l = c.in_err-finish.ensures.sealed in
     let n : ℕ = 65536 in
     let a = c.new-sealer.result in
-    let b = c.seal_source.new.sealer in
-    let was = tally_of g.O.Sink.view c.args.writer.now in
-    let mid = tally_of g.O.Sink.view c.seal_source.new.writer in
-    let now = tally_of g.O.Sink.view c.finish.new.writer in
+    let b = c.pulls.sealer in
+    let was = view_of_writer g.O.Sink.view c.args.writer.now in
+    let mid = view_of_writer g.O.Sink.view c.pulls.writer in
+    let now = view_of_writer g.O.Sink.view c.finish.new.writer in
     let old = ports (g.S.Source.view c.args.reader.now.source.now) (g.O.Sink.view c.args.writer.now.sink.now) in
-    let new = ports (g.S.Source.view c.seal_source.new.reader.source.now) (g.O.Sink.view c.finish.new.writer.sink.now) in
-    let wrote : Wrote was mid (front_of (seals a.key) n s.text) = record { bytes = s.moved.wrote; count = s.moved.count } in
-    let out = last_written seals n a b was mid now s.text s.key s.holds wrote l.out l.unwritten l.wrote l.blocks in
+    let new = ports (g.S.Source.view c.refill.new.source) (g.O.Sink.view c.finish.new.writer.sink.now) in
+    let out = last_written seals n a b was mid now kept.text kept.goes.key (kept.goes.holds [] kept.fresh) kept.wrote l.out l.unwritten l.wrote l.blocks in
     rw (p.1, p.2) (subst (λ k. SealsFront (seals k) n old new c.args.writer.now.progress.written c.finish.new.writer.progress.written c.in_err-finish.field-0.0)
     (ap (λ v. v.key) c.new-sealer.ensures) (record {
-      text = s.text;
-      out = front_of (seals a.key) n s.text ++ l.out;
-      moved = record { read = s.moved.read; wrote = out.bytes; count = out.count; small = s.moved.small };
-      prefix = last_begins seals n a b was mid now s.text s.key s.holds wrote l.out l.unwritten l.wrote l.blocks;
-      fails = subst (λ (f : FileFault). SealingFails n old new s.text f) (sym l.answered.0) (subst (λ (k : ℕ). HasRisen k new.sink.failed) s.none_failed.1
+      text = kept.text;
+      out = front_of (seals a.key) n kept.text ++ l.out;
+      moved = record { read = all.consumed; wrote = out.bytes; count = out.count; small = small };
+      prefix = last_begins seals n a b was mid now kept.text kept.goes.key (kept.goes.holds [] kept.fresh) kept.wrote l.out l.unwritten l.wrote l.blocks;
+      fails = subst (λ (f : FileFault). SealingFails n old new kept.text f) (sym l.answered.0) (subst (λ (k : ℕ). HasRisen k new.sink.failed) kept.write_failed
           l.answered.1);
     }))
 
 pub returns-clause-sealed : goal.returns-clause-sealed
 returns-clause-sealed g c =
-    let s = c.in_ok-plain.ensures.sealed in
+    let kept = c.pulls.invariant in
+    let r = rw c.if-branch.false at c.in_ok-refill.ensures in
+    let all = cut_pulled _ _ _ kept.text _ r.answered.0 (r.pulled _ kept.text kept.pulled) in
+    let small : length kept.text ≤ 2 ^ 80 = omega (arith, all.small, all.most) in
     let l = c.in_ok-finish.ensures.sealed in
     let n : ℕ = 65536 in
     let a = c.new-sealer.result in
-    let b = c.seal_source.new.sealer in
-    let was = tally_of g.O.Sink.view c.args.writer.now in
-    let mid = tally_of g.O.Sink.view c.seal_source.new.writer in
-    let now = tally_of g.O.Sink.view c.finish.new.writer in
+    let b = c.pulls.sealer in
+    let was = view_of_writer g.O.Sink.view c.args.writer.now in
+    let mid = view_of_writer g.O.Sink.view c.pulls.writer in
+    let now = view_of_writer g.O.Sink.view c.finish.new.writer in
     let old = ports (g.S.Source.view c.args.reader.now.source.now) (g.O.Sink.view c.args.writer.now.sink.now) in
-    let new = ports (g.S.Source.view c.seal_source.new.reader.source.now) (g.O.Sink.view c.finish.new.writer.sink.now) in
-    let wrote : Wrote was mid (front_of (seals a.key) n s.text) = record { bytes = s.moved.wrote; count = s.moved.count } in
-    let out = last_whole seals n a b was mid now s.text s.key s.holds wrote l.out l.unwritten l.wrote l.blocks l.answered.0 in
-    subst (λ k. SealsAll (seals k) n old new c.args.writer.now.progress.written c.finish.new.writer.progress.written c.in_ok-plain.plain)
+    let new = ports (g.S.Source.view c.refill.new.source) (g.O.Sink.view c.finish.new.writer.sink.now) in
+    let out = last_whole seals n a b was mid now kept.text kept.goes.key (kept.goes.holds [] kept.fresh) kept.wrote l.out l.unwritten l.wrote l.blocks
+    l.answered.0 in
+    subst (λ k. SealsAll (seals k) n old new c.args.writer.now.progress.written c.finish.new.writer.progress.written c.pulls.plain)
     (ap (λ v. v.key) c.new-sealer.ensures) (record {
-      text = s.text;
-      few = omega (arith, l.limit, s.holds.index);
-      moved = record { read = s.moved.read; wrote = out.bytes; count = out.count; small = s.moved.small };
-      at_end = s.at_end;
-      plain_is = s.plain_is;
-      none_failed = (s.none_failed.0, l.answered.1 ∙ s.none_failed.1);
+      text = kept.text;
+      few = omega (arith, l.limit, (kept.goes.holds [] kept.fresh).index);
+      moved = record { read = all.consumed; wrote = out.bytes; count = out.count; small = small };
+      at_end = r.answered.2;
+      plain_is = kept.plain_is;
+      none_failed = (r.answered.3 ∙ kept.read_failed, l.answered.1 ∙ kept.write_failed);
     })

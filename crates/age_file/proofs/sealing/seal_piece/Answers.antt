@@ -6,7 +6,7 @@ use Rattle.age_file.specs.inner.Boxes.{opens, seals}
 use Rattle.age_keys.specs.inner.PayloadBox.{box_valid}
 use Rattle.age_file.specs.inner.Seals.{SealsSome, GoesOn, SealFails, front_of}
 use Rattle.age_file.proofs.SealSteps.{next_some, fed_alone, fed_is, goes_then, fails_then, room_left}
-use Rattle.age_file.specs.inner.Readers.{tally_of}
+use Rattle.age_file.specs.inner.Readers.{view_of_writer}
 use Rattle.age_file.proofs.sealing.seal_piece.Goals as goal
 
 pub loop-at-init : goal.loop-at-init
@@ -44,9 +44,9 @@ loop-at-preserved g c =
     let piece = c.args.piece.now in
     let at = c.loop-at.at in
     let s = c.in_ok-at.ensures.sealed in
-    let was = tally_of g.O.Sink.view c.args.writer.now in
-    let mid = tally_of g.O.Sink.view c.loop-at.writer in
-    let now = tally_of g.O.Sink.view c.seal_once.new.writer in
+    let was = view_of_writer g.O.Sink.view c.args.writer.now in
+    let mid = view_of_writer g.O.Sink.view c.loop-at.writer in
+    let now = view_of_writer g.O.Sink.view c.seal_once.new.writer in
     let a = c.args.sealer.now in
     let b = c.loop-at.sealer in
     let d = c.seal_once.new.sealer in
@@ -81,9 +81,9 @@ returns-in_err-at-clause-sealed g c =
     let piece = c.args.piece.now in
     let at = c.loop-at.at in
     let s = c.in_err-at.ensures.sealed in
-    let was = tally_of g.O.Sink.view c.args.writer.now in
-    let mid = tally_of g.O.Sink.view c.loop-at.writer in
-    let now = tally_of g.O.Sink.view c.seal_once.new.writer in
+    let was = view_of_writer g.O.Sink.view c.args.writer.now in
+    let mid = view_of_writer g.O.Sink.view c.loop-at.writer in
+    let now = view_of_writer g.O.Sink.view c.seal_once.new.writer in
     let a = c.args.sealer.now in
     let b = c.loop-at.sealer in
     let d = c.seal_once.new.sealer in

@@ -1,19 +1,18 @@
 use Rattle.std.proofs.Common.{◌++◌, ◌∙◌, refl, take, arith}
 use Rattle.std.proofs.lemmas.Result.{err_from_is_err_and}
 use Rattle.std.proofs.lemmas.List.{length-append, length-take}
-use Rattle.age_file.specs.inner.Unread.{side}
+use Rattle.age_file.specs.inner.Readers.{reader_view, view_of_reader}
 use Rattle.age_file.proofs.StartSteps.{uses_front}
 use Rattle.age_file.proofs.SkipSteps.{passes_then, passes_same, dries_same}
-use Rattle.age_file.specs.inner.Readers.{side_of}
 use Rattle.age_file.proofs.skip.skip_block.Goals as goal
 
 pub returns-then-not-branch-clause-skipped : goal.returns-then-not-branch-clause-skipped
 returns-then-not-branch-clause-skipped g c =
     let kept = c.parts.invariant in
     let r = rw c.if-not-branch.true at c.in_ok-some_bytes.ensures.answers in
-    let old = side_of g.S.Source.view c.args.reader.now in
-    let mid = side_of g.S.Source.view c.parts.reader in
-    let new = side_of g.S.Source.view c.some_bytes.new.reader in (
+    let old = view_of_reader g.S.Source.view c.args.reader.now in
+    let mid = view_of_reader g.S.Source.view c.parts.reader in
+    let new = view_of_reader g.S.Source.view c.some_bytes.new.reader in (
       kept.passed,
       omega (arith, kept.size, c.parts-test.true),
       passes_same old mid new kept.passed kept.passes (record { uses = c.some_bytes.ensures.uses; unfailed = r.2 }),
@@ -26,9 +25,9 @@ returns-in_err-some_bytes-clause-skipped g c =
     let p = err_from_is_err_and c.from_residual.result c.from_residual.ensures.1 in
     let kept = c.parts.invariant in
     let a = c.in_err-some_bytes.ensures.answers in
-    let old = side_of g.S.Source.view c.args.reader.now in
-    let mid = side_of g.S.Source.view c.parts.reader in
-    let new = side_of g.S.Source.view c.some_bytes.new.reader in
+    let old = view_of_reader g.S.Source.view c.args.reader.now in
+    let mid = view_of_reader g.S.Source.view c.parts.reader in
+    let new = view_of_reader g.S.Source.view c.some_bytes.new.reader in
     rw (p.1, p.2) (
       kept.passed,
       omega (arith, kept.size, c.parts-test.true),
@@ -39,10 +38,10 @@ pub parts-preserved : goal.parts-preserved
 parts-preserved g c =
     let kept = c.parts.invariant in
     let r = rw c.if-not-branch.false at c.in_ok-some_bytes.ensures.answers in
-    let old = side_of g.S.Source.view c.args.reader.now in
-    let mid = side_of g.S.Source.view c.parts.reader in
-    let there = side_of g.S.Source.view c.some_bytes.new.reader in
-    let new = side (g.S.Source.view c.some_bytes.new.reader.source.now) c.use_front.new.self in
+    let old = view_of_reader g.S.Source.view c.args.reader.now in
+    let mid = view_of_reader g.S.Source.view c.parts.reader in
+    let there = view_of_reader g.S.Source.view c.some_bytes.new.reader in
+    let new = reader_view (g.S.Source.view c.some_bytes.new.reader.source.now) c.use_front.new.self in
     let n = c.min-n.result in
     let piece = c.bytes.result.now in
     let front = uses_front (g.S.Source.view c.some_bytes.new.reader.source.now) c.some_bytes.new.reader.intake.now c.use_front.new.self piece n

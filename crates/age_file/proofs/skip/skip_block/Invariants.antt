@@ -1,6 +1,6 @@
 use Rattle.std.proofs.Common.{◌≡◌, ◌+◌, ℕ, List, length}
 use Rattle.age_file.specs.inner.Skips.{Passes}
-use Rattle.age_file.specs.inner.Readers.{side_of, SameReader}
+use Rattle.age_file.specs.inner.Readers.{view_of_reader, SameReader}
 use Rattle.age_file.proofs.skip.skip_block.Given as goal
 
 abbrev pub invariant-parts : goal.invariant-parts
@@ -8,7 +8,7 @@ invariant-parts g l = record {
   same : SameReader l.fn.reader l.reader;
   passed : List ℕ;
   size : length passed + l.left ≡ 65552;
-  passes : Passes (side_of g.S.Source.view l.fn.reader) (side_of g.S.Source.view l.reader) passed;
+  passes : Passes (view_of_reader g.S.Source.view l.fn.reader) (view_of_reader g.S.Source.view l.reader) passed;
 }
 
 abbrev pub decreases-parts : goal.decreases-parts

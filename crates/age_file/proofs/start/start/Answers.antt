@@ -1,6 +1,6 @@
 use Rattle.std.proofs.Common.{List, ℕ, sym, subst, append_assoc, rules}
 use Rattle.age_file.specs.inner.Intakes.{Pulled}
-use Rattle.age_file.specs.inner.Readers.{side_of}
+use Rattle.age_file.specs.inner.Readers.{view_of_reader}
 use Rattle.age_file.proofs.StartSteps.{head_to_start, key_to_start, nonce_to_start}
 use Rattle.std.proofs.lemmas.Result.{err_from_is_err_and}
 use Rattle.age_file.proofs.start.start.Goals as goal
@@ -24,7 +24,7 @@ returns-in_err-nonce-clause-fails g c =
     let head = c.in_ok-head.ensures.found in
     rw (p.1, p.2) (nonce_to_start (g.U.Unlock.allows c.args.unlock.now) (g.U.Unlock.refuses c.args.unlock.now) c.one_header.ensures
     (g.S.Source.view c.args.reader.now.source.now)
-    (side_of g.S.Source.view c.read_head.new.reader) (side_of g.S.Source.view c.take_nonce.new.reader)
+    (view_of_reader g.S.Source.view c.read_head.new.reader) (view_of_reader g.S.Source.view c.take_nonce.new.reader)
     c.in_ok-head.head.header head.front c.in_ok-key.key c.in_err-nonce.field-0.0 c.in_ok-head.ensures.unfailed head.text c.in_ok-key.ensures.key
     head.pulled c.in_err-nonce.ensures.fails)
 
@@ -33,7 +33,7 @@ returns-clause-found g c =
     let head = c.in_ok-head.ensures.found in
     let nonce = c.in_ok-nonce.nonce in
     let first = (g.S.Source.view c.args.reader.now.source.now).remaining in
-    let last = side_of g.S.Source.view c.take_nonce.new.reader in
+    let last = view_of_reader g.S.Source.view c.take_nonce.new.reader in
     record {
       header = c.in_ok-head.head.header;
       front = head.front;

@@ -1,9 +1,8 @@
 use Rattle.std.proofs.Common.{◌≡◌, ◌+◌, take, [], List, ℕ, sym, subst, arith, append-nil, ◌∙◌}
 use Rattle.std.proofs.lemmas.Result.{err_from_is_err_and}
 use Rattle.std.proofs.lemmas.List.{length-take, take_all}
-use Rattle.age_file.specs.inner.Unread.{side}
+use Rattle.age_file.specs.inner.Readers.{reader_view, view_of_reader}
 use Rattle.age_file.specs.inner.Starts.{Uses}
-use Rattle.age_file.specs.inner.Readers.{side_of}
 use Rattle.age_file.proofs.StartSteps.{uses_then, uses_front, nonce_fails}
 use Rattle.age_file.proofs.start.take_nonce.Goals as goal
 
@@ -11,9 +10,9 @@ pub returns-then-not-branch-clause-fails : goal.returns-then-not-branch-clause-f
 returns-then-not-branch-clause-fails g c =
     let kept = c.parts.invariant in
     let r = rw c.if-not-branch.true at c.in_ok-some_bytes.ensures.answers in
-    let old = side_of g.S.Source.view c.args.reader.now in
-    let mid = side_of g.S.Source.view c.parts.reader in
-    let new = side_of g.S.Source.view c.some_bytes.new.reader in
+    let old = view_of_reader g.S.Source.view c.args.reader.now in
+    let mid = view_of_reader g.S.Source.view c.parts.reader in
+    let new = view_of_reader g.S.Source.view c.some_bytes.new.reader in
     let short = take c.parts.have c.parts.nonce in (
       (
         short,
@@ -29,9 +28,9 @@ returns-in_err-some_bytes-clause-fails g c =
     let p = err_from_is_err_and c.from_residual.result c.from_residual.ensures.1 in
     let kept = c.parts.invariant in
     let a = c.in_err-some_bytes.ensures.answers in
-    let old = side_of g.S.Source.view c.args.reader.now in
-    let mid = side_of g.S.Source.view c.parts.reader in
-    let new = side_of g.S.Source.view c.some_bytes.new.reader in
+    let old = view_of_reader g.S.Source.view c.args.reader.now in
+    let mid = view_of_reader g.S.Source.view c.parts.reader in
+    let new = view_of_reader g.S.Source.view c.some_bytes.new.reader in
     let few = length-take c.parts.have c.parts.nonce in
     rw (p.1, p.2) (nonce_fails old mid new (take c.parts.have c.parts.nonce) c.in_err-some_bytes.field-0.0 (omega (arith, few)) kept.unfailed kept.uses
     c.some_bytes.ensures.uses a.0 a.1)
@@ -44,10 +43,10 @@ parts-preserved g c =
     let piece = c.bytes.result.now in
     let short = take c.parts.have c.parts.nonce in
     let source = g.S.Source.view c.some_bytes.new.reader.source.now in
-    let old = side_of g.S.Source.view c.args.reader.now in
-    let mid = side_of g.S.Source.view c.parts.reader in
-    let there = side_of g.S.Source.view c.some_bytes.new.reader in
-    let new = side source c.use_front.new.self in
+    let old = view_of_reader g.S.Source.view c.args.reader.now in
+    let mid = view_of_reader g.S.Source.view c.parts.reader in
+    let there = view_of_reader g.S.Source.view c.some_bytes.new.reader in
+    let new = reader_view source c.use_front.new.self in
     let front = uses_front source c.some_bytes.new.reader.intake.now c.use_front.new.self piece n c.use_front.ensures.pulls c.bytes.ensures.bytes
     c.use_front.ensures.bytes in
     record {
@@ -62,7 +61,7 @@ parts-preserved g c =
 pub returns-clause-found : goal.returns-clause-found
 returns-clause-found g c =
     let kept = c.parts.invariant in
-    let old = side_of g.S.Source.view c.args.reader.now in
-    let new = side_of g.S.Source.view c.parts.reader in
+    let old = view_of_reader g.S.Source.view c.args.reader.now in
+    let new = view_of_reader g.S.Source.view c.parts.reader in
     let whole : take c.parts.have c.parts.nonce ≡ c.parts.nonce = take_all c.parts.have c.parts.nonce (omega (arith, kept.room)) in
     subst (λ (t : List ℕ). Uses old new t) whole kept.uses

@@ -1,6 +1,6 @@
 use Rattle.std.proofs.Common.{◌-◌, ◌≡◌, ◌≤◌, take, length}
 use Rattle.age_file.specs.inner.Starts.{Uses}
-use Rattle.age_file.specs.inner.Readers.{side_of, SameReader}
+use Rattle.age_file.specs.inner.Readers.{view_of_reader, SameReader}
 use Rattle.age_file.proofs.start.take_nonce.Given as goal
 
 abbrev pub invariant-parts : goal.invariant-parts
@@ -8,7 +8,7 @@ invariant-parts g l = record {
   same : SameReader l.fn.reader l.reader;
   most : l.have ≤ 16;
   room : length l.nonce ≡ 16;
-  uses : Uses (side_of g.S.Source.view l.fn.reader) (side_of g.S.Source.view l.reader) (take l.have l.nonce);
+  uses : Uses (view_of_reader g.S.Source.view l.fn.reader) (view_of_reader g.S.Source.view l.reader) (take l.have l.nonce);
   unfailed : (g.S.Source.view l.reader.source.now).failed ≡ (g.S.Source.view l.fn.reader.source.now).failed;
 }
 
