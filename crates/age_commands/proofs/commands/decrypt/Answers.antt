@@ -1,0 +1,6 @@
+use Rattle.age_commands.specs.Commands.{decrypting}
+use Rattle.age_commands.proofs.commands.decrypt.Goals as goal
+
+pub returns : goal.returns
+unfolding decrypting
+returns c = c.add_both_files.ensures _ (c.add_unlocking-unlocking.ensures _ c.command-plain.ensures)
