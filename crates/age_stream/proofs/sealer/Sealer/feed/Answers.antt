@@ -10,7 +10,15 @@ returns-in_err-taken g c =
       (
         refl,
         λ _. tt,
-        record { key = e.same.0; unfinished = e.same.1 ∙ ap (λ v. v.finished) c.self.view_is ∙ c.requires; index = tt; unfailed = tt; holds = tt; refused = e.err; unchanged = e.still },
+        record {
+          key = e.same.0;
+          unfinished = e.same.1 ∙ ap (λ v. v.finished) c.self.view_is ∙ c.requires;
+          index = tt;
+          unfailed = tt;
+          holds = tt;
+          refused = e.err;
+          unchanged = e.still;
+        },
       ),
       record { after = tt; taken = tt; chunk = tt; whole = tt; fits = tt; refused = (e.refused, e.fault) },
     )
@@ -22,7 +30,15 @@ returns-then-not-full g c =
       (
         refl,
         λ _. tt,
-        record { key = e.same.0; unfinished = e.same.1 ∙ ap (λ v. v.finished) c.self.view_is ∙ c.requires; index = refl; unfailed = e.open; holds = e.holds; refused = tt; unchanged = e.still },
+        record {
+          key = e.same.0;
+          unfinished = e.same.1 ∙ ap (λ v. v.finished) c.self.view_is ∙ c.requires;
+          index = refl;
+          unfailed = e.open;
+          holds = e.holds;
+          refused = tt;
+          unchanged = e.still;
+        },
       ),
       record { after = tt; taken = e.taken; chunk = e.blocks; whole = tt; fits = e.fits; refused = tt },
     )
@@ -34,7 +50,15 @@ returns g c =
       (
         refl,
         λ _. tt,
-        record { key = e.same.0; unfinished = e.same.1 ∙ ap (λ v. v.finished) c.self.view_is ∙ c.requires; index = refl; unfailed = e.open; holds = e.holds; refused = tt; unchanged = e.still },
+        record {
+          key = e.same.0;
+          unfinished = e.same.1 ∙ ap (λ v. v.finished) c.self.view_is ∙ c.requires;
+          index = refl;
+          unfailed = e.open;
+          holds = e.holds;
+          refused = tt;
+          unchanged = e.still;
+        },
       ),
       record { after = tt; taken = e.taken; chunk = e.blocks; whole = e.whole refl; fits = e.fits; refused = tt },
     )
