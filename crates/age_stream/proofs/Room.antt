@@ -2,7 +2,7 @@
 use Rattle.std.proofs.Common.{◌≡◌, ℕ, ◌<◌, ◌≤◌, ◌+◌, ◌*◌, ◌-◌, ◌/◌, refl, ap, ◌∙◌, List, [], length, arith}
 use Rattle.std.specs.Prelude.{Option, Some, None, IfSome, IfNone}
 use Rattle.std.specs.Borrow.{Bor}
-use Rattle.std.proofs.Math.Nat.{add-mul-div_left}
+use Rattle.std.proofs.Math.Nat.{add-mul-div_left, div-mul-le_self}
 use Rattle.age_stream.specs.declared.step.Status.{Status}
 use Rattle.age_stream.specs.declared.step.Status.TheVariants.{Open, LastSeen, Done, Failed}
 use Rattle.age_stream.specs.Lent.{chunk_bytes}
@@ -34,3 +34,11 @@ room_left n h t p held (Some chunk) some none le =
     let d : (h + p) / z ≡ k / z + 1 = ap (λ (x : ℕ). x / z) e ∙ add-mul-div_left k 1 pos in
     let m : (k / z + 1) * n ≡ k / z * n + n = omega arith in
     omega (arith, some.0, ap (λ (x : ℕ). x * n) d, m)
+
+-- the text of whole blocks is no longer than they are
+pub text_below : (z k : ℕ) → 16 ≤ z → k / z * (z - 16) ≤ k
+text_below z k le =
+    let q = k / z in
+    let e : z ≡ z - 16 + 16 = omega (arith, le) in
+    let m : q * (z - 16 + 16) ≡ q * (z - 16) + q * 16 = omega arith in
+    omega (arith, div-mul-le_self k z, ap (λ (x : ℕ). q * x) e, m)
