@@ -2,7 +2,7 @@
 use Rattle.std.proofs.Common.{◌≡◌, ◌∙◌, ◌++◌, ◌∷◌, [], refl, ap, sym, List, Option, Some, Result, Ok, Err, IfErr, append_assoc}
 use Rattle.clap.specs.Words.{Text}
 use Rattle.age_fileset.specs.Events.{Event, Created, Closed}
-use Rattle.age_actions.specs.EventOrders.{Follows, making, replacing}
+use Rattle.age_steps.specs.EventOrders.{Follows, making, replacing}
 
 -- what is so of every fault is so of the one that came
 pub every_fault : {T E : Type 0} (r : Result T E) (P : E → Type 0) → ((e : E) → P e) → IfErr r P

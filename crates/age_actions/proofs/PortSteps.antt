@@ -5,8 +5,8 @@ use Rattle.age_file.specs.Ports.{Ports, ports}
 use Rattle.age_file.specs.Secrets.{SecretView}
 use Rattle.age_file.specs.declared.position.Position.{Position}
 use Rattle.age_file.specs.declared.position.Positions.{Positions}
-use Rattle.age_file.specs.declared.fault.FileFault.{FileFault}
-use Rattle.age_actions.specs.declared.identity.Identity.{Identity}
+use Rattle.age_fault.specs.declared.fault.FileFault.{FileFault}
+use Rattle.age_steps.specs.declared.identity.Identity.{Identity}
 use Rattle.age_actions.specs.declared.stop.Stop.{Stop}
 use Rattle.age_actions.specs.inner.Ports.{PortsOfEither}
 use Rattle.age_actions.specs.Stops.{EncryptionStop, DecryptionStop, ResumptionStop, OutStops, SealedOutStops, PortsOf}

@@ -16,12 +16,12 @@ use Rattle.age_file.specs.Resumes.{ResumePorts, WritesOld, IsFrom}
 use Rattle.age_file.specs.ResumeFaults.{ResumeFails, FailsAt}
 use Rattle.age_file.specs.declared.position.Position.{Position}
 use Rattle.age_file.specs.declared.position.Positions.{Positions}
-use Rattle.age_file.specs.declared.fault.FileFault.{FileFault}
-use Rattle.age_file.specs.declared.fault.FileFault.TheVariants as fault
-use Rattle.age_actions.specs.Files.{Files}
+use Rattle.age_fault.specs.declared.fault.FileFault.{FileFault}
+use Rattle.age_fault.specs.declared.fault.FileFault.TheVariants as fault
+use Rattle.age_steps.specs.Files.{Files}
 use Rattle.age_actions.specs.Stops.{EndsOf}
-use Rattle.age_actions.specs.declared.ending.Ending.{Ending}
-use Rattle.age_actions.specs.declared.ending.Ending.TheVariants.{Words, Usage, Fault, Unsaved}
+use Rattle.age_steps.specs.declared.ending.Ending.{Ending}
+use Rattle.age_steps.specs.declared.ending.Ending.TheVariants.{Words, Usage, Fault, Unsaved}
 
 none_out : (new : Option (List ℕ)) (out : List ℕ) (written : ℕ) → Appends (Some []) new out → written ≡ length out → written ≡ 0 → new ≡ Some []
 none_out None out written put count none = absurd put

@@ -4,9 +4,9 @@ use Rattle.clap.specs.Words.{Text}
 use Rattle.age_file.specs.Ports.{Ports}
 use Rattle.age_file.specs.Decrypts.{DecryptEnds}
 use Rattle.age_file.specs.declared.decryption.Done.{Done}
-use Rattle.age_actions.specs.declared.identity.Identity.{Identity}
-use Rattle.age_actions.specs.Identities.{Options, allows_by, OpensBy}
-use Rattle.age_actions.specs.Files.{Files, SparesBut}
+use Rattle.age_steps.specs.declared.identity.Identity.{Identity}
+use Rattle.age_steps.specs.Identities.{Options, allows_by, OpensBy}
+use Rattle.age_steps.specs.Files.{Files, SparesBut}
 
 -- the engine's promise for the input's bytes and what opens them, of what the output then holds
 pub record DecryptsOut (identity : Identity) (input output : Option (List ℕ)) : Type 0 where

@@ -6,8 +6,9 @@ use Rattle.age_file.specs.Ports.{Ports}
 use Rattle.age_file.specs.Secrets.{SecretView, IsWithinLimits}
 use Rattle.age_file.specs.Encrypts.{Encrypts}
 use Rattle.age_file.specs.declared.encryption.Written.{Written}
-use Rattle.age_actions.specs.Identities.{IsPassphraseIn}
-use Rattle.age_actions.specs.Files.{Files, SparesBut}
+use Rattle.age_steps.specs.Orders.{random_name}
+use Rattle.age_steps.specs.Identities.{IsPassphraseIn}
+use Rattle.age_steps.specs.Files.{Files, SparesBut}
 
 -- the first 48 bytes of a file: the file key, the stanza's salt and the payload nonce
 pub record IsRandomIn (held : Option (List ℕ)) (s : SecretView) : Type 0 where
@@ -16,11 +17,6 @@ pub record IsRandomIn (held : Option (List ℕ)) (s : SecretView) : Type 0 where
   pub key_length : length s.key ≡ 16
   pub salt_length : length s.salt ≡ 16
   pub nonce_length : length s.nonce ≡ 16
-
--- the file of random bytes, where none is named
-abbrev pub random_name : Option Text → Text
-random_name None = codes "/dev/urandom"
-random_name (Some name) = name
 
 -- the engine's promise for the input's bytes and the secret, of what the output then holds
 pub record EncryptsOut (s : SecretView) (input output : Option (List ℕ)) : Type 0 where

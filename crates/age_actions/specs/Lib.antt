@@ -1,11 +1,5 @@
-pub mod FirstBytes
-pub mod EventOrders
-pub mod Files
-pub mod Endings
-pub mod Identities
 pub mod Encryptions
 pub mod Decryptions
 pub mod Resumptions
 pub mod Stops
-pub mod Orders
 pub mod inner

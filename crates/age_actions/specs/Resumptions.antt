@@ -6,9 +6,9 @@ use Rattle.age_file.specs.PositionTexts.{position_text}
 use Rattle.age_file.specs.Resumes.{ResumePorts}
 use Rattle.age_file.specs.ResumeFaults.{ResumeEnds}
 use Rattle.age_file.specs.declared.decryption.Done.{Done}
-use Rattle.age_actions.specs.declared.identity.Identity.{Identity}
-use Rattle.age_actions.specs.Identities.{Options, allows_by, OpensBy}
-use Rattle.age_actions.specs.Files.{Files, SparesBut}
+use Rattle.age_steps.specs.declared.identity.Identity.{Identity}
+use Rattle.age_steps.specs.Identities.{Options, allows_by, OpensBy}
+use Rattle.age_steps.specs.Files.{Files, SparesBut}
 
 -- the position in a file
 abbrev pub IsPositionIn : Option (List ℕ) → Position → Type 0

@@ -12,15 +12,15 @@ use Rattle.age_file.specs.PositionTexts.{position_text}
 use Rattle.age_file.specs.declared.position.Position.{Position}
 use Rattle.age_file.specs.declared.position.Positions.{Positions}
 use Rattle.age_file.specs.declared.position.Positions.TheVariants.{Kept, Dropped}
-use Rattle.age_file.specs.declared.fault.FileFault.{FileFault}
-use Rattle.age_file.specs.declared.fault.FileFault.TheVariants.{Write, Memory}
+use Rattle.age_fault.specs.declared.fault.FileFault.{FileFault}
+use Rattle.age_fault.specs.declared.fault.FileFault.TheVariants.{Write, Memory}
 use Rattle.age_actions.specs.Encryptions.{MakesSecret}
-use Rattle.age_actions.specs.Files.{Files}
-use Rattle.age_actions.specs.declared.identity.Identity.{Identity}
-use Rattle.age_actions.specs.Identities.{Options, allows_by, refuses_by, OpensBy}
+use Rattle.age_steps.specs.Files.{Files}
+use Rattle.age_steps.specs.declared.identity.Identity.{Identity}
+use Rattle.age_steps.specs.Identities.{Options, allows_by, refuses_by, OpensBy}
 use Rattle.age_actions.specs.Resumptions.{IsPositionIn}
-use Rattle.age_actions.specs.declared.ending.Ending.{Ending}
-use Rattle.age_actions.specs.declared.ending.Ending.TheVariants.{Fault, Unsaved}
+use Rattle.age_steps.specs.declared.ending.Ending.{Ending}
+use Rattle.age_steps.specs.declared.ending.Ending.TheVariants.{Fault, Unsaved}
 
 -- how an output is left: it holds what its sink took, or, where it could not be closed, what it
 -- held; and that for sure where nothing was written

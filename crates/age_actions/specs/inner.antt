@@ -1,5 +1,3 @@
-pub mod Endings
 pub mod Files
-pub mod IdentitySteps
 pub mod Ports
 pub mod Randoms

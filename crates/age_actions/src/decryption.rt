@@ -5,25 +5,24 @@ ghost use Rattle.age_actions.specs.Stops.{kept_for};
 ghost use Rattle.std.specs.Prelude.{◌≡◌, ◌⊎◌, [], ◌∷◌, ◌++◌, true, false, Some, None};
 ghost use Rattle.std.specs.Prelude.{IfErr, OnOk};
 ghost use Rattle.age_fileset.specs.Events.{Closed};
-ghost use Rattle.age_actions.specs.EventOrders.{Follows};
-ghost use Rattle.age_actions.specs.Orders.{order_asked};
+ghost use Rattle.age_steps.specs.EventOrders.{Follows};
+ghost use Rattle.age_steps.specs.Orders.{order_asked};
 ghost use Rattle.age_commands.specs.declared.request.Request.TheVariants.{Decrypt};
 ghost use Rattle.clap.specs.Words.{Text};
 ghost use Rattle.age_commands.specs.Requests.{text_of};
 ghost use Rattle.age_commands.specs.declared.request.Progress.TheVariants.{Silent};
-ghost use Rattle.age_actions.specs.Identities.{options_asked};
+ghost use Rattle.age_steps.specs.Identities.{options_asked};
 ghost use Rattle.age_actions.specs.Decryptions.{DecryptsOut, DecryptsFile};
-ghost use Rattle.age_actions.specs.Endings.{EndsEarly, is_usage};
-ghost use Rattle.age_actions.specs.Files.{SparesBut, SparesBoth};
+ghost use Rattle.age_steps.specs.Endings.{EndsEarly, is_usage};
+ghost use Rattle.age_steps.specs.Files.{SparesBut, SparesBoth};
 
-use crate::ending::{Ending, Usage};
-use crate::identity::{Identity, identity_of, read_secret, secret_file};
 use crate::output::{create_out, leave};
 use crate::stop::{Stop, end_of};
 use age_commands::{Decrypting, Progress};
 use age_file::{Positions, Source, decrypt_with};
 use age_fileset::FileSet;
 use age_progress::{Meter, Metered};
+use age_steps::{Ending, Identity, Usage, identity_of, read_secret, secret_file};
 use std::alloc::Global;
 
 /// Decrypts a source into the output, and ends that. Where it stops before anything is written,

@@ -5,25 +5,24 @@ ghost use Rattle.std.specs.Prelude.{IfOk, IfErr, IfSome, OnOk};
 ghost use Rattle.age_commands.specs.Requests.{text_of};
 ghost use Rattle.age_commands.specs.declared.request.Progress.TheVariants.{Silent};
 ghost use Rattle.age_fileset.specs.Events.{Opened, Closed};
-ghost use Rattle.age_actions.specs.EventOrders.{Follows};
-ghost use Rattle.age_actions.specs.Orders.{order_asked};
+ghost use Rattle.age_steps.specs.EventOrders.{Follows};
+ghost use Rattle.age_steps.specs.Orders.{order_asked};
 ghost use Rattle.age_commands.specs.declared.request.Request.TheVariants.{Encrypt};
-ghost use Rattle.age_actions.specs.Encryptions.{random_name, EncryptsOut, EncryptsFile};
+ghost use Rattle.age_actions.specs.Encryptions.{EncryptsOut, EncryptsFile};
+ghost use Rattle.age_steps.specs.Orders.{random_name};
 ghost use Rattle.age_actions.specs.inner.Randoms.{IsRandom};
-ghost use Rattle.age_actions.specs.Endings.{EndsEarly, is_usage};
+ghost use Rattle.age_steps.specs.Endings.{EndsEarly, is_usage};
 ghost use Rattle.age_actions.specs.Stops.{EncryptionStop, EncryptsStop, Leaves, PortsOf};
 ghost use Rattle.age_actions.specs.Stops.{SealedOutStops};
-ghost use Rattle.age_actions.specs.Files.{SparesBut};
-ghost use Rattle.age_file.specs.declared.fault.FileFault.TheVariants.{Memory};
+ghost use Rattle.age_steps.specs.Files.{SparesBut};
+ghost use Rattle.age_fault.specs.declared.fault.FileFault.TheVariants.{Memory};
 
-use crate::ending::{Ending, Usage};
-use crate::first_bytes::read_first;
-use crate::identity::{read_pass, trimmed};
 use age_commands::{Encrypting, Progress};
 use age_file::{FileFault, Secret, Source, encrypt};
 use age_fileset::FileSet;
 use age_io::Durability;
 use age_progress::{Meter, Metered};
+use age_steps::{Ending, Usage, read_first, read_pass, trimmed};
 use std::alloc::Global;
 
 /// Where random bytes come from if no file is named.

@@ -3,23 +3,16 @@
 //! `encrypt_file`, `decrypt_file` and `resume_file` take a set of files, what is asked for and a
 //! meter for progress. Each finds what opens or seals the input, opens the files in a fixed order,
 //! runs the engine of `age_file`, and leaves the output, and the position where it is to be saved,
-//! as its contract says, whether it succeeds or stops. An `Ending` says why it did not succeed. The
-//! other functions read files that have a limit, or hold a passphrase, for commands that are not
-//! here. How arguments become what is asked for, and what is reported, are left to the crate above.
+//! as its contract says, whether it succeeds or stops. An `Ending` says why it did not succeed. How
+//! arguments become what is asked for is left to the crate above.
 #![tactic(auto)]
 
 mod decryption;
 mod encryption;
-mod ending;
-mod first_bytes;
-mod identity;
 mod output;
 mod resumption;
 mod stop;
 
 pub use decryption::decrypt_file;
 pub use encryption::encrypt_file;
-pub use ending::{Ending, Usage};
-pub use first_bytes::{fill_first, read_up_to};
-pub use identity::{Identity, read_pass, trimmed};
 pub use resumption::resume_file;

@@ -2,14 +2,14 @@
 
 ghost use Rattle.std.specs.Prelude.{◌≡◌, ◌≢◌, ℕ, [], ◌∷◌, ◌++◌, List, Some, true};
 ghost use Rattle.std.specs.Prelude.{false, IfOk, IfErr, OnOk, OnErr};
-ghost use Rattle.age_actions.specs.Endings.{EndsEarly, is_usage};
+ghost use Rattle.age_steps.specs.Endings.{EndsEarly, is_usage};
 ghost use Rattle.age_fileset.specs.Events.{Created, Closed};
-ghost use Rattle.age_actions.specs.EventOrders.{Follows, making};
+ghost use Rattle.age_steps.specs.EventOrders.{Follows, making};
 ghost use Rattle.age_actions.specs.Stops.{Leaves};
 
-use crate::ending::{Ending, Usage};
 use age_fileset::FileSet;
 use age_io::Durability;
+use age_steps::{Ending, Usage};
 use std::alloc::Global;
 
 /// Whether the file of `--save` is one that is open, other than that of the position.

@@ -3,31 +3,29 @@
 ghost use Rattle.std.specs.Prelude.{◌≡◌, ◌⊎◌, [], ◌∷◌, ◌++◌, true, Some, IfOk, IfErr};
 ghost use Rattle.std.specs.Prelude.{OnOk};
 ghost use Rattle.age_fileset.specs.Events.{Opened, Closed};
-ghost use Rattle.age_actions.specs.EventOrders.{Follows};
-ghost use Rattle.age_actions.specs.Orders.{order_asked};
+ghost use Rattle.age_steps.specs.EventOrders.{Follows};
+ghost use Rattle.age_steps.specs.Orders.{order_asked};
 ghost use Rattle.age_fileset.specs.FileSet.{IsMemoryOr};
 ghost use Rattle.age_actions.specs.Stops.{ResumptionStop, ResumesStop, OutStops, PortsOf, kept_for};
 ghost use Rattle.age_actions.specs.inner.Ports.{PortsOfEither};
 ghost use Rattle.age_commands.specs.declared.request.Request.TheVariants.{Resume};
-ghost use Rattle.age_actions.specs.declared.ending.Ending.TheVariants.{Fault};
-ghost use Rattle.age_file.specs.declared.fault.FileFault.TheVariants.{Read, BadPosition};
+ghost use Rattle.age_steps.specs.declared.ending.Ending.TheVariants.{Fault};
+ghost use Rattle.age_fault.specs.declared.fault.FileFault.TheVariants.{Read, BadPosition};
 ghost use Rattle.age_commands.specs.Requests.{text_of};
 ghost use Rattle.age_commands.specs.declared.request.Progress.TheVariants.{Silent};
-ghost use Rattle.age_actions.specs.Identities.{options_asked};
+ghost use Rattle.age_steps.specs.Identities.{options_asked};
 ghost use Rattle.age_actions.specs.Resumptions.{IsPositionIn, ResumesOut, ResumesFile};
-ghost use Rattle.age_actions.specs.Endings.{EndsEarly, is_usage};
-ghost use Rattle.age_actions.specs.Files.{SparesBut, SparesBoth};
+ghost use Rattle.age_steps.specs.Endings.{EndsEarly, is_usage};
+ghost use Rattle.age_steps.specs.Files.{SparesBut, SparesBoth};
 
 use crate::decryption::{is_given_as, names_a_file_twice, positions_for};
-use crate::ending::{Ending, Usage};
-use crate::first_bytes::read_up_to;
-use crate::identity::{Identity, identity_of, read_secret, secret_file};
 use crate::output::{create_out, leave};
 use crate::stop::{Stop, end_of};
 use age_commands::{Decrypting, Progress, Resuming};
 use age_file::{FileFault, Position, Source, resume_with};
 use age_fileset::FileSet;
 use age_progress::{Meter, Metered};
+use age_steps::{Ending, Identity, Usage, identity_of, read_secret, read_up_to, secret_file};
 use std::alloc::Global;
 
 /// The position in a file.

@@ -2,16 +2,16 @@
 
 ghost use Rattle.std.specs.Prelude.{◌≡◌, true, false, None, OnOk, OnErr};
 ghost use Rattle.age_commands.specs.Requests.{text_of};
-ghost use Rattle.age_actions.specs.Endings.{is_usage};
+ghost use Rattle.age_steps.specs.Endings.{is_usage};
 ghost use Rattle.age_actions.specs.Stops.{SaveFails, EndsOf};
-ghost use Rattle.age_actions.specs.EventOrders.{Follows, replacing};
-ghost use Rattle.age_actions.specs.Files.{SparesBoth};
+ghost use Rattle.age_steps.specs.EventOrders.{Follows, replacing};
+ghost use Rattle.age_steps.specs.Files.{SparesBoth};
 ghost use Rattle.age_actions.specs.inner.Files.{Saves};
 
-use crate::ending::Ending;
 use age_file::{FileFault, Position, Stopped};
 use age_fileset::FileSet;
 use age_io::Durability;
+use age_steps::Ending;
 use std::alloc::Global;
 
 /// Why a command stopped, and the position to save.

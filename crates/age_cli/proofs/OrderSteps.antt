@@ -5,8 +5,8 @@ use Rattle.clap.specs.Words.{Row, Text, first_of}
 use Rattle.age_commands.specs.Asked.{Asks}
 use Rattle.age_commands.specs.Requests.{Requests, IsRequest}
 use Rattle.age_cli.specs.Orders.{order_of}
-use Rattle.age_actions.specs.Orders.{inspecting_order, encrypting_order, decrypting_order, resuming_order, drilling_order}
-use Rattle.age_actions.specs.Orders.{order_asked}
+use Rattle.age_steps.specs.Orders.{inspecting_order, encrypting_order, decrypting_order, resuming_order, drilling_order}
+use Rattle.age_steps.specs.Orders.{order_asked}
 use Rattle.age_commands.specs.declared.request.Request.{Request}
 use Rattle.age_commands.specs.declared.request.Request.TheVariants.{Inspect, Decrypt, Resume, Encrypt, Drill}
 

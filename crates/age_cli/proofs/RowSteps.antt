@@ -11,10 +11,10 @@ use Rattle.age_commands.specs.declared.request.Request.TheVariants.{Decrypt, Res
 use Rattle.age_commands.specs.declared.request.Unlocking.{Unlocking}
 use Rattle.age_commands.specs.declared.request.Decrypting.{Decrypting}
 use Rattle.age_commands.specs.declared.request.Resuming.{Resuming}
-use Rattle.age_actions.specs.Files.{Files, SparesBoth}
-use Rattle.age_actions.specs.Identities.{Options}
+use Rattle.age_steps.specs.Files.{Files, SparesBoth}
+use Rattle.age_steps.specs.Identities.{Options}
 use Rattle.age_cli.specs.Rows.{options_of, Spares}
-use Rattle.age_actions.specs.Identities.{options_asked}
+use Rattle.age_steps.specs.Identities.{options_asked}
 use Rattle.age_actions.specs.Decryptions.{DecryptsFile}
 use Rattle.age_cli.specs.Rows.{DecryptsRows}
 use Rattle.age_actions.specs.Resumptions.{ResumesFile}

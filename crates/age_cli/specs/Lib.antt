@@ -1,5 +1,4 @@
 pub mod Endings
-pub mod FaultLines
 pub mod ReportTexts
 pub mod Runs
 pub mod Rows

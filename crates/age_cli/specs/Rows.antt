@@ -2,8 +2,8 @@
 use Rattle.std.specs.Prelude.{◌≡◌, List, Some, codes}
 use Rattle.clap.specs.Words.{Row, Text, first_of, one_of}
 use Rattle.age_commands.specs.Requests.{number_or}
-use Rattle.age_actions.specs.Files.{Files, SparesBoth}
-use Rattle.age_actions.specs.Identities.{Options}
+use Rattle.age_steps.specs.Files.{Files, SparesBoth}
+use Rattle.age_steps.specs.Identities.{Options}
 use Rattle.age_actions.specs.Encryptions.{EncryptsFile}
 use Rattle.age_actions.specs.Decryptions.{DecryptsFile}
 use Rattle.age_actions.specs.Resumptions.{ResumesFile}

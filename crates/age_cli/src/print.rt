@@ -1,25 +1,12 @@
-//! Text into a sink, and the text of a report.
+//! The text of a report.
 
-ghost use Rattle.std.specs.Prelude.{◌≡◌, ◌++◌, IfOk, OnOk, OnErr};
+ghost use Rattle.std.specs.Prelude.{◌≡◌, ◌++◌, IfOk, OnOk};
 ghost use Rattle.std.specs.String.{string_bytes};
 ghost use Rattle.std.specs.List.{flat_map};
-ghost use Rattle.std.specs.Io.KnownBytes.{Appends};
-ghost use Rattle.age_file.specs.Faults.{HasRisen};
 ghost use Rattle.age_cli.specs.ReportTexts.{stanza_line, plain_line, report_text};
 
-use age_file::{FileFault, Report, Sink, StanzaReport, write_all};
+use age_file::{Report, StanzaReport};
 use std::alloc::{AllocError, Global};
-
-/// Writes all of some bytes, where nobody asks how many were written before a failure.
-pub(crate) fn put_bytes<O: Sink>(sink: &mut O, bytes: &[u8]) -> Result<(), FileFault>
-    ensures ok { OnOk result (Appends (O.view sink.old).taken (O.view sink.new).taken bytes.now) }
-    ensures same { OnOk result ((O.view sink.new).failed ≡ (O.view sink.old).failed) }
-    ensures err { OnErr result (HasRisen (O.view sink.old).failed (O.view sink.new).failed) }
-    ensures named { (O.view sink.new).label ≡ (O.view sink.old).label }
-{
-    let mut written = 0;
-    write_all(sink, bytes, &mut written)
-}
 
 fn put_stanza(alloc: Global, out: &mut Vec<u8>, stanza: &StanzaReport) -> Result<(), AllocError>
     ensures { OnOk result (out.new.items ≡ out.old.items ++ stanza_line stanza.now) }

@@ -9,22 +9,22 @@ ghost use Rattle.age_commands.specs.Asked.{Asks, AsksProgress, IsServed, refusal
 ghost use Rattle.age_cli.specs.Promises.{Inspecting, Encrypting, Decrypting, Resuming};
 ghost use Rattle.age_cli.specs.Promises.{SparingOthers, EncryptingStops, DecryptingStops};
 ghost use Rattle.age_cli.specs.Promises.{ResumingStops, Touching, Finishing, Judging, JudgingTold};
-ghost use Rattle.age_actions.specs.Endings.{EndsEarly, is_usage};
+ghost use Rattle.age_steps.specs.Endings.{EndsEarly, is_usage};
 ghost use Rattle.age_actions.specs.Stops.{PortsOf};
 ghost use Rattle.age_cli.specs.Endings.{status_of};
 ghost use Rattle.age_cli.specs.Stops.{StopsTold};
 ghost use Rattle.age_cli.specs.Headline.{IsWritersInput, IsWritersResumption, KeepsOut};
-ghost use Rattle.age_cli.specs.FaultLines.{TellsFault};
+ghost use Rattle.age_steps.specs.FaultLines.{TellsFault};
 ghost use Rattle.age_cli.specs.Runs.{Reports};
 
-use crate::drill::drill_file;
 use crate::inspection::{report, report_file};
-use crate::tell::tell;
-use age_actions::{Ending, Usage, decrypt_file, encrypt_file, resume_file};
+use age_actions::{decrypt_file, encrypt_file, resume_file};
 use age_commands::{Request, read_request};
+use age_drill::drill_file;
 use age_file::{FileFault, Sink, Source, flush_all, write_all};
 use age_fileset::FileSet;
 use age_progress::Meter;
+use age_steps::{Ending, Usage, tell};
 use clap::Error;
 use clap::error::ErrorKind;
 use std::alloc::Global;

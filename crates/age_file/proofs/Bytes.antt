@@ -16,39 +16,19 @@ use Rattle.age_stanza.proofs.FinishedLines.{nothing_under_way}
 use Rattle.age_stanza.proofs.Pieces.{none_held}
 use Rattle.age_stanza.proofs.FaultLaws.{no_fault}
 use Rattle.age_stream.specs.Headline.{IsPrefixOf}
-use Rattle.age_file.specs.Faults.{HasRisen, IsCut, IsHeadFault, IsSourcesFault, TellsFault, StopsAtHeader, HeadFails}
-use Rattle.age_file.specs.inner.Faults.{IsInHeader, fault_of, fault_by_kind}
-use Rattle.age_file.specs.declared.fault.FileFault.{FileFault}
-use Rattle.age_file.specs.declared.fault.FileFault.TheVariants.{Memory as FileMemory}
+use Rattle.age_fault.proofs.Bytes.{Consumes-then}
+use Rattle.age_file.specs.Faults.{IsCut, IsHeadFault, IsSourcesFault, TellsFault, StopsAtHeader, HeadFails}
+use Rattle.age_fault.specs.Faults.{HasRisen}
+use Rattle.age_file.specs.inner.Faults.{IsInHeader}
+use Rattle.age_fault.specs.inner.Faults.{fault_of, fault_by_kind}
+use Rattle.age_fault.specs.declared.fault.FileFault.{FileFault}
+use Rattle.age_fault.specs.declared.fault.FileFault.TheVariants.{Memory as FileMemory}
 use Rattle.age_file.specs.inner.Intakes.{Pulled}
 use Rattle.age_file.specs.inner.Unread.{Unread}
-
-pub Consumes-then : (a b c : Option (List ℕ)) (x y : List ℕ) → Consumes a b x → Consumes b c y → Consumes a c (x ++ y)
-Consumes-then None b c x y p q = tt
-Consumes-then (Some a) None c x y p q = absurd p
-Consumes-then (Some a) (Some b) None x y p q = absurd q
-Consumes-then (Some a) (Some b) (Some c) x y p q = p ∙ ap (λ (t : List ℕ). x ++ t) q ∙ sym (append_assoc x y c)
-
-pub Appends-then : (a b c : Option (List ℕ)) (x y : List ℕ) → Appends a b x → Appends b c y → Appends a c (x ++ y)
-Appends-then None b c x y p q = tt
-Appends-then (Some a) None c x y p q = absurd p
-Appends-then (Some a) (Some b) None x y p q = absurd q
-Appends-then (Some a) (Some b) (Some c) x y p q = q ∙ ap (λ (t : List ℕ). t ++ y) p ∙ append_assoc a x y
-
-pub Appends-Keeps : (a b c : Option (List ℕ)) (x : List ℕ) → Appends a b x → Keeps b c → Appends a c x
-Appends-Keeps None b c x p q = tt
-Appends-Keeps (Some a) None c x p q = absurd p
-Appends-Keeps (Some a) (Some b) None x p q = absurd q
-Appends-Keeps (Some a) (Some b) (Some c) x p q = q ∙ p
 
 -- a beginning of a beginning
 pub prefix_trans : (x y z : List ℕ) → IsPrefixOf x y → IsPrefixOf y z → IsPrefixOf x z
 prefix_trans x y z p q = (p.0 ++ q.0, sym (append_assoc x p.0 q.0) ∙ (ap (λ (t : List ℕ). t ++ q.0) p.1 ∙ q.1))
-
--- a count of failures that was raised
-pub risen : (old new : ℕ) → new ≡ min (old + 1) (2 ^ 64 - 1) → HasRisen old new
-risen old new e =
-    elim (cases_lt old (2 ^ 64 - 1)) [ inl lt ↦ inl (omega (arith, lt, e)) | inr le ↦ inr (omega (arith, le, e)) ]
 
 -- ---- headers
 
@@ -200,25 +180,3 @@ pub rest_pulled : (start now : Option (List ℕ)) (pulls new_pulls : ℕ) (used 
 rest_pulled start now pulls new_pulls used passed fresh same h =
     subst (λ (k : ℕ). Pulled start now k (used ++ (passed ++ fresh))) (sym same)
     (subst (λ (t : List ℕ). Pulled start now pulls t) (append_assoc used passed fresh) h)
-
--- an answer in other words, where it is known which fault comes
-pub answer_as : {T E : Type 0} {A B : T → Type 0} {C D Q : E → Type 0} (r : Result T E) → MatchResult r A C → IfErr r Q → ((x : T) → A x → B x)
-    → ((y : E) → Q y → C y → D y) → MatchResult r B D
-answer_as (Ok x) a q f g = f x a
-answer_as (Err y) a q f g = g y q a
-
--- what stood before an error was mapped
-pub was_mapped : {T E D : Type 0} (P : E → Type 0) (r : Result T E) (m : Result T D) (x : T) → MatchResult r (λ y. m ≡ Ok y) P → is_ok m ≡ is_ok r
-    → m ≡ Ok x → r ≡ Ok x
-was_mapped P (Ok y) m x h v is =
-    let e : Ok y ≡ Ok x = sym h ∙ is in
-    cc
-was_mapped P (Err y) m x h v is =
-    let clash : false ≡ true = sym v ∙ ap is_ok is in
-    absurd cc
-
-pub was_refused : {T E D : Type 0} (r : Result T E) (m : Result T D) (f : D) → is_ok m ≡ is_ok r → m ≡ Err f → (e : E) × (r ≡ Err e)
-was_refused (Ok y) m f v is =
-    let clash : false ≡ true = sym (ap is_ok is) ∙ v in
-    absurd cc
-was_refused (Err y) m f v is = (y, refl)

@@ -6,14 +6,14 @@ use Rattle.std.specs.Simd.{first_chunks}
 use Rattle.std.specs.Io.KnownBytes.{Appends}
 use Rattle.age_file.proofs.FirstChunks.{first_chunks-append, first_chunks_more}
 use Rattle.age_stream.specs.Headline.{IsPrefixOf}
-use Rattle.age_file.specs.Faults.{HasRisen}
+use Rattle.age_fault.specs.Faults.{HasRisen}
 use Rattle.age_file.specs.Bindings.{link, chain}
 use Rattle.age_file.specs.inner.Readers.{ReaderView, WriterView}
 use Rattle.age_file.specs.inner.Skips.{Passes, Dries}
 use Rattle.age_file.specs.inner.Copies.{CopyFails, CopiesChunk, CopiesAll}
-use Rattle.age_file.specs.declared.fault.FileFault.{FileFault}
-use Rattle.age_file.specs.declared.fault.FileFault.TheVariants.{ShortText, Read, Write, ReadNeverEnds}
-use Rattle.age_file.proofs.Bytes.{Appends-then}
+use Rattle.age_fault.specs.declared.fault.FileFault.{FileFault}
+use Rattle.age_fault.specs.declared.fault.FileFault.TheVariants.{ShortText, Read, Write, ReadNeverEnds}
+use Rattle.age_fault.proofs.Bytes.{Appends-then}
 use Rattle.age_file.proofs.CountSteps.{chain_on}
 use Rattle.age_file.proofs.SkipSteps.{passes_then, dries_then, within}
 

@@ -9,14 +9,14 @@ use Rattle.age_keys.specs.Scrypt.{scrypt_head}
 use Rattle.age_file.specs.AgeFile.{box}
 use Rattle.age_file.specs.Encrypts.{AgeFile, Encrypts, EncryptsFront, EncryptFails, WhyStopped}
 use Rattle.age_file.specs.inner.Encrypts.{BeginsFile}
-use Rattle.age_file.specs.Faults.{HasRisen}
+use Rattle.age_fault.specs.Faults.{HasRisen}
 use Rattle.age_file.specs.Ports.{Ports}
 use Rattle.age_file.specs.inner.Seals.{SealingFails, SealsAll, SealsFront}
 use Rattle.age_file.specs.Secrets.{SecretView}
-use Rattle.age_file.specs.declared.fault.FileFault.{FileFault}
-use Rattle.age_file.specs.declared.fault.FileFault.TheVariants.{Head, Key, NonceCut, Stream, BadPosition, OtherFile, ShortText, Read, Write, Memory}
-use Rattle.age_file.specs.declared.fault.FileFault.TheVariants.{ReadNeverEnds, PositionForged, OldTextDiffers}
-use Rattle.age_file.proofs.Bytes.{Appends-then}
+use Rattle.age_fault.specs.declared.fault.FileFault.{FileFault}
+use Rattle.age_fault.specs.declared.fault.FileFault.TheVariants.{Head, Key, NonceCut, Stream, BadPosition, OtherFile, ShortText, Read, Write, Memory}
+use Rattle.age_fault.specs.declared.fault.FileFault.TheVariants.{ReadNeverEnds, PositionForged, OldTextDiffers}
+use Rattle.age_fault.proofs.Bytes.{Appends-then}
 
 mac_holds : (pass : List ℕ) (log : ℕ) (salt key : List ℕ) → IsMacOf (scrypt_head pass log salt key) key
 unfolding scrypt_head header_mac

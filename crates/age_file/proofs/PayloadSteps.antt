@@ -8,14 +8,14 @@ use Rattle.age_stream.specs.Deliveries.{with_piece, with_end, fresh}
 use Rattle.age_stream.specs.Opening.{OpenerView, Stands}
 use Rattle.age_stream.specs.Headline.{IsPrefixOf}
 use Rattle.age_stream.proofs.PublicLaws.{fresh_is_open, released_grows}
-use Rattle.age_file.specs.Faults.{HasRisen}
+use Rattle.age_fault.specs.Faults.{HasRisen}
 use Rattle.age_file.specs.Ports.{NoneFailed}
 use Rattle.age_file.specs.inner.Readers.{WriterView, Stage, stage, ports_at}
 use Rattle.age_file.specs.inner.Releases.{Releases, Closes, FeedFails}
 use Rattle.age_file.specs.Runs.{segment}
 use Rattle.age_file.specs.inner.Payloads.{DecryptsPayload, PayloadFails, PayloadDone}
-use Rattle.age_file.specs.declared.fault.FileFault.{FileFault}
-use Rattle.age_file.specs.declared.fault.FileFault.TheVariants.{Stream, Read, Write, ReadNeverEnds}
+use Rattle.age_fault.specs.declared.fault.FileFault.{FileFault}
+use Rattle.age_fault.specs.declared.fault.FileFault.TheVariants.{Stream, Read, Write, ReadNeverEnds}
 use Rattle.age_stream.specs.ChunkBoxes.{IsChunkBox}
 use Rattle.std.specs.Simd.{first_chunks}
 use Rattle.age_file.specs.inner.Bindings.{chain_if}

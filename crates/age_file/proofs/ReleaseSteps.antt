@@ -11,18 +11,18 @@ use Rattle.age_stream.specs.Deliveries.{with_piece}
 use Rattle.age_stream.specs.Opening.{OpenerView, Stands, chunk_texts}
 use Rattle.age_stream.proofs.PublicLaws.{pieces_join}
 use Rattle.age_stream.specs.Lent.{chunk_bytes}
-use Rattle.age_file.specs.Faults.{HasRisen}
+use Rattle.age_fault.specs.Faults.{HasRisen}
 use Rattle.age_file.specs.inner.Releases.{Releases, FeedGoes, FeedFails}
 use Rattle.age_file.specs.inner.Readers.{WriterView}
-use Rattle.age_file.specs.declared.fault.FileFault.{FileFault}
-use Rattle.age_file.specs.declared.fault.FileFault.TheVariants.{Stream, Write}
+use Rattle.age_fault.specs.declared.fault.FileFault.{FileFault}
+use Rattle.age_fault.specs.declared.fault.FileFault.TheVariants.{Stream, Write}
 use Rattle.age_stream.specs.ChunkBoxes.{IsChunkBox}
 use Rattle.age_file.specs.inner.Bindings.{link_if}
 use Rattle.age_file.specs.declared.position.Positions.{Positions}
 use Rattle.age_file.specs.declared.progress.Progress.{Progress}
 use Rattle.age_file.specs.inner.Counts.{Advances, CountsChunks}
 use Rattle.age_file.proofs.CountSteps.{no_piece, piece_start, mark_step, mark_none, mark_cut}
-use Rattle.age_file.proofs.Bytes.{Appends-then}
+use Rattle.age_fault.proofs.Bytes.{Appends-then}
 use Rattle.std.proofs.KnownBytes.{Appends-nil}
 
 -- what was lent, joined

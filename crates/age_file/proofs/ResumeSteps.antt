@@ -21,7 +21,7 @@ use Rattle.age_file.specs.Bindings.{file_id, chain, position_tag}
 use Rattle.age_file.specs.inner.Bindings.{chain_if}
 use Rattle.age_file.specs.declared.position.Positions.TheVariants.{Kept, Dropped}
 use Rattle.age_file.specs.inner.Copies.{CopiesText}
-use Rattle.age_file.specs.Faults.{HasRisen}
+use Rattle.age_fault.specs.Faults.{HasRisen}
 use Rattle.age_file.specs.inner.Readers.{ReaderView, reader_view, WriterView, Stage, stage}
 use Rattle.age_file.specs.inner.Intakes.{Pulled}
 use Rattle.age_file.specs.Runs.{Told}
@@ -40,12 +40,13 @@ use Rattle.age_file.specs.Starts.{StartFails}
 use Rattle.age_file.specs.inner.Starts.{Uses, StartsAt}
 use Rattle.age_io.specs.Views.{SourceView}
 use Rattle.age_file.specs.inner.Unread.{Unread}
-use Rattle.age_file.specs.declared.fault.FileFault.{FileFault}
-use Rattle.age_file.specs.declared.fault.FileFault.TheVariants.{Stream, OtherFile, ShortText, Read, Write, ReadNeverEnds, PositionForged, OldTextDiffers}
+use Rattle.age_fault.specs.declared.fault.FileFault.{FileFault}
+use Rattle.age_fault.specs.declared.fault.FileFault.TheVariants.{Stream, OtherFile, ShortText, Read, Write, ReadNeverEnds, PositionForged, OldTextDiffers}
 use Rattle.age_file.specs.declared.position.Position.{Position}
 use Rattle.age_file.specs.declared.position.Positions.{Positions}
 use Rattle.age_file.specs.declared.start.Unlocked.{Unlocked}
-use Rattle.age_file.proofs.Bytes.{Appends-then, prefix_trans, preceded, preceded_consumed, counted_on, counted_back}
+use Rattle.age_file.proofs.Bytes.{prefix_trans, preceded, preceded_consumed, counted_on, counted_back}
+use Rattle.age_fault.proofs.Bytes.{Appends-then}
 use Rattle.age_file.proofs.DecryptSteps.{own_tag}
 
 -- ---- the old text

@@ -9,15 +9,16 @@ use Rattle.age_stream.specs.Headline.{IsPrefixOf}
 use Rattle.age_stream.specs.Payload.{pair, block_bytes, payload, sealed_before_last, last_index, last_chunk}
 use Rattle.age_stream.specs.Sealing.{SealerView, Holds}
 use Rattle.age_stream.proofs.PublicLaws.{sealed_grows}
-use Rattle.age_file.specs.Faults.{HasRisen}
+use Rattle.age_fault.specs.Faults.{HasRisen}
 use Rattle.age_file.specs.inner.Readers.{ReaderView, WriterView}
 use Rattle.age_file.specs.inner.Intakes.{PullFails}
 use Rattle.age_file.specs.Ports.{Ports}
 use Rattle.age_file.specs.inner.Seals.{front_of, SealsSome, GoesOn, SealFails, SealingFails, Wrote}
-use Rattle.age_file.specs.declared.fault.FileFault.{FileFault}
-use Rattle.age_file.specs.declared.fault.FileFault.TheVariants.{Head, Key, NonceCut, Stream, BadPosition, OtherFile, ShortText, Read, Write, Memory}
-use Rattle.age_file.specs.declared.fault.FileFault.TheVariants.{ReadNeverEnds, PositionForged, OldTextDiffers}
-use Rattle.age_file.proofs.Bytes.{Appends-then, prefix_trans}
+use Rattle.age_fault.specs.declared.fault.FileFault.{FileFault}
+use Rattle.age_fault.specs.declared.fault.FileFault.TheVariants.{Head, Key, NonceCut, Stream, BadPosition, OtherFile, ShortText, Read, Write, Memory}
+use Rattle.age_fault.specs.declared.fault.FileFault.TheVariants.{ReadNeverEnds, PositionForged, OldTextDiffers}
+use Rattle.age_file.proofs.Bytes.{prefix_trans}
+use Rattle.age_fault.proofs.Bytes.{Appends-then}
 use Rattle.age_file.proofs.SealSteps.{goes_then}
 
 -- the blocks before the last begin the payload

@@ -14,12 +14,14 @@ use Rattle.age_keys.specs.Opened.{Opens, Refuses}
 use Rattle.age_file.specs.inner.Unread.{Unread}
 use Rattle.age_file.specs.inner.Readers.{ReaderView, reader_view}
 use Rattle.age_file.specs.inner.Intakes.{Pulled, PullFails}
-use Rattle.age_file.specs.Faults.{HasRisen, HeadFails, IsShort, StopsAtHeader}
-use Rattle.age_file.specs.inner.Faults.{IsInHeader, fault_of_key}
+use Rattle.age_file.specs.Faults.{HeadFails, IsShort, StopsAtHeader}
+use Rattle.age_fault.specs.Faults.{HasRisen}
+use Rattle.age_file.specs.inner.Faults.{IsInHeader}
+use Rattle.age_fault.specs.inner.Faults.{fault_of_key}
 use Rattle.age_file.specs.Starts.{StartFails}
 use Rattle.age_file.specs.inner.Starts.{Uses, UsesShort, NonceFails}
-use Rattle.age_file.specs.declared.fault.FileFault.{FileFault}
-use Rattle.age_file.specs.declared.fault.FileFault.TheVariants.{Head, NonceCut, Read, Memory, ReadNeverEnds}
+use Rattle.age_fault.specs.declared.fault.FileFault.{FileFault}
+use Rattle.age_fault.specs.declared.fault.FileFault.TheVariants.{Head, NonceCut, Read, Memory, ReadNeverEnds}
 use Rattle.age_file.proofs.Bytes.{cut_pulled, head_pulled}
 
 pub uses_then : (x y z : ReaderView) (p q r : List ℕ) → p ++ q ≡ r → Uses x y p → Uses y z q → Uses x z r

@@ -30,8 +30,8 @@ use Rattle.age_file.specs.Starts.{StartFails}
 use Rattle.age_file.specs.Runs.{segment, Run, IsFromStart, outcome_of, IsRun, IsDone}
 use Rattle.age_file.specs.Decrypts.{DecryptFails, IsWhole, IsUndamaged, WritesText, StopsOutside}
 use Rattle.age_file.proofs.RunSteps.{none_before}
-use Rattle.age_file.specs.declared.fault.FileFault.{FileFault}
-use Rattle.age_file.specs.declared.fault.FileFault.TheVariants.{Head, Key, NonceCut, Stream, Read, Write, Memory, ReadNeverEnds}
+use Rattle.age_fault.specs.declared.fault.FileFault.{FileFault}
+use Rattle.age_fault.specs.declared.fault.FileFault.TheVariants.{Head, Key, NonceCut, Stream, Read, Write, Memory, ReadNeverEnds}
 
 -- a source that told its bytes tells those that are left
 pub told : (before after : Option (List ℕ)) (bytes used : List ℕ) → before ≡ Some bytes → Consumes before after used → (rest : List ℕ) × (bytes ≡ used ++ rest)

@@ -17,9 +17,9 @@ use Rattle.age_file.specs.UndamagedRests.{IsUndamagedRest}
 use Rattle.age_file.specs.ResumeFaults.{ResumeFails}
 use Rattle.age_file.specs.declared.position.Position.{Position}
 use Rattle.age_file.specs.declared.position.Positions.{Positions}
-use Rattle.age_file.specs.declared.fault.FileFault.{FileFault}
-use Rattle.age_file.specs.declared.fault.FileFault.TheVariants.{Head, Key, NonceCut, Stream, OtherFile, ShortText, Read, Write, Memory, ReadNeverEnds}
-use Rattle.age_file.specs.declared.fault.FileFault.TheVariants.{PositionForged, OldTextDiffers}
+use Rattle.age_fault.specs.declared.fault.FileFault.{FileFault}
+use Rattle.age_fault.specs.declared.fault.FileFault.TheVariants.{Head, Key, NonceCut, Stream, OtherFile, ShortText, Read, Write, Memory, ReadNeverEnds}
+use Rattle.age_fault.specs.declared.fault.FileFault.TheVariants.{PositionForged, OldTextDiffers}
 use Rattle.age_file.proofs.Undamaged.{told, none_left, start_undamaged, front_is, opened_as, no_early_end, same_front, run_opens, run_writes}
 use Rattle.age_file.proofs.Undamaged.{own_authentic, IsOpenedAs}
 

@@ -10,7 +10,8 @@ use Rattle.age_stream.specs.Nonce.{chunk_limit}
 use Rattle.age_keys.specs.declared.fault.KeyFault.{KeyFault}
 use Rattle.age_keys.specs.declared.fault.KeyFault.TheVariants.{Memory as KeyMemory}
 use Rattle.age_keys.specs.Keys.{IsScryptNotAlone}
-use Rattle.age_file.specs.Faults.{HasRisen, NeverEnds, IsShort}
+use Rattle.age_file.specs.Faults.{NeverEnds, IsShort}
+use Rattle.age_fault.specs.Faults.{HasRisen}
 use Rattle.age_file.specs.AgeFile.{box, unbox, FileOf}
 use Rattle.age_file.specs.declared.position.Position.{Position}
 use Rattle.age_file.specs.declared.position.Positions.{Positions}
@@ -20,9 +21,9 @@ use Rattle.age_file.specs.Runs.{Run, IsFromStart, outcome_of, WritesNone, IsDone
 use Rattle.age_file.specs.Runs.{StopsInPayload, StopsWriting}
 use Rattle.age_file.specs.declared.decryption.Done.{Done}
 use Rattle.age_file.specs.declared.decryption.Stopped.{Stopped}
-use Rattle.age_file.specs.declared.fault.FileFault.{FileFault}
-use Rattle.age_file.specs.declared.fault.FileFault.TheVariants.{Stream, Read, Write, Memory}
-use Rattle.age_file.specs.declared.fault.FileFault.TheVariants.{ReadNeverEnds}
+use Rattle.age_fault.specs.declared.fault.FileFault.{FileFault}
+use Rattle.age_fault.specs.declared.fault.FileFault.TheVariants.{Stream, Read, Write, Memory}
+use Rattle.age_fault.specs.declared.fault.FileFault.TheVariants.{ReadNeverEnds}
 
 module _ (keep : Positions) (Allows : Header → List ℕ → Type 0) where
   -- a run of which all text was written, with its position; or none yet: fewer bytes were pulled

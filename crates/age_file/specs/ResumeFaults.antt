@@ -9,7 +9,8 @@ use Rattle.age_stream.specs.declared.fault.StreamFault.{StreamFault}
 use Rattle.age_stream.specs.declared.step.Status.TheVariants.{Failed}
 use Rattle.age_stream.specs.Payload.{chunk_length, block_length}
 use Rattle.age_keys.specs.declared.fault.KeyFault.{KeyFault}
-use Rattle.age_file.specs.Faults.{HasRisen, IsByAllPulls, IsShort}
+use Rattle.age_file.specs.Faults.{IsByAllPulls, IsShort}
+use Rattle.age_fault.specs.Faults.{HasRisen}
 use Rattle.age_file.specs.Bindings.{chain}
 use Rattle.age_file.specs.Starts.{StartFails}
 use Rattle.age_file.specs.Runs.{Run, outcome_of, Reads, WritesNone, Told, IsDone}
@@ -18,10 +19,10 @@ use Rattle.age_file.specs.declared.position.Position.{Position}
 use Rattle.age_file.specs.declared.position.Positions.{Positions}
 use Rattle.age_file.specs.declared.decryption.Done.{Done}
 use Rattle.age_file.specs.declared.decryption.Stopped.{Stopped}
-use Rattle.age_file.specs.declared.fault.FileFault.{FileFault}
-use Rattle.age_file.specs.declared.fault.FileFault.TheVariants.{Stream, OtherFile, ShortText, Read}
-use Rattle.age_file.specs.declared.fault.FileFault.TheVariants.{Write, ReadNeverEnds}
-use Rattle.age_file.specs.declared.fault.FileFault.TheVariants.{PositionForged, OldTextDiffers}
+use Rattle.age_fault.specs.declared.fault.FileFault.{FileFault}
+use Rattle.age_fault.specs.declared.fault.FileFault.TheVariants.{Stream, OtherFile, ShortText, Read}
+use Rattle.age_fault.specs.declared.fault.FileFault.TheVariants.{Write, ReadNeverEnds}
+use Rattle.age_fault.specs.declared.fault.FileFault.TheVariants.{PositionForged, OldTextDiffers}
 use Rattle.age_file.specs.Verdicts.{OpenedFile, HasId, HasTag}
 use Rattle.age_file.specs.OldTexts.{IsOldText}
 use Rattle.age_file.specs.Resumes.{ResumePorts, NoPortFailed, WritesOld, IsFrom, Accepts, IsSame}

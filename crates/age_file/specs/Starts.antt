@@ -7,10 +7,11 @@ use Rattle.age_stanza.specs.Grammar.{HeadText}
 use Rattle.age_keys.specs.declared.fault.KeyFault.{KeyFault}
 use Rattle.age_keys.specs.declared.fault.KeyFault.TheVariants.{Memory as KeyMemory}
 use Rattle.age_keys.specs.Opened.{Opens, Refuses}
-use Rattle.age_file.specs.Faults.{HasRisen, TellsFault, NeverEnds, IsShort, StopsAtHeader}
-use Rattle.age_file.specs.declared.fault.FileFault.{FileFault}
-use Rattle.age_file.specs.declared.fault.FileFault.TheVariants.{Head, Key, NonceCut, Read, Memory}
-use Rattle.age_file.specs.declared.fault.FileFault.TheVariants.{ReadNeverEnds}
+use Rattle.age_file.specs.Faults.{TellsFault, NeverEnds, IsShort, StopsAtHeader}
+use Rattle.age_fault.specs.Faults.{HasRisen}
+use Rattle.age_fault.specs.declared.fault.FileFault.{FileFault}
+use Rattle.age_fault.specs.declared.fault.FileFault.TheVariants.{Head, Key, NonceCut, Read, Memory}
+use Rattle.age_fault.specs.declared.fault.FileFault.TheVariants.{ReadNeverEnds}
 
 -- why there is no payload
 abbrev pub StartFails : (Header → List ℕ → Type 0) → (Header → KeyFault → Type 0) → SourceView

@@ -7,10 +7,9 @@ ghost use Rattle.age_file.specs.inner.Readers.{view_of_reader, view_of_writer};
 ghost use Rattle.age_file.specs.inner.Readers.{SameReader, SameWriter};
 ghost use Rattle.age_file.specs.inner.Copies.{CopiesChunk, CopiesAll};
 
-use crate::fault::FileFault;
-use crate::put::write_all;
 use crate::reader::{Reader, Writer};
 use crate::start::some_bytes;
+use age_fault::{FileFault, write_all};
 use age_io::{Sink, Source};
 use sha2::{Digest, Sha256};
 

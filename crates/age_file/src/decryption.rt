@@ -6,13 +6,13 @@ ghost use Rattle.age_file.specs.declared.position.Positions.TheVariants.{Kept};
 ghost use Rattle.age_file.specs.Decrypts.{Decrypts};
 ghost use Rattle.age_file.specs.inner.Decrypts.{PositionAt, EndsAs};
 
-use crate::fault::FileFault;
 use crate::intake::Intake;
 use crate::payload::decrypt_payload;
 use crate::position::{Position, Positions};
 use crate::progress::Progress;
 use crate::reader::{Reader, Writer};
 use crate::start::{Unlocked, start};
+use age_fault::FileFault;
 use age_io::{Sink, Source};
 use age_keys::{Unlock, payload_key, position_key};
 use age_stanza::one_header;

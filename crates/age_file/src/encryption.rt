@@ -4,16 +4,15 @@ ghost use Rattle.std.specs.Prelude.{◌≡◌, IfOk, OnOk, IfErr, true};
 ghost use Rattle.age_file.specs.Encrypts.{Encrypts, EncryptFails};
 ghost use Rattle.age_file.specs.inner.Encrypts.{BeginsFile};
 ghost use Rattle.age_file.specs.Ports.{ports};
-ghost use Rattle.age_file.specs.declared.fault.FileFault.TheVariants.{Memory};
+ghost use Rattle.age_fault.specs.declared.fault.FileFault.TheVariants.{Memory};
 
-use crate::fault::FileFault;
 use crate::intake::Intake;
 use crate::position::Positions;
 use crate::progress::Progress;
-use crate::put::write_all;
 use crate::reader::{Reader, Writer};
 use crate::sealing::seal_all;
 use crate::secret::Secret;
+use age_fault::{FileFault, write_all};
 use age_io::{Sink, Source};
 use age_keys::{FileKey, payload_key, scrypt_header};
 use age_stanza::encode_head;

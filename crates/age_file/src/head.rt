@@ -1,14 +1,14 @@
 //! Reads the header at the beginning of a source.
 
 ghost use Rattle.std.specs.Prelude.{◌≡◌, ◌≢◌, [], IfOk, IfErr, OnOk};
-ghost use Rattle.age_file.specs.declared.fault.FileFault.TheVariants.{Memory};
+ghost use Rattle.age_fault.specs.declared.fault.FileFault.TheVariants.{Memory};
 ghost use Rattle.age_file.specs.Faults.{HeadFails, StopsAtHeader};
 ghost use Rattle.age_file.specs.inner.Faults.{IsInHeader};
 ghost use Rattle.age_file.specs.inner.Readers.{view_of_reader, SameReader};
 ghost use Rattle.age_file.specs.inner.Intakes.{ReadsHead};
 
-use crate::fault::FileFault;
 use crate::reader::Reader;
+use age_fault::FileFault;
 use age_io::Source;
 use age_stanza::{HeadParser, HeadStep, Header};
 use sha2::{Digest, Sha256};

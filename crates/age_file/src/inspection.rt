@@ -8,11 +8,11 @@ ghost use Rattle.age_file.specs.inner.Readers.{view_of_reader, SameReader};
 ghost use Rattle.age_file.specs.inner.Intakes.{CountsRest, RestFails};
 ghost use Rattle.age_file.specs.Reports.{stanza_report, IsPlainOf, Inspects};
 
-use crate::fault::FileFault;
 use crate::head::read_head;
 use crate::intake::Intake;
 use crate::reader::Reader;
 use crate::report::{Report, StanzaReport, StanzaReports};
+use age_fault::FileFault;
 use age_io::Source;
 use age_stanza::{Bytes, Stanza};
 use std::alloc::{AllocError, Global};

@@ -4,7 +4,7 @@ ghost use Rattle.std.specs.Prelude.{◌≡◌, ◌≤◌, [], length, drop, IfOk
 ghost use Rattle.age_file.specs.inner.Intakes.{Refills};
 ghost use Rattle.age_file.specs.inner.Readers.{reader_view};
 
-use crate::fault::FileFault;
+use age_fault::FileFault;
 use age_io::Source;
 use std::alloc::{AllocError, Global};
 use std::marker::Model;

@@ -7,9 +7,8 @@ ghost use Rattle.age_file.specs.inner.Releases.{FeedsOnce, FeedsPiece, Closes};
 ghost use Rattle.age_file.specs.inner.Payloads.{HasPlace, DecryptsPayload};
 ghost use Rattle.age_file.specs.inner.Readers.{view_of_writer, stage_of, SameReader, SameWriter};
 
-use crate::fault::FileFault;
-use crate::put::{flush_all, write_all};
 use crate::reader::{Reader, Writer};
+use age_fault::{FileFault, flush_all, write_all};
 use age_io::{Sink, Source};
 use age_keys::PayloadKey;
 use age_stream::Opener;

@@ -5,10 +5,10 @@ ghost use Rattle.std.specs.Prelude.{IfNone};
 ghost use Rattle.std.specs.Prelude.{decimal};
 ghost use Rattle.age_file.specs.PositionTexts.{position_text, NoPosition, IsDigest};
 ghost use Rattle.age_file.specs.inner.PositionTexts.{index_text, field_text, fields_text};
-ghost use Rattle.age_file.specs.declared.fault.FileFault.TheVariants.{BadPosition, Memory};
+ghost use Rattle.age_fault.specs.declared.fault.FileFault.TheVariants.{BadPosition, Memory};
 
-use crate::fault::FileFault;
 use crate::position::{Position, VERSION, front_parts, spelled};
+use age_fault::FileFault;
 use base64::engine::general_purpose::STANDARD_NO_PAD;
 use itoa::Buffer;
 use std::alloc::{AllocError, Global};

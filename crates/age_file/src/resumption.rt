@@ -13,7 +13,6 @@ ghost use Rattle.age_file.specs.ResumePromises.{ResumesText};
 
 use crate::copy::copy_chunks;
 use crate::decryption::{Done, Stopped, ended};
-use crate::fault::FileFault;
 use crate::intake::Intake;
 use crate::payload::decrypt_payload;
 use crate::position::{Position, Positions, tag_of};
@@ -21,6 +20,7 @@ use crate::progress::Progress;
 use crate::reader::{Reader, Writer};
 use crate::skip::skip_blocks;
 use crate::start::{Unlocked, start};
+use age_fault::FileFault;
 use age_io::{Sink, Source};
 use age_keys::{Unlock, payload_key, position_key};
 use age_stanza::one_header;

@@ -6,9 +6,8 @@ ghost use Rattle.age_file.specs.inner.Readers.{view_of_writer, ports_of, SameRea
 ghost use Rattle.age_file.specs.inner.Seals.{IsFeeding, HasRoom, SealsOnce, SealsPiece, SealsLast};
 ghost use Rattle.age_file.specs.inner.Seals.{SealsAll, SealsFront};
 
-use crate::fault::FileFault;
-use crate::put::{flush_all, write_all};
 use crate::reader::{Reader, Writer};
+use age_fault::{FileFault, flush_all, write_all};
 use age_io::{Sink, Source};
 use age_keys::PayloadKey;
 use age_stream::Sealer;

@@ -3,9 +3,9 @@
 ghost use Rattle.age_file.specs.inner.Skips.{SkipsBlock, SkipsBlocks};
 ghost use Rattle.age_file.specs.inner.Readers.{view_of_reader, SameReader};
 
-use crate::fault::FileFault;
 use crate::reader::Reader;
 use crate::start::some_bytes;
+use age_fault::FileFault;
 use age_io::Source;
 use age_stream::{StreamFault, StreamKind};
 

@@ -7,10 +7,10 @@ ghost use Rattle.age_file.specs.Starts.{StartFails};
 ghost use Rattle.age_file.specs.inner.Readers.{view_of_reader, SameReader};
 ghost use Rattle.age_file.specs.inner.Starts.{Uses, SomeAnswers, NonceFails, StartsAt};
 
-use crate::fault::FileFault;
 use crate::head::read_head;
 use crate::position::file_id;
 use crate::reader::Reader;
+use age_fault::FileFault;
 use age_io::Source;
 use age_keys::{FileKey, Unlock, open_header};
 use age_stanza::one_header;

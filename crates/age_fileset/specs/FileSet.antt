@@ -1,7 +1,7 @@
 -- The faults that a set of files answers.
 use Rattle.std.specs.Prelude.{◌≡◌, ◌⊎◌, Bool, false}
-use Rattle.age_file.specs.declared.fault.FileFault.{FileFault}
-use Rattle.age_file.specs.declared.fault.FileFault.TheVariants.{Memory, Write}
+use Rattle.age_fault.specs.declared.fault.FileFault.{FileFault}
+use Rattle.age_fault.specs.declared.fault.FileFault.TheVariants.{Memory, Write}
 use Rattle.age_fileset.specs.declared.files.CreateFault.{CreateFault}
 use Rattle.age_fileset.specs.declared.files.CreateFault.TheVariants.{SameFile, Fault}
 

@@ -8,8 +8,8 @@ ghost use Rattle.age_fileset.specs.FileSet.{IsMemoryOr, CreateFails};
 ghost use Rattle.age_fileset.specs.declared.files.CreateFault.TheVariants.{Fault};
 ghost use Rattle.age_fileset.specs.Events.{Event, Opened, Created, Replaced, Closed};
 
-use age_file::{FileFault, Sink, Source};
-use age_io::Durability;
+use age_fault::FileFault;
+use age_io::{Durability, Sink, Source};
 use std::alloc::Global;
 
 /// Why a file could not be created.

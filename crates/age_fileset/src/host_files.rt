@@ -11,7 +11,7 @@ use crate::host_names::Identity;
 use crate::host_out::HostOut;
 use crate::host_replace::replace;
 use crate::log::Log;
-use age_file::FileFault;
+use age_fault::FileFault;
 use age_io::Durability;
 use std::alloc::{AllocError, Global};
 use std::io;

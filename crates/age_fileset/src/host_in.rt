@@ -4,7 +4,7 @@ ghost use Rattle.std.specs.Prelude.{◌≡◌, None};
 ghost use Rattle.std.specs.Io.{ReadsAtMost};
 
 use crate::host_names::{Identity, Place, Stream, above_streams, place_of};
-use age_file::{Failed, Source};
+use age_io::{Failed, Source};
 use std::alloc::Global;
 use std::fs::File;
 use std::io::{self, Read};

@@ -4,8 +4,7 @@ ghost use Rattle.std.specs.Prelude.{◌≡◌, [], None, true};
 ghost use Rattle.std.specs.Io.{WritesAtMost};
 
 use crate::host_names::{Identity, Place, Stream, above_streams, place_of};
-use age_file::{Failed, Sink};
-use age_io::Durability;
+use age_io::{Durability, Failed, Sink};
 use std::alloc::Global;
 use std::fs::{self, File};
 use std::io::{self, Write};

@@ -2,7 +2,7 @@
 
 use crate::host_names::{Identity, Place, above_streams, place_of};
 use crate::host_out::{HostOut, sync_folder};
-use age_file::write_all;
+use age_fault::write_all;
 use age_io::Durability;
 use std::alloc::Global;
 use std::fs::{self, File, Permissions};

@@ -14,8 +14,8 @@ ghost use Rattle.age_fileset.specs.declared.files.CreateFault.TheVariants.{Fault
 use crate::files::{CreateFault, FileSet};
 use crate::log::Log;
 use crate::mem_entry::{MemEntry, Name, bytes_of, put_entry};
-use age_file::{Failed, FileFault, MemSink, MemSource, Memory, Sink};
-use age_io::Durability;
+use age_fault::FileFault;
+use age_io::{Durability, Failed, MemSink, MemSource, Memory, Sink};
 use age_stanza::Bytes;
 use std::alloc::Global;
 use std::marker::Model;

@@ -3,7 +3,7 @@ use Rattle.std.specs.Prelude.{◌≡◌, Option, Some, None}
 use Rattle.clap.specs.Words.{Text}
 use Rattle.age_file.specs.declared.position.Position.{Position}
 use Rattle.age_file.specs.PositionTexts.{position_text}
-use Rattle.age_actions.specs.Files.{Files}
+use Rattle.age_steps.specs.Files.{Files}
 
 -- the position stands in the file of this name, where both are there, and nothing differs where one
 -- isn't

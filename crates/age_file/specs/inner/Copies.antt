@@ -5,16 +5,16 @@ use Rattle.std.specs.Prelude.{MatchResult}
 use Rattle.std.specs.Simd.{first_chunks}
 use Rattle.std.specs.Io.KnownBytes.{Appends, IsAtEnd}
 use Rattle.age_stream.specs.Headline.{IsPrefixOf}
-use Rattle.age_file.specs.Faults.{HasRisen}
+use Rattle.age_fault.specs.Faults.{HasRisen}
 use Rattle.age_file.specs.Bindings.{chain}
 use Rattle.age_file.specs.inner.Bindings.{link_if, chain_if}
 use Rattle.age_file.specs.declared.position.Positions.{Positions}
 use Rattle.age_file.specs.declared.position.Positions.TheVariants.{Kept}
 use Rattle.age_file.specs.inner.Readers.{ReaderView, WriterView}
 use Rattle.age_file.specs.inner.Skips.{Passes, Dries}
-use Rattle.age_file.specs.declared.fault.FileFault.{FileFault}
-use Rattle.age_file.specs.declared.fault.FileFault.TheVariants.{ShortText, Read, Write}
-use Rattle.age_file.specs.declared.fault.FileFault.TheVariants.{ReadNeverEnds, OldTextDiffers}
+use Rattle.age_fault.specs.declared.fault.FileFault.{FileFault}
+use Rattle.age_fault.specs.declared.fault.FileFault.TheVariants.{ShortText, Read, Write}
+use Rattle.age_fault.specs.declared.fault.FileFault.TheVariants.{ReadNeverEnds, OldTextDiffers}
 
 -- what was written of the old text, fewer bytes than were to be copied: all that the source gave,
 -- or its front where the sink failed

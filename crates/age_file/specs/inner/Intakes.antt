@@ -6,11 +6,12 @@ use Rattle.std.specs.Io.KnownBytes.{Consumes, IsAtEnd}
 use Rattle.age_io.specs.Views.{SourceView}
 use Rattle.sha2.specs.Hashers.{Holds256}
 use Rattle.age_stanza.specs.Grammar.{HeadText}
-use Rattle.age_file.specs.Faults.{HasRisen, NeverEnds}
+use Rattle.age_file.specs.Faults.{NeverEnds}
+use Rattle.age_fault.specs.Faults.{HasRisen}
 use Rattle.age_file.specs.inner.Readers.{ReaderView}
 use Rattle.age_file.specs.declared.head.Head.{Head}
-use Rattle.age_file.specs.declared.fault.FileFault.{FileFault}
-use Rattle.age_file.specs.declared.fault.FileFault.TheVariants.{Read, ReadNeverEnds}
+use Rattle.age_fault.specs.declared.fault.FileFault.{FileFault}
+use Rattle.age_fault.specs.declared.fault.FileFault.TheVariants.{Read, ReadNeverEnds}
 
 -- from its start a source gave these bytes by so many pulls, each of which gave some
 pub record Pulled (start now : Option (List ℕ)) (pulls : ℕ) (bytes : List ℕ) : Type 0 where

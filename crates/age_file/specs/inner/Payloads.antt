@@ -7,7 +7,7 @@ use Rattle.std.specs.Io.KnownBytes.{Appends, IsAtEnd}
 use Rattle.age_stream.specs.declared.step.Status.TheVariants.{Failed, Done}
 use Rattle.age_stream.specs.Segment.{Segment, outcome, released}
 use Rattle.age_stream.specs.Headline.{IsPrefixOf}
-use Rattle.age_file.specs.Faults.{HasRisen}
+use Rattle.age_fault.specs.Faults.{HasRisen}
 use Rattle.age_file.specs.Ports.{NoneFailed}
 use Rattle.age_file.specs.inner.Readers.{Stage, ports_at}
 use Rattle.age_file.specs.inner.Intakes.{Pulled}
@@ -15,8 +15,8 @@ use Rattle.age_file.specs.inner.Bindings.{chain_if}
 use Rattle.age_file.specs.inner.Counts.{HasCounted}
 use Rattle.age_file.specs.declared.position.Positions.{Positions}
 use Rattle.age_file.specs.Runs.{segment}
-use Rattle.age_file.specs.declared.fault.FileFault.{FileFault}
-use Rattle.age_file.specs.declared.fault.FileFault.TheVariants.{Stream, Read, Write, ReadNeverEnds}
+use Rattle.age_fault.specs.declared.fault.FileFault.{FileFault}
+use Rattle.age_fault.specs.declared.fault.FileFault.TheVariants.{Stream, Read, Write, ReadNeverEnds}
 
 -- there is room for what is unread: few bytes for the pulls that were made
 abbrev pub HasPlace : Stage → Type 0

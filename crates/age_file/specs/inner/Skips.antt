@@ -8,8 +8,8 @@ use Rattle.age_stream.specs.declared.fault.StreamKind.TheVariants.{Truncated}
 use Rattle.age_file.specs.inner.Readers.{ReaderView}
 use Rattle.age_file.specs.inner.Intakes.{PullFails}
 use Rattle.age_file.specs.inner.Starts.{Uses}
-use Rattle.age_file.specs.declared.fault.FileFault.{FileFault}
-use Rattle.age_file.specs.declared.fault.FileFault.TheVariants.{Stream, Read, ReadNeverEnds}
+use Rattle.age_fault.specs.declared.fault.FileFault.{FileFault}
+use Rattle.age_fault.specs.declared.fault.FileFault.TheVariants.{Stream, Read, ReadNeverEnds}
 
 -- these bytes of a source were used, and no pull failed
 pub record Passes (old new : ReaderView) (bytes : List ℕ) : Type 0 where

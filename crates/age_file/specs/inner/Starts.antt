@@ -7,13 +7,13 @@ use Rattle.age_io.specs.Views.{SourceView}
 use Rattle.age_stanza.specs.declared.header.Header.{Header}
 use Rattle.age_stanza.specs.Grammar.{HeadText}
 use Rattle.age_keys.specs.Opened.{Opens}
-use Rattle.age_file.specs.Faults.{HasRisen}
+use Rattle.age_fault.specs.Faults.{HasRisen}
 use Rattle.age_file.specs.Bindings.{file_id}
 use Rattle.age_file.specs.inner.Readers.{ReaderView}
 use Rattle.age_file.specs.inner.Intakes.{Pulled, PullFails}
 use Rattle.age_file.specs.declared.start.Unlocked.{Unlocked}
-use Rattle.age_file.specs.declared.fault.FileFault.{FileFault}
-use Rattle.age_file.specs.declared.fault.FileFault.TheVariants.{NonceCut, Read, ReadNeverEnds}
+use Rattle.age_fault.specs.declared.fault.FileFault.{FileFault}
+use Rattle.age_fault.specs.declared.fault.FileFault.TheVariants.{NonceCut, Read, ReadNeverEnds}
 
 -- bytes of the intake were used, behind those that were used before
 abbrev pub Uses : ReaderView → ReaderView → List ℕ → Type 0

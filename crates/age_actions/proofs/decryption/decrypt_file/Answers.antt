@@ -1,11 +1,11 @@
 use Rattle.std.proofs.Common.{ℕ, List, Option, ◌≡◌, ◌∙◌, ◌++◌, ◌∷◌, [], inr, ap, sym, subst, true≢false, Some}
 use Rattle.clap.specs.Words.{Text}
-use Rattle.age_actions.specs.inner.IdentitySteps.{IsSecretIn, bytes_of}
+use Rattle.age_steps.specs.Identities.{IsSecretIn, bytes_of}
 use Rattle.age_commands.specs.Requests.{text_of}
 use Rattle.age_actions.specs.Stops.{DecryptionStop, OutStops, PortsOf, kept_for}
 use Rattle.age_actions.proofs.StopSteps.{ends_from}
 use Rattle.age_fileset.specs.Events.{Opened}
-use Rattle.age_actions.specs.EventOrders.{Follows, opening, making, replacing}
+use Rattle.age_steps.specs.EventOrders.{Follows, opening, making, replacing}
 use Rattle.age_actions.proofs.EventSteps.{every_fault, stop_follows, unmade, longer}
 use Rattle.std.specs.Prelude.{is_some}
 use Rattle.age_actions.specs.Decryptions.{DecryptsOut}

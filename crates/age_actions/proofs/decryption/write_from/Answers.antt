@@ -3,7 +3,7 @@ use Rattle.age_file.specs.Ports.{ports}
 use Rattle.age_file.specs.Decrypts.{DecryptFails}
 use Rattle.age_commands.specs.Requests.{text_of}
 use Rattle.age_actions.specs.Stops.{DecryptionStop, Leaves, OutStops, PortsOf, kept_for}
-use Rattle.age_actions.specs.Identities.{allows_by, refuses_by}
+use Rattle.age_steps.specs.Identities.{allows_by, refuses_by}
 use Rattle.age_actions.specs.declared.stop.Stop.{Stop}
 use Rattle.age_actions.proofs.StopSteps.{stop_wrote, holds_nothing}
 use Rattle.age_actions.proofs.decryption.write_from.Goals as goal

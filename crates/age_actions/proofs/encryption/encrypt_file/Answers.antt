@@ -1,9 +1,10 @@
 use Rattle.std.proofs.Common.{◌∙◌, ap, sym, subst, refl, inr, ℕ, List, Option}
 use Rattle.std.specs.Prelude.{is_some}
 use Rattle.age_file.specs.Secrets.{SecretView, IsWithinLimits}
-use Rattle.age_actions.specs.Encryptions.{EncryptsOut, random_name}
+use Rattle.age_actions.specs.Encryptions.{EncryptsOut}
+use Rattle.age_steps.specs.Orders.{random_name}
 use Rattle.age_actions.specs.Stops.{EncryptionStop, PortsOf, SealedOutStops}
-use Rattle.age_actions.specs.Identities.{without_line_feed}
+use Rattle.age_steps.specs.Identities.{without_line_feed}
 use Rattle.age_commands.specs.Requests.{text_of}
 use Rattle.age_actions.proofs.EncryptionSteps.{random_in}
 use Rattle.age_actions.proofs.encryption.encrypt_file.Goals as goal

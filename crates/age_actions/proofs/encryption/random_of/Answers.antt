@@ -1,5 +1,5 @@
 use Rattle.std.proofs.Common.{◌∙◌, ◌++◌, ap, arith, List, ℕ, drop, refl}
-use Rattle.age_actions.proofs.Cuts.{cut_in_two, front_length}
+use Rattle.age_steps.proofs.Cuts.{cut_in_two, front_length}
 use Rattle.age_actions.proofs.encryption.random_of.Goals as goal
 
 pub returns : goal.returns

@@ -1,6 +1,6 @@
 use Rattle.std.proofs.Common.{◌≡◌, ◌∙◌, inl, refl, subst, Some, []}
 use Rattle.age_file.specs.Ports.{ports}
-use Rattle.age_file.specs.declared.fault.FileFault.TheVariants.{Memory}
+use Rattle.age_fault.specs.declared.fault.FileFault.TheVariants.{Memory}
 use Rattle.age_actions.specs.Stops.{Leaves}
 use Rattle.age_actions.proofs.StopSteps.{sealed_nothing}
 use Rattle.age_actions.proofs.encryption.write_from.Goals as goal

@@ -2,10 +2,10 @@ use Rattle.std.proofs.Common.{ℕ, List, Option, ◌≡◌, ◌∙◌, ◌++◌,
 use Rattle.std.specs.Prelude.{is_some}
 use Rattle.age_actions.specs.Resumptions.{ResumesOut}
 use Rattle.clap.specs.Words.{Text}
-use Rattle.age_actions.specs.inner.IdentitySteps.{IsSecretIn, bytes_of}
+use Rattle.age_steps.specs.Identities.{IsSecretIn, bytes_of}
 use Rattle.age_commands.specs.Requests.{text_of}
 use Rattle.age_fileset.specs.Events.{Opened}
-use Rattle.age_actions.specs.EventOrders.{Follows, making, replacing}
+use Rattle.age_steps.specs.EventOrders.{Follows, making, replacing}
 use Rattle.age_actions.specs.Stops.{ResumptionStop, OutStops, PortsOf, kept_for}
 use Rattle.age_actions.proofs.StopSteps.{ends_from}
 use Rattle.age_actions.proofs.EventSteps.{every_fault, stop_follows, three_events, unmade, longer}

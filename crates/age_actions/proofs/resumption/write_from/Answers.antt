@@ -5,7 +5,7 @@ use Rattle.age_file.specs.ResumeFaults.{ResumeFails}
 use Rattle.age_commands.specs.Requests.{text_of}
 use Rattle.age_actions.specs.Stops.{ResumptionStop, Leaves, OutStops, kept_for}
 use Rattle.age_actions.specs.inner.Ports.{PortsOfEither}
-use Rattle.age_actions.specs.Identities.{allows_by, refuses_by}
+use Rattle.age_steps.specs.Identities.{allows_by, refuses_by}
 use Rattle.age_actions.specs.declared.stop.Stop.{Stop}
 use Rattle.age_actions.proofs.StopSteps.{resume_wrote, holds_nothing}
 use Rattle.age_actions.proofs.resumption.write_from.Goals as goal

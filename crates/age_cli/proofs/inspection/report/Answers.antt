@@ -1,5 +1,5 @@
 use Rattle.std.proofs.lemmas.Result.{on_ok_weaker}
-use Rattle.age_file.proofs.Bytes.{Appends-Keeps}
+use Rattle.age_fault.proofs.Bytes.{Appends-Keeps}
 use Rattle.age_cli.proofs.inspection.report.Goals as goal
 
 pub returns : goal.returns

@@ -8,8 +8,8 @@ use Rattle.age_commands.specs.declared.request.Request.{Request}
 use Rattle.age_commands.specs.declared.request.Request.TheVariants.{Encrypt, Decrypt, Resume, Drill}
 use Rattle.age_actions.specs.Stops.{PortsOf}
 use Rattle.age_cli.proofs.StopSteps.{sealing_stop_rows, stops_rows, resumes_stop_rows}
-use Rattle.age_actions.specs.EventOrders.{Follows}
-use Rattle.age_actions.specs.Orders.{Order}
+use Rattle.age_steps.specs.EventOrders.{Follows}
+use Rattle.age_steps.specs.Orders.{Order}
 use Rattle.age_actions.proofs.EventSteps.{every_fault, none_done}
 use Rattle.age_cli.proofs.OrderSteps.{asked_order}
 use Rattle.age_commands.proofs.Simple.{no_command}

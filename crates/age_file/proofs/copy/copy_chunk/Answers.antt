@@ -5,10 +5,10 @@ use Rattle.std.proofs.KnownBytes.{Appends-nil}
 use Rattle.std.specs.Io.KnownBytes.{Appends}
 use Rattle.sha2.specs.Hashers.{Holds256}
 use Rattle.age_stream.specs.Headline.{IsPrefixOf}
-use Rattle.age_file.specs.Faults.{HasRisen}
+use Rattle.age_fault.specs.Faults.{HasRisen}
 use Rattle.age_file.specs.inner.Bindings.{link_if}
 use Rattle.age_file.specs.inner.Readers.{reader_view, view_of_reader, view_of_writer}
-use Rattle.age_file.proofs.Bytes.{Appends-then}
+use Rattle.age_fault.proofs.Bytes.{Appends-then}
 use Rattle.age_file.proofs.StartSteps.{uses_front}
 use Rattle.age_file.proofs.SkipSteps.{passes_then, passes_same, dries_same}
 use Rattle.age_file.proofs.CopySteps.{copy_dry, all_out, front_written}

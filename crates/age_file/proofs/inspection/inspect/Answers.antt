@@ -1,12 +1,13 @@
 use Rattle.std.proofs.Common.{◌≡◌, ◌++◌, ℕ, List, refl, subst, rules}
 use Rattle.std.proofs.lemmas.Result.{err_from_is_err_and}
 use Rattle.std.specs.Io.KnownBytes.{Consumes, IsAtEnd}
-use Rattle.age_file.specs.Faults.{HasRisen, HeadFails}
+use Rattle.age_file.specs.Faults.{HeadFails}
+use Rattle.age_fault.specs.Faults.{HasRisen}
 use Rattle.age_file.specs.inner.Intakes.{Pulled, RestFails}
 use Rattle.age_io.specs.Views.{SourceView}
 use Rattle.age_file.specs.inner.Readers.{ReaderView, view_of_reader}
-use Rattle.age_file.specs.declared.fault.FileFault.{FileFault}
-use Rattle.age_file.specs.declared.fault.FileFault.TheVariants.{Read, ReadNeverEnds}
+use Rattle.age_fault.specs.declared.fault.FileFault.{FileFault}
+use Rattle.age_fault.specs.declared.fault.FileFault.TheVariants.{Read, ReadNeverEnds}
 use Rattle.age_file.proofs.Bytes.{stops_unread}
 use Rattle.age_file.proofs.ReaderSteps.{read_last}
 use Rattle.age_file.proofs.inspection.inspect.Goals as goal

@@ -4,7 +4,7 @@ use Rattle.std.proofs.KnownBytes.{Appends-nil}
 use Rattle.age_stream.specs.Segment.{released}
 use Rattle.age_file.specs.inner.Boxes.{opens, seals}
 use Rattle.age_keys.specs.inner.PayloadBox.{box_valid}
-use Rattle.age_file.proofs.Bytes.{answer_as}
+use Rattle.age_fault.proofs.Bytes.{answer_as}
 use Rattle.age_file.proofs.CountSteps.{mark_end}
 use Rattle.age_file.proofs.payload.close.Goals as goal
 

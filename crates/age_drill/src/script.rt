@@ -1,0 +1,97 @@
+//! Scripts of drills: one step a line.
+
+use age_fault::FileFault;
+use age_steps::{Ending, Usage};
+use std::alloc::Global;
+
+/// The most bytes of a script.
+pub(crate) const SCRIPT_MAX: usize = 1_048_576;
+
+/// The most lines of a script.
+const LINES_MAX: usize = 1_000;
+
+/// What a line of a script asks for.
+#[derive(Clone, Copy, Debug, PartialEq, Eq)]
+pub(crate) enum Line {
+    /// To deliver so many bytes of the payload, from this one on.
+    Piece { offset: usize, len: usize },
+    /// To invert all bits of this byte of the payload.
+    Flip { offset: usize },
+    /// To end the input.
+    End,
+    /// To start again at this chunk.
+    Restart { index: u64 },
+}
+
+/// Whether a script has more lines than a drill takes. What follows the last LF is a line too.
+pub(crate) fn has_too_many_lines(script: &[u8]) -> bool {
+    script.split_inclusive(|b| *b == b'\n').count() > LINES_MAX
+}
+
+/// A decimal number below 2^64 without leading zeros.
+fn number(word: &str) -> Option<u64> {
+    match word.as_bytes() {
+        [b'0'] => Some(0),
+        [b'1'..=b'9', ..] => word.parse::<u64>().ok(),
+        _ => None,
+    }
+}
+
+/// A piece that ends within the payload.
+fn piece(offset: u64, len: u64, payload_len: usize) -> Option<Line> {
+    if offset.checked_add(len)? > payload_len as u64 {
+        return None;
+    }
+    Some(Line::Piece {
+        offset: offset as usize,
+        len: len as usize,
+    })
+}
+
+/// A byte within the payload.
+fn flip(offset: u64, payload_len: usize) -> Option<Line> {
+    if offset >= payload_len as u64 {
+        return None;
+    }
+    Some(Line::Flip {
+        offset: offset as usize,
+    })
+}
+
+/// Reads a line with its LF: words separated by one space.
+fn read_line(line: &[u8], payload_len: usize) -> Option<Line> {
+    let text = std::str::from_utf8(line.strip_suffix(b"\n")?).ok()?;
+    let mut words = text.split(' ');
+    match (words.next()?, words.next(), words.next(), words.next()) {
+        ("piece", Some(offset), Some(len), None) => {
+            piece(number(offset)?, number(len)?, payload_len)
+        }
+        ("flip", Some(offset), None, None) => flip(number(offset)?, payload_len),
+        ("end", None, None, None) => Some(Line::End),
+        ("restart", Some(index), None, None) => Some(Line::Restart {
+            index: number(index)?,
+        }),
+        _ => None,
+    }
+}
+
+/// The lines of a script for a payload of this length, or the first bad one.
+pub(crate) fn read_lines(
+    alloc: Global,
+    script: &[u8],
+    payload_len: usize,
+) -> Result<Vec<Line>, Ending> {
+    let mut lines = Vec::new(alloc);
+    for line in script.split_inclusive(|b| *b == b'\n') {
+        match read_line(line, payload_len) {
+            Some(line) => push(&mut lines, line)?,
+            None => return Err(Ending::Usage(Usage::BadScriptLine(lines.len() + 1))),
+        }
+    }
+    Ok(lines)
+}
+
+fn push(lines: &mut Vec<Line>, line: Line) -> Result<(), FileFault> {
+    lines.push(line)?;
+    Ok(())
+}

@@ -1,0 +1,213 @@
+//! Why a file could not be read or written.
+
+ghost use Rattle.std.specs.Prelude.{◌≡◌};
+ghost use Rattle.age_fault.specs.declared.fault.FileFault.TheVariants.{Stream};
+ghost use Rattle.age_fault.specs.declared.fault.FileFault.TheVariants.{Memory as MemoryFault};
+ghost use Rattle.age_fault.specs.Faults.{number_of, place_of, name_of, head_name_of, key_name_of};
+ghost use Rattle.age_fault.specs.Faults.{stream_name_of};
+ghost use Rattle.age_fault.specs.inner.Faults.{fault_of, fault_of_key};
+
+use age_io::Memory;
+use age_keys::KeyFault;
+use age_stanza::{HeadFault, HeadKind};
+use age_stream::{StreamFault, StreamKind};
+use std::alloc::{AllocError, AllocFailed};
+use thiserror::Error;
+
+/// Why a file could not be read or written. Want of memory is one case, whichever layer it came
+/// from.
+#[derive(Clone, Copy, Debug, PartialEq, Eq, Error)]
+pub enum FileFault {
+    /// The header is not one, at this line (1 to 8).
+    #[error("{0}")]
+    Head(HeadFault),
+    /// The header was not opened (9 to 15).
+    #[error("{0}")]
+    Key(KeyFault),
+    /// Fewer than 16 bytes follow the header (16).
+    #[error("payload nonce cut")]
+    NonceCut,
+    /// The payload, or the text to be sealed, was refused at this chunk (17 to 22).
+    #[error("{0}")]
+    Stream(StreamFault),
+    /// The text is not that of a position (23).
+    #[error("bad position")]
+    BadPosition,
+    /// The position belongs to another file (24).
+    #[error("position of another file")]
+    OtherFile,
+    /// The old text is shorter than the position needs (25).
+    #[error("old text too short")]
+    ShortText,
+    /// A source failed in this call (26).
+    #[error("the input could not be read")]
+    Read,
+    /// A sink failed in this call (27).
+    #[error("the output could not be written")]
+    Write,
+    /// Memory was refused (28).
+    #[error("out of memory")]
+    Memory,
+    /// The sources gave bytes by 2^63 pulls in one call (29).
+    #[error("the input never ends")]
+    ReadNeverEnds,
+    /// The position was not made under this file's key (30).
+    #[error("forged position")]
+    PositionForged,
+    /// The old text is not the one that the position was made for (31).
+    #[error("old text differs")]
+    OldTextDiffers,
+}
+
+impl From<AllocError> for FileFault {
+    ghost from_gives = { λ _ e. e ≡ MemoryFault };
+
+    fn from(_e: AllocError) -> FileFault {
+        FileFault::Memory
+    }
+}
+
+impl<T: Drop> From<AllocFailed<T>> for FileFault {
+    ghost from_gives = { λ _ e. e ≡ MemoryFault };
+
+    fn from(_e: AllocFailed<T>) -> FileFault {
+        FileFault::Memory
+    }
+}
+
+impl From<Memory> for FileFault {
+    ghost from_gives = { λ _ e. e ≡ MemoryFault };
+
+    fn from(_e: Memory) -> FileFault {
+        FileFault::Memory
+    }
+}
+
+impl From<HeadFault> for FileFault {
+    ghost from_gives = { λ fault e. e ≡ fault_of fault };
+
+    fn from(fault: HeadFault) -> FileFault {
+        match fault.kind {
+            HeadKind::Memory => FileFault::Memory,
+            _ => FileFault::Head(fault),
+        }
+    }
+}
+
+impl From<KeyFault> for FileFault {
+    ghost from_gives = { λ fault e. e ≡ fault_of_key fault };
+
+    fn from(fault: KeyFault) -> FileFault {
+        match fault {
+            KeyFault::Memory => FileFault::Memory,
+            other => FileFault::Key(other),
+        }
+    }
+}
+
+impl From<StreamFault> for FileFault {
+    ghost from_gives = { λ fault e. e ≡ Stream fault };
+
+    fn from(fault: StreamFault) -> FileFault {
+        FileFault::Stream(fault)
+    }
+}
+
+impl FileFault {
+    /// The number of this fault in the list of all faults.
+    pub fn number(&self) -> u8
+        ensures { result ≡ number_of self.now }
+    {
+        match self {
+            FileFault::Head(fault) => fault.number(),
+            FileFault::Key(fault) => fault.number(),
+            FileFault::NonceCut => 16,
+            FileFault::Stream(fault) => fault.number(),
+            FileFault::BadPosition => 23,
+            FileFault::OtherFile => 24,
+            FileFault::ShortText => 25,
+            FileFault::Read => 26,
+            FileFault::Write => 27,
+            FileFault::Memory => 28,
+            FileFault::ReadNeverEnds => 29,
+            FileFault::PositionForged => 30,
+            FileFault::OldTextDiffers => 31,
+        }
+    }
+
+    /// The line of a header's fault, from 1, or the chunk of a payload's, from 0.
+    pub fn place(&self) -> Option<u64>
+        ensures { result ≡ place_of self.now }
+    {
+        match self {
+            FileFault::Head(fault) => fault.place(),
+            FileFault::Stream(fault) => fault.place(),
+            _ => None,
+        }
+    }
+
+    /// The name of this fault in the list of all faults.
+    pub fn name(&self) -> &'static str
+        ensures { result.now ≡ name_of self.now }
+    {
+        match self {
+            FileFault::Head(fault) => head_name(fault.kind),
+            FileFault::Key(fault) => key_name(*fault),
+            FileFault::NonceCut => "NonceCut",
+            FileFault::Stream(fault) => stream_name(fault.kind),
+            FileFault::BadPosition => "BadPosition",
+            FileFault::OtherFile => "OtherFile",
+            FileFault::ShortText => "ShortText",
+            FileFault::Read => "Read",
+            FileFault::Write => "Write",
+            FileFault::Memory => "Memory",
+            FileFault::ReadNeverEnds => "ReadNeverEnds",
+            FileFault::PositionForged => "PositionForged",
+            FileFault::OldTextDiffers => "OldTextDiffers",
+        }
+    }
+}
+
+fn head_name(kind: HeadKind) -> &'static str
+    ensures { result.now ≡ head_name_of kind }
+{
+    match kind {
+        HeadKind::NotAge => "NotAge",
+        HeadKind::Armored => "Armored",
+        HeadKind::BadStanzaLine => "BadStanzaLine",
+        HeadKind::BadBody => "BadBody",
+        HeadKind::BadEndLine => "BadEndLine",
+        HeadKind::NoStanza => "NoStanza",
+        HeadKind::HeadTooLong => "HeadTooLong",
+        HeadKind::HeadCut => "HeadCut",
+        HeadKind::Memory => "Memory",
+    }
+}
+
+fn key_name(fault: KeyFault) -> &'static str
+    ensures { result.now ≡ key_name_of fault }
+{
+    match fault {
+        KeyFault::ScryptNotAlone => "ScryptNotAlone",
+        KeyFault::BadScrypt => "BadScrypt",
+        KeyFault::WorkTooHigh => "WorkTooHigh",
+        KeyFault::NoMatch => "NoMatch",
+        KeyFault::WrongKey => "WrongKey",
+        KeyFault::MacMismatch => "MacMismatch",
+        KeyFault::BadX25519 => "BadX25519",
+        KeyFault::Memory => "Memory",
+    }
+}
+
+fn stream_name(kind: StreamKind) -> &'static str
+    ensures { result.now ≡ stream_name_of kind }
+{
+    match kind {
+        StreamKind::ChunkDamaged => "ChunkDamaged",
+        StreamKind::ChunkCut => "ChunkCut",
+        StreamKind::EmptyLast => "EmptyLast",
+        StreamKind::Truncated => "Truncated",
+        StreamKind::Trailing => "Trailing",
+        StreamKind::TooManyChunks => "TooManyChunks",
+    }
+}

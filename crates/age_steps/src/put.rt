@@ -1,0 +1,19 @@
+//! Writes all of some bytes.
+
+ghost use Rattle.std.specs.Prelude.{◌≡◌, OnOk, OnErr};
+ghost use Rattle.std.specs.Io.KnownBytes.{Appends};
+ghost use Rattle.age_fault.specs.Faults.{HasRisen};
+
+use age_fault::{FileFault, write_all};
+use age_io::Sink;
+
+/// Writes all of some bytes, where nobody asks how many were written before a failure.
+pub fn put_bytes<O: Sink>(sink: &mut O, bytes: &[u8]) -> Result<(), FileFault>
+    ensures ok { OnOk result (Appends (O.view sink.old).taken (O.view sink.new).taken bytes.now) }
+    ensures same { OnOk result ((O.view sink.new).failed ≡ (O.view sink.old).failed) }
+    ensures err { OnErr result (HasRisen (O.view sink.old).failed (O.view sink.new).failed) }
+    ensures named { (O.view sink.new).label ≡ (O.view sink.old).label }
+{
+    let mut written = 0;
+    write_all(sink, bytes, &mut written)
+}
