@@ -21,6 +21,3 @@ pub use aead::{open_in_place, seal_in_place};
 pub use authenticator::poly1305;
 pub use keystream::xor_stream;
 pub use laws::{keystream_is_blocks, opens_sealings, sealings_are_distinct};
-
-#[cfg(test)]
-mod tests;

@@ -3,6 +3,7 @@ mod drill;
 mod machine;
 mod program;
 mod progress;
+mod progress_line;
 mod resumption;
 mod see;
 mod shared;

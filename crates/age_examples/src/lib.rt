@@ -13,6 +13,3 @@ pub use either::Either;
 pub use measure::Measure;
 pub use memory::text_of;
 pub use sealing::seal_to;
-
-#[cfg(test)]
-mod tests;

@@ -110,6 +110,3 @@ pub fn pbkdf2_once(pass: &[u8], salt: &[u8], out: &mut [u8])
         out[start..end].copy_from_slice(&block[..end - start]);
     }
 }
-
-#[cfg(test)]
-mod tests;

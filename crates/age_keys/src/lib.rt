@@ -30,6 +30,3 @@ pub use scrypt::scrypt_header;
 pub use shared_secret::SharedSecret;
 pub use unlock::{KnownKey, Unlock};
 pub use x25519::X25519Stanza;
-
-#[cfg(test)]
-mod tests;

@@ -8,8 +8,6 @@ mod line;
 mod meter;
 mod metered;
 mod progress_line;
-#[cfg(test)]
-mod tests;
 mod text;
 
 pub use meter::Meter;

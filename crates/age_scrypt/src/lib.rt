@@ -88,6 +88,3 @@ pub fn derive(
     let mut y = vec![in alloc; 0; 256]?;
     Ok(derive_in(pass, salt, log, &mut table, &mut x, &mut y, steps))
 }
-
-#[cfg(test)]
-mod tests;

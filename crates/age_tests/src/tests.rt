@@ -1,6 +1,8 @@
 mod engines;
+mod examples;
 mod header;
 mod inspection;
+mod keys;
 mod memory;
 mod payload;
 mod sizes;

@@ -1,6 +1,7 @@
 ghost use Rattle.std.specs.Prelude.{◌≤◌};
 
-use super::*;
+use age_scrypt::{Memory, Steps, derive};
+use std::alloc::Global;
 use std::test::Fail;
 
 // The salts below: none, 16 bytes that count up, and those after the label of an age file.

@@ -1,5 +1,5 @@
-use crate::{Meter, Metered, ProgressLine};
 use age_io::{MemSink, MemSource, Source};
+use age_progress::{Meter, Metered, ProgressLine};
 use std::alloc::Global;
 use std::process::Abort;
 use std::test::Fail;

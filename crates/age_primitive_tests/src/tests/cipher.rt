@@ -2,7 +2,7 @@
 //! were worked out by hand.
 ghost use Rattle.std.specs.Prelude.{◌≡◌, ◌+◌, ◌*◌, ◌^◌, ◌≤◌, IfOk, length, vec_len};
 
-use super::*;
+use age_cipher::{open_in_place, poly1305, seal_in_place, xor_stream};
 use std::alloc::{AllocError, Global};
 use std::process::Abort;
 use std::test::Fail;

@@ -1,6 +1,7 @@
 ghost use Rattle.std.specs.Prelude.{◌≤◌, length};
 
-use super::*;
+use age_kdf::{hkdf32, hmac, pbkdf2_once};
+use sha2::{Digest, Sha256};
 use std::test::Fail;
 
 // The numbers from 0 up, modulo 251.

@@ -1,6 +1,6 @@
 //! The examples as they run, over a file that Python made.
 
-use super::*;
+use age_examples::{Counted, Either, Measure, seal_to, text_of};
 use age_file::{FileFault, MemSink, MemSource, Source};
 use age_keys::{FileKey, KnownKey, Passphrase, payload_key};
 use std::alloc::Global;

@@ -1,6 +1,9 @@
 ghost use Rattle.std.specs.Prelude.{◌≤◌, length};
 
-use super::*;
+use age_keys::{
+    FileKey, KeyFault, KnownKey, Passphrase, X25519Stanza, open_header, payload_key, position_key,
+    scrypt_header,
+};
 use age_stanza::{HeadParser, HeadStep, Header, is_header};
 use age_stream::ChunkBox;
 use std::alloc::Global;

@@ -1,0 +1,3 @@
+mod cipher;
+mod kdf;
+mod scrypt;
