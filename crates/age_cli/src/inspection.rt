@@ -12,7 +12,7 @@ use age_steps::{Ending, put_bytes};
 use std::alloc::Global;
 
 /// Writes the report of what it reads, to the end.
-pub(crate) fn report<I: Source, O: Sink>(
+fn write_report<I: Source, O: Sink>(
     alloc: Global,
     input: &mut I,
     output: &mut O,
@@ -25,6 +25,20 @@ pub(crate) fn report<I: Source, O: Sink>(
     let text = text_of(alloc, &found)?;
     put_bytes(output, text.as_slice())?;
     flush_all(output)
+}
+
+/// The same, as a command.
+pub(crate) fn report<I: Source, O: Sink>(
+    alloc: Global,
+    input: &mut I,
+    output: &mut O,
+) -> Result<(), Ending>
+    ensures done { OnOk result
+        (Reports (I.view input.old).remaining (I.view input.new).remaining (O.view output.old).taken
+        (O.view output.new).taken) }
+    ensures fault { IfErr result (λ e. is_usage e ≡ false) }
+{
+    Ok(write_report(alloc, input, output)?)
 }
 
 /// Writes the report on the file of this name.
@@ -41,6 +55,5 @@ pub(crate) fn report_file<F: FileSet, O: Sink>(
     ensures fault { IfErr result (λ e. is_usage e ≡ false) }
 {
     let mut source = files.open(alloc, name)?;
-    report(alloc, &mut source, output)?;
-    Ok(())
+    report(alloc, &mut source, output)
 }

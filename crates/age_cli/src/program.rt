@@ -98,16 +98,12 @@ fn obey<F: FileSet, I: Source, O: Sink, P: Meter>(
     ensures silent { (AsksProgress (texts words.now) → ⊥) → progress.new ≡ progress.old }
 {
     if words.is_empty() {
-        report(alloc, input, output)?;
-        return Ok(());
+        return report(alloc, input, output);
     }
     match read_request(alloc, words) {
         Err(error) => answer_refusal(alloc, error, output),
         Ok(Some(Request::Inspect(Some(name)))) => report_file(alloc, files, name, output),
-        Ok(Some(Request::Inspect(None))) => {
-            report(alloc, input, output)?;
-            Ok(())
-        }
+        Ok(Some(Request::Inspect(None))) => report(alloc, input, output),
         Ok(Some(Request::Encrypt(asked))) => encrypt_file(alloc, files, &asked, progress),
         Ok(Some(Request::Decrypt(asked))) => decrypt_file(alloc, files, &asked, progress),
         Ok(Some(Request::Resume(asked))) => resume_file(alloc, files, &asked, progress),

@@ -250,9 +250,6 @@ returns-then-is_empty-clause-judged_told g c =
 pub returns-in-Err-clause-touches : goal.returns-in-Err-clause-touches
 returns-in-Err-clause-touches g c = λ name rows asks. none_done _ _
 
-pub returns-in_err-report-clause-touches : goal.returns-in_err-report-clause-touches
-returns-in_err-report-clause-touches g c = λ name rows asks. none_done _ _
-
 pub returns-in-Err-clause-judged : goal.returns-in-Err-clause-judged
 returns-in-Err-clause-judged g c = λ name rows asks. every_fault c.answer_refusal.result _ (λ e usage. none_done _ _)
 
@@ -276,8 +273,8 @@ returns-in-Ok-None-clause-judged g c = λ name rows asks usage. none_done _ _
 pub returns-in-Ok-None-clause-judged_told : goal.returns-in-Ok-None-clause-judged_told
 returns-in-Ok-None-clause-judged_told g c = λ name rows asks told usage. none_done _ _
 
-pub returns-in_err-report-clause-encrypts_stop : goal.returns-in_err-report-clause-encrypts_stop
-returns-in_err-report-clause-encrypts_stop g c =
+pub returns-then-is_empty-clause-encrypts_stop : goal.returns-then-is_empty-clause-encrypts_stop
+returns-then-is_empty-clause-encrypts_stop g c =
     let short : length c.args.words.now ≡ 0 = search rules in
     λ rows asks. absurd (no_command (texts c.args.words.now) _ rows (ap texts (nil_from_length c.args.words.now short)) asks)
 
@@ -285,8 +282,8 @@ pub returns-in-Err-clause-encrypts_stop : goal.returns-in-Err-clause-encrypts_st
 returns-in-Err-clause-encrypts_stop g c = λ rows asks told.
     IfErr-weaker c.answer_refusal.result _ _ (λ e early. inl (refl, early)) c.answer_refusal.ensures.early
 
-pub returns-in_err-report-clause-decrypts_stop : goal.returns-in_err-report-clause-decrypts_stop
-returns-in_err-report-clause-decrypts_stop g c =
+pub returns-then-is_empty-clause-decrypts_stop : goal.returns-then-is_empty-clause-decrypts_stop
+returns-then-is_empty-clause-decrypts_stop g c =
     let short : length c.args.words.now ≡ 0 = search rules in
     λ rows asks. absurd (no_command (texts c.args.words.now) _ rows (ap texts (nil_from_length c.args.words.now short)) asks)
 
@@ -294,8 +291,8 @@ pub returns-in-Err-clause-decrypts_stop : goal.returns-in-Err-clause-decrypts_st
 returns-in-Err-clause-decrypts_stop g c = λ rows asks told.
     IfErr-weaker c.answer_refusal.result _ _ (λ e early. inl (refl, early)) c.answer_refusal.ensures.early
 
-pub returns-in_err-report-clause-resumes_stop : goal.returns-in_err-report-clause-resumes_stop
-returns-in_err-report-clause-resumes_stop g c =
+pub returns-then-is_empty-clause-resumes_stop : goal.returns-then-is_empty-clause-resumes_stop
+returns-then-is_empty-clause-resumes_stop g c =
     let short : length c.args.words.now ≡ 0 = search rules in
     λ rows asks. absurd (no_command (texts c.args.words.now) _ rows (ap texts (nil_from_length c.args.words.now short)) asks)
 
@@ -330,3 +327,11 @@ returns-in-Ok-Some-Decrypt-clause-spares g c = λ rows name asks told.
     let here = c.in-Ok-Some-Decrypt in
     let request = subst (λ (o : Option Request). IfSome o (Requests w)) (here.field-0-is ∙ ap Some here.field-0-0-is) here.ensures.asked in
     decrypt_spares w name rows here.asked _ _ request asks (c.decrypt_file.ensures.spares told)
+
+pub returns-in-Ok-Some-Inspect-None-clause-judged : goal.returns-in-Ok-Some-Inspect-None-clause-judged
+returns-in-Ok-Some-Inspect-None-clause-judged g c = λ name rows asks.
+    IfErr-weaker c.report-in-Ok-Some-Inspect-None.result _ _ (λ e no usage. absurd (true≢false (sym usage ∙ no))) c.report-in-Ok-Some-Inspect-None.ensures.fault
+
+pub returns-in-Ok-Some-Inspect-None-clause-judged_told : goal.returns-in-Ok-Some-Inspect-None-clause-judged_told
+returns-in-Ok-Some-Inspect-None-clause-judged_told g c = λ name rows asks told.
+    IfErr-weaker c.report-in-Ok-Some-Inspect-None.result _ _ (λ e no usage. absurd (true≢false (sym usage ∙ no))) c.report-in-Ok-Some-Inspect-None.ensures.fault

@@ -1,6 +1,6 @@
 use Rattle.std.proofs.lemmas.Result.{on_ok_weaker}
 use Rattle.age_fault.proofs.Bytes.{Appends-Keeps}
-use Rattle.age_cli.proofs.inspection.report.Goals as goal
+use Rattle.age_cli.proofs.inspection.write_report.Goals as goal
 
 pub returns : goal.returns
 returns g c =
