@@ -1,13 +1,13 @@
 // Hostile bytes: a payload of three blocks, sealed by a box that hides nothing, cut at every byte,
 // with its blocks in wrong orders, and started again at every chunk; and sealed under a real key,
 // with each of its bits inverted. Each with its pieces whole and byte by byte.
-use crate::delivery::{TEN, failed};
+use super::delivery::{TEN, failed};
 use age_keys::{FileKey, PayloadKey, payload_key};
 use age_stream::{ChunkBox, ClearBox, Delivery, Status, StreamKind, drill, seal_all};
 use std::alloc::Global;
 
 /// What a drill leaves of hostile bytes.
-pub fn hostile_rows(alloc: Global) -> bool {
+pub(super) fn hostile_rows(alloc: Global) -> bool {
     (0..=58).all(|cut| is_cut_right(alloc, cut))
         && (0..6).all(|order| is_order_right(alloc, order))
         && (0..=3).all(|k| is_restart_right(alloc, k))
