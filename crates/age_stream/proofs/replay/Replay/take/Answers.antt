@@ -1,0 +1,5 @@
+use Rattle.age_stream.proofs.Sizes.{replay_state_fits}
+use Rattle.age_stream.proofs.replay.Replay.take.Goals as goal
+
+pub take-requires : goal.take-requires
+take-requires g c = replay_state_fits c.self.inside.state.sizes.1
