@@ -8,7 +8,8 @@ ghost use Rattle.age_commands.specs.Commands.{option_rule, number_rule, flag_rul
 ghost use Rattle.age_commands.specs.Commands.{with_writing, with_unlocking, with_sealing};
 ghost use Rattle.age_commands.specs.Commands.{with_both_files, encrypting, decrypting, resuming};
 ghost use Rattle.age_commands.specs.Commands.{inspecting, drilling, age_tool};
-ghost use Rattle.age_commands.specs.inner.Commands.{HasApp, bare_tool, operand_rule, required_option};
+ghost use Rattle.age_commands.specs.inner.Commands.{HasApp, described_tool, bare_tool};
+ghost use Rattle.age_commands.specs.inner.Commands.{operand_rule, required_option, with_keys};
 ghost use Rattle.age_commands.specs.Asked.{refusals, named};
 
 use crate::help;
@@ -142,6 +143,18 @@ fn add_writing<'a>(
     add_flag(alloc, with_no_sync, "progress", help::PROGRESS)
 }
 
+/// The options that say what opens a file.
+fn add_keys<'a>(
+    alloc: Global,
+    to: Result<Command<'a>, AllocError>,
+) -> Result<Command<'a>, AllocError>
+    ensures { (a : App) → IfOk to.entry (HasApp a) → IfOk result (HasApp (with_keys a)) }
+{
+    let with_pass = add_option(alloc, to, "pass", "FILE", help::PASS);
+    let with_key = add_option(alloc, with_pass, "file-key", "HEX", help::FILE_KEY);
+    add_option(alloc, with_key, "shared", "FILE", help::SHARED)
+}
+
 /// The options that say what opens a file, where a stop's position goes, and how it is written.
 fn add_unlocking<'a>(
     alloc: Global,
@@ -149,10 +162,8 @@ fn add_unlocking<'a>(
 ) -> Result<Command<'a>, AllocError>
     ensures { (a : App) → IfOk to.entry (HasApp a) → IfOk result (HasApp (with_unlocking a)) }
 {
-    let with_pass = add_option(alloc, to, "pass", "FILE", help::PASS);
-    let with_key = add_option(alloc, with_pass, "file-key", "HEX", help::FILE_KEY);
-    let with_shared = add_option(alloc, with_key, "shared", "FILE", help::SHARED);
-    let with_limit = add_number(alloc, with_shared, "max-log", help::MAX_LOG);
+    let with_keys = add_keys(alloc, to);
+    let with_limit = add_number(alloc, with_keys, "max-log", help::MAX_LOG);
     let with_save = add_option(alloc, with_limit, "save", "FILE", help::SAVE);
     add_writing(alloc, with_save)
 }
@@ -236,15 +247,20 @@ fn enter<'a>(
     program?.subcommand(sub?)
 }
 
+/// The program's help and version, without what it takes.
+fn described<'a>(alloc: Global) -> Command<'a>
+    ensures { HasApp described_tool result }
+{
+    command(alloc, "age_tool", help::PROGRAM, help::AFTER_PROGRAM)
+        .version(help::VERSION)
+        .override_usage(help::USAGE)
+}
+
 /// The program without its commands.
 fn bare<'a>(alloc: Global) -> Result<Command<'a>, AllocError>
     ensures { IfOk result (HasApp bare_tool) }
 {
-    Command::new(alloc, "age_tool")
-        .about(help::PROGRAM)
-        .after_help(help::AFTER_PROGRAM)
-        .version(help::VERSION)
-        .override_usage(help::USAGE)
+    described(alloc)
         .no_binary_name(true)
         .subcommand_required(true)
         .bin_name("age_tool")

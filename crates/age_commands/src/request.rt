@@ -12,7 +12,7 @@ pub enum Progress {
 }
 
 /// The arguments of `encrypt`.
-#[derive(Clone, Copy, Debug)]
+#[derive(Clone, Copy)]
 pub struct Encrypting<'a> {
     /// The path of the passphrase file (`--pass`).
     pub pass: &'a str,
@@ -32,7 +32,7 @@ pub struct Encrypting<'a> {
 
 /// The options that say what opens a file. That exactly one of the first three is given isn't
 /// checked yet.
-#[derive(Clone, Copy, Debug)]
+#[derive(Clone, Copy)]
 pub struct Unlocking<'a> {
     /// The path of the passphrase file, where `--pass` is given.
     pub pass: Option<&'a str>,
@@ -46,7 +46,7 @@ pub struct Unlocking<'a> {
 }
 
 /// The arguments of `decrypt`.
-#[derive(Clone, Copy, Debug)]
+#[derive(Clone, Copy)]
 pub struct Decrypting<'a> {
     /// What opens the file.
     pub unlocking: Unlocking<'a>,
@@ -63,7 +63,7 @@ pub struct Decrypting<'a> {
 }
 
 /// The arguments of `resume`: a decryption that continues at a position, after an earlier output.
-#[derive(Clone, Copy, Debug)]
+#[derive(Clone, Copy)]
 pub struct Resuming<'a> {
     /// The decryption.
     pub decrypting: Decrypting<'a>,
@@ -74,7 +74,7 @@ pub struct Resuming<'a> {
 }
 
 /// The arguments of `drill`. That exactly one of the first two is given isn't checked yet.
-#[derive(Clone, Copy, Debug)]
+#[derive(Clone, Copy)]
 pub struct Drilling<'a> {
     /// Whether the payload is in the clear (`--clear`).
     pub clear: bool,
@@ -87,7 +87,7 @@ pub struct Drilling<'a> {
 }
 
 /// A command with its arguments.
-#[derive(Clone, Copy, Debug)]
+#[derive(Clone, Copy)]
 pub enum Request<'a> {
     /// To encrypt a file.
     Encrypt(Encrypting<'a>),

@@ -2,11 +2,13 @@
 
 ghost use Rattle.std.specs.Prelude.{◌≡◌, ◌≤◌, ◌↔◌, ℕ, List, [], ◌∷◌, length, min};
 ghost use Rattle.std.specs.Prelude.{IsTrue, IfSome};
-ghost use Rattle.std.specs.Prelude.{IfNone, IfOk, IfErr};
+ghost use Rattle.std.specs.Prelude.{IfNone, IfOk, IfErr, OnOk, ◌++◌, codes};
 ghost use Rattle.std.specs.Char.{is_ascii_digit};
+ghost use Rattle.std.specs.Fmt.{decimal};
 ghost use Rattle.std.specs.List.{list_all};
 ghost use Rattle.std.specs.Str.Parse.{digits_value};
 ghost use Rattle.age_stanza.specs.Grammar.{HasText};
+ghost use Rattle.age_stanza.specs.Text.{base64_text};
 ghost use Rattle.age_scrypt.specs.Scrypt.{work_factor_limit};
 ghost use Rattle.age_keys.specs.Passphrase.{passphrase_limit};
 ghost use Rattle.age_keys.specs.Scrypt.{IsWorkFactor, IsScryptStanza, wrap_key, scrypt_stanza};
@@ -115,6 +117,35 @@ impl ScryptStanza {
     }
 }
 
+/// The argument that spells a salt.
+fn salt_argument(alloc: Global, salt: &[u8; 16]) -> Result<Argument, AllocError>
+    ensures { IfOk result (λ argument. argument ≡ base64_text salt.now) }
+{
+    Argument::from_slice(alloc, STANDARD_NO_PAD.encode(alloc, salt)?.as_bytes())
+}
+
+/// The argument that spells a work factor.
+fn log_argument(alloc: Global, log: u32) -> Result<Argument, AllocError>
+    ensures { IfOk result (λ argument. argument ≡ decimal log) }
+{
+    Argument::from_slice(alloc, log.to_string(alloc)?.as_bytes())
+}
+
+/// Adds the arguments of the stanza.
+fn push_arguments(
+    alloc: Global,
+    args: &mut Arguments,
+    salt: &[u8; 16],
+    log: u32,
+) -> Result<(), AllocError>
+    ensures { OnOk result (args.new
+        ≡ args.old ++ codes "scrypt" ∷ base64_text salt.now ∷ decimal log ∷ []) }
+{
+    args.push(Argument::from_slice(alloc, b"scrypt")?)?;
+    args.push(salt_argument(alloc, salt)?)?;
+    args.push(log_argument(alloc, log)?)
+}
+
 /// The stanza of a salt, a work factor and a body.
 fn scrypt_stanza(
     alloc: Global,
@@ -125,13 +156,9 @@ fn scrypt_stanza(
     ensures { IfOk result (λ stanza. stanza ≡ scrypt_stanza salt.now log body.now) }
 {
     let mut args = Arguments::new(alloc);
-    args.push(Argument::from_slice(alloc, b"scrypt")?)?;
-    args.push(Argument::from_slice(alloc, STANDARD_NO_PAD.encode(alloc, salt)?.as_bytes())?)?;
-    args.push(Argument::from_slice(alloc, log.to_string(alloc)?.as_bytes())?)?;
-    Ok(Stanza {
-        args,
-        body: Bytes::from_vec(body.to_vec(alloc)?),
-    })
+    push_arguments(alloc, &mut args, salt, log)?;
+    let body = Bytes::from_slice(alloc, body)?;
+    Ok(Stanza { args, body })
 }
 
 /// The header of one such stanza, and a MAC of zeros.

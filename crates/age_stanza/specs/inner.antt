@@ -1,3 +1,4 @@
+pub mod Closing
 pub mod Lengths
 pub mod LineMachine
 pub mod Retelling

@@ -1,6 +1,6 @@
 //! The argument line of a stanza.
 
-ghost use Rattle.std.specs.Prelude.{◌≡◌, ◌==◌, ◌++◌, ◌∷◌, [], true, false, IfOk};
+ghost use Rattle.std.specs.Prelude.{◌≡◌, ◌==◌, ◌++◌, ◌∷◌, [], true, false, IfOk, Some, None};
 ghost use Rattle.std.specs.List.{position};
 ghost use Rattle.age_stanza.specs.Grammar.{IsArgument};
 ghost use Rattle.age_stanza.specs.inner.LineMachine.{arguments_from};
@@ -31,6 +31,23 @@ fn argument_end(letters: &[u8]) -> Option<usize>
     letters.iter().position(|c| *c == b' ')
 }
 
+/// Adds the arguments that letters hold, parted by single spaces. False where one isn't valid.
+fn push_all(alloc: Global, args: &mut Arguments, letters: &[u8]) -> Result<bool, AllocError>
+    ensures all { IfOk result
+        (λ r. r ≡ true → arguments_from args.old [] letters.now ≡ Some args.new) }
+    ensures refused { IfOk result
+        (λ r. r ≡ false → arguments_from args.old [] letters.now ≡ None) }
+{
+    let mut rest = letters;
+    while let Some(end) = argument_end(rest) {
+        if !push_valid(alloc, args, &rest[..end])? {
+            return Ok(false);
+        }
+        rest = &rest[end + 1..];
+    }
+    push_valid(alloc, args, rest)
+}
+
 /// The arguments that letters hold, parted by single spaces, or `None` where one
 /// isn't valid.
 fn arguments_in(alloc: Global, letters: &[u8]) -> Result<Option<Arguments>, AllocError>
@@ -38,17 +55,8 @@ fn arguments_in(alloc: Global, letters: &[u8]) -> Result<Option<Arguments>, Allo
 {
     let spaces = letters.iter().filter(|c| **c == b' ').count();
     let mut args = Arguments::with_capacity(alloc, spaces + 1)?;
-    let mut rest = letters;
-    while let Some(end) = argument_end(rest) {
-        if !push_valid(alloc, &mut args, &rest[..end])? {
-            return Ok(None);
-        }
-        rest = &rest[end + 1..];
-    }
-    if !push_valid(alloc, &mut args, rest)? {
-        return Ok(None);
-    }
-    Ok(Some(args))
+    let valid = push_all(alloc, &mut args, letters)?;
+    Ok(if valid { Some(args) } else { None })
 }
 
 /// The arguments of a line, without its LF; `None` where it is no argument line.

@@ -18,7 +18,7 @@ use std::mem;
 /// The part of a header that came so far: what its finished lines hold, and
 /// the line that isn't finished. No finished line is kept as it came. A
 /// contract sees the bytes that came.
-#[derive(Debug, Drop)]
+#[derive(Drop)]
 pub(crate) struct PartialHeader {
     place: Place,
     line: Vec<u8>,
@@ -109,19 +109,24 @@ impl PartialHeader {
         let place = mem::replace(&mut self.place, Place::Start);
         match step_whole(alloc, place, &mut self.line, characters) {
             Ok(Next::Go(place)) => {
-                self.place = place;
+                // an assignment would put the drop of each place here, which is slow to prove
+                drop(mem::replace(&mut self.place, place));
                 self.line.clear();
                 self.bytes += characters.len() + 1;
                 self.finished_lines += 1;
                 Ok(None)
             }
             Ok(Next::Done(header)) => {
-                *self = PartialHeader::new(alloc);
+                self.line.clear();
+                self.bytes = 0;
+                self.finished_lines = 0;
                 Ok(Some(header))
             }
             Err(kind) => {
                 let line = self.finished_lines + 1;
-                *self = PartialHeader::new(alloc);
+                self.line.clear();
+                self.bytes = 0;
+                self.finished_lines = 0;
                 Err(fault_at(kind, line))
             }
         }

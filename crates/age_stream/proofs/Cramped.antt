@@ -1,6 +1,6 @@
 -- Where more room is asked for, more bytes than a tag has came.
 use Rattle.std.proofs.Common.{inl, inr, ◌≡◌, ℕ, ◌<◌, ◌≤◌, ◌+◌, ◌*◌, ◌-◌, ◌/◌, refl, ap, sym, ◌∙◌, List, [], ◌∷◌, ◌++◌, length, take, drop, get_or, arith}
-use Rattle.std.specs.Prelude.{Option}
+use Rattle.std.specs.Prelude.{Option, Result, Ok, Err, OnErr}
 use Rattle.std.specs.List.{flat_map}
 use Rattle.std.proofs.lemmas.Grind.{flat_map-append}
 use Rattle.std.proofs.lemmas.List.{length-append, length-drop, take-append-drop, append-nil, take_more}
@@ -90,3 +90,9 @@ cramped_at opening n r ds i d lt at c =
     let bytes : length (standing op m (take i ds)).segment.bytes ≤ length begin.segment.bytes + length (flat_map bytes_in (take i ds)) = segment_len op
     m (take i ds) begin in
     omega (arith, here, bytes, came ds i x (take_more ds i d lt))
+
+-- a call that is refused memory only for want of room was cramped
+pub cramped_by : {B A E : Type 0} (n : ℕ) (r : ReplayView B) (d : Delivery) (result : Result A E) (len : ℕ) → len ≡ length r.text → len ≤ r.capacity
+    → OnErr result (r.capacity < len + could_release n r.opener d) → OnErr result (IsCramped n r d)
+cramped_by n r d (Ok a) len same room full = tt
+cramped_by n r d (Err e) len same room full = record { some = omega arith; full = omega arith }

@@ -1,10 +1,14 @@
 -- How much room a text needs.
-use Rattle.std.proofs.Common.{◌≡◌, ℕ, ◌<◌, ◌≤◌, ◌+◌, ◌*◌, ◌-◌, ◌/◌, refl, ap, ◌∙◌, List, [], length, arith}
-use Rattle.std.specs.Prelude.{Option, Some, None, IfSome, IfNone}
+use Rattle.std.proofs.Common.{◌≡◌, ℕ, ◌<◌, ◌≤◌, ◌+◌, ◌*◌, ◌-◌, ◌/◌, refl, ap, ◌∙◌, List, [], length, arith, Bool, true, false}
+use Rattle.std.specs.Prelude.{Option, Some, None, IfSome, IfNone, nat_lt, ◌&&◌}
+use Rattle.std.specs.Prelude.{Result, Ok, Err, OnOk}
+use Rattle.std.specs.Result.{is_err}
 use Rattle.std.specs.Borrow.{Bor}
+use borrow.Author.Tests.{ltb-true}
 use Rattle.std.proofs.Math.Nat.{add-mul-div_left, div-mul-le_self}
 use Rattle.age_stream.specs.declared.step.Status.{Status}
 use Rattle.age_stream.specs.declared.step.Status.TheVariants.{Open, LastSeen, Done, Failed}
+use Rattle.age_stream.specs.Nonce.{chunk_limit}
 use Rattle.age_stream.specs.Lent.{chunk_bytes}
 use Rattle.age_stream.specs.Opening.{while_open, whole_text}
 
@@ -42,3 +46,16 @@ text_below z k le =
     let e : z ≡ z - 16 + 16 = omega (arith, le) in
     let m : q * (z - 16 + 16) ≡ q * (z - 16) + q * 16 = omega arith in
     omega (arith, div-mul-le_self k z, ap (λ (x : ℕ). q * x) e, m)
+
+first_true : (a b : Bool) → (a && b) ≡ true → a ≡ true
+first_true true b e = refl
+first_true false b e = e
+
+-- a chunk that is reached has a number
+pub below_limit : (k : ℕ) (b : Bool) → (nat_lt k chunk_limit && b) ≡ true → k < chunk_limit
+below_limit k b e = ltb-true k chunk_limit (first_true (nat_lt k chunk_limit) b e)
+
+-- what holds of a call that didn't fail
+pub on_ok : {A E : Type 0} {P : Type 0} (r : Result A E) → is_err r ≡ false → OnOk r P → P
+on_ok (Ok a) e p = p
+on_ok (Err x) e p = cc

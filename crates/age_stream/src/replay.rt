@@ -38,7 +38,7 @@ struct ReplayState<'k, B: ChunkBox, const SEALED: usize> {
     opener: Opener<'k, B, SEALED>,
     text: Vec<u8>,
     refused: u64,
-    ghost sizes: { 17 ≤ SEALED },
+    ghost sizes: { (17 ≤ SEALED) × (SEALED ≤ block_length) },
 }
 
 impl<'k, B: ChunkBox, const SEALED: usize> ReplayState<'k, B, SEALED> {

@@ -1,8 +1,7 @@
 use Rattle.std.proofs.Common.{rules}
-use Rattle.age_stanza.specs.Text.{base64_text}
 use Rattle.age_keys.specs.Scrypt.{scrypt_stanza}
 use Rattle.age_keys.proofs.scrypt.scrypt_stanza.Goals as goal
 
 pub returns : goal.returns
-unfolding scrypt_stanza base64_text
+unfolding scrypt_stanza
 returns c = search rules

@@ -1,4 +1,4 @@
-use Rattle.std.proofs.Common.{◌≡◌, ◌-◌, ◌<◌, ℕ, List, take, Result, Ok, Err, OnErr, arith, refl, subst, sym, ◌∙◌}
+use Rattle.std.proofs.Common.{◌≡◌, ◌-◌, ◌<◌, ℕ, List, take, Result, Ok, Err, OnErr, arith, refl, subst, sym, ◌∙◌, rules}
 use Rattle.std.proofs.lemmas.List.{take_all, take_more}
 use Rattle.age_stream.specs.declared.delivery.Delivery.{Delivery}
 use Rattle.age_stream.specs.Replaying.{Replays}
@@ -6,6 +6,7 @@ use Rattle.age_stream.specs.declared.step.Status.{Status}
 use Rattle.age_stream.specs.Headline.{HoldsWritten}
 use Rattle.age_stream.proofs.Cramped.{cramped_at}
 use Rattle.age_stream.proofs.ReplaySteps.{written}
+use Rattle.age_stream.proofs.Sizes.{replay_fits}
 use Rattle.age_stream.proofs.drilling.drill.Goals as goal
 
 on_err : {A E : Type 0} {P : Type 0} (r : Result A E) → P → OnErr r P
@@ -45,3 +46,12 @@ returns-clause-written g c =
     (sym c.into_drill.ensures.text) of_key in
     subst (λ (s : Status). HoldsWritten (sealing c.args.key.now) (opening c.args.key.now) m events c.into_drill.result.text.items s)
     (sym c.into_drill.ensures.status) of_text
+
+pub new-replay-requires : goal.new-replay-requires
+new-replay-requires g c = (replay_fits c.requires.most, search rules)
+
+pub take-requires : goal.take-requires
+take-requires g c = replay_fits c.requires.most
+
+pub into_drill-requires : goal.into_drill-requires
+into_drill-requires g c = replay_fits c.requires.most

@@ -1,4 +1,4 @@
-use Rattle.std.proofs.Common.{◌<◌, ◌≡◌, ◌-◌, ◌≤◌, ℕ, ◌+◌, length, take, drop, List, ◌++◌, ap, sym, subst, ◌∙◌, arith, min}
+use Rattle.std.proofs.Common.{◌<◌, ◌≡◌, ◌-◌, ◌≤◌, ℕ, ◌+◌, length, take, drop, List, ◌++◌, ap, sym, subst, ◌∙◌, arith, min, rules}
 use Rattle.std.proofs.lemmas.List.{take_all, length-take, length-drop, length-append, append_assoc}
 use Rattle.age_stream.specs.Sealing.{Holds}
 use Rattle.age_stream.specs.Lent.{chunk_bytes}
@@ -6,6 +6,7 @@ use Rattle.age_stream.specs.Payload.{last_index, sealed_before_last, block_bytes
 use Rattle.age_stream.proofs.SealerSteps.{step_len_le}
 use Rattle.age_stream.proofs.PublicLaws.{payload_is_longer}
 use Rattle.age_stream.proofs.WholeTexts.{take_on, front_fits}
+use Rattle.age_stream.proofs.Sizes.{sealer_fits}
 use Rattle.age_stream.proofs.whole_text.seal_within.Goals as goal
 
 pub loop-at-preserved : goal.loop-at-preserved
@@ -98,3 +99,12 @@ returns-clause-few g c =
     let here : List ℕ = take c.loop-at.at text in
     let all : here ≡ text = take_all c.loop-at.at text (omega (arith, c.loop-at-test.false)) in
     omega (arith, c.in_ok-finish.ensures.limit, c.loop-at.invariant.holds.index, ap (last_index m) all)
+
+pub new-sealer-requires : goal.new-sealer-requires
+new-sealer-requires g c = (sealer_fits c.requires.most, search rules)
+
+pub feed-requires : goal.feed-requires
+feed-requires g c = (sealer_fits c.requires.most, search rules)
+
+pub finish-requires : goal.finish-requires
+finish-requires g c = (sealer_fits c.requires.most, search rules)

@@ -1,6 +1,7 @@
 use Rattle.std.proofs.Common.{◌≡◌, ◌∙◌, refl, ap, length, take, arith}
 use Rattle.std.proofs.lemmas.List.{length-take}
 use Rattle.std.proofs.lemmas.Result.{err_from_is_err_and}
+use Rattle.age_stream.proofs.Sizes.{list_fits, opener_state_fits}
 use Rattle.age_stream.proofs.opener.Opener.end.Goals as goal
 
 pub returns-in_err-len : goal.returns-in_err-len
@@ -22,3 +23,9 @@ returns g c =
       (refl, λ _. tt, record { key = ap (λ k. k.now) e.key; stands = e.stands; fault = tt; done = e.done; nothing_held = e.none; written = e.written }),
       record { after = tt; text = e.text; len = size ∙ e.len; fits = omega (arith, size, e.fits.1); again = tt; unfailed = e.unfailed },
     )
+
+pub close-requires : goal.close-requires
+close-requires g c = opener_state_fits c.self.inside.state.sizes.1
+
+pub as_slice-requires : goal.as_slice-requires
+as_slice-requires g c = list_fits c.self.inside.state.sizes.1

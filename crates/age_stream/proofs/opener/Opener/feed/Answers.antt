@@ -2,6 +2,7 @@ use Rattle.std.proofs.Common.{refl, ap, ◌≡◌, ◌+◌, ◌-◌, length, tak
 use Rattle.std.proofs.lemmas.List.{length-take}
 use Rattle.std.proofs.lemmas.Result.{err_from_is_err_and}
 use Rattle.age_stream.specs.Opening.{held_bytes}
+use Rattle.age_stream.proofs.Sizes.{list_fits, opener_state_fits}
 use Rattle.age_stream.proofs.opener.Opener.feed.Goals as goal
 
 never : {A : Type 0} → true ≡ false → A
@@ -104,3 +105,9 @@ returns g c =
         was_open = e.was_open;
       },
     )
+
+pub advance-requires : goal.advance-requires
+advance-requires g c = opener_state_fits c.self.inside.state.sizes.1
+
+pub as_slice-requires : goal.as_slice-requires
+as_slice-requires g c = list_fits c.self.inside.state.sizes.1

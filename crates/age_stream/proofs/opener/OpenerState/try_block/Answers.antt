@@ -1,7 +1,8 @@
-use Rattle.std.proofs.Common.{◌≡◌, ℕ, ◌-◌, refl, ap, sym, ◌∙◌, length, take, Some, None, true}
+use Rattle.std.proofs.Common.{◌≡◌, ℕ, ◌-◌, refl, ap, sym, ◌∙◌, length, take, Some, None, true, rules}
 use Rattle.age_stream.specs.Nonce.{nonce_bytes}
 use Rattle.age_stream.specs.Segment.{Outcome}
 use Rattle.age_stream.proofs.Blocks.{one_block-last, one_block-neither}
+use Rattle.age_stream.proofs.Sizes.{list_fits, opener_state_fits}
 use Rattle.age_stream.proofs.opener.OpenerState.try_block.Goals as goal
 
 pub returns-then-open_in-2 : goal.returns-then-open_in-2
@@ -40,3 +41,15 @@ returns g c =
       status = c.fail-2.ensures.status ∙ ap (λ (o : Outcome). o.status) (sym o);
       answered = (c.fail-2.ensures.status ∙ sym c.fail-2.ensures.fault, ap (λ (o : Outcome). o.texts) o);
     }
+
+pub fail-requires : goal.fail-requires
+fail-requires g c = opener_state_fits c.args.self.now.sizes.1
+
+pub fail-requires-2 : goal.fail-requires-2
+fail-requires-2 g c = opener_state_fits c.args.self.now.sizes.1
+
+pub open_in-requires : goal.open_in-requires
+open_in-requires g c = (list_fits c.args.self.now.sizes.1, search rules)
+
+pub open_in-requires-2 : goal.open_in-requires-2
+open_in-requires-2 g c = (list_fits c.args.self.now.sizes.1, search rules)

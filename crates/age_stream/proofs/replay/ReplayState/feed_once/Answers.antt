@@ -5,6 +5,7 @@ use Rattle.age_stream.specs.Opening.{chunk_texts}
 use Rattle.age_stream.specs.Lent.{chunk_bytes}
 use Rattle.age_stream.proofs.Room.{room_left}
 use Rattle.age_stream.proofs.ReplaySteps.{replay_step, lent_flat}
+use Rattle.age_stream.proofs.Sizes.{opener_fits}
 use Rattle.age_stream.proofs.replay.ReplayState.feed_once.Goals as goal
 
 pub returns-in-Ok-clause-taken : goal.returns-in-Ok-clause-taken
@@ -45,3 +46,6 @@ push_lent-requires g c =
     fits in
     let room = c.requires.room (ok.was_open c.requires.some) in
     omega (arith, room, left)
+
+pub feed-requires : goal.feed-requires
+feed-requires g c = opener_fits c.args.self.now.sizes.1

@@ -1,5 +1,6 @@
 use Rattle.std.proofs.Common.{◌≡◌, ◌≤◌, ◌+◌, ◌-◌, ◌*◌, ◌/◌, ℕ, ap, sym, ◌∙◌, length, arith, rules, Fits, w64}
 use Rattle.age_stream.proofs.Room.{open_number, text_below}
+use Rattle.age_stream.proofs.Sizes.{opener_fits}
 use Rattle.age_stream.proofs.replay.ReplayState.piece_room.Goals as goal
 
 pub overflow_mul-result : goal.overflow_mul-result
@@ -18,3 +19,9 @@ returns-in-Open g c =
     ap (λ (k : ℕ). (c.held_len.result + piece) / k * (z - 16)) block
     ∙ (ap (λ (k : ℕ). (k + piece) / (z - 16 + 16) * (z - 16)) c.held_len.ensures.len
     ∙ sym (open_number c.args.self.now.opener.status _ (sym c.status.ensures ∙ c.in-Open.is)))
+
+pub status-requires : goal.status-requires
+status-requires g c = opener_fits c.args.self.now.sizes.1
+
+pub held_len-requires : goal.held_len-requires
+held_len-requires g c = opener_fits c.args.self.now.sizes.1

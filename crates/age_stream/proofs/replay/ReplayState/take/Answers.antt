@@ -2,6 +2,7 @@ use Rattle.std.proofs.Common.{◌-◌, ◌<◌, arith, ap, [], ◌∷◌, ◌++�
 use Rattle.std.proofs.lemmas.Result.{IfOk-weaker}
 use Rattle.age_stream.specs.Replaying.{replay_view}
 use Rattle.age_stream.proofs.ReplaySteps.{replays_more, written}
+use Rattle.age_stream.proofs.Sizes.{replay_state_fits}
 use Rattle.age_stream.proofs.replay.ReplayState.take.Goals as goal
 
 pub returns-clause-held : goal.returns-clause-held
@@ -20,3 +21,6 @@ returns-clause-written g c =
     written g.B.ChunkBox.sealing g.B.ChunkBox.opening (g.row.SEALED - 16) (replay_view c.args.self.now) (replay_view c.deliver.new.self)
     (g.met.B.ChunkBox.valid c.args.self.now.key.now) positive (ap (λ k. k.now) c.deliver.ensures.key) (ds ++ c.args.delivery.now ∷ []) now)
     c.deliver.ensures.stands
+
+pub deliver-requires : goal.deliver-requires
+deliver-requires g c = replay_state_fits c.args.self.now.sizes.1

@@ -1,5 +1,6 @@
-use Rattle.std.proofs.Common.{◌∙◌, refl, ap}
+use Rattle.std.proofs.Common.{◌∙◌, refl, ap, rules}
 use Rattle.std.proofs.lemmas.Result.{err_from_is_err_and}
+use Rattle.age_stream.proofs.Sizes.{list_fits, sealer_state_fits}
 use Rattle.age_stream.proofs.sealer.Sealer.feed.Goals as goal
 
 pub returns-in_err-taken : goal.returns-in_err-taken
@@ -62,3 +63,9 @@ returns g c =
       ),
       record { after = tt; taken = e.taken; chunk = e.blocks; whole = e.whole refl; fits = e.fits; refused = tt },
     )
+
+pub advance-requires : goal.advance-requires
+advance-requires g c = (sealer_state_fits c.self.inside.state.sizes.1, search rules)
+
+pub as_slice-requires : goal.as_slice-requires
+as_slice-requires g c = list_fits c.self.inside.state.sizes.1

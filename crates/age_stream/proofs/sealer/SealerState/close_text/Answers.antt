@@ -1,7 +1,8 @@
 use Rattle.std.proofs.lemmas.Result.{IfOk-weaker}
-use Rattle.std.proofs.Common.{◌-◌}
+use Rattle.std.proofs.Common.{◌-◌, rules}
 use Rattle.age_stream.specs.Sealing.{sealer_view}
 use Rattle.age_stream.proofs.SealerSteps.{payload_is}
+use Rattle.age_stream.proofs.Sizes.{sealer_state_fits}
 use Rattle.age_stream.proofs.sealer.SealerState.close_text.Goals as goal
 
 pub returns-clause-blocks : goal.returns-clause-blocks
@@ -9,3 +10,6 @@ returns-clause-blocks g c =
     IfOk-weaker c.close.result _ _
     (λ _ h text held. payload_is g.B.ChunkBox.sealing (g.row.SEALED - 16) (sealer_view c.args.self.now) text c.close.new.self.buffer.items held h)
     c.close.ensures.block
+
+pub close-requires : goal.close-requires
+close-requires g c = (sealer_state_fits c.args.self.now.sizes.1, search rules)

@@ -1,16 +1,16 @@
-use Rattle.std.proofs.Common.{[], ◌+◌, ap, sym, ◌∙◌, arith}
+use Rattle.std.proofs.Common.{[], ◌+◌, Some, ap, sym, ◌∙◌, arith}
+use Rattle.std.proofs.lemmas.Result.{IfOk-weaker}
 use Rattle.std.proofs.lemmas.List.{take_rest, length-drop}
 use Rattle.age_stanza.specs.inner.LineMachine.{arguments_from}
 use Rattle.age_stanza.proofs.LineEnds.{first_part, no_part}
 use Rattle.age_stanza.proofs.Lines.{next_argument, last_argument, bad_argument, bad_last_argument}
-use Rattle.age_stanza.proofs.arguments.arguments_in.Goals as goal
+use Rattle.age_stanza.proofs.arguments.push_all.Goals as goal
 
-pub returns-then-not-branch : goal.returns-then-not-branch
-returns-then-not-branch c =
+pub returns-then-not-branch-clause-refused : goal.returns-then-not-branch-clause-refused
+returns-then-not-branch-clause-refused c = λ _.
     let first = first_part 32 c.loop-end.rest.now c.in-Some.end (sym c.in-Some.ensures) in
-    sym (bad_argument c.loop-end.args _ _ first.one_line (c.in_ok-push_valid.ensures.refused c.if-not-branch.true))
-    ∙ ap (arguments_from c.loop-end.args []) (sym first.parts)
-    ∙ c.loop-end.invariant.0
+    sym c.loop-end.invariant.0 ∙ (ap (arguments_from c.loop-end.args []) first.parts
+    ∙ bad_argument c.loop-end.args _ _ first.one_line (c.in_ok-push_valid.ensures.refused c.if-not-branch.true))
 
 pub overflow_add-rest : goal.overflow_add-rest
 overflow_add-rest c =
@@ -29,12 +29,15 @@ loop-end-preserved c =
       omega (arith, length-drop (c.in-Some.end + 1) c.loop-end.rest.now),
     )
 
-pub returns-then-not-branch-2 : goal.returns-then-not-branch-2
-returns-then-not-branch-2 c =
-    sym (bad_last_argument c.loop-end.args _ (no_part 32 _ (sym c.in_default.ensures)) (c.in_ok-push_valid-2.ensures.refused c.if-not-branch-2.true))
-    ∙ c.loop-end.invariant.0
+pub returns-clause-all : goal.returns-clause-all
+returns-clause-all c =
+    IfOk-weaker c.push_valid-2.result _ _
+    (λ r h yes.
+    let pushed = h yes in
+    sym c.loop-end.invariant.0 ∙ (last_argument c.loop-end.args _ pushed.0 ∙ ap Some (sym pushed.1))) c.push_valid-2.ensures.pushed
 
-pub returns : goal.returns
-returns c =
-    let pushed = c.in_ok-push_valid-2.ensures.pushed c.if-not-branch-2.false in
-    rw pushed.1 (sym (last_argument c.loop-end.args _ pushed.0) ∙ c.loop-end.invariant.0)
+pub returns-clause-refused : goal.returns-clause-refused
+returns-clause-refused c =
+    IfOk-weaker c.push_valid-2.result _ _
+    (λ r h no. sym c.loop-end.invariant.0 ∙ bad_last_argument c.loop-end.args _ (no_part 32 _ (sym c.in_default.ensures)) (h no))
+    c.push_valid-2.ensures.refused

@@ -1,0 +1,5 @@
+use Rattle.age_stream.proofs.Sizes.{opener_fits}
+use Rattle.age_stream.proofs.replay.Replay.status.Goals as goal
+
+pub status-requires : goal.status-requires
+status-requires g c = opener_fits c.self.inside.state.sizes.1

@@ -1,0 +1,21 @@
+use Rattle.std.proofs.Common.{rules}
+use Rattle.age_stream.proofs.Sizes.{list_fits, sealer_state_fits}
+use Rattle.age_stream.proofs.sealer.SealerState.step.Goals as goal
+
+pub refusal-requires : goal.refusal-requires
+refusal-requires g c = sealer_state_fits c.args.self.now.sizes.1
+
+pub settle-requires : goal.settle-requires
+settle-requires g c = sealer_state_fits c.args.self.now.sizes.1
+
+pub refusal-requires-then-self-2 : goal.refusal-requires-then-self-2
+refusal-requires-then-self-2 g c = sealer_state_fits c.args.self.now.sizes.1
+
+pub len-requires : goal.len-requires
+len-requires g c = list_fits c.args.self.now.sizes.1
+
+pub try_extend_from_slice-requires : goal.try_extend_from_slice-requires
+try_extend_from_slice-requires g c = list_fits c.args.self.now.sizes.1
+
+pub seal_in-requires : goal.seal_in-requires
+seal_in-requires g c = (list_fits c.args.self.now.sizes.1, search rules)

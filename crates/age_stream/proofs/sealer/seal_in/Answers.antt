@@ -1,0 +1,8 @@
+use Rattle.age_stream.proofs.Sizes.{list_fits}
+use Rattle.age_stream.proofs.sealer.seal_in.Goals as goal
+
+pub try_extend_from_slice-requires : goal.try_extend_from_slice-requires
+try_extend_from_slice-requires g c = list_fits c.requires.limit
+
+pub as_mut_slice-requires : goal.as_mut_slice-requires
+as_mut_slice-requires g c = list_fits c.requires.limit
