@@ -7,6 +7,7 @@ ghost use Rattle.age_steps.specs.Orders.{order_asked};
 ghost use Rattle.age_commands.specs.declared.request.Request.TheVariants.{Drill};
 ghost use Rattle.age_stanza.specs.Grammar.{HasText};
 
+use crate::replaying::Replaying;
 use crate::script::{Line, SCRIPT_MAX, has_too_many_lines, read_lines};
 use age_commands::Drilling;
 use age_fault::{FileFault, flush_all};
@@ -15,7 +16,7 @@ use age_io::{Sink, Source};
 use age_keys::{Passphrase, PayloadKey, open_header, payload_key};
 use age_stanza::{HEAD_MAX, HeadFault, HeadParser, HeadStep, Header};
 use age_steps::{Ending, Usage, fill_first, put_bytes, read_pass, read_up_to, trimmed};
-use age_stream::{ChunkBox, ClearBox, Delivery, Replay, Status, StreamFault};
+use age_stream::{ClearBox, Delivery, Status, StreamFault};
 use std::alloc::{AllocError, Global};
 
 /// The most bytes of a payload.
@@ -107,30 +108,19 @@ fn standing(status: Status, is_refused: bool) -> Result<&'static str, StreamFaul
 }
 
 /// A line of the output: the number of the script's line, the status, and how many bytes are held.
-fn answer<B: ChunkBox, const SEALED: usize>(
+fn answer(
     alloc: Global,
     number: usize,
-    replay: &Replay<'_, B, SEALED>,
+    replay: &Replaying<'_>,
     is_refused: bool,
 ) -> Result<String, AllocError> {
-    let held = replay.text().len();
+    let held = replay.held();
     match standing(replay.status(), is_refused) {
         Ok(word) => format!(in alloc; "{number} {word} {held}\n"),
         Err(fault) => {
             let fault = fault.number();
             format!(in alloc; "{number} failed-{fault} {held}\n")
         }
-    }
-}
-
-/// Hands over a delivery. The replay is refused nothing but memory.
-fn give<B: ChunkBox, const SEALED: usize>(
-    replay: &mut Replay<'_, B, SEALED>,
-    delivery: &Delivery<'_>,
-) -> Result<(), FileFault> {
-    match replay.take(delivery) {
-        Ok(()) => Ok(()),
-        Err(_) => Err(FileFault::Memory),
     }
 }
 
@@ -142,29 +132,25 @@ fn flip(payload: &mut [u8], offset: usize) {
 }
 
 /// Does what a line asks. The line is within the payload: one that isn't changes nothing.
-fn obey_line<B: ChunkBox, const SEALED: usize>(
-    replay: &mut Replay<'_, B, SEALED>,
-    payload: &mut [u8],
-    line: Line,
-) -> Result<(), FileFault> {
+fn obey_line(replay: &mut Replaying<'_>, payload: &mut [u8], line: Line) -> Result<(), FileFault> {
     match line {
         Line::Piece { offset, len } => match payload.get(offset..offset.saturating_add(len)) {
-            Some(piece) => give(replay, &Delivery::Piece(piece)),
+            Some(piece) => replay.take(&Delivery::Piece(piece)),
             None => Ok(()),
         },
         Line::Flip { offset } => {
             flip(payload, offset);
             Ok(())
         }
-        Line::End => give(replay, &Delivery::End),
-        Line::Restart { index } => give(replay, &Delivery::Restart(index)),
+        Line::End => replay.take(&Delivery::End),
+        Line::Restart { index } => replay.take(&Delivery::Restart(index)),
     }
 }
 
 /// Obeys a line of the script, and writes a line for it.
-fn answer_line<B: ChunkBox, const SEALED: usize, O: Sink>(
+fn answer_line<O: Sink>(
     alloc: Global,
-    replay: &mut Replay<'_, B, SEALED>,
+    replay: &mut Replaying<'_>,
     payload: &mut [u8],
     number: usize,
     line: Line,
@@ -177,9 +163,9 @@ fn answer_line<B: ChunkBox, const SEALED: usize, O: Sink>(
 }
 
 /// Obeys each line of the script, and writes a line for it.
-fn answer_lines<B: ChunkBox, const SEALED: usize, O: Sink>(
+fn answer_lines<O: Sink>(
     alloc: Global,
-    replay: &mut Replay<'_, B, SEALED>,
+    replay: &mut Replaying<'_>,
     payload: &mut [u8],
     lines: &[Line],
     output: &mut O,
@@ -191,19 +177,15 @@ fn answer_lines<B: ChunkBox, const SEALED: usize, O: Sink>(
 }
 
 /// Checks the script whole, and then delivers a payload by it.
-fn deliver<B: ChunkBox, const SEALED: usize, O: Sink>(
+fn deliver<O: Sink>(
     alloc: Global,
-    key: &B,
+    replay: &mut Replaying<'_>,
     payload: &mut [u8],
     script: &[u8],
     output: &mut O,
-) -> Result<(), Ending>
-    requires least { 17 ≤ SEALED }
-    requires most { SEALED ≤ 65552 }
-{
+) -> Result<(), Ending> {
     let lines = read_lines(alloc, script, payload.len())?;
-    let mut replay = Replay::<B, SEALED>::new(alloc, key);
-    answer_lines(alloc, &mut replay, payload, lines.as_slice(), output)?;
+    answer_lines(alloc, replay, payload, lines.as_slice(), output)?;
     Ok(())
 }
 
@@ -216,7 +198,8 @@ fn deliver_clear<S: Source, O: Sink>(
 ) -> Result<(), Ending> {
     match read_up_to(alloc, source, PAYLOAD_MAX)? {
         Some(mut payload) => {
-            deliver::<ClearBox, 20, O>(alloc, &ClearBox, payload.as_mut_slice(), script, output)
+            let mut replay = Replaying::clear(alloc, &ClearBox);
+            deliver(alloc, &mut replay, payload.as_mut_slice(), script, output)
         }
         None => Err(Ending::Usage(Usage::PayloadTooLong)),
     }
@@ -233,7 +216,8 @@ fn deliver_payload<O: Sink>(
     if payload.len() > PAYLOAD_MAX {
         return Err(Ending::Usage(Usage::PayloadTooLong));
     }
-    deliver::<PayloadKey, 65_552, O>(alloc, key, payload, script, output)
+    let mut replay = Replaying::sealed(alloc, key);
+    deliver(alloc, &mut replay, payload, script, output)
 }
 
 /// Delivers the payload of an age file that a passphrase opens. A fault of the header, the key or
