@@ -7,15 +7,16 @@ ghost use Rattle.age_steps.specs.Orders.{order_asked};
 ghost use Rattle.age_commands.specs.declared.request.Request.TheVariants.{Drill};
 ghost use Rattle.age_stanza.specs.Grammar.{HasText};
 
+use crate::replaying::Replaying;
 use crate::script::{Line, SCRIPT_MAX, has_too_many_lines, read_lines};
 use age_commands::Drilling;
 use age_fault::{FileFault, flush_all};
 use age_fileset::FileSet;
-use age_io::Sink;
+use age_io::{Sink, Source};
 use age_keys::{Passphrase, PayloadKey, open_header, payload_key};
-use age_stanza::{HEAD_MAX, HeadParser, HeadStep, Header};
+use age_stanza::{HEAD_MAX, HeadFault, HeadParser, HeadStep, Header};
 use age_steps::{Ending, Usage, fill_first, put_bytes, read_pass, read_up_to, trimmed};
-use age_stream::{ChunkBox, ClearBox, Delivery, Replay, Status};
+use age_stream::{ClearBox, Delivery, Status, StreamFault};
 use std::alloc::{AllocError, Global};
 
 /// The most bytes of a payload.
@@ -30,16 +31,24 @@ const BYTES_MAX: usize = HEAD_MAX + NONCE_LEN + PAYLOAD_MAX + 1;
 /// The greatest work factor that is accepted.
 const MAX_LOG: u32 = 22;
 
+/// The bytes of a script that was opened.
+fn script_in<S: Source + Drop>(
+    alloc: Global,
+    opened: Result<S, FileFault>,
+) -> Result<Vec<u8>, Ending> {
+    let mut source = opened?;
+    match read_up_to(alloc, &mut source, SCRIPT_MAX)? {
+        Some(script) if !has_too_many_lines(script.as_slice()) => Ok(script),
+        _ => Err(Ending::Usage(Usage::ScriptTooLong)),
+    }
+}
+
 /// The bytes of a script.
 fn read_script<F: FileSet>(alloc: Global, files: &mut F, name: &str) -> Result<Vec<u8>, Ending>
     ensures kept { F.entry files.new ≡ F.entry files.old }
     ensures noted { F.events files.new ≡ F.events files.old ++ Opened name.now ∷ [] }
 {
-    let mut source = files.open(alloc, name)?;
-    match read_up_to(alloc, &mut source, SCRIPT_MAX)? {
-        Some(script) if !has_too_many_lines(script.as_slice()) => Ok(script),
-        _ => Err(Ending::Usage(Usage::ScriptTooLong)),
-    }
+    script_in(alloc, files.open(alloc, name))
 }
 
 /// The header at the beginning of a file, and its length. `read` is how reading those bytes ended:
@@ -53,12 +62,18 @@ fn read_header(
     ensures within { IfOk result (λ p. p.1 ≤ length bytes.now) }
 {
     let mut parser = HeadParser::new(alloc);
-    match parser.feed(bytes)? {
-        HeadStep::Ready { taken, header } => Ok((header, taken)),
-        HeadStep::More => {
-            read?;
-            Err(FileFault::from(parser.end()))
-        }
+    match parser.feed(bytes) {
+        Ok(HeadStep::Ready { taken, header }) => Ok((header, taken)),
+        Ok(HeadStep::More) => Err(first_fault(read, parser.end())),
+        Err(fault) => Err(FileFault::from(fault)),
+    }
+}
+
+/// The fault of a header that is cut: that of reading comes before it.
+fn first_fault(read: Result<(), FileFault>, cut: HeadFault) -> FileFault {
+    match read {
+        Ok(()) => FileFault::from(cut),
+        Err(fault) => fault,
     }
 }
 
@@ -81,96 +96,172 @@ fn open_payload(
     }
 }
 
+/// The word for where a replay stands, or its fault.
+fn standing(status: Status, is_refused: bool) -> Result<&'static str, StreamFault> {
+    match status {
+        _ if is_refused => Ok("refused-25"),
+        Status::Open => Ok("open"),
+        Status::LastSeen => Ok("last"),
+        Status::Done => Ok("done"),
+        Status::Failed(fault) => Err(fault),
+    }
+}
+
 /// A line of the output: the number of the script's line, the status, and how many bytes are held.
-fn answer<B: ChunkBox, const SEALED: usize>(
+fn answer(
     alloc: Global,
     number: usize,
-    replay: &Replay<'_, B, SEALED>,
+    replay: &Replaying<'_>,
     is_refused: bool,
 ) -> Result<String, AllocError> {
-    let held = replay.text().len();
-    if is_refused {
-        return format!(in alloc; "{number} refused-25 {held}\n");
-    }
-    match replay.status() {
-        Status::Open => format!(in alloc; "{number} open {held}\n"),
-        Status::LastSeen => format!(in alloc; "{number} last {held}\n"),
-        Status::Done => format!(in alloc; "{number} done {held}\n"),
-        Status::Failed(fault) => {
+    let held = replay.held();
+    match standing(replay.status(), is_refused) {
+        Ok(word) => format!(in alloc; "{number} {word} {held}\n"),
+        Err(fault) => {
             let fault = fault.number();
             format!(in alloc; "{number} failed-{fault} {held}\n")
         }
     }
 }
 
+/// Inverts all bits of a byte of the payload.
+fn flip(payload: &mut [u8], offset: usize) {
+    if offset < payload.len() {
+        payload[offset] = !payload[offset];
+    }
+}
+
 /// Does what a line asks. The line is within the payload: one that isn't changes nothing.
-fn obey_line<B: ChunkBox, const SEALED: usize>(
-    replay: &mut Replay<'_, B, SEALED>,
-    payload: &mut [u8],
-    line: Line,
-) -> Result<(), FileFault> {
-    let taken = match line {
+fn obey_line(replay: &mut Replaying<'_>, payload: &mut [u8], line: Line) -> Result<(), FileFault> {
+    match line {
         Line::Piece { offset, len } => match payload.get(offset..offset.saturating_add(len)) {
             Some(piece) => replay.take(&Delivery::Piece(piece)),
             None => Ok(()),
         },
         Line::Flip { offset } => {
-            if offset < payload.len() {
-                payload[offset] = !payload[offset];
-            }
+            flip(payload, offset);
             Ok(())
         }
         Line::End => replay.take(&Delivery::End),
         Line::Restart { index } => replay.take(&Delivery::Restart(index)),
-    };
-    match taken {
-        Ok(()) => Ok(()),
-        Err(_) => Err(FileFault::Memory),
     }
 }
 
-/// Obeys each line of the script, and writes a line for it.
-fn obey_lines<B: ChunkBox, const SEALED: usize, O: Sink>(
+/// Obeys a line of the script, and writes a line for it.
+fn answer_line<O: Sink>(
     alloc: Global,
-    key: &B,
+    replay: &mut Replaying<'_>,
+    payload: &mut [u8],
+    number: usize,
+    line: Line,
+    output: &mut O,
+) -> Result<(), FileFault> {
+    let refused = replay.refused();
+    obey_line(replay, payload, line)?;
+    let text = answer(alloc, number, replay, replay.refused() > refused)?;
+    put_bytes(output, text.as_bytes())
+}
+
+/// Obeys each line of the script, and writes a line for it.
+fn answer_lines<O: Sink>(
+    alloc: Global,
+    replay: &mut Replaying<'_>,
     payload: &mut [u8],
     lines: &[Line],
     output: &mut O,
-) -> Result<(), FileFault>
-    requires least { 17 ≤ SEALED }
-    requires most { SEALED ≤ 65552 }
-{
-    let mut replay = Replay::<B, SEALED>::new(alloc, key);
+) -> Result<(), FileFault> {
     for (i, line) in lines.iter().enumerate() {
-        let refused = replay.refused();
-        obey_line(&mut replay, payload, *line)?;
-        let text = answer(alloc, i + 1, &replay, replay.refused() > refused)?;
-        put_bytes(output, text.as_bytes())?;
+        answer_line(alloc, replay, payload, i + 1, *line, output)?;
     }
     flush_all(output)
 }
 
 /// Checks the script whole, and then delivers a payload by it.
-fn deliver<B: ChunkBox, const SEALED: usize, O: Sink>(
+fn deliver<O: Sink>(
     alloc: Global,
-    key: &B,
+    replay: &mut Replaying<'_>,
     payload: &mut [u8],
     script: &[u8],
     output: &mut O,
-) -> Result<(), Ending>
-    requires least { 17 ≤ SEALED }
-    requires most { SEALED ≤ 65552 }
-{
+) -> Result<(), Ending> {
     let lines = read_lines(alloc, script, payload.len())?;
-    obey_lines::<B, SEALED, O>(alloc, key, payload, lines.as_slice(), output)?;
+    answer_lines(alloc, replay, payload, lines.as_slice(), output)?;
     Ok(())
 }
 
-/// Drills a payload whose chunks are in the clear.
-fn drill_clear<F: FileSet, O: Sink>(
+/// Delivers a payload whose chunks are in the clear.
+fn deliver_clear<S: Source, O: Sink>(
+    alloc: Global,
+    source: &mut S,
+    script: &[u8],
+    output: &mut O,
+) -> Result<(), Ending> {
+    match read_up_to(alloc, source, PAYLOAD_MAX)? {
+        Some(mut payload) => {
+            let mut replay = Replaying::clear(alloc, &ClearBox);
+            deliver(alloc, &mut replay, payload.as_mut_slice(), script, output)
+        }
+        None => Err(Ending::Usage(Usage::PayloadTooLong)),
+    }
+}
+
+/// Delivers the payload of an age file, unless it is too long.
+fn deliver_payload<O: Sink>(
+    alloc: Global,
+    key: &PayloadKey,
+    payload: &mut [u8],
+    script: &[u8],
+    output: &mut O,
+) -> Result<(), Ending> {
+    if payload.len() > PAYLOAD_MAX {
+        return Err(Ending::Usage(Usage::PayloadTooLong));
+    }
+    let mut replay = Replaying::sealed(alloc, key);
+    deliver(alloc, &mut replay, payload, script, output)
+}
+
+/// Delivers the payload of an age file that a passphrase opens. A fault of the header, the key or
+/// the nonce is reported before a payload that is too long.
+fn deliver_sealed<S: Source, O: Sink>(
+    alloc: Global,
+    unlock: &Passphrase<'_>,
+    source: &mut S,
+    script: &[u8],
+    output: &mut O,
+) -> Result<(), Ending> {
+    let mut bytes = Vec::new(alloc);
+    let read = fill_first(source, &mut bytes, BYTES_MAX);
+    let (key, start) = open_payload(alloc, unlock, bytes.as_slice(), read)?;
+    deliver_payload(
+        alloc,
+        &key,
+        &mut bytes.as_mut_slice()[start..],
+        script,
+        output,
+    )
+}
+
+/// Delivers a payload from a file that was opened, in the clear where no passphrase is given.
+fn deliver_opened<S: Source + Drop, O: Sink>(
+    alloc: Global,
+    unlock: Option<&Passphrase<'_>>,
+    opened: Result<S, FileFault>,
+    script: &[u8],
+    output: &mut O,
+) -> Result<(), Ending> {
+    let mut source = opened?;
+    match unlock {
+        Some(unlock) => deliver_sealed(alloc, unlock, &mut source, script, output),
+        None => deliver_clear(alloc, &mut source, script, output),
+    }
+}
+
+/// Drills a payload, in the clear where no passphrase is given.
+fn drill<F: FileSet, O: Sink>(
     alloc: Global,
     files: &mut F,
     asked: &Drilling<'_>,
+    unlock: Option<&Passphrase<'_>>,
     output: &mut O,
 ) -> Result<(), Ending>
     ensures kept { F.entry files.new ≡ F.entry files.old }
@@ -180,21 +271,11 @@ fn drill_clear<F: FileSet, O: Sink>(
         ≡ F.events files.old ++ Opened asked.now.script.now ∷ Opened asked.now.from.now ∷ []) }
 {
     let script = read_script(alloc, files, asked.script)?;
-    let mut source = files.open(alloc, asked.from)?;
-    let Some(mut payload) = read_up_to(alloc, &mut source, PAYLOAD_MAX)? else {
-        return Err(Ending::Usage(Usage::PayloadTooLong));
-    };
-    deliver::<ClearBox, 20, O>(
-        alloc,
-        &ClearBox,
-        payload.as_mut_slice(),
-        script.as_slice(),
-        output,
-    )
+    let opened = files.open(alloc, asked.from);
+    deliver_opened(alloc, unlock, opened, script.as_slice(), output)
 }
 
-/// Drills the payload of an age file that a passphrase opens. A fault of the header, the key or the
-/// nonce is reported before a payload that is too long.
+/// Drills the payload of an age file that a passphrase opens.
 fn drill_sealed<F: FileSet, O: Sink>(
     alloc: Global,
     files: &mut F,
@@ -210,19 +291,10 @@ fn drill_sealed<F: FileSet, O: Sink>(
         ++ Opened pass_name.now ∷ Opened asked.now.script.now ∷ Opened asked.now.from.now ∷ []) }
 {
     let pass = read_pass(alloc, files, pass_name)?;
-    let Some(unlock) = Passphrase::new(trimmed(pass.as_slice()), MAX_LOG) else {
-        return Err(Ending::Usage(Usage::BadPassphraseFile));
-    };
-    let script = read_script(alloc, files, asked.script)?;
-    let mut source = files.open(alloc, asked.from)?;
-    let mut bytes = Vec::new(alloc);
-    let read = fill_first(&mut source, &mut bytes, BYTES_MAX);
-    let (key, start) = open_payload(alloc, &unlock, bytes.as_slice(), read)?;
-    let payload = &mut bytes.as_mut_slice()[start..];
-    if payload.len() > PAYLOAD_MAX {
-        return Err(Ending::Usage(Usage::PayloadTooLong));
+    match Passphrase::new(trimmed(pass.as_slice()), MAX_LOG) {
+        Some(unlock) => drill(alloc, files, asked, Some(&unlock), output),
+        None => Err(Ending::Usage(Usage::BadPassphraseFile)),
     }
-    deliver::<PayloadKey, 65_552, O>(alloc, &key, payload, script.as_slice(), output)
 }
 
 /// Delivers a payload as asked. No file is changed, and whatever the deliveries gave is no fault.
@@ -239,7 +311,7 @@ pub fn drill_file<F: FileSet, O: Sink>(
         (F.events files.new ≡ F.events files.old ++ (order_asked (Drill asked.now)).done) }
 {
     match (asked.clear, asked.pass) {
-        (true, None) => drill_clear(alloc, files, asked, output),
+        (true, None) => drill(alloc, files, asked, None, output),
         (false, Some(name)) => drill_sealed(alloc, files, asked, name, output),
         _ => Err(Ending::Usage(Usage::GiveClearOrPass)),
     }

@@ -6,6 +6,7 @@
 #![tactic(auto)]
 
 mod drill;
+mod replaying;
 mod script;
 
 pub use drill::drill_file;

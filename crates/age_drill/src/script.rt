@@ -37,8 +37,13 @@ fn number(word: &str) -> Option<u64> {
     }
 }
 
-/// A piece that ends within the payload.
-fn piece(offset: u64, len: u64, payload_len: usize) -> Option<Line> {
+/// A piece that ends within the payload, by two numbers.
+fn piece(numbers: &str, payload_len: usize) -> Option<Line> {
+    let (offset, len) = numbers.split_once(' ')?;
+    piece_within(number(offset)?, number(len)?, payload_len)
+}
+
+fn piece_within(offset: u64, len: u64, payload_len: usize) -> Option<Line> {
     if offset.checked_add(len)? > payload_len as u64 {
         return None;
     }
@@ -58,21 +63,31 @@ fn flip(offset: u64, payload_len: usize) -> Option<Line> {
     })
 }
 
-/// Reads a line with its LF: words separated by one space.
-fn read_line(line: &[u8], payload_len: usize) -> Option<Line> {
-    let text = std::str::from_utf8(line.strip_suffix(b"\n")?).ok()?;
-    let mut words = text.split(' ');
-    match (words.next()?, words.next(), words.next(), words.next()) {
-        ("piece", Some(offset), Some(len), None) => {
-            piece(number(offset)?, number(len)?, payload_len)
-        }
-        ("flip", Some(offset), None, None) => flip(number(offset)?, payload_len),
-        ("end", None, None, None) => Some(Line::End),
-        ("restart", Some(index), None, None) => Some(Line::Restart {
-            index: number(index)?,
+/// A line of a word and numbers. A number has no space, so none of them is followed by more.
+fn numbered(word: &str, numbers: &str, payload_len: usize) -> Option<Line> {
+    match word {
+        "piece" => piece(numbers, payload_len),
+        "flip" => flip(number(numbers)?, payload_len),
+        "restart" => Some(Line::Restart {
+            index: number(numbers)?,
         }),
         _ => None,
     }
+}
+
+/// A line without its LF: words separated by one space.
+fn read_words(text: &str, payload_len: usize) -> Option<Line> {
+    match text.split_once(' ') {
+        Some((word, numbers)) => numbered(word, numbers, payload_len),
+        None if text == "end" => Some(Line::End),
+        None => None,
+    }
+}
+
+/// Reads a line with its LF.
+fn read_line(line: &[u8], payload_len: usize) -> Option<Line> {
+    let text = std::str::from_utf8(line.strip_suffix(b"\n")?).ok()?;
+    read_words(text, payload_len)
 }
 
 /// The lines of a script for a payload of this length, or the first bad one.
