@@ -58,7 +58,7 @@ longer order more old new f = record {
   front = ap (λ x. x ++ more) f.front ∙ append_assoc f.done f.rest more;
 }
 
-nil_after : (xs : List Event) → xs ≡ xs ++ []
+pub nil_after : (xs : List Event) → xs ≡ xs ++ []
 nil_after [] = refl
 nil_after (x ∷ xs) = ap (λ t. x ∷ t) (nil_after xs)
 

@@ -1,3 +1,4 @@
+pub mod CommandSteps
 pub mod EncryptionSteps
 pub mod StopSteps
 pub mod EventSteps
