@@ -1,4 +1,5 @@
 pub mod CommandSteps
+pub mod DecryptionSteps
 pub mod EncryptionSteps
 pub mod StopSteps
 pub mod EventSteps
