@@ -1,5 +1,5 @@
 -- The clauses that each command promises, from what its steps promise.
-use Rattle.std.proofs.Common.{◌≡◌, ◌∙◌, ◌++◌, [], ◌⊎◌, inl, refl, ap, sym, subst, Bool, true, List, Result, Ok, Err, IfErr, OnOk, append_assoc}
+use Rattle.std.proofs.Common.{◌≡◌, ◌∙◌, ◌++◌, ◌⊎◌, inl, ap, sym, subst, Bool, true, List, Result, Ok, Err, IfErr, OnOk}
 use Rattle.std.specs.Prelude.{IsErr, IsErrAnd}
 use Rattle.age_fileset.specs.Events.{Event}
 use Rattle.age_steps.specs.EventOrders.{Follows}
@@ -7,24 +7,6 @@ use Rattle.age_steps.specs.Endings.{is_usage}
 use Rattle.age_steps.specs.Files.{Files}
 use Rattle.age_steps.specs.Orders.{Order}
 use Rattle.age_steps.specs.declared.ending.Ending.{Ending}
-use Rattle.age_actions.proofs.EventSteps.{nil_after}
-
--- events came, and then others
-pub then_did : (old mid new done more : List Event) → mid ≡ old ++ done → new ≡ mid ++ more → new ≡ old ++ (done ++ more)
-then_did old mid new done more m n = n ∙ (ap (λ x. x ++ more) m ∙ append_assoc old done more)
-
--- events came, and then an order was followed
-pub then_follows : (old mid new done order : List Event) → mid ≡ old ++ done → Follows order mid new → Follows (done ++ order) old new
-then_follows old mid new done order m f = record {
-  done = done ++ f.done;
-  rest = f.rest;
-  did = then_did old mid new done f.done m f.did;
-  front = ap (λ x. done ++ x) f.front ∙ sym (append_assoc done f.done f.rest);
-}
-
--- an order was followed whole
-pub followed : (old new order : List Event) → new ≡ old ++ order → Follows order old new
-followed old new order is = record { done = order; rest = []; did = is; front = nil_after order }
 
 -- what a command promises of the order in which it uses files, and of how it ends: that it did its work, where it ends well;
 -- else that it ended before its output was made, or that it stopped

@@ -25,7 +25,7 @@ fn saves_over<F: FileSet>(files: &F, save: Option<&str>, position: Option<&str>)
 
 /// Opens the output, unless it turns out to be a file that is read, or that of `--save` one that is
 /// open.
-pub(crate) fn create_out<F: FileSet>(
+fn create_out<F: FileSet>(
     alloc: Global,
     files: &mut F,
     to: &str,

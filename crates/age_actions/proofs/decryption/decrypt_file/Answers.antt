@@ -9,9 +9,9 @@ use Rattle.age_steps.specs.Orders.{order_asked}
 use Rattle.age_steps.specs.declared.ending.Ending.TheVariants.{Usage}
 use Rattle.age_actions.specs.Decryptions.{DecryptsFile}
 use Rattle.age_actions.specs.Stops.{DecryptsStop, PortsOf}
-use Rattle.age_actions.proofs.CommandSteps.{ended_early, followed, then_did, then_follows}
+use Rattle.age_actions.proofs.CommandSteps.{ended_early}
 use Rattle.age_actions.proofs.DecryptionSteps.{decrypted, decryption_stopped}
-use Rattle.age_actions.proofs.EventSteps.{longer}
+use Rattle.age_actions.proofs.EventSteps.{followed, longer, then_did, then_follows}
 use Rattle.age_actions.proofs.decryption.decrypt_file.Goals as goal
 
 pub returns-in_err-secret : goal.returns-in_err-secret

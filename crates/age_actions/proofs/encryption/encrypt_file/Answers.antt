@@ -9,9 +9,9 @@ use Rattle.age_steps.specs.declared.ending.Ending.{Ending}
 use Rattle.age_steps.specs.declared.ending.Ending.TheVariants.{Usage}
 use Rattle.age_actions.specs.Encryptions.{EncryptsFile}
 use Rattle.age_actions.specs.Stops.{EncryptsStop, PortsOf}
-use Rattle.age_actions.proofs.CommandSteps.{Ran, ended_early, followed, then_did, then_follows}
+use Rattle.age_actions.proofs.CommandSteps.{ended_early}
 use Rattle.age_actions.proofs.EncryptionSteps.{encrypted, encryption_stopped}
-use Rattle.age_actions.proofs.EventSteps.{longer}
+use Rattle.age_actions.proofs.EventSteps.{followed, longer, then_did, then_follows}
 use Rattle.age_actions.proofs.encryption.encrypt_file.Goals as goal
 
 pub returns-in_err-material : goal.returns-in_err-material
