@@ -2,21 +2,21 @@
 
 ghost use Rattle.age_actions.specs.Stops.{DecryptionStop, DecryptsStop, OutStops, PortsOf};
 ghost use Rattle.age_actions.specs.Stops.{kept_for};
-ghost use Rattle.std.specs.Prelude.{◌≡◌, ◌⊎◌, [], ◌∷◌, ◌++◌, true, false, Some, None};
-ghost use Rattle.std.specs.Prelude.{IfErr, OnOk};
+ghost use Rattle.std.specs.Prelude.{◌≡◌, ◌≢◌, ◌⊎◌, [], ◌∷◌, ◌++◌, true, false, Some, None};
+ghost use Rattle.std.specs.Prelude.{IfOk, IfErr, OnOk};
 ghost use Rattle.age_fileset.specs.Events.{Closed};
-ghost use Rattle.age_steps.specs.EventOrders.{Follows};
+ghost use Rattle.age_steps.specs.EventOrders.{Follows, identity_order};
 ghost use Rattle.age_steps.specs.Orders.{order_asked};
 ghost use Rattle.age_commands.specs.declared.request.Request.TheVariants.{Decrypt};
 ghost use Rattle.clap.specs.Words.{Text};
 ghost use Rattle.age_commands.specs.Requests.{text_of};
 ghost use Rattle.age_commands.specs.declared.request.Progress.TheVariants.{Silent};
-ghost use Rattle.age_steps.specs.Identities.{options_asked};
+ghost use Rattle.age_steps.specs.Identities.{options_asked, IsSecretIn, bytes_of, secret_name};
 ghost use Rattle.age_actions.specs.Decryptions.{DecryptsOut, DecryptsFile};
 ghost use Rattle.age_steps.specs.Endings.{EndsEarly, is_usage};
 ghost use Rattle.age_steps.specs.Files.{SparesBut, SparesBoth};
 
-use crate::output::{create_out, leave};
+use crate::output::{leave, open_both};
 use crate::stop::{Stop, end_of};
 use age_commands::{Decrypting, Progress};
 use age_file::{Positions, Source, decrypt_with};
@@ -154,6 +154,32 @@ pub(crate) fn positions_for(save: Option<&str>) -> Positions
     }
 }
 
+/// The bytes of the file of what opens the input, if it has one. That isn't read where two files
+/// that have to differ are one.
+fn read_unlocking<F: FileSet>(
+    alloc: Global,
+    files: &mut F,
+    asked: &Decrypting<'_>,
+) -> Result<Option<Vec<u8>>, Ending>
+    ensures told { F.tells files.new ≡ F.tells files.old }
+    ensures kept { F.entry files.new ≡ F.entry files.old }
+    ensures read { IfOk result (λ secret. F.tells files.old ≡ true → IsSecretIn
+        (F.entry files.old) (secret_name asked.now.unlocking) (bytes_of secret)) }
+    ensures apart { OnOk result (text_of asked.now.save ≢ Some asked.now.to.now) }
+    ensures noted { OnOk result (F.events files.new ≡ F.events files.old
+        ++ identity_order (text_of asked.now.unlocking.pass) (text_of asked.now.unlocking.shared)) }
+    ensures follows { Follows
+        (identity_order (text_of asked.now.unlocking.pass) (text_of asked.now.unlocking.shared))
+        (F.events files.old) (F.events files.new) }
+    ensures early { IfErr result EndsEarly }
+{
+    let name = secret_file(&asked.unlocking)?;
+    if names_a_file_twice(files, asked) {
+        return Err(Ending::Usage(Usage::SameFile));
+    }
+    Ok(read_secret(alloc, files, name)?)
+}
+
 /// Decrypts a file as asked. If it stops, its position is saved.
 pub fn decrypt_file<F: FileSet, P: Meter>(
     alloc: Global,
@@ -183,14 +209,9 @@ pub fn decrypt_file<F: FileSet, P: Meter>(
         (order_asked (Decrypt asked.now)).judged (F.events files.old) (F.events files.new)) }
     ensures silent { asked.now.progress ≡ Silent → progress.new ≡ progress.old }
 {
-    let name = secret_file(&asked.unlocking)?;
-    if names_a_file_twice(files, asked) {
-        return Err(Ending::Usage(Usage::SameFile));
-    }
-    let secret = read_secret(alloc, files, name)?;
+    let secret = read_unlocking(alloc, files, asked)?;
     let identity = identity_of(&asked.unlocking, &secret)?;
-    let source = files.open(alloc, asked.from)?;
-    let out = create_out(alloc, files, asked.to, asked.save, None)?;
+    let (source, out) = open_both(alloc, files, asked.from, asked.to, asked.save, None)?;
     match write_out(alloc, files, source, &identity, out, asked, progress) {
         Ok(()) => Ok(()),
         Err(stop) => Err(end_of(alloc, files, asked.save, stop, asked.durability)),

@@ -8,15 +8,16 @@ ghost use Rattle.age_fileset.specs.Events.{Opened, Closed};
 ghost use Rattle.age_steps.specs.EventOrders.{Follows};
 ghost use Rattle.age_steps.specs.Orders.{order_asked};
 ghost use Rattle.age_commands.specs.declared.request.Request.TheVariants.{Encrypt};
-ghost use Rattle.age_actions.specs.Encryptions.{EncryptsOut, EncryptsFile};
+ghost use Rattle.age_actions.specs.Encryptions.{EncryptsOut, EncryptsFile, MakesSecret};
 ghost use Rattle.age_steps.specs.Orders.{random_name};
-ghost use Rattle.age_actions.specs.inner.Randoms.{IsRandom};
+ghost use Rattle.age_actions.specs.inner.Randoms.{IsRandom, IsMaterialIn};
 ghost use Rattle.age_steps.specs.Endings.{EndsEarly, is_usage};
 ghost use Rattle.age_actions.specs.Stops.{EncryptionStop, EncryptsStop, Leaves, PortsOf};
 ghost use Rattle.age_actions.specs.Stops.{SealedOutStops};
-ghost use Rattle.age_steps.specs.Files.{SparesBut};
+ghost use Rattle.age_steps.specs.Files.{Files, SparesBut};
 ghost use Rattle.age_fault.specs.declared.fault.FileFault.TheVariants.{Memory};
 
+use crate::output::open_both;
 use age_commands::{Encrypting, Progress};
 use age_file::{FileFault, Secret, Source, encrypt};
 use age_fileset::FileSet;
@@ -66,6 +67,13 @@ fn read_random<F: FileSet>(alloc: Global, files: &mut F, name: &str) -> Result<R
         Some(random) => Ok(random),
         None => Err(Ending::Usage(Usage::BadRandomFile)),
     }
+}
+
+/// What a secret is made of: the bytes of the file of the passphrase, and the random parts.
+#[derive(Drop)]
+struct Material {
+    pass: Vec<u8>,
+    random: Random,
 }
 
 /// Ends the output of an encryption that stopped. If memory was refused, nothing was written, and
@@ -174,6 +182,50 @@ fn names_out_twice<F: FileSet>(files: &F, asked: &Encrypting<'_>) -> bool
         || files.is_same(random_name(asked), asked.to)
 }
 
+/// What the secret is made of, from the files of the passphrase and of random bytes. These aren't
+/// read where the output is one of the files that are.
+fn read_material<F: FileSet>(
+    alloc: Global,
+    files: &mut F,
+    asked: &Encrypting<'_>,
+) -> Result<Material, Ending>
+    ensures told { F.tells files.new ≡ F.tells files.old }
+    ensures kept { F.entry files.new ≡ F.entry files.old }
+    ensures read { IfOk result (λ m. F.tells files.old ≡ true
+        → IsMaterialIn asked.now.pass.now (text_of asked.now.random) (F.entry files.old) m) }
+    ensures noted { OnOk result (F.events files.new ≡ F.events files.old
+        ++ Opened asked.now.pass.now ∷ Opened (random_name (text_of asked.now.random)) ∷ []) }
+    ensures follows { Follows
+        (Opened asked.now.pass.now ∷ Opened (random_name (text_of asked.now.random)) ∷ [])
+        (F.events files.old) (F.events files.new) }
+    ensures early { IfErr result EndsEarly }
+{
+    if names_out_twice(files, asked) {
+        return Err(Ending::Usage(Usage::SameFile));
+    }
+    let pass = read_pass(alloc, files, asked.pass)?;
+    let random = read_random(alloc, files, random_name(asked))?;
+    Ok(Material { pass, random })
+}
+
+/// The secret of a work factor and of what it is made of.
+fn secret_of<'a>(asked: &Encrypting<'_>, material: &'a Material) -> Result<Secret<'a>, Usage>
+    ensures { IfOk result (λ secret. (old : Files)
+        → IsMaterialIn asked.now.pass.now (text_of asked.now.random) old material.now
+        → MakesSecret asked.now.pass.now asked.now.log (text_of asked.now.random) old secret) }
+{
+    match Secret::new(
+        trimmed(material.pass.as_slice()),
+        asked.log,
+        &material.random.salt,
+        &material.random.file_key,
+        &material.random.payload_nonce,
+    ) {
+        Some(secret) => Ok(secret),
+        None => Err(Usage::BadPassphraseFile),
+    }
+}
+
 /// Encrypts a file as asked.
 pub fn encrypt_file<F: FileSet, P: Meter>(
     alloc: Global,
@@ -202,22 +254,9 @@ pub fn encrypt_file<F: FileSet, P: Meter>(
         (order_asked (Encrypt asked.now)).judged (F.events files.old) (F.events files.new)) }
     ensures silent { asked.now.progress ≡ Silent → progress.new ≡ progress.old }
 {
-    if names_out_twice(files, asked) {
-        return Err(Ending::Usage(Usage::SameFile));
-    }
-    let pass = read_pass(alloc, files, asked.pass)?;
-    let random = read_random(alloc, files, random_name(asked))?;
-    let Some(secret) = Secret::new(
-        trimmed(pass.as_slice()),
-        asked.log,
-        &random.salt,
-        &random.file_key,
-        &random.payload_nonce,
-    ) else {
-        return Err(Ending::Usage(Usage::BadPassphraseFile));
-    };
-    let source = files.open(alloc, asked.from)?;
-    let out = files.create(alloc, asked.to)?;
+    let material = read_material(alloc, files, asked)?;
+    let secret = secret_of(asked, &material)?;
+    let (source, out) = open_both(alloc, files, asked.from, asked.to, None, None)?;
     match write_out(alloc, files, source, &secret, out, asked, progress) {
         Ok(()) => Ok(()),
         Err(fault) => Err(Ending::Fault(fault)),

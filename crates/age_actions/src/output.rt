@@ -1,9 +1,9 @@
 //! How the output of a command is opened, and how it is left where the command stops.
 
 ghost use Rattle.std.specs.Prelude.{◌≡◌, ◌≢◌, ℕ, [], ◌∷◌, ◌++◌, List, Some, true};
-ghost use Rattle.std.specs.Prelude.{false, IfOk, IfErr, OnOk, OnErr};
+ghost use Rattle.std.specs.Prelude.{false, is_some, IfOk, IfErr, OnOk, OnErr};
 ghost use Rattle.age_steps.specs.Endings.{EndsEarly, is_usage};
-ghost use Rattle.age_fileset.specs.Events.{Created, Closed};
+ghost use Rattle.age_fileset.specs.Events.{Opened, Created, Closed};
 ghost use Rattle.age_steps.specs.EventOrders.{Follows, making};
 ghost use Rattle.age_actions.specs.Stops.{Leaves};
 
@@ -25,7 +25,7 @@ fn saves_over<F: FileSet>(files: &F, save: Option<&str>, position: Option<&str>)
 
 /// Opens the output, unless it turns out to be a file that is read, or that of `--save` one that is
 /// open.
-pub(crate) fn create_out<F: FileSet>(
+fn create_out<F: FileSet>(
     alloc: Global,
     files: &mut F,
     to: &str,
@@ -48,6 +48,35 @@ pub(crate) fn create_out<F: FileSet>(
         return Err(Ending::Usage(Usage::SameFile));
     }
     Ok(out)
+}
+
+/// Opens the input, and then the output, unless that turns out to be a file that is read, or the
+/// file of `--save` one that is open.
+pub(crate) fn open_both<F: FileSet>(
+    alloc: Global,
+    files: &mut F,
+    from: &str,
+    to: &str,
+    save: Option<&str>,
+    position: Option<&str>,
+) -> Result<(F::In, F::Out), Ending>
+    ensures told { F.tells files.new ≡ F.tells files.old }
+    ensures kept { F.entry files.new ≡ F.entry files.old }
+    ensures found { IfOk result (λ both. F.tells files.old ≡ true
+        → (is_some (F.entry files.old from.now) ≡ true)
+        × ((F.In.view both.0).remaining ≡ F.entry files.old from.now)) }
+    ensures made { IfOk result (λ both. F.tells files.old ≡ true
+        → ((F.Out.view both.1).taken ≡ Some []) × ((F.Out.view both.1).label ≡ to.now)) }
+    ensures noted { OnOk result (F.events files.new
+        ≡ F.events files.old ++ Opened from.now ∷ Created to.now ∷ []) }
+    ensures noted_err { OnErr result (Follows (Opened from.now ∷ making (Some to.now))
+        (F.events files.old) (F.events files.new)) }
+    ensures early { IfErr result EndsEarly }
+    ensures usage { F.tells files.old ≡ true → IfErr result (λ e. is_usage e ≡ false) }
+{
+    let source = files.open(alloc, from)?;
+    let out = create_out(alloc, files, to, save, position)?;
+    Ok((source, out))
 }
 
 /// Ends the output of a run that stopped: with what was written, or as it was, where nothing was.

@@ -1,9 +1,9 @@
 //! The command that continues a decryption.
 
-ghost use Rattle.std.specs.Prelude.{◌≡◌, ◌⊎◌, [], ◌∷◌, ◌++◌, true, Some, IfOk, IfErr};
-ghost use Rattle.std.specs.Prelude.{OnOk};
+ghost use Rattle.std.specs.Prelude.{◌≡◌, ◌≢◌, ◌⊎◌, [], ◌∷◌, ◌++◌, true, Some, is_some, IfOk};
+ghost use Rattle.std.specs.Prelude.{IfErr, OnOk};
 ghost use Rattle.age_fileset.specs.Events.{Opened, Closed};
-ghost use Rattle.age_steps.specs.EventOrders.{Follows};
+ghost use Rattle.age_steps.specs.EventOrders.{Follows, identity_order};
 ghost use Rattle.age_steps.specs.Orders.{order_asked};
 ghost use Rattle.age_fileset.specs.FileSet.{IsMemoryOr};
 ghost use Rattle.age_actions.specs.Stops.{ResumptionStop, ResumesStop, OutStops, PortsOf, kept_for};
@@ -13,13 +13,13 @@ ghost use Rattle.age_steps.specs.declared.ending.Ending.TheVariants.{Fault};
 ghost use Rattle.age_fault.specs.declared.fault.FileFault.TheVariants.{Read, BadPosition};
 ghost use Rattle.age_commands.specs.Requests.{text_of};
 ghost use Rattle.age_commands.specs.declared.request.Progress.TheVariants.{Silent};
-ghost use Rattle.age_steps.specs.Identities.{options_asked};
+ghost use Rattle.age_steps.specs.Identities.{options_asked, IsSecretIn, bytes_of, secret_name};
 ghost use Rattle.age_actions.specs.Resumptions.{IsPositionIn, ResumesOut, ResumesFile};
 ghost use Rattle.age_steps.specs.Endings.{EndsEarly, is_usage};
 ghost use Rattle.age_steps.specs.Files.{SparesBut, SparesBoth};
 
 use crate::decryption::{is_given_as, names_a_file_twice, positions_for};
-use crate::output::{create_out, leave};
+use crate::output::{leave, open_both};
 use crate::stop::{Stop, end_of};
 use age_commands::{Decrypting, Progress, Resuming};
 use age_file::{FileFault, Position, Source, resume_with};
@@ -168,6 +168,58 @@ fn names_one_twice<F: FileSet>(files: &F, asked: &Resuming<'_>) -> bool
         || is_given_as(files, others.save, asked.old)
 }
 
+/// The bytes of the file of what opens the input, if it has one. That isn't read where two files
+/// that have to differ are one.
+fn read_unlocking<F: FileSet>(
+    alloc: Global,
+    files: &mut F,
+    asked: &Resuming<'_>,
+) -> Result<Option<Vec<u8>>, Ending>
+    ensures told { F.tells files.new ≡ F.tells files.old }
+    ensures kept { F.entry files.new ≡ F.entry files.old }
+    ensures read { IfOk result (λ secret. F.tells files.old ≡ true → IsSecretIn
+        (F.entry files.old) (secret_name asked.now.decrypting.unlocking) (bytes_of secret)) }
+    ensures apart { OnOk result
+        (text_of asked.now.decrypting.save ≢ Some asked.now.decrypting.to.now) }
+    ensures noted { OnOk result (F.events files.new ≡ F.events files.old
+        ++ identity_order (text_of asked.now.decrypting.unlocking.pass)
+        (text_of asked.now.decrypting.unlocking.shared)) }
+    ensures follows { Follows (identity_order (text_of asked.now.decrypting.unlocking.pass)
+        (text_of asked.now.decrypting.unlocking.shared)) (F.events files.old)
+        (F.events files.new) }
+    ensures early { IfErr result EndsEarly }
+{
+    let name = secret_file(&asked.decrypting.unlocking)?;
+    if names_one_twice(files, asked) {
+        return Err(Ending::Usage(Usage::SameFile));
+    }
+    Ok(read_secret(alloc, files, name)?)
+}
+
+/// The position, and then the earlier output, opened.
+fn open_earlier<F: FileSet>(
+    alloc: Global,
+    files: &mut F,
+    asked: &Resuming<'_>,
+) -> Result<(Position, F::In), FileFault>
+    ensures told { F.tells files.new ≡ F.tells files.old }
+    ensures kept { F.entry files.new ≡ F.entry files.old }
+    ensures read { IfOk result (λ both. F.tells files.old ≡ true
+        → IsPositionIn (F.entry files.old asked.now.position.now) both.0) }
+    ensures found { IfOk result (λ both. F.tells files.old ≡ true
+        → (is_some (F.entry files.old asked.now.old.now) ≡ true)
+        × ((F.In.view both.1).remaining ≡ F.entry files.old asked.now.old.now)) }
+    ensures noted { OnOk result (F.events files.new ≡ F.events files.old
+        ++ Opened asked.now.position.now ∷ Opened asked.now.old.now ∷ []) }
+    ensures follows { Follows (Opened asked.now.position.now ∷ Opened asked.now.old.now ∷ [])
+        (F.events files.old) (F.events files.new) }
+    ensures faults { IfErr result (λ f. IsMemoryOr Read f ⊎ (f ≡ BadPosition)) }
+{
+    let position = read_position(alloc, files, asked.position)?;
+    let old = files.open(alloc, asked.old)?;
+    Ok((position, old))
+}
+
 /// Continues a decryption as asked. If it stops, its position is saved.
 pub fn resume_file<F: FileSet, P: Meter>(
     alloc: Global,
@@ -200,16 +252,11 @@ pub fn resume_file<F: FileSet, P: Meter>(
     ensures silent { asked.now.decrypting.progress ≡ Silent → progress.new ≡ progress.old }
 {
     let wanted = &asked.decrypting;
-    let name = secret_file(&wanted.unlocking)?;
-    if names_one_twice(files, asked) {
-        return Err(Ending::Usage(Usage::SameFile));
-    }
-    let secret = read_secret(alloc, files, name)?;
+    let secret = read_unlocking(alloc, files, asked)?;
     let identity = identity_of(&wanted.unlocking, &secret)?;
-    let position = read_position(alloc, files, asked.position)?;
-    let mut old = files.open(alloc, asked.old)?;
-    let source = files.open(alloc, wanted.from)?;
-    let out = create_out(alloc, files, wanted.to, wanted.save, Some(asked.position))?;
+    let (position, mut old) = open_earlier(alloc, files, asked)?;
+    let held = Some(asked.position);
+    let (source, out) = open_both(alloc, files, wanted.from, wanted.to, wanted.save, held)?;
     match write_out(
         alloc, files, source, &mut old, &identity, &position, out, wanted, progress,
     ) {

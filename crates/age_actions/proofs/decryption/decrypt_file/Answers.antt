@@ -1,124 +1,155 @@
-use Rattle.std.proofs.Common.{ℕ, List, Option, ◌≡◌, ◌∙◌, ◌++◌, ◌∷◌, [], inr, ap, sym, subst, true≢false, Some}
-use Rattle.clap.specs.Words.{Text}
-use Rattle.age_steps.specs.Identities.{IsSecretIn, bytes_of}
+use Rattle.std.proofs.Common.{◌≡◌, ◌∙◌, ◌++◌, ◌∷◌, [], inr, refl, ap, sym, true≢false, Some}
 use Rattle.age_commands.specs.Requests.{text_of}
-use Rattle.age_actions.specs.Stops.{DecryptionStop, OutStops, PortsOf, kept_for}
-use Rattle.age_actions.proofs.StopSteps.{ends_from}
-use Rattle.age_fileset.specs.Events.{Opened}
-use Rattle.age_steps.specs.EventOrders.{Follows, opening, making, replacing}
-use Rattle.age_actions.proofs.EventSteps.{every_fault, stop_follows, unmade, longer}
-use Rattle.std.specs.Prelude.{is_some}
-use Rattle.age_actions.specs.Decryptions.{DecryptsOut}
+use Rattle.age_commands.specs.declared.request.Request.TheVariants.{Decrypt}
+use Rattle.age_fileset.specs.Events.{Opened, Created, Closed}
+use Rattle.age_steps.specs.EventOrders.{Follows, identity_order, making, replacing}
+use Rattle.age_steps.specs.Endings.{EndsEarly}
+use Rattle.age_steps.specs.Identities.{options_asked}
+use Rattle.age_steps.specs.Orders.{order_asked}
+use Rattle.age_steps.specs.declared.ending.Ending.TheVariants.{Usage}
+use Rattle.age_actions.specs.Decryptions.{DecryptsFile}
+use Rattle.age_actions.specs.Stops.{DecryptsStop, PortsOf}
+use Rattle.age_actions.proofs.CommandSteps.{ended_early}
+use Rattle.age_actions.proofs.DecryptionSteps.{decrypted, decryption_stopped}
+use Rattle.age_actions.proofs.EventSteps.{followed, longer, then_did, then_follows}
 use Rattle.age_actions.proofs.decryption.decrypt_file.Goals as goal
 
-pub returns-in-Ok-clause-done : goal.returns-in-Ok-clause-done
-returns-in-Ok-clause-done g c = λ told.
-    let entry = g.F.FileSet.entry in
+pub returns-in_err-secret : goal.returns-in_err-secret
+returns-in_err-secret g c =
     let d = c.args.asked.now in
-    let t1 = c.in_ok-secret.ensures.told ∙ told in
-    let t2 = c.in_ok-source.ensures.told ∙ t1 in
-    let t3 = c.in_ok-out.ensures.told ∙ t2 in
-    let k1 = c.in_ok-secret.ensures.kept in
-    let k2 = c.in_ok-source.ensures.kept ∙ k1 in
-    let k3 = c.in_ok-out.ensures.kept ∙ k2 in
-    let made = c.in_ok-out.ensures.made t2 in
-    let identity = c.in_ok-identity.identity in
-    let input = ap (λ f. f d.from.now) (sym k1) ∙ sym (c.in_ok-source.ensures.found t1).1 in
+    let entry = g.F.FileSet.entry in
+    let events = g.F.FileSet.events in
+    let kept = c.in_err-secret.ensures.kept in
+    let follows : Follows (order_asked (Decrypt d)).done (events c.args.files.now) (events c.read_unlocking.new.files) =
+    longer _ (Opened d.from.now ∷ making (Some d.to.now)) _ _ c.in_err-secret.ensures.follows in
+    let ran = ended_early (DecryptsFile (options_asked d.unlocking) d.from.now d.to.now (entry c.args.files.now) (entry c.read_unlocking.new.files)) EndsEarly
+    (DecryptsStop (PortsOf g.F.In.Source.view g.F.Out.Sink.view) (options_asked d.unlocking) d.from.now d.to.now (text_of d.save)
+    (entry c.args.files.now) (entry c.read_unlocking.new.files)) (g.F.FileSet.tells c.args.files.now) (entry c.args.files.now) (entry c.read_unlocking.new.files)
+    (order_asked (Decrypt d)) (events c.args.files.now) (events c.read_unlocking.new.files) c.from_residual.result c.in_err-secret.field-0.0 c.from_residual.ensures
+    c.in_err-secret.ensures.early kept follows
+    (λ told usage. c.in_err-secret.ensures.follows) in
     record {
-      identity = identity;
-      opens = c.in_ok-identity.ensures (entry c.args.files.now)
-          (subst (λ (n : Option Text). IsSecretIn (entry c.args.files.now) n (bytes_of c.in_ok-secret.secret)) c.in_ok-name.ensures.name
-          (c.in_ok-secret.ensures.read told));
-      there = ap (λ f. is_some (f d.from.now)) (sym k1) ∙ (c.in_ok-source.ensures.found t1).0;
-      output = subst (λ o. DecryptsOut identity o (entry c.write_out.new.files d.to.now)) (sym input)
-          (subst (λ l. DecryptsOut identity (g.F.In.Source.view c.in_ok-source.source).remaining (entry c.write_out.new.files l)) made.1
-          (c.in-Ok.ensures.done t3 made.0));
-      others = λ q other. c.in-Ok.ensures.others q (λ e. other (e ∙ made.1)) ∙ ap (λ f. f q) k3;
+      done = ran.did;
+      stops = ran.stops;
+      usage = ran.usage;
+      spares = λ told q other unsaved. ap (λ f. f q) kept;
+      order = longer _ (replacing (text_of d.save)) _ _ follows;
+      order_done = ran.done;
+      order_usage = ran.done_usage;
+      order_told = ran.judged;
+      silent = λ silent. refl;
     }
 
-pub returns-in-Ok-clause-spares : goal.returns-in-Ok-clause-spares
-returns-in-Ok-clause-spares g c = λ told q other none.
-    let t1 = c.in_ok-secret.ensures.told ∙ told in
-    let t2 = c.in_ok-source.ensures.told ∙ t1 in
-    let made = c.in_ok-out.ensures.made t2 in
-    let k3 = c.in_ok-out.ensures.kept ∙ (c.in_ok-source.ensures.kept ∙ c.in_ok-secret.ensures.kept) in
-    c.in-Ok.ensures.others q (λ e. other (ap Some (sym (e ∙ made.1)))) ∙ ap (λ f. f q) k3
-
-pub returns-clause-stops : goal.returns-clause-stops
-returns-clause-stops g c = λ told.
+pub returns-in_err-identity : goal.returns-in_err-identity
+returns-in_err-identity g c =
+    let d = c.args.asked.now in
     let entry = g.F.FileSet.entry in
-    let remaining = (g.F.In.Source.view c.in_ok-source.source).remaining in
+    let events = g.F.FileSet.events in
+    let kept = c.in_ok-secret.ensures.kept in
+    let follows : Follows (order_asked (Decrypt d)).done (events c.args.files.now) (events c.read_unlocking.new.files) =
+    longer _ (Opened d.from.now ∷ making (Some d.to.now)) _ _ c.in_ok-secret.ensures.follows in
+    let ran = ended_early (DecryptsFile (options_asked d.unlocking) d.from.now d.to.now (entry c.args.files.now) (entry c.read_unlocking.new.files)) EndsEarly
+    (DecryptsStop (PortsOf g.F.In.Source.view g.F.Out.Sink.view) (options_asked d.unlocking) d.from.now d.to.now (text_of d.save)
+    (entry c.args.files.now) (entry c.read_unlocking.new.files)) (g.F.FileSet.tells c.args.files.now) (entry c.args.files.now) (entry c.read_unlocking.new.files)
+    (order_asked (Decrypt d)) (events c.args.files.now) (events c.read_unlocking.new.files) c.from_residual-in_err-identity.result (Usage c.in_err-identity.field-0.0) c.from_residual-in_err-identity.ensures
+    tt kept follows
+    (λ told usage. c.in_ok-secret.ensures.follows) in
+    record {
+      done = ran.did;
+      stops = ran.stops;
+      usage = ran.usage;
+      spares = λ told q other unsaved. ap (λ f. f q) kept;
+      order = longer _ (replacing (text_of d.save)) _ _ follows;
+      order_done = ran.done;
+      order_usage = ran.done_usage;
+      order_told = ran.judged;
+      silent = λ silent. refl;
+    }
+
+pub returns-in_err-source : goal.returns-in_err-source
+returns-in_err-source g c =
     let d = c.args.asked.now in
-    let old = entry c.args.files.now in
-    let made_in = entry c.create_out.new.files in
-    let mid = entry c.write_out.new.files in
-    let new = entry c.end_of.new.files in
-    let t1 = c.in_ok-secret.ensures.told ∙ told in
-    let t2 = c.in_ok-source.ensures.told ∙ t1 in
-    let t3 = c.in_ok-out.ensures.told ∙ t2 in
-    let t4 = c.in-Err.ensures.told ∙ t3 in
-    let k1 = c.in_ok-secret.ensures.kept in
-    let k3 = c.in_ok-out.ensures.kept ∙ (c.in_ok-source.ensures.kept ∙ k1) in
-    let made = c.in_ok-out.ensures.made t2 in
-    let identity = c.in_ok-identity.identity in
-    let input = ap (λ f. f d.from.now) (sym k1) ∙ sym (c.in_ok-source.ensures.found t1).1 in
+    let entry = g.F.FileSet.entry in
+    let events = g.F.FileSet.events in
+    let kept = c.in_err-source.ensures.kept ∙ c.in_ok-secret.ensures.kept in
+    let follows : Follows (order_asked (Decrypt d)).done (events c.args.files.now) (events c.open_both.new.files) =
+    then_follows _ _ _ (identity_order (text_of d.unlocking.pass) (text_of d.unlocking.shared)) (Opened d.from.now ∷ making (Some d.to.now))
+    c.in_ok-secret.ensures.noted c.in_err-source.ensures.noted_err in
+    let ran = ended_early (DecryptsFile (options_asked d.unlocking) d.from.now d.to.now (entry c.args.files.now) (entry c.open_both.new.files)) EndsEarly
+    (DecryptsStop (PortsOf g.F.In.Source.view g.F.Out.Sink.view) (options_asked d.unlocking) d.from.now d.to.now (text_of d.save)
+    (entry c.args.files.now) (entry c.open_both.new.files)) (g.F.FileSet.tells c.args.files.now) (entry c.args.files.now) (entry c.open_both.new.files)
+    (order_asked (Decrypt d)) (events c.args.files.now) (events c.open_both.new.files) c.from_residual-in_err-source.result c.in_err-source.field-0.0 c.from_residual-in_err-source.ensures
+    c.in_err-source.ensures.early kept follows
+    (λ told usage. absurd (true≢false (sym usage ∙ c.in_err-source.ensures.usage (c.in_ok-secret.ensures.told ∙ told)))) in
+    record {
+      done = ran.did;
+      stops = ran.stops;
+      usage = ran.usage;
+      spares = λ told q other unsaved. ap (λ f. f q) kept;
+      order = longer _ (replacing (text_of d.save)) _ _ follows;
+      order_done = ran.done;
+      order_usage = ran.done_usage;
+      order_told = ran.judged;
+      silent = λ silent. refl;
+    }
+
+pub returns-in-Ok : goal.returns-in-Ok
+returns-in-Ok g c =
+    let d = c.args.asked.now in
+    let entry = g.F.FileSet.entry in
+    let secret = c.in_ok-secret.ensures in
+    let both = c.in_ok-source.ensures in
+    let done = then_did _ _ _ (identity_order (text_of d.unlocking.pass) (text_of d.unlocking.shared)) (Opened d.from.now ∷ making (Some d.to.now)) secret.noted
+    (then_did _ _ _ (Opened d.from.now ∷ Created d.to.now ∷ []) (Closed ∷ []) both.noted c.in-Ok.ensures.noted) in
+    record {
+      done = λ told.
+          let t1 = secret.told ∙ told in
+          let made = both.made t1 in
+          decrypted (options_asked d.unlocking) d.from.now d.to.now _ (entry c.args.files.now) (entry c.read_unlocking.new.files)
+          (entry c.open_both.new.files) (entry c.write_out.new.files) c.in_ok-identity.identity _
+          (c.in_ok-identity.ensures (entry c.args.files.now) (secret.read told)) secret.kept both.kept (both.found t1) made.1 c.in-Ok.ensures.others
+          (c.in-Ok.ensures.done (both.told ∙ t1) made.0);
+      stops = tt;
+      usage = tt;
+      spares = λ told q other unsaved.
+          c.in-Ok.ensures.others q (λ e. other (ap Some (sym (e ∙ (both.made (secret.told ∙ told)).1)))) ∙ ap (λ f. f q) (both.kept ∙ secret.kept);
+      order = longer _ (replacing (text_of d.save)) _ _ (followed _ _ _ done);
+      order_done = done;
+      order_usage = tt;
+      order_told = λ told. tt;
+      silent = c.in-Ok.ensures.silent;
+    }
+
+pub returns : goal.returns
+returns g c =
+    let d = c.args.asked.now in
+    let entry = g.F.FileSet.entry in
+    let secret = c.in_ok-secret.ensures in
+    let both = c.in_ok-source.ensures in
     let stop = c.in-Err.stop in
-    let elsewhere : text_of d.save ≡ Some d.to.now → ⊥ = λ same. true≢false (sym (c.if-names_a_file_twice.ensures.saved_to same)) in
-    let spared : new d.to.now ≡ mid d.to.now = c.end_of.ensures.others t4 d.to.now (λ e. cc) elsewhere in
-    let Engine : Option (List ℕ) → ℕ → Option (List ℕ) → Type 0 =
-    λ read. DecryptionStop (PortsOf g.F.In.Source.view g.F.Out.Sink.view) (kept_for (text_of d.save)) identity read stop.position stop.fault in
-    let out = subst (λ l. OutStops (Engine remaining) (made_in l) (mid l) stop.position stop.fault) made.1 (c.in-Err.ensures.stops t3 made.0) in
-    inr (record {
-      identity = identity;
-      opens = c.in_ok-identity.ensures (entry c.args.files.now)
-          (subst (λ (n : Option Text). IsSecretIn (entry c.args.files.now) n (bytes_of c.in_ok-secret.secret)) c.in_ok-name.ensures.name
-          (c.in_ok-secret.ensures.read told));
-      there = ap (λ f. is_some (f d.from.now)) (sym k1) ∙ (c.in_ok-source.ensures.found t1).0;
-      position = stop.position;
-      fault = stop.fault;
-      output = subst (λ o. OutStops (Engine o) (old d.to.now) (new d.to.now) stop.position stop.fault) (sym input)
-          (subst (λ o. OutStops (Engine remaining) o (new d.to.now) stop.position stop.fault) (ap (λ f. f d.to.now) k3)
-          (subst (λ o. OutStops (Engine remaining) (made_in d.to.now) o stop.position stop.fault) (sym spared) out));
-      ends = ends_from stop.fault (text_of d.save) stop.position old mid new c.end_of.result
-          (λ q named. c.in-Err.ensures.others q (λ e. elsewhere (named ∙ ap Some (e ∙ made.1))) ∙ ap (λ f. f q) k3) (c.end_of.ensures.ends t4);
-    })
-
-pub returns-clause-spares : goal.returns-clause-spares
-returns-clause-spares g c = λ told q other unsaved.
-    let t1 = c.in_ok-secret.ensures.told ∙ told in
-    let t2 = c.in_ok-source.ensures.told ∙ t1 in
-    let t3 = c.in_ok-out.ensures.told ∙ t2 in
-    let t4 = c.in-Err.ensures.told ∙ t3 in
-    let made = c.in_ok-out.ensures.made t2 in
-    let k3 = c.in_ok-out.ensures.kept ∙ (c.in_ok-source.ensures.kept ∙ c.in_ok-secret.ensures.kept) in
-    c.end_of.ensures.others t4 q (λ e. cc) unsaved ∙ (c.in-Err.ensures.others q (λ e. other (ap Some (sym (e ∙ made.1)))) ∙ ap (λ f. f q) k3)
-
-pub returns-clause-order : goal.returns-clause-order
-returns-clause-order g c =
-    let d = c.args.asked.now in
-    let save = text_of d.save in
-    let events = g.F.FileSet.events in
-    subst (λ o. Follows ((o ++ (opening (Some d.from.now) ++ making (Some d.to.now))) ++ replacing save) (events c.args.files.now) (events c.end_of.new.files))
-    c.in_ok-name.ensures.one
-    (stop_follows _ _ _ _ _ _ (Opened d.from.now ∷ []) d.to.now save c.in_ok-secret.ensures.noted c.in_ok-source.ensures.noted _ c.in_ok-out.ensures.noted
-    c.in-Err.ensures.noted c.end_of.ensures.noted)
-
-pub returns-in_err-out-clause-order : goal.returns-in_err-out-clause-order
-returns-in_err-out-clause-order g c =
-    let d = c.args.asked.now in
-    let save = text_of d.save in
-    let events = g.F.FileSet.events in
-    longer _ (replacing save) _ _
-    (subst (λ o. Follows (o ++ (opening (Some d.from.now) ++ making (Some d.to.now))) (events c.args.files.now) (events c.create_out.new.files))
-    c.in_ok-name.ensures.one
-    (unmade _ _ _ [] _ _ (Opened d.from.now ∷ []) d.to.now save c.in_ok-secret.ensures.noted c.in_ok-source.ensures.noted c.in_err-out.ensures.noted_err))
-
-pub returns-in_err-out-clause-order_usage : goal.returns-in_err-out-clause-order_usage
-returns-in_err-out-clause-order_usage g c =
-    let d = c.args.asked.now in
-    let events = g.F.FileSet.events in
-    every_fault c.from_residual-in_err-out.result _ (λ e usage.
-    subst (λ o. Follows (o ++ (opening (Some d.from.now) ++ making (Some d.to.now))) (events c.args.files.now) (events c.create_out.new.files))
-    c.in_ok-name.ensures.one
-    (unmade _ _ _ [] _ _ (Opened d.from.now ∷ []) d.to.now (text_of d.save) c.in_ok-secret.ensures.noted c.in_ok-source.ensures.noted
-    c.in_err-out.ensures.noted_err))
+    let ended = c.end_of.ensures in
+    let done = then_did _ _ _ (identity_order (text_of d.unlocking.pass) (text_of d.unlocking.shared)) (Opened d.from.now ∷ making (Some d.to.now)) secret.noted
+    (then_did _ _ _ (Opened d.from.now ∷ Created d.to.now ∷ []) (Closed ∷ []) both.noted c.in-Err.ensures.noted) in
+    record {
+      done = tt;
+      stops = λ told.
+          let t1 = secret.told ∙ told in
+          let t2 = both.told ∙ t1 in
+          let t3 = c.in-Err.ensures.told ∙ t2 in
+          let made = both.made t1 in
+          inr (decryption_stopped (options_asked d.unlocking) d.from.now d.to.now _ (entry c.args.files.now) (entry c.read_unlocking.new.files)
+          (entry c.open_both.new.files) (entry c.write_out.new.files) c.in_ok-identity.identity _
+          (c.in_ok-identity.ensures (entry c.args.files.now) (secret.read told)) secret.kept both.kept (both.found t1) made.1 c.in-Err.ensures.others
+          (PortsOf g.F.In.Source.view g.F.Out.Sink.view) (text_of d.save) stop.position stop.fault (entry c.end_of.new.files) c.end_of.result
+          secret.apart (ended.others t3 d.to.now (λ e. cc) secret.apart) (ended.ends t3) (c.in-Err.ensures.stops t2 made.0));
+      usage = λ usage. absurd (true≢false (sym usage ∙ ended.fault));
+      spares = λ told q other unsaved.
+          let t1 = secret.told ∙ told in
+          ended.others (c.in-Err.ensures.told ∙ (both.told ∙ t1)) q (λ e. cc) unsaved
+          ∙ (c.in-Err.ensures.others q (λ e. other (ap Some (sym (e ∙ (both.made t1).1)))) ∙ ap (λ f. f q) (both.kept ∙ secret.kept));
+      order = then_follows _ _ _ (order_asked (Decrypt d)).done (replacing (text_of d.save)) done ended.noted;
+      order_done = tt;
+      order_usage = λ usage. absurd (true≢false (sym usage ∙ ended.fault));
+      order_told = λ told usage. absurd (true≢false (sym usage ∙ ended.fault));
+      silent = c.in-Err.ensures.silent;
+    }

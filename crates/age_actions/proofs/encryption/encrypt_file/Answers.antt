@@ -1,93 +1,146 @@
-use Rattle.std.proofs.Common.{◌∙◌, ap, sym, subst, refl, inr, ℕ, List, Option}
-use Rattle.std.specs.Prelude.{is_some}
-use Rattle.age_file.specs.Secrets.{SecretView, IsWithinLimits}
-use Rattle.age_actions.specs.Encryptions.{EncryptsOut}
-use Rattle.age_steps.specs.Orders.{random_name}
-use Rattle.age_actions.specs.Stops.{EncryptionStop, PortsOf, SealedOutStops}
-use Rattle.age_steps.specs.Identities.{without_line_feed}
+use Rattle.std.proofs.Common.{◌≡◌, ◌∙◌, ◌++◌, ◌∷◌, [], inl, inr, refl, ap, sym, true≢false, Some}
 use Rattle.age_commands.specs.Requests.{text_of}
-use Rattle.age_actions.proofs.EncryptionSteps.{random_in}
+use Rattle.age_commands.specs.declared.request.Request.TheVariants.{Encrypt}
+use Rattle.age_fileset.specs.Events.{Opened, Created, Closed}
+use Rattle.age_steps.specs.EventOrders.{Follows, making}
+use Rattle.age_steps.specs.Endings.{EndsEarly}
+use Rattle.age_steps.specs.Orders.{order_asked, random_name}
+use Rattle.age_steps.specs.declared.ending.Ending.{Ending}
+use Rattle.age_steps.specs.declared.ending.Ending.TheVariants.{Usage}
+use Rattle.age_actions.specs.Encryptions.{EncryptsFile}
+use Rattle.age_actions.specs.Stops.{EncryptsStop, PortsOf}
+use Rattle.age_actions.proofs.CommandSteps.{ended_early}
+use Rattle.age_actions.proofs.EncryptionSteps.{encrypted, encryption_stopped}
+use Rattle.age_actions.proofs.EventSteps.{followed, longer, then_did, then_follows}
 use Rattle.age_actions.proofs.encryption.encrypt_file.Goals as goal
 
-pub returns-in-Ok-clause-done : goal.returns-in-Ok-clause-done
-returns-in-Ok-clause-done g c = λ told.
+pub returns-in_err-material : goal.returns-in_err-material
+returns-in_err-material g c =
+    let a = c.args.asked.now in
     let entry = g.F.FileSet.entry in
-    let t1 = c.in_ok-pass.ensures.told ∙ told in
-    let t2 = c.in_ok-random.ensures.told ∙ t1 in
-    let t3 = c.in_ok-source.ensures.told ∙ t2 in
-    let t4 = c.in_ok-out.ensures.told ∙ t3 in
-    let made = c.in_ok-out.ensures.made t3 in
-    let k1 = c.in_ok-pass.ensures.kept in
-    let k2 = c.in_ok-random.ensures.kept ∙ k1 in
-    let k4 = c.in_ok-out.ensures.kept ∙ (c.in_ok-source.ensures.kept ∙ k2) in
-    let secret = c.in-Some.secret in
-    let is = c.in-Some.ensures.1 in
-    let random = c.in_ok-random.ensures.read t1 in
-    let name = c.random_name.ensures in
-    let held = ap (λ f. f (random_name (text_of c.args.asked.now.random))) (sym k1) ∙ (ap (λ q. entry c.read_pass.new.files q) (sym name) ∙ random.2) in
-    let input = ap (λ f. f c.args.asked.now.from.now) (sym k2) ∙ sym (c.in_ok-source.ensures.found t2).1 in
+    let events = g.F.FileSet.events in
+    let kept = c.in_err-material.ensures.kept in
+    let follows : Follows (order_asked (Encrypt a)).done (events c.args.files.now) (events c.read_material.new.files) =
+    longer _ (Opened a.from.now ∷ making (Some a.to.now)) _ _ c.in_err-material.ensures.follows in
+    let ran = ended_early (EncryptsFile a.pass.now a.log (text_of a.random) a.from.now a.to.now (entry c.args.files.now) (entry c.read_material.new.files)) EndsEarly
+    (EncryptsStop (PortsOf g.F.In.Source.view g.F.Out.Sink.view) a.pass.now a.log (text_of a.random) a.from.now a.to.now (entry c.args.files.now)
+    (entry c.read_material.new.files)) (g.F.FileSet.tells c.args.files.now) (entry c.args.files.now) (entry c.read_material.new.files) (order_asked (Encrypt a))
+    (events c.args.files.now) (events c.read_material.new.files) c.from_residual.result c.in_err-material.field-0.0 c.from_residual.ensures
+    c.in_err-material.ensures.early kept follows
+    (λ told usage. c.in_err-material.ensures.follows) in
     record {
-      secret = secret;
-      made = record {
-        passphrase = (
-          c.in_ok-pass.pass.items,
-          c.in_ok-pass.ensures.read told,
-          ap (λ s. s.pass) is
-              ∙ (c.trimmed.ensures ∙ ap without_line_feed c.as_slice.ensures.value),
-        );
-        log_is = ap (λ s. s.log) is;
-        within = subst (λ (s : SecretView). IsWithinLimits s.pass s.log) (sym is) c.in-Some.ensures.0;
-        random_is = random_in _ random.0 random.1 c.in_ok-random.random secret held random.3 (ap (λ s. s.key) is) (ap (λ s. s.salt) is) (ap (λ s. s.nonce) is);
-      };
-      there = ap (λ f. is_some (f c.args.asked.now.from.now)) (sym k2) ∙ (c.in_ok-source.ensures.found t2).0;
-      output = subst (λ o. EncryptsOut secret o (entry c.write_out.new.files c.args.asked.now.to.now)) (sym input)
-          (subst (λ l. EncryptsOut secret (g.F.In.Source.view c.in_ok-source.source).remaining (entry c.write_out.new.files l)) made.1
-          (c.in-Ok.ensures.done t4 made.0));
-      others = λ q other. c.in-Ok.ensures.others q (λ e. other (e ∙ made.1)) ∙ ap (λ f. f q) k4;
+      done = ran.did;
+      stops = ran.stops;
+      usage = ran.usage;
+      spares = λ told q other. ap (λ f. f q) kept;
+      order = follows;
+      order_done = ran.done;
+      order_usage = ran.done_usage;
+      order_told = ran.judged;
+      silent = λ silent. refl;
     }
 
-pub returns-clause-stops : goal.returns-clause-stops
-returns-clause-stops g c = λ told.
+pub returns-in_err-secret : goal.returns-in_err-secret
+returns-in_err-secret g c =
+    let a = c.args.asked.now in
     let entry = g.F.FileSet.entry in
-    let e = c.args.asked.now in
-    let old = entry c.args.files.now in
-    let made_in = entry c.create.new.self in
-    let new = entry c.write_out.new.files in
-    let t1 = c.in_ok-pass.ensures.told ∙ told in
-    let t2 = c.in_ok-random.ensures.told ∙ t1 in
-    let t3 = c.in_ok-source.ensures.told ∙ t2 in
-    let t4 = c.in_ok-out.ensures.told ∙ t3 in
-    let made = c.in_ok-out.ensures.made t3 in
-    let k1 = c.in_ok-pass.ensures.kept in
-    let k2 = c.in_ok-random.ensures.kept ∙ k1 in
-    let k4 = c.in_ok-out.ensures.kept ∙ (c.in_ok-source.ensures.kept ∙ k2) in
-    let secret = c.in-Some.secret in
-    let is = c.in-Some.ensures.1 in
-    let random = c.in_ok-random.ensures.read t1 in
-    let name = c.random_name.ensures in
-    let held = ap (λ f. f (random_name (text_of e.random))) (sym k1) ∙ (ap (λ q. entry c.read_pass.new.files q) (sym name) ∙ random.2) in
-    let input = ap (λ f. f e.from.now) (sym k2) ∙ sym (c.in_ok-source.ensures.found t2).1 in
-    let fault = c.in-Err.fault in
-    let Engine : Option (List ℕ) → Option (List ℕ) → Type 0 =
-    λ read. EncryptionStop (PortsOf g.F.In.Source.view g.F.Out.Sink.view) secret read fault in
-    let out = subst (λ l. SealedOutStops (Engine (g.F.In.Source.view c.in_ok-source.source).remaining) (made_in l) (new l) fault) made.1
-    (c.in-Err.ensures.stops t4 made.0) in
-    inr (record {
-      secret = secret;
-      made = record {
-        passphrase = (
-          c.in_ok-pass.pass.items,
-          c.in_ok-pass.ensures.read told,
-          ap (λ s. s.pass) is
-              ∙ (c.trimmed.ensures ∙ ap without_line_feed c.as_slice.ensures.value),
-        );
-        log_is = ap (λ s. s.log) is;
-        within = subst (λ (s : SecretView). IsWithinLimits s.pass s.log) (sym is) c.in-Some.ensures.0;
-        random_is = random_in _ random.0 random.1 c.in_ok-random.random secret held random.3 (ap (λ s. s.key) is) (ap (λ s. s.salt) is) (ap (λ s. s.nonce) is);
-      };
-      there = ap (λ f. is_some (f e.from.now)) (sym k2) ∙ (c.in_ok-source.ensures.found t2).0;
-      fault = fault;
-      output = subst (λ o. SealedOutStops (Engine o) (old e.to.now) (new e.to.now) fault) (sym input)
-          (subst (λ o. SealedOutStops (Engine (g.F.In.Source.view c.in_ok-source.source).remaining) o (new e.to.now) fault) (ap (λ f. f e.to.now) k4) out);
-      ends = refl;
-    })
+    let events = g.F.FileSet.events in
+    let kept = c.in_ok-material.ensures.kept in
+    let follows : Follows (order_asked (Encrypt a)).done (events c.args.files.now) (events c.read_material.new.files) =
+    longer _ (Opened a.from.now ∷ making (Some a.to.now)) _ _ c.in_ok-material.ensures.follows in
+    let ran = ended_early (EncryptsFile a.pass.now a.log (text_of a.random) a.from.now a.to.now (entry c.args.files.now) (entry c.read_material.new.files)) EndsEarly
+    (EncryptsStop (PortsOf g.F.In.Source.view g.F.Out.Sink.view) a.pass.now a.log (text_of a.random) a.from.now a.to.now (entry c.args.files.now)
+    (entry c.read_material.new.files)) (g.F.FileSet.tells c.args.files.now) (entry c.args.files.now) (entry c.read_material.new.files) (order_asked (Encrypt a))
+    (events c.args.files.now) (events c.read_material.new.files) c.from_residual-in_err-secret.result (Usage c.in_err-secret.field-0.0) c.from_residual-in_err-secret.ensures
+    tt kept follows
+    (λ told usage. c.in_ok-material.ensures.follows) in
+    record {
+      done = ran.did;
+      stops = ran.stops;
+      usage = ran.usage;
+      spares = λ told q other. ap (λ f. f q) kept;
+      order = follows;
+      order_done = ran.done;
+      order_usage = ran.done_usage;
+      order_told = ran.judged;
+      silent = λ silent. refl;
+    }
+
+pub returns-in_err-source : goal.returns-in_err-source
+returns-in_err-source g c =
+    let a = c.args.asked.now in
+    let entry = g.F.FileSet.entry in
+    let events = g.F.FileSet.events in
+    let kept = c.in_err-source.ensures.kept ∙ c.in_ok-material.ensures.kept in
+    let follows : Follows (order_asked (Encrypt a)).done (events c.args.files.now) (events c.open_both.new.files) =
+    then_follows _ _ _ (Opened a.pass.now ∷ Opened (random_name (text_of a.random)) ∷ []) (Opened a.from.now ∷ making (Some a.to.now))
+    c.in_ok-material.ensures.noted c.in_err-source.ensures.noted_err in
+    let ran = ended_early (EncryptsFile a.pass.now a.log (text_of a.random) a.from.now a.to.now (entry c.args.files.now) (entry c.open_both.new.files)) EndsEarly
+    (EncryptsStop (PortsOf g.F.In.Source.view g.F.Out.Sink.view) a.pass.now a.log (text_of a.random) a.from.now a.to.now (entry c.args.files.now)
+    (entry c.open_both.new.files)) (g.F.FileSet.tells c.args.files.now) (entry c.args.files.now) (entry c.open_both.new.files) (order_asked (Encrypt a))
+    (events c.args.files.now) (events c.open_both.new.files) c.from_residual-in_err-source.result c.in_err-source.field-0.0 c.from_residual-in_err-source.ensures
+    c.in_err-source.ensures.early kept follows
+    (λ told usage. absurd (true≢false (sym usage ∙ c.in_err-source.ensures.usage (c.in_ok-material.ensures.told ∙ told)))) in
+    record {
+      done = ran.did;
+      stops = ran.stops;
+      usage = ran.usage;
+      spares = λ told q other. ap (λ f. f q) kept;
+      order = follows;
+      order_done = ran.done;
+      order_usage = ran.done_usage;
+      order_told = ran.judged;
+      silent = λ silent. refl;
+    }
+
+pub returns-in-Ok : goal.returns-in-Ok
+returns-in-Ok g c =
+    let a = c.args.asked.now in
+    let entry = g.F.FileSet.entry in
+    let material = c.in_ok-material.ensures in
+    let both = c.in_ok-source.ensures in
+    let done = then_did _ _ _ (Opened a.pass.now ∷ Opened (random_name (text_of a.random)) ∷ []) (Opened a.from.now ∷ making (Some a.to.now)) material.noted
+    (then_did _ _ _ (Opened a.from.now ∷ Created a.to.now ∷ []) (Closed ∷ []) both.noted c.in-Ok.ensures.noted) in
+    record {
+      done = λ told.
+          let t1 = material.told ∙ told in
+          let made = both.made t1 in
+          encrypted a.pass.now a.log (text_of a.random) a.from.now a.to.now _ (entry c.args.files.now) (entry c.read_material.new.files)
+          (entry c.open_both.new.files) (entry c.write_out.new.files) c.in_ok-secret.secret _
+          (c.in_ok-secret.ensures (entry c.args.files.now) (material.read told)) material.kept both.kept (both.found t1) made.1
+          (c.in-Ok.ensures.done (both.told ∙ t1) made.0) c.in-Ok.ensures.others;
+      stops = tt;
+      usage = tt;
+      spares = λ told q other. c.in-Ok.ensures.others q (λ e. other (e ∙ (both.made (material.told ∙ told)).1)) ∙ ap (λ f. f q) (both.kept ∙ material.kept);
+      order = followed _ _ _ done;
+      order_done = done;
+      order_usage = tt;
+      order_told = λ told. tt;
+      silent = c.in-Ok.ensures.silent;
+    }
+
+pub returns : goal.returns
+returns g c =
+    let a = c.args.asked.now in
+    let entry = g.F.FileSet.entry in
+    let material = c.in_ok-material.ensures in
+    let both = c.in_ok-source.ensures in
+    let done = then_did _ _ _ (Opened a.pass.now ∷ Opened (random_name (text_of a.random)) ∷ []) (Opened a.from.now ∷ making (Some a.to.now)) material.noted
+    (then_did _ _ _ (Opened a.from.now ∷ Created a.to.now ∷ []) (Closed ∷ []) both.noted c.in-Err.ensures.noted) in
+    record {
+      done = tt;
+      stops = λ told.
+          let t1 = material.told ∙ told in
+          let made = both.made t1 in
+          inr (encryption_stopped a.pass.now a.log (text_of a.random) a.from.now a.to.now _ (entry c.args.files.now) (entry c.read_material.new.files)
+          (entry c.open_both.new.files) (entry c.write_out.new.files) c.in_ok-secret.secret _
+          (c.in_ok-secret.ensures (entry c.args.files.now) (material.read told)) material.kept both.kept (both.found t1) made.1
+          (PortsOf g.F.In.Source.view g.F.Out.Sink.view) c.in-Err.fault (c.in-Err.ensures.stops (both.told ∙ t1) made.0));
+      usage = λ usage. absurd (true≢false (sym usage));
+      spares = λ told q other. c.in-Err.ensures.others q (λ e. other (e ∙ (both.made (material.told ∙ told)).1)) ∙ ap (λ f. f q) (both.kept ∙ material.kept);
+      order = followed _ _ _ done;
+      order_done = tt;
+      order_usage = λ usage. followed _ _ _ done;
+      order_told = λ told usage. absurd (true≢false (sym usage));
+      silent = c.in-Err.ensures.silent;
+    }

@@ -1,147 +1,201 @@
-use Rattle.std.proofs.Common.{ℕ, List, Option, ◌≡◌, ◌∙◌, ◌++◌, ◌∷◌, [], inr, ap, sym, subst, true≢false, Some}
-use Rattle.std.specs.Prelude.{is_some}
-use Rattle.age_actions.specs.Resumptions.{ResumesOut}
-use Rattle.clap.specs.Words.{Text}
-use Rattle.age_steps.specs.Identities.{IsSecretIn, bytes_of}
+use Rattle.std.proofs.Common.{◌≡◌, ◌∙◌, ◌++◌, ◌∷◌, [], inl, inr, refl, ap, sym, true≢false, Some}
 use Rattle.age_commands.specs.Requests.{text_of}
-use Rattle.age_fileset.specs.Events.{Opened}
-use Rattle.age_steps.specs.EventOrders.{Follows, making, replacing}
-use Rattle.age_actions.specs.Stops.{ResumptionStop, OutStops, PortsOf, kept_for}
-use Rattle.age_actions.proofs.StopSteps.{ends_from}
-use Rattle.age_actions.proofs.EventSteps.{every_fault, stop_follows, three_events, unmade, longer}
+use Rattle.age_commands.specs.declared.request.Request.TheVariants.{Resume}
+use Rattle.age_fileset.specs.Events.{Opened, Created, Closed}
+use Rattle.age_steps.specs.EventOrders.{Follows, identity_order, making, replacing}
+use Rattle.age_steps.specs.Identities.{options_asked}
+use Rattle.age_steps.specs.Orders.{order_asked}
+use Rattle.age_steps.specs.declared.ending.Ending.TheVariants.{Fault, Usage}
+use Rattle.age_actions.specs.Resumptions.{ResumesFile}
+use Rattle.age_actions.specs.Stops.{ResumesStop, PortsOf}
+use Rattle.age_actions.proofs.CommandSteps.{ended_early}
+use Rattle.age_actions.proofs.ResumptionSteps.{EndsBefore, bad_position, resumed, resumption_stopped}
+use Rattle.age_actions.proofs.EventSteps.{followed, longer, then_did, then_follows}
 use Rattle.age_actions.proofs.resumption.resume_file.Goals as goal
 
-pub returns-in-Ok-clause-done : goal.returns-in-Ok-clause-done
-returns-in-Ok-clause-done g c = λ told.
-    let entry = g.F.FileSet.entry in
+pub returns-in_err-secret : goal.returns-in_err-secret
+returns-in_err-secret g c =
     let r = c.args.asked.now in
-    let u = r.decrypting.unlocking in
-    let t1 = c.in_ok-secret.ensures.told ∙ told in
-    let t2 = c.in_ok-position.ensures.told ∙ t1 in
-    let t3 = c.in_ok-old.ensures.told ∙ t2 in
-    let t4 = c.in_ok-source.ensures.told ∙ t3 in
-    let t5 = c.in_ok-out.ensures.told ∙ t4 in
-    let made = c.in_ok-out.ensures.made t4 in
-    let k1 = c.in_ok-secret.ensures.kept in
-    let k2 = c.in_ok-position.ensures.kept ∙ k1 in
-    let k3 = c.in_ok-old.ensures.kept ∙ k2 in
-    let k5 = c.in_ok-out.ensures.kept ∙ (c.in_ok-source.ensures.kept ∙ k3) in
-    let identity = c.in_ok-identity.identity in
-    let position = c.in_ok-position.position in
-    let input = ap (λ f. f r.decrypting.from.now) (sym k3) ∙ sym (c.in_ok-source.ensures.found t3).1 in
-    let old_text = ap (λ f. f r.old.now) (sym k2) ∙ sym (c.in_ok-old.ensures.found t2).1 in
-    let out = entry c.write_out.new.files r.decrypting.to.now in
+    let d = r.decrypting in
+    let entry = g.F.FileSet.entry in
+    let events = g.F.FileSet.events in
+    let kept = c.in_err-secret.ensures.kept in
+    let follows : Follows (order_asked (Resume r)).done (events c.args.files.now) (events c.read_unlocking.new.files) =
+    longer _ (Opened r.position.now ∷ Opened r.old.now ∷ Opened d.from.now ∷ making (Some d.to.now)) _ _ c.in_err-secret.ensures.follows in
+    let ran = ended_early (ResumesFile (options_asked d.unlocking) r.position.now r.old.now d.from.now d.to.now (entry c.args.files.now)
+    (entry c.read_unlocking.new.files)) EndsBefore (ResumesStop (PortsOf g.F.In.Source.view g.F.Out.Sink.view) (options_asked d.unlocking) r.position.now
+    r.old.now d.from.now d.to.now (text_of d.save) (entry c.args.files.now) (entry c.read_unlocking.new.files)) (g.F.FileSet.tells c.args.files.now)
+    (entry c.args.files.now) (entry c.read_unlocking.new.files) (order_asked (Resume r)) (events c.args.files.now) (events c.read_unlocking.new.files)
+    c.from_residual.result c.in_err-secret.field-0.0 c.from_residual.ensures
+    (inl c.in_err-secret.ensures.early) kept follows
+    (λ told usage. c.in_err-secret.ensures.follows) in
     record {
-      identity = identity;
-      position = position;
-      opens = c.in_ok-identity.ensures (entry c.args.files.now)
-          (subst (λ (n : Option Text). IsSecretIn (entry c.args.files.now) n (bytes_of c.in_ok-secret.secret)) c.in_ok-name.ensures.name
-          (c.in_ok-secret.ensures.read told));
-      position_is = ap (λ f. f r.position.now) (sym k1) ∙ c.in_ok-position.ensures.read t1;
-      there = ap (λ f. is_some (f r.decrypting.from.now)) (sym k3) ∙ (c.in_ok-source.ensures.found t3).0;
-      old_there = ap (λ f. is_some (f r.old.now)) (sym k2) ∙ (c.in_ok-old.ensures.found t2).0;
-      output = subst (λ o. ResumesOut identity position o (entry c.args.files.now r.old.now) out) (sym input)
-          (subst (λ o. ResumesOut identity position (g.F.In.Source.view c.in_ok-source.source).remaining o out) (sym old_text)
-          (subst (λ l. ResumesOut identity position (g.F.In.Source.view c.in_ok-source.source).remaining (g.F.In.Source.view c.in_ok-old.old).remaining
-          (entry c.write_out.new.files l)) made.1 (c.in-Ok.ensures.done t5 made.0)));
-      others = λ q other. c.in-Ok.ensures.others q (λ e. other (e ∙ made.1)) ∙ ap (λ f. f q) k5;
+      done = ran.did;
+      stops = ran.stops;
+      usage = ran.usage;
+      spares = λ told q other unsaved. ap (λ f. f q) kept;
+      order = longer _ (replacing (text_of d.save)) _ _ follows;
+      order_done = ran.done;
+      order_usage = ran.done_usage;
+      order_told = ran.judged;
+      silent = λ silent. refl;
     }
 
-pub returns-clause-spares : goal.returns-clause-spares
-returns-clause-spares g c = λ told q other none.
-    let t4 = c.in_ok-source.ensures.told ∙ (c.in_ok-old.ensures.told ∙ (c.in_ok-position.ensures.told ∙ (c.in_ok-secret.ensures.told ∙ told))) in
-    let made = c.in_ok-out.ensures.made t4 in
-    let t6 = c.in-Err.ensures.told ∙ (c.in_ok-out.ensures.told ∙ t4) in
-    let k5 = c.in_ok-out.ensures.kept
-    ∙ (c.in_ok-source.ensures.kept ∙ (c.in_ok-old.ensures.kept ∙ (c.in_ok-position.ensures.kept ∙ c.in_ok-secret.ensures.kept))) in
-    c.end_of.ensures.others t6 q (λ e. cc) none ∙ (c.in-Err.ensures.others q (λ e. other (ap Some (sym (e ∙ made.1)))) ∙ ap (λ f. f q) k5)
-
-pub returns-clause-stops : goal.returns-clause-stops
-returns-clause-stops g c = λ told.
+pub returns-in_err-identity : goal.returns-in_err-identity
+returns-in_err-identity g c =
+    let r = c.args.asked.now in
+    let d = r.decrypting in
     let entry = g.F.FileSet.entry in
+    let events = g.F.FileSet.events in
+    let kept = c.in_ok-secret.ensures.kept in
+    let follows : Follows (order_asked (Resume r)).done (events c.args.files.now) (events c.read_unlocking.new.files) =
+    longer _ (Opened r.position.now ∷ Opened r.old.now ∷ Opened d.from.now ∷ making (Some d.to.now)) _ _ c.in_ok-secret.ensures.follows in
+    let ran = ended_early (ResumesFile (options_asked d.unlocking) r.position.now r.old.now d.from.now d.to.now (entry c.args.files.now)
+    (entry c.read_unlocking.new.files)) EndsBefore (ResumesStop (PortsOf g.F.In.Source.view g.F.Out.Sink.view) (options_asked d.unlocking) r.position.now
+    r.old.now d.from.now d.to.now (text_of d.save) (entry c.args.files.now) (entry c.read_unlocking.new.files)) (g.F.FileSet.tells c.args.files.now)
+    (entry c.args.files.now) (entry c.read_unlocking.new.files) (order_asked (Resume r)) (events c.args.files.now) (events c.read_unlocking.new.files)
+    c.from_residual-in_err-identity.result (Usage c.in_err-identity.field-0.0) c.from_residual-in_err-identity.ensures
+    (inl tt) kept follows
+    (λ told usage. c.in_ok-secret.ensures.follows) in
+    record {
+      done = ran.did;
+      stops = ran.stops;
+      usage = ran.usage;
+      spares = λ told q other unsaved. ap (λ f. f q) kept;
+      order = longer _ (replacing (text_of d.save)) _ _ follows;
+      order_done = ran.done;
+      order_usage = ran.done_usage;
+      order_told = ran.judged;
+      silent = λ silent. refl;
+    }
+
+pub returns-in_err-position : goal.returns-in_err-position
+returns-in_err-position g c =
     let r = c.args.asked.now in
     let d = r.decrypting in
-    let u = d.unlocking in
-    let old = entry c.args.files.now in
-    let made_in = entry c.create_out.new.files in
-    let mid = entry c.write_out.new.files in
-    let new = entry c.end_of.new.files in
-    let t1 = c.in_ok-secret.ensures.told ∙ told in
-    let t2 = c.in_ok-position.ensures.told ∙ t1 in
-    let t3 = c.in_ok-old.ensures.told ∙ t2 in
-    let t4 = c.in_ok-source.ensures.told ∙ t3 in
-    let t5 = c.in_ok-out.ensures.told ∙ t4 in
-    let t6 = c.in-Err.ensures.told ∙ t5 in
-    let made = c.in_ok-out.ensures.made t4 in
-    let k1 = c.in_ok-secret.ensures.kept in
-    let k2 = c.in_ok-position.ensures.kept ∙ k1 in
-    let k3 = c.in_ok-old.ensures.kept ∙ k2 in
-    let k5 = c.in_ok-out.ensures.kept ∙ (c.in_ok-source.ensures.kept ∙ k3) in
-    let identity = c.in_ok-identity.identity in
-    let position = c.in_ok-position.position in
-    let read = (g.F.In.Source.view c.in_ok-source.source).remaining in
-    let old_read = (g.F.In.Source.view c.in_ok-old.old).remaining in
-    let input = ap (λ f. f d.from.now) (sym k3) ∙ sym (c.in_ok-source.ensures.found t3).1 in
-    let old_text = ap (λ f. f r.old.now) (sym k2) ∙ sym (c.in_ok-old.ensures.found t2).1 in
+    let entry = g.F.FileSet.entry in
+    let events = g.F.FileSet.events in
+    let kept = c.in_err-position.ensures.kept ∙ c.in_ok-secret.ensures.kept in
+    let follows : Follows (order_asked (Resume r)).done (events c.args.files.now) (events c.open_earlier.new.files) =
+    then_follows _ _ _ (identity_order (text_of d.unlocking.pass) (text_of d.unlocking.shared)) (Opened r.position.now ∷ Opened r.old.now ∷ Opened d.from.now ∷ making (Some d.to.now))
+    c.in_ok-secret.ensures.noted (longer (Opened r.position.now ∷ Opened r.old.now ∷ []) (Opened d.from.now ∷ making (Some d.to.now)) _ _ c.in_err-position.ensures.follows) in
+    let ran = ended_early (ResumesFile (options_asked d.unlocking) r.position.now r.old.now d.from.now d.to.now (entry c.args.files.now)
+    (entry c.open_earlier.new.files)) EndsBefore (ResumesStop (PortsOf g.F.In.Source.view g.F.Out.Sink.view) (options_asked d.unlocking) r.position.now
+    r.old.now d.from.now d.to.now (text_of d.save) (entry c.args.files.now) (entry c.open_earlier.new.files)) (g.F.FileSet.tells c.args.files.now)
+    (entry c.args.files.now) (entry c.open_earlier.new.files) (order_asked (Resume r)) (events c.args.files.now) (events c.open_earlier.new.files)
+    c.from_residual-in_err-position.result (Fault c.in_err-position.field-0.0) c.from_residual-in_err-position.ensures
+    (bad_position _ c.in_err-position.ensures.faults) kept follows
+    (λ told usage. absurd (true≢false (sym usage))) in
+    record {
+      done = ran.did;
+      stops = ran.stops;
+      usage = ran.usage;
+      spares = λ told q other unsaved. ap (λ f. f q) kept;
+      order = longer _ (replacing (text_of d.save)) _ _ follows;
+      order_done = ran.done;
+      order_usage = ran.done_usage;
+      order_told = ran.judged;
+      silent = λ silent. refl;
+    }
+
+pub returns-in_err-source : goal.returns-in_err-source
+returns-in_err-source g c =
+    let r = c.args.asked.now in
+    let d = r.decrypting in
+    let entry = g.F.FileSet.entry in
+    let events = g.F.FileSet.events in
+    let kept = c.in_err-source.ensures.kept ∙ (c.in_ok-position.ensures.kept ∙ c.in_ok-secret.ensures.kept) in
+    let follows : Follows (order_asked (Resume r)).done (events c.args.files.now) (events c.open_both.new.files) =
+    then_follows _ _ _ (identity_order (text_of d.unlocking.pass) (text_of d.unlocking.shared)) (Opened r.position.now ∷ Opened r.old.now ∷ Opened d.from.now ∷ making (Some d.to.now))
+    c.in_ok-secret.ensures.noted (then_follows _ _ _ (Opened r.position.now ∷ Opened r.old.now ∷ []) (Opened d.from.now ∷ making (Some d.to.now)) c.in_ok-position.ensures.noted c.in_err-source.ensures.noted_err) in
+    let ran = ended_early (ResumesFile (options_asked d.unlocking) r.position.now r.old.now d.from.now d.to.now (entry c.args.files.now)
+    (entry c.open_both.new.files)) EndsBefore (ResumesStop (PortsOf g.F.In.Source.view g.F.Out.Sink.view) (options_asked d.unlocking) r.position.now
+    r.old.now d.from.now d.to.now (text_of d.save) (entry c.args.files.now) (entry c.open_both.new.files)) (g.F.FileSet.tells c.args.files.now)
+    (entry c.args.files.now) (entry c.open_both.new.files) (order_asked (Resume r)) (events c.args.files.now) (events c.open_both.new.files)
+    c.from_residual-in_err-source.result c.in_err-source.field-0.0 c.from_residual-in_err-source.ensures
+    (inl c.in_err-source.ensures.early) kept follows
+    (λ told usage. absurd (true≢false (sym usage
+    ∙ c.in_err-source.ensures.usage (c.in_ok-position.ensures.told ∙ (c.in_ok-secret.ensures.told ∙ told))))) in
+    record {
+      done = ran.did;
+      stops = ran.stops;
+      usage = ran.usage;
+      spares = λ told q other unsaved. ap (λ f. f q) kept;
+      order = longer _ (replacing (text_of d.save)) _ _ follows;
+      order_done = ran.done;
+      order_usage = ran.done_usage;
+      order_told = ran.judged;
+      silent = λ silent. refl;
+    }
+
+pub returns-in-Ok : goal.returns-in-Ok
+returns-in-Ok g c =
+    let r = c.args.asked.now in
+    let d = r.decrypting in
+    let entry = g.F.FileSet.entry in
+    let secret = c.in_ok-secret.ensures in
+    let earlier = c.in_ok-position.ensures in
+    let both = c.in_ok-source.ensures in
+    let done = then_did _ _ _ (identity_order (text_of d.unlocking.pass) (text_of d.unlocking.shared)) (Opened r.position.now ∷ Opened r.old.now ∷ Opened d.from.now ∷ making (Some d.to.now)) secret.noted
+    (then_did _ _ _ (Opened r.position.now ∷ Opened r.old.now ∷ []) (Opened d.from.now ∷ making (Some d.to.now)) earlier.noted
+    (then_did _ _ _ (Opened d.from.now ∷ Created d.to.now ∷ []) (Closed ∷ []) both.noted c.in-Ok.ensures.noted)) in
+    record {
+      done = λ told.
+          let t1 = secret.told ∙ told in
+          let t2 = earlier.told ∙ t1 in
+          let made = both.made t2 in
+          resumed (options_asked d.unlocking) r.position.now r.old.now d.from.now d.to.now _ (entry c.args.files.now)
+          (entry c.read_unlocking.new.files) (entry c.open_earlier.new.files) (entry c.open_both.new.files) (entry c.write_out.new.files)
+          c.in_ok-identity.identity c.in_ok-position.position _ _ (c.in_ok-identity.ensures (entry c.args.files.now) (secret.read told)) secret.kept earlier.kept
+          both.kept (earlier.read t1) (earlier.found t1) (both.found t2) made.1 c.in-Ok.ensures.others
+          (c.in-Ok.ensures.done (both.told ∙ t2) made.0);
+      stops = tt;
+      usage = tt;
+      spares = λ told q other unsaved.
+          c.in-Ok.ensures.others q (λ e. other (ap Some (sym (e ∙ (both.made (earlier.told ∙ (secret.told ∙ told))).1))))
+          ∙ ap (λ f. f q) (both.kept ∙ (earlier.kept ∙ secret.kept));
+      order = longer _ (replacing (text_of d.save)) _ _ (followed _ _ _ done);
+      order_done = done;
+      order_usage = tt;
+      order_told = λ told. tt;
+      silent = c.in-Ok.ensures.silent;
+    }
+
+pub returns : goal.returns
+returns g c =
+    let r = c.args.asked.now in
+    let d = r.decrypting in
+    let entry = g.F.FileSet.entry in
+    let secret = c.in_ok-secret.ensures in
+    let earlier = c.in_ok-position.ensures in
+    let both = c.in_ok-source.ensures in
     let stop = c.in-Err.stop in
-    let elsewhere : text_of d.save ≡ Some d.to.now → ⊥ = λ same. true≢false (sym (c.if-names_one_twice.ensures.saved_to same)) in
-    let spared : new d.to.now ≡ mid d.to.now = c.end_of.ensures.others t6 d.to.now (λ e. cc) elsewhere in
-    let Engine : Option (List ℕ) → Option (List ℕ) → ℕ → Option (List ℕ) → Type 0 =
-    λ i o. ResumptionStop (PortsOf g.F.In.Source.view g.F.Out.Sink.view) (kept_for (text_of d.save)) identity position i o stop.position stop.fault in
-    let out = subst (λ l. OutStops (Engine read old_read) (made_in l) (mid l) stop.position stop.fault) made.1 (c.in-Err.ensures.stops t5 made.0) in
-    inr (record {
-      identity = identity;
-      opens = c.in_ok-identity.ensures (entry c.args.files.now)
-          (subst (λ (n : Option Text). IsSecretIn (entry c.args.files.now) n (bytes_of c.in_ok-secret.secret)) c.in_ok-name.ensures.name
-          (c.in_ok-secret.ensures.read told));
-      from_position = position;
-      position_is = ap (λ f. f r.position.now) (sym k1) ∙ c.in_ok-position.ensures.read t1;
-      there = ap (λ f. is_some (f d.from.now)) (sym k3) ∙ (c.in_ok-source.ensures.found t3).0;
-      old_there = ap (λ f. is_some (f r.old.now)) (sym k2) ∙ (c.in_ok-old.ensures.found t2).0;
-      position = stop.position;
-      fault = stop.fault;
-      output = subst (λ i. OutStops (Engine i (old r.old.now)) (old d.to.now) (new d.to.now) stop.position stop.fault) (sym input)
-          (subst (λ o. OutStops (Engine read o) (old d.to.now) (new d.to.now) stop.position stop.fault) (sym old_text)
-          (subst (λ o. OutStops (Engine read old_read) o (new d.to.now) stop.position stop.fault) (ap (λ f. f d.to.now) k5)
-          (subst (λ o. OutStops (Engine read old_read) (made_in d.to.now) o stop.position stop.fault) (sym spared) out)));
-      ends = ends_from stop.fault (text_of d.save) stop.position old mid new c.end_of.result
-          (λ q named. c.in-Err.ensures.others q (λ e. elsewhere (named ∙ ap Some (e ∙ made.1))) ∙ ap (λ f. f q) k5) (c.end_of.ensures.ends t6);
-    })
-
-pub returns-clause-order : goal.returns-clause-order
-returns-clause-order g c =
-    let r = c.args.asked.now in
-    let d = r.decrypting in
-    let save = text_of d.save in
-    let events = g.F.FileSet.events in
-    subst (λ o. Follows ((o ++ ((Opened r.position.now ∷ Opened r.old.now ∷ Opened d.from.now ∷ []) ++ making (Some d.to.now))) ++ replacing save)
-    (events c.args.files.now) (events c.end_of.new.files))
-    c.in_ok-name.ensures.one
-    (stop_follows _ _ _ _ _ _ (Opened r.position.now ∷ Opened r.old.now ∷ Opened d.from.now ∷ []) d.to.now save c.in_ok-secret.ensures.noted
-    (three_events _ _ _ _ _ _ _ c.in_ok-position.ensures.noted c.in_ok-old.ensures.noted c.in_ok-source.ensures.noted) _ c.in_ok-out.ensures.noted
-    c.in-Err.ensures.noted c.end_of.ensures.noted)
-
-pub returns-in_err-out-clause-order : goal.returns-in_err-out-clause-order
-returns-in_err-out-clause-order g c =
-    let r = c.args.asked.now in
-    let d = r.decrypting in
-    let save = text_of d.save in
-    let events = g.F.FileSet.events in
-    longer _ (replacing save) _ _
-    (subst (λ o. Follows (o ++ ((Opened r.position.now ∷ Opened r.old.now ∷ Opened d.from.now ∷ []) ++ making (Some d.to.now))) (events c.args.files.now)
-    (events c.create_out.new.files))
-    c.in_ok-name.ensures.one
-    (unmade _ _ _ [] _ _ (Opened r.position.now ∷ Opened r.old.now ∷ Opened d.from.now ∷ []) d.to.now save c.in_ok-secret.ensures.noted
-    (three_events _ _ _ _ _ _ _ c.in_ok-position.ensures.noted c.in_ok-old.ensures.noted c.in_ok-source.ensures.noted) c.in_err-out.ensures.noted_err))
-
-pub returns-in_err-out-clause-order_usage : goal.returns-in_err-out-clause-order_usage
-returns-in_err-out-clause-order_usage g c =
-    let r = c.args.asked.now in
-    let d = r.decrypting in
-    let events = g.F.FileSet.events in
-    every_fault c.from_residual-in_err-out.result _ (λ e usage.
-    subst (λ o. Follows (o ++ ((Opened r.position.now ∷ Opened r.old.now ∷ Opened d.from.now ∷ []) ++ making (Some d.to.now))) (events c.args.files.now)
-    (events c.create_out.new.files))
-    c.in_ok-name.ensures.one
-    (unmade _ _ _ [] _ _ (Opened r.position.now ∷ Opened r.old.now ∷ Opened d.from.now ∷ []) d.to.now (text_of d.save) c.in_ok-secret.ensures.noted
-    (three_events _ _ _ _ _ _ _ c.in_ok-position.ensures.noted c.in_ok-old.ensures.noted c.in_ok-source.ensures.noted) c.in_err-out.ensures.noted_err))
+    let ended = c.end_of.ensures in
+    let done = then_did _ _ _ (identity_order (text_of d.unlocking.pass) (text_of d.unlocking.shared)) (Opened r.position.now ∷ Opened r.old.now ∷ Opened d.from.now ∷ making (Some d.to.now)) secret.noted
+    (then_did _ _ _ (Opened r.position.now ∷ Opened r.old.now ∷ []) (Opened d.from.now ∷ making (Some d.to.now)) earlier.noted
+    (then_did _ _ _ (Opened d.from.now ∷ Created d.to.now ∷ []) (Closed ∷ []) both.noted c.in-Err.ensures.noted)) in
+    record {
+      done = tt;
+      stops = λ told.
+          let t1 = secret.told ∙ told in
+          let t2 = earlier.told ∙ t1 in
+          let t3 = both.told ∙ t2 in
+          let t4 = c.in-Err.ensures.told ∙ t3 in
+          let made = both.made t2 in
+          inr (resumption_stopped (options_asked d.unlocking) r.position.now r.old.now d.from.now d.to.now _ (entry c.args.files.now)
+          (entry c.read_unlocking.new.files) (entry c.open_earlier.new.files) (entry c.open_both.new.files) (entry c.write_out.new.files)
+          c.in_ok-identity.identity c.in_ok-position.position _ _ (c.in_ok-identity.ensures (entry c.args.files.now) (secret.read told)) secret.kept earlier.kept
+          both.kept (earlier.read t1) (earlier.found t1) (both.found t2) made.1 c.in-Err.ensures.others
+          (PortsOf g.F.In.Source.view g.F.Out.Sink.view) (text_of d.save) stop.position stop.fault (entry c.end_of.new.files) c.end_of.result
+          secret.apart (ended.others t4 d.to.now (λ e. cc) secret.apart) (ended.ends t4) (c.in-Err.ensures.stops t3 made.0));
+      usage = λ usage. absurd (true≢false (sym usage ∙ ended.fault));
+      spares = λ told q other unsaved.
+          let t2 = earlier.told ∙ (secret.told ∙ told) in
+          ended.others (c.in-Err.ensures.told ∙ (both.told ∙ t2)) q (λ e. cc) unsaved
+          ∙ (c.in-Err.ensures.others q (λ e. other (ap Some (sym (e ∙ (both.made t2).1)))) ∙ ap (λ f. f q) (both.kept ∙ (earlier.kept ∙ secret.kept)));
+      order = then_follows _ _ _ (order_asked (Resume r)).done (replacing (text_of d.save)) done ended.noted;
+      order_done = tt;
+      order_usage = λ usage. absurd (true≢false (sym usage ∙ ended.fault));
+      order_told = λ told usage. absurd (true≢false (sym usage ∙ ended.fault));
+      silent = c.in-Err.ensures.silent;
+    }
