@@ -6,6 +6,7 @@ ghost use Rattle.age_steps.specs.EventOrders.{Follows};
 ghost use Rattle.age_steps.specs.Orders.{order_asked};
 ghost use Rattle.age_commands.specs.declared.request.Request.TheVariants.{Drill};
 ghost use Rattle.age_stanza.specs.Grammar.{HasText};
+ghost use Rattle.age_stanza.specs.Parsing.{reading};
 
 use crate::replaying::Replaying;
 use crate::script::{Line, SCRIPT_MAX, has_too_many_lines, read_lines};
@@ -13,10 +14,10 @@ use age_commands::Drilling;
 use age_fault::{FileFault, flush_all};
 use age_fileset::FileSet;
 use age_io::{Sink, Source};
-use age_keys::{Passphrase, PayloadKey, open_header, payload_key};
-use age_stanza::{HEAD_MAX, HeadFault, HeadParser, HeadStep, Header};
+use age_keys::{FileKey, KeyFault, Passphrase, PayloadKey, open_header, payload_key};
+use age_stanza::{HEAD_MAX, HeadParser, HeadStep, Header};
 use age_steps::{Ending, Usage, fill_first, put_bytes, read_pass, read_up_to, trimmed};
-use age_stream::{ClearBox, Delivery, Status, StreamFault};
+use age_stream::{ClearBox, Delivery, Replay, Status, StreamFault};
 use std::alloc::{AllocError, Global};
 
 /// The most bytes of a payload.
@@ -37,9 +38,10 @@ fn script_in<S: Source + Drop>(
     opened: Result<S, FileFault>,
 ) -> Result<Vec<u8>, Ending> {
     let mut source = opened?;
-    match read_up_to(alloc, &mut source, SCRIPT_MAX)? {
-        Some(script) if !has_too_many_lines(script.as_slice()) => Ok(script),
-        _ => Err(Ending::Usage(Usage::ScriptTooLong)),
+    match read_up_to(alloc, &mut source, SCRIPT_MAX) {
+        Ok(Some(script)) if !has_too_many_lines(script.as_slice()) => Ok(script),
+        Ok(_) => Err(Ending::Usage(Usage::ScriptTooLong)),
+        Err(fault) => Err(Ending::Fault(fault)),
     }
 }
 
@@ -51,8 +53,28 @@ fn read_script<F: FileSet>(alloc: Global, files: &mut F, name: &str) -> Result<V
     script_in(alloc, files.open(alloc, name))
 }
 
-/// The header at the beginning of a file, and its length. `read` is how reading those bytes ended:
-/// its fault comes only where the bytes before it have none.
+/// The header that a parser finds at the beginning of a file, and its length. `read` is how reading
+/// those bytes ended: its fault comes only where the bytes before it have none.
+fn find_header(
+    parser: &mut HeadParser,
+    bytes: &[u8],
+    read: Result<(), FileFault>,
+) -> Result<(Header, usize), FileFault>
+    requires { parser.old ≡ reading [] }
+    ensures text { IfOk result (λ p. HasText p.0) }
+    ensures within { IfOk result (λ p. p.1 ≤ length bytes.now) }
+{
+    match parser.feed(bytes) {
+        Ok(HeadStep::Ready { taken, header }) => Ok((header, taken)),
+        Ok(HeadStep::More) => match read {
+            Ok(()) => Err(FileFault::from(parser.end())),
+            Err(fault) => Err(fault),
+        },
+        Err(fault) => Err(FileFault::from(fault)),
+    }
+}
+
+/// The header at the beginning of a file, and its length.
 fn read_header(
     alloc: Global,
     bytes: &[u8],
@@ -62,18 +84,24 @@ fn read_header(
     ensures within { IfOk result (λ p. p.1 ≤ length bytes.now) }
 {
     let mut parser = HeadParser::new(alloc);
-    match parser.feed(bytes) {
-        Ok(HeadStep::Ready { taken, header }) => Ok((header, taken)),
-        Ok(HeadStep::More) => Err(first_fault(read, parser.end())),
-        Err(fault) => Err(FileFault::from(fault)),
-    }
+    find_header(&mut parser, bytes, read)
 }
 
-/// The fault of a header that is cut: that of reading comes before it.
-fn first_fault(read: Result<(), FileFault>, cut: HeadFault) -> FileFault {
-    match read {
-        Ok(()) => FileFault::from(cut),
-        Err(fault) => fault,
+/// The key of the payload after a header of this length, and where in the bytes it begins.
+fn payload_after(
+    key: Result<FileKey, KeyFault>,
+    len: usize,
+    bytes: &[u8],
+    read: Result<(), FileFault>,
+) -> Result<(PayloadKey, usize), FileFault>
+    requires { len ≤ length bytes.now }
+    ensures { IfOk result (λ p. p.1 ≤ length bytes.now) }
+{
+    let key = key?;
+    read?;
+    match bytes[len..].first_chunk::<NONCE_LEN>() {
+        Some(nonce) => Ok((payload_key(&key, nonce), len + NONCE_LEN)),
+        None => Err(FileFault::NonceCut),
     }
 }
 
@@ -88,12 +116,7 @@ fn open_payload(
     ensures { IfOk result (λ p. p.1 ≤ length bytes.now) }
 {
     let (header, len) = read_header(alloc, bytes, read)?;
-    let key = open_header(alloc, &header, unlock)?;
-    read?;
-    match bytes[len..].first_chunk::<NONCE_LEN>() {
-        Some(nonce) => Ok((payload_key(&key, nonce), len + NONCE_LEN)),
-        None => Err(FileFault::NonceCut),
-    }
+    payload_after(open_header(alloc, &header, unlock), len, bytes, read)
 }
 
 /// The word for where a replay stands, or its fault.
@@ -114,7 +137,7 @@ fn answer(
     replay: &Replaying<'_>,
     is_refused: bool,
 ) -> Result<String, AllocError> {
-    let held = replay.held();
+    let held = replay.text().len();
     match standing(replay.status(), is_refused) {
         Ok(word) => format!(in alloc; "{number} {word} {held}\n"),
         Err(fault) => {
@@ -185,8 +208,10 @@ fn deliver<O: Sink>(
     output: &mut O,
 ) -> Result<(), Ending> {
     let lines = read_lines(alloc, script, payload.len())?;
-    answer_lines(alloc, replay, payload, lines.as_slice(), output)?;
-    Ok(())
+    match answer_lines(alloc, replay, payload, lines.as_slice(), output) {
+        Ok(()) => Ok(()),
+        Err(fault) => Err(Ending::Fault(fault)),
+    }
 }
 
 /// Delivers a payload whose chunks are in the clear.
@@ -196,12 +221,13 @@ fn deliver_clear<S: Source, O: Sink>(
     script: &[u8],
     output: &mut O,
 ) -> Result<(), Ending> {
-    match read_up_to(alloc, source, PAYLOAD_MAX)? {
-        Some(mut payload) => {
-            let mut replay = Replaying::clear(alloc, &ClearBox);
+    match read_up_to(alloc, source, PAYLOAD_MAX) {
+        Ok(Some(mut payload)) => {
+            let mut replay = Replaying::Clear(Replay::new(alloc, &ClearBox));
             deliver(alloc, &mut replay, payload.as_mut_slice(), script, output)
         }
-        None => Err(Ending::Usage(Usage::PayloadTooLong)),
+        Ok(None) => Err(Ending::Usage(Usage::PayloadTooLong)),
+        Err(fault) => Err(Ending::Fault(fault)),
     }
 }
 
@@ -216,7 +242,7 @@ fn deliver_payload<O: Sink>(
     if payload.len() > PAYLOAD_MAX {
         return Err(Ending::Usage(Usage::PayloadTooLong));
     }
-    let mut replay = Replaying::sealed(alloc, key);
+    let mut replay = Replaying::Sealed(Replay::new(alloc, key));
     deliver(alloc, &mut replay, payload, script, output)
 }
 

@@ -5,7 +5,6 @@
 use age_fault::FileFault;
 use age_keys::PayloadKey;
 use age_stream::{ClearBox, Delivery, Memory, Replay, Status};
-use std::alloc::Global;
 
 /// A replay of a payload whose chunks are in the clear, or of one that is sealed.
 #[derive(Drop)]
@@ -15,16 +14,6 @@ pub(crate) enum Replaying<'k> {
 }
 
 impl<'k> Replaying<'k> {
-    /// A replay in the clear.
-    pub(crate) fn clear(alloc: Global, key: &'k ClearBox) -> Replaying<'k> {
-        Replaying::Clear(Replay::new(alloc, key))
-    }
-
-    /// A replay under the key of a payload.
-    pub(crate) fn sealed(alloc: Global, key: &'k PayloadKey) -> Replaying<'k> {
-        Replaying::Sealed(Replay::new(alloc, key))
-    }
-
     /// Hands over a delivery.
     pub(crate) fn take(&mut self, delivery: &Delivery<'_>) -> Result<(), FileFault> {
         match self {
@@ -33,11 +22,11 @@ impl<'k> Replaying<'k> {
         }
     }
 
-    /// How many bytes of text it holds.
-    pub(crate) fn held(&self) -> usize {
+    /// The text that it holds.
+    pub(crate) fn text(&self) -> &[u8] {
         match self {
-            Replaying::Clear(replay) => replay.text().len(),
-            Replaying::Sealed(replay) => replay.text().len(),
+            Replaying::Clear(replay) => replay.text(),
+            Replaying::Sealed(replay) => replay.text(),
         }
     }
 

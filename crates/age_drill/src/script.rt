@@ -40,7 +40,10 @@ fn number(word: &str) -> Option<u64> {
 /// A piece that ends within the payload, by two numbers.
 fn piece(numbers: &str, payload_len: usize) -> Option<Line> {
     let (offset, len) = numbers.split_once(' ')?;
-    piece_within(number(offset)?, number(len)?, payload_len)
+    match (number(offset), number(len)) {
+        (Some(offset), Some(len)) => piece_within(offset, len, payload_len),
+        _ => None,
+    }
 }
 
 fn piece_within(offset: u64, len: u64, payload_len: usize) -> Option<Line> {
@@ -65,12 +68,10 @@ fn flip(offset: u64, payload_len: usize) -> Option<Line> {
 
 /// A line of a word and numbers. A number has no space, so none of them is followed by more.
 fn numbered(word: &str, numbers: &str, payload_len: usize) -> Option<Line> {
-    match word {
-        "piece" => piece(numbers, payload_len),
-        "flip" => flip(number(numbers)?, payload_len),
-        "restart" => Some(Line::Restart {
-            index: number(numbers)?,
-        }),
+    match (word, number(numbers)) {
+        ("piece", _) => piece(numbers, payload_len),
+        ("flip", Some(offset)) => flip(offset, payload_len),
+        ("restart", Some(index)) => Some(Line::Restart { index }),
         _ => None,
     }
 }
@@ -98,15 +99,18 @@ pub(crate) fn read_lines(
 ) -> Result<Vec<Line>, Ending> {
     let mut lines = Vec::new(alloc);
     for line in script.split_inclusive(|b| *b == b'\n') {
-        match read_line(line, payload_len) {
-            Some(line) => push(&mut lines, line)?,
-            None => return Err(Ending::Usage(Usage::BadScriptLine(lines.len() + 1))),
-        }
+        push(&mut lines, read_line(line, payload_len))?;
     }
     Ok(lines)
 }
 
-fn push(lines: &mut Vec<Line>, line: Line) -> Result<(), FileFault> {
-    lines.push(line)?;
-    Ok(())
+/// Adds a line, unless it is a bad one.
+fn push(lines: &mut Vec<Line>, line: Option<Line>) -> Result<(), Ending> {
+    let Some(line) = line else {
+        return Err(Ending::Usage(Usage::BadScriptLine(lines.len() + 1)));
+    };
+    match lines.push(line) {
+        Ok(()) => Ok(()),
+        Err(_) => Err(Ending::Fault(FileFault::Memory)),
+    }
 }
