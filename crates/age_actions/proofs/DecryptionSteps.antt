@@ -5,7 +5,7 @@ use Rattle.clap.specs.Words.{Text}
 use Rattle.age_file.specs.Ports.{Ports}
 use Rattle.age_file.specs.declared.position.Position.{Position}
 use Rattle.age_fault.specs.declared.fault.FileFault.{FileFault}
-use Rattle.age_steps.specs.Files.{Files, SparesBut, SparesBoth}
+use Rattle.age_steps.specs.Files.{Files, SparesBut}
 use Rattle.age_steps.specs.Identities.{Options, OpensBy}
 use Rattle.age_steps.specs.declared.ending.Ending.{Ending}
 use Rattle.age_steps.specs.declared.identity.Identity.{Identity}

@@ -1,4 +1,4 @@
-use Rattle.std.proofs.Common.{◌≡◌, ◌∙◌, ◌++◌, ◌∷◌, [], inr, refl, ap, sym, true≢false, Some}
+use Rattle.std.proofs.Common.{◌∙◌, ◌∷◌, [], inr, refl, ap, sym, true≢false, Some}
 use Rattle.age_commands.specs.Requests.{text_of}
 use Rattle.age_commands.specs.declared.request.Request.TheVariants.{Decrypt}
 use Rattle.age_fileset.specs.Events.{Opened, Created, Closed}

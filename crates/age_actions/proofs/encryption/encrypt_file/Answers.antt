@@ -1,11 +1,10 @@
-use Rattle.std.proofs.Common.{◌≡◌, ◌∙◌, ◌++◌, ◌∷◌, [], inl, inr, refl, ap, sym, true≢false, Some}
+use Rattle.std.proofs.Common.{◌∙◌, ◌∷◌, [], inr, refl, ap, sym, true≢false, Some}
 use Rattle.age_commands.specs.Requests.{text_of}
 use Rattle.age_commands.specs.declared.request.Request.TheVariants.{Encrypt}
 use Rattle.age_fileset.specs.Events.{Opened, Created, Closed}
 use Rattle.age_steps.specs.EventOrders.{Follows, making}
 use Rattle.age_steps.specs.Endings.{EndsEarly}
 use Rattle.age_steps.specs.Orders.{order_asked, random_name}
-use Rattle.age_steps.specs.declared.ending.Ending.{Ending}
 use Rattle.age_steps.specs.declared.ending.Ending.TheVariants.{Usage}
 use Rattle.age_actions.specs.Encryptions.{EncryptsFile}
 use Rattle.age_actions.specs.Stops.{EncryptsStop, PortsOf}

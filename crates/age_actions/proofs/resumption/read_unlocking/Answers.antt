@@ -1,0 +1,48 @@
+use Rattle.std.proofs.Common.{◌∙◌, ◌++◌, refl, ap}
+use Rattle.age_steps.specs.Endings.{EndsEarly}
+use Rattle.age_steps.specs.declared.ending.Ending.{Ending}
+use Rattle.age_steps.specs.declared.ending.Ending.TheVariants.{Fault, Usage}
+use Rattle.age_actions.proofs.CommandSteps.{no_value, not_well, this_error, early_fault}
+use Rattle.age_actions.proofs.EventSteps.{followed, none_done}
+use Rattle.age_actions.proofs.resumption.read_unlocking.Goals as goal
+
+pub returns-in_err-name : goal.returns-in_err-name
+returns-in_err-name g c =
+    let r = c.from_residual.result in
+    let e : Ending = Usage c.in_err-name.field-0.0 in
+    let is = c.from_residual.ensures in
+    record {
+      told = refl;
+      kept = refl;
+      read = no_value r e is _;
+      apart = not_well r e is _;
+      noted = not_well r e is _;
+      follows = none_done _ _;
+      early = this_error r e is EndsEarly tt;
+    }
+
+pub returns-then-names_one_twice : goal.returns-then-names_one_twice
+returns-then-names_one_twice g c = record {
+  told = refl;
+  kept = refl;
+  read = tt;
+  apart = tt;
+  noted = tt;
+  follows = none_done _ _;
+  early = tt;
+}
+
+pub returns-in_err-read_secret : goal.returns-in_err-read_secret
+returns-in_err-read_secret g c =
+    let r = c.from_residual-in_err-read_secret.result in
+    let e : Ending = Fault c.in_err-read_secret.field-0.0 in
+    let is = c.from_residual-in_err-read_secret.ensures in
+    record {
+      told = c.in_err-read_secret.ensures.told;
+      kept = c.in_err-read_secret.ensures.kept;
+      read = no_value r e is _;
+      apart = not_well r e is _;
+      noted = not_well r e is _;
+      follows = followed _ _ _ (c.in_err-read_secret.ensures.noted ∙ ap (λ o. g.F.FileSet.events c.args.files.now ++ o) c.in_ok-name.ensures.one);
+      early = this_error r e is EndsEarly (early_fault _ c.in_err-read_secret.ensures.faults);
+    }
