@@ -1,5 +1,5 @@
 -- A file's front, and what of the file was written.
-use Rattle.std.proofs.Common.{◌≡◌, ℕ, refl, sym, ap, subst, ◌∙◌, List, [], ◌++◌, length, append_assoc, arith}
+use Rattle.std.proofs.Common.{◌≡◌, ℕ, refl, sym, ap, subst, ◌∙◌, List, [], ◌++◌, length, append_assoc, append-nil, arith, Result, Ok, Err, IfOk, IfErr}
 use Rattle.std.proofs.lemmas.List.{length-append}
 use Rattle.std.specs.Io.KnownBytes.{Consumes, Appends}
 use Rattle.std.proofs.KnownBytes.{Consumes-nil}
@@ -8,9 +8,13 @@ use Rattle.age_keys.specs.Keys.{header_mac, IsMacOf}
 use Rattle.age_keys.specs.Scrypt.{scrypt_head}
 use Rattle.age_file.specs.AgeFile.{box}
 use Rattle.age_file.specs.Encrypts.{AgeFile, Encrypts, EncryptsFront, EncryptFails, WhyStopped}
-use Rattle.age_file.specs.inner.Encrypts.{BeginsFile}
+use Rattle.age_file.specs.inner.Encrypts.{BeginsFile, FrontFails, WritesFront}
+use Rattle.age_file.specs.declared.encryption.Written.{Written}
+use Rattle.age_fault.specs.Writes.{Writes}
+use Rattle.age_io.specs.Views.{SourceView}
+use Rattle.age_file.specs.inner.Readers.{WriterView}
 use Rattle.age_fault.specs.Faults.{HasRisen}
-use Rattle.age_file.specs.Ports.{Ports}
+use Rattle.age_file.specs.Ports.{Ports, ports}
 use Rattle.age_file.specs.inner.Seals.{SealingFails, SealsAll, SealsFront}
 use Rattle.age_file.specs.Secrets.{SecretView}
 use Rattle.age_fault.specs.declared.fault.FileFault.{FileFault}
@@ -57,9 +61,8 @@ module _ (s : SecretView) (front : List ℕ) (begins : BeginsFile s front) where
   module _ (old mid new : Ports) (mid_written new_written : ℕ) (coming : mid.source.remaining ≡ old.source.remaining) (read_failed : mid.source.failed
       ≡ old.source.failed) (write_failed : mid.sink.failed ≡ old.sink.failed)
       (wrote : Appends old.sink.taken mid.sink.taken front) (count : mid_written ≡ length front) where
-    pub sealed_all : (plain : ℕ) → SealsAll (box s.key s.nonce) 65536 mid new mid_written new_written plain
-        → Encrypts s old new (record { plain = plain; file = new_written })
-    sealed_all plain a =
+    sealed_all : (w : Written) → w.file ≡ new_written → SealsAll (box s.key s.nonce) 65536 mid new mid_written new_written w.plain → Encrypts s old new w
+    sealed_all w all a =
         record {
           text = a.text;
           file = front ++ payload (box s.key s.nonce) 65536 a.text;
@@ -69,9 +72,14 @@ module _ (s : SecretView) (front : List ℕ) (begins : BeginsFile s front) where
           at_end = a.at_end;
           wrote = Appends-then old.sink.taken mid.sink.taken new.sink.taken front (payload (box s.key s.nonce) 65536 a.text) wrote a.moved.wrote;
           plain_is = a.plain_is;
-          file_is = omega (arith, a.moved.count, count, length-append front (payload (box s.key s.nonce) 65536 a.text));
+          file_is = omega (arith, all, a.moved.count, count, length-append front (payload (box s.key s.nonce) 65536 a.text));
           none_failed = (a.none_failed.0 ∙ read_failed, a.none_failed.1 ∙ write_failed);
         }
+
+    pub file_done : (result : Result Written FileFault) → IfOk result (λ w. w.file ≡ new_written)
+        → IfOk result (λ w. SealsAll (box s.key s.nonce) 65536 mid new mid_written new_written w.plain) → IfOk result (Encrypts s old new)
+    file_done (Ok w) all a = sealed_all w all a
+    file_done (Err fault) all a = tt
 
     why_stopped : (text : List ℕ) (fault : FileFault) → SealingFails 65536 mid new text fault → WhyStopped old new text fault
     why_stopped text (Stream fault) f = (omega (arith, f.0), f.1)
@@ -101,7 +109,7 @@ module _ (s : SecretView) (front : List ℕ) (begins : BeginsFile s front) where
           why = why_stopped a.text fault a.fails;
         }
 
-    pub sealing_stopped : (fault : FileFault) → SealsFront (box s.key s.nonce) 65536 mid new mid_written new_written fault → EncryptFails s old new fault
+    sealing_stopped : (fault : FileFault) → SealsFront (box s.key s.nonce) 65536 mid new mid_written new_written fault → EncryptFails s old new fault
     sealing_stopped Memory a = absurd a.fails
     sealing_stopped (Stream fault) a = stopped (Stream fault) a
     sealing_stopped Read a = stopped Read a
@@ -115,3 +123,40 @@ module _ (s : SecretView) (front : List ℕ) (begins : BeginsFile s front) where
     sealing_stopped ShortText a = stopped ShortText a
     sealing_stopped PositionForged a = stopped PositionForged a
     sealing_stopped OldTextDiffers a = stopped OldTextDiffers a
+
+    pub file_stopped : (result : Result Written FileFault) → IfErr result (SealsFront (box s.key s.nonce) 65536 mid new mid_written new_written)
+        → IfErr result (EncryptFails s old new)
+    file_stopped (Ok w) a = tt
+    file_stopped (Err fault) a = sealing_stopped fault a
+
+-- what stands before the payload was not written
+pub front_fails : (s : SecretView) (source : SourceView) (was now : WriterView) (fault : FileFault) → FrontFails s was now fault
+    → EncryptFails s (ports source was.sink) (ports source now.sink) fault
+front_fails s source was now Memory f = ap (λ w. ports source w.sink) f
+front_fails s source was now Write f =
+    front_cut s f.front f.begins (ports source was.sink) (ports source now.sink) refl f.failed f.out f.unwritten f.parts f.wrote
+front_fails s source was now other f = absurd f
+
+-- all of it was, or a front of it
+pub front_written : (s : SecretView) (was now : WriterView) (bytes : List ℕ) → BeginsFile s bytes → was.progress.written ≡ 0
+    → (result : Result (Unit {0}) FileFault) → Writes was.sink now.sink was.progress.written now.progress.written bytes result
+    → IfErr result (λ fault. fault ≡ Write) → WritesFront s was now result
+front_written s was now bytes begins zero (Ok done) put is =
+    let whole : put.out ≡ bytes = sym (put.parts ∙ ap (λ (t : List ℕ). put.out ++ t) put.answered.0 ∙ append-nil put.out) in
+    record {
+      front = bytes;
+      begins = begins;
+      wrote = subst (λ (t : List ℕ). Appends was.sink.taken now.sink.taken t) whole put.wrote;
+      count = omega (arith, put.count, zero, ap length whole);
+      failed = put.answered.1;
+    }
+front_written s was now bytes begins zero (Err fault) put is =
+    subst (λ (f : FileFault). FrontFails s was now f) (sym is) (record {
+      front = bytes;
+      begins = begins;
+      out = put.out;
+      unwritten = put.unwritten;
+      parts = put.parts;
+      wrote = put.wrote;
+      failed = put.answered;
+    })

@@ -5,6 +5,7 @@ pub mod Counts
 pub mod Decrypts
 pub mod Encrypts
 pub mod Faults
+pub mod Fronts
 pub mod Intakes
 pub mod Payloads
 pub mod PositionTexts

@@ -2,7 +2,8 @@
 
 ghost use Rattle.std.specs.Prelude.{◌≡◌, IfOk, OnOk, IfErr, true};
 ghost use Rattle.age_file.specs.Encrypts.{Encrypts, EncryptFails};
-ghost use Rattle.age_file.specs.inner.Encrypts.{BeginsFile};
+ghost use Rattle.age_file.specs.inner.Encrypts.{BeginsFile, WritesFront};
+ghost use Rattle.age_file.specs.inner.Readers.{view_of_writer, SameWriter};
 ghost use Rattle.age_file.specs.Ports.{ports};
 ghost use Rattle.age_fault.specs.declared.fault.FileFault.TheVariants.{Memory};
 
@@ -40,6 +41,24 @@ fn front_of(alloc: Global, secret: &Secret<'_>) -> Result<Vec<u8>, FileFault>
     Ok(front)
 }
 
+/// Writes what stands before the payload.
+fn write_front<O: Sink>(
+    alloc: Global,
+    secret: &Secret<'_>,
+    writer: &mut Writer<'_, O>,
+) -> Result<(), FileFault>
+    requires { writer.old.progress.written ≡ 0 }
+    ensures wrote { WritesFront secret.now (view_of_writer O.view writer.old)
+        (view_of_writer O.view writer.new) result }
+    ensures named { (O.view writer.new.sink.now).label ≡ (O.view writer.old.sink.now).label }
+    ensures same { SameWriter writer.old writer.new }
+{
+    match front_of(alloc, secret) {
+        Ok(front) => write_all(writer.sink, front.as_slice(), &mut writer.progress.written),
+        Err(fault) => Err(fault),
+    }
+}
+
 /// Encrypts all that a source gives under a passphrase, into an age file (<https://c2sp.org/age>):
 /// the header with one scrypt stanza, the payload nonce, and the payload in chunks of 65,536 bytes.
 /// Flushes at the end.
@@ -61,22 +80,21 @@ pub fn encrypt<S: Source, O: Sink>(
     ensures settled { OnOk result ((O.view writer.new).settled ≡ true) }
     ensures named { (O.view writer.new).label ≡ (O.view writer.old).label }
 {
-    let front = front_of(alloc, secret)?;
-    let mut intake = Intake::new(alloc)?;
-    let key = payload_key(&FileKey::new(secret.file_key), &secret.payload_nonce);
-    let mut progress = Progress::new(Positions::Dropped);
-    write_all(writer, front.as_slice(), &mut progress.written)?;
+    let Ok(mut intake) = Intake::new(alloc) else {
+        return Err(FileFault::Memory);
+    };
     let mut reader = Reader {
         source: reader,
         intake: &mut intake,
     };
     let mut writer = Writer {
         sink: writer,
-        progress,
+        progress: Progress::new(Positions::Dropped),
     };
-    let plain = seal_all(&key, &mut reader, &mut writer)?;
-    Ok(Written {
-        plain,
-        file: writer.progress.written,
-    })
+    match write_front(alloc, secret, &mut writer) {
+        Ok(()) => {}
+        Err(fault) => return Err(fault),
+    }
+    let key = payload_key(&FileKey::new(secret.file_key), &secret.payload_nonce);
+    seal_all(&key, &mut reader, &mut writer)
 }

@@ -1,16 +1,18 @@
 //! Reads the header at the beginning of a source.
 
-ghost use Rattle.std.specs.Prelude.{◌≡◌, ◌≢◌, [], IfOk, IfErr, OnOk};
+ghost use Rattle.std.specs.Prelude.{◌≡◌, ◌≢◌, ℕ, List, [], IfOk, IfErr, OnOk};
 ghost use Rattle.age_fault.specs.declared.fault.FileFault.TheVariants.{Memory};
 ghost use Rattle.age_file.specs.Faults.{HeadFails, StopsAtHeader};
 ghost use Rattle.age_file.specs.inner.Faults.{IsInHeader};
 ghost use Rattle.age_file.specs.inner.Readers.{view_of_reader, SameReader};
 ghost use Rattle.age_file.specs.inner.Intakes.{ReadsHead};
+ghost use Rattle.age_file.specs.inner.Fronts.{IsReading, IsFront, TakesFront, head_of};
 
+use crate::intake::Intake;
 use crate::reader::Reader;
 use age_fault::FileFault;
 use age_io::Source;
-use age_stanza::{HeadParser, HeadStep, Header};
+use age_stanza::{HeadFault, HeadParser, HeadStep, Header};
 use sha2::{Digest, Sha256};
 use std::alloc::Global;
 
@@ -20,6 +22,66 @@ pub(crate) struct Head {
     pub(crate) header: Header,
     pub(crate) len: u64,
     pub(crate) digest: Sha256,
+}
+
+/// The text of a header that is being read: what parses it, its length so far in bytes, and the
+/// digest that was fed it.
+#[derive(Drop)]
+struct Front {
+    parser: HeadParser,
+    len: u64,
+    digest: Sha256,
+}
+
+impl Front {
+    /// Takes the bytes that were pulled, up to the header's end. Those behind it stay.
+    fn take(&mut self, intake: &mut Intake) -> Result<Option<Header>, HeadFault>
+        requires { IsReading self.old }
+        ensures { (held : List ℕ) → IsFront self.old held
+            → TakesFront held intake.old intake.new self.new result }
+    {
+        let piece = intake.bytes();
+        match self.parser.feed(piece) {
+            Ok(HeadStep::More) => {
+                self.len += piece.len() as u64;
+                self.digest.update(piece);
+                intake.use_all();
+                Ok(None)
+            }
+            Ok(HeadStep::Ready { taken, header }) => {
+                self.len += taken as u64;
+                self.digest.update(&piece[..taken]);
+                intake.use_front(taken);
+                Ok(Some(header))
+            }
+            Err(fault) => Err(fault),
+        }
+    }
+
+    /// Pulls and takes, up to the header's end.
+    fn read<S: Source>(&mut self, reader: &mut Reader<'_, S>) -> Result<Header, FileFault>
+        requires fresh { IsFront self.old [] }
+        requires unread { (reader.old.intake.now.bytes ≡ []) × (reader.old.intake.now.pulls ≡ 0) }
+        ensures found { IfOk result (λ header. ReadsHead (S.view reader.old.source.now)
+            (view_of_reader S.view reader.new) (head_of header self.new)) }
+        ensures last { OnOk result (StopsAtHeader (S.view reader.old.source.now).remaining
+            (S.view reader.new.source.now).remaining) }
+        ensures unfailed { OnOk result ((S.view reader.new.source.now).failed ≡
+            (S.view reader.old.source.now).failed) }
+        ensures fails { IfErr result (HeadFails (S.view reader.old.source.now)
+            (S.view reader.new.source.now)) }
+        ensures early { IfErr result (λ fault. fault ≢ Memory
+            → IsInHeader (S.view reader.old.source.now).remaining
+            (S.view reader.new.source.now).remaining) }
+        ensures same { SameReader reader.old reader.new }
+    {
+        'pieces: while reader.intake.refill(reader.source)? {
+            if let Some(header) = self.take(reader.intake)? {
+                return Ok(header);
+            }
+        }
+        Err(FileFault::from(self.parser.end()))
+    }
 }
 
 /// Reads a header. The bytes that follow it and were pulled with it are left in the intake.
@@ -41,28 +103,17 @@ pub(crate) fn read_head<S: Source>(
         (S.view reader.new.source.now).remaining) }
     ensures same { SameReader reader.old reader.new }
 {
-    let mut parser = HeadParser::new(alloc);
-    let mut digest = Sha256::new();
-    let mut len = 0;
-    'pieces: while reader.intake.refill(reader.source)? {
-        let piece = reader.intake.bytes();
-        match parser.feed(piece)? {
-            HeadStep::More => {
-                len += piece.len() as u64;
-                digest.update(piece);
-                reader.intake.use_all();
-            }
-            HeadStep::Ready { taken, header } => {
-                len += taken as u64;
-                digest.update(&piece[..taken]);
-                reader.intake.use_front(taken);
-                return Ok(Head {
-                    header,
-                    len,
-                    digest,
-                });
-            }
-        }
+    let mut front = Front {
+        parser: HeadParser::new(alloc),
+        len: 0,
+        digest: Sha256::new(),
+    };
+    match front.read(reader) {
+        Ok(header) => Ok(Head {
+            header,
+            len: front.len,
+            digest: front.digest,
+        }),
+        Err(fault) => Err(fault),
     }
-    Err(FileFault::from(parser.end()))
 }

@@ -8,7 +8,7 @@ use crate::position::{Positions, next_link};
 
 /// How far a run has come: how many bytes it wrote, how many whole chunks before the last these
 /// make from the start of the text, and the chain over those, where positions are kept.
-#[derive(Clone, Copy, Debug, PartialEq, Eq)]
+#[derive(Clone, Copy)]
 pub(crate) struct Progress {
     pub(crate) written: u128,
     pub(crate) index: u64,

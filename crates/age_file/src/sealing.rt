@@ -6,6 +6,7 @@ ghost use Rattle.age_file.specs.inner.Readers.{view_of_writer, ports_of, SameRea
 ghost use Rattle.age_file.specs.inner.Seals.{IsFeeding, HasRoom, SealsOnce, SealsPiece, SealsLast};
 ghost use Rattle.age_file.specs.inner.Seals.{SealsAll, SealsFront};
 
+use crate::encryption::Written;
 use crate::reader::{Reader, Writer};
 use age_fault::{FileFault, flush_all, write_all};
 use age_io::{Sink, Source};
@@ -90,18 +91,19 @@ fn finish<O: Sink>(
 }
 
 /// Writes the payload of what a source gives, up to its end, flushes, and returns how many bytes
-/// the source gave.
+/// the source gave, and how many were written with those before.
 pub(crate) fn seal_all<S: Source, O: Sink>(
     key: &PayloadKey,
     reader: &mut Reader<'_, S>,
     writer: &mut Writer<'_, O>,
-) -> Result<u128, FileFault>
+) -> Result<Written, FileFault>
     requires unread { (reader.old.intake.now.bytes ≡ []) × (reader.old.intake.now.pulls ≡ 0) }
     requires room { writer.old.progress.written ≤ 2 ^ 126 }
-    ensures sealed { IfOk result (SealsAll (seals key.now) 65536
+    ensures sealed { IfOk result (λ w. SealsAll (seals key.now) 65536
         (ports_of S.view O.view reader.old writer.old)
         (ports_of S.view O.view reader.new writer.new) writer.old.progress.written
-        writer.new.progress.written) }
+        writer.new.progress.written w.plain) }
+    ensures counted { IfOk result (λ w. w.file ≡ writer.new.progress.written) }
     ensures fails { IfErr result (SealsFront (seals key.now) 65536
         (ports_of S.view O.view reader.old writer.old)
         (ports_of S.view O.view reader.new writer.new) writer.old.progress.written
@@ -118,6 +120,11 @@ pub(crate) fn seal_all<S: Source, O: Sink>(
         plain += reader.intake.bytes().len() as u128;
         reader.intake.use_all();
     }
-    finish(&mut sealer, writer)?;
-    Ok(plain)
+    match finish(&mut sealer, writer) {
+        Ok(()) => Ok(Written {
+            plain,
+            file: writer.progress.written,
+        }),
+        Err(fault) => Err(fault),
+    }
 }

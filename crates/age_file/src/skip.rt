@@ -20,8 +20,10 @@ fn skip_block<S: Source>(reader: &mut Reader<'_, S>) -> Result<bool, FileFault>
 {
     let mut left = BLOCK;
     'parts: while left > 0 {
-        if !some_bytes(reader)? {
-            return Ok(false);
+        match some_bytes(reader) {
+            Ok(true) => {}
+            Ok(false) => return Ok(false),
+            Err(fault) => return Err(fault),
         }
         let n = left.min(reader.intake.bytes().len());
         reader.intake.use_front(n);

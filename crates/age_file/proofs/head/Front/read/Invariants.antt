@@ -1,21 +1,14 @@
-use Rattle.std.proofs.Common.{◌-◌, ◌^◌, ◌≡◌, ◌<◌, ℕ, [], List, length}
-use Rattle.sha2.specs.Hashers.{Holds256}
-use Rattle.age_stanza.specs.Faults.{HasHeader, NoFault}
-use Rattle.age_stanza.specs.Parsing.{reading}
+use Rattle.std.proofs.Common.{◌-◌, ◌^◌, ◌≡◌, ℕ, [], List}
+use Rattle.age_file.specs.inner.Fronts.{IsFront}
 use Rattle.age_file.specs.inner.Intakes.{Pulled}
 use Rattle.age_file.specs.inner.Readers.{SameReader}
-use Rattle.age_file.proofs.head.read_head.Given as goal
+use Rattle.age_file.proofs.head.Front.read.Given as goal
 
 abbrev pub invariant-pieces : goal.invariant-pieces
 invariant-pieces g l = record {
   same : SameReader l.fn.reader l.reader;
   held : List ℕ;
-  parser_is : l.parser ≡ reading held;
-  len_is : l.len ≡ length held;
-  hashed : Holds256 l.digest held;
-  short : length held < 1048576;
-  none : HasHeader held → ⊥;
-  sound : NoFault held;
+  front : IsFront l.self held;
   pulled : Pulled (g.S.Source.view l.fn.reader.source.now).remaining (g.S.Source.view l.reader.source.now).remaining l.reader.intake.now.pulls held;
   unread : l.reader.intake.now.bytes ≡ [];
   unfailed : (g.S.Source.view l.reader.source.now).failed ≡ (g.S.Source.view l.fn.reader.source.now).failed;

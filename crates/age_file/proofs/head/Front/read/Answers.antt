@@ -1,0 +1,74 @@
+use Rattle.std.proofs.Common.{◌++◌, ◌∙◌, refl, take}
+use Rattle.std.proofs.lemmas.Result.{err_from_is_err_and}
+use Rattle.age_file.proofs.Bytes.{piece_fails, piece_early, end_fails, stops_at, stops_at_held, cut_pulled, head_pulled}
+use Rattle.age_file.proofs.head.Front.read.Goals as goal
+
+pub returns-clause-fails : goal.returns-clause-fails
+returns-clause-fails g c =
+    let kept = c.pieces.invariant in
+    let r = rw c.if-branch.false at c.in_ok-refill.ensures in
+    let cuts = rw kept.front.parser_is at c.end.ensures in
+    let all = cut_pulled _ _ _ kept.held _ r.answered.0 (r.pulled _ kept.held kept.pulled) in
+    rw c.from.ensures (end_fails _ _ kept.held c.end.result (stops_at_held _ _ kept.held all.consumed kept.front.none kept.front.sound) all.consumed
+    r.answered.2 cuts.2 (cuts.3, kept.front.short, cuts.0))
+
+pub returns-in_err-refill-clause-early : goal.returns-in_err-refill-clause-early
+returns-in_err-refill-clause-early g c =
+    let p = err_from_is_err_and c.from_residual.result c.from_residual.ensures.1 in
+    let kept = c.pieces.invariant in
+    let all = cut_pulled _ _ _ kept.held _ c.in_err-refill.ensures.answered.0 (c.in_err-refill.ensures.pulled _ kept.held kept.pulled) in
+    rw p.1 (λ not. (kept.held, all.consumed, kept.front.none))
+
+pub take-requires : goal.take-requires
+take-requires g c = (c.pieces.invariant.held, c.pieces.invariant.front)
+
+pub returns-in_err-header-clause-fails : goal.returns-in_err-header-clause-fails
+returns-in_err-header-clause-fails g c =
+    let p = err_from_is_err_and c.from_residual-in_err-header.result c.from_residual-in_err-header.ensures.1 in
+    let kept = c.pieces.invariant in
+    let r = rw c.if-branch.true at c.in_ok-refill.ensures in
+    let all = c.refill.ensures.pulled _ kept.held kept.pulled in
+    rw (p.1, p.2) (piece_fails _ _ kept.held c.refill.new.self.bytes c.in_err-header.field-0.0 r.answered.1 kept.front.none kept.front.sound all.consumed
+    (c.in_err-header.ensures kept.held kept.front))
+
+pub returns-in_err-header-clause-early : goal.returns-in_err-header-clause-early
+returns-in_err-header-clause-early g c =
+    let p = err_from_is_err_and c.from_residual-in_err-header.result c.from_residual-in_err-header.ensures.1 in
+    let kept = c.pieces.invariant in
+    let all = c.refill.ensures.pulled _ kept.held kept.pulled in
+    rw p.1 (piece_early _ _ kept.held c.refill.new.self.bytes c.in_err-header.field-0.0 p.0 p.2 all.consumed (c.in_err-header.ensures kept.held kept.front))
+
+pub returns-in-Some-clause-found : goal.returns-in-Some-clause-found
+returns-in-Some-clause-found g c =
+    let kept = c.pieces.invariant in
+    let all = c.refill.ensures.pulled _ kept.held kept.pulled in
+    let ends = rw c.in-Some.is at (c.in_ok-header.ensures kept.held kept.front) in
+    let bytes = c.refill.new.self.bytes in
+    record {
+      front = kept.held ++ take ends.taken bytes;
+      text = ends.text;
+      len_is = ends.len_is;
+      hashed = ends.hashed;
+      pulled = head_pulled _ _ c.refill.new.self c.take.new.intake kept.held bytes ends.taken ends.pulls refl ends.rest all;
+    }
+
+pub returns-in-Some-clause-last : goal.returns-in-Some-clause-last
+returns-in-Some-clause-last g c =
+    let kept = c.pieces.invariant in
+    let r = rw c.if-branch.true at c.in_ok-refill.ensures in
+    let all = c.refill.ensures.pulled _ kept.held kept.pulled in
+    stops_at _ _ kept.held c.refill.new.self.bytes r.answered.1 kept.front.none kept.front.sound all.consumed
+
+pub pieces-preserved : goal.pieces-preserved
+pieces-preserved g c =
+    let kept = c.pieces.invariant in
+    let r = rw c.if-branch.true at c.in_ok-refill.ensures in
+    let goes = rw c.in_default.is at (c.in_ok-header.ensures kept.held kept.front) in
+    record {
+      same = kept.same;
+      held = kept.held ++ c.refill.new.self.bytes;
+      front = goes.0;
+      pulled = rw goes.2 (c.refill.ensures.pulled _ kept.held kept.pulled);
+      unread = goes.1;
+      unfailed = r.answered.4 ∙ kept.unfailed;
+    }
