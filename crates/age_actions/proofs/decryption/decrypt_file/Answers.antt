@@ -1,15 +1,14 @@
-use Rattle.std.proofs.Common.{◌∙◌, ◌∷◌, [], inr, refl, ap, sym, true≢false, Some}
+use Rattle.std.proofs.Common.{◌∙◌, ◌∷◌, [], inl, inr, refl, ap, sym, true≢false, Some}
 use Rattle.age_commands.specs.Requests.{text_of}
 use Rattle.age_commands.specs.declared.request.Request.TheVariants.{Decrypt}
 use Rattle.age_fileset.specs.Events.{Opened, Created, Closed}
 use Rattle.age_steps.specs.EventOrders.{Follows, identity_order, making, replacing}
-use Rattle.age_steps.specs.Endings.{EndsEarly}
 use Rattle.age_steps.specs.Identities.{options_asked}
 use Rattle.age_steps.specs.Orders.{order_asked}
+use Rattle.age_steps.specs.declared.ending.Ending.{Ending}
 use Rattle.age_steps.specs.declared.ending.Ending.TheVariants.{Usage}
-use Rattle.age_actions.specs.Decryptions.{DecryptsFile}
-use Rattle.age_actions.specs.Stops.{DecryptsStop, PortsOf}
-use Rattle.age_actions.proofs.CommandSteps.{ended_early}
+use Rattle.age_actions.specs.Stops.{PortsOf}
+use Rattle.age_actions.proofs.CommandSteps.{not_well, this_error}
 use Rattle.age_actions.proofs.DecryptionSteps.{decrypted, decryption_stopped}
 use Rattle.age_actions.proofs.EventSteps.{followed, longer, then_did, then_follows}
 use Rattle.age_actions.proofs.decryption.decrypt_file.Goals as goal
@@ -17,79 +16,68 @@ use Rattle.age_actions.proofs.decryption.decrypt_file.Goals as goal
 pub returns-in_err-secret : goal.returns-in_err-secret
 returns-in_err-secret g c =
     let d = c.args.asked.now in
-    let entry = g.F.FileSet.entry in
     let events = g.F.FileSet.events in
+    let ending = c.from_residual.result in
+    let e : Ending = c.in_err-secret.field-0.0 in
+    let is = c.from_residual.ensures in
     let kept = c.in_err-secret.ensures.kept in
     let follows : Follows (order_asked (Decrypt d)).done (events c.args.files.now) (events c.read_unlocking.new.files) =
     longer _ (Opened d.from.now ∷ making (Some d.to.now)) _ _ c.in_err-secret.ensures.follows in
-    let ran = ended_early (DecryptsFile (options_asked d.unlocking) d.from.now d.to.now (entry c.args.files.now) (entry c.read_unlocking.new.files)) EndsEarly
-    (DecryptsStop (PortsOf g.F.In.Source.view g.F.Out.Sink.view) (options_asked d.unlocking) d.from.now d.to.now (text_of d.save)
-    (entry c.args.files.now) (entry c.read_unlocking.new.files)) (g.F.FileSet.tells c.args.files.now) (entry c.args.files.now) (entry c.read_unlocking.new.files)
-    (order_asked (Decrypt d)) (events c.args.files.now) (events c.read_unlocking.new.files) c.from_residual.result c.in_err-secret.field-0.0 c.from_residual.ensures
-    c.in_err-secret.ensures.early kept follows
-    (λ told usage. c.in_err-secret.ensures.follows) in
     record {
-      done = ran.did;
-      stops = ran.stops;
-      usage = ran.usage;
+      done = not_well ending e is _;
+      stops = this_error ending e is _ (λ told. inl (kept, c.in_err-secret.ensures.early));
+      usage = this_error ending e is _ (λ usage. kept);
       spares = λ told q other unsaved. ap (λ f. f q) kept;
       order = longer _ (replacing (text_of d.save)) _ _ follows;
-      order_done = ran.done;
-      order_usage = ran.done_usage;
-      order_told = ran.judged;
+      order_done = not_well ending e is _;
+      order_usage = this_error ending e is _ (λ usage. follows);
+      order_told = λ told. this_error ending e is _ (λ usage. c.in_err-secret.ensures.follows);
       silent = λ silent. refl;
     }
 
 pub returns-in_err-identity : goal.returns-in_err-identity
 returns-in_err-identity g c =
     let d = c.args.asked.now in
-    let entry = g.F.FileSet.entry in
     let events = g.F.FileSet.events in
+    let ending = c.from_residual-in_err-identity.result in
+    let e : Ending = Usage c.in_err-identity.field-0.0 in
+    let is = c.from_residual-in_err-identity.ensures in
     let kept = c.in_ok-secret.ensures.kept in
     let follows : Follows (order_asked (Decrypt d)).done (events c.args.files.now) (events c.read_unlocking.new.files) =
     longer _ (Opened d.from.now ∷ making (Some d.to.now)) _ _ c.in_ok-secret.ensures.follows in
-    let ran = ended_early (DecryptsFile (options_asked d.unlocking) d.from.now d.to.now (entry c.args.files.now) (entry c.read_unlocking.new.files)) EndsEarly
-    (DecryptsStop (PortsOf g.F.In.Source.view g.F.Out.Sink.view) (options_asked d.unlocking) d.from.now d.to.now (text_of d.save)
-    (entry c.args.files.now) (entry c.read_unlocking.new.files)) (g.F.FileSet.tells c.args.files.now) (entry c.args.files.now) (entry c.read_unlocking.new.files)
-    (order_asked (Decrypt d)) (events c.args.files.now) (events c.read_unlocking.new.files) c.from_residual-in_err-identity.result (Usage c.in_err-identity.field-0.0) c.from_residual-in_err-identity.ensures
-    tt kept follows
-    (λ told usage. c.in_ok-secret.ensures.follows) in
     record {
-      done = ran.did;
-      stops = ran.stops;
-      usage = ran.usage;
+      done = not_well ending e is _;
+      stops = this_error ending e is _ (λ told. inl (kept, tt));
+      usage = this_error ending e is _ (λ usage. kept);
       spares = λ told q other unsaved. ap (λ f. f q) kept;
       order = longer _ (replacing (text_of d.save)) _ _ follows;
-      order_done = ran.done;
-      order_usage = ran.done_usage;
-      order_told = ran.judged;
+      order_done = not_well ending e is _;
+      order_usage = this_error ending e is _ (λ usage. follows);
+      order_told = λ told. this_error ending e is _ (λ usage. c.in_ok-secret.ensures.follows);
       silent = λ silent. refl;
     }
 
 pub returns-in_err-source : goal.returns-in_err-source
 returns-in_err-source g c =
     let d = c.args.asked.now in
-    let entry = g.F.FileSet.entry in
     let events = g.F.FileSet.events in
+    let ending = c.from_residual-in_err-source.result in
+    let e : Ending = c.in_err-source.field-0.0 in
+    let is = c.from_residual-in_err-source.ensures in
     let kept = c.in_err-source.ensures.kept ∙ c.in_ok-secret.ensures.kept in
     let follows : Follows (order_asked (Decrypt d)).done (events c.args.files.now) (events c.open_both.new.files) =
-    then_follows _ _ _ (identity_order (text_of d.unlocking.pass) (text_of d.unlocking.shared)) (Opened d.from.now ∷ making (Some d.to.now))
-    c.in_ok-secret.ensures.noted c.in_err-source.ensures.noted_err in
-    let ran = ended_early (DecryptsFile (options_asked d.unlocking) d.from.now d.to.now (entry c.args.files.now) (entry c.open_both.new.files)) EndsEarly
-    (DecryptsStop (PortsOf g.F.In.Source.view g.F.Out.Sink.view) (options_asked d.unlocking) d.from.now d.to.now (text_of d.save)
-    (entry c.args.files.now) (entry c.open_both.new.files)) (g.F.FileSet.tells c.args.files.now) (entry c.args.files.now) (entry c.open_both.new.files)
-    (order_asked (Decrypt d)) (events c.args.files.now) (events c.open_both.new.files) c.from_residual-in_err-source.result c.in_err-source.field-0.0 c.from_residual-in_err-source.ensures
-    c.in_err-source.ensures.early kept follows
-    (λ told usage. absurd (true≢false (sym usage ∙ c.in_err-source.ensures.usage (c.in_ok-secret.ensures.told ∙ told)))) in
+    then_follows _ _ _ (identity_order (text_of d.unlocking.pass) (text_of d.unlocking.shared))
+    (Opened d.from.now ∷ making (Some d.to.now)) c.in_ok-secret.ensures.noted c.in_err-source.ensures.noted_err in
     record {
-      done = ran.did;
-      stops = ran.stops;
-      usage = ran.usage;
+      done = not_well ending e is _;
+      stops = this_error ending e is _ (λ told. inl (kept, c.in_err-source.ensures.early));
+      usage = this_error ending e is _ (λ usage. kept);
       spares = λ told q other unsaved. ap (λ f. f q) kept;
       order = longer _ (replacing (text_of d.save)) _ _ follows;
-      order_done = ran.done;
-      order_usage = ran.done_usage;
-      order_told = ran.judged;
+      order_done = not_well ending e is _;
+      order_usage = this_error ending e is _ (λ usage. follows);
+      order_told = λ told. this_error ending e is _ (λ usage. absurd (true≢false (sym usage
+          ∙ c.in_err-source.ensures.usage (c.in_ok-secret.ensures.told ∙ told))));
       silent = λ silent. refl;
     }
 

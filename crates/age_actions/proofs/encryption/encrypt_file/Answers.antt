@@ -1,14 +1,13 @@
-use Rattle.std.proofs.Common.{◌∙◌, ◌∷◌, [], inr, refl, ap, sym, true≢false, Some}
+use Rattle.std.proofs.Common.{◌∙◌, ◌∷◌, [], inl, inr, refl, ap, sym, true≢false, Some}
 use Rattle.age_commands.specs.Requests.{text_of}
 use Rattle.age_commands.specs.declared.request.Request.TheVariants.{Encrypt}
 use Rattle.age_fileset.specs.Events.{Opened, Created, Closed}
 use Rattle.age_steps.specs.EventOrders.{Follows, making}
-use Rattle.age_steps.specs.Endings.{EndsEarly}
 use Rattle.age_steps.specs.Orders.{order_asked, random_name}
+use Rattle.age_steps.specs.declared.ending.Ending.{Ending}
 use Rattle.age_steps.specs.declared.ending.Ending.TheVariants.{Usage}
-use Rattle.age_actions.specs.Encryptions.{EncryptsFile}
-use Rattle.age_actions.specs.Stops.{EncryptsStop, PortsOf}
-use Rattle.age_actions.proofs.CommandSteps.{ended_early}
+use Rattle.age_actions.specs.Stops.{PortsOf}
+use Rattle.age_actions.proofs.CommandSteps.{not_well, this_error}
 use Rattle.age_actions.proofs.EncryptionSteps.{encrypted, encryption_stopped}
 use Rattle.age_actions.proofs.EventSteps.{followed, longer, then_did, then_follows}
 use Rattle.age_actions.proofs.encryption.encrypt_file.Goals as goal
@@ -16,79 +15,68 @@ use Rattle.age_actions.proofs.encryption.encrypt_file.Goals as goal
 pub returns-in_err-material : goal.returns-in_err-material
 returns-in_err-material g c =
     let a = c.args.asked.now in
-    let entry = g.F.FileSet.entry in
     let events = g.F.FileSet.events in
+    let ending = c.from_residual.result in
+    let e : Ending = c.in_err-material.field-0.0 in
+    let is = c.from_residual.ensures in
     let kept = c.in_err-material.ensures.kept in
     let follows : Follows (order_asked (Encrypt a)).done (events c.args.files.now) (events c.read_material.new.files) =
     longer _ (Opened a.from.now ∷ making (Some a.to.now)) _ _ c.in_err-material.ensures.follows in
-    let ran = ended_early (EncryptsFile a.pass.now a.log (text_of a.random) a.from.now a.to.now (entry c.args.files.now) (entry c.read_material.new.files)) EndsEarly
-    (EncryptsStop (PortsOf g.F.In.Source.view g.F.Out.Sink.view) a.pass.now a.log (text_of a.random) a.from.now a.to.now (entry c.args.files.now)
-    (entry c.read_material.new.files)) (g.F.FileSet.tells c.args.files.now) (entry c.args.files.now) (entry c.read_material.new.files) (order_asked (Encrypt a))
-    (events c.args.files.now) (events c.read_material.new.files) c.from_residual.result c.in_err-material.field-0.0 c.from_residual.ensures
-    c.in_err-material.ensures.early kept follows
-    (λ told usage. c.in_err-material.ensures.follows) in
     record {
-      done = ran.did;
-      stops = ran.stops;
-      usage = ran.usage;
+      done = not_well ending e is _;
+      stops = this_error ending e is _ (λ told. inl (kept, c.in_err-material.ensures.early));
+      usage = this_error ending e is _ (λ usage. kept);
       spares = λ told q other. ap (λ f. f q) kept;
       order = follows;
-      order_done = ran.done;
-      order_usage = ran.done_usage;
-      order_told = ran.judged;
+      order_done = not_well ending e is _;
+      order_usage = this_error ending e is _ (λ usage. follows);
+      order_told = λ told. this_error ending e is _ (λ usage. c.in_err-material.ensures.follows);
       silent = λ silent. refl;
     }
 
 pub returns-in_err-secret : goal.returns-in_err-secret
 returns-in_err-secret g c =
     let a = c.args.asked.now in
-    let entry = g.F.FileSet.entry in
     let events = g.F.FileSet.events in
+    let ending = c.from_residual-in_err-secret.result in
+    let e : Ending = Usage c.in_err-secret.field-0.0 in
+    let is = c.from_residual-in_err-secret.ensures in
     let kept = c.in_ok-material.ensures.kept in
     let follows : Follows (order_asked (Encrypt a)).done (events c.args.files.now) (events c.read_material.new.files) =
     longer _ (Opened a.from.now ∷ making (Some a.to.now)) _ _ c.in_ok-material.ensures.follows in
-    let ran = ended_early (EncryptsFile a.pass.now a.log (text_of a.random) a.from.now a.to.now (entry c.args.files.now) (entry c.read_material.new.files)) EndsEarly
-    (EncryptsStop (PortsOf g.F.In.Source.view g.F.Out.Sink.view) a.pass.now a.log (text_of a.random) a.from.now a.to.now (entry c.args.files.now)
-    (entry c.read_material.new.files)) (g.F.FileSet.tells c.args.files.now) (entry c.args.files.now) (entry c.read_material.new.files) (order_asked (Encrypt a))
-    (events c.args.files.now) (events c.read_material.new.files) c.from_residual-in_err-secret.result (Usage c.in_err-secret.field-0.0) c.from_residual-in_err-secret.ensures
-    tt kept follows
-    (λ told usage. c.in_ok-material.ensures.follows) in
     record {
-      done = ran.did;
-      stops = ran.stops;
-      usage = ran.usage;
+      done = not_well ending e is _;
+      stops = this_error ending e is _ (λ told. inl (kept, tt));
+      usage = this_error ending e is _ (λ usage. kept);
       spares = λ told q other. ap (λ f. f q) kept;
       order = follows;
-      order_done = ran.done;
-      order_usage = ran.done_usage;
-      order_told = ran.judged;
+      order_done = not_well ending e is _;
+      order_usage = this_error ending e is _ (λ usage. follows);
+      order_told = λ told. this_error ending e is _ (λ usage. c.in_ok-material.ensures.follows);
       silent = λ silent. refl;
     }
 
 pub returns-in_err-source : goal.returns-in_err-source
 returns-in_err-source g c =
     let a = c.args.asked.now in
-    let entry = g.F.FileSet.entry in
     let events = g.F.FileSet.events in
+    let ending = c.from_residual-in_err-source.result in
+    let e : Ending = c.in_err-source.field-0.0 in
+    let is = c.from_residual-in_err-source.ensures in
     let kept = c.in_err-source.ensures.kept ∙ c.in_ok-material.ensures.kept in
     let follows : Follows (order_asked (Encrypt a)).done (events c.args.files.now) (events c.open_both.new.files) =
-    then_follows _ _ _ (Opened a.pass.now ∷ Opened (random_name (text_of a.random)) ∷ []) (Opened a.from.now ∷ making (Some a.to.now))
-    c.in_ok-material.ensures.noted c.in_err-source.ensures.noted_err in
-    let ran = ended_early (EncryptsFile a.pass.now a.log (text_of a.random) a.from.now a.to.now (entry c.args.files.now) (entry c.open_both.new.files)) EndsEarly
-    (EncryptsStop (PortsOf g.F.In.Source.view g.F.Out.Sink.view) a.pass.now a.log (text_of a.random) a.from.now a.to.now (entry c.args.files.now)
-    (entry c.open_both.new.files)) (g.F.FileSet.tells c.args.files.now) (entry c.args.files.now) (entry c.open_both.new.files) (order_asked (Encrypt a))
-    (events c.args.files.now) (events c.open_both.new.files) c.from_residual-in_err-source.result c.in_err-source.field-0.0 c.from_residual-in_err-source.ensures
-    c.in_err-source.ensures.early kept follows
-    (λ told usage. absurd (true≢false (sym usage ∙ c.in_err-source.ensures.usage (c.in_ok-material.ensures.told ∙ told)))) in
+    then_follows _ _ _ (Opened a.pass.now ∷ Opened (random_name (text_of a.random)) ∷ [])
+    (Opened a.from.now ∷ making (Some a.to.now)) c.in_ok-material.ensures.noted c.in_err-source.ensures.noted_err in
     record {
-      done = ran.did;
-      stops = ran.stops;
-      usage = ran.usage;
+      done = not_well ending e is _;
+      stops = this_error ending e is _ (λ told. inl (kept, c.in_err-source.ensures.early));
+      usage = this_error ending e is _ (λ usage. kept);
       spares = λ told q other. ap (λ f. f q) kept;
       order = follows;
-      order_done = ran.done;
-      order_usage = ran.done_usage;
-      order_told = ran.judged;
+      order_done = not_well ending e is _;
+      order_usage = this_error ending e is _ (λ usage. follows);
+      order_told = λ told. this_error ending e is _ (λ usage. absurd (true≢false (sym usage
+          ∙ c.in_err-source.ensures.usage (c.in_ok-material.ensures.told ∙ told))));
       silent = λ silent. refl;
     }
 

@@ -5,11 +5,11 @@ use Rattle.age_fileset.specs.Events.{Opened, Created, Closed}
 use Rattle.age_steps.specs.EventOrders.{Follows, identity_order, making, replacing}
 use Rattle.age_steps.specs.Identities.{options_asked}
 use Rattle.age_steps.specs.Orders.{order_asked}
+use Rattle.age_steps.specs.declared.ending.Ending.{Ending}
 use Rattle.age_steps.specs.declared.ending.Ending.TheVariants.{Fault, Usage}
-use Rattle.age_actions.specs.Resumptions.{ResumesFile}
-use Rattle.age_actions.specs.Stops.{ResumesStop, PortsOf}
-use Rattle.age_actions.proofs.CommandSteps.{ended_early}
-use Rattle.age_actions.proofs.ResumptionSteps.{EndsBefore, bad_position, resumed, resumption_stopped}
+use Rattle.age_actions.specs.Stops.{PortsOf}
+use Rattle.age_actions.proofs.CommandSteps.{not_well, this_error}
+use Rattle.age_actions.proofs.ResumptionSteps.{bad_position, resumed, resumption_stopped}
 use Rattle.age_actions.proofs.EventSteps.{followed, longer, then_did, then_follows}
 use Rattle.age_actions.proofs.resumption.resume_file.Goals as goal
 
@@ -17,27 +17,22 @@ pub returns-in_err-secret : goal.returns-in_err-secret
 returns-in_err-secret g c =
     let r = c.args.asked.now in
     let d = r.decrypting in
-    let entry = g.F.FileSet.entry in
     let events = g.F.FileSet.events in
+    let ending = c.from_residual.result in
+    let e : Ending = c.in_err-secret.field-0.0 in
+    let is = c.from_residual.ensures in
     let kept = c.in_err-secret.ensures.kept in
     let follows : Follows (order_asked (Resume r)).done (events c.args.files.now) (events c.read_unlocking.new.files) =
     longer _ (Opened r.position.now ∷ Opened r.old.now ∷ Opened d.from.now ∷ making (Some d.to.now)) _ _ c.in_err-secret.ensures.follows in
-    let ran = ended_early (ResumesFile (options_asked d.unlocking) r.position.now r.old.now d.from.now d.to.now (entry c.args.files.now)
-    (entry c.read_unlocking.new.files)) EndsBefore (ResumesStop (PortsOf g.F.In.Source.view g.F.Out.Sink.view) (options_asked d.unlocking) r.position.now
-    r.old.now d.from.now d.to.now (text_of d.save) (entry c.args.files.now) (entry c.read_unlocking.new.files)) (g.F.FileSet.tells c.args.files.now)
-    (entry c.args.files.now) (entry c.read_unlocking.new.files) (order_asked (Resume r)) (events c.args.files.now) (events c.read_unlocking.new.files)
-    c.from_residual.result c.in_err-secret.field-0.0 c.from_residual.ensures
-    (inl c.in_err-secret.ensures.early) kept follows
-    (λ told usage. c.in_err-secret.ensures.follows) in
     record {
-      done = ran.did;
-      stops = ran.stops;
-      usage = ran.usage;
+      done = not_well ending e is _;
+      stops = this_error ending e is _ (λ told. inl (kept, inl c.in_err-secret.ensures.early));
+      usage = this_error ending e is _ (λ usage. kept);
       spares = λ told q other unsaved. ap (λ f. f q) kept;
       order = longer _ (replacing (text_of d.save)) _ _ follows;
-      order_done = ran.done;
-      order_usage = ran.done_usage;
-      order_told = ran.judged;
+      order_done = not_well ending e is _;
+      order_usage = this_error ending e is _ (λ usage. follows);
+      order_told = λ told. this_error ending e is _ (λ usage. c.in_err-secret.ensures.follows);
       silent = λ silent. refl;
     }
 
@@ -45,27 +40,22 @@ pub returns-in_err-identity : goal.returns-in_err-identity
 returns-in_err-identity g c =
     let r = c.args.asked.now in
     let d = r.decrypting in
-    let entry = g.F.FileSet.entry in
     let events = g.F.FileSet.events in
+    let ending = c.from_residual-in_err-identity.result in
+    let e : Ending = Usage c.in_err-identity.field-0.0 in
+    let is = c.from_residual-in_err-identity.ensures in
     let kept = c.in_ok-secret.ensures.kept in
     let follows : Follows (order_asked (Resume r)).done (events c.args.files.now) (events c.read_unlocking.new.files) =
     longer _ (Opened r.position.now ∷ Opened r.old.now ∷ Opened d.from.now ∷ making (Some d.to.now)) _ _ c.in_ok-secret.ensures.follows in
-    let ran = ended_early (ResumesFile (options_asked d.unlocking) r.position.now r.old.now d.from.now d.to.now (entry c.args.files.now)
-    (entry c.read_unlocking.new.files)) EndsBefore (ResumesStop (PortsOf g.F.In.Source.view g.F.Out.Sink.view) (options_asked d.unlocking) r.position.now
-    r.old.now d.from.now d.to.now (text_of d.save) (entry c.args.files.now) (entry c.read_unlocking.new.files)) (g.F.FileSet.tells c.args.files.now)
-    (entry c.args.files.now) (entry c.read_unlocking.new.files) (order_asked (Resume r)) (events c.args.files.now) (events c.read_unlocking.new.files)
-    c.from_residual-in_err-identity.result (Usage c.in_err-identity.field-0.0) c.from_residual-in_err-identity.ensures
-    (inl tt) kept follows
-    (λ told usage. c.in_ok-secret.ensures.follows) in
     record {
-      done = ran.did;
-      stops = ran.stops;
-      usage = ran.usage;
+      done = not_well ending e is _;
+      stops = this_error ending e is _ (λ told. inl (kept, inl tt));
+      usage = this_error ending e is _ (λ usage. kept);
       spares = λ told q other unsaved. ap (λ f. f q) kept;
       order = longer _ (replacing (text_of d.save)) _ _ follows;
-      order_done = ran.done;
-      order_usage = ran.done_usage;
-      order_told = ran.judged;
+      order_done = not_well ending e is _;
+      order_usage = this_error ending e is _ (λ usage. follows);
+      order_told = λ told. this_error ending e is _ (λ usage. c.in_ok-secret.ensures.follows);
       silent = λ silent. refl;
     }
 
@@ -73,28 +63,24 @@ pub returns-in_err-position : goal.returns-in_err-position
 returns-in_err-position g c =
     let r = c.args.asked.now in
     let d = r.decrypting in
-    let entry = g.F.FileSet.entry in
     let events = g.F.FileSet.events in
+    let ending = c.from_residual-in_err-position.result in
+    let e : Ending = Fault c.in_err-position.field-0.0 in
+    let is = c.from_residual-in_err-position.ensures in
     let kept = c.in_err-position.ensures.kept ∙ c.in_ok-secret.ensures.kept in
     let follows : Follows (order_asked (Resume r)).done (events c.args.files.now) (events c.open_earlier.new.files) =
-    then_follows _ _ _ (identity_order (text_of d.unlocking.pass) (text_of d.unlocking.shared)) (Opened r.position.now ∷ Opened r.old.now ∷ Opened d.from.now ∷ making (Some d.to.now))
-    c.in_ok-secret.ensures.noted (longer (Opened r.position.now ∷ Opened r.old.now ∷ []) (Opened d.from.now ∷ making (Some d.to.now)) _ _ c.in_err-position.ensures.follows) in
-    let ran = ended_early (ResumesFile (options_asked d.unlocking) r.position.now r.old.now d.from.now d.to.now (entry c.args.files.now)
-    (entry c.open_earlier.new.files)) EndsBefore (ResumesStop (PortsOf g.F.In.Source.view g.F.Out.Sink.view) (options_asked d.unlocking) r.position.now
-    r.old.now d.from.now d.to.now (text_of d.save) (entry c.args.files.now) (entry c.open_earlier.new.files)) (g.F.FileSet.tells c.args.files.now)
-    (entry c.args.files.now) (entry c.open_earlier.new.files) (order_asked (Resume r)) (events c.args.files.now) (events c.open_earlier.new.files)
-    c.from_residual-in_err-position.result (Fault c.in_err-position.field-0.0) c.from_residual-in_err-position.ensures
-    (bad_position _ c.in_err-position.ensures.faults) kept follows
-    (λ told usage. absurd (true≢false (sym usage))) in
+    then_follows _ _ _ (identity_order (text_of d.unlocking.pass) (text_of d.unlocking.shared))
+    (Opened r.position.now ∷ Opened r.old.now ∷ Opened d.from.now ∷ making (Some d.to.now)) c.in_ok-secret.ensures.noted
+    (longer (Opened r.position.now ∷ Opened r.old.now ∷ []) (Opened d.from.now ∷ making (Some d.to.now)) _ _ c.in_err-position.ensures.follows) in
     record {
-      done = ran.did;
-      stops = ran.stops;
-      usage = ran.usage;
+      done = not_well ending e is _;
+      stops = this_error ending e is _ (λ told. inl (kept, bad_position _ c.in_err-position.ensures.faults));
+      usage = this_error ending e is _ (λ usage. kept);
       spares = λ told q other unsaved. ap (λ f. f q) kept;
       order = longer _ (replacing (text_of d.save)) _ _ follows;
-      order_done = ran.done;
-      order_usage = ran.done_usage;
-      order_told = ran.judged;
+      order_done = not_well ending e is _;
+      order_usage = this_error ending e is _ (λ usage. follows);
+      order_told = λ told. this_error ending e is _ (λ usage. absurd (true≢false (sym usage)));
       silent = λ silent. refl;
     }
 
@@ -102,29 +88,26 @@ pub returns-in_err-source : goal.returns-in_err-source
 returns-in_err-source g c =
     let r = c.args.asked.now in
     let d = r.decrypting in
-    let entry = g.F.FileSet.entry in
     let events = g.F.FileSet.events in
+    let ending = c.from_residual-in_err-source.result in
+    let e : Ending = c.in_err-source.field-0.0 in
+    let is = c.from_residual-in_err-source.ensures in
     let kept = c.in_err-source.ensures.kept ∙ (c.in_ok-position.ensures.kept ∙ c.in_ok-secret.ensures.kept) in
     let follows : Follows (order_asked (Resume r)).done (events c.args.files.now) (events c.open_both.new.files) =
-    then_follows _ _ _ (identity_order (text_of d.unlocking.pass) (text_of d.unlocking.shared)) (Opened r.position.now ∷ Opened r.old.now ∷ Opened d.from.now ∷ making (Some d.to.now))
-    c.in_ok-secret.ensures.noted (then_follows _ _ _ (Opened r.position.now ∷ Opened r.old.now ∷ []) (Opened d.from.now ∷ making (Some d.to.now)) c.in_ok-position.ensures.noted c.in_err-source.ensures.noted_err) in
-    let ran = ended_early (ResumesFile (options_asked d.unlocking) r.position.now r.old.now d.from.now d.to.now (entry c.args.files.now)
-    (entry c.open_both.new.files)) EndsBefore (ResumesStop (PortsOf g.F.In.Source.view g.F.Out.Sink.view) (options_asked d.unlocking) r.position.now
-    r.old.now d.from.now d.to.now (text_of d.save) (entry c.args.files.now) (entry c.open_both.new.files)) (g.F.FileSet.tells c.args.files.now)
-    (entry c.args.files.now) (entry c.open_both.new.files) (order_asked (Resume r)) (events c.args.files.now) (events c.open_both.new.files)
-    c.from_residual-in_err-source.result c.in_err-source.field-0.0 c.from_residual-in_err-source.ensures
-    (inl c.in_err-source.ensures.early) kept follows
-    (λ told usage. absurd (true≢false (sym usage
-    ∙ c.in_err-source.ensures.usage (c.in_ok-position.ensures.told ∙ (c.in_ok-secret.ensures.told ∙ told))))) in
+    then_follows _ _ _ (identity_order (text_of d.unlocking.pass) (text_of d.unlocking.shared))
+    (Opened r.position.now ∷ Opened r.old.now ∷ Opened d.from.now ∷ making (Some d.to.now)) c.in_ok-secret.ensures.noted
+    (then_follows _ _ _ (Opened r.position.now ∷ Opened r.old.now ∷ []) (Opened d.from.now ∷ making (Some d.to.now)) c.in_ok-position.ensures.noted
+    c.in_err-source.ensures.noted_err) in
     record {
-      done = ran.did;
-      stops = ran.stops;
-      usage = ran.usage;
+      done = not_well ending e is _;
+      stops = this_error ending e is _ (λ told. inl (kept, inl c.in_err-source.ensures.early));
+      usage = this_error ending e is _ (λ usage. kept);
       spares = λ told q other unsaved. ap (λ f. f q) kept;
       order = longer _ (replacing (text_of d.save)) _ _ follows;
-      order_done = ran.done;
-      order_usage = ran.done_usage;
-      order_told = ran.judged;
+      order_done = not_well ending e is _;
+      order_usage = this_error ending e is _ (λ usage. follows);
+      order_told = λ told. this_error ending e is _ (λ usage. absurd (true≢false (sym usage
+          ∙ c.in_err-source.ensures.usage (c.in_ok-position.ensures.told ∙ (c.in_ok-secret.ensures.told ∙ told)))));
       silent = λ silent. refl;
     }
 
@@ -136,7 +119,8 @@ returns-in-Ok g c =
     let secret = c.in_ok-secret.ensures in
     let earlier = c.in_ok-position.ensures in
     let both = c.in_ok-source.ensures in
-    let done = then_did _ _ _ (identity_order (text_of d.unlocking.pass) (text_of d.unlocking.shared)) (Opened r.position.now ∷ Opened r.old.now ∷ Opened d.from.now ∷ making (Some d.to.now)) secret.noted
+    let done = then_did _ _ _ (identity_order (text_of d.unlocking.pass) (text_of d.unlocking.shared))
+    (Opened r.position.now ∷ Opened r.old.now ∷ Opened d.from.now ∷ making (Some d.to.now)) secret.noted
     (then_did _ _ _ (Opened r.position.now ∷ Opened r.old.now ∷ []) (Opened d.from.now ∷ making (Some d.to.now)) earlier.noted
     (then_did _ _ _ (Opened d.from.now ∷ Created d.to.now ∷ []) (Closed ∷ []) both.noted c.in-Ok.ensures.noted)) in
     record {
@@ -146,7 +130,8 @@ returns-in-Ok g c =
           let made = both.made t2 in
           resumed (options_asked d.unlocking) r.position.now r.old.now d.from.now d.to.now _ (entry c.args.files.now)
           (entry c.read_unlocking.new.files) (entry c.open_earlier.new.files) (entry c.open_both.new.files) (entry c.write_out.new.files)
-          c.in_ok-identity.identity c.in_ok-position.position _ _ (c.in_ok-identity.ensures (entry c.args.files.now) (secret.read told)) secret.kept earlier.kept
+          c.in_ok-identity.identity c.in_ok-position.position _ _ (c.in_ok-identity.ensures (entry c.args.files.now) (secret.read told)) secret.kept
+          earlier.kept
           both.kept (earlier.read t1) (earlier.found t1) (both.found t2) made.1 c.in-Ok.ensures.others
           (c.in-Ok.ensures.done (both.told ∙ t2) made.0);
       stops = tt;
@@ -171,7 +156,8 @@ returns g c =
     let both = c.in_ok-source.ensures in
     let stop = c.in-Err.stop in
     let ended = c.end_of.ensures in
-    let done = then_did _ _ _ (identity_order (text_of d.unlocking.pass) (text_of d.unlocking.shared)) (Opened r.position.now ∷ Opened r.old.now ∷ Opened d.from.now ∷ making (Some d.to.now)) secret.noted
+    let done = then_did _ _ _ (identity_order (text_of d.unlocking.pass) (text_of d.unlocking.shared))
+    (Opened r.position.now ∷ Opened r.old.now ∷ Opened d.from.now ∷ making (Some d.to.now)) secret.noted
     (then_did _ _ _ (Opened r.position.now ∷ Opened r.old.now ∷ []) (Opened d.from.now ∷ making (Some d.to.now)) earlier.noted
     (then_did _ _ _ (Opened d.from.now ∷ Created d.to.now ∷ []) (Closed ∷ []) both.noted c.in-Err.ensures.noted)) in
     record {
@@ -184,7 +170,8 @@ returns g c =
           let made = both.made t2 in
           inr (resumption_stopped (options_asked d.unlocking) r.position.now r.old.now d.from.now d.to.now _ (entry c.args.files.now)
           (entry c.read_unlocking.new.files) (entry c.open_earlier.new.files) (entry c.open_both.new.files) (entry c.write_out.new.files)
-          c.in_ok-identity.identity c.in_ok-position.position _ _ (c.in_ok-identity.ensures (entry c.args.files.now) (secret.read told)) secret.kept earlier.kept
+          c.in_ok-identity.identity c.in_ok-position.position _ _ (c.in_ok-identity.ensures (entry c.args.files.now) (secret.read told)) secret.kept
+          earlier.kept
           both.kept (earlier.read t1) (earlier.found t1) (both.found t2) made.1 c.in-Err.ensures.others
           (PortsOf g.F.In.Source.view g.F.Out.Sink.view) (text_of d.save) stop.position stop.fault (entry c.end_of.new.files) c.end_of.result
           secret.apart (ended.others t4 d.to.now (λ e. cc) secret.apart) (ended.ends t4) (c.in-Err.ensures.stops t3 made.0));
