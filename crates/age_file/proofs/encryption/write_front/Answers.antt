@@ -1,6 +1,6 @@
 use Rattle.std.proofs.Common.{sym, subst, List, ℕ}
 use Rattle.age_file.specs.inner.Encrypts.{BeginsFile}
-use Rattle.age_file.specs.inner.Readers.{view_of_writer, writer_view}
+use Rattle.age_file.specs.inner.Readers.{view_of_writer}
 use Rattle.age_file.proofs.EncryptSteps.{front_written}
 use Rattle.age_file.proofs.encryption.write_front.Goals as goal
 

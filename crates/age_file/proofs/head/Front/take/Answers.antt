@@ -1,4 +1,4 @@
-use Rattle.std.proofs.Common.{◌++◌, ap, take, length, arith}
+use Rattle.std.proofs.Common.{ap, take, length, arith}
 use Rattle.std.proofs.lemmas.List.{length-append, length-take}
 use Rattle.age_file.proofs.head.Front.take.Goals as goal
 
