@@ -9,7 +9,7 @@ use std::path::PathBuf;
 use std::rt::HostRuntime;
 
 /// A stream that the program was started with.
-#[derive(Clone, Copy, Debug, PartialEq, Eq)]
+#[derive(Clone, Copy)]
 pub(crate) enum Stream {
     /// Standard input.
     Input,
@@ -92,7 +92,7 @@ fn target_of(alloc: Global, rt: &HostRuntime, path: &PathBuf) -> io::Result<Opti
 }
 
 /// Which regular file one is, whatever its names.
-#[derive(Clone, Copy, Debug, PartialEq, Eq)]
+#[derive(Clone, Copy, PartialEq, Eq)]
 pub(crate) struct Identity {
     device: u64,
     inode: u64,
