@@ -1,6 +1,5 @@
 -- What `encrypt` did.
-use Rattle.std.specs.Prelude.{◌≡◌, ℕ, true, List, [], ◌++◌, length, is_some, Option, Some, None}
-use Rattle.std.specs.Prelude.{codes}
+use Rattle.std.specs.Prelude.{◌≡◌, ℕ, true, List, [], ◌++◌, length, is_some, Option, Some}
 use Rattle.clap.specs.Words.{Text}
 use Rattle.age_file.specs.Ports.{Ports}
 use Rattle.age_file.specs.Secrets.{SecretView, IsWithinLimits}

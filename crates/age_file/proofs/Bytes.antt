@@ -1,9 +1,8 @@
 -- Bytes that are told, one call after another.
-use Rattle.std.proofs.Common.{◌≡◌, ℕ, ◌+◌, ◌-◌, ◌^◌, ◌≤◌, min, List, [], ◌++◌, length, take, drop, Option, Some, None, Result, Ok, Err, refl, sym, ap, subst}
+use Rattle.std.proofs.Common.{◌≡◌, ℕ, ◌+◌, ◌-◌, ◌≤◌, List, [], ◌++◌, length, take, drop, Option, Some, None, refl, sym, ap, subst}
 use Rattle.std.proofs.Common.{◌∙◌, append_assoc, append-nil, inl, inr, arith}
-use Rattle.std.proofs.lemmas.Bool.{cases_lt}
-use Rattle.std.specs.Prelude.{◌⊎◌, ◌≢◌, MatchResult, IfErr, is_ok, true, false}
-use Rattle.std.specs.Io.KnownBytes.{Consumes, Appends, Keeps, IsAtEnd}
+use Rattle.std.specs.Prelude.{◌⊎◌, ◌≢◌}
+use Rattle.std.specs.Io.KnownBytes.{Consumes, IsAtEnd}
 use Rattle.std.proofs.lemmas.List.{append_cancel_left, length-append, take-append-drop}
 use Rattle.age_io.specs.Views.{SourceView}
 use Rattle.age_stanza.specs.declared.fault.HeadFault.{HeadFault}
@@ -18,7 +17,6 @@ use Rattle.age_stanza.proofs.FaultLaws.{no_fault}
 use Rattle.age_stream.specs.Headline.{IsPrefixOf}
 use Rattle.age_fault.proofs.Bytes.{Consumes-then}
 use Rattle.age_file.specs.Faults.{IsCut, IsHeadFault, IsSourcesFault, TellsFault, StopsAtHeader, HeadFails}
-use Rattle.age_fault.specs.Faults.{HasRisen}
 use Rattle.age_file.specs.inner.Faults.{IsInHeader}
 use Rattle.age_fault.specs.inner.Faults.{fault_of, fault_by_kind}
 use Rattle.age_fault.specs.declared.fault.FileFault.{FileFault}

@@ -8,10 +8,9 @@ ghost use Rattle.age_fileset.specs.Events.{Opened};
 ghost use Rattle.age_steps.specs.EventOrders.{opening, identity_order};
 ghost use Rattle.age_fileset.specs.FileSet.{IsMemoryOr};
 ghost use Rattle.age_steps.specs.Files.{Files};
-ghost use Rattle.age_steps.specs.Identities.{without_line_feed, IsPassphraseIn, IsSharedIn, OpensBy};
-ghost use Rattle.age_steps.specs.Identities.{bytes_of, secret_name};
-ghost use Rattle.age_steps.specs.Identities.{options_asked};
-ghost use Rattle.age_steps.specs.Identities.{IsSecretIn};
+ghost use Rattle.age_steps.specs.Identities.{without_line_feed, IsPassphraseIn, IsSharedIn};
+ghost use Rattle.age_steps.specs.Identities.{options_asked, OpensBy};
+ghost use Rattle.age_steps.specs.Identities.{secret_name, bytes_of, IsSecretIn};
 ghost use Rattle.age_commands.specs.Requests.{text_of};
 
 use crate::ending::{Ending, Usage};
