@@ -9,6 +9,13 @@ use Rattle.age_steps.specs.Orders.{inspecting_order, encrypting_order, decryptin
 use Rattle.age_steps.specs.Orders.{order_asked}
 use Rattle.age_commands.specs.declared.request.Request.{Request}
 use Rattle.age_commands.specs.declared.request.Request.TheVariants.{Inspect, Decrypt, Resume, Encrypt, Drill}
+use Rattle.std.proofs.Common.{Result, Ok, Err}
+use Rattle.std.specs.Prelude.{IfErr}
+
+-- what holds of every fault holds of the one that is returned
+pub every_fault : {T E : Type 0} (r : Result T E) (P : E → Type 0) → ((e : E) → P e) → IfErr r P
+every_fault (Ok x) P h = tt
+every_fault (Err e) P h = h e
 
 order_given : (name : Text) (rows : List Row) (r : Request) → IsRequest name rows r → order_of name rows ≡ order_asked r
 order_given name rows (Inspect file) is = ap (λ (n : Text). order_of n rows) is.0 ∙ ap inspecting_order (sym is.1)

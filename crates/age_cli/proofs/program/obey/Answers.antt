@@ -10,8 +10,8 @@ use Rattle.age_actions.specs.Stops.{PortsOf}
 use Rattle.age_cli.proofs.StopSteps.{sealing_stop_rows, stops_rows, resumes_stop_rows}
 use Rattle.age_steps.specs.EventOrders.{Follows}
 use Rattle.age_steps.specs.Orders.{Order}
-use Rattle.age_actions.proofs.EventSteps.{every_fault, none_done}
-use Rattle.age_cli.proofs.OrderSteps.{asked_order}
+use Rattle.age_actions.proofs.EventSteps.{none_done}
+use Rattle.age_cli.proofs.OrderSteps.{asked_order, every_fault}
 use Rattle.age_commands.proofs.Simple.{no_command}
 use Rattle.age_cli.proofs.RowSteps.{stays_silent}
 use Rattle.age_cli.proofs.RowSteps.{decrypts_rows, decrypt_spares, resumes_rows}
