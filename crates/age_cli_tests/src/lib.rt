@@ -1,5 +1,5 @@
-//! Tests of the program: what `age_cli::run` answers to command lines, over files in memory and
-//! over the machine's.
+//! Tests of progress lines, and of what no run of the built program can show: an output whose flush
+//! fails. `checks/runs` runs the program.
 //!
 //! They have a crate of their own, since a crate with tests is proved twice.
 #![tactic(auto)]

@@ -1,9 +1,2 @@
-mod commands;
-mod drill;
-mod machine;
-mod program;
-mod progress;
+mod output;
 mod progress_line;
-mod resumption;
-mod see;
-mod shared;
