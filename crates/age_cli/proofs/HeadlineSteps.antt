@@ -6,7 +6,7 @@ use Rattle.std.specs.Prelude.{is_some}
 use Rattle.std.specs.Option.{option_map_or}
 use Rattle.std.specs.Io.KnownBytes.{Consumes, Appends, IsAtEnd}
 use Rattle.clap.specs.Words.{Row, Text, first_of}
-use Rattle.age_stream.specs.Payload.{chunk_count}
+use Rattle.age_chunk.specs.Payload.{chunk_count}
 use Rattle.age_stream.specs.Headline.{IsPrefixOf}
 use Rattle.age_file.specs.OldTexts.{BeginsWith}
 use Rattle.age_file.specs.Resumes.{ResumePorts, IsFrom}

@@ -3,7 +3,7 @@
 ghost use Rattle.std.specs.Prelude.{◌≡◌, OnOk};
 ghost use Rattle.std.specs.Io.KnownBytes.{Appends};
 ghost use Rattle.age_stream.specs.Lent.{chunk_bytes};
-ghost use Rattle.age_stream.specs.Payload.{payload};
+ghost use Rattle.age_chunk.specs.Payload.{payload};
 
 use age_file::{FileFault, Sink, write_all};
 use age_stream::{ChunkBox, Sealer};

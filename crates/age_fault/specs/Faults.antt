@@ -12,11 +12,11 @@ use Rattle.age_keys.specs.declared.fault.KeyFault.TheVariants.{WorkTooHigh, NoMa
 use Rattle.age_keys.specs.declared.fault.KeyFault.TheVariants.{MacMismatch, BadX25519}
 use Rattle.age_keys.specs.declared.fault.KeyFault.TheVariants.{Memory as KeyMemory}
 use Rattle.age_keys.specs.FaultNumbers as key
-use Rattle.age_stream.specs.declared.fault.StreamKind.{StreamKind}
-use Rattle.age_stream.specs.declared.fault.StreamKind.TheVariants.{ChunkDamaged, ChunkCut}
-use Rattle.age_stream.specs.declared.fault.StreamKind.TheVariants.{EmptyLast, Truncated, Trailing}
-use Rattle.age_stream.specs.declared.fault.StreamKind.TheVariants.{TooManyChunks}
-use Rattle.age_stream.specs.FaultNumbers as stream
+use Rattle.age_chunk.specs.declared.fault.StreamKind.{StreamKind}
+use Rattle.age_chunk.specs.declared.fault.StreamKind.TheVariants.{ChunkDamaged, ChunkCut}
+use Rattle.age_chunk.specs.declared.fault.StreamKind.TheVariants.{EmptyLast, Truncated, Trailing}
+use Rattle.age_chunk.specs.declared.fault.StreamKind.TheVariants.{TooManyChunks}
+use Rattle.age_chunk.specs.FaultNumbers as stream
 use Rattle.age_fault.specs.declared.fault.FileFault.{FileFault}
 use Rattle.age_fault.specs.declared.fault.FileFault.TheVariants.{Head, Key, NonceCut, Stream}
 use Rattle.age_fault.specs.declared.fault.FileFault.TheVariants.{BadPosition, OtherFile, ShortText}

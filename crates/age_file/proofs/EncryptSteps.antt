@@ -3,7 +3,7 @@ use Rattle.std.proofs.Common.{◌≡◌, ℕ, refl, sym, ap, subst, ◌∙◌, L
 use Rattle.std.proofs.lemmas.List.{length-append}
 use Rattle.std.specs.Io.KnownBytes.{Consumes, Appends}
 use Rattle.std.proofs.KnownBytes.{Consumes-nil}
-use Rattle.age_stream.specs.Payload.{payload}
+use Rattle.age_chunk.specs.Payload.{payload}
 use Rattle.age_keys.specs.Keys.{header_mac, IsMacOf}
 use Rattle.age_keys.specs.Scrypt.{scrypt_head}
 use Rattle.age_file.specs.AgeFile.{box}

@@ -2,7 +2,7 @@
 use Rattle.std.proofs.Common.{◌≡◌, ℕ, ◌+◌, ◌-◌, ◌/◌, List, length, arith}
 use Rattle.std.specs.Prelude.{◌==◌, if◌then◌else◌}
 use Rattle.std.proofs.lemmas.Bool.Decides.{nat_tests}
-use Rattle.age_stream.specs.Payload.{chunk_count, chunk_length}
+use Rattle.age_chunk.specs.Payload.{chunk_count, chunk_length}
 use Rattle.age_file.specs.Reports.{chunks_for}
 
 rounded_up : (p : ℕ) → (p - 1) / 65536 + 1 ≡ (if p == 0 then 1 else (p + 65535) / 65536)

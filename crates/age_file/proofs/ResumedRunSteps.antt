@@ -3,7 +3,7 @@ use Rattle.std.proofs.Common.{inl, inr, ◌≡◌, ℕ, ◌*◌, ◌<◌, ◌≤
 use Rattle.std.proofs.lemmas.List.{length-append, take_at}
 use Rattle.std.specs.Simd.{first_chunks}
 use Rattle.age_stream.specs.Headline.{IsPrefixOf}
-use Rattle.age_stream.specs.Payload.{chunk_count}
+use Rattle.age_chunk.specs.Payload.{chunk_count}
 use Rattle.age_file.proofs.FirstChunks.{first_chunks-append}
 use Rattle.age_file.specs.Bindings.{chain}
 use Rattle.age_file.specs.Runs.{Run, held, IsTexts, IsAuthenticRun, CarriesText}

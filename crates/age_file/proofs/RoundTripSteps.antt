@@ -2,7 +2,7 @@
 use Rattle.std.proofs.Common.{◌≡◌, ℕ, ◌≤◌, List, [], ◌++◌, Option, Some, refl, sym, ap, subst, ◌∙◌, append-nil}
 use Rattle.std.specs.Prelude.{Result, Ok, Err, MatchResult}
 use Rattle.age_stanza.specs.Laws.{OneHeader}
-use Rattle.age_stream.specs.Payload.{chunk_count}
+use Rattle.age_chunk.specs.Payload.{chunk_count}
 use Rattle.age_stream.specs.Authentic.{IsClosed}
 use Rattle.age_file.specs.AgeFile.{box, unbox}
 use Rattle.age_keys.specs.Laws.{PassphraseOpens}

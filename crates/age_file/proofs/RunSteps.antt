@@ -5,7 +5,7 @@ use Rattle.std.specs.Simd.{first_chunks}
 use Rattle.std.proofs.lemmas.List.{length-append}
 use Rattle.std.proofs.Math.Nat.{le-div_iff_mul-le}
 use Rattle.age_stream.specs.declared.step.Status.TheVariants.{Done}
-use Rattle.age_stream.specs.Payload.{chunk_count}
+use Rattle.age_chunk.specs.Payload.{chunk_count}
 use Rattle.age_stream.specs.Headline.{IsPrefixOf, IsReached}
 use Rattle.age_stream.proofs.PublicLaws.{released_is_written}
 use Rattle.age_keys.specs.Keys.{payload_key, position_key}

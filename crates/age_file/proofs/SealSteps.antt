@@ -8,9 +8,9 @@ use Rattle.std.specs.Borrow.{Bor}
 use Rattle.std.proofs.lemmas.Bool.{ltb-true, eqb-true, and_parts}
 use Rattle.std.proofs.lemmas.Bool.Decides.{nat_tests}
 use Rattle.std.proofs.lemmas.List.{length-take, length-append, length-drop, take_rest, take_at}
-use Rattle.age_stream.specs.ChunkBoxes.{IsChunkBox}
-use Rattle.age_stream.specs.Nonce.{chunk_limit}
-use Rattle.age_stream.specs.Payload.{last_index}
+use Rattle.age_chunk.specs.ChunkBoxes.{IsChunkBox}
+use Rattle.age_chunk.specs.Nonce.{chunk_limit}
+use Rattle.age_chunk.specs.Payload.{last_index}
 use Rattle.age_stream.specs.Sealing.{SealerView, Holds, step_len, needs_too_many}
 use Rattle.age_stream.specs.Lent.{chunk_bytes}
 use Rattle.age_stream.proofs.PublicLaws.{payload_is_longer}

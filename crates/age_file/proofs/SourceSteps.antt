@@ -6,7 +6,7 @@ use Rattle.std.specs.Simd.{first_chunks}
 use Rattle.std.proofs.lemmas.Grind.{flat_map-append}
 use Rattle.std.proofs.lemmas.List.{length-append}
 use Rattle.age_stream.specs.Headline.{IsPrefixOf}
-use Rattle.age_stream.specs.Payload.{pair, block_bytes, payload, sealed_before_last, last_index, last_chunk}
+use Rattle.age_chunk.specs.Payload.{pair, block_bytes, payload, sealed_before_last, last_index, last_chunk}
 use Rattle.age_stream.specs.Sealing.{SealerView, Holds}
 use Rattle.age_stream.proofs.PublicLaws.{sealed_grows}
 use Rattle.age_fault.specs.Faults.{HasRisen}

@@ -8,10 +8,10 @@ use Rattle.age_stanza.specs.declared.header.Header.{Header}
 use Rattle.age_stanza.specs.declared.fault.HeadFault.{HeadFault}
 use Rattle.age_stanza.specs.Grammar.{HeadText}
 use Rattle.age_stanza.specs.Laws.{OneHeader}
-use Rattle.age_stream.specs.declared.fault.StreamFault.{StreamFault}
-use Rattle.age_stream.specs.declared.fault.StreamKind.TheVariants.{Truncated}
+use Rattle.age_chunk.specs.declared.fault.StreamFault.{StreamFault}
+use Rattle.age_chunk.specs.declared.fault.StreamKind.TheVariants.{Truncated}
 use Rattle.age_stream.specs.declared.step.Status.TheVariants.{Open, Failed, Done}
-use Rattle.age_stream.specs.Payload.{payload, chunk_count}
+use Rattle.age_chunk.specs.Payload.{payload, chunk_count}
 use Rattle.age_stream.specs.Segment.{outcome}
 use Rattle.age_stream.specs.Headline.{IsAuthentic, IsReached, IsRest}
 use Rattle.age_stream.specs.Authentic.{IsClosed}

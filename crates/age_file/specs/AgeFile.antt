@@ -4,7 +4,7 @@ use Rattle.age_stanza.specs.declared.header.Header.{Header}
 use Rattle.age_stanza.specs.Grammar.{HeadText}
 use Rattle.age_cipher.specs.Aead.{sealing}
 use Rattle.age_cipher.specs.Opening.{opening}
-use Rattle.age_stream.specs.Payload.{payload, chunk_length}
+use Rattle.age_chunk.specs.Payload.{payload, chunk_length}
 use Rattle.age_keys.specs.Keys.{IsMacOf, payload_key}
 
 -- the box of a file key and a payload nonce: how it seals a text at a chunk's nonce, and opens a

@@ -2,9 +2,9 @@
 -- 65,536 bytes.
 use Rattle.std.specs.Prelude.{◌≡◌, ℕ, ◌*◌, ◌≤◌, List, take}
 use Rattle.age_stanza.specs.declared.header.Header.{Header}
-use Rattle.age_stream.specs.Payload.{chunk_count, chunk_length}
+use Rattle.age_chunk.specs.Payload.{chunk_count, chunk_length}
 use Rattle.age_stream.specs.Headline.{IsPrefixOf}
-use Rattle.age_stream.specs.Nonce.{chunk_limit}
+use Rattle.age_chunk.specs.Nonce.{chunk_limit}
 use Rattle.age_file.specs.OldTexts.{IsBoundTo}
 use Rattle.age_file.specs.Runs.{Run, held, IsRun, IsTexts, IsDone}
 use Rattle.age_file.specs.Resumes.{ResumePorts, IsFrom}

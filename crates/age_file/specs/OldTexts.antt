@@ -2,7 +2,7 @@
 use Rattle.std.specs.Prelude.{◌≡◌, ℕ, ◌*◌, ◌≤◌, List, length, take, Option, Some}
 use Rattle.std.specs.Simd.{first_chunks}
 use Rattle.age_stream.specs.Headline.{IsPrefixOf}
-use Rattle.age_stream.specs.Payload.{chunk_length}
+use Rattle.age_chunk.specs.Payload.{chunk_length}
 use Rattle.age_file.specs.Bindings.{chain}
 use Rattle.age_file.specs.declared.position.Position.{Position}
 

@@ -4,10 +4,10 @@ use Rattle.std.specs.Prelude.{List, length, Option, None}
 use Rattle.std.specs.Simd.{first_chunks}
 use Rattle.std.specs.Io.KnownBytes.{Consumes, IsAtEnd}
 use Rattle.age_stanza.specs.declared.header.Header.{Header}
-use Rattle.age_stream.specs.declared.fault.StreamKind.TheVariants.{Truncated}
-use Rattle.age_stream.specs.declared.fault.StreamFault.{StreamFault}
+use Rattle.age_chunk.specs.declared.fault.StreamKind.TheVariants.{Truncated}
+use Rattle.age_chunk.specs.declared.fault.StreamFault.{StreamFault}
 use Rattle.age_stream.specs.declared.step.Status.TheVariants.{Failed}
-use Rattle.age_stream.specs.Payload.{chunk_length, block_length}
+use Rattle.age_chunk.specs.Payload.{chunk_length, block_length}
 use Rattle.age_keys.specs.declared.fault.KeyFault.{KeyFault}
 use Rattle.age_file.specs.Faults.{IsByAllPulls, IsShort}
 use Rattle.age_fault.specs.Faults.{HasRisen}

@@ -8,10 +8,10 @@ use Rattle.std.specs.Io.KnownBytes.{Consumes, Appends, IsAtEnd}
 use Rattle.age_stanza.specs.declared.header.Header.{Header}
 use Rattle.age_stanza.specs.Grammar.{HeadText}
 use Rattle.age_stream.specs.declared.step.Status.TheVariants.{Done}
-use Rattle.age_stream.specs.Payload.{chunk_count, chunk_length, block_length}
+use Rattle.age_chunk.specs.Payload.{chunk_count, chunk_length, block_length}
 use Rattle.age_stream.specs.Segment.{Segment, Outcome, outcome, released}
 use Rattle.age_stream.specs.Headline.{IsPrefixOf, IsAuthentic}
-use Rattle.age_stream.specs.Nonce.{chunk_limit}
+use Rattle.age_chunk.specs.Nonce.{chunk_limit}
 use Rattle.age_keys.specs.Opened.{Opens}
 use Rattle.age_file.specs.AgeFile.{box, unbox}
 use Rattle.age_file.specs.Bindings.{chain}

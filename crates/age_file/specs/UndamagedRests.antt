@@ -2,7 +2,7 @@
 use Rattle.std.specs.Prelude.{◌≡◌, ℕ, ◌<◌, List, Option}
 use Rattle.std.specs.Simd.{first_chunks}
 use Rattle.age_stanza.specs.declared.header.Header.{Header}
-use Rattle.age_stream.specs.Payload.{chunk_count, chunk_length}
+use Rattle.age_chunk.specs.Payload.{chunk_count, chunk_length}
 use Rattle.age_stream.specs.Authentic.{IsClosed}
 use Rattle.age_keys.specs.declared.fault.KeyFault.{KeyFault}
 use Rattle.age_file.specs.AgeFile.{box, unbox}

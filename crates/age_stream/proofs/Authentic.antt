@@ -3,18 +3,18 @@ use Rattle.std.proofs.Common.{inl, ◌≡◌, ℕ, ◌<◌, ◌≤◌, ◌+◌, 
 use Rattle.std.specs.Prelude.{Option, Some, None, map}
 use Rattle.std.specs.List.{AllByRecursion}
 use Rattle.std.proofs.lemmas.List.{take_at, drop_at}
-use Rattle.age_stream.specs.ChunkBoxes.{IsChunkBox}
-use Rattle.age_stream.specs.Nonce.{nonce_bytes, chunk_limit}
-use Rattle.age_stream.specs.Payload.{payload, chunk_count, last_index, last_chunk}
+use Rattle.age_chunk.specs.ChunkBoxes.{IsChunkBox}
+use Rattle.age_chunk.specs.Nonce.{nonce_bytes, chunk_limit}
+use Rattle.age_chunk.specs.Payload.{payload, chunk_count, last_index, last_chunk}
 use Rattle.age_stream.specs.Segment.{Segment}
 use Rattle.age_stream.specs.Deliveries.{Standing, standing, standing_from, begin, fresh, after_delivery}
 use Rattle.age_stream.specs.Headline.{IsAuthentic, AreAuthentic, IsRest, IsUndamaged}
-use Rattle.age_stream.specs.Clear.{clear_sealing, clear_opening, clear_mark}
-use Rattle.age_stream.specs.inner.ClearLaw.{clear_valid}
+use Rattle.age_chunk.specs.Clear.{clear_sealing, clear_opening, clear_mark}
+use Rattle.age_chunk.specs.inner.ClearLaw.{clear_valid}
 use Rattle.age_stream.specs.Authentic.{AreWhole, IsClosed, GivesBack}
 use Rattle.age_stream.specs.declared.delivery.Delivery.{Delivery}
 use Rattle.age_stream.specs.declared.delivery.Delivery.TheVariants.{Piece, End}
-use Rattle.age_stream.proofs.Nonces.{nonce_bytes-length, nonce_bytes-flag}
+use Rattle.age_chunk.proofs.Nonces.{nonce_bytes-length, nonce_bytes-flag}
 use Rattle.age_stream.proofs.Undamaged.{rest_segment, rest_payload, rest_authentic}
 use Rattle.age_stream.proofs.Held.{held_right, starts_fresh, on_from, pieces_from}
 

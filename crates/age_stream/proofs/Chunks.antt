@@ -6,7 +6,7 @@ use Rattle.std.proofs.lemmas.List.{drop-drop, length-drop, drop-append-le, take-
 use Rattle.std.specs.List.{enumerate_from}
 use Rattle.std.proofs.lemmas.Bool.{cases_lt}
 use Rattle.std.proofs.Math.Nat.{le-div_iff_mul-le}
-use Rattle.age_stream.specs.Payload.{last_index, last_chunk}
+use Rattle.age_chunk.specs.Payload.{last_index, last_chunk}
 
 pub length-first_chunks : (n c : ℕ) (xs : List ℕ) → length (first_chunks n c xs) ≡ c
 length-first_chunks n zero xs = refl

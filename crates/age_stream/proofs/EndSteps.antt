@@ -8,7 +8,7 @@ use Rattle.age_stream.specs.Segment.{Segment, Outcome, outcome, released, front_
 use Rattle.age_stream.specs.inner.SegmentSteps.{status_ended, final_block}
 use Rattle.age_stream.specs.Deliveries.{with_end}
 use Rattle.age_stream.specs.declared.opener.OpenerState.{OpenerState}
-use Rattle.age_stream.specs.declared.fault.StreamFault.{StreamFault}
+use Rattle.age_chunk.specs.declared.fault.StreamFault.{StreamFault}
 use Rattle.age_stream.specs.declared.step.Status.TheVariants.{Open, Failed}
 use Rattle.age_stream.specs.Opening.{Stands, held_bytes, opener_view}
 use Rattle.age_stream.specs.inner.OpenerSteps.{Ends, front_bytes}

@@ -4,7 +4,7 @@ use Rattle.std.specs.Prelude.{Option, Some, None, nat_lt, ◌==◌, ◌||◌, �
 use Rattle.std.specs.List.{flat_map}
 use Rattle.std.proofs.lemmas.Grind.{flat_map-append}
 use Rattle.std.proofs.lemmas.List.{append-nil, append_assoc, length-append}
-use Rattle.age_stream.specs.Nonce.{nonce_bytes}
+use Rattle.age_chunk.specs.Nonce.{nonce_bytes}
 use Rattle.age_stream.specs.Segment.{Segment, Outcome, outcome, front_texts, whole_blocks, rest_bytes, released}
 use Rattle.age_stream.specs.inner.SegmentSteps.{after_last, at_block, final_block}
 use Rattle.age_stream.specs.Deliveries.{with_piece}

@@ -4,9 +4,9 @@ use Rattle.std.specs.Prelude.{Option, cond, min, nat_lt, nat_le, map}
 use Rattle.std.specs.List.{flat_map, AllByRecursion}
 use Rattle.std.proofs.lemmas.List.{take-append-le, length-append, append-nil, append_assoc}
 use Rattle.std.proofs.lemmas.Bool.{ltb-true, leb-true, and_parts}
-use Rattle.age_stream.specs.Nonce.{chunk_limit}
-use Rattle.age_stream.specs.ChunkBoxes.{IsChunkBox}
-use Rattle.age_stream.specs.Payload.{chunk_count}
+use Rattle.age_chunk.specs.Nonce.{chunk_limit}
+use Rattle.age_chunk.specs.ChunkBoxes.{IsChunkBox}
+use Rattle.age_chunk.specs.Payload.{chunk_count}
 use Rattle.age_stream.specs.Segment.{Segment, outcome}
 use Rattle.age_stream.specs.Deliveries.{Standing, standing, standing_from, after_delivery, begin, fresh, with_piece, with_end, text_held, accepts}
 use Rattle.age_stream.specs.Headline.{IsAuthentic, AreAuthentic, IsHeldRight, IsReached, IsPrefixOf, IsStart, IsUndamaged}

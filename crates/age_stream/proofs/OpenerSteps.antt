@@ -8,7 +8,7 @@ use Rattle.age_stream.specs.Segment.{Segment, Outcome, outcome, rest_bytes}
 use Rattle.age_stream.specs.inner.SegmentSteps.{one_block, status_after}
 use Rattle.age_stream.specs.Deliveries.{with_piece}
 use Rattle.age_stream.specs.declared.opener.OpenerState.{OpenerState}
-use Rattle.age_stream.specs.declared.fault.StreamFault.{StreamFault}
+use Rattle.age_chunk.specs.declared.fault.StreamFault.{StreamFault}
 use Rattle.age_stream.specs.declared.step.Status.{Status}
 use Rattle.age_stream.specs.declared.step.Status.TheVariants.{Open, LastSeen, Done, Failed}
 use Rattle.age_stream.specs.Opening.{Stands, given, handed, held_bytes, opener_view}

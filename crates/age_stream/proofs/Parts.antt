@@ -11,8 +11,8 @@ use Rattle.std.proofs.lemmas.List.FromFn.{length-enumerate_from, get_or-enumerat
 use Rattle.std.proofs.lemmas.Bool.{cases_lt, eq-eqb, ne_eqb}
 use Rattle.std.proofs.lemmas.Nat.{mul-le}
 use Rattle.std.proofs.Math.Seq.{drop-nil}
-use Rattle.age_stream.specs.Nonce.{nonce_bytes}
-use Rattle.age_stream.specs.Payload.{last_index, last_chunk, chunks, pair, sealed_before_last, sealed}
+use Rattle.age_chunk.specs.Nonce.{nonce_bytes}
+use Rattle.age_chunk.specs.Payload.{last_index, last_chunk, chunks, pair, sealed_before_last, sealed}
 use Rattle.age_stream.specs.Parts.{AreChunks}
 use Rattle.age_stream.proofs.Chunks.{length-first_chunks, last_chunk_le}
 use Rattle.age_stream.proofs.Sealings.{last_index_is, last_index_le}

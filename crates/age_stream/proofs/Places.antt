@@ -10,19 +10,19 @@ use Rattle.std.proofs.lemmas.List.{length-take, length-drop, take_all}
 use Rattle.std.proofs.lemmas.List.Folds.{list_any_at, Any-from_list_any}
 use Rattle.std.proofs.lemmas.Bool.{cases_lt, lt-ltb, and_parts}
 use Rattle.std.proofs.lemmas.Bool.Decides.{nat_tests}
-use Rattle.age_stream.specs.ChunkBoxes.{IsChunkBox}
-use Rattle.age_stream.specs.Nonce.{nonce_bytes, chunk_limit}
-use Rattle.age_stream.specs.Payload.{chunks, chunk_count, last_index, last_chunk, pair, sealed}
+use Rattle.age_chunk.specs.ChunkBoxes.{IsChunkBox}
+use Rattle.age_chunk.specs.Nonce.{nonce_bytes, chunk_limit}
+use Rattle.age_chunk.specs.Payload.{chunks, chunk_count, last_index, last_chunk, pair, sealed}
 use Rattle.age_stream.specs.Segment.{Segment, Outcome, outcome, block_at, text_before_last, unless_greatest, text_then, front_texts, whole_blocks, rest_bytes}
 use Rattle.age_stream.specs.Segment.{failed}
 use Rattle.age_stream.specs.inner.SegmentSteps.{after_last, at_block, final_block}
 use Rattle.age_stream.specs.declared.step.Status.{Status}
 use Rattle.age_stream.specs.declared.step.Status.TheVariants.{Failed}
-use Rattle.age_stream.specs.declared.fault.StreamKind.{StreamKind}
-use Rattle.age_stream.specs.declared.fault.StreamKind.TheVariants.{ChunkDamaged, ChunkCut, EmptyLast, Truncated, Trailing, TooManyChunks}
+use Rattle.age_chunk.specs.declared.fault.StreamKind.{StreamKind}
+use Rattle.age_chunk.specs.declared.fault.StreamKind.TheVariants.{ChunkDamaged, ChunkCut, EmptyLast, Truncated, Trailing, TooManyChunks}
 use Rattle.age_stream.specs.Headline.{IsWriters, IsAuthentic, IsReached}
 use Rattle.age_stream.specs.Places.{sealed_as, compared, IsFirstWrong, IsInPlace}
-use Rattle.age_stream.proofs.Nonces.{nonce_bytes-length, nonce_bytes-flag}
+use Rattle.age_chunk.proofs.Nonces.{nonce_bytes-length, nonce_bytes-flag}
 use Rattle.age_stream.proofs.Chunks.{length-first_chunks, get_or-first_chunks}
 use Rattle.age_stream.proofs.Segments.{by_test, tag_left, empty_first, writer_text, next_within, opens_before, front_carries, IsPair-from_Contains}
 use Rattle.age_stream.proofs.Going.{place, at_place, past_place}

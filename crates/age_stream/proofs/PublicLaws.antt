@@ -5,18 +5,18 @@ use Rattle.std.specs.List.{enumerate_from, AllByRecursion}
 use Rattle.std.specs.Simd.{first_chunks}
 use Rattle.std.proofs.lemmas.List.{length-append, length-drop, append-nil}
 use Rattle.std.proofs.lemmas.Grind.{flat_map-append}
-use Rattle.age_stream.specs.ChunkBoxes.{IsChunkBox}
-use Rattle.age_stream.specs.Nonce.{nonce_bytes}
-use Rattle.age_stream.specs.Payload.{last_index, last_chunk, pair, sealed_before_last, block_bytes, payload}
+use Rattle.age_chunk.specs.ChunkBoxes.{IsChunkBox}
+use Rattle.age_chunk.specs.Nonce.{nonce_bytes}
+use Rattle.age_chunk.specs.Payload.{last_index, last_chunk, pair, sealed_before_last, block_bytes, payload}
 use Rattle.age_stream.specs.Segment.{Segment, Outcome, outcome, front_texts, whole_blocks, rest_bytes}
 use Rattle.age_stream.specs.inner.SegmentSteps.{status_after, status_ended}
 use Rattle.age_stream.specs.Deliveries.{with_piece, with_end}
-use Rattle.age_stream.specs.declared.fault.StreamFault.{StreamFault}
+use Rattle.age_chunk.specs.declared.fault.StreamFault.{StreamFault}
 use Rattle.age_stream.specs.declared.step.Status.TheVariants.{Failed}
 use Rattle.age_stream.specs.Authentic.{RestIsAuthentic}
 use Rattle.age_stream.specs.Laws.{PiecesJoin, ReleasedGrows, ChunksAreCounted, SealedGrows, FreshIsOpen, IsSettled, ClosedStays, EndCloses, ReleasedIsWritten}
 use Rattle.age_stream.specs.Laws.{PayloadIsLonger}
-use Rattle.age_stream.proofs.Nonces.{nonce_bytes-length}
+use Rattle.age_chunk.proofs.Nonces.{nonce_bytes-length}
 use Rattle.age_stream.proofs.Chunks.{length-first_chunks}
 use Rattle.age_stream.proofs.Table.{by_blocks}
 use Rattle.age_stream.proofs.Going.{going, after_piece, after_end, IsAfterBytes, IsAfterEnd}

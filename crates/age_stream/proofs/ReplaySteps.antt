@@ -7,7 +7,7 @@ use Rattle.std.proofs.lemmas.Grind.{flat_map-append}
 use Rattle.std.proofs.lemmas.List.{append-nil, append_assoc}
 use Rattle.std.proofs.lemmas.Bool.{lt-ltb}
 use Rattle.std.proofs.Math.Bool.{or-false}
-use Rattle.age_stream.specs.Nonce.{chunk_limit}
+use Rattle.age_chunk.specs.Nonce.{chunk_limit}
 use Rattle.age_stream.specs.Segment.{Segment, Outcome, outcome, released}
 use Rattle.age_stream.specs.Deliveries.{Standing, with_piece, with_end, text_held, accepts, after_delivery, fresh, standing}
 use Rattle.age_stream.specs.declared.delivery.Delivery.TheVariants.{End, Restart}
@@ -16,7 +16,7 @@ use Rattle.age_stream.specs.Opening.{Stands, chunk_texts}
 use Rattle.age_stream.specs.Lent.{chunk_bytes}
 use Rattle.age_stream.specs.Replaying.{ReplayView, IsAt, Replays}
 use Rattle.age_stream.specs.inner.ReplaySteps.{with_bytes}
-use Rattle.age_stream.specs.ChunkBoxes.{IsChunkBox}
+use Rattle.age_chunk.specs.ChunkBoxes.{IsChunkBox}
 use Rattle.age_stream.specs.Headline.{HoldsWritten, IsHeldRight}
 use Rattle.age_stream.specs.declared.delivery.Delivery.{Delivery}
 use Rattle.age_stream.specs.declared.step.Status.{Status}

@@ -4,8 +4,8 @@ use Rattle.std.specs.Prelude.{Option, Some, None}
 use Rattle.std.proofs.lemmas.Bool.Decides.{nat_tests}
 use Rattle.std.proofs.lemmas.List.{append-nil, length-take}
 use Rattle.std.proofs.lemmas.Grind.{flat_map-append}
-use Rattle.age_stream.specs.Nonce.{nonce_bytes}
-use Rattle.age_stream.specs.Payload.{last_index, last_chunk, sealed_before_last, block_bytes, pair, payload}
+use Rattle.age_chunk.specs.Nonce.{nonce_bytes}
+use Rattle.age_chunk.specs.Payload.{last_index, last_chunk, sealed_before_last, block_bytes, pair, payload}
 use Rattle.age_stream.specs.Sealing.{SealerView, Holds, step_len}
 use Rattle.age_stream.specs.inner.SealerSteps.{bytes_of, IsStep, Grows, Closes}
 use Rattle.age_stream.proofs.Sealings.{grown_index, grown_chunk, grown_blocks, closed_index, closed_chunk, closed_blocks}

@@ -8,7 +8,7 @@ use Rattle.std.proofs.lemmas.Grind.{flat_map-append}
 use Rattle.std.proofs.lemmas.Bool.{cases_lt}
 use Rattle.std.proofs.lemmas.Nat.{div-mul-add}
 use Rattle.std.proofs.Math.Nat.{div-mul-le_self}
-use Rattle.age_stream.specs.Payload.{last_index, last_chunk, sealed_before_last, block_bytes, pair}
+use Rattle.age_chunk.specs.Payload.{last_index, last_chunk, sealed_before_last, block_bytes, pair}
 use Rattle.age_stream.proofs.Chunks.{last_chunk_le, first_chunks_more, first_chunks-append, enumerate_from_more, length-first_chunks}
 
 -- the last index, by its bounds

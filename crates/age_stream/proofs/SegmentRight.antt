@@ -3,9 +3,9 @@ use Rattle.std.proofs.Common.{◌≡◌, ℕ, ◌<◌, ◌≤◌, ◌*◌, refl,
 use Rattle.std.specs.Prelude.{Option}
 use Rattle.std.specs.List.{flat_map}
 use Rattle.std.proofs.lemmas.Grind.{flat_map-append}
-use Rattle.age_stream.specs.Nonce.{chunk_limit}
-use Rattle.age_stream.specs.ChunkBoxes.{IsChunkBox}
-use Rattle.age_stream.specs.Payload.{chunk_count}
+use Rattle.age_chunk.specs.Nonce.{chunk_limit}
+use Rattle.age_chunk.specs.ChunkBoxes.{IsChunkBox}
+use Rattle.age_chunk.specs.Payload.{chunk_count}
 use Rattle.age_stream.specs.Segment.{Segment, outcome, released}
 use Rattle.age_stream.specs.Opening.{OpenerView, Stands}
 use Rattle.age_stream.specs.Headline.{IsAuthentic, IsRest, ReleasesWritten}

@@ -11,17 +11,17 @@ use Rattle.std.proofs.lemmas.Bool.Decides.{nat_tests}
 use Rattle.std.proofs.Math.Nat.{le-div_iff_mul-le}
 use Rattle.std.proofs.lemmas.List.FromFn.{length-enumerate_from, get_or-enumerate_from}
 use Rattle.std.proofs.lemmas.Option.{cond_some}
-use Rattle.age_stream.specs.ChunkBoxes.{IsChunkBox}
-use Rattle.age_stream.specs.Nonce.{nonce_bytes, chunk_limit}
-use Rattle.age_stream.specs.Payload.{chunk_count, last_index, last_chunk, pair, sealed_before_last, sealed}
+use Rattle.age_chunk.specs.ChunkBoxes.{IsChunkBox}
+use Rattle.age_chunk.specs.Nonce.{nonce_bytes, chunk_limit}
+use Rattle.age_chunk.specs.Payload.{chunk_count, last_index, last_chunk, pair, sealed_before_last, sealed}
 use Rattle.age_stream.specs.Segment.{Segment, Outcome, outcome, text_before_last, unless_greatest, text_then, front_texts, whole_blocks, rest_bytes, failed}
 use Rattle.age_stream.specs.inner.SegmentSteps.{after_last, at_block, final_block}
 use Rattle.age_stream.specs.declared.step.Status.{Status}
 use Rattle.age_stream.specs.declared.step.Status.TheVariants.{Open, Done}
-use Rattle.age_stream.specs.declared.fault.StreamKind.TheVariants.{ChunkDamaged, ChunkCut, EmptyLast, Truncated, TooManyChunks}
+use Rattle.age_chunk.specs.declared.fault.StreamKind.TheVariants.{ChunkDamaged, ChunkCut, EmptyLast, Truncated, TooManyChunks}
 use Rattle.age_stream.specs.Headline.{IsWriters, IsAuthentic, IsPrefixOf}
 use Rattle.age_stream.specs.Deliveries.{with_piece}
-use Rattle.age_stream.proofs.Nonces.{nonce_bytes-length, nonce_bytes-number, nonce_bytes-flag}
+use Rattle.age_chunk.proofs.Nonces.{nonce_bytes-length, nonce_bytes-number, nonce_bytes-flag}
 use Rattle.age_stream.proofs.Chunks.{length-first_chunks, get_or-first_chunks, last_chunk_le, slice_get-within, slice_get-past}
 use Rattle.age_stream.proofs.Table.{verdict_at, by_blocks, length-front_texts}
 

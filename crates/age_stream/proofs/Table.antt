@@ -6,11 +6,11 @@ use Rattle.std.proofs.lemmas.List.{length-drop, length-take, take_all}
 use Rattle.std.proofs.lemmas.Bool.{cases_lt, le-ltb, lt-ltb, eq-eqb}
 use Rattle.std.proofs.lemmas.Bool.Decides.{nat_tests}
 use Rattle.std.proofs.Math.Nat.{le-div_iff_mul-le}
-use Rattle.age_stream.specs.Nonce.{nonce_bytes}
+use Rattle.age_chunk.specs.Nonce.{nonce_bytes}
 use Rattle.age_stream.specs.Segment.{Segment, Outcome, outcome, verdict, block_at, failed, front_texts, text_then, text_before_last, whole_blocks, rest_bytes}
 use Rattle.age_stream.specs.inner.SegmentSteps.{after_last, at_block, final_block}
 use Rattle.age_stream.specs.declared.step.Status.TheVariants.{LastSeen, Done}
-use Rattle.age_stream.specs.declared.fault.StreamKind.TheVariants.{ChunkDamaged, ChunkCut, EmptyLast, Truncated, Trailing, TooManyChunks}
+use Rattle.age_chunk.specs.declared.fault.StreamKind.TheVariants.{ChunkDamaged, ChunkCut, EmptyLast, Truncated, Trailing, TooManyChunks}
 use Rattle.age_stream.proofs.Chunks.{length-first_chunks, get_or-first_chunks, slice_get-within, slice_get-past}
 
 -- a line that doesn't hold

@@ -2,8 +2,8 @@
 use Rattle.std.proofs.Common.{◌≡◌, ℕ, ◌<◌, ◌≤◌, ◌+◌, ◌*◌, ◌-◌, ap, sym, ◌∙◌, List, ◌++◌, length, take, drop, take-add, take-append-drop, arith}
 use Rattle.std.specs.Prelude.{Option}
 use Rattle.std.proofs.lemmas.List.{take_rest, length-append}
-use Rattle.age_stream.specs.ChunkBoxes.{IsChunkBox}
-use Rattle.age_stream.specs.Payload.{last_index, chunk_count, sealed_before_last, block_bytes}
+use Rattle.age_chunk.specs.ChunkBoxes.{IsChunkBox}
+use Rattle.age_chunk.specs.Payload.{last_index, chunk_count, sealed_before_last, block_bytes}
 use Rattle.age_stream.proofs.Sealings.{last_index_le}
 use Rattle.age_stream.proofs.PublicLaws.{sealed_grows, payload_is_longer}
 

@@ -4,13 +4,13 @@ use Rattle.std.specs.Prelude.{◌≡◌, ℕ, ◌<◌, ◌≤◌, true, false, L
 use Rattle.std.specs.Prelude.{length, None, map}
 use Rattle.std.specs.List.{AllByRecursion, flat_map}
 use Rattle.std.specs.Borrow.{Bor}
-use Rattle.age_stream.specs.ChunkBoxes.{Seals, Opens, IsChunkBox}
-use Rattle.age_stream.specs.Nonce.{nonce_bytes, chunk_limit}
-use Rattle.age_stream.specs.Payload.{payload, chunk_count, last_index, last_chunk}
+use Rattle.age_chunk.specs.ChunkBoxes.{Seals, Opens, IsChunkBox}
+use Rattle.age_chunk.specs.Nonce.{nonce_bytes, chunk_limit}
+use Rattle.age_chunk.specs.Payload.{payload, chunk_count, last_index, last_chunk}
 use Rattle.age_stream.specs.Segment.{Segment, outcome}
 use Rattle.age_stream.specs.Deliveries.{standing, text_held}
 use Rattle.age_stream.specs.Headline.{IsAuthentic, AreAuthentic, IsRest, IsUndamaged}
-use Rattle.age_stream.specs.Clear.{clear_sealing, clear_opening}
+use Rattle.age_chunk.specs.Clear.{clear_sealing, clear_opening}
 use Rattle.age_stream.specs.declared.step.Status.TheVariants.{Done}
 use Rattle.age_stream.specs.declared.delivery.Delivery.{Delivery}
 use Rattle.age_stream.specs.declared.delivery.Delivery.TheVariants.{Piece, End}

@@ -2,8 +2,8 @@
 use Rattle.std.specs.Prelude.{ℕ, ◌+◌, ◌*◌, Bool, true, false, ◌||◌, ◌&&◌, nat_lt, nat_le}
 use Rattle.std.specs.Prelude.{min, List, [], ◌∷◌, ◌++◌, length, take, if◌then◌else◌}
 use Rattle.std.specs.List.{flat_map}
-use Rattle.age_stream.specs.ChunkBoxes.{Opens}
-use Rattle.age_stream.specs.Nonce.{chunk_limit}
+use Rattle.age_chunk.specs.ChunkBoxes.{Opens}
+use Rattle.age_chunk.specs.Nonce.{chunk_limit}
 use Rattle.age_stream.specs.Segment.{Segment, outcome}
 use Rattle.age_stream.specs.declared.delivery.Delivery.{Delivery}
 use Rattle.age_stream.specs.declared.delivery.Delivery.TheVariants.{Piece, End, Restart}

@@ -1,6 +1,6 @@
 -- What a drill answers. A chunk has n bytes.
 use Rattle.std.specs.Prelude.{◌≡◌, ℕ, List}
-use Rattle.age_stream.specs.ChunkBoxes.{Opens}
+use Rattle.age_chunk.specs.ChunkBoxes.{Opens}
 use Rattle.age_stream.specs.Segment.{outcome}
 use Rattle.age_stream.specs.Deliveries.{standing, text_held}
 use Rattle.age_stream.specs.declared.delivery.Delivery.{Delivery}

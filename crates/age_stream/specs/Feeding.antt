@@ -5,8 +5,8 @@ use Rattle.std.specs.List.{flat_map}
 use Rattle.std.specs.Borrow.{Bor}
 use Rattle.age_stream.specs.declared.step.Status.TheVariants.{Done, Failed}
 use Rattle.age_stream.specs.declared.step.Step.{Step}
-use Rattle.age_stream.specs.declared.fault.StreamFault.{StreamFault}
-use Rattle.age_stream.specs.ChunkBoxes.{Seals, Opens}
+use Rattle.age_chunk.specs.declared.fault.StreamFault.{StreamFault}
+use Rattle.age_chunk.specs.ChunkBoxes.{Seals, Opens}
 use Rattle.age_stream.specs.Segment.{Segment, released}
 use Rattle.age_stream.specs.Deliveries.{with_piece, with_end}
 use Rattle.age_stream.specs.Opening.{OpenerView, Stands, given, handed, handed_bytes, chunk_texts}

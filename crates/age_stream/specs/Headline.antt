@@ -6,9 +6,9 @@ use Rattle.std.specs.List.{AllByRecursion, flat_map}
 use Rattle.age_stream.specs.declared.step.Status.{Status}
 use Rattle.age_stream.specs.declared.step.Status.TheVariants.{Done}
 use Rattle.std.specs.Borrow.{Bor}
-use Rattle.age_stream.specs.ChunkBoxes.{Seals, Opens}
-use Rattle.age_stream.specs.Nonce.{nonce_bytes, chunk_limit}
-use Rattle.age_stream.specs.Payload.{sealed, payload, chunk_count}
+use Rattle.age_chunk.specs.ChunkBoxes.{Seals, Opens}
+use Rattle.age_chunk.specs.Nonce.{nonce_bytes, chunk_limit}
+use Rattle.age_chunk.specs.Payload.{sealed, payload, chunk_count}
 use Rattle.age_stream.specs.Segment.{Segment, front_texts, whole_blocks, rest_bytes}
 use Rattle.age_stream.specs.Places.{IsInPlace}
 use Rattle.age_stream.specs.Deliveries.{standing, accepts}

@@ -3,14 +3,14 @@ use Rattle.std.specs.Prelude.{◌≡◌, ◌≢◌, ℕ, ◌+◌, ◌-◌, ◌*�
 use Rattle.std.specs.Prelude.{false, List, [], ◌++◌, length, take}
 use Rattle.std.specs.List.{flat_map}
 use Rattle.std.specs.Simd.{first_chunks}
-use Rattle.age_stream.specs.ChunkBoxes.{Opens, Seals, OfAllBoxes}
-use Rattle.age_stream.specs.Nonce.{nonce_bytes, chunk_limit}
-use Rattle.age_stream.specs.Payload.{last_index, chunk_count, sealed_before_last, block_bytes}
-use Rattle.age_stream.specs.Payload.{payload}
+use Rattle.age_chunk.specs.ChunkBoxes.{Opens, Seals, OfAllBoxes}
+use Rattle.age_chunk.specs.Nonce.{nonce_bytes, chunk_limit}
+use Rattle.age_chunk.specs.Payload.{last_index, chunk_count, sealed_before_last, block_bytes}
+use Rattle.age_chunk.specs.Payload.{payload}
 use Rattle.age_stream.specs.Segment.{Segment, Outcome, outcome, released}
 use Rattle.age_stream.specs.Deliveries.{with_piece, with_end, fresh}
 use Rattle.age_stream.specs.Headline.{IsPrefixOf, ReleasesWritten}
-use Rattle.age_stream.specs.declared.fault.StreamFault.{StreamFault}
+use Rattle.age_chunk.specs.declared.fault.StreamFault.{StreamFault}
 use Rattle.age_stream.specs.declared.step.Status.TheVariants.{Open, Failed}
 
 -- no two chunks of a payload have the same nonce

@@ -1,15 +1,10 @@
-pub mod ChunkBoxes
-pub mod Nonce
-pub mod Payload
 pub mod Parts
 pub mod Segment
 pub mod Deliveries
 pub mod Places
 pub mod Headline
-pub mod Clear
 pub mod Authentic
 pub mod Laws
-pub mod FaultNumbers
 pub mod Lent
 pub mod Sealing
 pub mod SealerCalls

@@ -3,7 +3,7 @@ use Rattle.std.specs.Prelude.{[]}
 use Rattle.std.specs.Borrow.{RattleType}
 use mir.Syntax.{named}
 use Rattle.age_stream.specs.contracts.opener.Opener.{the_row}
-use Rattle.age_stream.specs.declared.chunk_box.ChunkBox.{Ghosts}
+use Rattle.age_chunk.specs.declared.chunk_box.ChunkBox.{Ghosts}
 
 module _ (B N : RattleType) (box : Ghosts B.Denot) where
   abbrev pub opener_row : RattleType

@@ -5,9 +5,9 @@ use Rattle.std.specs.Prelude.{if◌then◌else◌}
 use Rattle.std.specs.Borrow.{Bor}
 use Rattle.age_stream.specs.declared.step.Status.{Status}
 use Rattle.age_stream.specs.declared.step.Status.TheVariants.{Open, Failed}
-use Rattle.age_stream.specs.declared.fault.StreamFault.{StreamFault}
+use Rattle.age_chunk.specs.declared.fault.StreamFault.{StreamFault}
 use Rattle.age_stream.specs.declared.opener.OpenerState.{OpenerState}
-use Rattle.age_stream.specs.ChunkBoxes.{Opens}
+use Rattle.age_chunk.specs.ChunkBoxes.{Opens}
 use Rattle.age_stream.specs.Segment.{Segment, outcome, rest_bytes}
 
 -- its key, the bytes of the block that is open, the chunk at which it stands, and its status

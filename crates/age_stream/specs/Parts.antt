@@ -2,9 +2,9 @@
 use Rattle.std.specs.Prelude.{◌≡◌, ℕ, ◌+◌, ◌<◌, ◌≤◌, ◌==◌, ◌⊎◌, List, []}
 use Rattle.std.specs.Prelude.{◌∷◌, ◌++◌, length, slice_index_or}
 use Rattle.std.specs.List.{AllByRecursion, flat_map}
-use Rattle.age_stream.specs.ChunkBoxes.{Seals}
-use Rattle.age_stream.specs.Nonce.{nonce_bytes}
-use Rattle.age_stream.specs.Payload.{chunks, sealed}
+use Rattle.age_chunk.specs.ChunkBoxes.{Seals}
+use Rattle.age_chunk.specs.Nonce.{nonce_bytes}
+use Rattle.age_chunk.specs.Payload.{chunks, sealed}
 
 -- the parts join to the text; all but the last have n bytes; the last has 1 to n, or the text is
 -- empty and there is one empty part

@@ -3,12 +3,12 @@
 use Rattle.std.specs.Prelude.{◌≡◌, ◌≢◌, ℕ, ◌+◌, ◌-◌, ◌<◌, Bool, false, ◌&&◌}
 use Rattle.std.specs.Prelude.{List, [], ◌∷◌, Contains, Some, None, if◌then◌else◌}
 use Rattle.std.specs.Str.{bytes_eq}
-use Rattle.age_stream.specs.ChunkBoxes.{Seals, Opens}
-use Rattle.age_stream.specs.Nonce.{nonce_bytes}
-use Rattle.age_stream.specs.Payload.{chunks, sealed}
+use Rattle.age_chunk.specs.ChunkBoxes.{Seals, Opens}
+use Rattle.age_chunk.specs.Nonce.{nonce_bytes}
+use Rattle.age_chunk.specs.Payload.{chunks, sealed}
 use Rattle.age_stream.specs.Segment.{Segment, outcome, failed, block_at}
 use Rattle.age_stream.specs.declared.step.Status.{Status}
-use Rattle.age_stream.specs.declared.fault.StreamKind.TheVariants.{ChunkDamaged, TooManyChunks}
+use Rattle.age_chunk.specs.declared.fault.StreamKind.TheVariants.{ChunkDamaged, TooManyChunks}
 
 -- the chunk that was sealed as this block at this nonce, if any: blocks are compared, and none is
 -- opened

@@ -1,6 +1,6 @@
 -- What a replay stands for. A chunk has n bytes.
 use Rattle.std.specs.Prelude.{◌≡◌, ◌<◌, ◌+◌, ℕ, List, [], length, vec_capacity}
-use Rattle.age_stream.specs.ChunkBoxes.{Opens}
+use Rattle.age_chunk.specs.ChunkBoxes.{Opens}
 use Rattle.age_stream.specs.Deliveries.{Standing, standing, text_held}
 use Rattle.age_stream.specs.Opening.{OpenerView, Stands, text_of_piece, text_at_end}
 use Rattle.age_stream.specs.declared.delivery.Delivery.{Delivery}

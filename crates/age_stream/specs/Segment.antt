@@ -5,14 +5,14 @@ use Rattle.std.specs.Prelude.{◌==◌, nat_lt, List, [], ◌∷◌, ◌++◌, l
 use Rattle.std.specs.Prelude.{Some, None, is_some, is_none, if◌then◌else◌}
 use Rattle.std.specs.List.{flat_map}
 use Rattle.std.specs.Simd.{first_chunks}
-use Rattle.age_stream.specs.ChunkBoxes.{Opens}
-use Rattle.age_stream.specs.Nonce.{nonce_bytes, chunk_limit}
+use Rattle.age_chunk.specs.ChunkBoxes.{Opens}
+use Rattle.age_chunk.specs.Nonce.{nonce_bytes, chunk_limit}
 use Rattle.age_stream.specs.declared.step.Status.{Status}
 use Rattle.age_stream.specs.declared.step.Status.TheVariants.{Open, LastSeen, Done, Failed}
-use Rattle.age_stream.specs.declared.fault.StreamKind.{StreamKind}
-use Rattle.age_stream.specs.declared.fault.StreamKind.TheVariants.{ChunkDamaged, ChunkCut}
-use Rattle.age_stream.specs.declared.fault.StreamKind.TheVariants.{EmptyLast, Truncated, Trailing}
-use Rattle.age_stream.specs.declared.fault.StreamKind.TheVariants.{TooManyChunks}
+use Rattle.age_chunk.specs.declared.fault.StreamKind.{StreamKind}
+use Rattle.age_chunk.specs.declared.fault.StreamKind.TheVariants.{ChunkDamaged, ChunkCut}
+use Rattle.age_chunk.specs.declared.fault.StreamKind.TheVariants.{EmptyLast, Truncated, Trailing}
+use Rattle.age_chunk.specs.declared.fault.StreamKind.TheVariants.{TooManyChunks}
 
 -- the number of its first block, the bytes before its first end, whether an end came, and whether
 -- bytes came after that

@@ -1,9 +1,9 @@
 -- Why a whole text isn't sealed. A chunk has n bytes.
 use Rattle.std.specs.Prelude.{◌≡◌, ℕ, ◌+◌, ◌*◌, ◌-◌, ◌<◌, List, length, Option, Some}
 use Rattle.std.specs.Prelude.{None}
-use Rattle.age_stream.specs.Nonce.{chunk_limit}
-use Rattle.age_stream.specs.Payload.{chunk_count}
-use Rattle.age_stream.specs.FaultNumbers.{number_of as number_of_kind}
+use Rattle.age_chunk.specs.Nonce.{chunk_limit}
+use Rattle.age_chunk.specs.Payload.{chunk_count}
+use Rattle.age_chunk.specs.FaultNumbers.{number_of as number_of_kind}
 use Rattle.age_stream.specs.Sealing.{too_many}
 use Rattle.age_stream.specs.declared.whole_text.SealFault.{SealFault}
 use Rattle.age_stream.specs.declared.whole_text.SealFault.TheVariants.{Stream, Memory}

@@ -1,5 +1,3 @@
-pub mod Beyond
-pub mod ClearLaw
 pub mod OpenerSteps
 pub mod ReplaySteps
 pub mod SealerSteps

@@ -3,13 +3,12 @@ ghost use Rattle.std.specs.Prelude.{◌-◌, ◌<◌, ◌≤◌, length, IfOk, O
 ghost use Rattle.std.specs.List.{flat_map};
 ghost use Rattle.age_stream.specs.Drills.{IsHeldAfter};
 ghost use Rattle.age_stream.specs.Headline.{HoldsWritten};
-ghost use Rattle.age_stream.specs.Payload.{block_length};
+ghost use Rattle.age_chunk.specs.Payload.{block_length};
 ghost use Rattle.age_stream.specs.Replaying.{bytes_in};
 
-use crate::chunk_box::ChunkBox;
 use crate::delivery::Delivery;
-use crate::fault::Memory;
 use crate::replay::{Drill, Replay};
+use age_chunk::{ChunkBox, Memory};
 use std::alloc::Global;
 
 /// Gives deliveries to a new [`Replay`], and returns what it then holds.

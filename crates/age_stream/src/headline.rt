@@ -5,7 +5,7 @@ ghost use Rattle.age_stream.specs.Deliveries.{standing, text_held};
 ghost use Rattle.age_stream.specs.Headline.{HoldsWritten, ReleasesWritten};
 ghost use Rattle.age_stream.specs.declared.delivery.Delivery.{Delivery};
 
-use crate::chunk_box::ChunkBox;
+use age_chunk::ChunkBox;
 
 /// While no delivered block opens at a nonce except as the writer of a text
 /// sealed it there, what is held is the beginning of the text, the end is

@@ -13,32 +13,25 @@
 //! the text that came of any list of pieces, ends and restarts.
 #![tactic(auto)]
 
-mod chunk_box;
-mod clear_box;
 mod delivery;
 mod drilling;
-mod fault;
 mod headline;
 mod laws;
-mod nonce;
 mod opener;
 mod replay;
 mod sealer;
 mod step;
 mod whole_text;
 
-pub use chunk_box::ChunkBox;
-pub use clear_box::ClearBox;
+pub use age_chunk::{CHUNK_LIMIT, ChunkBox, ClearBox, Memory, StreamFault, StreamKind, nonce_of};
 pub use delivery::Delivery;
 pub use drilling::drill;
-pub use fault::{Memory, StreamFault, StreamKind};
 pub use headline::held_is_written;
 pub use laws::{
     chunks_are_counted, chunks_are_one, clear_is_sealable, closed_stays, nonces_differ,
     payload_is_longer, pieces_join, released_grows, released_is_written, round_trip, sealed_grows,
     sealings_differ, undamaged_is_authentic,
 };
-pub use nonce::{CHUNK_LIMIT, nonce_of};
 pub use opener::Opener;
 pub use replay::{Drill, Replay};
 pub use sealer::Sealer;

@@ -7,15 +7,13 @@ ghost use Rattle.std.specs.List.{flat_map};
 ghost use Rattle.std.specs.Borrow.{sem};
 ghost use Rattle.std.specs.Io.BufRead.{Rests};
 ghost use Rattle.age_stream.specs.Headline.{ReleasesWritten};
-ghost use Rattle.age_stream.specs.Nonce.{nonce_bytes, chunk_limit};
-ghost use Rattle.age_stream.specs.Payload.{chunk_length, block_length};
+ghost use Rattle.age_chunk.specs.Nonce.{nonce_bytes, chunk_limit};
+ghost use Rattle.age_chunk.specs.Payload.{chunk_length, block_length};
 ghost use Rattle.age_stream.specs.declared.step.Status.TheVariants.{Open, LastSeen, Done};
-ghost use Rattle.age_stream.specs.declared.fault.StreamFault.{StreamFault as StreamFaultValue};
+ghost use Rattle.age_chunk.specs.declared.fault.StreamFault.{StreamFault as StreamFaultValue};
 
-use crate::chunk_box::ChunkBox;
-use crate::fault::{StreamFault, StreamKind};
-use crate::nonce::{CHUNK_LIMIT, nonce_of};
 use crate::step::{Status, Step};
+use age_chunk::{CHUNK_LIMIT, ChunkBox, StreamFault, StreamKind, nonce_of};
 use arrayvec::ArrayVec;
 use std::marker::Model;
 

@@ -5,16 +5,14 @@ ghost use Rattle.std.specs.Prelude.{vec_len, vec_capacity, nat_lt, nat_le, ◌&&
 ghost use Rattle.std.specs.Bool.{OnTrue};
 ghost use Rattle.age_stream.specs.declared.delivery.Delivery.{Delivery as DeliveryValue};
 ghost use Rattle.age_stream.specs.Lent.{chunk_bytes};
-ghost use Rattle.age_stream.specs.Nonce.{chunk_limit};
-ghost use Rattle.age_stream.specs.Payload.{block_length};
+ghost use Rattle.age_chunk.specs.Nonce.{chunk_limit};
+ghost use Rattle.age_chunk.specs.Payload.{block_length};
 ghost use Rattle.age_stream.specs.Headline.{HoldsWritten};
 
-use crate::chunk_box::ChunkBox;
 use crate::delivery::Delivery;
-use crate::fault::Memory;
-use crate::nonce::CHUNK_LIMIT;
 use crate::opener::Opener;
 use crate::step::Status;
+use age_chunk::{CHUNK_LIMIT, ChunkBox, Memory};
 use std::alloc::Global;
 use std::marker::Model;
 

@@ -4,13 +4,11 @@ ghost use Rattle.std.specs.Prelude.{length, take, IfOk, OnOk, OnErr, IfErr, IfSo
 ghost use Rattle.std.specs.Prelude.{IsNone, true, false, if◌then◌else◌};
 ghost use Rattle.std.specs.Borrow.{sem};
 ghost use Rattle.std.specs.Io.BufRead.{Rests};
-ghost use Rattle.age_stream.specs.Nonce.{nonce_bytes, chunk_limit};
-ghost use Rattle.age_stream.specs.Payload.{block_length};
+ghost use Rattle.age_chunk.specs.Nonce.{nonce_bytes, chunk_limit};
+ghost use Rattle.age_chunk.specs.Payload.{block_length};
 
-use crate::chunk_box::ChunkBox;
-use crate::fault::{StreamFault, StreamKind};
-use crate::nonce::{CHUNK_LIMIT, nonce_of};
 use crate::step::Step;
+use age_chunk::{CHUNK_LIMIT, ChunkBox, StreamFault, StreamKind, nonce_of};
 use arrayvec::ArrayVec;
 use std::marker::Model;
 
@@ -35,7 +33,7 @@ impl<'k, B: ChunkBox, const SEALED: usize> SealerState<'k, B, SEALED> {
     ghost use Rattle.age_stream.specs.Sealing.{needs_too_many, too_many};
     ghost use Rattle.age_stream.specs.inner.SealerSteps.{bytes_of, IsStep};
     ghost use Rattle.age_stream.specs.SealerCalls.{IsRefused};
-    ghost use Rattle.age_stream.specs.Payload.{sealed_before_last, block_bytes, payload};
+    ghost use Rattle.age_chunk.specs.Payload.{sealed_before_last, block_bytes, payload};
 
     // Empties the buffer of a block that was lent, and puts the byte beside it first.
     fn settle(&mut self)
@@ -191,7 +189,7 @@ impl<'k, B: ChunkBox, const SEALED: usize> Sealer<'k, B, SEALED> {
     ghost use Rattle.age_stream.specs.SealerCalls.{IsTaken, IsFinished};
     ghost use Rattle.age_stream.specs.Lent.{chunk_bytes};
     ghost use Rattle.age_stream.specs.SealerRow.{sealer_row};
-    ghost use Rattle.age_stream.specs.Payload.{sealed_before_last, block_bytes, payload};
+    ghost use Rattle.age_chunk.specs.Payload.{sealed_before_last, block_bytes, payload};
 
     /// A sealer that was given nothing yet. Takes no memory.
     pub fn new(key: &'k B) -> Self

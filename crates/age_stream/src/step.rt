@@ -1,6 +1,6 @@
 //! What a call on a stream returns.
 
-use crate::fault::StreamFault;
+use age_chunk::StreamFault;
 
 /// Where an opener stands.
 #[derive(Clone, Copy, Debug, PartialEq, Eq)]

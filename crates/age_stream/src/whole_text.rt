@@ -2,16 +2,15 @@
 ghost use Rattle.std.specs.Prelude.{◌≡◌, ◌-◌, ◌≤◌, ◌<◌, ◌+◌, ◌*◌, ◌/◌};
 ghost use Rattle.std.specs.Prelude.{◌^◌, ◌++◌, length, IfOk, IfErr, OnOk, IfSome, IfNone};
 ghost use Rattle.std.specs.Prelude.{vec_capacity};
-ghost use Rattle.age_stream.specs.Payload.{payload, chunk_count, block_length};
-ghost use Rattle.age_stream.specs.Nonce.{chunk_limit};
+ghost use Rattle.age_chunk.specs.Payload.{payload, chunk_count, block_length};
+ghost use Rattle.age_chunk.specs.Nonce.{chunk_limit};
 ghost use Rattle.age_stream.specs.Authentic.{GivesBack, IsClosed};
 ghost use Rattle.age_stream.specs.WholeText.{SealRefuses, number_of, place_of};
 ghost use Rattle.age_stream.specs.declared.whole_text.SealFault.TheVariants as refusals;
 
-use crate::chunk_box::ChunkBox;
-use crate::fault::StreamFault;
 use crate::replay::push_lent;
 use crate::sealer::Sealer;
+use age_chunk::{ChunkBox, StreamFault};
 use std::alloc::{AllocError, Global};
 use thiserror::Error;
 

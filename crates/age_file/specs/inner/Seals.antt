@@ -4,9 +4,9 @@ use Rattle.std.specs.Prelude.{◌≡◌, ℕ, ◌+◌, ◌-◌, ◌*◌, ◌^◌
 use Rattle.std.specs.Prelude.{[], ◌++◌, length}
 use Rattle.std.specs.Prelude.{Result, MatchResult, false}
 use Rattle.std.specs.Io.KnownBytes.{Consumes, Appends, IsAtEnd}
-use Rattle.age_stream.specs.Nonce.{chunk_limit}
+use Rattle.age_chunk.specs.Nonce.{chunk_limit}
 use Rattle.age_stream.specs.Sealing.{SealerView, Holds, too_many}
-use Rattle.age_stream.specs.Payload.{sealed_before_last, block_bytes, payload, chunk_count}
+use Rattle.age_chunk.specs.Payload.{sealed_before_last, block_bytes, payload, chunk_count}
 use Rattle.age_stream.specs.Headline.{IsPrefixOf}
 use Rattle.age_fault.specs.Faults.{HasRisen}
 use Rattle.age_file.specs.Ports.{Ports, NoneFailed}

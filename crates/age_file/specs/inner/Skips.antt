@@ -4,7 +4,7 @@ use Rattle.std.specs.Prelude.{◌≡◌, ℕ, ◌+◌, ◌*◌, ◌<◌, ◌≤�
 use Rattle.std.specs.Prelude.{Ok, Err}
 use Rattle.std.specs.Prelude.{Bool, true, false}
 use Rattle.std.specs.Io.KnownBytes.{IsAtEnd}
-use Rattle.age_stream.specs.declared.fault.StreamKind.TheVariants.{Truncated}
+use Rattle.age_chunk.specs.declared.fault.StreamKind.TheVariants.{Truncated}
 use Rattle.age_file.specs.inner.Readers.{ReaderView}
 use Rattle.age_file.specs.inner.Intakes.{PullFails}
 use Rattle.age_file.specs.inner.Starts.{Uses}

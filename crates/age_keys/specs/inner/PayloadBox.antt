@@ -4,7 +4,7 @@ use Rattle.std.proofs.Common.{sym}
 use Rattle.age_cipher.specs.Aead.{sealing}
 use Rattle.age_cipher.specs.Opening.{opening}
 use Rattle.age_cipher.proofs.SealingLemmas.{length-sealing, opening_of_sealing, sealing_of_opening}
-use Rattle.age_stream.specs.ChunkBoxes.{IsChunkBox}
+use Rattle.age_chunk.specs.ChunkBoxes.{IsChunkBox}
 
 pub box_valid : (key : List ℕ)
     → IsChunkBox (λ nonce text. sealing key nonce [] text)

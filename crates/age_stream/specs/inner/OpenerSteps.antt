@@ -4,7 +4,7 @@ use Rattle.std.specs.Prelude.{◌≢◌, ◌≡◌, ℕ, ◌+◌, ◌-◌, ◌�
 use Rattle.std.specs.Prelude.{◌++◌, length, take, Bool, true, false, ⊤, Result, Ok, Err}
 use Rattle.std.specs.Prelude.{MatchResult, nat_lt}
 use Rattle.age_stream.specs.declared.step.Status.TheVariants.{Open, Failed}
-use Rattle.age_stream.specs.declared.fault.StreamFault.{StreamFault}
+use Rattle.age_chunk.specs.declared.fault.StreamFault.{StreamFault}
 use Rattle.age_stream.specs.declared.opener.OpenerState.{OpenerState}
 use Rattle.age_stream.specs.Segment.{Outcome}
 use Rattle.age_stream.specs.inner.SegmentSteps.{status_after}

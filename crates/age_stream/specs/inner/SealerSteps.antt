@@ -1,7 +1,7 @@
 -- The steps of a sealer on its buffer. Only private functions cite this.
 use Rattle.std.specs.Prelude.{◌≡◌, ℕ, ◌+◌, ◌≤◌, ◌<◌, List, [], ◌++◌, length, take}
 use Rattle.std.specs.Prelude.{false, Option, Some, None, MatchOption}
-use Rattle.age_stream.specs.Nonce.{nonce_bytes}
+use Rattle.age_chunk.specs.Nonce.{nonce_bytes}
 use Rattle.age_stream.specs.Sealing.{SealerView, step_len}
 
 -- the bytes of a block, or none

@@ -1,13 +1,13 @@
 -- The steps of an opener's outcome, as more bytes or an end come. Only private functions cite this.
 use Rattle.std.specs.Prelude.{ℕ, ◌+◌, Bool, true, false, ◌&&◌, ◌==◌, nat_lt, List, []}
 use Rattle.std.specs.Prelude.{◌∷◌, ◌++◌, length, Option, Some, None}
-use Rattle.age_stream.specs.Nonce.{nonce_bytes}
+use Rattle.age_chunk.specs.Nonce.{nonce_bytes}
 use Rattle.age_stream.specs.declared.step.Status.{Status}
 use Rattle.age_stream.specs.declared.step.Status.TheVariants.{Open, LastSeen, Done, Failed}
-use Rattle.age_stream.specs.declared.fault.StreamKind.{StreamKind}
-use Rattle.age_stream.specs.declared.fault.StreamKind.TheVariants.{ChunkDamaged, ChunkCut}
-use Rattle.age_stream.specs.declared.fault.StreamKind.TheVariants.{EmptyLast, Truncated, Trailing}
-use Rattle.age_stream.specs.declared.fault.StreamKind.TheVariants.{TooManyChunks}
+use Rattle.age_chunk.specs.declared.fault.StreamKind.{StreamKind}
+use Rattle.age_chunk.specs.declared.fault.StreamKind.TheVariants.{ChunkDamaged, ChunkCut}
+use Rattle.age_chunk.specs.declared.fault.StreamKind.TheVariants.{EmptyLast, Truncated, Trailing}
+use Rattle.age_chunk.specs.declared.fault.StreamKind.TheVariants.{TooManyChunks}
 use Rattle.age_stream.specs.Segment.{Outcome, failed, first_line, text_before_last}
 
 -- the status once bytes came, or none

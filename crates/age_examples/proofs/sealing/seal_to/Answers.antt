@@ -3,7 +3,7 @@ use Rattle.std.proofs.lemmas.List.{take_all, take_rest, length-take, length-drop
 use Rattle.std.specs.Io.KnownBytes.{Appends}
 use Rattle.age_stream.specs.Sealing.{Holds, step_len}
 use Rattle.age_stream.specs.Lent.{chunk_bytes}
-use Rattle.age_stream.specs.Payload.{sealed_before_last, block_bytes, payload}
+use Rattle.age_chunk.specs.Payload.{sealed_before_last, block_bytes, payload}
 use Rattle.std.proofs.lemmas.Bool.Decides.{nat_tests}
 use Rattle.age_fault.proofs.Bytes.{Appends-then}
 use Rattle.age_examples.proofs.sealing.seal_to.Goals as goal

@@ -1,7 +1,7 @@
 use Rattle.std.proofs.Common.{length, ◌-◌, ◌≡◌, ◌≤◌, take, false}
 use Rattle.std.specs.Io.KnownBytes.{Appends}
 use Rattle.age_stream.specs.Sealing.{Holds}
-use Rattle.age_stream.specs.Payload.{sealed_before_last, block_bytes}
+use Rattle.age_chunk.specs.Payload.{sealed_before_last, block_bytes}
 use Rattle.age_examples.proofs.sealing.seal_to.Given as goal
 
 abbrev pub invariant-loop-at : goal.invariant-loop-at

@@ -2,7 +2,7 @@ use Rattle.std.proofs.Common.{◌<◌, ◌≡◌, ◌-◌, ◌≤◌, ℕ, ◌+�
 use Rattle.std.proofs.lemmas.List.{take_all, length-take, length-drop, length-append, append_assoc}
 use Rattle.age_stream.specs.Sealing.{Holds}
 use Rattle.age_stream.specs.Lent.{chunk_bytes}
-use Rattle.age_stream.specs.Payload.{last_index, sealed_before_last, block_bytes, payload}
+use Rattle.age_chunk.specs.Payload.{last_index, sealed_before_last, block_bytes, payload}
 use Rattle.age_stream.proofs.SealerSteps.{step_len_le}
 use Rattle.age_stream.proofs.PublicLaws.{payload_is_longer}
 use Rattle.age_stream.proofs.WholeTexts.{take_on, front_fits}

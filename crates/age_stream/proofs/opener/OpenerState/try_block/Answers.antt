@@ -1,5 +1,5 @@
 use Rattle.std.proofs.Common.{◌≡◌, ℕ, ◌-◌, refl, ap, sym, ◌∙◌, length, take, Some, None, true, rules}
-use Rattle.age_stream.specs.Nonce.{nonce_bytes}
+use Rattle.age_chunk.specs.Nonce.{nonce_bytes}
 use Rattle.age_stream.specs.Segment.{Outcome}
 use Rattle.age_stream.proofs.Blocks.{one_block-last, one_block-neither}
 use Rattle.age_stream.proofs.Sizes.{list_fits, opener_state_fits}

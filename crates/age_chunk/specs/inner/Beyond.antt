@@ -5,8 +5,8 @@ use Rattle.std.specs.Prelude.{◌≡◌, ℕ, ◌+◌, ◌-◌, List, ◌++◌, 
 use Rattle.std.specs.Prelude.{None, nat_lt, nat_le, ◌&&◌, Bool, true, not, if◌then◌else◌}
 use Rattle.std.specs.List.{list_all}
 use Rattle.std.specs.Str.{bytes_eq}
-use Rattle.age_stream.specs.ChunkBoxes.{Seals, Opens}
-use Rattle.age_stream.specs.Payload.{chunk_length, block_length}
+use Rattle.age_chunk.specs.ChunkBoxes.{Seals, Opens}
+use Rattle.age_chunk.specs.Payload.{chunk_length, block_length}
 
 abbrev pub are_bytes : List ℕ → Bool
 are_bytes = list_all (λ (b : ℕ). nat_lt b 256)

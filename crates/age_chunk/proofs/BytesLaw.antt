@@ -7,8 +7,8 @@ use Rattle.std.proofs.lemmas.List.{length-append, length-replicate, take_at}
 use Rattle.std.proofs.lemmas.List.Folds.{list_all-append}
 use Rattle.std.proofs.lemmas.Bool.{le-leb, leb-true, and_parts}
 use Rattle.std.proofs.lemmas.Option.{cond_some}
-use Rattle.age_stream.specs.ChunkBoxes.{Seals, Opens, IsChunkBox}
-use Rattle.age_stream.specs.inner.Beyond.{are_bytes, is_text, is_block, IsChunkBoxOnBytes, no_tag, sealing_beyond, opening_beyond}
+use Rattle.age_chunk.specs.ChunkBoxes.{Seals, Opens, IsChunkBox}
+use Rattle.age_chunk.specs.inner.Beyond.{are_bytes, is_text, is_block, IsChunkBoxOnBytes, no_tag, sealing_beyond, opening_beyond}
 
 by_cases : {P : Type 0} (b : Bool) → (b ≡ true → P) → (b ≡ false → P) → P
 by_cases true left right = left refl

@@ -1,7 +1,7 @@
 //! The refusals of a stream.
 
 ghost use Rattle.std.specs.Prelude.{◌≡◌, Some, None};
-ghost use Rattle.age_stream.specs.FaultNumbers.{number_of};
+ghost use Rattle.age_chunk.specs.FaultNumbers.{number_of};
 
 use thiserror::Error;
 
