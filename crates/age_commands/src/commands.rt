@@ -1,20 +1,99 @@
 //! The commands of the program and their arguments, for the parser of command lines.
 
 ghost use Rattle.std.specs.Prelude.{◌≡◌, false, IfOk};
-ghost use Rattle.clap.specs.Words.{App, rule_of, with_rule, with_subcommand, new_app};
+ghost use Rattle.clap.specs.Words.{App, rule_of, new_rule, with_subcommand, new_app};
 ghost use Rattle.clap.specs.Words.{FailsBy, subcommand_rows_of};
 ghost use Rattle.clap.specs.Walk.{texts};
-ghost use Rattle.age_commands.specs.Commands.{option_rule, number_rule, flag_rule};
-ghost use Rattle.age_commands.specs.Commands.{with_writing, with_unlocking, with_sealing};
-ghost use Rattle.age_commands.specs.Commands.{with_both_files, encrypting, decrypting, resuming};
+ghost use Rattle.age_commands.specs.Commands.{option_rule, required_rule, number_rule, flag_rule};
+ghost use Rattle.age_commands.specs.Commands.{encrypting, decrypting, resuming};
 ghost use Rattle.age_commands.specs.Commands.{inspecting, drilling, age_tool};
 ghost use Rattle.age_commands.specs.inner.Commands.{HasApp, described_tool, bare_tool};
-ghost use Rattle.age_commands.specs.inner.Commands.{operand_rule, required_option, with_keys};
+ghost use Rattle.age_commands.specs.inner.Commands.{rule_as, with_all};
 ghost use Rattle.age_commands.specs.Asked.{refusals, named};
 
 use crate::help;
 use clap::{Arg, ArgAction, ArgMatches, Command, Error};
 use std::alloc::{AllocError, Global};
+
+/// How an argument of a command is given.
+#[derive(Clone, Copy)]
+enum Given {
+    /// `--ID VALUE`, where the help shows this word for the value.
+    Value(&'static str),
+    /// `--ID FILE`, which has to be there.
+    File,
+    /// `--ID N`, for N from 1 to 22.
+    Number,
+    /// `--ID`.
+    Flag,
+    /// A word that has to be there.
+    Operand,
+    /// A word that may be there.
+    Word,
+}
+
+/// An argument of a command: its name, how it is given, and what the help says of it.
+#[derive(Clone, Copy)]
+struct Argument(&'static str, Given, &'static str);
+
+const PASS: Argument = Argument("pass", Given::Value("FILE"), help::PASS);
+
+const FILE_KEY: Argument = Argument("file-key", Given::Value("HEX"), help::FILE_KEY);
+
+const SHARED: Argument = Argument("shared", Given::Value("FILE"), help::SHARED);
+
+const MAX_LOG: Argument = Argument("max-log", Given::Number, help::MAX_LOG);
+
+const SAVE: Argument = Argument("save", Given::Value("FILE"), help::SAVE);
+
+const NO_SYNC: Argument = Argument("no-sync", Given::Flag, help::NO_SYNC);
+
+const PROGRESS: Argument = Argument("progress", Given::Flag, help::PROGRESS);
+
+const ENCRYPT: &[Argument] = &[
+    Argument("pass", Given::File, help::PASS),
+    Argument("log", Given::Number, help::LOG),
+    Argument("random", Given::Value("FILE"), help::RANDOM),
+    NO_SYNC,
+    PROGRESS,
+    Argument("IN", Given::Operand, help::PLAIN_IN),
+    Argument("OUT", Given::Operand, help::FILE_OUT),
+];
+
+const DECRYPT: &[Argument] = &[
+    PASS,
+    FILE_KEY,
+    SHARED,
+    MAX_LOG,
+    SAVE,
+    NO_SYNC,
+    PROGRESS,
+    Argument("IN", Given::Operand, help::FILE_IN),
+    Argument("OUT", Given::Operand, help::PLAIN_OUT),
+];
+
+const RESUME: &[Argument] = &[
+    Argument("position", Given::File, help::POSITION),
+    Argument("old", Given::File, help::OLD),
+    PASS,
+    FILE_KEY,
+    SHARED,
+    MAX_LOG,
+    SAVE,
+    NO_SYNC,
+    PROGRESS,
+    Argument("IN", Given::Operand, help::FILE_IN),
+    Argument("OUT", Given::Operand, help::WHOLE_OUT),
+];
+
+const INSPECT: &[Argument] = &[Argument("FILE", Given::Word, help::INSPECTED)];
+
+const DRILL: &[Argument] = &[
+    Argument("clear", Given::Flag, help::CLEAR),
+    PASS,
+    Argument("SCRIPT", Given::Operand, help::SCRIPT),
+    Argument("IN", Given::Operand, help::DRILLED),
+];
 
 /// `--ID VALUE`.
 fn option<'a>(alloc: Global, id: &'a str, value: &'a str, help: &'a str) -> Arg<'a>
@@ -22,6 +101,14 @@ fn option<'a>(alloc: Global, id: &'a str, value: &'a str, help: &'a str) -> Arg<
     ensures local { result.global ≡ false }
 {
     Arg::new(alloc, id).long(id).value_name(value).help(help)
+}
+
+/// `--ID FILE`, which has to be there.
+fn required<'a>(alloc: Global, id: &'a str, help: &'a str) -> Arg<'a>
+    ensures rule { rule_of result ≡ required_rule (option_rule id.entry.now) }
+    ensures local { result.global ≡ false }
+{
+    option(alloc, id, "FILE", help).required(true)
 }
 
 /// `--ID N`, for N from 1 to 22.
@@ -43,12 +130,35 @@ fn flag<'a>(alloc: Global, id: &'a str, help: &'a str) -> Arg<'a>
         .help(help)
 }
 
-/// A word that has to be there.
-fn operand<'a>(alloc: Global, id: &'a str, help: &'a str) -> Arg<'a>
-    ensures rule { rule_of result ≡ operand_rule id.entry.now }
+/// A word that may be there.
+fn word<'a>(alloc: Global, id: &'a str, help: &'a str) -> Arg<'a>
+    ensures rule { rule_of result ≡ new_rule id.entry.now }
     ensures local { result.global ≡ false }
 {
-    Arg::new(alloc, id).required(true).help(help)
+    Arg::new(alloc, id).help(help)
+}
+
+/// A word that has to be there.
+fn operand<'a>(alloc: Global, id: &'a str, help: &'a str) -> Arg<'a>
+    ensures rule { rule_of result ≡ required_rule (new_rule id.entry.now) }
+    ensures local { result.global ≡ false }
+{
+    word(alloc, id, help).required(true)
+}
+
+fn arg_of<'a>(alloc: Global, argument: &Argument) -> Arg<'a>
+    ensures rule { rule_of result ≡ rule_as argument.now.0.now argument.now.1 }
+    ensures local { result.global ≡ false }
+{
+    let Argument(id, given, help) = *argument;
+    match given {
+        Given::Value(name) => option(alloc, id, name, help),
+        Given::File => required(alloc, id, help),
+        Given::Number => number(alloc, id, help),
+        Given::Flag => flag(alloc, id, help),
+        Given::Operand => operand(alloc, id, help),
+        Given::Word => word(alloc, id, help),
+    }
 }
 
 fn command<'a>(alloc: Global, name: &'a str, about: &'a str, after: &'a str) -> Command<'a>
@@ -57,183 +167,54 @@ fn command<'a>(alloc: Global, name: &'a str, about: &'a str, after: &'a str) -> 
     Command::new(alloc, name).about(about).after_help(after)
 }
 
-/// Adds an argument of the command's own, where memory has sufficed so far.
-fn add<'a>(to: Result<Command<'a>, AllocError>, arg: Arg<'a>) -> Result<Command<'a>, AllocError>
-    requires own { arg.global ≡ false }
-    ensures { (a : App) → IfOk to.entry (HasApp a)
-        → IfOk result (HasApp (with_rule a (rule_of arg.entry))) }
-{
-    to?.arg(arg)
-}
-
-/// Adds `--ID VALUE`.
-fn add_option<'a>(
+fn with_arguments<'a>(
     alloc: Global,
-    to: Result<Command<'a>, AllocError>,
-    id: &'a str,
-    value: &'a str,
-    help: &'a str,
+    plain: Command<'a>,
+    arguments: &[Argument],
 ) -> Result<Command<'a>, AllocError>
-    ensures { (a : App) → IfOk to.entry (HasApp a)
-        → IfOk result (HasApp (with_rule a (option_rule id.entry.now))) }
+    ensures { (a : App) → HasApp a plain.entry
+        → IfOk result (HasApp (with_all a arguments.now)) }
 {
-    add(to, option(alloc, id, value, help))
-}
-
-/// Adds `--ID FILE`, which has to be there.
-fn add_required<'a>(
-    alloc: Global,
-    to: Result<Command<'a>, AllocError>,
-    id: &'a str,
-    help: &'a str,
-) -> Result<Command<'a>, AllocError>
-    ensures { (a : App) → IfOk to.entry (HasApp a)
-        → IfOk result (HasApp (with_rule a (required_option id.entry.now))) }
-{
-    add(to, option(alloc, id, "FILE", help).required(true))
-}
-
-/// Adds `--ID N`.
-fn add_number<'a>(
-    alloc: Global,
-    to: Result<Command<'a>, AllocError>,
-    id: &'a str,
-    help: &'a str,
-) -> Result<Command<'a>, AllocError>
-    ensures { (a : App) → IfOk to.entry (HasApp a)
-        → IfOk result (HasApp (with_rule a (number_rule id.entry.now))) }
-{
-    add(to, number(alloc, id, help))
-}
-
-/// Adds `--ID`.
-fn add_flag<'a>(
-    alloc: Global,
-    to: Result<Command<'a>, AllocError>,
-    id: &'a str,
-    help: &'a str,
-) -> Result<Command<'a>, AllocError>
-    ensures { (a : App) → IfOk to.entry (HasApp a)
-        → IfOk result (HasApp (with_rule a (flag_rule id.entry.now))) }
-{
-    add(to, flag(alloc, id, help))
-}
-
-/// Adds a word that has to be there.
-fn add_operand<'a>(
-    alloc: Global,
-    to: Result<Command<'a>, AllocError>,
-    id: &'a str,
-    help: &'a str,
-) -> Result<Command<'a>, AllocError>
-    ensures { (a : App) → IfOk to.entry (HasApp a)
-        → IfOk result (HasApp (with_rule a (operand_rule id.entry.now))) }
-{
-    add(to, operand(alloc, id, help))
-}
-
-/// The flags that say whether what is written is waited for, and whether progress is shown.
-fn add_writing<'a>(
-    alloc: Global,
-    to: Result<Command<'a>, AllocError>,
-) -> Result<Command<'a>, AllocError>
-    ensures { (a : App) → IfOk to.entry (HasApp a) → IfOk result (HasApp (with_writing a)) }
-{
-    let with_no_sync = add_flag(alloc, to, "no-sync", help::NO_SYNC);
-    add_flag(alloc, with_no_sync, "progress", help::PROGRESS)
-}
-
-/// The options that say what opens a file.
-fn add_keys<'a>(
-    alloc: Global,
-    to: Result<Command<'a>, AllocError>,
-) -> Result<Command<'a>, AllocError>
-    ensures { (a : App) → IfOk to.entry (HasApp a) → IfOk result (HasApp (with_keys a)) }
-{
-    let with_pass = add_option(alloc, to, "pass", "FILE", help::PASS);
-    let with_key = add_option(alloc, with_pass, "file-key", "HEX", help::FILE_KEY);
-    add_option(alloc, with_key, "shared", "FILE", help::SHARED)
-}
-
-/// The options that say what opens a file, where a stop's position goes, and how it is written.
-fn add_unlocking<'a>(
-    alloc: Global,
-    to: Result<Command<'a>, AllocError>,
-) -> Result<Command<'a>, AllocError>
-    ensures { (a : App) → IfOk to.entry (HasApp a) → IfOk result (HasApp (with_unlocking a)) }
-{
-    let with_keys = add_keys(alloc, to);
-    let with_limit = add_number(alloc, with_keys, "max-log", help::MAX_LOG);
-    let with_save = add_option(alloc, with_limit, "save", "FILE", help::SAVE);
-    add_writing(alloc, with_save)
-}
-
-/// The options that say how a file is sealed and written.
-fn add_sealing<'a>(
-    alloc: Global,
-    to: Result<Command<'a>, AllocError>,
-) -> Result<Command<'a>, AllocError>
-    ensures { (a : App) → IfOk to.entry (HasApp a) → IfOk result (HasApp (with_sealing a)) }
-{
-    let with_log = add_number(alloc, to, "log", help::LOG);
-    let with_random = add_option(alloc, with_log, "random", "FILE", help::RANDOM);
-    add_writing(alloc, with_random)
-}
-
-fn add_both_files<'a>(
-    alloc: Global,
-    to: Result<Command<'a>, AllocError>,
-    from_help: &'a str,
-    to_help: &'a str,
-) -> Result<Command<'a>, AllocError>
-    ensures { (a : App) → IfOk to.entry (HasApp a) → IfOk result (HasApp (with_both_files a)) }
-{
-    let with_input = add_operand(alloc, to, "IN", from_help);
-    add_operand(alloc, with_input, "OUT", to_help)
+    let mut whole = plain;
+    for argument in arguments {
+        whole = whole.arg(arg_of(alloc, argument))?;
+    }
+    Ok(whole)
 }
 
 fn encrypt<'a>(alloc: Global) -> Result<Command<'a>, AllocError>
     ensures { IfOk result (HasApp encrypting) }
 {
     let plain = command(alloc, "encrypt", help::ENCRYPT, help::AFTER_ENCRYPT);
-    let with_pass = add_required(alloc, Ok(plain), "pass", help::PASS);
-    let sealing = add_sealing(alloc, with_pass);
-    add_both_files(alloc, sealing, help::PLAIN_IN, help::FILE_OUT)
+    with_arguments(alloc, plain, ENCRYPT)
 }
 
 fn decrypt<'a>(alloc: Global) -> Result<Command<'a>, AllocError>
     ensures { IfOk result (HasApp decrypting) }
 {
     let plain = command(alloc, "decrypt", help::DECRYPT, help::AFTER_DECRYPT);
-    let unlocking = add_unlocking(alloc, Ok(plain));
-    add_both_files(alloc, unlocking, help::FILE_IN, help::PLAIN_OUT)
+    with_arguments(alloc, plain, DECRYPT)
 }
 
 fn resume<'a>(alloc: Global) -> Result<Command<'a>, AllocError>
     ensures { IfOk result (HasApp resuming) }
 {
     let plain = command(alloc, "resume", help::RESUME, help::AFTER_RESUME);
-    let with_position = add_required(alloc, Ok(plain), "position", help::POSITION);
-    let with_old = add_required(alloc, with_position, "old", help::OLD);
-    let unlocking = add_unlocking(alloc, with_old);
-    add_both_files(alloc, unlocking, help::FILE_IN, help::WHOLE_OUT)
+    with_arguments(alloc, plain, RESUME)
 }
 
 fn inspect<'a>(alloc: Global) -> Result<Command<'a>, AllocError>
     ensures { IfOk result (HasApp inspecting) }
 {
     let plain = command(alloc, "inspect", help::INSPECT, help::AFTER_INSPECT);
-    add(Ok(plain), Arg::new(alloc, "FILE").help(help::INSPECTED))
+    with_arguments(alloc, plain, INSPECT)
 }
 
 fn drill<'a>(alloc: Global) -> Result<Command<'a>, AllocError>
     ensures { IfOk result (HasApp drilling) }
 {
     let plain = command(alloc, "drill", help::DRILL, help::AFTER_DRILL);
-    let with_clear = add_flag(alloc, Ok(plain), "clear", help::CLEAR);
-    let with_pass = add_option(alloc, with_clear, "pass", "FILE", help::PASS);
-    let with_script = add_operand(alloc, with_pass, "SCRIPT", help::SCRIPT);
-    add_operand(alloc, with_script, "IN", help::DRILLED)
+    with_arguments(alloc, plain, DRILL)
 }
 
 /// Adds a command of the program's, where memory has sufficed for both.

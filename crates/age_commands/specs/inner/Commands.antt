@@ -1,7 +1,11 @@
 -- The commands of the program, as its parser of command lines sees them.
-use Rattle.std.specs.Prelude.{◌≡◌, Bool, true, false, codes}
+use Rattle.std.specs.Prelude.{◌≡◌, Bool, true, false, codes, List, [], ◌∷◌}
 use Rattle.clap.specs.Words.{App, Rule, Text, app_of, new_app, new_rule, with_rule}
-use Rattle.age_commands.specs.Commands.{option_rule, required_rule}
+use Rattle.age_commands.specs.Commands.{option_rule, required_rule, number_rule, flag_rule}
+use Rattle.age_commands.specs.declared.commands.Argument.{Argument}
+use Rattle.age_commands.specs.declared.commands.Given.{Given}
+use Rattle.age_commands.specs.declared.commands.Given.TheVariants.{Value, File, Number, Flag}
+use Rattle.age_commands.specs.declared.commands.Given.TheVariants.{Operand, Word}
 use Rattle.clap.specs.Simple.{on_top}
 use Rattle.clap.specs.declared.builder.command.Command.TheViews.{out-Command}
 use Rattle.clap.specs.declared.builder.command.Command.{Command}
@@ -24,15 +28,16 @@ bare_tool = on_top
     (λ s. record s { no_binary_name = true; subcommand_required = true; has_version = true })
     (new_app (codes "age_tool"))
 
--- a word that has to be there
-abbrev pub operand_rule : Text → Rule
-operand_rule id = required_rule (new_rule id)
+-- how the parser reads an argument that is given like this
+abbrev pub rule_as : Text → Given → Rule
+rule_as id (Value _) = option_rule id
+rule_as id File = required_rule (option_rule id)
+rule_as id Number = number_rule id
+rule_as id Flag = flag_rule id
+rule_as id Operand = required_rule (new_rule id)
+rule_as id Word = new_rule id
 
--- `--ID FILE`, which has to be there
-abbrev pub required_option : Text → Rule
-required_option id = required_rule (option_rule id)
-
--- `[--pass FILE] [--file-key HEX] [--shared FILE]`
-abbrev pub with_keys : App → App
-with_keys a = with_rule (with_rule (with_rule a (option_rule (codes "pass")))
-    (option_rule (codes "file-key"))) (option_rule (codes "shared"))
+-- a command with these arguments added, one after the other
+abbrev pub with_all : App → List Argument → App
+with_all a [] = a
+with_all a (r ∷ rest) = with_all (with_rule a (rule_as r.0.now r.1)) rest

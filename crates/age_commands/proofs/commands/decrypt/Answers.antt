@@ -3,4 +3,4 @@ use Rattle.age_commands.proofs.commands.decrypt.Goals as goal
 
 pub returns : goal.returns
 unfolding decrypting
-returns c = c.add_both_files.ensures _ (c.add_unlocking-unlocking.ensures _ c.command-plain.ensures)
+returns c = c.with_arguments.ensures _ c.command-plain.ensures

@@ -1,0 +1,19 @@
+-- The commands' tables of arguments, added one after the other.
+use Rattle.std.proofs.Common.{◌≡◌, ℕ, suc, ◌+◌, ◌<◌, ◌≤◌, Bool, false, ◌||◌, List, length, drop, get_or, refl, ap, arith}
+use Rattle.std.proofs.Math.Seq.{drop-cons}
+use Rattle.std.proofs.lemmas.List.{drop_all}
+use Rattle.clap.specs.Words.{App, Rule, with_rule}
+use Rattle.age_commands.specs.inner.Commands.{with_all, rule_as}
+use Rattle.age_commands.specs.declared.commands.Argument.{Argument}
+
+pub add_one : (old new : App) (all : List Argument) (i : ℕ) (r : Rule) (d : Argument) → i < length all → new ≡ with_rule old r
+    → r ≡ rule_as (get_or all i d).0.now (get_or all i d).1 → with_all new (drop (i + 1) all) ≡ with_all old (drop i all)
+add_one old new all i r d h e f =
+    let next : suc i ≡ i + 1 = omega arith in
+    rw (e, f, drop-cons all i d h, next) refl
+
+pub add_none : (a : App) (all : List Argument) (i : ℕ) → length all ≤ i → with_all a (drop i all) ≡ a
+add_none a all i h = ap (with_all a) (drop_all i all h)
+
+pub neither : (x a b : Bool) → x ≡ (a || b) → a ≡ false → b ≡ false → x ≡ false
+neither x a b e f g = rw (e, f, g) refl
