@@ -4,7 +4,7 @@ use Rattle.std.proofs.lemmas.List.{length-append}
 use Rattle.std.specs.Prelude.{◌≢◌}
 use Rattle.std.specs.Io.KnownBytes.{Consumes}
 use Rattle.age_io.specs.Views.{SourceView}
-use Rattle.age_stanza.specs.declared.header.Header.{Header}
+use Rattle.age_header.specs.declared.header.Header.{Header}
 use Rattle.age_stanza.specs.Grammar.{HeadText}
 use Rattle.age_stanza.specs.Laws.{OneHeader}
 use Rattle.age_keys.specs.declared.fault.KeyFault.{KeyFault}

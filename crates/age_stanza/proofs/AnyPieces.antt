@@ -5,9 +5,9 @@ use Rattle.std.specs.List.{concat}
 use Rattle.std.proofs.lemmas.Bool.{cases_lt}
 use Rattle.std.proofs.lemmas.List.{append-nil, append_assoc, length-take, take-append-drop, take-append-le, take_all, take_at}
 use Rattle.std.proofs.Math.Seq.{take-append-add}
-use Rattle.age_stanza.specs.declared.header.Header.{Header}
-use Rattle.age_stanza.specs.declared.header.HeadStep.{HeadStep}
-use Rattle.age_stanza.specs.declared.header.HeadStep.TheVariants.{More, Ready}
+use Rattle.age_header.specs.declared.header.Header.{Header}
+use Rattle.age_stanza.specs.declared.head_step.HeadStep.{HeadStep}
+use Rattle.age_stanza.specs.declared.head_step.HeadStep.TheVariants.{More, Ready}
 use Rattle.age_stanza.specs.declared.fault.HeadFault.{HeadFault}
 use Rattle.age_stanza.specs.Faults.{memory_fault, FirstFault, HasHeader, IsLineFault, IsFault}
 use Rattle.age_stanza.specs.Grammar.{line, Spells, HeadText}

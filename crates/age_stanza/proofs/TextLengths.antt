@@ -8,8 +8,8 @@ use Rattle.std.specs.Int.{div_ceil}
 use Rattle.std.proofs.lemmas.Bool.{eqb-true, eqb-false, cases_lt}
 use Rattle.std.proofs.lemmas.List.{length-append, drop_more, drop_all}
 use Rattle.base64.specs.GeneralPurpose.{IsBytes}
-use Rattle.age_stanza.specs.declared.header.Stanza.{Stanza}
-use Rattle.age_stanza.specs.declared.header.Header.{Header}
+use Rattle.age_header.specs.declared.header.Stanza.{Stanza}
+use Rattle.age_header.specs.declared.header.Header.{Header}
 use Rattle.age_stanza.specs.Text.{base64_text}
 use Rattle.age_stanza.specs.inner.Lengths.{HasArguments, Leaves, IsTextLength}
 use Rattle.age_stanza.specs.Grammar.{line, version, in_lines, stanza_text, end_line, head_text, IsStanza, HasText}
@@ -94,15 +94,15 @@ valid_stanzas (s ∷ ss) args bodies = (record { some_argument = args.0.0; argum
 
 -- a valid header whose text is within the limit has one
 pub has_text : (h : Header) (r : Option ℕ) → IsTextLength h r → is_some r ≡ true → 0 < length h.stanzas → AllByRecursion HasArguments h.stanzas
-    → length h.mac ≡ 32 → HasText h
-has_text h None len some stanzas args long = absurd (cc some)
-has_text h (Some size) len some stanzas args long =
+    → HasText h
+has_text h None len some stanzas args = absurd (cc some)
+has_text h (Some size) len some stanzas args =
     let is = len.0 in
     let within = len.1 in (
       head_text h,
       record {
         spells = record {
-          valid = record { some_stanza = stanzas; stanzas = valid_stanzas h.stanzas args len.3; mac_length = long; mac = len.2 };
+          valid = record { some_stanza = stanzas; stanzas = valid_stanzas h.stanzas args len.4; mac_length = len.2; mac = len.3 };
           bytes_are = refl;
         };
         within = omega arith;

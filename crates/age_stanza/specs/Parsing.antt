@@ -2,8 +2,8 @@
 use Rattle.std.specs.Prelude.{◌≡◌, ◌≢◌, ◌⊎◌, ℕ, ◌<◌, ◌≤◌, List, ◌++◌}
 use Rattle.std.specs.Prelude.{length, take, Result, Ok, Err}
 use Rattle.base64.specs.GeneralPurpose.{IsBytes}
-use Rattle.age_stanza.specs.declared.header.HeadStep.{HeadStep}
-use Rattle.age_stanza.specs.declared.header.HeadStep.TheVariants.{More, Ready}
+use Rattle.age_stanza.specs.declared.head_step.HeadStep.{HeadStep}
+use Rattle.age_stanza.specs.declared.head_step.HeadStep.TheVariants.{More, Ready}
 use Rattle.age_stanza.specs.declared.fault.HeadKind.TheVariants.{HeadCut}
 use Rattle.age_stanza.specs.declared.fault.HeadFault.{HeadFault}
 use Rattle.age_stanza.specs.Grammar.{header_limit, HeadText}

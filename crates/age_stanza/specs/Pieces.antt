@@ -1,7 +1,7 @@
 -- A parser that was fed a list of pieces, in the order of the calls.
 use Rattle.std.specs.Prelude.{◌≡◌, ◌⊎◌, ℕ, List, [], ◌∷◌, ◌++◌, Result}
 use Rattle.std.specs.List.{concat}
-use Rattle.age_stanza.specs.declared.header.HeadStep.{HeadStep}
+use Rattle.age_stanza.specs.declared.head_step.HeadStep.{HeadStep}
 use Rattle.age_stanza.specs.declared.fault.HeadFault.{HeadFault}
 use Rattle.age_stanza.specs.Faults.{memory_fault, HasHeader, IsFault}
 use Rattle.age_stanza.specs.Parsing.{Parsing, reading, complete, refused, IsOpen, Feeds}

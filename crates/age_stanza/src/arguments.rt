@@ -6,9 +6,8 @@ ghost use Rattle.age_stanza.specs.Grammar.{IsArgument};
 ghost use Rattle.age_stanza.specs.inner.LineMachine.{arguments_from};
 ghost use Rattle.age_stanza.specs.inner.LineMachine.{arguments_of as spec_arguments_of};
 
-use crate::argument::Argument;
-use crate::bytes::Arguments;
 use crate::valid::is_argument;
+use age_header::{Argument, Arguments};
 use std::alloc::{AllocError, Global};
 
 /// Adds an argument. False where its characters aren't valid; then nothing changes.
@@ -54,7 +53,7 @@ fn arguments_in(alloc: Global, letters: &[u8]) -> Result<Option<Arguments>, Allo
     ensures { IfOk result (λ r. r ≡ arguments_from [] [] letters.now) }
 {
     let spaces = letters.iter().filter(|c| **c == b' ').count();
-    let mut args = Arguments::with_capacity(alloc, spaces + 1)?;
+    let mut args = Arguments::from_vec(Vec::with_capacity(alloc, spaces + 1)?);
     let valid = push_all(alloc, &mut args, letters)?;
     Ok(if valid { Some(args) } else { None })
 }

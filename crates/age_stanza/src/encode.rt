@@ -7,11 +7,10 @@ ghost use Rattle.age_stanza.specs.Grammar.{in_lines, stanza_text, head_text, Hea
 ghost use Rattle.age_stanza.specs.Encoding.{mac_text};
 ghost use Rattle.age_stanza.specs.Faults.{memory_fault};
 
-use crate::argument::Argument;
 use crate::fault::HeadFault;
-use crate::header::{Header, Stanza};
 use crate::text::LINE_BYTES;
 use crate::valid::text_len;
+use age_header::{Argument, Header, Stanza};
 use base64::engine::general_purpose::STANDARD_NO_PAD;
 use std::alloc::{AllocError, Global};
 

@@ -15,12 +15,10 @@
 //! argument out of its base64.
 #![tactic(auto)]
 
-mod argument;
 mod arguments;
-mod bytes;
 mod encode;
 mod fault;
-mod header;
+mod head_step;
 mod laws;
 mod parser;
 mod partial;
@@ -29,11 +27,10 @@ mod place;
 mod text;
 mod valid;
 
-pub use argument::Argument;
-pub use bytes::{Arguments, Bytes};
+pub use age_header::{Argument, Arguments, Bytes, Header, Stanza, Stanzas};
 pub use encode::{encode_head, mac_text};
 pub use fault::{HeadFault, HeadKind};
-pub use header::{HeadStep, Header, Stanza, Stanzas};
+pub use head_step::HeadStep;
 pub use laws::{
     alphabet, any_pieces, faults_stay, lines_of_64, mac_text_is_front, one_fault, one_header,
     text_is_base64,

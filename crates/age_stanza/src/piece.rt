@@ -7,7 +7,7 @@ ghost use Rattle.age_stanza.specs.inner.Steps.{ReadsLines, TakesPiece};
 
 use crate::HEAD_MAX;
 use crate::fault::HeadFault;
-use crate::header::HeadStep;
+use crate::head_step::HeadStep;
 use crate::partial::PartialHeader;
 
 /// Where the first line ends.

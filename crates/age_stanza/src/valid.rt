@@ -11,8 +11,7 @@ ghost use Rattle.age_stanza.specs.inner.Lengths.{HasArguments, Leaves, LeavesAft
 ghost use Rattle.age_stanza.specs.inner.Lengths.{IsTextLength};
 
 use crate::HEAD_MAX;
-use crate::argument::Argument;
-use crate::header::{Header, Stanza};
+use age_header::{Argument, Header, Stanza};
 
 /// Whether all bytes are visible ASCII characters.
 fn are_visible(bytes: &[u8]) -> bool

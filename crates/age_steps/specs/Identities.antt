@@ -4,7 +4,7 @@ use Rattle.std.specs.Prelude.{take, slice_index, Option, Some, None, ifâ—Œthenâ—
 use Rattle.std.specs.Prelude.{option_map}
 use Rattle.std.specs.declared.vec.Vec.{Vec}
 use Rattle.clap.specs.Words.{Text}
-use Rattle.age_stanza.specs.declared.header.Header.{Header}
+use Rattle.age_header.specs.declared.header.Header.{Header}
 use Rattle.age_keys.specs.declared.fault.KeyFault.{KeyFault}
 use Rattle.age_keys.specs.Keys.{SpellsKey}
 use Rattle.age_keys.specs.Passphrase.{IsAllowed, IsPassphraseKey, PassphraseRefuses}

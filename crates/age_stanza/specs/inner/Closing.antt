@@ -2,8 +2,8 @@
 -- What a step leaves of a parser that isn't open any more.
 use Rattle.std.specs.Prelude.{Option, Some, None, Result, Ok, Err}
 use Rattle.age_stanza.specs.declared.fault.HeadFault.{HeadFault}
-use Rattle.age_stanza.specs.declared.header.HeadStep.{HeadStep}
-use Rattle.age_stanza.specs.declared.header.HeadStep.TheVariants.{More, Ready}
+use Rattle.age_stanza.specs.declared.head_step.HeadStep.{HeadStep}
+use Rattle.age_stanza.specs.declared.head_step.HeadStep.TheVariants.{More, Ready}
 use Rattle.age_stanza.specs.declared.parser.State.{State}
 use Rattle.age_stanza.specs.declared.parser.State.TheVariants.{Done, Failed}
 

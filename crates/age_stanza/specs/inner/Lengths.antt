@@ -3,8 +3,8 @@
 use Rattle.std.specs.Prelude.{◌≡◌, ℕ, ◌+◌, ◌<◌, ◌≤◌, length, Option, Some, None}
 use Rattle.std.specs.List.{AllByRecursion}
 use Rattle.base64.specs.GeneralPurpose.{IsBytes}
-use Rattle.age_stanza.specs.declared.header.Stanza.{Stanza}
-use Rattle.age_stanza.specs.declared.header.Header.{Header}
+use Rattle.age_header.specs.declared.header.Stanza.{Stanza}
+use Rattle.age_header.specs.declared.header.Header.{Header}
 use Rattle.age_stanza.specs.Grammar.{IsArgument, stanza_text, head_text, header_limit}
 
 -- the part of a stanza's validity that its type leaves open
@@ -20,8 +20,9 @@ abbrev pub LeavesAfterStanza : ℕ → Stanza → Option ℕ → Type 0
 LeavesAfterStanza room s (Some left) = (left + length (stanza_text s) ≡ room) × IsBytes s.body
 LeavesAfterStanza room s None = room < length (stanza_text s)
 
--- the length of a header's text, where it is within the limit; and what the types tell of the bytes
+-- the length of a header's text, where it is within the limit; and what the types tell of the MAC
+-- and of the bytes
 abbrev pub IsTextLength : Header → Option ℕ → Type 0
-IsTextLength h (Some size) = (size ≡ length (head_text h)) × (size ≤ header_limit) × IsBytes h.mac
-    × AllByRecursion (λ s. IsBytes s.body) h.stanzas
+IsTextLength h (Some size) = (size ≡ length (head_text h)) × (size ≤ header_limit)
+    × (length h.mac ≡ 32) × IsBytes h.mac × AllByRecursion (λ s. IsBytes s.body) h.stanzas
 IsTextLength h None = header_limit < length (head_text h)

@@ -4,9 +4,9 @@ use Rattle.std.specs.Prelude.{◌≡◌, ◌⊎◌, ℕ, ◌<◌, ◌≤◌, Lis
 use Rattle.std.specs.Prelude.{length, take, drop}
 use Rattle.std.specs.Prelude.{Option, Some, None, Result, Ok, Err}
 use Rattle.age_stanza.specs.declared.fault.HeadFault.{HeadFault}
-use Rattle.age_stanza.specs.declared.header.Header.{Header}
-use Rattle.age_stanza.specs.declared.header.HeadStep.{HeadStep}
-use Rattle.age_stanza.specs.declared.header.HeadStep.TheVariants.{More, Ready}
+use Rattle.age_header.specs.declared.header.Header.{Header}
+use Rattle.age_stanza.specs.declared.head_step.HeadStep.{HeadStep}
+use Rattle.age_stanza.specs.declared.head_step.HeadStep.TheVariants.{More, Ready}
 use Rattle.age_stanza.specs.declared.place.Place.TheVariants.{Start}
 use Rattle.age_stanza.specs.Grammar.{header_limit, HeadText}
 use Rattle.age_stanza.specs.Faults.{HasHeader, IsFault, memory_fault}

@@ -2,7 +2,7 @@ use Rattle.std.proofs.Common.{◌≡◌, length, ap, subst, arith, List}
 use Rattle.std.specs.List.{AllByRecursion}
 use Rattle.std.proofs.lemmas.List.{take_all}
 use Rattle.base64.specs.GeneralPurpose.{IsBytes}
-use Rattle.age_stanza.specs.declared.header.Stanza.{Stanza}
+use Rattle.age_header.specs.declared.header.Stanza.{Stanza}
 use Rattle.age_stanza.proofs.TextLengths.{length-head, stanza_within, none_left}
 use Rattle.age_stanza.proofs.valid.text_len.Goals as goal
 
@@ -26,6 +26,7 @@ returns c =
     let room = c.loop-stanza.invariant.room in (
       omega arith,
       omega arith,
+      long,
       c.characters_of.ensures.bytes,
       subst (λ (ss : List Stanza). AllByRecursion (λ s. IsBytes s.body) ss) (take_all _ _ (omega arith))
           c.loop-stanza.invariant.bodies,

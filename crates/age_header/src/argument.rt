@@ -25,7 +25,7 @@ pub struct Argument {
 
 impl Model for Argument {
     ghost use Rattle.std.specs.Prelude.{List, ℕ};
-    ghost use Rattle.age_stanza.specs.Views.{letters_of};
+    ghost use Rattle.age_header.specs.Views.{letters_of};
 
     ghost Value = { List ℕ };
 

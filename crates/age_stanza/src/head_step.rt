@@ -1,0 +1,13 @@
+//! What a step of the parser returns.
+
+use age_header::Header;
+
+/// What a piece led to.
+#[derive(Debug, Drop)]
+pub enum HeadStep {
+    /// The bytes so far are the beginning of a header; the whole piece was taken.
+    More,
+    /// The header is complete with the first `taken` bytes of the piece, of
+    /// which the last is the end line's LF.
+    Ready { taken: usize, header: Header },
+}
