@@ -7,10 +7,10 @@ ghost use Rattle.age_fault.specs.Faults.{number_of, place_of, name_of, head_name
 ghost use Rattle.age_fault.specs.Faults.{stream_name_of};
 ghost use Rattle.age_fault.specs.inner.Faults.{fault_of, fault_of_key};
 
+use age_chunk::{StreamFault, StreamKind};
 use age_io::Memory;
 use age_keys::KeyFault;
 use age_stanza::{HeadFault, HeadKind};
-use age_chunk::{StreamFault, StreamKind};
 use std::alloc::{AllocError, AllocFailed};
 use thiserror::Error;
 

@@ -7,8 +7,8 @@ ghost use Rattle.age_keys.specs.Keys.{payload_key, position_key};
 ghost use Rattle.age_keys.specs.inner.PayloadBox.{box_valid};
 
 use crate::key::FileKey;
-use age_cipher::{open_in_place, seal_in_place};
 use age_chunk::ChunkBox;
+use age_cipher::{open_in_place, seal_in_place};
 use std::marker::Model;
 
 /// The key of a payload, which seals and opens its chunks (<https://c2sp.org/age#payload>). A
