@@ -3,3 +3,4 @@ pub mod Telling
 pub mod StopSteps
 pub mod OrderSteps
 pub mod HeadlineSteps
+pub mod ObeySteps

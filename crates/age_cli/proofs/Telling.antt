@@ -1,5 +1,5 @@
 -- What was told of an ending with status 1.
-use Rattle.std.proofs.Common.{◌≡◌, ℕ, List, Option, inl, inr, arith, refl, true}
+use Rattle.std.proofs.Common.{◌≡◌, ◌≤◌, ℕ, List, Option, inl, inr, arith, refl, true}
 use Rattle.age_steps.specs.Endings.{is_usage}
 use Rattle.age_cli.specs.Endings.{status_of}
 use Rattle.age_steps.specs.FaultLines.{TellsEnding, TellsFault}
@@ -13,6 +13,12 @@ tells_fault (Fault fault) old new failed_old failed_new one tells = inl (fault, 
 tells_fault (Unsaved fault second) old new failed_old failed_new one tells = inr (fault, second, tells)
 tells_fault (Words text) old new failed_old failed_new one tells = absurd (omega (arith, one))
 tells_fault (Usage usage) old new failed_old failed_new one tells = absurd (omega (arith, one))
+
+pub status_within : (e : Ending) → status_of e ≤ 2
+status_within (Fault fault) = omega arith
+status_within (Unsaved fault second) = omega arith
+status_within (Words text) = omega arith
+status_within (Usage usage) = omega arith
 
 -- an ending has another status than success
 pub failed_status : (e : Ending) → status_of e ≡ 0 → ⊥

@@ -6,3 +6,4 @@ pub mod Orders
 pub mod Stops
 pub mod Headline
 pub mod Promises
+pub mod inner

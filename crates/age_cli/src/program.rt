@@ -16,6 +16,7 @@ ghost use Rattle.age_cli.specs.Stops.{StopsTold};
 ghost use Rattle.age_cli.specs.Headline.{IsWritersInput, IsWritersResumption, KeepsOut};
 ghost use Rattle.age_steps.specs.FaultLines.{TellsFault};
 ghost use Rattle.age_cli.specs.Runs.{Reports};
+ghost use Rattle.age_cli.specs.inner.Obeying.{Obeys};
 
 use crate::inspection::{report, report_file};
 use age_actions::{decrypt_file, encrypt_file, resume_file};
@@ -58,44 +59,10 @@ fn obey<F: FileSet, I: Source, O: Sink, P: Meter>(
     output: &mut O,
     progress: &mut P,
 ) -> Result<(), Ending>
-    ensures served { OnOk result (IsServed (texts words.now)) }
-    ensures report { words.now ≡ [] → OnOk result
-        (Reports (I.view input.old).remaining (I.view input.new).remaining (O.view output.old).taken
-        (O.view output.new).taken) }
-    ensures inspects { Inspecting (texts words.now) (F.tells files.old) (F.entry files.old)
-        (I.view input.old).remaining (I.view input.new).remaining (O.view output.old).taken
-        (O.view output.new).taken (OnOk result) }
-    ensures encrypts { Encrypting (texts words.now) (F.tells files.old) (F.entry files.old)
-        (F.entry files.new) (OnOk result) }
-    ensures decrypts { Decrypting (texts words.now) (F.tells files.old) (F.entry files.old)
-        (F.entry files.new) (OnOk result) }
-    ensures resumes { Resuming (texts words.now) (F.tells files.old) (F.entry files.old)
-        (F.entry files.new) (OnOk result) }
-    ensures spares { SparingOthers (texts words.now) (F.tells files.old) (F.entry files.old)
-        (F.entry files.new) }
-    ensures usage { IfErr result (λ e. is_usage e ≡ true → F.entry files.new ≡ F.entry files.old) }
-    ensures refused { (refusals (texts words.now) ≡ [] → ⊥)
-        → F.entry files.new ≡ F.entry files.old }
-    ensures encrypts_stop { EncryptingStops (texts words.now) (F.tells files.old)
-        (F.entry files.old) (F.entry files.new) (PortsOf F.In.view F.Out.view)
-        (λ Ends. IfErr result Ends) }
-    ensures decrypts_stop { DecryptingStops (texts words.now) (F.tells files.old)
-        (F.entry files.old) (F.entry files.new) (PortsOf F.In.view F.Out.view)
-        (λ Ends. IfErr result Ends) }
-    ensures resumes_stop { ResumingStops (texts words.now) (F.tells files.old) (F.entry files.old)
-        (F.entry files.new)
-        (PortsOf F.In.view F.Out.view)
-        (λ Ends. IfErr result Ends) }
-    ensures touches { Touching (texts words.now) (F.events files.old) (F.events files.new) }
-    ensures finished { Finishing (texts words.now) (F.events files.old) (F.events files.new)
-        (OnOk result) }
-    ensures judged { Judging (texts words.now) (F.events files.old) (F.events files.new)
-        (λ P. IfErr result (λ e. is_usage e ≡ true → P)) }
-    ensures judged_told { JudgingTold (texts words.now) (F.events files.old) (F.events files.new)
-        (F.tells files.old) (λ P. IfErr result (λ e. is_usage e ≡ true → P)) }
-    ensures untouched { (refusals (texts words.now) ≡ [] → ⊥)
-        → F.events files.new ≡ F.events files.old }
-    ensures silent { (AsksProgress (texts words.now) → ⊥) → progress.new ≡ progress.old }
+    ensures { Obeys (texts words.now) (F.tells files.old) (F.entry files.old) (F.entry files.new)
+        (F.events files.old) (F.events files.new) (I.view input.old).remaining
+        (I.view input.new).remaining (O.view output.old).taken (O.view output.new).taken
+        (PortsOf F.In.view F.Out.view) (progress.new ≡ progress.old) result }
 {
     if words.is_empty() {
         return report(alloc, input, output);
