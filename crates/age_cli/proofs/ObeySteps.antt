@@ -1,5 +1,5 @@
 -- What each arm of the part that obeys the words promises, from what its callee does.
-use Rattle.std.proofs.Common.{◌≡◌, ◌∙◌, ◌⊎◌, ℕ, ◌++◌, ap, sym, subst, refl, inl, inr, codes, List, [], ◌∷◌, Bool, true, false, true≢false, Option, Some, None}
+use Rattle.std.proofs.Common.{◌≡◌, ◌∙◌, ◌⊎◌, ℕ, ◌++◌, ap, sym, subst, refl, inl, inr, codes, List, [], ◌∷◌, Bool, true, false, true≢false, Option, Some}
 use Rattle.std.proofs.Common.{Result, Ok, Err, length, rules}
 use Rattle.std.specs.Borrow.{Bor}
 use Rattle.std.specs.Prelude.{OnOk, IfErr, IsOk, ◌==◌}
@@ -14,7 +14,7 @@ use Rattle.clap.specs.Values.{kind_of}
 use Rattle.clap.specs.declared.error.Error.{Error}
 use Rattle.clap.specs.declared.error.kind.ErrorKind.{ErrorKind}
 use Rattle.clap.specs.declared.error.kind.ErrorKind.TheVariants as kind
-use Rattle.age_commands.specs.Asked.{Asks, AsksProgress, IsServed, refusals}
+use Rattle.age_commands.specs.Asked.{Asks, IsServed, refusals}
 use Rattle.age_commands.specs.Requests.{Requests, IsRequest, text_of}
 use Rattle.age_commands.specs.declared.request.Request.{Request}
 use Rattle.age_commands.specs.declared.request.Request.TheVariants.{Inspect, Encrypt, Decrypt, Resume, Drill}
@@ -36,13 +36,11 @@ use Rattle.age_actions.specs.Resumptions.{ResumesFile}
 use Rattle.age_actions.specs.Stops.{EncryptsStop, DecryptsStop, ResumesStop}
 use Rattle.age_steps.specs.Endings.{EndsEarly, is_usage}
 use Rattle.age_steps.specs.EventOrders.{Follows}
-use Rattle.age_steps.specs.Orders.{Order, order_asked, inspecting_order}
+use Rattle.age_steps.specs.Orders.{Order, order_asked}
 use Rattle.age_steps.specs.declared.ending.Ending.{Ending}
 use Rattle.age_actions.proofs.EventSteps.{none_done, followed}
-use Rattle.age_cli.specs.Orders.{order_of}
 use Rattle.age_cli.specs.Runs.{Reports, Inspects}
-use Rattle.age_cli.specs.Rows.{Spares}
-use Rattle.age_cli.specs.Promises.{SparingOthers, Touching, Finishing, Judging, JudgingTold}
+use Rattle.age_cli.specs.Promises.{Touching, Finishing, Judging, JudgingTold}
 use Rattle.age_cli.specs.inner.Obeying.{Obeys}
 use Rattle.age_cli.proofs.OrderSteps.{asked_order, every_fault}
 use Rattle.age_cli.proofs.RowSteps.{one_command, stays_silent, encrypts_rows, decrypts_rows, resumes_rows}
@@ -286,7 +284,7 @@ module _ (words : List Text) where
     obeys_inspecting file old new request kept noted done fault silent =
         let q = Inspect file in
         let impossible : (P : Type 0) → IfErr r (λ e. is_usage e ≡ true → P) =
-            λ P. IfErr-weaker r _ _ (λ e no usage. absurd (true≢false (sym usage ∙ no))) fault in
+        λ P. IfErr-weaker r _ _ (λ e no usage. absurd (true≢false (sym usage ∙ no))) fault in
         record {
           served = always r _ (asked_something q request);
           report = λ none. absurd (not_empty q request none);
@@ -343,7 +341,7 @@ module _ (words : List Text) where
         → Obeys words tells files files events events input_old input_new output_old output_new IsPorts Silent r
     obeys_no_command files some served early silent =
         let no : (P : Type 0) (name : Text) (rows : List Row) → Asks words name rows → OnOk r P =
-            λ P name rows asks. on_ok_weaker r (λ s. absurd (s.1 asks.taken)) served in
+        λ P name rows asks. on_ok_weaker r (λ s. absurd (s.1 asks.taken)) served in
         record {
           served = on_ok_weaker r (λ s. s.0) served;
           report = λ none. absurd (some none);

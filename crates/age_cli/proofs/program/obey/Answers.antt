@@ -1,4 +1,4 @@
-use Rattle.std.proofs.Common.{◌≡◌, ◌∙◌, ap, sym, subst, Option, Some, None, Err, refl, append-nil}
+use Rattle.std.proofs.Common.{◌∙◌, ap, sym, subst, Option, Some, None, Err, refl, append-nil}
 use Rattle.std.specs.Option.{IfSome}
 use Rattle.clap.specs.Walk.{texts}
 use Rattle.age_commands.specs.Requests.{Requests}
@@ -27,7 +27,7 @@ returns-in-Ok-Some-Inspect-Some g c =
     let w = texts c.args.words.now in
     let here = c.in-Ok-Some-Inspect-Some in
     let request = subst (λ (o : Option Request). IfSome o (Requests w)) (here.field-0-is ∙ ap Some (here.field-0-0-is ∙ ap Inspect here.field-0-0-0-is))
-        here.ensures.asked in
+    here.ensures.asked in
     let did = c.report_file.ensures in
     obeys_inspecting w _ _ _ _ _ _ _ _ _ c.report_file.result (Some here.name) _ _ request did.kept did.noted did.done did.fault refl
 
@@ -36,7 +36,7 @@ returns-in-Ok-Some-Inspect-None g c =
     let w = texts c.args.words.now in
     let here = c.in-Ok-Some-Inspect-None in
     let request = subst (λ (o : Option Request). IfSome o (Requests w)) (here.field-0-is ∙ ap Some (here.field-0-0-is ∙ ap Inspect here.field-0-0-0-is))
-        here.ensures.asked in
+    here.ensures.asked in
     let did = c.report-in-Ok-Some-Inspect-None.ensures in
     obeys_inspecting w _ _ _ _ _ _ _ _ _ c.report-in-Ok-Some-Inspect-None.result None _ _ request refl (sym (append-nil _)) did.done did.fault refl
 
