@@ -6,6 +6,7 @@ ghost use Rattle.clap.specs.Words.{Row, Text, kind_of};
 ghost use Rattle.clap.specs.Walk.{texts};
 ghost use Rattle.clap.specs.declared.error.kind.ErrorKind.TheVariants.{DisplayHelp, DisplayVersion};
 ghost use Rattle.age_commands.specs.Asked.{Asks, AsksProgress, IsServed, refusals};
+ghost use Rattle.age_commands.specs.Requests.{Requests};
 ghost use Rattle.age_cli.specs.Promises.{Inspecting, Encrypting, Decrypting, Resuming};
 ghost use Rattle.age_cli.specs.Promises.{SparingOthers, EncryptingStops, DecryptingStops};
 ghost use Rattle.age_cli.specs.Promises.{ResumingStops, Touching, Finishing, Judging, JudgingTold};
@@ -50,6 +51,31 @@ fn answer_refusal<O: Sink>(alloc: Global, error: Error, output: &mut O) -> Resul
     Ok(())
 }
 
+/// Carries out what the words ask for.
+fn carry_out<F: FileSet, I: Source, O: Sink, P: Meter>(
+    alloc: Global,
+    request: &Request,
+    files: &mut F,
+    input: &mut I,
+    output: &mut O,
+    progress: &mut P,
+) -> Result<(), Ending>
+    ensures { (words : List Text) → Requests words request.now
+        → Obeys words (F.tells files.old) (F.entry files.old) (F.entry files.new)
+        (F.events files.old) (F.events files.new) (I.view input.old).remaining
+        (I.view input.new).remaining (O.view output.old).taken (O.view output.new).taken
+        (PortsOf F.In.view F.Out.view) (progress.new ≡ progress.old) result }
+{
+    match request {
+        Request::Inspect(Some(name)) => report_file(alloc, files, name, output),
+        Request::Inspect(None) => report(alloc, input, output),
+        Request::Encrypt(asked) => encrypt_file(alloc, files, asked, progress),
+        Request::Decrypt(asked) => decrypt_file(alloc, files, asked, progress),
+        Request::Resume(asked) => resume_file(alloc, files, asked, progress),
+        Request::Drill(asked) => drill_file(alloc, files, asked, output),
+    }
+}
+
 /// Runs the command.
 fn obey<F: FileSet, I: Source, O: Sink, P: Meter>(
     alloc: Global,
@@ -68,14 +94,9 @@ fn obey<F: FileSet, I: Source, O: Sink, P: Meter>(
         return report(alloc, input, output);
     }
     match read_request(alloc, words) {
-        Err(error) => answer_refusal(alloc, error, output),
-        Ok(Some(Request::Inspect(Some(name)))) => report_file(alloc, files, name, output),
-        Ok(Some(Request::Inspect(None))) => report(alloc, input, output),
-        Ok(Some(Request::Encrypt(asked))) => encrypt_file(alloc, files, &asked, progress),
-        Ok(Some(Request::Decrypt(asked))) => decrypt_file(alloc, files, &asked, progress),
-        Ok(Some(Request::Resume(asked))) => resume_file(alloc, files, &asked, progress),
-        Ok(Some(Request::Drill(asked))) => drill_file(alloc, files, &asked, output),
+        Ok(Some(request)) => carry_out(alloc, &request, files, input, output, progress),
         Ok(None) => Err(Ending::Usage(Usage::Unread)),
+        Err(error) => answer_refusal(alloc, error, output),
     }
 }
 
