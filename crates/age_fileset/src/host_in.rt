@@ -46,14 +46,11 @@ impl HostIn {
         rt: &HostRuntime,
         name: &str,
     ) -> io::Result<(HostIn, Option<Identity>)> {
-        match place_of(alloc, rt, name)? {
-            Place::Stream(Stream::Input) => {
-                Stream::Input.check(rt)?;
-                let identity = Identity::at(rt, Stream::Input.path());
-                Ok((HostIn::new(Origin::Input(rt.stdin()), None), identity))
-            }
-            Place::Stream(_) => Err(io::Error::from(io::ErrorKind::Unsupported)),
-            Place::Path(_) => HostIn::open_path(rt, name),
+        match place_of(alloc, rt, name) {
+            Ok(Place::Stream(Stream::Input)) => HostIn::open_input(rt),
+            Ok(Place::Stream(_)) => Err(io::Error::from(io::ErrorKind::Unsupported)),
+            Ok(Place::Path(_)) => HostIn::open_path(rt, name),
+            Err(error) => Err(error),
         }
     }
 
@@ -70,18 +67,33 @@ impl HostIn {
         self.left
     }
 
+    fn open_input(rt: &HostRuntime) -> io::Result<(HostIn, Option<Identity>)> {
+        Stream::Input.check(rt)?;
+        let identity = Identity::at(rt, Stream::Input.path());
+        Ok((HostIn::new(Origin::Input(rt.stdin()), None), identity))
+    }
+
     fn open_path(rt: &HostRuntime, name: &str) -> io::Result<(HostIn, Option<Identity>)> {
-        let file = above_streams(File::open(rt, name)?)?;
-        let metadata = file.metadata()?;
-        if metadata.is_dir() {
-            return Err(io::Error::from(io::ErrorKind::IsADirectory));
+        match above_streams(File::open(rt, name)?) {
+            Ok(file) => HostIn::of_file(file),
+            Err(error) => Err(error),
         }
-        let identity = Identity::of(&metadata);
+    }
+
+    fn of_file(file: File) -> io::Result<(HostIn, Option<Identity>)> {
+        let metadata = match file.metadata() {
+            Ok(metadata) if metadata.is_dir() => {
+                return Err(io::Error::from(io::ErrorKind::IsADirectory));
+            }
+            Ok(metadata) => metadata,
+            Err(error) => return Err(error),
+        };
         let left = if metadata.is_file() {
             Some(metadata.len())
         } else {
             None
         };
+        let identity = Identity::of(&metadata);
         Ok((HostIn::new(Origin::File(file), left), identity))
     }
 

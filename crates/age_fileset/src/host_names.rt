@@ -3,7 +3,7 @@
 use std::alloc::Global;
 use std::fs::{self, File, Metadata};
 use std::io;
-use std::os::fd::{AsFd, AsRawFd};
+use std::os::fd::{AsFd, AsRawFd, BorrowedFd};
 use std::os::unix::fs::MetadataExt;
 use std::path::PathBuf;
 use std::rt::HostRuntime;
@@ -23,9 +23,19 @@ impl Stream {
     /// The stream of which this is a name.
     fn named(name: &str) -> Option<Stream> {
         match name {
-            "/dev/stdin" | "/dev/fd/0" | "/proc/self/fd/0" => Some(Stream::Input),
-            "/dev/stdout" | "/dev/fd/1" | "/proc/self/fd/1" => Some(Stream::Output),
-            "/dev/stderr" | "/dev/fd/2" | "/proc/self/fd/2" => Some(Stream::Faults),
+            "/dev/stdin" => Some(Stream::Input),
+            "/dev/stdout" => Some(Stream::Output),
+            "/dev/stderr" => Some(Stream::Faults),
+            _ => Stream::numbered(name),
+        }
+    }
+
+    /// The stream of whose descriptor this is a name.
+    fn numbered(name: &str) -> Option<Stream> {
+        match name {
+            "/dev/fd/0" | "/proc/self/fd/0" => Some(Stream::Input),
+            "/dev/fd/1" | "/proc/self/fd/1" => Some(Stream::Output),
+            "/dev/fd/2" | "/proc/self/fd/2" => Some(Stream::Faults),
             _ => None,
         }
     }
@@ -41,14 +51,19 @@ impl Stream {
 
     /// Fails where the program was started without this stream.
     pub(crate) fn check(self, rt: &HostRuntime) -> io::Result<()> {
-        let (input, output, faults) = (rt.stdin(), rt.stdout(), rt.stderr());
-        let stream = match self {
-            Stream::Input => input.as_fd(),
-            Stream::Output => output.as_fd(),
-            Stream::Faults => faults.as_fd(),
-        };
-        stream.try_clone_to_owned()?;
-        Ok(())
+        match self {
+            Stream::Input => check_open(rt.stdin().as_fd()),
+            Stream::Output => check_open(rt.stdout().as_fd()),
+            Stream::Faults => check_open(rt.stderr().as_fd()),
+        }
+    }
+}
+
+/// Fails where nothing is open at a descriptor.
+fn check_open(descriptor: BorrowedFd<'_>) -> io::Result<()> {
+    match descriptor.try_clone_to_owned() {
+        Ok(_) => Ok(()),
+        Err(error) => Err(error),
     }
 }
 
@@ -71,9 +86,10 @@ pub(crate) fn place_of(alloc: Global, rt: &HostRuntime, name: &str) -> io::Resul
         if let Some(stream) = Stream::named(path.as_str()) {
             return Ok(Place::Stream(stream));
         }
-        match target_of(alloc, rt, &path)? {
-            Some(target) => path = target,
-            None => return Ok(Place::Path(path)),
+        match target_of(alloc, rt, &path) {
+            Ok(Some(target)) => path = target,
+            Ok(None) => return Ok(Place::Path(path)),
+            Err(error) => return Err(error),
         }
     }
     Err(io::Error::from(io::ErrorKind::FilesystemLoop))
@@ -82,12 +98,17 @@ pub(crate) fn place_of(alloc: Global, rt: &HostRuntime, name: &str) -> io::Resul
 /// Where a link leads; `None` for what is no link.
 fn target_of(alloc: Global, rt: &HostRuntime, path: &PathBuf) -> io::Result<Option<PathBuf>> {
     match fs::read_link(rt, path.as_str()) {
-        Ok(target) => match path.parent() {
-            Some(folder) => Ok(Some(folder.join(alloc, target.as_str())?)),
-            None => Ok(Some(target)),
-        },
+        Ok(target) => joined(alloc, path, target),
         Err(error) if error.kind() == io::ErrorKind::OutOfMemory => Err(error),
         Err(_) => Ok(None),
+    }
+}
+
+/// Where a link at a path leads, from what it holds.
+fn joined(alloc: Global, path: &PathBuf, target: PathBuf) -> io::Result<Option<PathBuf>> {
+    match path.parent() {
+        Some(folder) => Ok(Some(folder.join(alloc, target.as_str())?)),
+        None => Ok(Some(target)),
     }
 }
 
@@ -113,10 +134,18 @@ impl Identity {
 
     /// That of the file to which a name leads, where there is one.
     pub(crate) fn at(rt: &HostRuntime, name: &str) -> Option<Identity> {
-        match fs::metadata(rt, name) {
-            Ok(metadata) => Identity::of(&metadata),
-            Err(_) => None,
+        match metadata_at(rt, name) {
+            Some(metadata) => Identity::of(&metadata),
+            None => None,
         }
+    }
+}
+
+/// What the system says of the file to which a name leads, where there is one.
+pub(crate) fn metadata_at(rt: &HostRuntime, name: &str) -> Option<Metadata> {
+    match fs::metadata(rt, name) {
+        Ok(metadata) => Some(metadata),
+        Err(_) => None,
     }
 }
 

@@ -4,6 +4,7 @@ ghost use Rattle.std.specs.Prelude.{◌≡◌, [], None, true};
 ghost use Rattle.std.specs.Io.{WritesAtMost};
 
 use crate::host_names::{Identity, Place, Stream, above_streams, place_of};
+use crate::host_paths::{make_file, open_to_write, remove};
 use age_io::{Durability, Failed, Sink};
 use std::alloc::Global;
 use std::fs::{self, File};
@@ -57,68 +58,69 @@ fn sync(file: &File) -> io::Result<()> {
     }
 }
 
-/// Waits until the names in the folder of a path have reached the disk, where the folder can be
-/// opened.
-pub(crate) fn sync_folder(rt: &HostRuntime, path: &PathBuf) -> io::Result<()> {
-    let folder = match path.parent() {
-        Some(folder) if !folder.as_str().is_empty() => folder.as_str(),
-        _ => ".",
-    };
-    match File::open(rt, folder) {
+/// Waits until a file or a folder has reached the disk, where it can be opened.
+fn sync_path(rt: &HostRuntime, path: &str) -> io::Result<()> {
+    match File::open(rt, path) {
         Ok(file) => sync(&file),
         Err(_) => Ok(()),
     }
 }
 
-/// Removes a file that was made at this path, if that is still the one there, and still empty.
-fn remove_made(rt: &HostRuntime, file: &File, path: &PathBuf) {
-    let (Ok(own), Ok(there)) = (file.metadata(), fs::symlink_metadata(rt, path.as_str())) else {
-        return;
-    };
-    if own.len() == 0 && Identity::of(&own) == Identity::of(&there) {
-        let _ = fs::remove_file(rt, path.as_str());
+/// Waits until the names in the folder of a path have reached the disk, where the folder can be
+/// opened.
+pub(crate) fn sync_folder(rt: &HostRuntime, path: &PathBuf) -> io::Result<()> {
+    match path.parent() {
+        Some(folder) if !folder.as_str().is_empty() => sync_path(rt, folder.as_str()),
+        _ => sync_path(rt, "."),
+    }
+}
+
+/// Whether a file is a regular one.
+fn is_regular(file: &File) -> io::Result<bool> {
+    match file.metadata() {
+        Ok(metadata) => Ok(metadata.is_file()),
+        Err(error) => Err(error),
+    }
+}
+
+/// Whether a file is still the one at a path, which is no link, and still empty.
+fn is_empty_at(rt: &HostRuntime, file: &File, path: &PathBuf) -> bool {
+    match (file.metadata(), fs::symlink_metadata(rt, path.as_str())) {
+        (Ok(own), Ok(there)) => own.len() == 0 && Identity::of(&own) == Identity::of(&there),
+        _ => false,
     }
 }
 
 impl OutFile {
     /// Opens a file without emptying it, or makes it where there is none.
     fn open(rt: &HostRuntime, name: &str, path: PathBuf) -> io::Result<OutFile> {
-        match File::options().write(true).open(rt, name) {
-            Ok(file) => Ok(OutFile {
+        match open_to_write(rt, name) {
+            Ok(Some(file)) => Ok(OutFile {
                 file: above_streams(file)?,
                 made: None,
                 is_stale: true,
             }),
-            Err(error) if error.kind() == io::ErrorKind::NotFound => OutFile::make(rt, path),
+            Ok(None) => OutFile::make(rt, path),
             Err(error) => Err(error),
         }
     }
 
     /// Makes a file at a path that is no link, and where there is none.
     fn make(rt: &HostRuntime, path: PathBuf) -> io::Result<OutFile> {
-        let made = File::options()
-            .write(true)
-            .create_new(true)
-            .open(rt, path.as_str())?;
-        match above_streams(made) {
+        match make_file(rt, path.as_str()) {
             Ok(file) => Ok(OutFile {
                 file,
                 made: Some(path),
                 is_stale: false,
             }),
-            Err(error) => {
-                let _ = fs::remove_file(rt, path.as_str());
-                Err(error)
-            }
+            Err(error) => Err(error),
         }
     }
 
     /// Cuts off what a regular file held after so many bytes, once.
     fn cut(&mut self, len: u64) -> io::Result<()> {
         if self.is_stale {
-            if self.file.metadata()?.is_file() {
-                self.file.set_len(len)?;
-            }
+            cut_file(&self.file, len)?;
             self.is_stale = false;
         }
         Ok(())
@@ -145,15 +147,43 @@ impl OutFile {
     }
 
     /// Ends it with what was written.
-    fn close(mut self, rt: &HostRuntime, durability: Durability) -> io::Result<()> {
+    fn finish(&mut self, rt: &HostRuntime, durability: Durability) -> io::Result<()> {
         self.cut(0)?;
-        if durability == Durability::Synced && self.file.metadata()?.is_file() {
-            sync(&self.file)?;
-            if let Some(path) = &self.made {
-                sync_folder(rt, path)?;
-            }
+        match durability {
+            Durability::Synced => self.reach_disk(rt),
+            Durability::Buffered => Ok(()),
         }
-        Ok(())
+    }
+
+    /// Waits until a regular file, and its name where opening made it, have reached the disk.
+    fn reach_disk(&self, rt: &HostRuntime) -> io::Result<()> {
+        match is_regular(&self.file) {
+            Ok(true) => {}
+            Ok(false) => return Ok(()),
+            Err(error) => return Err(error),
+        }
+        match (sync(&self.file), &self.made) {
+            (Ok(()), Some(path)) => sync_folder(rt, path),
+            (synced, _) => synced,
+        }
+    }
+
+    /// Removes it, if opening made it, it is still the one at its path, and still empty.
+    fn remove_made(&self, rt: &HostRuntime) {
+        if let Some(path) = &self.made
+            && is_empty_at(rt, &self.file, path)
+        {
+            remove(rt, path.as_str());
+        }
+    }
+}
+
+/// Cuts off what a regular file holds after so many bytes.
+fn cut_file(file: &File, len: u64) -> io::Result<()> {
+    match is_regular(file) {
+        Ok(true) => file.set_len(len),
+        Ok(false) => Ok(()),
+        Err(error) => Err(error),
     }
 }
 
@@ -169,14 +199,26 @@ impl HostOut {
         rt: &HostRuntime,
         name: &str,
     ) -> io::Result<(HostOut, Option<Identity>)> {
-        let stream = match place_of(alloc, rt, name)? {
-            Place::Path(path) => {
-                let out = OutFile::open(rt, name, path)?;
-                let identity = Identity::of(&out.file.metadata()?);
-                return Ok((HostOut::new(Target::File(out)), identity));
-            }
-            Place::Stream(stream) => stream,
-        };
+        match place_of(alloc, rt, name) {
+            Ok(Place::Path(path)) => HostOut::open_path(rt, name, path),
+            Ok(Place::Stream(stream)) => HostOut::open_stream(rt, stream),
+            Err(error) => Err(error),
+        }
+    }
+
+    fn open_path(
+        rt: &HostRuntime,
+        name: &str,
+        path: PathBuf,
+    ) -> io::Result<(HostOut, Option<Identity>)> {
+        let out = OutFile::open(rt, name, path)?;
+        match out.file.metadata() {
+            Ok(metadata) => Ok((HostOut::new(Target::File(out)), Identity::of(&metadata))),
+            Err(error) => Err(error),
+        }
+    }
+
+    fn open_stream(rt: &HostRuntime, stream: Stream) -> io::Result<(HostOut, Option<Identity>)> {
         stream.check(rt)?;
         let target = match stream {
             Stream::Input => return Err(io::Error::from(io::ErrorKind::Unsupported)),
@@ -206,13 +248,13 @@ impl HostOut {
     }
 
     /// Ends it with what was written. Where each put failed, it is as it was before it was opened.
-    pub(crate) fn close(self, rt: &HostRuntime, durability: Durability) -> io::Result<()> {
+    pub(crate) fn close(mut self, rt: &HostRuntime, durability: Durability) -> io::Result<()> {
         if self.has_only_failed() {
             self.discard(rt);
             return Ok(());
         }
-        match self.target {
-            Target::File(out) => out.close(rt, durability),
+        match &mut self.target {
+            Target::File(out) => out.finish(rt, durability),
             Target::Output(_) => close_stream(rt, Stream::Output, durability),
             Target::Faults(_) => close_stream(rt, Stream::Faults, durability),
         }
@@ -220,15 +262,8 @@ impl HostOut {
 
     /// Ends it where nothing was written, as it was before it was opened.
     pub(crate) fn discard(self, rt: &HostRuntime) {
-        if let Target::File(
-            OutFile {
-                file,
-                made: Some(path),
-                is_stale: _,
-            },
-        ) = self.target
-        {
-            remove_made(rt, &file, &path);
+        if let Target::File(out) = &self.target {
+            out.remove_made(rt);
         }
     }
 }
@@ -239,10 +274,7 @@ fn close_stream(rt: &HostRuntime, stream: Stream, durability: Durability) -> io:
     if durability == Durability::Buffered || Identity::at(rt, stream.path()).is_none() {
         return Ok(());
     }
-    match File::open(rt, stream.path()) {
-        Ok(file) => sync(&file),
-        Err(_) => Ok(()),
-    }
+    sync_path(rt, stream.path())
 }
 
 impl Sink for HostOut {

@@ -1,7 +1,8 @@
 //! Replaces a file of the machine as a whole.
 
-use crate::host_names::{Identity, Place, above_streams, place_of};
+use crate::host_names::{Identity, Place, metadata_at, place_of};
 use crate::host_out::{HostOut, sync_folder};
+use crate::host_paths::{make_file, open_to_write, remove};
 use age_fault::write_all;
 use age_io::Durability;
 use std::alloc::Global;
@@ -17,26 +18,16 @@ const TRIES: u32 = 1000;
 #[derive(Drop)]
 struct Beside {
     file: File,
-    path: PathBuf,
+    path: String,
 }
 
 /// Makes a file beside another, at a path where there is none.
 fn make_beside(alloc: Global, rt: &HostRuntime, path: &PathBuf) -> io::Result<Beside> {
     let name = path.as_str();
     for n in 0..TRIES {
-        let text = format!(in alloc; "{name}.new-{n}")?;
-        let own = PathBuf::from_str(alloc, text.as_str())?;
-        match File::options()
-            .write(true)
-            .create_new(true)
-            .open(rt, own.as_str())
-        {
-            Ok(file) => {
-                return Ok(Beside {
-                    file: above_streams(file)?,
-                    path: own,
-                });
-            }
+        let path = format!(in alloc; "{name}.new-{n}")?;
+        match make_file(rt, path.as_str()) {
+            Ok(file) => return Ok(Beside { file, path }),
             Err(error) if error.kind() == io::ErrorKind::AlreadyExists => {}
             Err(error) => return Err(error),
         }
@@ -44,30 +35,39 @@ fn make_beside(alloc: Global, rt: &HostRuntime, path: &PathBuf) -> io::Result<Be
     Err(io::Error::from(io::ErrorKind::AlreadyExists))
 }
 
-/// Fills a new file, and puts it in the place of the old one.
-fn fill_and_rename(
-    rt: &HostRuntime,
-    new: &mut Beside,
-    path: &PathBuf,
-    bytes: &[u8],
-    durability: Durability,
-) -> io::Result<()> {
-    new.file.write_all(bytes)?;
-    if durability == Durability::Synced {
-        new.file.sync_all()?;
+impl Beside {
+    /// Fills it, and puts it in the place of the file at a path.
+    fn fill_and_rename(
+        &mut self,
+        rt: &HostRuntime,
+        path: &PathBuf,
+        bytes: &[u8],
+        durability: Durability,
+    ) -> io::Result<()> {
+        self.file.write_all(bytes)?;
+        if durability == Durability::Synced {
+            self.file.sync_all()?;
+        }
+        fs::rename(rt, self.path.as_str(), path.as_str())?;
+        match durability {
+            Durability::Synced => sync_folder(rt, path),
+            Durability::Buffered => Ok(()),
+        }
     }
-    fs::rename(rt, new.path.as_str(), path.as_str())?;
-    match durability {
-        Durability::Synced => sync_folder(rt, path),
-        Durability::Buffered => Ok(()),
+
+    /// Lets those do what they may with it who may with another, where that is allowed.
+    fn set_permissions(&self, permissions: Option<Permissions>) {
+        if let Some(permissions) = permissions {
+            let _ = self.file.set_permissions(permissions);
+        }
     }
 }
 
 /// Who may do what with the file at a path, where there is one. Fails where that can't be written.
 fn permissions_at(rt: &HostRuntime, path: &PathBuf) -> io::Result<Option<Permissions>> {
-    match File::options().write(true).open(rt, path.as_str()) {
-        Ok(file) => Ok(Some(file.metadata()?.permissions())),
-        Err(error) if error.kind() == io::ErrorKind::NotFound => Ok(None),
+    match open_to_write(rt, path.as_str()) {
+        Ok(Some(file)) => Ok(Some(file.metadata()?.permissions())),
+        Ok(None) => Ok(None),
         Err(error) => Err(error),
     }
 }
@@ -82,12 +82,10 @@ fn replace_file(
 ) -> io::Result<()> {
     let permissions = permissions_at(rt, path)?;
     let mut new = make_beside(alloc, rt, path)?;
-    if let Some(permissions) = permissions {
-        let _ = new.file.set_permissions(permissions);
-    }
-    let done = fill_and_rename(rt, &mut new, path, bytes, durability);
+    new.set_permissions(permissions);
+    let done = new.fill_and_rename(rt, path, bytes, durability);
     if done.is_err() {
-        let _ = fs::remove_file(rt, new.path.as_str());
+        remove(rt, new.path.as_str());
     }
     done
 }
@@ -112,9 +110,9 @@ fn write_directly(
 
 /// Whether a name leads to a regular file at this path, or to nothing yet.
 fn leads_to(rt: &HostRuntime, name: &str, path: &PathBuf) -> bool {
-    match fs::metadata(rt, name) {
-        Ok(there) => there.is_file() && Identity::of(&there) == Identity::at(rt, path.as_str()),
-        Err(_) => true,
+    match metadata_at(rt, name) {
+        Some(there) => there.is_file() && Identity::of(&there) == Identity::at(rt, path.as_str()),
+        None => true,
     }
 }
 
@@ -127,10 +125,11 @@ pub(crate) fn replace(
     bytes: &[u8],
     durability: Durability,
 ) -> io::Result<()> {
-    match place_of(alloc, rt, name)? {
-        Place::Path(path) if leads_to(rt, name, &path) => {
+    match place_of(alloc, rt, name) {
+        Ok(Place::Path(path)) if leads_to(rt, name, &path) => {
             replace_file(alloc, rt, &path, bytes, durability)
         }
-        _ => write_directly(alloc, rt, name, bytes, durability),
+        Ok(_) => write_directly(alloc, rt, name, bytes, durability),
+        Err(error) => Err(error),
     }
 }

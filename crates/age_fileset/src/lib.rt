@@ -10,6 +10,7 @@ mod host_files;
 mod host_in;
 mod host_names;
 mod host_out;
+mod host_paths;
 mod host_replace;
 mod log;
 mod mem_entry;

@@ -1,0 +1,34 @@
+//! Opens, makes and removes files of the machine.
+
+use crate::host_names::above_streams;
+use std::fs::{self, File};
+use std::io;
+use std::rt::HostRuntime;
+
+/// Opens a file to be written without emptying it; `None` where there is none.
+pub(crate) fn open_to_write(rt: &HostRuntime, name: &str) -> io::Result<Option<File>> {
+    match File::options().write(true).open(rt, name) {
+        Ok(file) => Ok(Some(file)),
+        Err(error) if error.kind() == io::ErrorKind::NotFound => Ok(None),
+        Err(error) => Err(error),
+    }
+}
+
+/// Makes a file where there is none, at a path that is no link.
+pub(crate) fn make_file(rt: &HostRuntime, path: &str) -> io::Result<File> {
+    match File::options().write(true).create_new(true).open(rt, path) {
+        Ok(made) => {
+            let file = above_streams(made);
+            if file.is_err() {
+                remove(rt, path);
+            }
+            file
+        }
+        Err(error) => Err(error),
+    }
+}
+
+/// Removes a file that was made, where that is allowed.
+pub(crate) fn remove(rt: &HostRuntime, path: &str) {
+    let _ = fs::remove_file(rt, path);
+}
