@@ -110,10 +110,10 @@ impl<'r> FileSet for HostFiles<'r> {
     fn open(&mut self, alloc: Global, name: &str) -> Result<HostIn, FileFault> {
         self.log.opened(name);
         match HostIn::open(alloc, self.rt, name) {
-            Ok((file, identity)) => {
-                keep(&mut self.open, identity)?;
-                Ok(file)
-            }
+            Ok((file, identity)) => match keep(&mut self.open, identity) {
+                Ok(()) => Ok(file),
+                Err(_) => Err(FileFault::Memory),
+            },
             Err(error) => Err(fault_of(error, FileFault::Read)),
         }
     }

@@ -47,8 +47,7 @@ impl HostIn {
         name: &str,
     ) -> io::Result<(HostIn, Option<Identity>)> {
         match place_of(alloc, rt, name) {
-            Ok(Place::Stream(Stream::Input)) => HostIn::open_input(rt),
-            Ok(Place::Stream(_)) => Err(io::Error::from(io::ErrorKind::Unsupported)),
+            Ok(Place::Stream(stream)) => HostIn::open_stream(rt, stream),
             Ok(Place::Path(_)) => HostIn::open_path(rt, name),
             Err(error) => Err(error),
         }
@@ -67,10 +66,13 @@ impl HostIn {
         self.left
     }
 
-    fn open_input(rt: &HostRuntime) -> io::Result<(HostIn, Option<Identity>)> {
-        Stream::Input.check(rt)?;
-        let identity = Identity::at(rt, Stream::Input.path());
-        Ok((HostIn::new(Origin::Input(rt.stdin()), None), identity))
+    fn open_stream(rt: &HostRuntime, stream: Stream) -> io::Result<(HostIn, Option<Identity>)> {
+        let Stream::Input = stream else {
+            return Err(io::Error::from(io::ErrorKind::Unsupported));
+        };
+        stream.check(rt)?;
+        let input = HostIn::new(Origin::Input(rt.stdin()), None);
+        Ok((input, Identity::at(rt, stream.path())))
     }
 
     fn open_path(rt: &HostRuntime, name: &str) -> io::Result<(HostIn, Option<Identity>)> {

@@ -7,7 +7,7 @@ use crate::host_names::{Identity, Place, Stream, above_streams, place_of};
 use crate::host_paths::{make_file, open_to_write, remove};
 use age_io::{Durability, Failed, Sink};
 use std::alloc::Global;
-use std::fs::{self, File};
+use std::fs::{self, File, Metadata};
 use std::io::{self, Write};
 use std::marker::Model;
 use std::path::PathBuf;
@@ -83,11 +83,19 @@ fn is_regular(file: &File) -> io::Result<bool> {
     }
 }
 
-/// Whether a file is still the one at a path, which is no link, and still empty.
+/// Whether a file is the one at a path, where no link is followed.
+fn is_at(rt: &HostRuntime, own: &Metadata, path: &PathBuf) -> bool {
+    match fs::symlink_metadata(rt, path.as_str()) {
+        Ok(there) => Identity::of(own) == Identity::of(&there),
+        Err(_) => false,
+    }
+}
+
+/// Whether a file is still the one at a path, and still empty.
 fn is_empty_at(rt: &HostRuntime, file: &File, path: &PathBuf) -> bool {
-    match (file.metadata(), fs::symlink_metadata(rt, path.as_str())) {
-        (Ok(own), Ok(there)) => own.len() == 0 && Identity::of(&own) == Identity::of(&there),
-        _ => false,
+    match file.metadata() {
+        Ok(own) => own.len() == 0 && is_at(rt, &own, path),
+        Err(_) => false,
     }
 }
 
@@ -248,13 +256,13 @@ impl HostOut {
     }
 
     /// Ends it with what was written. Where each put failed, it is as it was before it was opened.
-    pub(crate) fn close(mut self, rt: &HostRuntime, durability: Durability) -> io::Result<()> {
+    pub(crate) fn close(self, rt: &HostRuntime, durability: Durability) -> io::Result<()> {
         if self.has_only_failed() {
             self.discard(rt);
             return Ok(());
         }
-        match &mut self.target {
-            Target::File(out) => out.finish(rt, durability),
+        match self.target {
+            Target::File(mut out) => out.finish(rt, durability),
             Target::Output(_) => close_stream(rt, Stream::Output, durability),
             Target::Faults(_) => close_stream(rt, Stream::Faults, durability),
         }
@@ -262,7 +270,7 @@ impl HostOut {
 
     /// Ends it where nothing was written, as it was before it was opened.
     pub(crate) fn discard(self, rt: &HostRuntime) {
-        if let Target::File(out) = &self.target {
+        if let Target::File(out) = self.target {
             out.remove_made(rt);
         }
     }

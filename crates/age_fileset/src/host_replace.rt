@@ -23,31 +23,36 @@ struct Beside {
 
 /// Makes a file beside another, at a path where there is none.
 fn make_beside(alloc: Global, rt: &HostRuntime, path: &PathBuf) -> io::Result<Beside> {
-    let name = path.as_str();
     for n in 0..TRIES {
-        let path = format!(in alloc; "{name}.new-{n}")?;
-        match make_file(rt, path.as_str()) {
-            Ok(file) => return Ok(Beside { file, path }),
+        match make_numbered(alloc, rt, path, n) {
             Err(error) if error.kind() == io::ErrorKind::AlreadyExists => {}
-            Err(error) => return Err(error),
+            made => return made,
         }
     }
     Err(io::Error::from(io::ErrorKind::AlreadyExists))
 }
 
+/// Makes a file beside another, under its name with a number.
+fn make_numbered(alloc: Global, rt: &HostRuntime, path: &PathBuf, n: u32) -> io::Result<Beside> {
+    let name = path.as_str();
+    let path = format!(in alloc; "{name}.new-{n}")?;
+    match make_file(rt, path.as_str()) {
+        Ok(file) => Ok(Beside { file, path }),
+        Err(error) => Err(error),
+    }
+}
+
 impl Beside {
-    /// Fills it, and puts it in the place of the file at a path.
-    fn fill_and_rename(
-        &mut self,
-        rt: &HostRuntime,
-        path: &PathBuf,
-        bytes: &[u8],
-        durability: Durability,
-    ) -> io::Result<()> {
+    fn fill(&mut self, bytes: &[u8], durability: Durability) -> io::Result<()> {
         self.file.write_all(bytes)?;
-        if durability == Durability::Synced {
-            self.file.sync_all()?;
+        match durability {
+            Durability::Synced => self.file.sync_all(),
+            Durability::Buffered => Ok(()),
         }
+    }
+
+    /// Puts it in the place of the file at a path.
+    fn rename(&self, rt: &HostRuntime, path: &PathBuf, durability: Durability) -> io::Result<()> {
         fs::rename(rt, self.path.as_str(), path.as_str())?;
         match durability {
             Durability::Synced => sync_folder(rt, path),
@@ -66,7 +71,10 @@ impl Beside {
 /// Who may do what with the file at a path, where there is one. Fails where that can't be written.
 fn permissions_at(rt: &HostRuntime, path: &PathBuf) -> io::Result<Option<Permissions>> {
     match open_to_write(rt, path.as_str()) {
-        Ok(Some(file)) => Ok(Some(file.metadata()?.permissions())),
+        Ok(Some(file)) => match file.metadata() {
+            Ok(metadata) => Ok(Some(metadata.permissions())),
+            Err(error) => Err(error),
+        },
         Ok(None) => Ok(None),
         Err(error) => Err(error),
     }
@@ -83,7 +91,10 @@ fn replace_file(
     let permissions = permissions_at(rt, path)?;
     let mut new = make_beside(alloc, rt, path)?;
     new.set_permissions(permissions);
-    let done = new.fill_and_rename(rt, path, bytes, durability);
+    let done = match new.fill(bytes, durability) {
+        Ok(()) => new.rename(rt, path, durability),
+        failed => failed,
+    };
     if done.is_err() {
         remove(rt, new.path.as_str());
     }
