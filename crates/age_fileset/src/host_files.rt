@@ -44,7 +44,7 @@ fn is_known(opened: &[Identity], identity: Option<Identity>) -> bool
     ensures { (one : Identity) → identity ≡ Some one → Contains opened.now one → result ≡ true }
 {
     match identity {
-        Some(identity) => opened.iter().any(|known| *known == identity),
+        Some(identity) => opened.contains(&identity),
         None => false,
     }
 }
@@ -69,6 +69,24 @@ fn admit(opened: &mut Vec<Identity>, identity: Option<Identity>) -> Result<(), C
     match keep(opened, identity) {
         Ok(()) => Ok(()),
         Err(_) => Err(CreateFault::Fault(FileFault::Memory)),
+    }
+}
+
+/// A file that was opened to be written, where it is admitted; otherwise it is as it was before.
+fn admit_out(
+    rt: &HostRuntime,
+    opened: &mut Vec<Identity>,
+    out: HostOut,
+    identity: Option<Identity>,
+) -> Result<HostOut, CreateFault>
+    ensures { IfErr result (CreateFails false) }
+{
+    match admit(opened, identity) {
+        Ok(()) => Ok(out),
+        Err(fault) => {
+            out.discard(rt);
+            Err(fault)
+        }
     }
 }
 
@@ -125,16 +143,9 @@ impl<'r> FileSet for HostFiles<'r> {
 
     fn create(&mut self, alloc: Global, name: &str) -> Result<HostOut, CreateFault> {
         self.log.created(name);
-        let (out, identity) = match HostOut::open(alloc, self.rt, name) {
-            Ok(opened) => opened,
-            Err(error) => return Err(CreateFault::Fault(fault_of(error, FileFault::Write))),
-        };
-        match admit(&mut self.open, identity) {
-            Ok(()) => Ok(out),
-            Err(fault) => {
-                out.discard(self.rt);
-                Err(fault)
-            }
+        match HostOut::open(alloc, self.rt, name) {
+            Ok((out, identity)) => admit_out(self.rt, &mut self.open, out, identity),
+            Err(error) => Err(CreateFault::Fault(fault_of(error, FileFault::Write))),
         }
     }
 

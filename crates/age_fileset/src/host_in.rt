@@ -116,7 +116,9 @@ impl Source for HostIn {
     fn pull(&mut self, into: &mut [u8]) -> Result<usize, Failed> {
         match self.read(into) {
             Ok(n) => {
-                self.left = self.left.map(|left| left.saturating_sub(n as u64));
+                if let Some(left) = &mut self.left {
+                    *left = left.saturating_sub(n as u64);
+                }
                 Ok(n)
             }
             Err(_) => {
