@@ -1,8 +1,8 @@
--- Bytes that are told, one call after another; results that are mapped.
-use Rattle.std.proofs.Common.{◌≡◌, ℕ, ◌+◌, ◌-◌, ◌^◌, min, List, ◌++◌, Option, Some, None, Result, Ok, Err, refl, sym, ap}
+-- Bytes that are told, one call after another; results in other words.
+use Rattle.std.proofs.Common.{◌≡◌, ℕ, ◌+◌, ◌-◌, ◌^◌, min, List, ◌++◌, Option, Some, None, Result, Ok, Err, sym, ap}
 use Rattle.std.proofs.Common.{◌∙◌, append_assoc, inl, inr, arith}
 use Rattle.std.proofs.lemmas.Bool.{cases_lt}
-use Rattle.std.specs.Prelude.{MatchResult, IfErr, is_ok, true, false}
+use Rattle.std.specs.Prelude.{MatchResult, IfErr}
 use Rattle.std.specs.Io.KnownBytes.{Consumes, Appends, Keeps}
 use Rattle.age_fault.specs.Faults.{HasRisen}
 
@@ -34,19 +34,3 @@ pub answer_as : {T E : Type 0} {A B : T → Type 0} {C D Q : E → Type 0} (r : 
     → ((y : E) → Q y → C y → D y) → MatchResult r B D
 answer_as (Ok x) a q f g = f x a
 answer_as (Err y) a q f g = g y q a
-
--- what stood before an error was mapped
-pub was_mapped : {T E D : Type 0} (P : E → Type 0) (r : Result T E) (m : Result T D) (x : T) → MatchResult r (λ y. m ≡ Ok y) P → is_ok m ≡ is_ok r
-    → m ≡ Ok x → r ≡ Ok x
-was_mapped P (Ok y) m x h v is =
-    let e : Ok y ≡ Ok x = sym h ∙ is in
-    cc
-was_mapped P (Err y) m x h v is =
-    let clash : false ≡ true = sym v ∙ ap is_ok is in
-    absurd cc
-
-pub was_refused : {T E D : Type 0} (r : Result T E) (m : Result T D) (f : D) → is_ok m ≡ is_ok r → m ≡ Err f → (e : E) × (r ≡ Err e)
-was_refused (Ok y) m f v is =
-    let clash : false ≡ true = sym (ap is_ok is) ∙ v in
-    absurd cc
-was_refused (Err y) m f v is = (y, refl)

@@ -21,9 +21,13 @@ pub fn write_all<O: Sink>(sink: &mut O, bytes: &[u8], written: &mut u128) -> Res
 {
     let mut at = 0;
     while at < bytes.len() {
-        let n = sink.put(&bytes[at..]).map_err(|_| FileFault::Write)?;
-        at += n;
-        *written += n as u128;
+        match sink.put(&bytes[at..]) {
+            Ok(n) => {
+                at += n;
+                *written += n as u128;
+            }
+            Err(_) => return Err(FileFault::Write),
+        }
     }
     Ok(())
 }
@@ -37,5 +41,8 @@ pub fn flush_all<O: Sink>(sink: &mut O) -> Result<(), FileFault>
     ensures counted { MatchResult result (λ _. (O.view sink.new).failed ≡ (O.view sink.old).failed)
         (λ _. (O.view sink.new).failed ≡ one_more (O.view sink.old).failed) }
 {
-    sink.flush().map_err(|_| FileFault::Write)
+    match sink.flush() {
+        Ok(()) => Ok(()),
+        Err(_) => Err(FileFault::Write),
+    }
 }
