@@ -167,9 +167,38 @@ fn new_out(alloc: Global, name: &str, room: usize) -> Result<MemOut, FileFault>
     ensures made { IfOk result (λ o. o ≡ (name.now, empty_with room)) }
     ensures memory { OnErr result (result ≡ Err FileFault.Memory) }
 {
-    let sink = MemSink::new(alloc, room, usize::MAX, None)?;
-    let name = Name::new(alloc, name)?;
-    Ok(MemOut { name, sink })
+    let Ok(sink) = MemSink::new(alloc, room, usize::MAX, None) else {
+        return Err(FileFault::Memory);
+    };
+    match Name::new(alloc, name) {
+        Ok(name) => Ok(MemOut { name, sink }),
+        Err(_) => Err(FileFault::Memory),
+    }
+}
+
+/// Puts a copy of bytes under a name. It refuses with `Memory` (28) alone.
+fn put_copy(
+    entries: &mut Vec<MemEntry>,
+    alloc: Global,
+    name: &str,
+    bytes: &[u8],
+) -> Result<(), FileFault>
+    ensures ok { OnOk result (entry_of entries.new.items name.now ≡ Some bytes.now) }
+    ensures others { (q : List ℕ) → q ≢ name.now
+        → entry_of entries.new.items q ≡ entry_of entries.old.items q }
+    ensures err { OnErr result (entries.new.items ≡ entries.old.items) }
+    ensures memory { IfErr result (λ fault. fault ≡ FileFault.Memory) }
+{
+    let Ok(copy) = bytes.to_vec(alloc) else {
+        return Err(FileFault::Memory);
+    };
+    let Ok(own) = Name::new(alloc, name) else {
+        return Err(FileFault::Memory);
+    };
+    match put_entry(entries, own, Bytes::from_vec(copy)) {
+        Ok(()) => Ok(()),
+        Err(_) => Err(FileFault::Memory),
+    }
 }
 
 impl FileSet for MemFiles {
@@ -217,10 +246,14 @@ impl FileSet for MemFiles {
         ensures faults { IfErr result (CreateFails true) }
     {
         self.log.created(name);
-        if is_refused(self.refused.as_slice(), name) {
+        let refused = is_refused(self.refused.as_slice(), name);
+        if refused {
             return Err(CreateFault::Fault(FileFault::Write));
         }
-        Ok(new_out(alloc, name, self.room)?)
+        match new_out(alloc, name, self.room) {
+            Ok(out) => Ok(out),
+            Err(fault) => Err(CreateFault::Fault(fault)),
+        }
     }
 
     /// Puts what the sink took under its name. That takes no memory where a file of the name is
@@ -274,9 +307,6 @@ impl FileSet for MemFiles {
         if is_refused(self.refused.as_slice(), name) || bytes.len() > self.room {
             return Err(FileFault::Write);
         }
-        let own = Name::new(alloc, name)?;
-        let copy = bytes.to_vec(alloc)?;
-        put_entry(&mut self.entries, own, Bytes::from_vec(copy))?;
-        Ok(())
+        put_copy(&mut self.entries, alloc, name, bytes)
     }
 }
