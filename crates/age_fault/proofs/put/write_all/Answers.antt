@@ -1,4 +1,4 @@
-use Rattle.std.proofs.Common.{min, ◌^◌, ◌≡◌, ◌+◌, ◌-◌, length, take, drop, sym, ap, subst, ◌∙◌, arith, take-add, ◌++◌, List, ℕ}
+use Rattle.std.proofs.Common.{min, ◌^◌, ◌≡◌, ◌+◌, ◌-◌, length, take, drop, refl, sym, ap, subst, ◌∙◌, arith, take-add, ◌++◌, List, ℕ}
 use Rattle.std.proofs.lemmas.List.{take_rest, length-take, length-drop, take-append-drop}
 use Rattle.std.specs.Io.KnownBytes.{Appends}
 use Rattle.age_fault.proofs.Bytes.{Appends-then, Appends-Keeps, risen}
@@ -18,6 +18,9 @@ returns-in-Err-clause-writes g c =
       stopped = omega (arith, c.loop-at-test.true, length-drop at c.args.bytes.now);
       answered = risen _ _ (put.counted ∙ ap (λ k. min (k + 1) (2 ^ 64 - 1)) kept.failed);
     }
+
+pub returns-in-Err-clause-fault : goal.returns-in-Err-clause-fault
+returns-in-Err-clause-fault g c = refl
 
 pub loop-at-preserved : goal.loop-at-preserved
 loop-at-preserved g c =
