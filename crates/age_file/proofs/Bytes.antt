@@ -1,5 +1,5 @@
 -- Bytes that are told, one call after another.
-use Rattle.std.proofs.Common.{◌≡◌, ℕ, ◌+◌, ◌-◌, ◌≤◌, List, [], ◌++◌, length, take, drop, Option, Some, None, refl, sym, ap, subst}
+use Rattle.std.proofs.Common.{◌≡◌, ℕ, ◌≤◌, List, [], ◌++◌, length, take, drop, Option, Some, None, refl, sym, ap, subst}
 use Rattle.std.proofs.Common.{◌∙◌, append_assoc, append-nil, inl, inr, arith}
 use Rattle.std.specs.Prelude.{◌⊎◌, ◌≢◌}
 use Rattle.std.specs.Io.KnownBytes.{Consumes, IsAtEnd}
@@ -20,8 +20,11 @@ use Rattle.age_file.specs.Faults.{IsCut, IsHeadFault, IsSourcesFault, TellsFault
 use Rattle.age_file.specs.inner.Faults.{IsInHeader}
 use Rattle.age_fault.specs.inner.Faults.{fault_of, fault_by_kind}
 use Rattle.age_fault.specs.declared.fault.FileFault.{FileFault}
+use Rattle.age_fault.specs.declared.fault.FileFault.TheVariants.{Read, ReadNeverEnds}
 use Rattle.age_fault.specs.declared.fault.FileFault.TheVariants.{Memory as FileMemory}
-use Rattle.age_file.specs.inner.Intakes.{Pulled}
+use Rattle.age_file.specs.inner.Intakes.{Pulled, PullFails}
+use Rattle.age_file.specs.inner.Readers.{reader_view}
+use Rattle.age_fault.specs.Faults.{HasRisen}
 use Rattle.age_file.specs.inner.Unread.{Unread}
 
 -- a beginning of a beginning
@@ -122,6 +125,14 @@ piece_early old new held piece fault told is consumed (inr refused) not = (held 
 pub cut_pulled : (start now : Option (List ℕ)) (pulls : ℕ) (held bytes : List ℕ) → bytes ≡ [] → Pulled start now pulls (held ++ bytes)
     → Pulled start now pulls held
 cut_pulled start now pulls held bytes none h = subst (λ (t : List ℕ). Pulled start now pulls t) (ap (λ (t : List ℕ). held ++ t) none ∙ append-nil held) h
+
+-- a header was not read, since a pull gave nothing
+pub pull_fails : (old mid new : SourceView) (was now : Unread) (held : List ℕ) (fault : FileFault) → mid.failed ≡ old.failed
+    → Pulled old.remaining new.remaining now.pulls held
+    → PullFails (reader_view mid was) (reader_view new now) fault → HeadFails old new fault
+pull_fails old mid new was now held Read same all f = subst (λ (m : ℕ). HasRisen m new.failed) same f
+pull_fails old mid new was now held ReadNeverEnds same all f = (held, all.consumed, (omega (arith, all.each_gave, f.0), omega (arith, all.small, f.0)))
+pull_fails old mid new was now held other same all f = absurd f
 
 -- ---- the pulls of a call, over its two sources
 

@@ -10,9 +10,9 @@ use Rattle.age_fault.specs.Faults.{HasRisen}
 use Rattle.age_file.specs.Bindings.{link, chain}
 use Rattle.age_file.specs.inner.Readers.{ReaderView, WriterView}
 use Rattle.age_file.specs.inner.Skips.{Passes, Dries}
-use Rattle.age_file.specs.inner.Copies.{CopyFails, CopiesChunk, CopiesAll}
+use Rattle.age_file.specs.inner.Copies.{CopyFails, CopiesChunk, CopiesAll, TextFails}
 use Rattle.age_fault.specs.declared.fault.FileFault.{FileFault}
-use Rattle.age_fault.specs.declared.fault.FileFault.TheVariants.{ShortText, Read, Write, ReadNeverEnds}
+use Rattle.age_fault.specs.declared.fault.FileFault.TheVariants.{ShortText, Read, Write, ReadNeverEnds, OldTextDiffers}
 use Rattle.age_fault.proofs.Bytes.{Appends-then}
 use Rattle.age_file.proofs.CountSteps.{chain_on}
 use Rattle.age_file.proofs.SkipSteps.{passes_then, dries_then, within}
@@ -71,3 +71,9 @@ copy_dry x z a b p other g same = absurd g.why
 -- what was written whole
 pub all_out : (piece out unwritten : List ℕ) → piece ≡ out ++ unwritten → unwritten ≡ [] → out ≡ piece
 all_out piece out unwritten parts none = sym (parts ∙ ap (λ (xs : List ℕ). out ++ xs) none ∙ append-nil out)
+
+-- why the old text was not copied
+pub text_fails : (n chunks : ℕ) (links : List ℕ) (old new : ReaderView) (was now : WriterView) (out : List ℕ) (fault : FileFault)
+    → (length out < chunks * n) × CopyFails old new was now out fault → TextFails n chunks links old new was now out fault
+text_fails n chunks links old new was now out OldTextDiffers h = absurd h.1
+text_fails n chunks links old new was now out other h = h

@@ -8,7 +8,7 @@ use Rattle.age_file.specs.declared.decryption.Stopped.{Stopped}
 use Rattle.age_file.proofs.Undamaged.{undamaged, undamaged_done}
 use Rattle.age_header.specs.declared.header.Header.{Header}
 use Rattle.age_keys.specs.declared.fault.KeyFault.{KeyFault}
-use Rattle.age_cipher.specs.Opening.{opening}
+use Rattle.age_file.specs.inner.Boxes.{opens}
 use Rattle.age_keys.specs.Keys.{payload_key}
 use Rattle.age_fault.specs.Faults.{HasRisen}
 use Rattle.age_io.specs.Views.{SourceView}
@@ -83,12 +83,11 @@ module _ (keep : Positions) (Allows : Header → List ℕ → Type 0) (Refused :
     pub answered : MatchResult result (λ _. PayloadDone (unbox run.file.key run.file.nonce) 65536 old new (segment_of run) run.out)
         (PayloadFails (unbox run.file.key run.file.nonce) 65536 old new (segment_of run) run.out)
 
-  pub decrypted : (a : SourceView) (unlocked : Unlocked) (key : List ℕ) (old new : Stage) (result : Result (Unit {0}) FileFault)
+  pub decrypted : (a : SourceView) (unlocked : Unlocked) (old new : Stage) (result : Result (Unit {0}) FileFault)
       → old.writer.progress.written ≡ 0 → old.writer.progress.index ≡ 0 → old.writer.progress.chain ≡ chain_if keep []
-      → key ≡ payload_key unlocked.key unlocked.nonce → StartsAt Allows a old.reader unlocked
-      → DecryptsPayload (λ nonce block. opening key nonce [] block) 65536 0 old new result → IsDecrypted a unlocked old new result
-  decrypted a unlocked key old new result none index chain_none is s q =
-      let p = subst (λ (t : List ℕ). DecryptsPayload (λ nonce block. opening t nonce [] block) 65536 0 old new result) is q in
+      → StartsAt Allows a old.reader unlocked → DecryptsPayload (opens (payload_key unlocked.key unlocked.nonce)) 65536 0 old new result
+      → IsDecrypted a unlocked old new result
+  decrypted a unlocked old new result none index chain_none s p =
       let head = s.front ++ unlocked.nonce in
       let all : Pulled a.remaining new.reader.source.remaining new.reader.unread.pulls ((head ++ old.reader.unread.bytes) ++ p.fresh) =
       p.pulled a.remaining (head ++ old.reader.unread.bytes) s.pulled in

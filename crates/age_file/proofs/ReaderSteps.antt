@@ -2,7 +2,6 @@
 use Rattle.std.proofs.Common.{◌≡◌, sym, subst}
 use Rattle.age_io.specs.Views.{SourceView, SinkView}
 use Rattle.age_file.specs.Ports.{Ports, ports}
-use Rattle.age_file.specs.Resumes.{ResumePorts, resume_ports}
 
 pub read_last : {S : Type 0} (source : S → SourceView) (P : SourceView → Type 0) (s s' : S) → s ≡ s' → P (source s') → P (source s)
 read_last {S} source P s s' e x = subst (λ (t : S). P (source t)) (sym e) x
@@ -11,11 +10,3 @@ pub ports_last : {S O : Type 0} (source : S → SourceView) (sink : O → SinkVi
     → P (ports (source s') (sink o')) → P (ports (source s) (sink o))
 ports_last {S} {O} source sink P s s' o o' e f x = subst (λ (t : S). P (ports (source t) (sink o))) (sym e)
     (subst (λ (t : O). P (ports (source s') (sink t))) (sym f) x)
-
-pub resume_last : {S O L : Type 0} (source : S → SourceView) (sink : O → SinkView) (text : L → SourceView) (P : ResumePorts → Type 0) (s s' : S) (o o' : O)
-    (l l' : L) → s ≡ s' → o ≡ o' → l ≡ l'
-    → P (resume_ports (ports (source s') (sink o')) (text l')) → P (resume_ports (ports (source s) (sink o)) (text l))
-resume_last {S} {O} {L} source sink text P s s' o o' l l' e f h x =
-    subst (λ (t : S). P (resume_ports (ports (source t) (sink o)) (text l))) (sym e)
-    (subst (λ (t : O). P (resume_ports (ports (source s') (sink t)) (text l))) (sym f)
-    (subst (λ (t : L). P (resume_ports (ports (source s') (sink o')) (text t))) (sym h) x))

@@ -14,7 +14,7 @@ use Rattle.std.proofs.Math.Nat.{mul-le-mul_right}
 use Rattle.age_header.specs.declared.header.Header.{Header}
 use Rattle.age_stream.specs.Headline.{IsPrefixOf}
 use Rattle.age_keys.specs.declared.fault.KeyFault.{KeyFault}
-use Rattle.age_cipher.specs.Opening.{opening}
+use Rattle.age_file.specs.inner.Boxes.{opens}
 use Rattle.age_keys.specs.Keys.{payload_key, position_key}
 use Rattle.age_file.specs.AgeFile.{unbox}
 use Rattle.age_file.specs.Bindings.{file_id, chain, position_tag}
@@ -408,10 +408,9 @@ module _ (keep : Positions) (Allows : Header → List ℕ → Type 0) (Refused :
               (PayloadFails (unbox run.file.key run.file.nonce) 65536 (stage m s1.writer) s2 (segment_of run) run.out)
           named : s2.writer.sink.label ≡ first.sink.label
 
-        decrypted : (key : List ℕ) (s2 : Stage) (result : Result (Unit {0}) FileFault) → key ≡ payload_key unlocked.key unlocked.nonce
-            → DecryptsPayload (λ nonce block. opening key nonce [] block) 65536 p.index (stage m s1.writer) s2 result → IsDecrypted s2 result
-        decrypted key s2 result key_is b =
-            let q = subst (λ (t : List ℕ). DecryptsPayload (λ nonce block. opening t nonce [] block) 65536 p.index (stage m s1.writer) s2 result) key_is b in
+        decrypted : (s2 : Stage) (result : Result (Unit {0}) FileFault)
+            → DecryptsPayload (opens (payload_key unlocked.key unlocked.nonce)) 65536 p.index (stage m s1.writer) s2 result → IsDecrypted s2 result
+        decrypted s2 result q =
             let front = old_bytes ++ head in
             let start = preceded old_bytes a.remaining in
             let all : Pulled start s2.reader.source.remaining s2.reader.unread.pulls ((front ++ (passed ++ m.unread.bytes)) ++ q.fresh) =
@@ -469,12 +468,12 @@ module _ (keep : Positions) (Allows : Header → List ℕ → Type 0) (Refused :
         decrypted_fails s2 position other b h f = absurd f
 
         -- the whole run
-        pub rest_ended : OneHeader → (key : List ℕ) (s2 : Stage) (run : Result (Unit {0}) FileFault) (result : Result Done Stopped)
-            → key ≡ payload_key unlocked.key unlocked.nonce
-            → DecryptsPayload (λ nonce block. opening key nonce [] block) 65536 p.index (stage m s1.writer) s2 run → OnOk run (s2.writer.sink.settled ≡ true)
+        pub rest_ended : OneHeader → (s2 : Stage) (run : Result (Unit {0}) FileFault) (result : Result Done Stopped)
+            → DecryptsPayload (opens (payload_key unlocked.key unlocked.nonce)) 65536 p.index (stage m s1.writer) s2 run
+            → OnOk run (s2.writer.sink.settled ≡ true)
             → EndsAs unlocked s2.writer.progress run result → ResumesText keep Allows Refused p (before a first x) (after s2 z) result
-        rest_ended one key s2 (Ok done) result key_is d settled is =
-            let b = decrypted key s2 (Ok done) key_is d in
+        rest_ended one s2 (Ok done) result d settled is =
+            let b = decrypted s2 (Ok done) d in
             let f = b.answered in
             let fits = first_fits s2 (Ok done) b in
             let old = before a first x in
@@ -493,8 +492,8 @@ module _ (keep : Positions) (Allows : Header → List ℕ → Type 0) (Refused :
               settled = settled;
               named = b.named;
             })
-        rest_ended one key s2 (Err fault) result key_is d settled (next, at, is) =
-            let b = decrypted key s2 (Err fault) key_is d in
+        rest_ended one s2 (Err fault) result d settled (next, at, is) =
+            let b = decrypted s2 (Err fault) d in
             let links = subst (λ (l : Option (List ℕ)). PositionAt unlocked s2.writer.progress.index l next) b.counts.chain_is at in
             let key_of = ap (λ (f : OpenedFile). f.key) b.file_is in
             let nonce_of = ap (λ (f : OpenedFile). f.nonce) b.file_is in

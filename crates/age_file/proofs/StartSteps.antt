@@ -1,7 +1,9 @@
 -- What was read up to a payload, one step after another.
 use Rattle.std.proofs.Common.{◌≡◌, ℕ, ◌<◌, List, [], ◌++◌, length, take, drop, Option, sym, ap, subst, ◌∙◌, arith, append-nil, append_assoc}
 use Rattle.std.proofs.lemmas.List.{length-append}
-use Rattle.std.specs.Prelude.{◌≢◌}
+use Rattle.std.specs.Prelude.{◌≢◌, Result, Ok, Err, IfOk, IfErr}
+use Rattle.sha2.specs.Hashers.{Holds256}
+use Rattle.sha2.specs.declared.Sha256.{Sha256}
 use Rattle.std.specs.Io.KnownBytes.{Consumes}
 use Rattle.age_io.specs.Views.{SourceView}
 use Rattle.age_header.specs.declared.header.Header.{Header}
@@ -19,7 +21,8 @@ use Rattle.age_fault.specs.Faults.{HasRisen}
 use Rattle.age_file.specs.inner.Faults.{IsInHeader}
 use Rattle.age_fault.specs.inner.Faults.{fault_of_key}
 use Rattle.age_file.specs.Starts.{StartFails}
-use Rattle.age_file.specs.inner.Starts.{Uses, UsesShort, NonceFails}
+use Rattle.age_file.specs.inner.Starts.{Uses, UsesShort, NonceFails, ReadsNonce, StartsAt}
+use Rattle.age_file.specs.declared.start.Unlocked.{Unlocked}
 use Rattle.age_fault.specs.declared.fault.FileFault.{FileFault}
 use Rattle.age_fault.specs.declared.fault.FileFault.TheVariants.{Head, NonceCut, Read, Memory, ReadNeverEnds}
 use Rattle.age_file.proofs.Bytes.{cut_pulled, head_pulled}
@@ -88,7 +91,7 @@ module _ (Allows : Header → List ℕ → Type 0) (Refused : Header → KeyFaul
       cut_pulled a z.source.remaining z.unread.pulls (front ++ u.0) z.unread.bytes u.3
       (subst (λ (t : List ℕ). Pulled a z.source.remaining z.unread.pulls t) (sym (append_assoc front u.0 z.unread.bytes)) (u.2 a front p))
 
-  pub nonce_to_start : OneHeader → (a : SourceView) (y z : ReaderView) (h : Header) (front key : List ℕ) (fault : FileFault) → y.source.failed ≡ a.failed
+  nonce_to_start : OneHeader → (a : SourceView) (y z : ReaderView) (h : Header) (front key : List ℕ) (fault : FileFault) → y.source.failed ≡ a.failed
       → HeadText h front → Opens Allows h key
       → Pulled a.remaining y.source.remaining y.unread.pulls (front ++ y.unread.bytes) → NonceFails y z fault → StartFails Allows Refused a z.source fault
   nonce_to_start one a y z h front key NonceCut e text opens p f = (
@@ -112,3 +115,24 @@ module _ (Allows : Header → List ℕ → Type 0) (Refused : Header → KeyFaul
         (front ++ f.0.0, all.consumed, (omega (arith, all.each_gave, f.1), omega (arith, all.small, f.1))),
       )
   nonce_to_start one a y z h front key other e text opens p f = absurd f
+
+  -- the nonce was read behind a header that was opened, or not
+  module _ (one : OneHeader) (a : SourceView) (y z : ReaderView) (h : Header) (front key : List ℕ) (digest : Sha256) (same : y.source.failed
+      ≡ a.failed) (text : HeadText h front) (opens : Opens Allows h key) (hashed : Holds256 digest front)
+      (pulled : Pulled a.remaining y.source.remaining y.unread.pulls (front ++ y.unread.bytes)) where
+    pub nonce_found : (result : Result Unlocked FileFault) → IfOk result (ReadsNonce key digest y z) → IfOk result (StartsAt Allows a z)
+    nonce_found (Ok u) r = record {
+      header = h;
+      front = front;
+      text = text;
+      opens = subst (λ (k : List ℕ). Opens Allows h k) (sym r.key_is) opens;
+      size = r.size;
+      id = r.id front hashed;
+      pulled = subst (λ (t : List ℕ). Pulled a.remaining z.source.remaining z.unread.pulls t) (sym (append_assoc front u.nonce z.unread.bytes))
+          (r.uses a.remaining front pulled);
+    }
+    nonce_found (Err fault) r = tt
+
+    pub nonce_missed : (result : Result Unlocked FileFault) → IfErr result (NonceFails y z) → IfErr result (StartFails Allows Refused a z.source)
+    nonce_missed (Ok u) f = tt
+    nonce_missed (Err fault) f = nonce_to_start one a y z h front key fault same text opens pulled f

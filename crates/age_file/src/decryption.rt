@@ -1,10 +1,12 @@
 //! Decrypts a file.
 
-ghost use Rattle.std.specs.Prelude.{◌≡◌, None, true};
+ghost use Rattle.std.specs.Prelude.{◌≡◌, ◌<◌, None, true};
 ghost use Rattle.age_file.specs.Ports.{ports};
 ghost use Rattle.age_file.specs.declared.position.Positions.TheVariants.{Kept};
 ghost use Rattle.age_file.specs.Decrypts.{Decrypts};
-ghost use Rattle.age_file.specs.inner.Decrypts.{PositionAt, EndsAs};
+ghost use Rattle.age_file.specs.inner.Decrypts.{PositionAt, EndsAs, OpensPayload};
+ghost use Rattle.age_file.specs.inner.Payloads.{HasPlace};
+ghost use Rattle.age_file.specs.inner.Readers.{stage_of, SameReader, SameWriter};
 
 use crate::intake::Intake;
 use crate::payload::decrypt_payload;
@@ -99,6 +101,26 @@ pub(crate) fn ended(
     }
 }
 
+/// Opens the payload of a file from a chunk on, and tells how the run ended.
+pub(crate) fn open_payload<S: Source, O: Sink>(
+    unlocked: &Unlocked,
+    index: u64,
+    reader: &mut Reader<'_, S>,
+    writer: &mut Writer<'_, O>,
+) -> Result<Done, Stopped>
+    requires limit { index < 281474976710656 }
+    requires room { HasPlace (stage_of S.view O.view reader.old writer.old) }
+    ensures opened { OpensPayload unlocked.now index
+        (stage_of S.view O.view reader.old writer.old)
+        (stage_of S.view O.view reader.new writer.new) result }
+    ensures same_reader { SameReader reader.old reader.new }
+    ensures same_writer { SameWriter writer.old writer.new }
+{
+    let key = payload_key(&unlocked.key, &unlocked.nonce);
+    let run = decrypt_payload(&key, index, reader, writer);
+    ended(run, unlocked, &writer.progress)
+}
+
 /// Decrypts a file, and hands out the position of a stop: [`decrypt_with`], with positions kept.
 pub fn decrypt<U: Unlock, S: Source, O: Sink>(
     alloc: Global,
@@ -144,12 +166,10 @@ pub fn decrypt_with<U: Unlock, S: Source, O: Sink>(
         Ok(unlocked) => unlocked,
         Err(fault) => return Err(Stopped::early(fault)),
     };
-    let key = payload_key(&unlocked.key, &unlocked.nonce);
     let progress = Progress::new(positions);
     let mut writer = Writer {
         sink: writer,
         progress,
     };
-    let run = decrypt_payload(&key, 0, &mut reader, &mut writer);
-    ended(run, &unlocked, &writer.progress)
+    open_payload(&unlocked, 0, &mut reader, &mut writer)
 }

@@ -34,6 +34,28 @@ struct Front {
 }
 
 impl Front {
+    /// Nothing was read yet.
+    fn new(alloc: Global) -> Front
+        ensures { IsFront result [] }
+    {
+        Front {
+            parser: HeadParser::new(alloc),
+            len: 0,
+            digest: Sha256::new(),
+        }
+    }
+
+    /// The header of this text, with what was counted and hashed.
+    fn head(self, header: Header) -> Head
+        ensures { result ≡ head_of header self }
+    {
+        Head {
+            header,
+            len: self.len,
+            digest: self.digest,
+        }
+    }
+
     /// Takes the bytes that were pulled, up to the header's end. Those behind it stay.
     fn take(&mut self, intake: &mut Intake) -> Result<Option<Header>, HeadFault>
         requires { IsReading self.old }
@@ -75,12 +97,18 @@ impl Front {
             (S.view reader.new.source.now).remaining) }
         ensures same { SameReader reader.old reader.new }
     {
-        'pieces: while reader.intake.refill(reader.source)? {
-            if let Some(header) = self.take(reader.intake)? {
-                return Ok(header);
+        'pieces: loop {
+            match reader.intake.refill(reader.source) {
+                Ok(true) => {}
+                Ok(false) => return Err(FileFault::from(self.parser.end())),
+                Err(fault) => return Err(fault),
+            }
+            match self.take(reader.intake) {
+                Ok(Some(header)) => return Ok(header),
+                Ok(None) => {}
+                Err(fault) => return Err(FileFault::from(fault)),
             }
         }
-        Err(FileFault::from(self.parser.end()))
     }
 }
 
@@ -103,17 +131,9 @@ pub(crate) fn read_head<S: Source>(
         (S.view reader.new.source.now).remaining) }
     ensures same { SameReader reader.old reader.new }
 {
-    let mut front = Front {
-        parser: HeadParser::new(alloc),
-        len: 0,
-        digest: Sha256::new(),
-    };
+    let mut front = Front::new(alloc);
     match front.read(reader) {
-        Ok(header) => Ok(Head {
-            header,
-            len: front.len,
-            digest: front.digest,
-        }),
+        Ok(header) => Ok(front.head(header)),
         Err(fault) => Err(fault),
     }
 }

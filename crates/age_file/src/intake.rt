@@ -99,14 +99,14 @@ impl Intake {
         }
         self.from = 0;
         self.to = 0;
-        let n = source
-            .pull(self.buffer.as_mut_slice())
-            .map_err(|_| FileFault::Read)?;
-        if n == 0 {
-            return Ok(false);
+        match source.pull(self.buffer.as_mut_slice()) {
+            Ok(0) => Ok(false),
+            Ok(n) => {
+                self.pulls += 1;
+                self.to = n;
+                Ok(true)
+            }
+            Err(_) => Err(FileFault::Read),
         }
-        self.pulls += 1;
-        self.to = n;
-        Ok(true)
     }
 }

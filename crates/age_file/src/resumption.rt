@@ -3,7 +3,7 @@
 ghost use Rattle.std.specs.Prelude.{◌≡◌, []};
 ghost use Rattle.age_file.specs.inner.Readers.{view_of_reader, view_of_writer};
 ghost use Rattle.age_file.specs.inner.Readers.{SameReader, SameWriter};
-ghost use Rattle.age_file.specs.inner.Copies.{CopiesText};
+ghost use Rattle.age_file.specs.inner.Copies.{CopiesText, CopiesBefore};
 ghost use Rattle.age_file.specs.Ports.{ports};
 ghost use Rattle.age_file.specs.declared.position.Positions.TheVariants.{Kept};
 ghost use Rattle.age_file.specs.inner.Bindings.{chain_if};
@@ -12,9 +12,8 @@ ghost use Rattle.age_file.specs.Resumes.{resume_ports};
 ghost use Rattle.age_file.specs.ResumePromises.{ResumesText};
 
 use crate::copy::copy_chunks;
-use crate::decryption::{Done, Stopped, ended};
+use crate::decryption::{Done, Stopped, ended, open_payload};
 use crate::intake::Intake;
-use crate::payload::decrypt_payload;
 use crate::position::{Position, Positions, tag_of};
 use crate::progress::Progress;
 use crate::reader::{Reader, Writer};
@@ -22,7 +21,7 @@ use crate::skip::skip_blocks;
 use crate::start::{Unlocked, start};
 use age_fault::FileFault;
 use age_io::{Sink, Source};
-use age_keys::{Unlock, payload_key, position_key};
+use age_keys::{Unlock, position_key};
 use age_stanza::one_header;
 use std::alloc::Global;
 
@@ -56,12 +55,42 @@ fn copy_old<L: Source, O: Sink>(
     ensures same_reader { SameReader reader.old reader.new }
     ensures same_writer { SameWriter writer.old writer.new }
 {
-    copy_chunks(reader, position.index, writer)?;
+    match copy_chunks(reader, position.index, writer) {
+        Ok(()) => {}
+        Err(fault) => return Err(fault),
+    }
     if writer.progress.chain != Some(position.chain) {
         return Err(FileFault::OldTextDiffers);
     }
     writer.progress.keep(positions);
     Ok(())
+}
+
+/// Copies the old text of a source before a file is read on: the pulls of both count together.
+fn copy_before<L: Source, O: Sink>(
+    positions: Positions,
+    position: &Position,
+    source: &mut L,
+    mut old_intake: Intake,
+    intake: &mut Intake,
+    writer: &mut Writer<'_, O>,
+) -> Result<(), FileFault>
+    requires unread { old_intake.bytes ≡ [] }
+    requires fresh { (writer.old.progress.written ≡ 0) × (writer.old.progress.index ≡ 0)
+        × (writer.old.progress.chain ≡ chain_if Kept []) }
+    ensures copied { CopiesBefore positions position.now (L.view source.old) (L.view source.new)
+        intake.old intake.new (view_of_writer O.view writer.old) (view_of_writer O.view writer.new)
+        result }
+    ensures same_writer { SameWriter writer.old writer.new }
+{
+    old_intake.count_on(intake);
+    let mut reader = Reader {
+        source,
+        intake: &mut old_intake,
+    };
+    let copied = copy_old(positions, position, &mut reader, writer);
+    intake.count_on(reader.intake);
+    copied
 }
 
 /// Continues a decryption that stopped, and hands out the position of a stop: [`resume_with`], with
@@ -117,7 +146,7 @@ pub fn resume_with<U: Unlock, S: Source, L: Source, O: Sink>(
         result }
 {
     one_header();
-    let (Ok(mut intake), Ok(mut old_intake)) = (Intake::new(alloc), Intake::new(alloc)) else {
+    let (Ok(mut intake), Ok(old_intake)) = (Intake::new(alloc), Intake::new(alloc)) else {
         return Err(Stopped::early(FileFault::Memory));
     };
     let mut reader = Reader {
@@ -132,27 +161,24 @@ pub fn resume_with<U: Unlock, S: Source, L: Source, O: Sink>(
         Ok(()) => {}
         Err(fault) => return Err(Stopped::early(fault)),
     }
-    let mut old_reader = Reader {
-        source: old_reader,
-        intake: &mut old_intake,
-    };
     let progress = Progress::new(Positions::Kept);
     let mut writer = Writer {
         sink: writer,
         progress,
     };
-    old_reader.intake.count_on(reader.intake);
-    match copy_old(positions, position, &mut old_reader, &mut writer) {
+    match copy_before(
+        positions,
+        position,
+        old_reader,
+        old_intake,
+        reader.intake,
+        &mut writer,
+    ) {
         Ok(()) => {}
         Err(fault) => return Err(Stopped::after(fault, &writer.progress, None)),
     }
-    reader.intake.count_on(old_reader.intake);
-    drop(old_intake);
-    let key = payload_key(&unlocked.key, &unlocked.nonce);
     match skip_blocks(&mut reader, position.index) {
-        Ok(()) => {}
-        Err(fault) => return ended(Err(fault), &unlocked, &writer.progress),
+        Ok(()) => open_payload(&unlocked, position.index, &mut reader, &mut writer),
+        Err(fault) => ended(Err(fault), &unlocked, &writer.progress),
     }
-    let run = decrypt_payload(&key, position.index, &mut reader, &mut writer);
-    ended(run, &unlocked, &writer.progress)
 }

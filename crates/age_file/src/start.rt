@@ -1,11 +1,10 @@
 //! Reads a file up to its payload.
 
 ghost use Rattle.std.specs.Prelude.{◌≡◌, ◌+◌, ◌-◌, ◌≤◌, [], ◌++◌, length, take, min};
-ghost use Rattle.std.specs.Prelude.{IfOk, IfErr};
-ghost use Rattle.std.specs.Prelude.{OnOk};
+ghost use Rattle.std.specs.Prelude.{IfOk, IfErr, OnOk};
 ghost use Rattle.age_file.specs.Starts.{StartFails};
 ghost use Rattle.age_file.specs.inner.Readers.{view_of_reader, SameReader};
-ghost use Rattle.age_file.specs.inner.Starts.{Uses, SomeAnswers, NonceFails, StartsAt};
+ghost use Rattle.age_file.specs.inner.Starts.{Uses, SomeAnswers, NonceFails, ReadsNonce, StartsAt};
 
 use crate::head::read_head;
 use crate::position::file_id;
@@ -14,6 +13,7 @@ use age_fault::FileFault;
 use age_io::Source;
 use age_keys::{FileKey, Unlock, open_header};
 use age_stanza::one_header;
+use sha2::Sha256;
 use std::alloc::Global;
 
 /// What a file's payload is opened with.
@@ -72,6 +72,29 @@ fn take_nonce<S: Source>(reader: &mut Reader<'_, S>) -> Result<[u8; 16], FileFau
     Ok(nonce)
 }
 
+/// Reads the payload nonce behind a header that was opened, and whose text the digest was fed.
+fn read_nonce<S: Source>(
+    key: FileKey,
+    digest: Sha256,
+    reader: &mut Reader<'_, S>,
+) -> Result<Unlocked, FileFault>
+    ensures found { IfOk result (ReadsNonce key digest (view_of_reader S.view reader.old)
+        (view_of_reader S.view reader.new)) }
+    ensures unfailed { OnOk result ((S.view reader.new.source.now).failed ≡
+        (S.view reader.old.source.now).failed) }
+    ensures fails { IfErr result (NonceFails (view_of_reader S.view reader.old)
+        (view_of_reader S.view reader.new)) }
+    ensures same { SameReader reader.old reader.new }
+{
+    match take_nonce(reader) {
+        Ok(nonce) => {
+            let id = file_id(digest, &nonce);
+            Ok(Unlocked { key, nonce, id })
+        }
+        Err(fault) => Err(fault),
+    }
+}
+
 /// Reads a file up to its payload: the header, which is opened, and the payload nonce.
 pub(crate) fn start<U: Unlock, S: Source>(
     alloc: Global,
@@ -88,9 +111,12 @@ pub(crate) fn start<U: Unlock, S: Source>(
     ensures same { SameReader reader.old reader.new }
 {
     one_header();
-    let head = read_head(alloc, reader)?;
-    let key = open_header(alloc, &head.header, unlock)?;
-    let nonce = take_nonce(reader)?;
-    let id = file_id(head.digest, &nonce);
-    Ok(Unlocked { key, nonce, id })
+    let head = match read_head(alloc, reader) {
+        Ok(head) => head,
+        Err(fault) => return Err(fault),
+    };
+    match open_header(alloc, &head.header, unlock) {
+        Ok(key) => read_nonce(key, head.digest, reader),
+        Err(fault) => Err(FileFault::from(fault)),
+    }
 }

@@ -10,7 +10,10 @@ use Rattle.age_file.specs.Bindings.{chain}
 use Rattle.age_file.specs.inner.Bindings.{link_if, chain_if}
 use Rattle.age_file.specs.declared.position.Positions.{Positions}
 use Rattle.age_file.specs.declared.position.Positions.TheVariants.{Kept}
-use Rattle.age_file.specs.inner.Readers.{ReaderView, WriterView}
+use Rattle.age_file.specs.inner.Readers.{ReaderView, reader_view, WriterView}
+use Rattle.age_file.specs.inner.Unread.{Unread}
+use Rattle.age_file.specs.declared.position.Position.{Position}
+use Rattle.age_io.specs.Views.{SourceView}
 use Rattle.age_file.specs.inner.Skips.{Passes, Dries}
 use Rattle.age_fault.specs.declared.fault.FileFault.{FileFault}
 use Rattle.age_fault.specs.declared.fault.FileFault.TheVariants.{ShortText, Read, Write}
@@ -88,3 +91,16 @@ pub record CopiesText (keep : Positions) (n chunks : ℕ) (links : List ℕ) (ol
   pub count : now.progress.written ≡ was.progress.written + length out
   pub answered : MatchResult result (λ _. TextGoes keep n chunks links old new was now out)
       (TextFails n chunks links old new was now out)
+
+-- the old text was copied, and its pulls are counted behind those of the file
+pub record CopiesBefore (keep : Positions) (p : Position) (old new : SourceView)
+    (before after : Unread) (was now : WriterView) (result : Result (Unit {0}) FileFault)
+    : Type 0 where
+  pub first : Unread
+  pub none : first.bytes ≡ []
+  pub counted_on : first.pulls ≡ before.pulls
+  pub last : Unread
+  pub copied : CopiesText keep 65536 p.index p.chain (reader_view old first)
+      (reader_view new last) was now result
+  pub kept : after.bytes ≡ before.bytes
+  pub counted : after.pulls ≡ last.pulls

@@ -1,6 +1,10 @@
 -- What a decryption did.
 use Rattle.std.specs.Prelude.{◌≡◌, ℕ, List, Option, Some, None, IsSomeAnd, Result, Ok, Err}
-use Rattle.age_keys.specs.Keys.{position_key}
+use Rattle.std.specs.Prelude.{OnOk, true}
+use Rattle.age_keys.specs.Keys.{payload_key, position_key}
+use Rattle.age_file.specs.inner.Boxes.{opens}
+use Rattle.age_file.specs.inner.Payloads.{DecryptsPayload}
+use Rattle.age_file.specs.inner.Readers.{Stage}
 use Rattle.age_file.specs.Bindings.{position_tag}
 use Rattle.age_file.specs.declared.position.Position.{Position}
 use Rattle.age_file.specs.declared.start.Unlocked.{Unlocked}
@@ -29,3 +33,12 @@ EndsAs unlocked p (Ok done) result = result ≡ Ok (record { written = p.written
 EndsAs unlocked p (Err fault) result =
     (next : Option Position) × PositionAt unlocked p.index p.chain next
     × (result ≡ Err (record { fault = fault; written = p.written; position = next }))
+
+-- a payload was opened from a chunk on, and its run ended so
+pub record OpensPayload (unlocked : Unlocked) (start : ℕ) (old new : Stage)
+    (result : Result Done Stopped) : Type 0 where
+  pub run : Result (Unit {0}) FileFault
+  pub decrypts : DecryptsPayload (opens (payload_key unlocked.key unlocked.nonce)) 65536 start old
+      new run
+  pub settled : OnOk run (new.writer.sink.settled ≡ true)
+  pub ended : EndsAs unlocked new.writer.progress run result

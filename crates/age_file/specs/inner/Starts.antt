@@ -6,6 +6,8 @@ use Rattle.std.specs.Io.KnownBytes.{IsAtEnd}
 use Rattle.age_io.specs.Views.{SourceView}
 use Rattle.age_header.specs.declared.header.Header.{Header}
 use Rattle.age_stanza.specs.Grammar.{HeadText}
+use Rattle.sha2.specs.Hashers.{Holds256}
+use Rattle.sha2.specs.declared.Sha256.{Sha256}
 use Rattle.age_keys.specs.Opened.{Opens}
 use Rattle.age_fault.specs.Faults.{HasRisen}
 use Rattle.age_file.specs.Bindings.{file_id}
@@ -39,6 +41,14 @@ NonceFails old new NonceCut = UsesShort old new × IsAtEnd new.source.remaining
 NonceFails old new Read = UsesShort old new × HasRisen old.source.failed new.source.failed
 NonceFails old new ReadNeverEnds = UsesShort old new × (new.unread.pulls ≡ 2 ^ 63)
 NonceFails old new other = ⊥
+
+-- the nonce behind a header was read, and names the file with what the digest was fed
+pub record ReadsNonce (key : List ℕ) (digest : Sha256) (old new : ReaderView) (unlocked : Unlocked)
+    : Type 0 where
+  pub key_is : unlocked.key ≡ key
+  pub size : length unlocked.nonce ≡ 16
+  pub uses : Uses old new unlocked.nonce
+  pub id : (front : List ℕ) → Holds256 digest front → unlocked.id ≡ file_id front unlocked.nonce
 
 -- a header was read and opened, and the nonce behind it was read
 pub record StartsAt (Allows : Header → List ℕ → Type 0) (old : SourceView) (new : ReaderView)

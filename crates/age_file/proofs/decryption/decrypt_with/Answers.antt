@@ -39,15 +39,15 @@ returns-in-Err g c =
 pub returns : goal.returns
 returns g c =
     let old = stage (view_of_reader g.S.Source.view c.start.new.reader) (writer_view (g.O.Sink.view c.args.writer.now) c.new-progress.result) in
-    let new = stage_of g.S.Source.view g.O.Sink.view c.decrypt_payload-run.new.reader c.decrypt_payload-run.new.writer in
+    let new = stage_of g.S.Source.view g.O.Sink.view c.open_payload.new.reader c.open_payload.new.writer in
     let first = g.S.Source.view c.args.reader.now in
     let before = ports first (g.O.Sink.view c.args.writer.now) in
     let Allows = g.U.Unlock.allows c.args.unlock.now in
     let Refused = g.U.Unlock.refuses c.args.unlock.now in
-    let d = c.decrypt_payload-run.ensures in
-    let ran = decrypted c.args.positions Allows Refused first c.in-Ok-start.unlocked c.payload_key-key.result old new _
-    c.new-progress.ensures.written c.new-progress.ensures.index c.new-progress.ensures.chain c.payload_key-key.ensures c.in-Ok-start.ensures.found d.decrypts in
-    ports_last g.S.Source.view g.O.Sink.view (λ p. Decrypts c.args.positions Allows Refused before p c.ended.result)
-    _ c.decrypt_payload-run.new.reader.source.now _ c.decrypt_payload-run.new.writer.sink.now (search rules) (search rules)
-    (run_ended c.args.positions Allows Refused c.one_header.ensures first c.in-Ok-start.unlocked old new _ c.ended.result c.in-Ok-start.ensures.unfailed
-    d.decrypts.named d.settled ran c.ended.ensures)
+    let o = c.open_payload.ensures.opened in
+    let ran = decrypted c.args.positions Allows Refused first c.in-Ok-start.unlocked old new o.run c.new-progress.ensures.written
+    c.new-progress.ensures.index c.new-progress.ensures.chain c.in-Ok-start.ensures.found o.decrypts in
+    ports_last g.S.Source.view g.O.Sink.view (λ p. Decrypts c.args.positions Allows Refused before p c.open_payload.result)
+    _ c.open_payload.new.reader.source.now _ c.open_payload.new.writer.sink.now (search rules) (search rules)
+    (run_ended c.args.positions Allows Refused c.one_header.ensures first c.in-Ok-start.unlocked old new o.run c.open_payload.result
+    c.in-Ok-start.ensures.unfailed o.decrypts.named o.settled ran o.ended)

@@ -1,0 +1,52 @@
+use Rattle.std.proofs.Common.{◌≡◌, ◌∙◌, Some, sym, rules}
+use Rattle.std.specs.Simd.{first_chunks}
+use Rattle.age_file.specs.Bindings.{chain}
+use Rattle.age_file.specs.inner.Readers.{view_of_reader, view_of_writer}
+use Rattle.age_file.proofs.CopySteps.{text_fails}
+use Rattle.age_file.proofs.resumption.copy_old.Goals as goal
+
+pub returns-in-Err-clause-copied : goal.returns-in-Err-clause-copied
+returns-in-Err-clause-copied g c =
+    let f = c.in-Err.ensures.copied in
+    record {
+      out = f.out;
+      wrote = f.wrote;
+      named = f.named;
+      count = f.count;
+      answered = text_fails 65536 c.args.position.now.index c.args.position.now.chain (view_of_reader g.L.Source.view c.args.reader.now)
+          (view_of_reader g.L.Source.view c.copy_chunks.new.reader) (view_of_writer g.O.Sink.view c.args.writer.now)
+          (view_of_writer g.O.Sink.view c.copy_chunks.new.writer) f.out c.in-Err.fault f.answered;
+    }
+
+pub returns-then-ne-clause-copied : goal.returns-then-ne-clause-copied
+returns-then-ne-clause-copied g c =
+    let f = c.in-Ok.ensures.copied in
+    record {
+      out = f.out;
+      wrote = f.wrote;
+      named = f.named;
+      count = f.count;
+      answered = (f.answered, search rules);
+    }
+
+pub returns-clause-copied : goal.returns-clause-copied
+returns-clause-copied g c =
+    let f = c.in-Ok.ensures.copied in
+    let chunks = first_chunks 65536 c.args.position.now.index f.out in
+    let links : c.copy_chunks.new.writer.progress.chain ≡ Some c.args.position.now.chain = search rules in
+    let both : Some (chain chunks) ≡ Some c.args.position.now.chain = sym f.answered.4 ∙ links in
+    let same : chain chunks ≡ c.args.position.now.chain = cc in
+    record {
+      out = f.out;
+      wrote = f.wrote;
+      named = f.named;
+      count = c.keep.ensures.written ∙ f.count;
+      answered = (
+        f.answered.0,
+        f.answered.1,
+        f.answered.2,
+        c.keep.ensures.index ∙ f.answered.3,
+        c.keep.ensures.chain chunks f.answered.4,
+        same,
+      );
+    }
