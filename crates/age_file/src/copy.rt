@@ -37,12 +37,17 @@ fn copy_chunk<S: Source, O: Sink>(
     digest.update(&chain);
     let mut left = CHUNK;
     'parts: while left > 0 {
-        if !some_bytes(reader)? {
-            return Err(FileFault::ShortText);
+        match some_bytes(reader) {
+            Ok(true) => {}
+            Ok(false) => return Err(FileFault::ShortText),
+            Err(fault) => return Err(fault),
         }
         let n = left.min(reader.intake.bytes().len());
         let piece = &reader.intake.bytes()[..n];
-        write_all(writer.sink, piece, &mut writer.progress.written)?;
+        match write_all(writer.sink, piece, &mut writer.progress.written) {
+            Ok(()) => {}
+            Err(fault) => return Err(fault),
+        }
         digest.update(piece);
         reader.intake.use_front(n);
         left -= n;
@@ -68,7 +73,10 @@ pub(crate) fn copy_chunks<S: Source, O: Sink>(
     ensures same_writer { SameWriter writer.old writer.new }
 {
     for _copied in 0..chunks {
-        copy_chunk(reader, writer)?;
+        match copy_chunk(reader, writer) {
+            Ok(()) => {}
+            Err(fault) => return Err(fault),
+        }
     }
     Ok(())
 }

@@ -1,4 +1,5 @@
-use Rattle.std.proofs.Common.{refl, rules, Err}
+use Rattle.std.proofs.Common.{◌++◌, arith, refl, rules, Err}
+use Rattle.std.proofs.lemmas.List.{length-append}
 use Rattle.std.proofs.KnownBytes.{Appends-nil}
 use Rattle.age_file.proofs.Bytes.{stops_unread}
 use Rattle.age_file.specs.Ports.{ports}
@@ -51,3 +52,10 @@ returns g c =
     _ c.open_payload.new.reader.source.now _ c.open_payload.new.writer.sink.now (search rules) (search rules)
     (run_ended c.args.positions Allows Refused c.one_header.ensures first c.in-Ok-start.unlocked old new o.run c.open_payload.result
     c.in-Ok-start.ensures.unfailed o.decrypts.named o.settled ran o.ended)
+
+pub open_payload-requires-clause-room : goal.open_payload-requires-clause-room
+open_payload-requires-clause-room g c =
+    let found = c.in-Ok-start.ensures.found in
+    let unread = c.start.new.reader.intake.now.bytes in
+    let p = found.pulled in
+    (omega (arith, c.new-progress.ensures.written, p.small, length-append (found.front ++ c.in-Ok-start.unlocked.nonce) unread), p.most)

@@ -24,7 +24,7 @@ returns-in-Err g c =
     let same : pulls ≡ c.args.self.now.pulls = ap (λ v. v.pulls) c.self.view_is in
     let most : pulls ≤ 2 ^ 63 = omega (arith, c.self.invariant) in
     record {
-      answered = (refl, same, search rules);
+      answered = (refl {a = []}, same, search rules);
       pulled = λ start bytes p. goes_on start old new c.args.self.now.pulls pulls bytes []
           (Consumes-kept old old new [] (Consumes-nil old) c.in-Err.ensures.bytes) (omega arith) (omega arith) most p;
     }
