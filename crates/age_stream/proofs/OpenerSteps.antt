@@ -12,7 +12,7 @@ use Rattle.age_chunk.specs.declared.fault.StreamFault.{StreamFault}
 use Rattle.age_stream.specs.declared.step.Status.{Status}
 use Rattle.age_stream.specs.declared.step.Status.TheVariants.{Open, LastSeen, Done, Failed}
 use Rattle.age_stream.specs.Opening.{Stands, given, handed, held_bytes, opener_view}
-use Rattle.age_stream.specs.inner.OpenerSteps.{TakesPart, TakesWhole, TakesNone}
+use Rattle.age_stream.specs.inner.OpenerSteps.{IsTried, TakesPart, TakesWhole, TakesNone}
 use Rattle.age_stream.proofs.Going.{going, going_part, going_whole, after_piece, unended_piece, IsGoing, IsWhole}
 
 piece_timely : (s : Segment) (ended : Bool) (p : List ℕ) → s.ended ≡ ended → (s.ended ≡ false → s.late ≡ false) → (with_piece s p).ended ≡ false
@@ -199,3 +199,37 @@ module _ {B : Type 0} {n : ℕ} {g : _} (opening : B → List ℕ → List ℕ �
         | inl lt ↦ (let t = f lt in part_answer s piece answer (part s piece answer h open_ lt t) t.answered)
         | inr le ↦ whole s piece h open_ le short answer (w le)
       ]
+
+-- a block that is full was tried: what was taken of the piece, for what was held
+module _ {B : Type 0} {n : ℕ} {g : _} (opening : B → List ℕ → List ℕ → Option (List ℕ)) (old mid new : OpenerState B n g) (piece : List ℕ)
+    (key : mid.key ≡ old.key) (index : mid.index ≡ old.index)
+    (items : mid.buffer.items ≡ held_bytes old ++ take (n - length (held_bytes old)) piece) where
+  block : one_block (opening mid.key.now) mid.index mid.buffer.items
+      ≡ one_block (opening old.key.now) old.index (held_bytes old ++ take (n - length (held_bytes old)) piece)
+  block =
+      ap (λ k. one_block (opening k.now) mid.index mid.buffer.items) key
+      ∙ (ap (λ (i : ℕ). one_block (opening old.key.now) i mid.buffer.items) index ∙ ap (one_block (opening old.key.now) old.index) items)
+
+  pub tried_ok : (room : ℕ) → room + length (held_bytes old) ≡ n → IsTried (one_block (opening mid.key.now) mid.index mid.buffer.items) mid (Ok tt) new
+      → TakesWhole (one_block (opening old.key.now) old.index (held_bytes old ++ take (n - length (held_bytes old)) piece)) old (Ok (room, true)) new
+  tried_ok room sum t = record {
+    key = t.key ∙ key;
+    index = t.index ∙ ap (λ (o : Outcome). o.index) block;
+    status = t.status ∙ ap (λ (o : Outcome). o.status) block;
+    answered = (
+      sum,
+      refl,
+      ap (λ (lent : Bool). if lent then [] else new.buffer.items) t.answered.0,
+      ap (λ (o : Outcome). o.texts) (sym block) ∙ t.answered.2,
+      t.answered.1,
+    );
+  }
+
+  pub tried_err : (fault : StreamFault) → IsTried (one_block (opening mid.key.now) mid.index mid.buffer.items) mid (Err fault) new
+      → TakesWhole (one_block (opening old.key.now) old.index (held_bytes old ++ take (n - length (held_bytes old)) piece)) old (Err fault) new
+  tried_err fault t = record {
+    key = t.key ∙ key;
+    index = t.index ∙ ap (λ (o : Outcome). o.index) block;
+    status = t.status ∙ ap (λ (o : Outcome). o.status) block;
+    answered = (t.answered.0, ap (λ (o : Outcome). o.texts) (sym block) ∙ t.answered.1);
+  }

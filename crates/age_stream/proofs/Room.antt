@@ -1,8 +1,7 @@
 -- How much room a text needs.
 use Rattle.std.proofs.Common.{◌≡◌, ℕ, ◌<◌, ◌≤◌, ◌+◌, ◌*◌, ◌-◌, ◌/◌, refl, ap, ◌∙◌, List, [], length, arith, Bool, true, false}
 use Rattle.std.specs.Prelude.{Option, Some, None, IfSome, IfNone, nat_lt, ◌&&◌}
-use Rattle.std.specs.Prelude.{Result, Ok, Err, OnOk}
-use Rattle.std.specs.Result.{is_err}
+use Rattle.std.specs.Bool.{OnTrue}
 use Rattle.std.specs.Borrow.{Bor}
 use borrow.Author.Tests.{ltb-true}
 use Rattle.std.proofs.Math.Nat.{add-mul-div_left, div-mul-le_self}
@@ -55,7 +54,7 @@ first_true false b e = e
 pub below_limit : (k : ℕ) (b : Bool) → (nat_lt k chunk_limit && b) ≡ true → k < chunk_limit
 below_limit k b e = ltb-true k chunk_limit (first_true (nat_lt k chunk_limit) b e)
 
--- what holds of a call that didn't fail
-pub on_ok : {A E : Type 0} {P : Type 0} (r : Result A E) → is_err r ≡ false → OnOk r P → P
-on_ok (Ok a) e p = p
-on_ok (Err x) e p = cc
+-- what holds, whatever the test
+pub on_true : {P : Type 0} (b : Bool) → P → OnTrue b P
+on_true true p = p
+on_true false p = tt

@@ -13,6 +13,7 @@
 //! the text that came of any list of pieces, ends and restarts.
 #![tactic(auto)]
 
+mod buffer;
 mod delivery;
 mod drilling;
 mod headline;

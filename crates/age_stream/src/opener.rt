@@ -12,6 +12,7 @@ ghost use Rattle.age_chunk.specs.Payload.{chunk_length, block_length};
 ghost use Rattle.age_stream.specs.declared.step.Status.TheVariants.{Open, LastSeen, Done};
 ghost use Rattle.age_chunk.specs.declared.fault.StreamFault.{StreamFault as StreamFaultValue};
 
+use crate::buffer::push_bytes;
 use crate::step::{Status, Step};
 use age_chunk::{CHUNK_LIMIT, ChunkBox, StreamFault, StreamKind, nonce_of};
 use arrayvec::ArrayVec;
@@ -82,6 +83,7 @@ impl<'k, B: ChunkBox, const SEALED: usize> OpenerState<'k, B, SEALED> {
     }
 
     // Takes what the block has room for, and tries the block that is full.
+    #[tactic(none)]
     fn take_open(&mut self, piece: &[u8]) -> Result<(usize, bool), StreamFault>
         requires { self.old.status ≡ Status.Open }
         ensures part { length (held_bytes self.old) + length piece.now < SEALED
@@ -96,15 +98,15 @@ impl<'k, B: ChunkBox, const SEALED: usize> OpenerState<'k, B, SEALED> {
         self.settle();
         let room = SEALED - self.buffer.len();
         if piece.len() < room {
-            // shorter than the room
-            let _ = self.buffer.try_extend_from_slice(piece);
+            push_bytes(&mut self.buffer, piece);
             return Ok((piece.len(), false));
         }
-        // as long as the room
-        let _ = self.buffer.try_extend_from_slice(&piece[..room]);
+        push_bytes(&mut self.buffer, &piece[..room]);
         self.lent = true;
-        self.try_block()?;
-        Ok((room, true))
+        match self.try_block() {
+            Ok(()) => Ok((room, true)),
+            Err(fault) => Err(fault),
+        }
     }
 
     // Takes nothing more.
@@ -174,6 +176,7 @@ impl<'k, B: ChunkBox, const SEALED: usize> OpenerState<'k, B, SEALED> {
     }
 
     // Tries what is held as the last block.
+    #[tactic(none)]
     fn end_open(&mut self) -> Result<usize, StreamFault>
         requires { self.old.status ≡ Status.Open }
         ensures ends { Ends (final_block (B.opening self.old.key.now) [] self.old.index
@@ -446,6 +449,7 @@ impl<'k, B: ChunkBox, const SEALED: usize> Opener<'k, B, SEALED> {
 }
 
 // Opens the block in the buffer in place.
+#[tactic(none)]
 fn open_in<B: ChunkBox, const SEALED: usize>(
     key: &B,
     index: u64,

@@ -105,6 +105,7 @@ impl<'k, B: ChunkBox, const SEALED: usize> ReplayState<'k, B, SEALED> {
     }
 
     // How much text an end releases, if it releases any.
+    #[tactic(none)]
     fn end_room(&self) -> usize
         ensures { result ≡ text_at_end self.now.opener }
     {
@@ -115,6 +116,7 @@ impl<'k, B: ChunkBox, const SEALED: usize> ReplayState<'k, B, SEALED> {
     }
 
     // Takes a piece. Its text is made room for first.
+    #[tactic(none)]
     fn take_piece(&mut self, piece: &[u8]) -> Result<(), Memory>
         ensures fed { OnOk result ((s : Standing)
             → IsAt B.opening (SEALED - 16) (replay_view self.old) s
@@ -126,14 +128,30 @@ impl<'k, B: ChunkBox, const SEALED: usize> ReplayState<'k, B, SEALED> {
         ensures key { self.new.key ≡ self.old.key }
     {
         let room = self.piece_room(piece);
-        if self.text.reserve(room).is_err() {
-            return Err(Memory);
+        match self.text.reserve(room) {
+            Ok(()) => self.feed_all(piece),
+            Err(_) => return Err(Memory),
         }
-        self.feed_all(piece);
         Ok(())
     }
 
+    // Ends the opener, for whose last text there is room.
+    fn end_opener(&mut self)
+        requires { vec_len self.old.text + text_at_end self.old.opener
+            ≤ vec_capacity self.old.text }
+        ensures ended { (s : Standing) → IsAt B.opening (SEALED - 16) (replay_view self.old) s
+            → IsAt B.opening (SEALED - 16) (replay_view self.new)
+            (after_delivery (B.opening self.old.key.now) (SEALED - 16) s End) }
+        ensures capacity { vec_capacity self.old.text ≤ vec_capacity self.new.text }
+        ensures key { self.new.key ≡ self.old.key }
+    {
+        if let Ok(text) = self.opener.end() {
+            push_text(&mut self.text, text);
+        }
+    }
+
     // Takes an end. Its text is made room for first.
+    #[tactic(none)]
     fn take_end(&mut self) -> Result<(), Memory>
         ensures ended { OnOk result ((s : Standing)
             → IsAt B.opening (SEALED - 16) (replay_view self.old) s
@@ -146,16 +164,15 @@ impl<'k, B: ChunkBox, const SEALED: usize> ReplayState<'k, B, SEALED> {
         ensures key { self.new.key ≡ self.old.key }
     {
         let room = self.end_room();
-        if self.text.reserve(room).is_err() {
-            return Err(Memory);
-        }
-        if let Ok(text) = self.opener.end() {
-            push_text(&mut self.text, text);
+        match self.text.reserve(room) {
+            Ok(()) => self.end_opener(),
+            Err(_) => return Err(Memory),
         }
         Ok(())
     }
 
     // Whether so many chunks are held.
+    #[tactic(none)]
     fn reaches(&self, k: u64) -> bool
         ensures answer { result ≡ (nat_lt k chunk_limit
             && nat_le (k * (SEALED - 16)) (length self.now.text.items)) }

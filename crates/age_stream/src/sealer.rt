@@ -7,6 +7,7 @@ ghost use Rattle.std.specs.Io.BufRead.{Rests};
 ghost use Rattle.age_chunk.specs.Nonce.{nonce_bytes, chunk_limit};
 ghost use Rattle.age_chunk.specs.Payload.{block_length};
 
+use crate::buffer::push_bytes;
 use crate::step::Step;
 use age_chunk::{CHUNK_LIMIT, ChunkBox, StreamFault, StreamKind, nonce_of};
 use arrayvec::ArrayVec;
@@ -85,8 +86,7 @@ impl<'k, B: ChunkBox, const SEALED: usize> SealerState<'k, B, SEALED> {
         let room = SEALED - 16 - self.buffer.len();
         if room > 0 {
             let taken = room.min(piece.len());
-            // no more than there is room for
-            let _ = self.buffer.try_extend_from_slice(&piece[..taken]);
+            push_bytes(&mut self.buffer, &piece[..taken]);
             return Ok((taken, false));
         }
         if self.index == CHUNK_LIMIT - 1 {
@@ -305,6 +305,7 @@ impl<'k, B: ChunkBox, const SEALED: usize> Sealer<'k, B, SEALED> {
 }
 
 // Puts the tag after the text in the buffer, and seals both in place.
+#[tactic(none)]
 fn seal_in<B: ChunkBox, const SEALED: usize>(
     key: &B,
     index: u64,
@@ -315,7 +316,6 @@ fn seal_in<B: ChunkBox, const SEALED: usize>(
     requires limit { SEALED ≤ block_length }
     ensures { buffer.new.items ≡ B.sealing key.now (nonce_bytes index last) buffer.old.items }
 {
-    // room for the tag is required
-    let _ = buffer.try_extend_from_slice(&[0; 16]);
+    push_bytes(buffer, &[0; 16]);
     key.seal_at(&nonce_of(index, last), buffer.as_mut_slice());
 }

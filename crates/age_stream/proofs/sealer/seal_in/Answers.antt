@@ -1,8 +1,24 @@
+use Rattle.std.proofs.Common.{◌≡◌, ap, length, arith, refl}
+use Rattle.std.proofs.lemmas.List.{length-append}
+use Rattle.age_stream.proofs.InPlace.{sealed_in}
 use Rattle.age_stream.proofs.Sizes.{list_fits}
 use Rattle.age_stream.proofs.sealer.seal_in.Goals as goal
 
-pub try_extend_from_slice-requires : goal.try_extend_from_slice-requires
-try_extend_from_slice-requires g c = list_fits c.requires.limit
+pub push_bytes-requires : goal.push_bytes-requires
+push_bytes-requires g c = (list_fits c.requires.limit, (c.requires.room, c.requires.limit))
 
 pub as_mut_slice-requires : goal.as_mut_slice-requires
 as_mut_slice-requires g c = list_fits c.requires.limit
+
+pub seal_at-requires-clause-tag : goal.seal_at-requires-clause-tag
+seal_at-requires-clause-tag g c =
+    omega (arith, ap length c.as_mut_slice.ensures.value, simp length-append at (ap length c.push_bytes.ensures))
+
+pub seal_at-requires-clause-limit : goal.seal_at-requires-clause-limit
+seal_at-requires-clause-limit g c = omega (arith, c.as_mut_slice.ensures.fits)
+
+pub returns : goal.returns
+returns g c =
+    let len : length c.seal_at.new.block ≡ length c.push_bytes.new.buffer.items = omega (arith, c.seal_at.auto.block, ap length c.as_mut_slice.ensures.value) in
+    sealed_in (g.B.ChunkBox.sealing c.args.key.now) _ _ _ _ _ _ c.seal_at.new.block c.nonce_of.ensures c.as_mut_slice.ensures.value c.push_bytes.ensures refl len
+    c.seal_at.ensures

@@ -1,6 +1,13 @@
-use Rattle.std.proofs.Common.{rules}
+use Rattle.std.proofs.Common.{◌≡◌, ◌≤◌, ◌-◌, refl, ap, ◌∙◌, length, take, true, arith}
+use Rattle.age_chunk.specs.Nonce.{nonce_bytes}
+use Rattle.age_chunk.specs.declared.fault.StreamKind.TheVariants.{ChunkDamaged, ChunkCut, EmptyLast, Truncated}
+use Rattle.age_stream.specs.Segment.{failed}
+use Rattle.age_stream.specs.Opening.{held_bytes}
+use Rattle.age_stream.specs.declared.step.Status.TheVariants.{Open}
+use Rattle.age_stream.proofs.LastBlock.{is_missing, is_cut, is_empty_last, is_damaged, is_opened, ends_refused, ends_opened, moved}
 use Rattle.age_stream.proofs.Sizes.{list_fits, opener_state_fits}
 use Rattle.age_stream.proofs.opener.OpenerState.end_open.Goals as goal
+use Rattle.age_stream.proofs.opener.OpenerState.end_open.Goals.{else-len-eq16-via-then-len-eq16+else-self-gt0, else-len-eq16-via-else-len-eq16}
 
 pub settle-requires : goal.settle-requires
 settle-requires g c = opener_state_fits c.args.self.now.sizes.1
@@ -21,4 +28,97 @@ pub len-len-requires : goal.len-len-requires
 len-len-requires g c = list_fits c.args.self.now.sizes.1
 
 pub open_in-requires : goal.open_in-requires
-open_in-requires g c = (list_fits c.args.self.now.sizes.1, search rules)
+open_in-requires g c = (list_fits c.args.self.now.sizes.1, (omega arith, c.args.self.now.sizes.1))
+
+pub returns-then-len-eq0-clause-ends : goal.returns-then-len-eq0-clause-ends
+returns-then-len-eq0-clause-ends g c =
+    let old = c.args.self.now in
+    let settled = c.settle.ensures in
+    let len = ap length settled.buffer in
+    ends_refused old c.fail.new.self _ (c.fail.ensures.same.1 ∙ settled.same.1) (c.fail.ensures.same.0 ∙ settled.same.0) Truncated c.fail.result
+    (is_missing (g.B.ChunkBox.opening old.key.now) old.index (held_bytes old) (omega (arith, len))) (c.fail.ensures.status ∙ ap (failed Truncated) settled.same.0)
+    (c.fail.ensures.fault ∙ ap (failed Truncated) settled.same.0)
+
+pub returns-then-len-lt16-clause-ends : goal.returns-then-len-lt16-clause-ends
+returns-then-len-lt16-clause-ends g c =
+    let old = c.args.self.now in
+    let settled = c.settle.ensures in
+    let failing = c.fail-then-len-lt16 in
+    let len = ap length settled.buffer in
+    ends_refused old failing.new.self _ (failing.ensures.same.1 ∙ settled.same.1) (failing.ensures.same.0 ∙ settled.same.0) ChunkCut failing.result
+    (is_cut (g.B.ChunkBox.opening old.key.now) old.index (held_bytes old) (omega (arith, len)) (omega (arith, len)))
+    (failing.ensures.status ∙ ap (failed ChunkCut) settled.same.0) (failing.ensures.fault ∙ ap (failed ChunkCut) settled.same.0)
+
+pub returns-then-self-gt0-clause-ends : goal.returns-then-self-gt0-clause-ends
+returns-then-self-gt0-clause-ends g c =
+    let old = c.args.self.now in
+    let settled = c.settle.ensures in
+    let failing = c.fail-then-self-gt0 in
+    let len = ap length settled.buffer in
+    ends_refused old failing.new.self _ (failing.ensures.same.1 ∙ settled.same.1) (failing.ensures.same.0 ∙ settled.same.0) EmptyLast failing.result
+    (is_empty_last (g.B.ChunkBox.opening old.key.now) old.index (held_bytes old) (omega (arith, len)) (omega (arith, settled.same.0)))
+    (failing.ensures.status ∙ ap (failed EmptyLast) settled.same.0) (failing.ensures.fault ∙ ap (failed EmptyLast) settled.same.0)
+
+pub invariant_of-self : goal.invariant_of-self
+invariant_of-self g c = record {
+  sizes = c.args.self.now.sizes;
+  limit = c.settle.new.self.limit;
+  room = λ done. cc;
+  last = λ _. refl;
+  done = λ _. refl;
+}
+
+pub returns-then-open_in-clause-ends : goal.returns-then-open_in-clause-ends
+returns-then-open_in-clause-ends g c =
+    let old = c.args.self.now in
+    let opening = g.B.ChunkBox.opening old.key.now in
+    let settled = c.settle.ensures in
+    let len = ap length settled.buffer in
+    let long : 16 ≤ length (held_bytes old) = omega (arith, len) in
+    let first : length (held_bytes old) ≡ 16 → old.index ≡ 0 =
+    elim c.else-len-eq16.branch [
+      | else-len-eq16-via-then-len-eq16+else-self-gt0 w ↦ (λ tag. omega (arith, settled.same.0))
+      | else-len-eq16-via-else-len-eq16 w ↦ (λ tag. absurd (omega (arith, len)))
+    ] in
+    let block = c.settle.new.self.buffer.items in
+    let text = take (length block - 16) c.open_in.new.buffer.items in
+    let opens = moved (λ k i b. g.B.ChunkBox.opening k.now (nonce_bytes i true) b) settled.same.1 settled.same.0 settled.buffer c.if-open_in.ensures.opened in
+    ends_opened old _ _ settled.same.1 settled.same.0 _ text (is_opened opening old.index (held_bytes old) long first text opens) refl
+    (ap (λ k. take (k - 16) c.open_in.new.buffer.items) (omega arith)) (omega (arith, c.open_in.ensures.len)) (omega (arith, len))
+
+pub returns-then-open_in-clause-done : goal.returns-then-open_in-clause-done
+returns-then-open_in-clause-done g c = refl
+
+pub returns-then-open_in-clause-none : goal.returns-then-open_in-clause-none
+returns-then-open_in-clause-none g c = refl
+
+pub returns-then-open_in-clause-len : goal.returns-then-open_in-clause-len
+returns-then-open_in-clause-len g c = omega (arith, ap length c.settle.ensures.buffer)
+
+pub invariant_of-self-else-open_in : goal.invariant_of-self-else-open_in
+invariant_of-self-else-open_in g c =
+    let open_ : c.settle.new.self.status ≡ Open = c.settle.ensures.same.2 ∙ c.requires in
+    record {
+      sizes = c.args.self.now.sizes;
+      limit = c.settle.new.self.limit;
+      room = λ o l. omega (arith, c.open_in.ensures.len, c.settle.new.self.room o l);
+      last = λ e. cc (e, open_);
+      done = λ e. cc (e, open_);
+    }
+
+pub returns-clause-ends : goal.returns-clause-ends
+returns-clause-ends g c =
+    let old = c.args.self.now in
+    let opening = g.B.ChunkBox.opening old.key.now in
+    let settled = c.settle.ensures in
+    let len = ap length settled.buffer in
+    let long : 16 ≤ length (held_bytes old) = omega (arith, len) in
+    let first : length (held_bytes old) ≡ 16 → old.index ≡ 0 =
+    elim c.else-len-eq16.branch [
+      | else-len-eq16-via-then-len-eq16+else-self-gt0 w ↦ (λ tag. omega (arith, settled.same.0))
+      | else-len-eq16-via-else-len-eq16 w ↦ (λ tag. absurd (omega (arith, len)))
+    ] in
+    let closed = moved (λ k i b. g.B.ChunkBox.opening k.now (nonce_bytes i true) b) settled.same.1 settled.same.0 settled.buffer c.if-open_in.ensures.closed.0 in
+    ends_refused old c.fail-2.new.self _ (c.fail-2.ensures.same.1 ∙ settled.same.1) (c.fail-2.ensures.same.0 ∙ settled.same.0) ChunkDamaged c.fail-2.result
+    (is_damaged opening old.index (held_bytes old) long first closed) (c.fail-2.ensures.status ∙ ap (failed ChunkDamaged) settled.same.0)
+    (c.fail-2.ensures.fault ∙ ap (failed ChunkDamaged) settled.same.0)

@@ -1,4 +1,8 @@
-use Rattle.std.proofs.Common.{rules}
+use Rattle.std.proofs.Common.{◌≡◌, ◌-◌, refl, ap, ◌∙◌, List, ◌++◌, [], length, take, Bool, ℕ, if◌then◌else◌, arith}
+use Rattle.std.proofs.lemmas.List.{length-append, length-take}
+use Rattle.age_stream.specs.Opening.{held_bytes}
+use Rattle.age_stream.specs.declared.step.Status.TheVariants.{Open}
+use Rattle.age_stream.proofs.OpenerSteps.{tried_ok, tried_err}
 use Rattle.age_stream.proofs.Sizes.{list_fits, opener_state_fits}
 use Rattle.age_stream.proofs.opener.OpenerState.take_open.Goals as goal
 
@@ -8,11 +12,111 @@ settle-requires g c = opener_state_fits c.args.self.now.sizes.1
 pub len-room-requires : goal.len-room-requires
 len-room-requires g c = list_fits c.args.self.now.sizes.1
 
-pub try_extend_from_slice-requires : goal.try_extend_from_slice-requires
-try_extend_from_slice-requires g c = list_fits c.args.self.now.sizes.1
+pub overflow_sub-room : goal.overflow_sub-room
+overflow_sub-room g c = c.len-room.ensures.fits
 
-pub try_extend_from_slice-requires-2 : goal.try_extend_from_slice-requires-2
-try_extend_from_slice-requires-2 g c = list_fits c.args.self.now.sizes.1
+pub push_bytes-requires : goal.push_bytes-requires
+push_bytes-requires g c = (list_fits c.args.self.now.sizes.1, (omega arith, c.args.self.now.sizes.1))
+
+pub invariant_of-self : goal.invariant_of-self
+invariant_of-self g c =
+    let open_ : c.settle.new.self.status ≡ Open = c.settle.ensures.same.2 ∙ c.requires in
+    record {
+      sizes = c.args.self.now.sizes;
+      limit = c.settle.new.self.limit;
+      room = λ _ _. omega (arith, ap length c.push_bytes.ensures, length-append c.settle.new.self.buffer.items c.args.piece.now);
+      last = λ e. cc (e, open_);
+      done = λ e. cc (e, open_);
+    }
+
+pub returns-then-piece-room-clause-part : goal.returns-then-piece-room-clause-part
+returns-then-piece-room-clause-part g c = λ _. record {
+  key = c.settle.ensures.same.1;
+  index = c.settle.ensures.same.0;
+  status = c.settle.ensures.same.2;
+  held = ap (λ (lent : Bool). if lent then [] else c.push_bytes.new.buffer.items) c.settle.ensures.lent
+      ∙ (c.push_bytes.ensures ∙ ap (λ (held : List ℕ). held ++ c.args.piece.now) c.settle.ensures.buffer);
+  answered = (refl, refl);
+}
+
+pub returns-then-piece-room-clause-whole : goal.returns-then-piece-room-clause-whole
+returns-then-piece-room-clause-whole g c = λ long. absurd (omega (arith, ap length c.settle.ensures.buffer))
+
+pub returns-then-piece-room-clause-short : goal.returns-then-piece-room-clause-short
+returns-then-piece-room-clause-short g c = omega (arith, ap length c.settle.ensures.buffer)
+
+pub returns-then-piece-room-clause-key : goal.returns-then-piece-room-clause-key
+returns-then-piece-room-clause-key g c = c.settle.ensures.same.1
+
+pub slice_bounds-push_bytes-end : goal.slice_bounds-push_bytes-end
+slice_bounds-push_bytes-end g c = omega (arith, length-take (g.row.SEALED - c.len-room.result) c.args.piece.now)
+
+pub push_bytes-requires-2 : goal.push_bytes-requires-2
+push_bytes-requires-2 g c = (
+  list_fits c.args.self.now.sizes.1,
+  (omega (arith, length-take (g.row.SEALED - c.len-room.result) c.args.piece.now, c.len-room.ensures.fits), c.args.self.now.sizes.1),
+)
+
+pub invariant_of-self-2 : goal.invariant_of-self-2
+invariant_of-self-2 g c = record {
+  sizes = c.args.self.now.sizes;
+  limit = c.settle.new.self.limit;
+  room = λ open_ shut. cc;
+  last = λ _. refl;
+  done = λ _. refl;
+}
 
 pub try_block-requires : goal.try_block-requires
-try_block-requires g c = (opener_state_fits c.args.self.now.sizes.1, search rules)
+try_block-requires g c =
+    let piece = c.args.piece.now in
+    let room = g.row.SEALED - c.len-room.result in
+    let len = length-append c.settle.new.self.buffer.items (take room piece) in (
+      opener_state_fits c.args.self.now.sizes.1,
+      (
+        omega (arith, ap length c.push_bytes-2.ensures, len, length-take room piece, c.len-room.ensures.fits),
+        (c.settle.ensures.same.2 ∙ c.requires, refl),
+      ),
+    )
+
+pub returns-in-Ok-clause-part : goal.returns-in-Ok-clause-part
+returns-in-Ok-clause-part g c = λ short. absurd (omega (arith, ap length c.settle.ensures.buffer))
+
+pub returns-in-Ok-clause-whole : goal.returns-in-Ok-clause-whole
+returns-in-Ok-clause-whole g c = λ _.
+    let piece = c.args.piece.now in
+    let old = c.args.self.now in
+    let room = g.row.SEALED - c.len-room.result in
+    let size : room ≡ g.row.SEALED - length (held_bytes old) = omega (arith, ap length c.settle.ensures.buffer) in
+    let items : c.push_bytes-2.new.buffer.items ≡ held_bytes old ++ take (g.row.SEALED - length (held_bytes old)) piece =
+    c.push_bytes-2.ensures ∙ (ap (λ (front : List ℕ). front ++ take room piece) c.settle.ensures.buffer
+    ∙ ap (λ (k : ℕ). held_bytes old ++ take k piece) size) in
+    tried_ok g.B.ChunkBox.opening old _ c.try_block.new.self piece c.settle.ensures.same.1 c.settle.ensures.same.0 items room
+    (omega (arith, size, c.len-room.ensures.fits, ap length c.settle.ensures.buffer)) c.in-Ok.ensures
+
+pub returns-in-Ok-clause-short : goal.returns-in-Ok-clause-short
+returns-in-Ok-clause-short g c =
+    omega (arith, ap length c.settle.ensures.buffer, c.settle.new.self.room (c.settle.ensures.same.2 ∙ c.requires) c.settle.ensures.lent)
+
+pub returns-in-Ok-clause-key : goal.returns-in-Ok-clause-key
+returns-in-Ok-clause-key g c = c.in-Ok.ensures.key ∙ c.settle.ensures.same.1
+
+pub returns-in-Err-clause-part : goal.returns-in-Err-clause-part
+returns-in-Err-clause-part g c = λ short. absurd (omega (arith, ap length c.settle.ensures.buffer))
+
+pub returns-in-Err-clause-whole : goal.returns-in-Err-clause-whole
+returns-in-Err-clause-whole g c = λ _.
+    let piece = c.args.piece.now in
+    let old = c.args.self.now in
+    let room = g.row.SEALED - c.len-room.result in
+    let size : room ≡ g.row.SEALED - length (held_bytes old) = omega (arith, ap length c.settle.ensures.buffer) in
+    let items : c.push_bytes-2.new.buffer.items ≡ held_bytes old ++ take (g.row.SEALED - length (held_bytes old)) piece =
+    c.push_bytes-2.ensures ∙ (ap (λ (front : List ℕ). front ++ take room piece) c.settle.ensures.buffer
+    ∙ ap (λ (k : ℕ). held_bytes old ++ take k piece) size) in
+    tried_err g.B.ChunkBox.opening old _ c.try_block.new.self piece c.settle.ensures.same.1 c.settle.ensures.same.0 items c.in-Err.fault c.in-Err.ensures
+
+pub returns-in-Err-clause-short : goal.returns-in-Err-clause-short
+returns-in-Err-clause-short g c =
+    omega (arith, ap length c.settle.ensures.buffer, c.settle.new.self.room (c.settle.ensures.same.2 ∙ c.requires) c.settle.ensures.lent)
+
+pub returns-in-Err-clause-key : goal.returns-in-Err-clause-key
+returns-in-Err-clause-key g c = c.in-Err.ensures.key ∙ c.settle.ensures.same.1

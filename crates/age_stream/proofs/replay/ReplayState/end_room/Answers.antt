@@ -1,3 +1,5 @@
+use Rattle.std.proofs.Common.{ℕ, ◌-◌, ap, sym, ◌∙◌}
+use Rattle.age_stream.proofs.Room.{open_number, shut_number}
 use Rattle.age_stream.proofs.Sizes.{opener_fits}
 use Rattle.age_stream.proofs.replay.ReplayState.end_room.Goals as goal
 
@@ -6,3 +8,11 @@ status-requires g c = opener_fits c.args.self.now.sizes.1
 
 pub held_len-requires : goal.held_len-requires
 held_len-requires g c = opener_fits c.args.self.now.sizes.1
+
+pub returns-in-Open : goal.returns-in-Open
+returns-in-Open g c =
+    c.saturating_sub.ensures
+    ∙ (ap (λ (k : ℕ). k - 16) c.held_len.ensures.len ∙ sym (open_number c.args.self.now.opener.status _ (sym c.status.ensures ∙ c.in-Open.is)))
+
+pub returns-in_default : goal.returns-in_default
+returns-in_default g c = sym (shut_number c.args.self.now.opener.status _ (λ open_. c.in_default.not-Open (c.status.ensures ∙ open_)))

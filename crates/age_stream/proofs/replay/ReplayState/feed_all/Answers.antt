@@ -1,6 +1,6 @@
 use Rattle.std.proofs.Common.{rules, ◌<◌, ◌≤◌, vec_len, vec_capacity, ◌≡◌, ◌-◌, ◌+◌, refl, ap, sym, subst, ◌∙◌, arith, length, take, drop, List, ℕ, ◌++◌}
 use Rattle.std.proofs.Common.{take-add, take-append-drop}
-use Rattle.std.proofs.lemmas.List.{take_rest, length-take, length-drop}
+use Rattle.std.proofs.lemmas.List.{take_rest, take_all, length-take, length-drop}
 use Rattle.age_stream.specs.Opening.{whole_text}
 use Rattle.age_stream.specs.declared.step.Status.TheVariants.{Open}
 use Rattle.age_stream.specs.Replaying.{replay_view, IsAt}
@@ -67,3 +67,27 @@ feed_once-requires g c =
     (length c.loop-at.self.opener.held + length (take (length piece - at) (drop at piece))) ≤ vec_capacity c.loop-at.self.text =
     omega (arith, c.loop-at.invariant.room o, ap (λ (k : ℕ). whole_text (g.row.SEALED - 16) (length c.loop-at.self.opener.held + k)) e) in more in
     (search rules, (some, room))
+
+pub loop-at-smaller : goal.loop-at-smaller
+loop-at-smaller g c =
+    let piece = c.args.piece.now in
+    let at = c.loop-at.at in
+    omega (arith, c.in-Some.ensures.taken.0, c.in-Some.ensures.taken.1, length-take (length piece - at) (drop at piece), length-drop at piece)
+
+pub returns-in-None-clause-capacity : goal.returns-in-None-clause-capacity
+returns-in-None-clause-capacity g c = omega (arith, c.loop-at.invariant.capacity, c.feed_once.ensures.capacity)
+
+pub returns-in-None-clause-key : goal.returns-in-None-clause-key
+returns-in-None-clause-key g c = c.feed_once.ensures.key ∙ c.loop-at.invariant.key
+
+pub returns-clause-capacity : goal.returns-clause-capacity
+returns-clause-capacity g c = c.loop-at.invariant.capacity
+
+pub returns-clause-fed : goal.returns-clause-fed
+returns-clause-fed g c = λ s h.
+    let piece = c.args.piece.now in
+    subst (λ (ps : List ℕ). IsAt g.B.ChunkBox.opening (g.row.SEALED - 16) (replay_view c.loop-at.self) (with_bytes s ps))
+    (take_all c.loop-at.at piece (omega (arith, c.loop-at-test.false))) (c.loop-at.invariant.fed s h)
+
+pub returns-clause-key : goal.returns-clause-key
+returns-clause-key g c = c.loop-at.invariant.key

@@ -49,3 +49,21 @@ push_lent-requires g c =
 
 pub feed-requires : goal.feed-requires
 feed-requires g c = opener_fits c.args.self.now.sizes.1
+
+pub invariant_of-self : goal.invariant_of-self
+invariant_of-self g c = record { sizes = c.args.self.now.sizes }
+
+pub invariant_of-self-in-Err : goal.invariant_of-self-in-Err
+invariant_of-self-in-Err g c = record { sizes = c.args.self.now.sizes }
+
+pub returns-in-Ok-clause-capacity : goal.returns-in-Ok-clause-capacity
+returns-in-Ok-clause-capacity g c = c.push_lent.ensures.capacity
+
+pub returns-in-Ok-clause-key : goal.returns-in-Ok-clause-key
+returns-in-Ok-clause-key g c = refl
+
+pub returns-in-Err-clause-capacity : goal.returns-in-Err-clause-capacity
+returns-in-Err-clause-capacity g c = omega arith
+
+pub returns-in-Err-clause-key : goal.returns-in-Err-clause-key
+returns-in-Err-clause-key g c = refl

@@ -1,5 +1,5 @@
-use Rattle.std.proofs.Common.{ℕ, ◌+◌, ◌≤◌, ◌∙◌, vec_len, vec_capacity, subst, sym}
-use Rattle.age_stream.proofs.Room.{open_number, on_ok}
+use Rattle.std.proofs.Common.{ℕ, ◌+◌, ◌≤◌, ◌∙◌, vec_len, vec_capacity, refl, subst, arith}
+use Rattle.age_stream.proofs.Room.{open_number}
 use Rattle.age_stream.proofs.Sizes.{replay_state_fits}
 use Rattle.age_stream.proofs.replay.ReplayState.take_piece.Goals as goal
 
@@ -8,10 +8,37 @@ piece_room-room-requires g c = replay_state_fits c.args.self.now.sizes.1
 
 pub feed_all-requires : goal.feed_all-requires
 feed_all-requires g c =
-    let text = c.reserve.new.self in
-    let room : vec_len text + c.piece_room-room.result ≤ vec_capacity text =
-    on_ok c.reserve.result (sym c.is_err.ensures.value ∙ c.if-is_err.false) c.reserve.ensures.ok in (
+    let text = c.reserve.new.self in (
       replay_state_fits c.args.self.now.sizes.1,
       λ open_. subst (λ (k : ℕ). vec_len text + k ≤ vec_capacity text)
-          (c.piece_room-room.ensures ∙ open_number _ _ open_) room,
+          (c.piece_room-room.ensures ∙ open_number _ _ open_) c.in-Ok.ensures.ok,
     )
+
+pub invariant_of-self : goal.invariant_of-self
+invariant_of-self g c = record { sizes = c.args.self.now.sizes }
+
+pub returns-clause-fed : goal.returns-clause-fed
+returns-clause-fed g c = λ s h. c.feed_all.ensures.fed s (record {
+  key = h.key;
+  segment = h.segment;
+  text = c.reserve.ensures.items ∙ h.text;
+  refused = h.refused;
+})
+
+pub returns-clause-capacity : goal.returns-clause-capacity
+returns-clause-capacity g c = omega (arith, c.reserve.ensures.capacity, c.feed_all.ensures.capacity)
+
+pub returns-clause-key : goal.returns-clause-key
+returns-clause-key g c = c.feed_all.ensures.key
+
+pub returns-in-Err-clause-err : goal.returns-in-Err-clause-err
+returns-in-Err-clause-err g c = cc (c.in-Err.ensures.err)
+
+pub returns-in-Err-clause-cramped : goal.returns-in-Err-clause-cramped
+returns-in-Err-clause-cramped g c = omega (arith, c.in-Err.ensures.full, c.piece_room-room.ensures)
+
+pub returns-in-Err-clause-capacity : goal.returns-in-Err-clause-capacity
+returns-in-Err-clause-capacity g c = c.reserve.ensures.capacity
+
+pub returns-in-Err-clause-key : goal.returns-in-Err-clause-key
+returns-in-Err-clause-key g c = refl

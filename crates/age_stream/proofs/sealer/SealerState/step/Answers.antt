@@ -14,8 +14,8 @@ refusal-requires-then-self-2 g c = sealer_state_fits c.args.self.now.sizes.1
 pub len-requires : goal.len-requires
 len-requires g c = list_fits c.args.self.now.sizes.1
 
-pub try_extend_from_slice-requires : goal.try_extend_from_slice-requires
-try_extend_from_slice-requires g c = list_fits c.args.self.now.sizes.1
+pub push_bytes-requires : goal.push_bytes-requires
+push_bytes-requires g c = (list_fits c.args.self.now.sizes.1, search rules)
 
 pub seal_in-requires : goal.seal_in-requires
 seal_in-requires g c = (list_fits c.args.self.now.sizes.1, search rules)
