@@ -1,7 +1,6 @@
 -- How much room a text needs.
 use Rattle.std.proofs.Common.{◌≡◌, ℕ, ◌<◌, ◌≤◌, ◌+◌, ◌*◌, ◌-◌, ◌/◌, refl, ap, ◌∙◌, List, [], length, arith, Bool, true, false}
 use Rattle.std.specs.Prelude.{Option, Some, None, IfSome, IfNone, nat_lt, ◌&&◌}
-use Rattle.std.specs.Bool.{OnTrue}
 use Rattle.std.specs.Borrow.{Bor}
 use borrow.Author.Tests.{ltb-true}
 use Rattle.std.proofs.Math.Nat.{add-mul-div_left, div-mul-le_self}
@@ -53,8 +52,3 @@ first_true false b e = e
 -- a chunk that is reached has a number
 pub below_limit : (k : ℕ) (b : Bool) → (nat_lt k chunk_limit && b) ≡ true → k < chunk_limit
 below_limit k b e = ltb-true k chunk_limit (first_true (nat_lt k chunk_limit) b e)
-
--- what holds, whatever the test
-pub on_true : {P : Type 0} (b : Bool) → P → OnTrue b P
-on_true true p = p
-on_true false p = tt

@@ -83,7 +83,6 @@ impl<'k, B: ChunkBox, const SEALED: usize> OpenerState<'k, B, SEALED> {
     }
 
     // Takes what the block has room for, and tries the block that is full.
-    #[tactic(none)]
     fn take_open(&mut self, piece: &[u8]) -> Result<(usize, bool), StreamFault>
         requires { self.old.status ≡ Status.Open }
         ensures part { length (held_bytes self.old) + length piece.now < SEALED
@@ -176,7 +175,6 @@ impl<'k, B: ChunkBox, const SEALED: usize> OpenerState<'k, B, SEALED> {
     }
 
     // Tries what is held as the last block.
-    #[tactic(none)]
     fn end_open(&mut self) -> Result<usize, StreamFault>
         requires { self.old.status ≡ Status.Open }
         ensures ends { Ends (final_block (B.opening self.old.key.now) [] self.old.index
@@ -449,7 +447,6 @@ impl<'k, B: ChunkBox, const SEALED: usize> Opener<'k, B, SEALED> {
 }
 
 // Opens the block in the buffer in place.
-#[tactic(none)]
 fn open_in<B: ChunkBox, const SEALED: usize>(
     key: &B,
     index: u64,

@@ -105,7 +105,6 @@ impl<'k, B: ChunkBox, const SEALED: usize> ReplayState<'k, B, SEALED> {
     }
 
     // How much text an end releases, if it releases any.
-    #[tactic(none)]
     fn end_room(&self) -> usize
         ensures { result ≡ text_at_end self.now.opener }
     {
@@ -116,7 +115,6 @@ impl<'k, B: ChunkBox, const SEALED: usize> ReplayState<'k, B, SEALED> {
     }
 
     // Takes a piece. Its text is made room for first.
-    #[tactic(none)]
     fn take_piece(&mut self, piece: &[u8]) -> Result<(), Memory>
         ensures fed { OnOk result ((s : Standing)
             → IsAt B.opening (SEALED - 16) (replay_view self.old) s
@@ -151,7 +149,6 @@ impl<'k, B: ChunkBox, const SEALED: usize> ReplayState<'k, B, SEALED> {
     }
 
     // Takes an end. Its text is made room for first.
-    #[tactic(none)]
     fn take_end(&mut self) -> Result<(), Memory>
         ensures ended { OnOk result ((s : Standing)
             → IsAt B.opening (SEALED - 16) (replay_view self.old) s
@@ -172,7 +169,6 @@ impl<'k, B: ChunkBox, const SEALED: usize> ReplayState<'k, B, SEALED> {
     }
 
     // Whether so many chunks are held.
-    #[tactic(none)]
     fn reaches(&self, k: u64) -> bool
         ensures answer { result ≡ (nat_lt k chunk_limit
             && nat_le (k * (SEALED - 16)) (length self.now.text.items)) }

@@ -305,7 +305,6 @@ impl<'k, B: ChunkBox, const SEALED: usize> Sealer<'k, B, SEALED> {
 }
 
 // Puts the tag after the text in the buffer, and seals both in place.
-#[tactic(none)]
 fn seal_in<B: ChunkBox, const SEALED: usize>(
     key: &B,
     index: u64,
