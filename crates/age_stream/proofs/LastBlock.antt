@@ -1,6 +1,6 @@
 -- What is held when the input ends, tried as the last block: what comes of it, by the test that it meets first.
-use Rattle.std.proofs.Common.{◌≡◌, ℕ, ◌<◌, ◌≤◌, ap, sym, ◌∙◌, List, [], ◌∷◌, length, take, true, false, arith}
-use Rattle.std.specs.Prelude.{Option, Some, None, Ok, Err}
+use Rattle.std.proofs.Common.{◌≡◌, ℕ, ◌<◌, ◌≤◌, ap, sym, ◌∙◌, List, [], ◌∷◌, length, take, Bool, true, false, arith}
+use Rattle.std.specs.Prelude.{Option, Some, None, Ok, Err, nat_lt, ◌==◌, ◌&&◌}
 use Rattle.std.specs.List.{flat_map}
 use Rattle.std.proofs.lemmas.Bool.Decides.{nat_tests}
 use Rattle.std.proofs.lemmas.List.{append-nil}
@@ -66,3 +66,10 @@ module _ {B : Type 0} {n : ℕ} {g : _} (old new : OpenerState B n g) (outcome :
 -- what holds of equal values
 pub moved : {K R : Type 0} (F : K → ℕ → List ℕ → R) {k l : K} {i j : ℕ} {b d : List ℕ} {r : R} → l ≡ k → j ≡ i → d ≡ b → F l j d ≡ r → F k i b ≡ r
 moved F ek ei eb h = cc
+
+-- what the test for an empty chunk after others says
+pub is_empty : (b : Bool) (len i : ℕ) → b ≡ (len == 16 && nat_lt 0 i) → b ≡ true → (len ≡ 16) × (0 < i)
+is_empty b len i is positive = (grind (arith, nat_tests), grind (arith, nat_tests))
+
+pub is_first : (b : Bool) (len i : ℕ) → b ≡ (len == 16 && nat_lt 0 i) → b ≡ false → len ≡ 16 → i ≡ 0
+is_first b len i is negative tag = grind (arith, nat_tests)

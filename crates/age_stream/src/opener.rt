@@ -1,7 +1,7 @@
 //! The reader's side: sealed chunks in, text out.
 ghost use Rattle.std.specs.Prelude.{◌≡◌, ◌≢◌, ◌+◌, ◌-◌, ◌<◌, ◌≤◌, []};
 ghost use Rattle.std.specs.Prelude.{◌∷◌, ◌++◌, length, take, min, IfOk, OnOk, IfErr, IfSome, None};
-ghost use Rattle.std.specs.Prelude.{Some, true, false, if◌then◌else◌};
+ghost use Rattle.std.specs.Prelude.{Some, true, false, if◌then◌else◌, nat_lt, ◌==◌, ◌&&◌};
 ghost use Rattle.std.specs.Bool.{OnTrue, OnFalse};
 ghost use Rattle.std.specs.List.{flat_map};
 ghost use Rattle.std.specs.Borrow.{sem};
@@ -191,7 +191,7 @@ impl<'k, B: ChunkBox, const SEALED: usize> OpenerState<'k, B, SEALED> {
         if len < 16 {
             return Err(self.fail(StreamKind::ChunkCut));
         }
-        if len == 16 && self.index > 0 {
+        if is_empty_last(len, self.index) {
             return Err(self.fail(StreamKind::EmptyLast));
         }
         if open_in(self.key, self.index, true, &mut self.buffer) {
@@ -463,4 +463,11 @@ fn open_in<B: ChunkBox, const SEALED: usize>(
     ensures len { length buffer.new.items ≡ length buffer.old.items }
 {
     key.open_at(&nonce_of(index, last), buffer.as_mut_slice())
+}
+
+// Whether so many bytes, at an end, are a chunk without text after others, which no writer makes.
+fn is_empty_last(len: usize, index: u64) -> bool
+    ensures { result ≡ (len == 16 && nat_lt 0 index) }
+{
+    len == 16 && index > 0
 }

@@ -4,10 +4,9 @@ use Rattle.age_chunk.specs.declared.fault.StreamKind.TheVariants.{ChunkDamaged, 
 use Rattle.age_stream.specs.Segment.{failed}
 use Rattle.age_stream.specs.Opening.{held_bytes}
 use Rattle.age_stream.specs.declared.step.Status.TheVariants.{Open}
-use Rattle.age_stream.proofs.LastBlock.{is_missing, is_cut, is_empty_last, is_damaged, is_opened, ends_refused, ends_opened, moved}
+use Rattle.age_stream.proofs.LastBlock.{is_missing, is_cut, is_empty_last, is_damaged, is_opened, ends_refused, ends_opened, moved, is_empty, is_first}
 use Rattle.age_stream.proofs.Sizes.{list_fits, opener_state_fits}
 use Rattle.age_stream.proofs.opener.OpenerState.end_open.Goals as goal
-use Rattle.age_stream.proofs.opener.OpenerState.end_open.Goals.{else-len-eq16-via-then-len-eq16+else-self-gt0, else-len-eq16-via-else-len-eq16}
 
 pub settle-requires : goal.settle-requires
 settle-requires g c = opener_state_fits c.args.self.now.sizes.1
@@ -18,8 +17,8 @@ fail-requires g c = opener_state_fits c.args.self.now.sizes.1
 pub fail-requires-then-len-lt16 : goal.fail-requires-then-len-lt16
 fail-requires-then-len-lt16 g c = opener_state_fits c.args.self.now.sizes.1
 
-pub fail-requires-then-self-gt0 : goal.fail-requires-then-self-gt0
-fail-requires-then-self-gt0 g c = opener_state_fits c.args.self.now.sizes.1
+pub fail-requires-then-is_empty_last : goal.fail-requires-then-is_empty_last
+fail-requires-then-is_empty_last g c = opener_state_fits c.args.self.now.sizes.1
 
 pub fail-requires-2 : goal.fail-requires-2
 fail-requires-2 g c = opener_state_fits c.args.self.now.sizes.1
@@ -49,14 +48,15 @@ returns-then-len-lt16-clause-ends g c =
     (is_cut (g.B.ChunkBox.opening old.key.now) old.index (held_bytes old) (omega (arith, len)) (omega (arith, len)))
     (failing.ensures.status ∙ ap (failed ChunkCut) settled.same.0) (failing.ensures.fault ∙ ap (failed ChunkCut) settled.same.0)
 
-pub returns-then-self-gt0-clause-ends : goal.returns-then-self-gt0-clause-ends
-returns-then-self-gt0-clause-ends g c =
+pub returns-then-is_empty_last-clause-ends : goal.returns-then-is_empty_last-clause-ends
+returns-then-is_empty_last-clause-ends g c =
     let old = c.args.self.now in
     let settled = c.settle.ensures in
-    let failing = c.fail-then-self-gt0 in
+    let failing = c.fail-then-is_empty_last in
+    let test = is_empty c.is_empty_last.result c.len-len.result c.settle.new.self.index c.is_empty_last.ensures c.if-is_empty_last.true in
     let len = ap length settled.buffer in
     ends_refused old failing.new.self _ (failing.ensures.same.1 ∙ settled.same.1) (failing.ensures.same.0 ∙ settled.same.0) EmptyLast failing.result
-    (is_empty_last (g.B.ChunkBox.opening old.key.now) old.index (held_bytes old) (omega (arith, len)) (omega (arith, settled.same.0)))
+    (is_empty_last (g.B.ChunkBox.opening old.key.now) old.index (held_bytes old) (omega (arith, len, test.0)) (omega (arith, settled.same.0, test.1)))
     (failing.ensures.status ∙ ap (failed EmptyLast) settled.same.0) (failing.ensures.fault ∙ ap (failed EmptyLast) settled.same.0)
 
 pub invariant_of-self : goal.invariant_of-self
@@ -75,11 +75,10 @@ returns-then-open_in-clause-ends g c =
     let settled = c.settle.ensures in
     let len = ap length settled.buffer in
     let long : 16 ≤ length (held_bytes old) = omega (arith, len) in
-    let first : length (held_bytes old) ≡ 16 → old.index ≡ 0 =
-    elim c.else-len-eq16.branch [
-      | else-len-eq16-via-then-len-eq16+else-self-gt0 w ↦ (λ tag. omega (arith, settled.same.0))
-      | else-len-eq16-via-else-len-eq16 w ↦ (λ tag. absurd (omega (arith, len)))
-    ] in
+    let first : length (held_bytes old) ≡ 16 → old.index ≡ 0 = λ tag.
+    let zero = is_first c.is_empty_last.result c.len-len.result c.settle.new.self.index c.is_empty_last.ensures c.if-is_empty_last.false
+    (omega (arith, tag, len)) in
+    omega (arith, zero, settled.same.0) in
     let block = c.settle.new.self.buffer.items in
     let text = take (length block - 16) c.open_in.new.buffer.items in
     let opens = moved (λ k i b. g.B.ChunkBox.opening k.now (nonce_bytes i true) b) settled.same.1 settled.same.0 settled.buffer c.if-open_in.ensures.opened in
@@ -113,11 +112,10 @@ returns-clause-ends g c =
     let settled = c.settle.ensures in
     let len = ap length settled.buffer in
     let long : 16 ≤ length (held_bytes old) = omega (arith, len) in
-    let first : length (held_bytes old) ≡ 16 → old.index ≡ 0 =
-    elim c.else-len-eq16.branch [
-      | else-len-eq16-via-then-len-eq16+else-self-gt0 w ↦ (λ tag. omega (arith, settled.same.0))
-      | else-len-eq16-via-else-len-eq16 w ↦ (λ tag. absurd (omega (arith, len)))
-    ] in
+    let first : length (held_bytes old) ≡ 16 → old.index ≡ 0 = λ tag.
+    let zero = is_first c.is_empty_last.result c.len-len.result c.settle.new.self.index c.is_empty_last.ensures c.if-is_empty_last.false
+    (omega (arith, tag, len)) in
+    omega (arith, zero, settled.same.0) in
     let closed = moved (λ k i b. g.B.ChunkBox.opening k.now (nonce_bytes i true) b) settled.same.1 settled.same.0 settled.buffer c.if-open_in.ensures.closed.0 in
     ends_refused old c.fail-2.new.self _ (c.fail-2.ensures.same.1 ∙ settled.same.1) (c.fail-2.ensures.same.0 ∙ settled.same.0) ChunkDamaged c.fail-2.result
     (is_damaged opening old.index (held_bytes old) long first closed) (c.fail-2.ensures.status ∙ ap (failed ChunkDamaged) settled.same.0)

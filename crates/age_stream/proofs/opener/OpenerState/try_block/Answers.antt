@@ -1,4 +1,4 @@
-use Rattle.std.proofs.Common.{◌≡◌, [], refl, ap, ◌∙◌, true, false, Bool, if◌then◌else◌, arith}
+use Rattle.std.proofs.Common.{[], refl, ap, ◌∙◌, Bool, if◌then◌else◌, arith}
 use Rattle.age_chunk.specs.declared.fault.StreamKind.TheVariants.{ChunkDamaged, TooManyChunks}
 use Rattle.age_stream.specs.declared.step.Status.TheVariants.{Open, LastSeen}
 use Rattle.age_stream.proofs.Blocks.{before_in, last_in, neither_in, one_block-greatest, tried_text, tried_fault}
@@ -24,15 +24,6 @@ pub invariant_of-self : goal.invariant_of-self
 invariant_of-self g c = record {
   sizes = c.args.self.now.sizes;
   limit = c.args.self.now.limit;
-  room = λ _ unlent. cc (unlent, c.requires.lent);
-  last = λ e. cc (e, c.requires.open);
-  done = λ e. cc (e, c.requires.open);
-}
-
-pub invariant_of-self-then-open_in : goal.invariant_of-self-then-open_in
-invariant_of-self-then-open_in g c = record {
-  sizes = c.args.self.now.sizes;
-  limit = omega (arith, c.args.self.now.limit);
   room = λ _ unlent. cc (unlent, c.requires.lent);
   last = λ e. cc (e, c.requires.open);
   done = λ e. cc (e, c.requires.open);
