@@ -19,20 +19,15 @@ pub last_line : (body : List ℕ) → length body < 48 → in_lines 0 (base64_te
 last_line body lt = in_lines-short 0 (base64_text body) (omega (arith, length-text body))
 
 -- a line more is written
-pub line_written : (out put next all rest : List ℕ) → 48 ≤ length rest → put ≡ out ++ base64_text (take 48 rest) → next ≡ put ++ 10 ∷ []
-    → out ++ in_lines 0 (base64_text rest) ≡ all
-    → next ++ in_lines 0 (base64_text (drop 48 rest)) ≡ all
-line_written out put next all rest le puts pushes same =
+pub line_written : (out next all rest : List ℕ) → 48 ≤ length rest → next ≡ out ++ line (base64_text (take 48 rest))
+    → out ++ in_lines 0 (base64_text rest) ≡ all → next ++ in_lines 0 (base64_text (drop 48 rest)) ≡ all
+line_written out next all rest le puts same =
     let behind = in_lines 0 (base64_text (drop 48 rest)) in
-    let grouped : next ++ behind ≡ out ++ (line (base64_text (take 48 rest)) ++ behind) =
-    ap (λ (t : List ℕ). t ++ behind) (pushes ∙ ap (λ (t : List ℕ). t ++ 10 ∷ []) puts ∙ append_assoc out (base64_text (take 48 rest)) (10 ∷ []))
+    let grouped : next ++ behind ≡ out ++ (line (base64_text (take 48 rest)) ++ behind) = ap (λ (t : List ℕ). t ++ behind) puts
     ∙ append_assoc out (line (base64_text (take 48 rest))) behind in
     grouped ∙ ap (λ (t : List ℕ). out ++ t) (sym (full_line rest le)) ∙ same
 
 -- the last line is written
-pub last_written : (out put next all rest : List ℕ) → length rest < 48 → put ≡ out ++ base64_text rest → next ≡ put ++ 10 ∷ []
-    → out ++ in_lines 0 (base64_text rest)
-    ≡ all → next ≡ all
-last_written out put next all rest lt puts pushes same =
-    pushes ∙ ap (λ (t : List ℕ). t ++ 10 ∷ []) puts ∙ append_assoc out (base64_text rest) (10 ∷ []) ∙ ap (λ (t : List ℕ). out ++ t) (sym (last_line rest lt))
-    ∙ same
+pub last_written : (out next all rest : List ℕ) → length rest < 48 → next ≡ out ++ line (base64_text rest) → out ++ in_lines 0 (base64_text rest) ≡ all
+    → next ≡ all
+last_written out next all rest lt puts same = puts ∙ ap (λ (t : List ℕ). out ++ t) (sym (last_line rest lt)) ∙ same

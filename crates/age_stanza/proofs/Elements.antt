@@ -1,7 +1,9 @@
 -- What a test of each element says, and what a write that went well leaves.
-use Rattle.std.proofs.Common.{◌≡◌, ℕ, ◌<◌, ◌≤◌, Bool, true, false, cond, List, [], ◌∷◌, length, Result, Ok, Err, refl}
+use Rattle.std.proofs.Common.{◌≡◌, ℕ, ◌+◌, ◌<◌, ◌≤◌, Bool, true, false, cond, List, [], ◌∷◌, ◌++◌, length, get_or, drop, Result, Ok, Err}
+use Rattle.std.proofs.Common.{refl, sym, ap, ◌∙◌}
 use Rattle.std.specs.Prelude.{◌&&◌, IsTrue, MatchBool, OnOk, is_ok, leb}
-use Rattle.std.specs.List.{AllByRecursion, AllWithin, HoldsAt, list_all}
+use Rattle.std.specs.List.{AllByRecursion, AllWithin, HoldsAt, list_all, flat_map}
+use Rattle.std.proofs.lemmas.List.{append_assoc, append-nil, drop_more, drop_all}
 use Rattle.std.proofs.lemmas.Bool.{false≢true, leb-true, le-leb, and_parts, and_from}
 use Rattle.std.proofs.lemmas.List.Elements.{All-from_recursion, recursion_from_All, All-from_all_within}
 
@@ -31,3 +33,15 @@ test_from_visible (c ∷ cs) h =
 pub on_ok : {A E : Type 0} (r : Result A E) (new wrote old : List ℕ) → new ≡ cond (is_ok r) wrote old → OnOk r (new ≡ wrote)
 on_ok (Ok x) new wrote old e = e
 on_ok (Err x) new wrote old e = tt
+
+-- ---- a loop that writes the text of each element
+
+pub written_next : {X : Type 0} (f : X → List ℕ) (out next all : List ℕ) (xs : List X) (i : ℕ) (x : X) → i < length xs → x ≡ get_or xs i x → next ≡ out ++ f x
+    → out ++ flat_map f (drop i xs) ≡ all → next ++ flat_map f (drop (i + 1) xs) ≡ all
+written_next {X} f out next all xs i x lt is puts same =
+    let behind = flat_map f (drop (i + 1) xs) in
+    let first : drop i xs ≡ x ∷ drop (i + 1) xs = drop_more xs i x lt ∙ ap (λ (y : X). y ∷ drop (i + 1) xs) (sym is) in
+    ap (λ (t : List ℕ). t ++ behind) puts ∙ append_assoc out (f x) behind ∙ ap (λ (ys : List X). out ++ flat_map f ys) (sym first) ∙ same
+
+pub written_all : {X : Type 0} (f : X → List ℕ) (out all : List ℕ) (xs : List X) (i : ℕ) → length xs ≤ i → out ++ flat_map f (drop i xs) ≡ all → out ≡ all
+written_all {X} f out all xs i le same = sym (append-nil out) ∙ ap (λ (ys : List X). out ++ flat_map f ys) (sym (drop_all i xs le)) ∙ same

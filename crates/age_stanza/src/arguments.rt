@@ -1,6 +1,6 @@
 //! The argument line of a stanza.
 
-ghost use Rattle.std.specs.Prelude.{◌≡◌, ◌==◌, ◌++◌, ◌∷◌, [], true, false, IfOk, Some, None};
+ghost use Rattle.std.specs.Prelude.{◌≡◌, ◌==◌, ◌≤◌, ◌++◌, ◌∷◌, [], length, true, false, IfOk, Some, None};
 ghost use Rattle.std.specs.List.{position};
 ghost use Rattle.age_stanza.specs.Grammar.{IsArgument};
 ghost use Rattle.age_stanza.specs.inner.LineMachine.{arguments_from};
@@ -47,15 +47,24 @@ fn push_all(alloc: Global, args: &mut Arguments, letters: &[u8]) -> Result<bool,
     push_valid(alloc, args, rest)
 }
 
+/// How many spaces letters hold.
+fn spaces_in(letters: &[u8]) -> usize
+    ensures { result ≤ length letters.now }
+{
+    letters.iter().filter(|c| **c == b' ').count()
+}
+
 /// The arguments that letters hold, parted by single spaces, or `None` where one
 /// isn't valid.
 fn arguments_in(alloc: Global, letters: &[u8]) -> Result<Option<Arguments>, AllocError>
     ensures { IfOk result (λ r. r ≡ arguments_from [] [] letters.now) }
 {
-    let spaces = letters.iter().filter(|c| **c == b' ').count();
-    let mut args = Arguments::from_vec(Vec::with_capacity(alloc, spaces + 1)?);
-    let valid = push_all(alloc, &mut args, letters)?;
-    Ok(if valid { Some(args) } else { None })
+    let mut args = Arguments::from_vec(Vec::with_capacity(alloc, spaces_in(letters) + 1)?);
+    if push_all(alloc, &mut args, letters)? {
+        Ok(Some(args))
+    } else {
+        Ok(None)
+    }
 }
 
 /// The arguments of a line, without its LF; `None` where it is no argument line.

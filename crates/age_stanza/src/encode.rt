@@ -3,7 +3,7 @@
 ghost use Rattle.std.specs.Prelude.{◌≡◌, ◌++◌, ◌∷◌, ◌≤◌, length, IfOk, IfErr, OnOk};
 ghost use Rattle.std.specs.List.{flat_map};
 ghost use Rattle.age_stanza.specs.Text.{base64_text};
-ghost use Rattle.age_stanza.specs.Grammar.{in_lines, stanza_text, head_text, HeadText, HasText};
+ghost use Rattle.age_stanza.specs.Grammar.{line, in_lines, stanza_text, head_text, HeadText, HasText};
 ghost use Rattle.age_stanza.specs.Encoding.{mac_text};
 ghost use Rattle.age_stanza.specs.Faults.{memory_fault};
 
@@ -30,6 +30,15 @@ fn put_text(out: &mut Vec<u8>, bytes: &[u8]) -> Result<(), AllocError>
     out.extend_from_slice(&characters[..len])
 }
 
+/// Writes the text of no more bytes than one line spells, and LF.
+fn put_line(out: &mut Vec<u8>, bytes: &[u8]) -> Result<(), AllocError>
+    requires { length bytes.now ≤ 48 }
+    ensures { OnOk result (out.new.items ≡ out.old.items ++ line (base64_text bytes.now)) }
+{
+    put_text(out, bytes)?;
+    out.extend_from_slice(b"\n")
+}
+
 /// Writes the text of a body in lines.
 fn put_body(out: &mut Vec<u8>, body: &[u8]) -> Result<(), AllocError>
     ensures { OnOk result (out.new.items ≡ out.old.items ++ in_lines 0 (base64_text body.now)) }
@@ -37,13 +46,10 @@ fn put_body(out: &mut Vec<u8>, body: &[u8]) -> Result<(), AllocError>
     let mut rest = body;
     while rest.len() >= LINE_BYTES {
         let (line, behind) = rest.split_at(LINE_BYTES);
-        put_text(out, line)?;
-        out.push(b'\n')?;
+        put_line(out, line)?;
         rest = behind;
     }
-    put_text(out, rest)?;
-    out.push(b'\n')?;
-    Ok(())
+    put_line(out, rest)
 }
 
 /// Writes arguments, each with the space before it.
@@ -94,8 +100,7 @@ fn whole_text(alloc: Global, header: &Header, len: usize) -> Result<Vec<u8>, All
 {
     let mut out = front_text(alloc, header, len)?;
     out.push(b' ')?;
-    put_text(&mut out, &header.mac)?;
-    out.push(b'\n')?;
+    put_line(&mut out, &header.mac)?;
     Ok(out)
 }
 

@@ -60,7 +60,11 @@ fn step_whole(
     if kept.is_empty() {
         return step(alloc, place, last);
     }
-    kept.extend_from_slice(last)?;
+    if kept.extend_from_slice(last).is_err() {
+        // dropped by a call, since the drop of each place here is slow to prove
+        drop(place);
+        return Err(HeadKind::Memory);
+    }
     step(alloc, place, kept.as_slice())
 }
 
@@ -106,29 +110,27 @@ impl PartialHeader {
         ensures { EndsLine (self.old ++ characters.now) result self.new }
     {
         let alloc = *self.line.allocator();
-        let place = mem::replace(&mut self.place, Place::Start);
-        match step_whole(alloc, place, &mut self.line, characters) {
-            Ok(Next::Go(place)) => {
+        let PartialHeader {
+            place,
+            mut line,
+            bytes,
+            finished_lines,
+        } = mem::replace(self, PartialHeader::new(alloc));
+        match step_whole(alloc, place, &mut line, characters) {
+            Ok(Next::Go(next)) => {
+                line.clear();
+                let more = PartialHeader {
+                    place: next,
+                    line,
+                    bytes: bytes + characters.len() + 1,
+                    finished_lines: finished_lines + 1,
+                };
                 // an assignment would put the drop of each place here, which is slow to prove
-                drop(mem::replace(&mut self.place, place));
-                self.line.clear();
-                self.bytes += characters.len() + 1;
-                self.finished_lines += 1;
+                drop(mem::replace(self, more));
                 Ok(None)
             }
-            Ok(Next::Done(header)) => {
-                self.line.clear();
-                self.bytes = 0;
-                self.finished_lines = 0;
-                Ok(Some(header))
-            }
-            Err(kind) => {
-                let line = self.finished_lines + 1;
-                self.line.clear();
-                self.bytes = 0;
-                self.finished_lines = 0;
-                Err(fault_at(kind, line))
-            }
+            Ok(Next::Done(header)) => Ok(Some(header)),
+            Err(kind) => Err(fault_at(kind, finished_lines + 1)),
         }
     }
 

@@ -107,3 +107,16 @@ walk place n l (c ∷ cs) =
 abbrev pub Gives : Result Next HeadKind → Result Next HeadKind → Type 0
 Gives (Ok next) read = read ≡ Ok next
 Gives (Err kind) read = (kind ≡ Memory) ⊎ (read ≡ Err kind)
+
+-- where a line of a body leads that was added to it, by whether it is full
+abbrev pub line_added : List Stanza → List (List ℕ) → List ℕ → Bool → Result Next HeadKind
+line_added ss args body true = Ok (Go (InBody ss args body))
+line_added ss args body false =
+    Ok (Go (Between (ss ++ record { args = args; body = body } ∷ [])))
+
+-- a line of a body is added to it, whatever stands before the body
+abbrev pub AddsLine : List ℕ → List ℕ → Result (Unit {0}) HeadKind → List ℕ → Type 0
+AddsLine body l (Ok done) new = (ss : List Stanza) (args : List (List ℕ))
+    → step (InBody ss args body) l ≡ line_added ss args new (length l == 64)
+AddsLine body l (Err kind) new = (kind ≡ Memory) ⊎ ((ss : List Stanza) (args : List (List ℕ))
+    → step (InBody ss args body) l ≡ Err kind)

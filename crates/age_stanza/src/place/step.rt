@@ -2,6 +2,7 @@
 
 ghost use Rattle.age_stanza.specs.inner.LineMachine.{Gives, step as step_of, end_line_result};
 ghost use Rattle.age_stanza.specs.inner.LineMachine.{argument_line_result, mac_of as spec_mac_of};
+ghost use Rattle.age_stanza.specs.inner.LineMachine.{AddsLine};
 ghost use Rattle.age_stanza.specs.inner.LineMachine.{arguments_of as spec_arguments_of};
 
 use super::{ARMOR, ARMOR_CR, Next, Place, VERSION};
@@ -48,15 +49,9 @@ fn begin(alloc: Global, stanzas: Stanzas, line: &[u8]) -> Result<Next, HeadKind>
     Ok(Next::Go(Place::InBody(stanzas, args, Bytes::new(alloc))))
 }
 
-/// A line of a body. One of fewer than 64 characters is its last.
-#[tactic(auto, unfolding(crate::specs::inner::LineMachine::step))]
-fn body_line(
-    mut stanzas: Stanzas,
-    args: Arguments,
-    mut body: Bytes,
-    line: &[u8],
-) -> Result<Next, HeadKind>
-    ensures { Gives result (step_of (Place.InBody stanzas args body) line.now) }
+/// Adds what a line of a body spells.
+fn add_line(body: &mut Bytes, line: &[u8]) -> Result<(), HeadKind>
+    ensures { AddsLine body.old line.now result body.new }
 {
     if line.len() > 64 {
         return Err(HeadKind::BadBody);
@@ -66,6 +61,21 @@ fn body_line(
         return Err(HeadKind::BadBody);
     };
     body.extend_from_slice(&room[..len])?;
+    Ok(())
+}
+
+/// A line of a body. One of fewer than 64 characters is its last.
+fn body_line(
+    mut stanzas: Stanzas,
+    args: Arguments,
+    mut body: Bytes,
+    line: &[u8],
+) -> Result<Next, HeadKind>
+    ensures { Gives result (step_of (Place.InBody stanzas args body) line.now) }
+{
+    if let Err(kind) = add_line(&mut body, line) {
+        return Err(kind);
+    }
     if line.len() == 64 {
         return Ok(Next::Go(Place::InBody(stanzas, args, body)));
     }
