@@ -5,10 +5,9 @@ ghost use Rattle.clap.specs.Words.{App, rule_of, new_rule, with_subcommand, new_
 ghost use Rattle.clap.specs.Words.{FailsBy, subcommand_rows_of};
 ghost use Rattle.clap.specs.Walk.{texts};
 ghost use Rattle.age_commands.specs.Commands.{option_rule, required_rule, number_rule, flag_rule};
-ghost use Rattle.age_commands.specs.Commands.{encrypting, decrypting, resuming};
-ghost use Rattle.age_commands.specs.Commands.{inspecting, drilling, age_tool};
+ghost use Rattle.age_commands.specs.Commands.{age_tool};
 ghost use Rattle.age_commands.specs.inner.Commands.{HasApp, described_tool, bare_tool};
-ghost use Rattle.age_commands.specs.inner.Commands.{rule_as, with_all};
+ghost use Rattle.age_commands.specs.inner.Commands.{rule_as, with_all, app_as, with_subcommands};
 ghost use Rattle.age_commands.specs.Asked.{refusals, named};
 
 use crate::help;
@@ -95,6 +94,48 @@ const DRILL: &[Argument] = &[
     Argument("IN", Given::Operand, help::DRILLED),
 ];
 
+/// A command of the program: its name, its arguments, and what the help says before them and after.
+#[derive(Clone, Copy)]
+struct Subcommand {
+    name: &'static str,
+    arguments: &'static [Argument],
+    about: &'static str,
+    after: &'static str,
+}
+
+const COMMANDS: &[Subcommand] = &[
+    Subcommand {
+        name: "encrypt",
+        arguments: ENCRYPT,
+        about: help::ENCRYPT,
+        after: help::AFTER_ENCRYPT,
+    },
+    Subcommand {
+        name: "decrypt",
+        arguments: DECRYPT,
+        about: help::DECRYPT,
+        after: help::AFTER_DECRYPT,
+    },
+    Subcommand {
+        name: "resume",
+        arguments: RESUME,
+        about: help::RESUME,
+        after: help::AFTER_RESUME,
+    },
+    Subcommand {
+        name: "inspect",
+        arguments: INSPECT,
+        about: help::INSPECT,
+        after: help::AFTER_INSPECT,
+    },
+    Subcommand {
+        name: "drill",
+        arguments: DRILL,
+        about: help::DRILL,
+        after: help::AFTER_DRILL,
+    },
+];
+
 /// `--ID VALUE`.
 fn option<'a>(alloc: Global, id: &'a str, value: &'a str, help: &'a str) -> Arg<'a>
     ensures rule { rule_of result ≡ option_rule id.entry.now }
@@ -177,55 +218,56 @@ fn with_arguments<'a>(
 {
     let mut whole = plain;
     for argument in arguments {
-        whole = whole.arg(arg_of(alloc, argument))?;
+        match whole.arg(arg_of(alloc, argument)) {
+            Ok(longer) => whole = longer,
+            Err(refused) => return Err(refused),
+        }
     }
     Ok(whole)
 }
 
-fn encrypt<'a>(alloc: Global) -> Result<Command<'a>, AllocError>
-    ensures { IfOk result (HasApp encrypting) }
+/// A command with its arguments.
+fn command_of<'a>(alloc: Global, sub: &Subcommand) -> Result<Command<'a>, AllocError>
+    ensures { IfOk result (HasApp (app_as sub.now)) }
 {
-    let plain = command(alloc, "encrypt", help::ENCRYPT, help::AFTER_ENCRYPT);
-    with_arguments(alloc, plain, ENCRYPT)
+    let plain = command(alloc, sub.name, sub.about, sub.after);
+    with_arguments(alloc, plain, sub.arguments)
 }
 
-fn decrypt<'a>(alloc: Global) -> Result<Command<'a>, AllocError>
-    ensures { IfOk result (HasApp decrypting) }
-{
-    let plain = command(alloc, "decrypt", help::DECRYPT, help::AFTER_DECRYPT);
-    with_arguments(alloc, plain, DECRYPT)
-}
-
-fn resume<'a>(alloc: Global) -> Result<Command<'a>, AllocError>
-    ensures { IfOk result (HasApp resuming) }
-{
-    let plain = command(alloc, "resume", help::RESUME, help::AFTER_RESUME);
-    with_arguments(alloc, plain, RESUME)
-}
-
-fn inspect<'a>(alloc: Global) -> Result<Command<'a>, AllocError>
-    ensures { IfOk result (HasApp inspecting) }
-{
-    let plain = command(alloc, "inspect", help::INSPECT, help::AFTER_INSPECT);
-    with_arguments(alloc, plain, INSPECT)
-}
-
-fn drill<'a>(alloc: Global) -> Result<Command<'a>, AllocError>
-    ensures { IfOk result (HasApp drilling) }
-{
-    let plain = command(alloc, "drill", help::DRILL, help::AFTER_DRILL);
-    with_arguments(alloc, plain, DRILL)
-}
-
-/// Adds a command of the program's, where memory has sufficed for both.
-fn enter<'a>(
-    program: Result<Command<'a>, AllocError>,
-    sub: Result<Command<'a>, AllocError>,
+/// A program with one command more.
+fn with_command<'a>(
+    alloc: Global,
+    program: Command<'a>,
+    sub: &Subcommand,
 ) -> Result<Command<'a>, AllocError>
-    ensures { (a b : App) → IfOk program.entry (HasApp a) → IfOk sub.entry (HasApp b)
-        → IfOk result (HasApp (with_subcommand a b.top)) }
+    ensures { (a : App) → HasApp a program.entry
+        → IfOk result (HasApp (with_subcommand a (app_as sub.now).top)) }
 {
-    program?.subcommand(sub?)
+    match command_of(alloc, sub) {
+        Ok(command) => program.subcommand(command),
+        Err(refused) => {
+            drop(program);
+            Err(refused)
+        }
+    }
+}
+
+fn with_commands<'a>(
+    alloc: Global,
+    bare: Command<'a>,
+    subs: &[Subcommand],
+) -> Result<Command<'a>, AllocError>
+    ensures { (a : App) → HasApp a bare.entry
+        → IfOk result (HasApp (with_subcommands a subs.now)) }
+{
+    let mut whole = bare;
+    for sub in subs {
+        match with_command(alloc, whole, sub) {
+            Ok(longer) => whole = longer,
+            Err(refused) => return Err(refused),
+        }
+    }
+    Ok(whole)
 }
 
 /// The program's help and version, without what it takes.
@@ -250,11 +292,10 @@ fn bare<'a>(alloc: Global) -> Result<Command<'a>, AllocError>
 fn program<'a>(alloc: Global) -> Result<Command<'a>, AllocError>
     ensures { IfOk result (HasApp age_tool) }
 {
-    let first = enter(bare(alloc), encrypt(alloc));
-    let second = enter(first, decrypt(alloc));
-    let third = enter(second, resume(alloc));
-    let fourth = enter(third, inspect(alloc));
-    enter(fourth, drill(alloc))
+    match bare(alloc) {
+        Ok(bare) => with_commands(alloc, bare, COMMANDS),
+        Err(refused) => Err(refused),
+    }
 }
 
 /// What the command line gives for each argument.
@@ -262,5 +303,8 @@ pub(crate) fn matches_of<'a>(alloc: Global, words: &'a [&'a str]) -> Result<ArgM
     ensures matches { IfOk result (λ m. subcommand_rows_of m ≡ named (texts words.now)) }
     ensures refusals { FailsBy (refusals (texts words.now)) result }
 {
-    program(alloc)?.try_get_matches_from(words)
+    match program(alloc) {
+        Ok(program) => program.try_get_matches_from(words),
+        Err(refused) => Err(refused.into()),
+    }
 }

@@ -79,14 +79,22 @@ fn command_of<'m, 'a>(matches: &'m ArgMatches<'a>) -> Option<(&'a str, &'m ArgMa
 fn encrypting<'a>(matches: &ArgMatches<'a>) -> Option<Encrypting<'a>>
     ensures { IfSome result (IsEncrypting (rows_of (found_of matches.now))) }
 {
+    let (Some(pass), Some(log), Some(from), Some(to)) = (
+        text(matches, "pass"),
+        number(matches, "log", 18),
+        text(matches, "IN"),
+        text(matches, "OUT"),
+    ) else {
+        return None;
+    };
     Some(Encrypting {
-        pass: text(matches, "pass")?,
-        log: number(matches, "log", 18)?,
+        pass,
+        log,
         random: text(matches, "random"),
         durability: durability(matches),
         progress: progress(matches),
-        from: text(matches, "IN")?,
-        to: text(matches, "OUT")?,
+        from,
+        to,
     })
 }
 
@@ -104,34 +112,51 @@ fn unlocking<'a>(matches: &ArgMatches<'a>) -> Option<Unlocking<'a>>
 fn decrypting<'a>(matches: &ArgMatches<'a>) -> Option<Decrypting<'a>>
     ensures { IfSome result (IsDecrypting (rows_of (found_of matches.now))) }
 {
+    let (Some(unlocking), Some(from), Some(to)) = (
+        unlocking(matches),
+        text(matches, "IN"),
+        text(matches, "OUT"),
+    ) else {
+        return None;
+    };
     Some(Decrypting {
-        unlocking: unlocking(matches)?,
+        unlocking,
         save: text(matches, "save"),
         durability: durability(matches),
         progress: progress(matches),
-        from: text(matches, "IN")?,
-        to: text(matches, "OUT")?,
+        from,
+        to,
     })
 }
 
 fn resuming<'a>(matches: &ArgMatches<'a>) -> Option<Resuming<'a>>
     ensures { IfSome result (IsResuming (rows_of (found_of matches.now))) }
 {
+    let (Some(decrypting), Some(position), Some(old)) = (
+        decrypting(matches),
+        text(matches, "position"),
+        text(matches, "old"),
+    ) else {
+        return None;
+    };
     Some(Resuming {
-        decrypting: decrypting(matches)?,
-        position: text(matches, "position")?,
-        old: text(matches, "old")?,
+        decrypting,
+        position,
+        old,
     })
 }
 
 fn drilling<'a>(matches: &ArgMatches<'a>) -> Option<Drilling<'a>>
     ensures { IfSome result (IsDrilling (rows_of (found_of matches.now))) }
 {
+    let (Some(script), Some(from)) = (text(matches, "SCRIPT"), text(matches, "IN")) else {
+        return None;
+    };
     Some(Drilling {
         clear: flag(matches, "clear"),
         pass: text(matches, "pass"),
-        script: text(matches, "SCRIPT")?,
-        from: text(matches, "IN")?,
+        script,
+        from,
     })
 }
 
@@ -140,11 +165,11 @@ fn request_of<'a>(name: &str, matches: &ArgMatches<'a>) -> Option<Request<'a>>
     ensures { IfSome result (IsRequest name.now (rows_of (found_of matches.now))) }
 {
     match name {
-        "encrypt" => Some(Request::Encrypt(encrypting(matches)?)),
-        "decrypt" => Some(Request::Decrypt(decrypting(matches)?)),
-        "resume" => Some(Request::Resume(resuming(matches)?)),
+        "encrypt" => encrypting(matches).map(Request::Encrypt),
+        "decrypt" => decrypting(matches).map(Request::Decrypt),
+        "resume" => resuming(matches).map(Request::Resume),
         "inspect" => Some(Request::Inspect(text(matches, "FILE"))),
-        "drill" => Some(Request::Drill(drilling(matches)?)),
+        "drill" => drilling(matches).map(Request::Drill),
         _ => None,
     }
 }
@@ -160,9 +185,11 @@ pub fn read_request<'a>(alloc: Global, words: &'a [&'a str]) -> Result<Option<Re
     ensures asked { IfOk result (λ o. IfSome o (Requests (texts words.now))) }
     ensures refusals { FailsBy (refusals (texts words.now)) result }
 {
-    let matches = matches_of(alloc, words)?;
-    match command_of(&matches) {
-        Some((name, inner)) => Ok(request_of(name, inner)),
-        None => Ok(None),
+    match matches_of(alloc, words) {
+        Ok(matches) => match command_of(&matches) {
+            Some((name, inner)) => Ok(request_of(name, inner)),
+            None => Ok(None),
+        },
+        Err(refused) => Err(refused),
     }
 }

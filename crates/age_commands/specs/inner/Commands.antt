@@ -1,8 +1,9 @@
 -- The commands of the program, as its parser of command lines sees them.
 use Rattle.std.specs.Prelude.{◌≡◌, Bool, true, false, codes, List, [], ◌∷◌}
-use Rattle.clap.specs.Words.{App, Rule, Text, app_of, new_app, new_rule, with_rule}
+use Rattle.clap.specs.Words.{App, Rule, Text, app_of, new_app, new_rule, with_rule, with_subcommand}
 use Rattle.age_commands.specs.Commands.{option_rule, required_rule, number_rule, flag_rule}
 use Rattle.age_commands.specs.declared.commands.Argument.{Argument}
+use Rattle.age_commands.specs.declared.commands.Subcommand.{Subcommand}
 use Rattle.age_commands.specs.declared.commands.Given.{Given}
 use Rattle.age_commands.specs.declared.commands.Given.TheVariants.{Value, File, Number, Flag}
 use Rattle.age_commands.specs.declared.commands.Given.TheVariants.{Operand, Word}
@@ -41,3 +42,12 @@ rule_as id Word = new_rule id
 abbrev pub with_all : App → List Argument → App
 with_all a [] = a
 with_all a (r ∷ rest) = with_all (with_rule a (rule_as r.0.now r.1)) rest
+
+-- a command that is told like this
+abbrev pub app_as : Subcommand → App
+app_as s = with_all (new_app s.name.now) s.arguments.now
+
+-- a program with these commands added, one after the other
+abbrev pub with_subcommands : App → List Subcommand → App
+with_subcommands a [] = a
+with_subcommands a (s ∷ rest) = with_subcommands (with_subcommand a (app_as s).top) rest
