@@ -60,12 +60,14 @@ fn step_whole(
     if kept.is_empty() {
         return step(alloc, place, last);
     }
-    if kept.extend_from_slice(last).is_err() {
-        // dropped by a call, since the drop of each place here is slow to prove
-        drop(place);
-        return Err(HeadKind::Memory);
+    match kept.extend_from_slice(last) {
+        Ok(()) => step(alloc, place, kept.as_slice()),
+        Err(_) => {
+            // dropped by a call, since the drop of each place here is slow to prove
+            drop(place);
+            Err(HeadKind::Memory)
+        }
     }
-    step(alloc, place, kept.as_slice())
 }
 
 impl PartialHeader {
