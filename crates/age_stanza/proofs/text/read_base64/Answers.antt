@@ -1,4 +1,4 @@
-use Rattle.std.proofs.Common.{◌≡◌, ◌≤◌, take, length, sym, ap, ◌∙◌, refl, arith}
+use Rattle.std.proofs.Common.{◌≤◌, take, length, sym, ap, ◌∙◌, refl, arith}
 use Rattle.std.proofs.lemmas.List.{length-take}
 use Rattle.base64.specs.GeneralPurpose.{IsBytes}
 use Rattle.age_stanza.proofs.TextLengths.{div_ceil-characters}
