@@ -1,6 +1,7 @@
 //! The argument line of a stanza.
 
-ghost use Rattle.std.specs.Prelude.{◌≡◌, ◌==◌, ◌≤◌, ◌++◌, ◌∷◌, [], length, true, false, IfOk, Some, None};
+ghost use Rattle.std.specs.Prelude.{◌≡◌, ◌==◌, ◌≤◌, ◌++◌, ◌∷◌, [], length, true, false};
+ghost use Rattle.std.specs.Prelude.{IfOk, Some, None};
 ghost use Rattle.std.specs.List.{position};
 ghost use Rattle.age_stanza.specs.Grammar.{IsArgument};
 ghost use Rattle.age_stanza.specs.inner.LineMachine.{arguments_from};
