@@ -3,26 +3,34 @@
 ghost use Rattle.std.specs.Prelude.{◌≡◌, None};
 ghost use Rattle.age_keys.specs.FaultNumbers.{number_of};
 
-use std::{error, fmt};
+use thiserror::Error;
 
 /// Why a header wasn't opened. No refusal changes anything.
-#[derive(Clone, Copy, Debug, PartialEq, Eq)]
+#[derive(Clone, Copy, Debug, PartialEq, Eq, Error)]
 pub enum KeyFault {
     /// A stanza of type `scrypt` stands beside another stanza.
+    #[error("scrypt stanza not alone")]
     ScryptNotAlone,
     /// The scrypt stanza isn't valid: its arguments, or the length of its body.
+    #[error("bad scrypt stanza")]
     BadScrypt,
     /// The scrypt stanza's work factor is above the limit.
+    #[error("work factor too high")]
     WorkTooHigh,
     /// No stanza is of the type that is looked for.
+    #[error("no matching stanza")]
     NoMatch,
     /// The body of no stanza opens.
+    #[error("wrong key")]
     WrongKey,
     /// The header's MAC isn't that of the file key.
+    #[error("header MAC mismatch")]
     MacMismatch,
     /// An X25519 stanza isn't valid, or the shared secret is zero.
+    #[error("bad X25519 stanza")]
     BadX25519,
     /// A growth of memory was refused.
+    #[error("out of memory")]
     Memory,
 }
 
@@ -50,26 +58,4 @@ impl KeyFault {
     {
         None
     }
-
-    /// What is wrong, in a few words.
-    fn text(&self) -> &'static str {
-        match self {
-            KeyFault::ScryptNotAlone => "scrypt stanza not alone",
-            KeyFault::BadScrypt => "bad scrypt stanza",
-            KeyFault::WorkTooHigh => "work factor too high",
-            KeyFault::NoMatch => "no matching stanza",
-            KeyFault::WrongKey => "wrong key",
-            KeyFault::MacMismatch => "header MAC mismatch",
-            KeyFault::BadX25519 => "bad X25519 stanza",
-            KeyFault::Memory => "out of memory",
-        }
-    }
 }
-
-impl fmt::Display for KeyFault {
-    fn fmt<W: fmt::Write>(&self, f: &mut fmt::Formatter<W>) -> fmt::Result {
-        f.write_str(self.text())
-    }
-}
-
-impl error::Error for KeyFault {}

@@ -5,29 +5,39 @@ ghost use Rattle.age_stanza.specs.FaultNumbers.{number_of, place_of};
 
 use std::alloc::AllocError;
 use std::{error, fmt};
+use thiserror::Error;
 
 /// Why a header was refused.
-#[derive(Clone, Copy, Debug, PartialEq, Eq)]
+#[derive(Clone, Copy, Debug, PartialEq, Eq, Error)]
 pub enum HeadKind {
     /// The first line isn't the version line.
+    #[error("not an age file")]
     NotAge,
     /// The first line is that of an armored file, which isn't read.
+    #[error("armored")]
     Armored,
     /// A line after the version line or a whole stanza is neither a valid
     /// argument line nor begins with `---`.
+    #[error("bad stanza line")]
     BadStanzaLine,
     /// A line of a body isn't canonical base64 of at most 64 characters.
+    #[error("bad body")]
     BadBody,
     /// A line that begins with `---` isn't a valid end line.
+    #[error("bad end line")]
     BadEndLine,
     /// The end line came before any stanza.
+    #[error("no stanza")]
     NoStanza,
     /// [`HEAD_MAX`](crate::HEAD_MAX) bytes hold no whole header and no faulty
     /// line.
+    #[error("header too long")]
     HeadTooLong,
     /// The input ended inside the header.
+    #[error("header cut")]
     HeadCut,
     /// A growth of memory was refused.
+    #[error("out of memory")]
     Memory,
 }
 
@@ -49,30 +59,7 @@ impl HeadKind {
             HeadKind::Memory => 28,
         }
     }
-
-    /// What is wrong, in a few words.
-    fn text(&self) -> &'static str {
-        match self {
-            HeadKind::NotAge => "not an age file",
-            HeadKind::Armored => "armored",
-            HeadKind::BadStanzaLine => "bad stanza line",
-            HeadKind::BadBody => "bad body",
-            HeadKind::BadEndLine => "bad end line",
-            HeadKind::NoStanza => "no stanza",
-            HeadKind::HeadTooLong => "header too long",
-            HeadKind::HeadCut => "header cut",
-            HeadKind::Memory => "out of memory",
-        }
-    }
 }
-
-impl fmt::Display for HeadKind {
-    fn fmt<W: fmt::Write>(&self, f: &mut fmt::Formatter<W>) -> fmt::Result {
-        f.write_str(self.text())
-    }
-}
-
-impl error::Error for HeadKind {}
 
 impl From<AllocError> for HeadKind {
     ghost use Rattle.age_stanza.specs.declared.fault.HeadKind.TheVariants.{Memory as MemoryKind};
