@@ -2,7 +2,7 @@
 
 ghost use Rattle.age_actions.specs.Stops.{DecryptionStop, DecryptsStop, OutStops, PortsOf};
 ghost use Rattle.age_actions.specs.Stops.{kept_for};
-ghost use Rattle.std.specs.Prelude.{◌≡◌, ◌≢◌, ◌⊎◌, [], ◌∷◌, ◌++◌, true, false, Some, None};
+ghost use Rattle.std.specs.Prelude.{◌≡◌, ◌⊎◌, [], ◌∷◌, ◌++◌, true, false, Some, None};
 ghost use Rattle.std.specs.Prelude.{IfOk, IfErr, OnOk};
 ghost use Rattle.age_fileset.specs.Events.{Closed};
 ghost use Rattle.age_steps.specs.EventOrders.{Follows, identity_order};
@@ -50,10 +50,13 @@ fn write_from<F: FileSet, S: Source>(
 {
     let positions = positions_for(asked.save);
     match decrypt_with(alloc, positions, identity, source, &mut out) {
-        Ok(_) => {
-            files.close(out, asked.durability)?;
-            Ok(())
-        }
+        Ok(_) => match files.close(out, asked.durability) {
+            Ok(()) => Ok(()),
+            Err(fault) => Err(Stop {
+                fault,
+                position: None,
+            }),
+        },
         Err(stopped) => {
             leave(files, out, stopped.written, asked.durability);
             Err(Stop::from(stopped))
@@ -138,10 +141,13 @@ pub(crate) fn names_a_file_twice<F: FileSet>(files: &F, asked: &Decrypting<'_>) 
     if is_read(files, asked, asked.to) {
         return true;
     }
-    match asked.save {
-        Some(save) => files.is_same(save, asked.to) || is_read(files, asked, save),
-        None => false,
+    let Some(save) = asked.save else {
+        return false;
+    };
+    if files.is_same(save, asked.to) {
+        return true;
     }
+    is_read(files, asked, save)
 }
 
 /// Positions are kept where one is to be saved: a decryption without them is faster.
@@ -156,16 +162,17 @@ pub(crate) fn positions_for(save: Option<&str>) -> Positions
 
 /// The bytes of the file of what opens the input, if it has one. That isn't read where two files
 /// that have to differ are one.
-fn read_unlocking<F: FileSet>(
+pub(crate) fn read_unlocking<F: FileSet>(
     alloc: Global,
     files: &mut F,
     asked: &Decrypting<'_>,
+    is_file_named_twice: bool,
 ) -> Result<Option<Vec<u8>>, Ending>
     ensures told { F.tells files.new ≡ F.tells files.old }
     ensures kept { F.entry files.new ≡ F.entry files.old }
     ensures read { IfOk result (λ secret. F.tells files.old ≡ true → IsSecretIn
         (F.entry files.old) (secret_name asked.now.unlocking) (bytes_of secret)) }
-    ensures apart { OnOk result (text_of asked.now.save ≢ Some asked.now.to.now) }
+    ensures apart { OnOk result (is_file_named_twice ≡ false) }
     ensures noted { OnOk result (F.events files.new ≡ F.events files.old
         ++ identity_order (text_of asked.now.unlocking.pass) (text_of asked.now.unlocking.shared)) }
     ensures follows { Follows
@@ -173,11 +180,17 @@ fn read_unlocking<F: FileSet>(
         (F.events files.old) (F.events files.new) }
     ensures early { IfErr result EndsEarly }
 {
-    let name = secret_file(&asked.unlocking)?;
-    if names_a_file_twice(files, asked) {
+    let name = match secret_file(&asked.unlocking) {
+        Ok(name) => name,
+        Err(usage) => return Err(Ending::Usage(usage)),
+    };
+    if is_file_named_twice {
         return Err(Ending::Usage(Usage::SameFile));
     }
-    Ok(read_secret(alloc, files, name)?)
+    match read_secret(alloc, files, name) {
+        Ok(secret) => Ok(secret),
+        Err(fault) => Err(Ending::Fault(fault)),
+    }
 }
 
 /// Decrypts a file as asked. If it stops, its position is saved.
@@ -209,9 +222,19 @@ pub fn decrypt_file<F: FileSet, P: Meter>(
         (order_asked (Decrypt asked.now)).judged (F.events files.old) (F.events files.new)) }
     ensures silent { asked.now.progress ≡ Silent → progress.new ≡ progress.old }
 {
-    let secret = read_unlocking(alloc, files, asked)?;
-    let identity = identity_of(&asked.unlocking, &secret)?;
-    let (source, out) = open_both(alloc, files, asked.from, asked.to, asked.save, None)?;
+    let is_file_named_twice = names_a_file_twice(files, asked);
+    let secret = match read_unlocking(alloc, files, asked, is_file_named_twice) {
+        Ok(secret) => secret,
+        Err(ending) => return Err(ending),
+    };
+    let identity = match identity_of(&asked.unlocking, &secret) {
+        Ok(identity) => identity,
+        Err(usage) => return Err(Ending::Usage(usage)),
+    };
+    let (source, out) = match open_both(alloc, files, asked.from, asked.to, asked.save, None) {
+        Ok(both) => both,
+        Err(ending) => return Err(ending),
+    };
     match write_out(alloc, files, source, &identity, out, asked, progress) {
         Ok(()) => Ok(()),
         Err(stop) => Err(end_of(alloc, files, asked.save, stop, asked.durability)),

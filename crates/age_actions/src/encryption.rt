@@ -2,6 +2,7 @@
 
 ghost use Rattle.std.specs.Prelude.{◌≡◌, ◌⊎◌, [], ◌∷◌, ◌++◌, ℕ, List, Some, true};
 ghost use Rattle.std.specs.Prelude.{IfOk, IfErr, IfSome, OnOk};
+ghost use Rattle.std.specs.Io.KnownBytes.{Consumes};
 ghost use Rattle.age_commands.specs.Requests.{text_of};
 ghost use Rattle.age_commands.specs.declared.request.Progress.TheVariants.{Silent};
 ghost use Rattle.age_fileset.specs.Events.{Opened, Closed};
@@ -41,14 +42,35 @@ struct Random {
 fn random_of(bytes: &[u8]) -> Option<Random>
     ensures { IfSome result (λ r. IsRandom bytes.now r) }
 {
-    let (file_key, rest) = bytes.split_first_chunk::<16>()?;
-    let (salt, rest) = rest.split_first_chunk::<16>()?;
-    let payload_nonce = rest.first_chunk::<16>()?;
+    let Some((file_key, rest)) = bytes.split_first_chunk::<16>() else {
+        return None;
+    };
+    let Some((salt, rest)) = rest.split_first_chunk::<16>() else {
+        return None;
+    };
+    let Some(payload_nonce) = rest.first_chunk::<16>() else {
+        return None;
+    };
     Some(Random {
         file_key: *file_key,
         salt: *salt,
         payload_nonce: *payload_nonce,
     })
+}
+
+/// The random parts, from the first 48 bytes of a source.
+fn random_in<S: Source>(alloc: Global, source: &mut S) -> Result<Random, Ending>
+    ensures read { IfOk result (λ r. (bytes : List ℕ) × Consumes (S.view source.old).remaining
+        (S.view source.new).remaining bytes × IsRandom bytes r) }
+    ensures early { IfErr result EndsEarly }
+{
+    match read_first(alloc, source, 48) {
+        Ok(bytes) => match random_of(bytes.as_slice()) {
+            Some(random) => Ok(random),
+            None => Err(Ending::Usage(Usage::BadRandomFile)),
+        },
+        Err(fault) => Err(Ending::Fault(fault)),
+    }
 }
 
 /// The random parts, from the first 48 bytes of a file.
@@ -61,11 +83,9 @@ fn read_random<F: FileSet>(alloc: Global, files: &mut F, name: &str) -> Result<R
     ensures noted { F.events files.new ≡ F.events files.old ++ Opened name.now ∷ [] }
     ensures early { IfErr result EndsEarly }
 {
-    let mut source = files.open(alloc, name)?;
-    let bytes = read_first(alloc, &mut source, 48)?;
-    match random_of(bytes.as_slice()) {
-        Some(random) => Ok(random),
-        None => Err(Ending::Usage(Usage::BadRandomFile)),
+    match files.open(alloc, name) {
+        Ok(mut source) => random_in(alloc, &mut source),
+        Err(fault) => Err(Ending::Fault(fault)),
     }
 }
 
@@ -114,10 +134,7 @@ fn write_from<F: FileSet, S: Source>(
     ensures noted { F.events files.new ≡ F.events files.old ++ Closed ∷ [] }
 {
     match encrypt(alloc, secret, source, &mut out) {
-        Ok(_) => {
-            files.close(out, asked.durability)?;
-            Ok(())
-        }
+        Ok(_) => files.close(out, asked.durability),
         Err(fault) => {
             leave_sealed(files, out, fault, asked.durability);
             Err(fault)
@@ -203,9 +220,13 @@ fn read_material<F: FileSet>(
     if names_out_twice(files, asked) {
         return Err(Ending::Usage(Usage::SameFile));
     }
-    let pass = read_pass(alloc, files, asked.pass)?;
-    let random = read_random(alloc, files, random_name(asked))?;
-    Ok(Material { pass, random })
+    match read_pass(alloc, files, asked.pass) {
+        Ok(pass) => match read_random(alloc, files, random_name(asked)) {
+            Ok(random) => Ok(Material { pass, random }),
+            Err(ending) => Err(ending),
+        },
+        Err(ending) => Err(ending),
+    }
 }
 
 /// The secret of a work factor and of what it is made of.
@@ -254,9 +275,18 @@ pub fn encrypt_file<F: FileSet, P: Meter>(
         (order_asked (Encrypt asked.now)).judged (F.events files.old) (F.events files.new)) }
     ensures silent { asked.now.progress ≡ Silent → progress.new ≡ progress.old }
 {
-    let material = read_material(alloc, files, asked)?;
-    let secret = secret_of(asked, &material)?;
-    let (source, out) = open_both(alloc, files, asked.from, asked.to, None, None)?;
+    let material = match read_material(alloc, files, asked) {
+        Ok(material) => material,
+        Err(ending) => return Err(ending),
+    };
+    let secret = match secret_of(asked, &material) {
+        Ok(secret) => secret,
+        Err(usage) => return Err(Ending::Usage(usage)),
+    };
+    let (source, out) = match open_both(alloc, files, asked.from, asked.to, None, None) {
+        Ok(both) => both,
+        Err(ending) => return Err(ending),
+    };
     match write_out(alloc, files, source, &secret, out, asked, progress) {
         Ok(()) => Ok(()),
         Err(fault) => Err(Ending::Fault(fault)),

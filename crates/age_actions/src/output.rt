@@ -42,7 +42,10 @@ fn create_out<F: FileSet>(
     ensures early { IfErr result EndsEarly }
     ensures usage { F.tells files.old ≡ true → IfErr result (λ e. is_usage e ≡ false) }
 {
-    let out = files.create(alloc, to)?;
+    let out = match files.create(alloc, to) {
+        Ok(out) => out,
+        Err(fault) => return Err(Ending::from(fault)),
+    };
     if saves_over(files, save, position) {
         files.discard(out);
         return Err(Ending::Usage(Usage::SameFile));
@@ -74,9 +77,13 @@ pub(crate) fn open_both<F: FileSet>(
     ensures early { IfErr result EndsEarly }
     ensures usage { F.tells files.old ≡ true → IfErr result (λ e. is_usage e ≡ false) }
 {
-    let source = files.open(alloc, from)?;
-    let out = create_out(alloc, files, to, save, position)?;
-    Ok((source, out))
+    match files.open(alloc, from) {
+        Ok(source) => match create_out(alloc, files, to, save, position) {
+            Ok(out) => Ok((source, out)),
+            Err(ending) => Err(ending),
+        },
+        Err(fault) => Err(Ending::Fault(fault)),
+    }
 }
 
 /// Ends the output of a run that stopped: with what was written, or as it was, where nothing was.
@@ -89,7 +96,8 @@ pub(crate) fn leave<F: FileSet>(files: &mut F, out: F::Out, written: u128, durab
         → F.entry files.new q ≡ F.entry files.old q }
     ensures noted { F.events files.new ≡ F.events files.old ++ Closed ∷ [] }
 {
-    if written == 0 {
+    let wrote_nothing = written == 0;
+    if wrote_nothing {
         files.discard(out);
     } else {
         let _ = files.close(out, durability);

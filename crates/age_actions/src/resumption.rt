@@ -1,9 +1,10 @@
 //! The command that continues a decryption.
 
-ghost use Rattle.std.specs.Prelude.{◌≡◌, ◌≢◌, ◌⊎◌, [], ◌∷◌, ◌++◌, true, Some, is_some, IfOk};
+ghost use Rattle.std.specs.Prelude.{◌≡◌, ◌⊎◌, [], ◌∷◌, ◌++◌, true, Some, is_some, IfOk};
 ghost use Rattle.std.specs.Prelude.{IfErr, OnOk};
+ghost use Rattle.std.specs.Io.KnownBytes.{Consumes, IsAtEnd};
 ghost use Rattle.age_fileset.specs.Events.{Opened, Closed};
-ghost use Rattle.age_steps.specs.EventOrders.{Follows, identity_order};
+ghost use Rattle.age_steps.specs.EventOrders.{Follows};
 ghost use Rattle.age_steps.specs.Orders.{order_asked};
 ghost use Rattle.age_fileset.specs.FileSet.{IsMemoryOr};
 ghost use Rattle.age_actions.specs.Stops.{ResumptionStop, ResumesStop, OutStops, PortsOf, kept_for};
@@ -13,20 +14,34 @@ ghost use Rattle.age_steps.specs.declared.ending.Ending.TheVariants.{Fault};
 ghost use Rattle.age_fault.specs.declared.fault.FileFault.TheVariants.{Read, BadPosition};
 ghost use Rattle.age_commands.specs.Requests.{text_of};
 ghost use Rattle.age_commands.specs.declared.request.Progress.TheVariants.{Silent};
-ghost use Rattle.age_steps.specs.Identities.{options_asked, IsSecretIn, bytes_of, secret_name};
+ghost use Rattle.age_steps.specs.Identities.{options_asked};
+ghost use Rattle.age_file.specs.PositionTexts.{position_text};
 ghost use Rattle.age_actions.specs.Resumptions.{IsPositionIn, ResumesOut, ResumesFile};
 ghost use Rattle.age_steps.specs.Endings.{EndsEarly, is_usage};
 ghost use Rattle.age_steps.specs.Files.{SparesBut, SparesBoth};
 
-use crate::decryption::{is_given_as, names_a_file_twice, positions_for};
+use crate::decryption::{is_given_as, names_a_file_twice, positions_for, read_unlocking};
 use crate::output::{leave, open_both};
 use crate::stop::{Stop, end_of};
 use age_commands::{Decrypting, Progress, Resuming};
 use age_file::{FileFault, Position, Source, resume_with};
 use age_fileset::FileSet;
 use age_progress::{Meter, Metered};
-use age_steps::{Ending, Identity, Usage, identity_of, read_secret, read_up_to, secret_file};
+use age_steps::{Ending, Identity, identity_of, read_up_to};
 use std::alloc::Global;
+
+/// The position that a source holds.
+fn position_in<S: Source>(alloc: Global, source: &mut S) -> Result<Position, FileFault>
+    ensures read { IfOk result (λ p. Consumes (S.view source.old).remaining
+        (S.view source.new).remaining (position_text p) × IsAtEnd (S.view source.new).remaining) }
+    ensures faults { IfErr result (λ f. IsMemoryOr Read f ⊎ (f ≡ BadPosition)) }
+{
+    match read_up_to(alloc, source, 256) {
+        Ok(Some(text)) => Position::read(text.as_slice()),
+        Ok(None) => Err(FileFault::BadPosition),
+        Err(fault) => Err(fault),
+    }
+}
 
 /// The position in a file.
 fn read_position<F: FileSet>(
@@ -41,10 +56,9 @@ fn read_position<F: FileSet>(
     ensures noted { F.events files.new ≡ F.events files.old ++ Opened name.now ∷ [] }
     ensures faults { IfErr result (λ f. IsMemoryOr Read f ⊎ (f ≡ BadPosition)) }
 {
-    let mut source = files.open(alloc, name)?;
-    match read_up_to(alloc, &mut source, 256)? {
-        Some(text) => Position::read(text.as_slice()),
-        None => Err(FileFault::BadPosition),
+    match files.open(alloc, name) {
+        Ok(mut source) => position_in(alloc, &mut source),
+        Err(fault) => Err(fault),
     }
 }
 
@@ -76,10 +90,13 @@ fn write_from<F: FileSet, S: Source>(
 {
     let positions = positions_for(wanted.save);
     match resume_with(alloc, positions, identity, position, source, old, &mut out) {
-        Ok(_) => {
-            files.close(out, wanted.durability)?;
-            Ok(())
-        }
+        Ok(_) => match files.close(out, wanted.durability) {
+            Ok(()) => Ok(()),
+            Err(fault) => Err(Stop {
+                fault,
+                position: None,
+            }),
+        },
         Err(stopped) => {
             leave(files, out, stopped.written, wanted.durability);
             Err(Stop::from(stopped))
@@ -168,34 +185,6 @@ fn names_one_twice<F: FileSet>(files: &F, asked: &Resuming<'_>) -> bool
         || is_given_as(files, others.save, asked.old)
 }
 
-/// The bytes of the file of what opens the input, if it has one. That isn't read where two files
-/// that have to differ are one.
-fn read_unlocking<F: FileSet>(
-    alloc: Global,
-    files: &mut F,
-    asked: &Resuming<'_>,
-) -> Result<Option<Vec<u8>>, Ending>
-    ensures told { F.tells files.new ≡ F.tells files.old }
-    ensures kept { F.entry files.new ≡ F.entry files.old }
-    ensures read { IfOk result (λ secret. F.tells files.old ≡ true → IsSecretIn
-        (F.entry files.old) (secret_name asked.now.decrypting.unlocking) (bytes_of secret)) }
-    ensures apart { OnOk result
-        (text_of asked.now.decrypting.save ≢ Some asked.now.decrypting.to.now) }
-    ensures noted { OnOk result (F.events files.new ≡ F.events files.old
-        ++ identity_order (text_of asked.now.decrypting.unlocking.pass)
-        (text_of asked.now.decrypting.unlocking.shared)) }
-    ensures follows { Follows (identity_order (text_of asked.now.decrypting.unlocking.pass)
-        (text_of asked.now.decrypting.unlocking.shared)) (F.events files.old)
-        (F.events files.new) }
-    ensures early { IfErr result EndsEarly }
-{
-    let name = secret_file(&asked.decrypting.unlocking)?;
-    if names_one_twice(files, asked) {
-        return Err(Ending::Usage(Usage::SameFile));
-    }
-    Ok(read_secret(alloc, files, name)?)
-}
-
 /// The position, and then the earlier output, opened.
 fn open_earlier<F: FileSet>(
     alloc: Global,
@@ -215,9 +204,13 @@ fn open_earlier<F: FileSet>(
         (F.events files.old) (F.events files.new) }
     ensures faults { IfErr result (λ f. IsMemoryOr Read f ⊎ (f ≡ BadPosition)) }
 {
-    let position = read_position(alloc, files, asked.position)?;
-    let old = files.open(alloc, asked.old)?;
-    Ok((position, old))
+    match read_position(alloc, files, asked.position) {
+        Ok(position) => match files.open(alloc, asked.old) {
+            Ok(old) => Ok((position, old)),
+            Err(fault) => Err(fault),
+        },
+        Err(fault) => Err(fault),
+    }
 }
 
 /// Continues a decryption as asked. If it stops, its position is saved.
@@ -252,11 +245,24 @@ pub fn resume_file<F: FileSet, P: Meter>(
     ensures silent { asked.now.decrypting.progress ≡ Silent → progress.new ≡ progress.old }
 {
     let wanted = &asked.decrypting;
-    let secret = read_unlocking(alloc, files, asked)?;
-    let identity = identity_of(&wanted.unlocking, &secret)?;
-    let (position, mut old) = open_earlier(alloc, files, asked)?;
+    let is_file_named_twice = names_one_twice(files, asked);
+    let secret = match read_unlocking(alloc, files, wanted, is_file_named_twice) {
+        Ok(secret) => secret,
+        Err(ending) => return Err(ending),
+    };
+    let identity = match identity_of(&wanted.unlocking, &secret) {
+        Ok(identity) => identity,
+        Err(usage) => return Err(Ending::Usage(usage)),
+    };
+    let (position, mut old) = match open_earlier(alloc, files, asked) {
+        Ok(earlier) => earlier,
+        Err(fault) => return Err(Ending::Fault(fault)),
+    };
     let held = Some(asked.position);
-    let (source, out) = open_both(alloc, files, wanted.from, wanted.to, wanted.save, held)?;
+    let (source, out) = match open_both(alloc, files, wanted.from, wanted.to, wanted.save, held) {
+        Ok(both) => both,
+        Err(ending) => return Err(ending),
+    };
     match write_out(
         alloc, files, source, &mut old, &identity, &position, out, wanted, progress,
     ) {

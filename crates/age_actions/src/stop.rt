@@ -15,21 +15,10 @@ use age_steps::Ending;
 use std::alloc::Global;
 
 /// Why a command stopped, and the position to save.
-#[derive(Clone, Copy, Debug)]
+#[derive(Clone, Copy)]
 pub(crate) struct Stop {
     pub(crate) fault: FileFault,
     pub(crate) position: Option<Position>,
-}
-
-impl From<FileFault> for Stop {
-    ghost from_gives = { λ f s. s ≡ record { fault = f; position = None } };
-
-    fn from(fault: FileFault) -> Stop {
-        Stop {
-            fault,
-            position: None,
-        }
-    }
 }
 
 impl From<Stopped> for Stop {
@@ -65,8 +54,10 @@ fn save<F: FileSet>(
     let (Some(name), Some(position)) = (name, position) else {
         return Ok(());
     };
-    let text = position.text(alloc)?;
-    files.replace(alloc, name, text.as_slice(), durability)
+    match position.text(alloc) {
+        Ok(text) => files.replace(alloc, name, text.as_slice(), durability),
+        Err(fault) => Err(fault),
+    }
 }
 
 /// How a command ends that stopped, once its position is saved.

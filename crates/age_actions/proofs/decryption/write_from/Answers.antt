@@ -1,4 +1,4 @@
-use Rattle.std.proofs.Common.{◌≡◌, inl, refl, sym, subst, Some, []}
+use Rattle.std.proofs.Common.{◌≡◌, ◌∙◌, inl, inr, refl, ap, sym, subst, Some, []}
 use Rattle.age_file.specs.Ports.{ports}
 use Rattle.age_file.specs.Decrypts.{DecryptFails}
 use Rattle.age_commands.specs.Requests.{text_of}
@@ -43,3 +43,47 @@ returns-in-Err-clause-stops g c = λ told empty.
       subst (λ l. Leaves (stopped.written ≡ 0) new (entry c.args.files.now l) (entry c.leave.new.files l)) c.in-Err.ensures.named
           (c.leave.ensures.held told none),
     ))
+
+pub returns-in-Err-clause-told : goal.returns-in-Err-clause-told
+returns-in-Err-clause-told g c = c.leave.ensures.told
+
+pub returns-in-Err-clause-done : goal.returns-in-Err-clause-done
+returns-in-Err-clause-done g c = tt
+
+pub returns-in-Err-clause-others : goal.returns-in-Err-clause-others
+returns-in-Err-clause-others g c = λ q other. c.leave.ensures.others q (λ e. other (e ∙ c.in-Err.ensures.named))
+
+pub returns-in-Err-clause-noted : goal.returns-in-Err-clause-noted
+returns-in-Err-clause-noted g c = c.leave.ensures.noted
+
+pub returns-in-Ok-close : goal.returns-in-Ok-close
+returns-in-Ok-close g c =
+    let writer = c.decrypt_with.new.writer in
+    let Read = g.S.Source in
+    let Out = g.F.Out.Sink in
+    record {
+      told = c.in-Ok-close.ensures.told;
+      done = λ told empty. record {
+        before = ports (Read.view c.args.source.now) (Out.view c.args.out);
+        after = ports (Read.view c.decrypt_with.new.reader) (Out.view writer);
+        done = c.in-Ok.field-0;
+        coming = refl;
+        empty = empty;
+        ends = c.in-Ok.ensures.done;
+        taken = subst (λ l. g.F.FileSet.entry c.close.new.self l ≡ (Out.view writer).taken) c.in-Ok.ensures.named (c.in-Ok-close.ensures.put told);
+      };
+      stops = tt;
+      others = λ q other. c.in-Ok-close.ensures.others q (λ e. other (e ∙ c.in-Ok.ensures.named));
+      noted = c.in-Ok-close.ensures.noted;
+    }
+
+pub returns-in-Err-close : goal.returns-in-Err-close
+returns-in-Err-close g c =
+    let kept = c.in-Err-close.ensures.err in
+    record {
+      told = c.in-Err-close.ensures.told;
+      done = tt;
+      stops = λ told empty. inr (ap (λ f. f (g.F.Out.Sink.view c.args.out).label) kept, refl, c.in-Err-close.ensures.faults);
+      others = λ q other. ap (λ f. f q) kept;
+      noted = c.in-Err-close.ensures.noted;
+    }

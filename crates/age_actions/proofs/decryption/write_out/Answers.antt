@@ -29,3 +29,6 @@ returns-in-Shown-clause-done g c =
     on_ok_weaker c.write_from-written.result (λ did told empty.
     subst (λ s. DecryptsOut c.args.identity.now (In.view s).remaining new) c.new-metered.ensures.source (did told empty))
     c.write_from-written.ensures.done
+
+pub returns-in-Silent-clause-silent : goal.returns-in-Silent-clause-silent
+returns-in-Silent-clause-silent g c = λ silent. refl
