@@ -32,25 +32,24 @@ const BYTES_MAX: usize = HEAD_MAX + NONCE_LEN + PAYLOAD_MAX + 1;
 /// The greatest work factor that is accepted.
 const MAX_LOG: u32 = 22;
 
-/// The bytes of a script that was opened.
-fn script_in<S: Source + Drop>(
-    alloc: Global,
-    opened: Result<S, FileFault>,
-) -> Result<Vec<u8>, Ending> {
-    let mut source = opened?;
-    match read_up_to(alloc, &mut source, SCRIPT_MAX) {
+/// The bytes of a script.
+fn script_in<S: Source>(alloc: Global, source: &mut S) -> Result<Vec<u8>, Ending> {
+    match read_up_to(alloc, source, SCRIPT_MAX) {
         Ok(Some(script)) if !has_too_many_lines(script.as_slice()) => Ok(script),
         Ok(_) => Err(Ending::Usage(Usage::ScriptTooLong)),
         Err(fault) => Err(Ending::Fault(fault)),
     }
 }
 
-/// The bytes of a script.
+/// The bytes of the file of a script.
 fn read_script<F: FileSet>(alloc: Global, files: &mut F, name: &str) -> Result<Vec<u8>, Ending>
     ensures kept { F.entry files.new ≡ F.entry files.old }
     ensures noted { F.events files.new ≡ F.events files.old ++ Opened name.now ∷ [] }
 {
-    script_in(alloc, files.open(alloc, name))
+    match files.open(alloc, name) {
+        Ok(mut source) => script_in(alloc, &mut source),
+        Err(fault) => Err(Ending::Fault(fault)),
+    }
 }
 
 /// The header that a parser finds at the beginning of a file, and its length. `read` is how reading
@@ -97,8 +96,13 @@ fn payload_after(
     requires { len ≤ length bytes.now }
     ensures { IfOk result (λ p. p.1 ≤ length bytes.now) }
 {
-    let key = key?;
-    read?;
+    let key = match key {
+        Ok(key) => key,
+        Err(fault) => return Err(FileFault::from(fault)),
+    };
+    if let Err(fault) = read {
+        return Err(fault);
+    }
     match bytes[len..].first_chunk::<NONCE_LEN>() {
         Some(nonce) => Ok((payload_key(&key, nonce), len + NONCE_LEN)),
         None => Err(FileFault::NonceCut),
@@ -115,8 +119,12 @@ fn open_payload(
 ) -> Result<(PayloadKey, usize), FileFault>
     ensures { IfOk result (λ p. p.1 ≤ length bytes.now) }
 {
-    let (header, len) = read_header(alloc, bytes, read)?;
-    payload_after(open_header(alloc, &header, unlock), len, bytes, read)
+    match read_header(alloc, bytes, read) {
+        Ok((header, len)) => {
+            payload_after(open_header(alloc, &header, unlock), len, bytes, read)
+        }
+        Err(fault) => Err(fault),
+    }
 }
 
 /// The word for where a replay stands, or its fault.
@@ -180,9 +188,13 @@ fn answer_line<O: Sink>(
     output: &mut O,
 ) -> Result<(), FileFault> {
     let refused = replay.refused();
-    obey_line(replay, payload, line)?;
-    let text = answer(alloc, number, replay, replay.refused() > refused)?;
-    put_bytes(output, text.as_bytes())
+    if let Err(fault) = obey_line(replay, payload, line) {
+        return Err(fault);
+    }
+    match answer(alloc, number, replay, replay.refused() > refused) {
+        Ok(text) => put_bytes(output, text.as_bytes()),
+        Err(_) => Err(FileFault::Memory),
+    }
 }
 
 /// Obeys each line of the script, and writes a line for it.
@@ -207,10 +219,12 @@ fn deliver<O: Sink>(
     script: &[u8],
     output: &mut O,
 ) -> Result<(), Ending> {
-    let lines = read_lines(alloc, script, payload.len())?;
-    match answer_lines(alloc, replay, payload, lines.as_slice(), output) {
-        Ok(()) => Ok(()),
-        Err(fault) => Err(Ending::Fault(fault)),
+    match read_lines(alloc, script, payload.len()) {
+        Ok(lines) => match answer_lines(alloc, replay, payload, lines.as_slice(), output) {
+            Ok(()) => Ok(()),
+            Err(fault) => Err(Ending::Fault(fault)),
+        },
+        Err(ending) => Err(ending),
     }
 }
 
@@ -257,14 +271,13 @@ fn deliver_sealed<S: Source, O: Sink>(
 ) -> Result<(), Ending> {
     let mut bytes = Vec::new(alloc);
     let read = fill_first(source, &mut bytes, BYTES_MAX);
-    let (key, start) = open_payload(alloc, unlock, bytes.as_slice(), read)?;
-    deliver_payload(
-        alloc,
-        &key,
-        &mut bytes.as_mut_slice()[start..],
-        script,
-        output,
-    )
+    match open_payload(alloc, unlock, bytes.as_slice(), read) {
+        Ok((key, start)) => {
+            let payload = &mut bytes.as_mut_slice()[start..];
+            deliver_payload(alloc, &key, payload, script, output)
+        }
+        Err(fault) => Err(Ending::Fault(fault)),
+    }
 }
 
 /// Delivers a payload from a file that was opened, in the clear where no passphrase is given.
@@ -275,10 +288,12 @@ fn deliver_opened<S: Source + Drop, O: Sink>(
     script: &[u8],
     output: &mut O,
 ) -> Result<(), Ending> {
-    let mut source = opened?;
-    match unlock {
-        Some(unlock) => deliver_sealed(alloc, unlock, &mut source, script, output),
-        None => deliver_clear(alloc, &mut source, script, output),
+    match opened {
+        Ok(mut source) => match unlock {
+            Some(unlock) => deliver_sealed(alloc, unlock, &mut source, script, output),
+            None => deliver_clear(alloc, &mut source, script, output),
+        },
+        Err(fault) => Err(Ending::Fault(fault)),
     }
 }
 
@@ -296,9 +311,13 @@ fn drill<F: FileSet, O: Sink>(
     ensures order_done { OnOk result (F.events files.new
         ≡ F.events files.old ++ Opened asked.now.script.now ∷ Opened asked.now.from.now ∷ []) }
 {
-    let script = read_script(alloc, files, asked.script)?;
-    let opened = files.open(alloc, asked.from);
-    deliver_opened(alloc, unlock, opened, script.as_slice(), output)
+    match read_script(alloc, files, asked.script) {
+        Ok(script) => {
+            let opened = files.open(alloc, asked.from);
+            deliver_opened(alloc, unlock, opened, script.as_slice(), output)
+        }
+        Err(ending) => Err(ending),
+    }
 }
 
 /// Drills the payload of an age file that a passphrase opens.
@@ -316,7 +335,10 @@ fn drill_sealed<F: FileSet, O: Sink>(
     ensures order_done { OnOk result (F.events files.new ≡ F.events files.old
         ++ Opened pass_name.now ∷ Opened asked.now.script.now ∷ Opened asked.now.from.now ∷ []) }
 {
-    let pass = read_pass(alloc, files, pass_name)?;
+    let pass = match read_pass(alloc, files, pass_name) {
+        Ok(pass) => pass,
+        Err(ending) => return Err(ending),
+    };
     match Passphrase::new(trimmed(pass.as_slice()), MAX_LOG) {
         Some(unlock) => drill(alloc, files, asked, Some(&unlock), output),
         None => Err(Ending::Usage(Usage::BadPassphraseFile)),

@@ -11,7 +11,7 @@ pub(crate) const SCRIPT_MAX: usize = 1_048_576;
 const LINES_MAX: usize = 1_000;
 
 /// What a line of a script asks for.
-#[derive(Clone, Copy, Debug, PartialEq, Eq)]
+#[derive(Clone, Copy)]
 pub(crate) enum Line {
     /// To deliver so many bytes of the payload, from this one on.
     Piece { offset: usize, len: usize },
@@ -39,7 +39,9 @@ fn number(word: &str) -> Option<u64> {
 
 /// A piece that ends within the payload, by two numbers.
 fn piece(numbers: &str, payload_len: usize) -> Option<Line> {
-    let (offset, len) = numbers.split_once(' ')?;
+    let Some((offset, len)) = numbers.split_once(' ') else {
+        return None;
+    };
     match (number(offset), number(len)) {
         (Some(offset), Some(len)) => piece_within(offset, len, payload_len),
         _ => None,
@@ -47,13 +49,13 @@ fn piece(numbers: &str, payload_len: usize) -> Option<Line> {
 }
 
 fn piece_within(offset: u64, len: u64, payload_len: usize) -> Option<Line> {
-    if offset.checked_add(len)? > payload_len as u64 {
-        return None;
+    match offset.checked_add(len) {
+        Some(end) if end <= payload_len as u64 => Some(Line::Piece {
+            offset: offset as usize,
+            len: len as usize,
+        }),
+        _ => None,
     }
-    Some(Line::Piece {
-        offset: offset as usize,
-        len: len as usize,
-    })
 }
 
 /// A byte within the payload.
@@ -87,8 +89,13 @@ fn read_words(text: &str, payload_len: usize) -> Option<Line> {
 
 /// Reads a line with its LF.
 fn read_line(line: &[u8], payload_len: usize) -> Option<Line> {
-    let text = std::str::from_utf8(line.strip_suffix(b"\n")?).ok()?;
-    read_words(text, payload_len)
+    let Some(line) = line.strip_suffix(b"\n") else {
+        return None;
+    };
+    match std::str::from_utf8(line) {
+        Ok(text) => read_words(text, payload_len),
+        Err(_) => None,
+    }
 }
 
 /// The lines of a script for a payload of this length, or the first bad one.
@@ -99,7 +106,9 @@ pub(crate) fn read_lines(
 ) -> Result<Vec<Line>, Ending> {
     let mut lines = Vec::new(alloc);
     for line in script.split_inclusive(|b| *b == b'\n') {
-        push(&mut lines, read_line(line, payload_len))?;
+        if let Err(ending) = push(&mut lines, read_line(line, payload_len)) {
+            return Err(ending);
+        }
     }
     Ok(lines)
 }
