@@ -12,8 +12,6 @@ use age_keys::{FileKey, KnownKey, PayloadKey, payload_key};
 use age_stream::seal_all;
 use sha2::{Digest, Sha256};
 use std::alloc::Global;
-use std::process::Abort;
-use std::test::Fail;
 
 // By python's hashlib, hmac and cryptography: the file key is the bytes 0 to 15, the payload nonce
 // 100 to 115, and the one stanza, of type `x`, has an empty body.
@@ -80,310 +78,468 @@ const POSITIONS: [([u8; 32], [u8; 32]); 3] = [
     ),
 ];
 
-fn hello_file(alloc: Global) -> Result<Vec<u8>, Fail> {
-    let mut bytes = FRONT.to_vec(alloc)?;
-    bytes.extend_from_slice(&HELLO)?;
-    Ok(bytes)
+/// Some bytes, and others after them.
+fn joined(alloc: Global, front: &[u8], rest: &[u8]) -> Option<Vec<u8>> {
+    let Ok(mut bytes) = front.to_vec(alloc) else {
+        return None;
+    };
+    match bytes.extend_from_slice(rest) {
+        Ok(()) => Some(bytes),
+        Err(_) => None,
+    }
 }
 
-fn long_text(alloc: Global, len: u32) -> Result<Vec<u8>, Fail> {
+fn hello_file(alloc: Global) -> Option<Vec<u8>> {
+    joined(alloc, FRONT, &HELLO)
+}
+
+fn long_text(alloc: Global, len: u32) -> Option<Vec<u8>> {
     let mut text = Vec::new(alloc);
     for i in 0..len {
-        text.push((i % 251) as u8)?;
+        if text.push((i % 251) as u8).is_err() {
+            return None;
+        }
     }
-    Ok(text)
+    Some(text)
 }
 
 /// The file of a text, sealed here; a test compares the digest of one with python's.
-fn file_of(alloc: Global, text: &[u8]) -> Result<Vec<u8>, Fail> {
-    let mut bytes = FRONT.to_vec(alloc)?;
+fn file_of(alloc: Global, text: &[u8]) -> Option<Vec<u8>> {
     let key = payload_key(&FileKey::new(KEY), &NONCE);
-    if let Ok(payload) = seal_all::<PayloadKey, 65552>(alloc, &key, text) {
-        bytes.extend_from_slice(payload.as_slice())?;
+    match seal_all::<PayloadKey, 65552>(alloc, &key, text) {
+        Ok(payload) => joined(alloc, FRONT, payload.as_slice()),
+        Err(_) => None,
     }
-    Ok(bytes)
 }
 
-/// A run over memory, and what it wrote. A pull and a put move `step` bytes at most.
-fn run(
-    alloc: Global,
-    bytes: &[u8],
+/// A text and its file.
+#[derive(Drop)]
+struct Example {
+    text: Vec<u8>,
+    file: Vec<u8>,
+}
+
+/// The example of the long text's first bytes.
+fn example_of(alloc: Global, len: u32) -> Option<Example> {
+    let text = long_text(alloc, len)?;
+    let file = file_of(alloc, text.as_slice())?;
+    Some(Example { text, file })
+}
+
+/// How a run goes: a pull and a put move `step` bytes at most, the sink takes `room` bytes, and one
+/// pull or one put fails.
+#[derive(Clone, Copy)]
+struct Plan {
     step: usize,
     room: usize,
     fail_pull: Option<u64>,
     fail_put: Option<u64>,
-) -> Result<(Result<Done, Stopped>, Vec<u8>), Fail>
+    ghost moves: { 0 < step },
+}
+
+/// A run in which no call fails.
+fn plan_of(step: usize, room: usize) -> Plan
     requires { 0 < step }
 {
-    let mut source = MemSource::new(bytes.to_vec(alloc)?, step, fail_pull);
-    let mut sink = MemSink::new(alloc, room, step, fail_put)?;
-    let answer = decrypt(alloc, &KnownKey::new(KEY), &mut source, &mut sink);
-    Ok((answer, sink.into_bytes()))
+    Plan {
+        step,
+        room,
+        fail_pull: None,
+        fail_put: None,
+    }
 }
 
-fn see_done(rt: &impl Abort, answer: &Result<Done, Stopped>, written: &[u8], text: &[u8]) {
-    assert!(rt; matches!(answer, Ok(done) if done.written == text.len() as u128));
-    assert!(rt; written == text);
-}
-
-/// A stop with this fault, which wrote the front of the text, as many bytes as it says.
-fn see_stop(
-    rt: &impl Abort,
-    answer: &Result<Done, Stopped>,
-    written: &[u8],
-    text: &[u8],
+/// How a run ended, with what it handed out.
+#[derive(Clone, Copy)]
+struct Outcome {
+    /// The fault's number, or 0 where there is none.
     number: u8,
-) -> Option<Position> {
-    let Err(stopped) = answer else {
-        assert!(rt; false, "no stop");
-        return None;
-    };
-    assert_eq!(rt; stopped.fault.number(), number);
-    assert_eq!(rt; stopped.written, written.len() as u128);
-    assert!(rt; text.starts_with(written));
-    stopped.position
+    place: Option<u64>,
+    written: u128,
+    position: Option<Position>,
 }
 
-/// The position after so many chunks of the long text.
-fn see_position(rt: &impl Abort, position: Option<Position>, index: usize)
-    requires { index < 3 }
-{
-    let Some(position) = position else {
-        assert!(rt; false, "no position");
-        return;
+/// What a run answered, if it wrote the front of the text, as many bytes as it says.
+fn outcome_of(answer: &Result<Done, Stopped>, written: &[u8], text: &[u8]) -> Option<Outcome> {
+    let outcome = match answer {
+        Ok(done) => Outcome {
+            number: 0,
+            place: None,
+            written: done.written,
+            position: None,
+        },
+        Err(stopped) => Outcome {
+            number: stopped.fault.number(),
+            place: stopped.fault.place(),
+            written: stopped.written,
+            position: stopped.position,
+        },
     };
+    if outcome.written == written.len() as u128 && text.starts_with(written) {
+        Some(outcome)
+    } else {
+        None
+    }
+}
+
+/// Whether a run ended with this fault, 0 for none, after so many bytes, and handed out the
+/// position after so many chunks of the long text, or none.
+fn ends(outcome: &Option<Outcome>, number: u8, written: usize, chunks: Option<usize>) -> bool {
+    match outcome {
+        Some(it) if it.number == number && it.written == written as u128 => {
+            match (&it.position, chunks) {
+                (Some(position), Some(index)) => is_after(position, index),
+                (None, None) => true,
+                _ => false,
+            }
+        }
+        _ => false,
+    }
+}
+
+/// Whether it is the position after so many chunks of the long text.
+fn is_after(position: &Position, index: usize) -> bool {
+    if index > 2 {
+        return false;
+    }
     let (chain, tag) = POSITIONS[index];
-    assert_eq!(rt; position.index, index as u64);
-    assert_eq!(rt; position.file_id, FILE_ID);
-    assert_eq!(rt; position.chain, chain);
-    assert_eq!(rt; position.tag, tag);
+    position.index == index as u64
+        && position.file_id == FILE_ID
+        && position.chain == chain
+        && position.tag == tag
+}
+
+/// How the decryption of a file ends that ought to write this text.
+fn opened(alloc: Global, file: &[u8], text: &[u8], plan: &Plan) -> Option<Outcome> {
+    match file.to_vec(alloc) {
+        Ok(bytes) => {
+            let source = MemSource::new(bytes, plan.step, plan.fail_pull);
+            opened_from(alloc, source, text, plan)
+        }
+        Err(_) => None,
+    }
+}
+
+fn opened_from(alloc: Global, mut source: MemSource, text: &[u8], plan: &Plan) -> Option<Outcome> {
+    match MemSink::new(alloc, plan.room, plan.step, plan.fail_put) {
+        Ok(mut sink) => {
+            let answer = decrypt(alloc, &KnownKey::new(KEY), &mut source, &mut sink);
+            outcome_of(&answer, sink.bytes(), text)
+        }
+        Err(_) => None,
+    }
+}
+
+/// How the decryption of `hello` ends.
+fn hello(alloc: Global, plan: &Plan) -> Option<Outcome> {
+    match hello_file(alloc) {
+        Some(file) => opened(alloc, file.as_slice(), b"hello", plan),
+        None => None,
+    }
 }
 
 #[test]
-fn a_file_in_any_pieces(rt: HostRuntime) -> Result<(), Fail> {
-    let file = hello_file(rt.alloc())?;
+fn a_file_in_any_pieces(rt: HostRuntime) {
     for step in [1, 2, 7, 92, 1000] {
-        let (answer, written) = run(rt.alloc(), file.as_slice(), step, 5, None, None)?;
-        see_done(&rt, &answer, written.as_slice(), b"hello");
+        let outcome = hello(rt.alloc(), &plan_of(step, 5));
+        assert!(rt; ends(&outcome, 0, 5, None), "at {step}");
     }
-    Ok(())
+}
+
+/// How the decryption of the front of the file of `hello` ends; it ought to write nothing.
+fn hello_cut(alloc: Global, len: usize) -> Option<Outcome> {
+    match hello_file(alloc) {
+        Some(file) => match file.as_slice().get(..len) {
+            Some(front) => opened(alloc, front, b"", &plan_of(7, 5)),
+            None => None,
+        },
+        None => None,
+    }
 }
 
 // The header has 76 bytes; what follows 92 is held as the last chunk.
 #[test]
-fn a_file_cut_at_each_byte(rt: HostRuntime) -> Result<(), Fail> {
-    let file = hello_file(rt.alloc())?;
-    let bytes = file.as_slice();
-    for len in 0..bytes.len() {
-        let number = match len {
-            0..=75 => 8,
-            76..=91 => 16,
-            92 => 20,
-            93..=107 => 18,
-            _ => 17,
+fn a_file_cut_at_each_byte(rt: HostRuntime) {
+    for len in 0..113 {
+        let (number, chunks) = match len {
+            0..=75 => (8, None),
+            76..=91 => (16, None),
+            92 => (20, Some(0)),
+            93..=107 => (18, Some(0)),
+            _ => (17, Some(0)),
         };
-        let (answer, written) = run(rt.alloc(), &bytes[..len], 7, 5, None, None)?;
-        let position = see_stop(&rt, &answer, written.as_slice(), b"", number);
-        assert_eq!(rt; position.is_some(), len >= 92);
-        if len >= 92 {
-            see_position(&rt, position, 0);
-        }
+        assert!(rt;
+            ends(&hello_cut(rt.alloc(), len), number, 0, chunks),
+            "at {len}"
+        );
     }
-    Ok(())
+}
+
+/// How the decryption of the file of `hello` ends where one byte is another; it ought to write
+/// nothing.
+fn hello_changed(alloc: Global, at: usize) -> Option<Outcome> {
+    match hello_file(alloc) {
+        Some(mut file) => {
+            invert(&mut file, at);
+            opened(alloc, file.as_slice(), b"", &plan_of(50, 5))
+        }
+        None => None,
+    }
+}
+
+/// Inverts the lowest bit of a byte.
+fn invert(bytes: &mut Vec<u8>, at: usize) {
+    if let Some(byte) = bytes.get_mut(at) {
+        *byte ^= 1;
+    }
 }
 
 #[test]
-fn each_byte_of_a_payload_changed(rt: HostRuntime) -> Result<(), Fail> {
-    let mut file = hello_file(rt.alloc())?;
+fn each_byte_of_a_payload_changed(rt: HostRuntime) {
     for at in 92..113 {
-        if let Some(byte) = file.get_mut(at) {
-            *byte ^= 1;
-        }
-        let (answer, written) = run(rt.alloc(), file.as_slice(), 50, 5, None, None)?;
-        see_stop(&rt, &answer, written.as_slice(), b"", 17);
-        if let Some(byte) = file.get_mut(at) {
-            *byte ^= 1;
-        }
+        assert!(rt;
+            ends(&hello_changed(rt.alloc(), at), 17, 0, Some(0)),
+            "at {at}"
+        );
     }
-    Ok(())
+}
+
+/// How the decryption of `hello` under another key ends; it ought to write nothing.
+fn hello_under_another_key(alloc: Global) -> Option<Outcome> {
+    let mut source = MemSource::new(hello_file(alloc)?, 50, None);
+    match MemSink::new(alloc, 5, 5, None) {
+        Ok(mut sink) => {
+            let answer = decrypt(alloc, &KnownKey::new([7; 16]), &mut source, &mut sink);
+            outcome_of(&answer, sink.bytes(), b"")
+        }
+        Err(_) => None,
+    }
 }
 
 #[test]
-fn another_key(rt: HostRuntime) -> Result<(), Fail> {
-    let alloc = rt.alloc();
-    let mut source = MemSource::new(hello_file(alloc)?, 50, None);
-    let mut sink = MemSink::new(alloc, 5, 5, None)?;
-    let answer = decrypt(alloc, &KnownKey::new([7; 16]), &mut source, &mut sink);
-    let position = see_stop(&rt, &answer, sink.bytes(), b"", 14);
-    assert!(rt; position.is_none());
-    Ok(())
+fn another_key(rt: HostRuntime) {
+    assert!(rt; ends(&hello_under_another_key(rt.alloc()), 14, 0, None));
+}
+
+/// How the decryption of `hello` ends where this pull fails.
+fn hello_pulled(alloc: Global, fail_pull: u64) -> Option<Outcome> {
+    let plan = Plan {
+        step: 7,
+        room: 5,
+        fail_pull: Some(fail_pull),
+        fail_put: None,
+    };
+    hello(alloc, &plan)
 }
 
 // Seventeen pulls give bytes, and one more tells the end.
 #[test]
-fn each_pull_fails_in_turn(rt: HostRuntime) -> Result<(), Fail> {
-    let file = hello_file(rt.alloc())?;
+fn each_pull_fails_in_turn(rt: HostRuntime) {
     for call in 0..18 {
-        let (answer, written) = run(rt.alloc(), file.as_slice(), 7, 5, Some(call), None)?;
-        let position = see_stop(&rt, &answer, written.as_slice(), b"hello", 26);
-        assert_eq!(rt; position.is_some(), call > 13);
+        let chunks = if call > 13 { Some(0) } else { None };
+        assert!(rt;
+            ends(&hello_pulled(rt.alloc(), call), 26, 0, chunks),
+            "at {call}"
+        );
     }
-    let (answer, written) = run(rt.alloc(), file.as_slice(), 7, 5, Some(18), None)?;
-    see_done(&rt, &answer, written.as_slice(), b"hello");
-    Ok(())
+    assert!(rt; ends(&hello_pulled(rt.alloc(), 18), 0, 5, None));
+}
+
+/// How the decryption of `hello` ends that keeps no positions, into a sink of two bytes.
+fn hello_without_positions(alloc: Global) -> Option<Outcome> {
+    let mut source = MemSource::new(hello_file(alloc)?, 50, None);
+    match MemSink::new(alloc, 2, 5, None) {
+        Ok(mut sink) => {
+            let unlock = KnownKey::new(KEY);
+            let answer = decrypt_with(alloc, Positions::Dropped, &unlock, &mut source, &mut sink);
+            outcome_of(&answer, sink.bytes(), b"hello")
+        }
+        Err(_) => None,
+    }
 }
 
 // A stop hands out no position where positions are dropped.
 #[test]
-fn dropped_positions(rt: HostRuntime) -> Result<(), Fail> {
-    let alloc = rt.alloc();
-    let mut source = MemSource::new(hello_file(alloc)?, 50, None);
-    let mut sink = MemSink::new(alloc, 2, 5, None)?;
-    let unlock = KnownKey::new(KEY);
-    let answer = decrypt_with(alloc, Positions::Dropped, &unlock, &mut source, &mut sink);
-    let position = see_stop(&rt, &answer, sink.bytes(), b"hello", 27);
-    assert!(rt; position.is_none());
-    Ok(())
+fn dropped_positions(rt: HostRuntime) {
+    assert!(rt; ends(&hello_without_positions(rt.alloc()), 27, 2, None));
+}
+
+/// How the decryption of `hello` ends where this put fails.
+fn hello_put(alloc: Global, fail_put: u64) -> Option<Outcome> {
+    let plan = Plan {
+        step: 2,
+        room: 5,
+        fail_pull: None,
+        fail_put: Some(fail_put),
+    };
+    hello(alloc, &plan)
 }
 
 // Three puts of two bytes at most, and a flush.
 #[test]
-fn each_put_and_the_flush_fail_in_turn(rt: HostRuntime) -> Result<(), Fail> {
-    let file = hello_file(rt.alloc())?;
-    for call in 0..4 {
-        let (answer, written) = run(rt.alloc(), file.as_slice(), 2, 5, None, Some(call))?;
-        let position = see_stop(&rt, &answer, written.as_slice(), b"hello", 27);
-        assert_eq!(rt; written.len() as u64, (2 * call).min(5));
-        see_position(&rt, position, 0);
+fn each_put_and_the_flush_fail_in_turn(rt: HostRuntime) {
+    assert!(rt; ends(&hello_put(rt.alloc(), 0), 27, 0, Some(0)));
+    assert!(rt; ends(&hello_put(rt.alloc(), 1), 27, 2, Some(0)));
+    assert!(rt; ends(&hello_put(rt.alloc(), 2), 27, 4, Some(0)));
+    assert!(rt; ends(&hello_put(rt.alloc(), 3), 27, 5, Some(0)));
+    assert!(rt; ends(&hello_put(rt.alloc(), 4), 0, 5, None));
+}
+
+/// How the decryption of the long text's file ends, cut after so many bytes.
+fn long_run(alloc: Global, cut: usize, plan: &Plan) -> Option<Outcome> {
+    match example_of(alloc, 200_000) {
+        Some(example) => match example.file.as_slice().get(..cut) {
+            Some(front) => opened(alloc, front, example.text.as_slice(), plan),
+            None => None,
+        },
+        None => None,
     }
-    let (answer, written) = run(rt.alloc(), file.as_slice(), 2, 5, None, Some(4))?;
-    see_done(&rt, &answer, written.as_slice(), b"hello");
-    Ok(())
+}
+
+/// Whether the long text's file is python's.
+fn is_long_file_right(alloc: Global) -> bool {
+    match example_of(alloc, 200_000) {
+        Some(example) => {
+            example.file.len() == 200_156 && Sha256::digest(example.file.as_slice()) == LONG_DIGEST
+        }
+        None => false,
+    }
 }
 
 #[test]
-fn a_file_of_four_chunks(rt: HostRuntime) -> Result<(), Fail> {
-    let text = long_text(rt.alloc(), 200_000)?;
-    let file = file_of(rt.alloc(), text.as_slice())?;
-    assert_eq!(rt; file.len(), 200_156);
-    assert_eq!(rt; Sha256::digest(file.as_slice()), LONG_DIGEST);
-    let (answer, written) = run(rt.alloc(), file.as_slice(), 100_000, 200_000, None, None)?;
-    see_done(&rt, &answer, written.as_slice(), text.as_slice());
-    Ok(())
+fn a_file_of_four_chunks(rt: HostRuntime) {
+    assert!(rt; is_long_file_right(rt.alloc()));
+    let outcome = long_run(rt.alloc(), 200_156, &plan_of(100_000, 200_000));
+    assert!(rt; ends(&outcome, 0, 200_000, None));
 }
 
 // The index counts whole chunks that were wholly written.
 #[test]
-fn positions_where_the_sink_is_full(rt: HostRuntime) -> Result<(), Fail> {
-    let text = long_text(rt.alloc(), 200_000)?;
-    let file = file_of(rt.alloc(), text.as_slice())?;
-    let rooms = [
+fn positions_where_the_sink_is_full(rt: HostRuntime) {
+    for (room, index) in [
         (0, 0),
         (65_535, 0),
         (65_536, 1),
         (131_071, 1),
         (131_072, 2),
         (150_000, 2),
-    ];
-    for (room, index) in rooms {
-        let (answer, written) = run(rt.alloc(), file.as_slice(), 10_000, room, None, None)?;
-        let position = see_stop(&rt, &answer, written.as_slice(), text.as_slice(), 27);
-        assert_eq!(rt; written.len(), room);
-        see_position(&rt, position, index);
+    ] {
+        let outcome = long_run(rt.alloc(), 200_156, &plan_of(10_000, room));
+        assert!(rt; ends(&outcome, 27, room, Some(index)), "at {room}");
     }
-    Ok(())
 }
 
 #[test]
-fn positions_where_the_payload_is_cut(rt: HostRuntime) -> Result<(), Fail> {
-    let text = long_text(rt.alloc(), 200_000)?;
-    let file = file_of(rt.alloc(), text.as_slice())?;
-    let cuts = [
-        (65_643, 17, 0),
-        (65_644, 20, 1),
-        (65_645, 18, 1),
-        (131_196, 20, 2),
-    ];
-    for (len, number, index) in cuts {
-        let bytes = file.as_slice();
-        if len > bytes.len() {
-            assert!(rt; false, "a short file");
-            return Ok(());
-        }
-        let (answer, written) = run(rt.alloc(), &bytes[..len], 70_000, 200_000, None, None)?;
-        let position = see_stop(&rt, &answer, written.as_slice(), text.as_slice(), number);
-        assert_eq!(rt; written.len(), index * 65_536);
-        see_position(&rt, position, index);
+fn positions_where_the_payload_is_cut(rt: HostRuntime) {
+    for (len, number, index, written) in [
+        (65_643, 17, 0, 0),
+        (65_644, 20, 1, 65_536),
+        (65_645, 18, 1, 65_536),
+        (131_196, 20, 2, 131_072),
+    ] {
+        let outcome = long_run(rt.alloc(), len, &plan_of(70_000, 200_000));
+        assert!(rt; ends(&outcome, number, written, Some(index)), "at {len}");
     }
-    Ok(())
+}
+
+/// How the decryption of the file of two whole chunks ends, with these bytes after it.
+fn two_chunks(alloc: Global, more: &[u8]) -> Option<Outcome> {
+    match example_of(alloc, 131_072) {
+        Some(example) => {
+            let file = joined(alloc, example.file.as_slice(), more)?;
+            let plan = plan_of(70_000, 131_072);
+            opened(alloc, file.as_slice(), example.text.as_slice(), &plan)
+        }
+        None => None,
+    }
 }
 
 // A last chunk of 65,536 bytes is written, and isn't counted.
 #[test]
-fn a_byte_after_a_full_last_chunk(rt: HostRuntime) -> Result<(), Fail> {
-    let text = long_text(rt.alloc(), 131_072)?;
-    let mut file = file_of(rt.alloc(), text.as_slice())?;
-    let (answer, written) = run(rt.alloc(), file.as_slice(), 70_000, 131_072, None, None)?;
-    see_done(&rt, &answer, written.as_slice(), text.as_slice());
-    file.push(0)?;
-    let (answer, written) = run(rt.alloc(), file.as_slice(), 70_000, 131_072, None, None)?;
-    let position = see_stop(&rt, &answer, written.as_slice(), text.as_slice(), 21);
-    assert_eq!(rt; written.len(), 131_072);
-    see_position(&rt, position, 1);
-    Ok(())
+fn a_byte_after_a_full_last_chunk(rt: HostRuntime) {
+    assert!(rt; ends(&two_chunks(rt.alloc(), b""), 0, 131_072, None));
+    assert!(rt; ends(&two_chunks(rt.alloc(), b"\0"), 21, 131_072, Some(1)));
 }
 
 /// The text of the position after two chunks of the long text, by python's base64.
 const POSITION_TEXT: &[u8; 150] = b"age-position/v2 2 d1OYKDfjAFYr1YZ8jnp3n37BEIqWWo6NZKua5lA6O3I \
         Z/+/pb0gy0Qz9r4nrfQPNKnIsXURwLLWg+TFayQJBo4 hEND0PoQZoUO3u7dpzXqdX+6bFzqNvs/DBT45+lEskk\n";
 
+fn has_text(alloc: Global, position: &Position, expected: &[u8]) -> bool {
+    match position.text(alloc) {
+        Ok(text) => text.as_slice() == expected,
+        Err(_) => false,
+    }
+}
+
 #[test]
-fn a_position_of_python_is_read_and_written(rt: HostRuntime) -> Result<(), Fail> {
+fn a_position_of_python_is_read_and_written(rt: HostRuntime) {
     let Ok(position) = Position::read(POSITION_TEXT) else {
         assert!(rt; false, "refused");
-        return Ok(());
+        return;
     };
-    see_position(&rt, Some(position), 2);
-    let Ok(text) = position.text(rt.alloc()) else {
-        assert!(rt; false, "no text");
-        return Ok(());
-    };
-    assert!(rt; text.as_slice() == POSITION_TEXT.as_slice());
-    Ok(())
+    assert!(rt; is_after(&position, 2));
+    assert!(rt; has_text(rt.alloc(), &position, POSITION_TEXT));
 }
 
 /// The text of an index and three digests of 32 zero bytes, and this end.
-fn zero_position(alloc: Global, front: &[u8], end: &[u8]) -> Result<Vec<u8>, Fail> {
-    let mut text = front.to_vec(alloc)?;
-    for _ in 0..3 {
-        text.extend_from_slice(b" AAAAAAAAAAAAAAAAAAAAAAAAAAAAAAAAAAAAAAAAAAA")?;
+fn zero_position(alloc: Global, front: &[u8], end: &[u8]) -> Option<Vec<u8>> {
+    let digest = b" AAAAAAAAAAAAAAAAAAAAAAAAAAAAAAAAAAAAAAAAAAA";
+    let one = joined(alloc, front, digest)?;
+    let two = joined(alloc, one.as_slice(), digest)?;
+    let three = joined(alloc, two.as_slice(), digest)?;
+    joined(alloc, three.as_slice(), end)
+}
+
+/// Whether the position of this index and of digests of zero bytes is read.
+fn is_index_read(alloc: Global, front: &[u8], index: u64) -> bool {
+    let Some(text) = zero_position(alloc, front, b"\n") else {
+        return false;
+    };
+    match Position::read(text.as_slice()) {
+        Ok(position) => {
+            position.index == index
+                && position.file_id == [0; 32]
+                && position.chain == [0; 32]
+                && position.tag == [0; 32]
+        }
+        Err(_) => false,
     }
-    text.extend_from_slice(end)?;
-    Ok(text)
 }
 
 #[test]
-fn an_index_in_its_limits_is_read(rt: HostRuntime) -> Result<(), Fail> {
-    for (front, index) in [
-        (b"age-position/v2 0".as_slice(), 0),
-        (b"age-position/v2 3", 3),
-        (b"age-position/v2 281474976710655", 281_474_976_710_655),
-    ] {
-        let text = zero_position(rt.alloc(), front, b"\n")?;
-        let Ok(position) = Position::read(text.as_slice()) else {
-            assert!(rt; false, "refused");
-            return Ok(());
-        };
-        assert_eq!(rt; position.index, index);
-        assert_eq!(rt; position.file_id, [0; 32]);
-        assert_eq!(rt; position.chain, [0; 32]);
-        assert_eq!(rt; position.tag, [0; 32]);
+fn an_index_in_its_limits_is_read(rt: HostRuntime) {
+    let greatest = b"age-position/v2 281474976710655".as_slice();
+    assert!(rt; is_index_read(rt.alloc(), b"age-position/v2 0", 0));
+    assert!(rt; is_index_read(rt.alloc(), b"age-position/v2 3", 3));
+    assert!(rt; is_index_read(rt.alloc(), greatest, 281_474_976_710_655));
+}
+
+fn is_no_position(text: &[u8]) -> bool {
+    matches!(Position::read(text), Err(FileFault::BadPosition))
+}
+
+/// Whether the text of this index and of digests of zero bytes is refused.
+fn is_refused(alloc: Global, front: &[u8], end: &[u8]) -> bool {
+    match zero_position(alloc, front, end) {
+        Some(text) => is_no_position(text.as_slice()),
+        None => false,
     }
-    Ok(())
+}
+
+/// Whether the text is refused in which the last character has low bits that no byte takes.
+fn is_loose_refused(alloc: Global) -> bool {
+    match zero_position(alloc, b"age-position/v2 3", b"") {
+        Some(mut text) => {
+            text.pop();
+            text.extend_from_slice(b"B\n").is_ok() && is_no_position(text.as_slice())
+        }
+        None => false,
+    }
 }
 
 #[test]
-fn other_texts_are_no_positions(rt: HostRuntime) -> Result<(), Fail> {
+fn other_texts_are_no_positions(rt: HostRuntime) {
     for (front, end) in [
         (b"age-position/v2 03".as_slice(), b"\n".as_slice()),
         (b"age-position/v2 +3", b"\n"),
@@ -397,21 +553,9 @@ fn other_texts_are_no_positions(rt: HostRuntime) -> Result<(), Fail> {
         (b"age-position/v2 3", b"\r\n"),
         (b"", b""),
     ] {
-        let text = zero_position(rt.alloc(), front, end)?;
-        let answer = Position::read(text.as_slice());
-        assert!(rt; matches!(answer, Err(FileFault::BadPosition)));
+        assert!(rt; is_refused(rt.alloc(), front, end));
     }
     let old = b"age-position/v1 2 d1OYKDfjAFYr1YZ8jnp3n37BEIqWWo6NZKua5lA6O3I\n";
-    assert!(rt; matches!(Position::read(old), Err(FileFault::BadPosition)));
-    // The last character has low bits that no byte takes.
-    let mut loose = zero_position(rt.alloc(), b"age-position/v2 3", b"")?;
-    loose.pop();
-    loose.extend_from_slice(b"B\n")?;
-    assert!(rt;
-        matches!(
-            Position::read(loose.as_slice()),
-            Err(FileFault::BadPosition)
-        )
-    );
-    Ok(())
+    assert!(rt; is_no_position(old));
+    assert!(rt; is_loose_refused(rt.alloc()));
 }

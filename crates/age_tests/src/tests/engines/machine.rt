@@ -1,7 +1,5 @@
 //! Readers and writers of the machine's kind, of which one call fails.
 
-ghost use Rattle.std.specs.Prelude.{◌≤◌};
-
 use super::*;
 use age_file::{Failed, Reading, Sink, Source, Writing};
 use std::io::{self, ErrorKind, Read, Write};
@@ -54,70 +52,68 @@ impl<T: Write> Write for FailsAt<T> {
 }
 
 #[test]
-fn a_flush_that_fails_is_told_and_counted(rt: HostRuntime) -> Result<(), Fail> {
+fn a_flush_that_fails_is_told_and_counted(rt: HostRuntime) {
     let mut held = [0u8; 3];
     let mut sink = Writing::new(FailsAt::new(held.as_mut_slice(), 1));
-    assert_eq!(rt; sink.put(b"ab"), Ok(2));
-    assert_eq!(rt; sink.flush(), Err(Failed));
-    assert_eq!(rt; sink.failures(), 1);
-    assert_eq!(rt; sink.flush(), Ok(()));
-    assert_eq!(rt; sink.put(b"c"), Ok(1));
-    assert_eq!(rt; sink.failures(), 1);
-    assert_eq!(rt; held, *b"abc");
-    Ok(())
+    assert!(rt; sink.put(b"ab") == Ok(2));
+    assert!(rt; sink.flush() == Err(Failed) && sink.failures() == 1);
+    assert!(rt; sink.flush() == Ok(()));
+    assert!(rt; sink.put(b"c") == Ok(1) && sink.failures() == 1);
+    assert!(rt; held == *b"abc");
 }
 
 #[test]
-fn a_read_that_fails_is_told_and_counted(rt: HostRuntime) -> Result<(), Fail> {
+fn a_read_that_fails_is_told_and_counted(rt: HostRuntime) {
     let mut source = Reading::new(FailsAt::new(b"ab".as_slice(), 1));
     let mut into = [0u8; 1];
-    assert_eq!(rt; source.pull(&mut into), Ok(1));
-    assert_eq!(rt; source.pull(&mut into), Err(Failed));
-    assert_eq!(rt; source.failures(), 1);
-    assert_eq!(rt; source.pull(&mut into), Ok(1));
-    assert_eq!(rt; into, *b"b");
-    assert_eq!(rt; source.pull(&mut into), Ok(0));
-    assert_eq!(rt; source.failures(), 1);
-    Ok(())
+    assert!(rt; source.pull(&mut into) == Ok(1));
+    assert!(rt; source.pull(&mut into) == Err(Failed) && source.failures() == 1);
+    assert!(rt; source.pull(&mut into) == Ok(1) && into == *b"b");
+    assert!(rt; source.pull(&mut into) == Ok(0) && source.failures() == 1);
 }
 
-/// A decryption of `hello` whose writer fails at this call, and holds so many bytes then.
-fn see_the_writer_fail(
-    rt: &impl Abort,
-    alloc: Global,
-    fail_call: u32,
-    len: usize,
-) -> Result<(), Fail>
-    requires { len ≤ 5 }
-{
+/// How a decryption of `hello` ends whose writer fails at this call, and the number of its
+/// failures.
+fn writer_fails(alloc: Global, fail_call: u32, len: usize) -> Option<(Option<Outcome>, u64)> {
     let file = hello_file(alloc)?;
     let mut held = [0u8; 5];
     let mut source = Reading::new(file.as_slice());
     let mut sink = Writing::new(FailsAt::new(held.as_mut_slice(), fail_call));
     let answer = decrypt(alloc, &KnownKey::new(KEY), &mut source, &mut sink);
-    assert_eq!(rt; sink.failures(), 1);
-    let position = see_stop(rt, &answer, &held[..len], b"hello", 27);
-    see_position(rt, position, 0);
-    Ok(())
+    let failures = sink.failures();
+    let written = held.get(..len)?;
+    Some((outcome_of(&answer, written, b"hello"), failures))
+}
+
+/// Whether a decryption of `hello` whose writer fails at this call holds so many bytes then.
+fn stops_at_write(alloc: Global, fail_call: u32, len: usize) -> bool {
+    match writer_fails(alloc, fail_call, len) {
+        Some((outcome, failures)) => failures == 1 && ends(&outcome, 27, len, Some(0)),
+        None => false,
+    }
 }
 
 // One write takes the whole text, and a flush follows it.
 #[test]
-fn a_writer_fails_in_a_decryption(rt: HostRuntime) -> Result<(), Fail> {
-    see_the_writer_fail(&rt, rt.alloc(), 0, 0)?;
-    see_the_writer_fail(&rt, rt.alloc(), 1, 5)
+fn a_writer_fails_in_a_decryption(rt: HostRuntime) {
+    assert!(rt; stops_at_write(rt.alloc(), 0, 0));
+    assert!(rt; stops_at_write(rt.alloc(), 1, 5));
 }
 
-#[test]
-fn a_reader_fails_in_a_decryption(rt: HostRuntime) -> Result<(), Fail> {
-    let file = hello_file(rt.alloc())?;
+/// Whether a decryption whose first read fails is told so, and writes nothing.
+fn stops_at_read(alloc: Global) -> bool {
+    let Some(file) = hello_file(alloc) else {
+        return false;
+    };
     let mut held = [0u8; 5];
     let mut source = Reading::new(FailsAt::new(file.as_slice(), 0));
     let mut sink = Writing::new(held.as_mut_slice());
-    let answer = decrypt(rt.alloc(), &KnownKey::new(KEY), &mut source, &mut sink);
-    let position = see_stop(&rt, &answer, b"", b"hello", 26);
-    assert!(rt; position.is_none());
-    assert_eq!(rt; source.failures(), 1);
-    assert_eq!(rt; held, [0; 5]);
-    Ok(())
+    let answer = decrypt(alloc, &KnownKey::new(KEY), &mut source, &mut sink);
+    let outcome = outcome_of(&answer, b"", b"hello");
+    ends(&outcome, 26, 0, None) && source.failures() == 1 && held == [0; 5]
+}
+
+#[test]
+fn a_reader_fails_in_a_decryption(rt: HostRuntime) {
+    assert!(rt; stops_at_read(rt.alloc()));
 }
