@@ -3,74 +3,97 @@
 use age_file::{Failed, FileFault, MemSink, MemSource, Reading, Sink, Source, Writing, write_all};
 use age_fileset::{CreateFault, FileSet, MemFiles};
 use age_io::Durability;
-use std::test::Fail;
+use std::alloc::Global;
 
-#[test]
-fn a_source_gives_by_steps_and_fails_once(rt: HostRuntime) -> Result<(), Fail> {
-    let mut source = MemSource::new(b"abcde".to_vec(rt.alloc())?, 2, Some(1));
+fn gives_by_steps(alloc: Global) -> bool {
+    let Ok(bytes) = b"abcde".to_vec(alloc) else {
+        return false;
+    };
+    let mut source = MemSource::new(bytes, 2, Some(1));
     let mut into = [0u8; 8];
-    assert_eq!(rt; source.pull(&mut into), Ok(2));
-    assert_eq!(rt; source.pull(&mut into), Err(Failed));
-    assert_eq!(rt; source.pull(&mut into), Ok(2));
-    assert_eq!(rt; &into[..2], b"cd".as_slice());
-    assert_eq!(rt; source.pull(&mut into[..0]), Ok(0));
-    assert_eq!(rt; source.pull(&mut into), Ok(1));
-    assert_eq!(rt; source.pull(&mut into), Ok(0));
-    assert_eq!(rt; source.failures(), 1);
-    Ok(())
+    source.pull(&mut into) == Ok(2)
+        && source.pull(&mut into) == Err(Failed)
+        && source.pull(&mut into) == Ok(2)
+        && into.starts_with(b"cd")
+        && gives_the_last(&mut source)
+}
+
+/// Whether a source gives one byte more, and has failed once.
+fn gives_the_last(source: &mut MemSource) -> bool {
+    let mut into = [0u8; 8];
+    source.pull(&mut into[..0]) == Ok(0)
+        && source.pull(&mut into) == Ok(1)
+        && source.pull(&mut into) == Ok(0)
+        && source.failures() == 1
 }
 
 #[test]
-fn a_sink_takes_what_it_has_room_for(rt: HostRuntime) -> Result<(), Fail> {
-    let mut sink = MemSink::new(rt.alloc(), 5, 3, None)?;
-    let puts = [
-        sink.put(b"abcd"),
-        sink.put(b""),
-        sink.put(b"def"),
-        sink.put(b"f"),
-    ];
-    assert!(rt; puts == [Ok(3), Ok(0), Ok(2), Err(Failed)]);
-    assert_eq!(rt; sink.failures(), 1);
-    assert_eq!(rt; sink.bytes(), b"abcde".as_slice());
-    Ok(())
+fn a_source_gives_by_steps_and_fails_once(rt: HostRuntime) {
+    assert!(rt; gives_by_steps(rt.alloc()));
+}
+
+fn takes_five(alloc: Global) -> bool {
+    match MemSink::new(alloc, 5, 3, None) {
+        Ok(mut sink) => {
+            sink.put(b"abcd") == Ok(3)
+                && sink.put(b"") == Ok(0)
+                && sink.put(b"def") == Ok(2)
+                && sink.put(b"f") == Err(Failed)
+                && sink.failures() == 1
+                && sink.bytes() == b"abcde".as_slice()
+        }
+        Err(_) => false,
+    }
 }
 
 #[test]
-fn a_sink_fails_once(rt: HostRuntime) -> Result<(), Fail> {
-    let mut sink = MemSink::new(rt.alloc(), 5, 3, Some(1))?;
-    assert!(rt; sink.put(b"ab") == Ok(2));
-    assert!(rt; sink.flush() == Err(Failed));
-    assert!(rt; sink.flush() == Ok(()));
-    assert_eq!(rt; sink.failures(), 1);
-    Ok(())
+fn a_sink_takes_what_it_has_room_for(rt: HostRuntime) {
+    assert!(rt; takes_five(rt.alloc()));
+}
+
+fn fails_to_flush_once(alloc: Global) -> bool {
+    match MemSink::new(alloc, 5, 3, Some(1)) {
+        Ok(mut sink) => {
+            sink.put(b"ab") == Ok(2)
+                && sink.flush() == Err(Failed)
+                && sink.flush() == Ok(())
+                && sink.failures() == 1
+        }
+        Err(_) => false,
+    }
 }
 
 #[test]
-fn what_is_written_before_a_failure_is_counted(rt: HostRuntime) -> Result<(), Fail> {
-    let mut sink = MemSink::new(rt.alloc(), 5, 2, None)?;
+fn a_sink_fails_once(rt: HostRuntime) {
+    assert!(rt; fails_to_flush_once(rt.alloc()));
+}
+
+fn counts_what_is_written(sink: &mut MemSink) -> bool {
     let mut written = 10;
-    assert_eq!(rt; write_all(&mut sink, b"abcd", &mut written), Ok(()));
-    assert_eq!(rt; written, 14);
-    assert_eq!(rt;
-        write_all(&mut sink, b"efg", &mut written),
-        Err(FileFault::Write)
-    );
-    assert_eq!(rt; written, 15);
-    assert_eq!(rt; sink.into_bytes().as_slice(), b"abcde".as_slice());
-    Ok(())
+    write_all(sink, b"abcd", &mut written) == Ok(())
+        && written == 14
+        && write_all(sink, b"efg", &mut written) == Err(FileFault::Write)
+        && written == 15
+}
+
+#[test]
+fn what_is_written_before_a_failure_is_counted(rt: HostRuntime) {
+    let Ok(mut sink) = MemSink::new(rt.alloc(), 5, 2, None) else {
+        assert!(rt; false, "no memory");
+        return;
+    };
+    assert!(rt; counts_what_is_written(&mut sink));
+    assert!(rt; sink.into_bytes().as_slice() == b"abcde".as_slice());
 }
 
 #[test]
 fn a_reader_of_std(rt: HostRuntime) {
     let mut source = Reading::new(b"abc".as_slice());
     let mut into = [0u8; 2];
-    let pulls = [
-        source.pull(&mut into),
-        source.pull(&mut into),
-        source.pull(&mut into),
-    ];
-    assert!(rt; pulls == [Ok(2), Ok(1), Ok(0)]);
-    assert_eq!(rt; source.failures(), 0);
+    assert!(rt; source.pull(&mut into) == Ok(2));
+    assert!(rt; source.pull(&mut into) == Ok(1));
+    assert!(rt; source.pull(&mut into) == Ok(0));
+    assert!(rt; source.failures() == 0);
 }
 
 #[test]
@@ -81,34 +104,77 @@ fn a_writer_of_std(rt: HostRuntime) {
     assert!(rt; sink.flush() == Ok(()));
     // A writer that takes nothing has failed.
     assert!(rt; sink.put(b"d") == Err(Failed));
-    assert_eq!(rt; sink.failures(), 1);
+    assert!(rt; sink.failures() == 1);
+}
+
+fn put(alloc: Global, files: &mut MemFiles, name: &str, bytes: &[u8]) -> bool {
+    match bytes.to_vec(alloc) {
+        Ok(copy) => files.put(alloc, name, copy).is_ok(),
+        Err(_) => false,
+    }
+}
+
+fn holds(files: &MemFiles, name: &str, bytes: &[u8]) -> bool {
+    files.get(name) == Some(bytes)
+}
+
+/// Whether a file that isn't there can't be read.
+fn is_missing(alloc: Global, files: &mut MemFiles, name: &str) -> bool {
+    matches!(&files.open(alloc, name), Err(FileFault::Read))
+}
+
+fn is_unwritable(alloc: Global, files: &mut MemFiles, name: &str) -> bool {
+    let unwritable = CreateFault::Fault(FileFault::Write);
+    matches!(&files.create(alloc, name), Err(fault) if *fault == unwritable)
+}
+
+/// Whether a file in place of `second` is there once it is closed.
+fn writes_third(alloc: Global, files: &mut MemFiles) -> bool {
+    match files.create(alloc, "A") {
+        Ok(mut out) => {
+            let is_put = out.put(b"third") == Ok(4);
+            let is_hidden = holds(files, "A", b"second");
+            is_put && is_hidden && files.close(out, Durability::Synced).is_ok()
+        }
+        Err(_) => false,
+    }
+}
+
+fn discards(alloc: Global, files: &mut MemFiles, name: &str) -> bool {
+    match files.create(alloc, name) {
+        Ok(out) => {
+            files.discard(out);
+            true
+        }
+        Err(_) => false,
+    }
 }
 
 #[test]
-fn files_by_their_names(rt: HostRuntime) -> Result<(), Fail> {
-    let alloc = rt.alloc();
-    let mut files = MemFiles::new(alloc, 4);
-    files.put(alloc, "A", b"first".to_vec(alloc)?)?;
-    files.put(alloc, "A", b"second".to_vec(alloc)?)?;
-    files.refuse(alloc, "B")?;
-    assert!(rt; files.get("A") == Some(b"second".as_slice()));
-    assert!(rt; matches!(&files.open(alloc, "C"), Err(FileFault::Read)));
-    let unwritable = CreateFault::Fault(FileFault::Write);
-    assert!(rt; matches!(&files.create(alloc, "B"), Err(fault) if *fault == unwritable));
-    let mut out = files.create(alloc, "A")?;
-    assert_eq!(rt; out.put(b"third"), Ok(4));
-    assert!(rt; files.get("A") == Some(b"second".as_slice()));
-    files.close(out, Durability::Synced)?;
-    assert!(rt; files.get("A") == Some(b"thir".as_slice()));
-    for name in ["A", "D"] {
-        let out = files.create(alloc, name)?;
-        files.discard(out);
-    }
-    assert!(rt; files.get("A") == Some(b"thir".as_slice()));
-    assert!(rt; files.get("D").is_none());
-    files.replace(alloc, "D", b"four", Durability::Buffered)?;
-    let long = files.replace(alloc, "D", b"fifth", Durability::Buffered);
-    assert!(rt; long == Err(FileFault::Write));
-    assert!(rt; files.get("D") == Some(b"four".as_slice()));
-    Ok(())
+fn files_by_their_names(rt: HostRuntime) {
+    let mut files = MemFiles::new(rt.alloc(), 4);
+    assert!(rt; put(rt.alloc(), &mut files, "A", b"first"));
+    assert!(rt; put(rt.alloc(), &mut files, "A", b"second"));
+    assert!(rt; files.refuse(rt.alloc(), "B").is_ok());
+    assert!(rt; holds(&files, "A", b"second"));
+    assert!(rt; is_missing(rt.alloc(), &mut files, "C"));
+    assert!(rt; is_unwritable(rt.alloc(), &mut files, "B"));
+    assert!(rt; writes_third(rt.alloc(), &mut files) && holds(&files, "A", b"thir"));
+    assert!(rt; discards_two(rt.alloc(), &mut files));
+    assert!(rt; replaces(rt.alloc(), &mut files));
+}
+
+/// Whether what was discarded leaves the files as they were.
+fn discards_two(alloc: Global, files: &mut MemFiles) -> bool {
+    discards(alloc, files, "A")
+        && discards(alloc, files, "D")
+        && holds(files, "A", b"thir")
+        && files.get("D").is_none()
+}
+
+/// Whether a file is replaced by four bytes, and not by five.
+fn replaces(alloc: Global, files: &mut MemFiles) -> bool {
+    files.replace(alloc, "D", b"four", Durability::Buffered) == Ok(())
+        && files.replace(alloc, "D", b"fifth", Durability::Buffered) == Err(FileFault::Write)
+        && holds(files, "D", b"four")
 }
