@@ -2,9 +2,8 @@
 
 use age_examples::{Counted, Either, Measure, seal_to, text_of};
 use age_file::{FileFault, MemSink, MemSource, Source};
-use age_keys::{FileKey, KnownKey, Passphrase, payload_key};
+use age_keys::{FileKey, KnownKey, Passphrase, PayloadKey, payload_key};
 use std::alloc::Global;
-use std::test::Fail;
 
 // The file key is the bytes 0 to 15, the payload nonce 100 to 115, and the one stanza, of type `x`,
 // has an empty body.
@@ -22,56 +21,86 @@ const PAYLOAD: [u8; 21] = [
     242, 45, 192, 47, 60, 28, 119, 239, 80, 217, 94, 243, 4, 221, 222, 33, 216, 251, 121, 226, 249,
 ];
 
-fn file(alloc: Global, payload: &[u8]) -> Result<Vec<u8>, Fail> {
-    let mut bytes = START.to_vec(alloc)?;
-    bytes.extend_from_slice(payload)?;
-    Ok(bytes)
+fn file(alloc: Global, payload: &[u8]) -> Option<Vec<u8>> {
+    let Ok(mut bytes) = START.to_vec(alloc) else {
+        return None;
+    };
+    match bytes.extend_from_slice(payload) {
+        Ok(()) => Some(bytes),
+        Err(_) => None,
+    }
+}
+
+/// What the example answers to a payload, under the key.
+fn known_text(alloc: Global, payload: &[u8]) -> Result<Vec<u8>, FileFault> {
+    match file(alloc, payload) {
+        Some(bytes) => text_of(alloc, &KnownKey::new(KEY), bytes),
+        None => Err(FileFault::Memory),
+    }
+}
+
+fn is_hello(answer: &Result<Vec<u8>, FileFault>) -> bool {
+    matches!(answer, Ok(text) if text.as_slice() == b"hello".as_slice())
+}
+
+fn is_damaged(answer: &Result<Vec<u8>, FileFault>) -> bool {
+    matches!(answer, Err(fault) if fault.number() == 17)
 }
 
 #[test]
-fn a_file_in_memory(rt: HostRuntime) -> Result<(), Fail> {
-    let alloc = rt.alloc();
-    let text = text_of(alloc, &KnownKey::new(KEY), file(alloc, &PAYLOAD)?)?;
-    assert_eq!(rt; text.as_slice(), b"hello".as_slice());
-    let cut = text_of(alloc, &KnownKey::new(KEY), file(alloc, &PAYLOAD[..20])?);
-    assert!(rt; matches!(cut, Err(fault) if fault.number() == 17));
-    Ok(())
+fn a_file_in_memory(rt: HostRuntime) {
+    assert!(rt; is_hello(&known_text(rt.alloc(), &PAYLOAD)));
+    assert!(rt; is_damaged(&known_text(rt.alloc(), &PAYLOAD[..20])));
 }
 
-#[test]
-fn the_second_of_two_keys(rt: HostRuntime) -> Result<(), Fail> {
-    let alloc = rt.alloc();
+fn opens_by_the_second(alloc: Global) -> bool {
     let Some(first) = Passphrase::new(b"another", 10) else {
-        return Ok(());
+        return false;
     };
     let both = Either {
         first,
         second: KnownKey::new(KEY),
     };
-    let text = text_of(alloc, &both, file(alloc, &PAYLOAD)?)?;
-    assert_eq!(rt; text.as_slice(), b"hello".as_slice());
-    Ok(())
+    match file(alloc, &PAYLOAD) {
+        Some(bytes) => is_hello(&text_of(alloc, &both, bytes)),
+        None => false,
+    }
 }
 
 #[test]
-fn bytes_that_are_counted(rt: HostRuntime) -> Result<(), Fail> {
-    let alloc = rt.alloc();
-    let mut source = Counted::new(MemSource::new(file(alloc, &PAYLOAD)?, 50, None));
+fn the_second_of_two_keys(rt: HostRuntime) {
+    assert!(rt; opens_by_the_second(rt.alloc()));
+}
+
+fn is_counted(source: MemSource) -> bool {
+    let mut source = Counted::new(source);
     let mut into = [0; 64];
-    assert!(rt; matches!(source.pull(&mut into), Ok(50)));
-    assert!(rt; matches!(source.pull(&mut into), Ok(50)));
-    assert_eq!(rt; source.count(), 100);
-    Ok(())
+    source.pull(&mut into) == Ok(50) && source.pull(&mut into) == Ok(50) && source.count() == 100
 }
 
 #[test]
-fn a_payload_that_is_kept_or_measured(rt: HostRuntime) -> Result<(), Fail> {
+fn bytes_that_are_counted(rt: HostRuntime) {
+    let Some(bytes) = file(rt.alloc(), &PAYLOAD) else {
+        assert!(rt; false, "no memory");
+        return;
+    };
+    assert!(rt; is_counted(MemSource::new(bytes, 50, None)));
+}
+
+fn is_payload_kept(alloc: Global, key: &PayloadKey) -> bool {
+    match MemSink::new(alloc, 100, 7, None) {
+        Ok(mut kept) => {
+            seal_to(key, b"hello", &mut kept).is_ok() && kept.bytes() == PAYLOAD.as_slice()
+        }
+        Err(_) => false,
+    }
+}
+
+#[test]
+fn a_payload_that_is_kept_or_measured(rt: HostRuntime) {
     let key = payload_key(&FileKey::new(KEY), &NONCE);
-    let mut kept = MemSink::new(rt.alloc(), 100, 7, None)?;
-    seal_to(&key, b"hello", &mut kept)?;
-    assert_eq!(rt; kept.bytes(), PAYLOAD.as_slice());
+    assert!(rt; is_payload_kept(rt.alloc(), &key));
     let mut measured = Measure { count: 0 };
-    seal_to(&key, b"hello", &mut measured)?;
-    assert_eq!(rt; measured.count, 21);
-    Ok(())
+    assert!(rt; seal_to(&key, b"hello", &mut measured).is_ok());
+    assert!(rt; measured.count == 21);
 }
