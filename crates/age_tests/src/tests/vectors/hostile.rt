@@ -8,10 +8,38 @@ use std::alloc::Global;
 
 /// What a drill leaves of hostile bytes.
 pub(super) fn hostile_rows(alloc: Global) -> bool {
-    (0..=58).all(|cut| is_cut_right(alloc, cut))
-        && (0..6).all(|order| is_order_right(alloc, order))
-        && (0..=3).all(|k| is_restart_right(alloc, k))
+    are_cuts_right(alloc)
+        && are_orders_right(alloc)
+        && are_restarts_right(alloc)
         && are_bits_right(alloc)
+}
+
+// (A loop takes less to prove than a closure.)
+fn are_cuts_right(alloc: Global) -> bool {
+    for cut in 0..59 {
+        if !is_cut_right(alloc, cut) {
+            return false;
+        }
+    }
+    true
+}
+
+fn are_orders_right(alloc: Global) -> bool {
+    for order in 0..6 {
+        if !is_order_right(alloc, order) {
+            return false;
+        }
+    }
+    true
+}
+
+fn are_restarts_right(alloc: Global) -> bool {
+    for chunk in 0..4 {
+        if !is_restart_right(alloc, chunk) {
+            return false;
+        }
+    }
+    true
 }
 
 /// What is expected of a drill.
@@ -175,7 +203,12 @@ fn are_bits_right(alloc: Global) -> bool {
     let Ok(sealed) = seal_all::<PayloadKey, 20>(alloc, &key, b"abcdefghij") else {
         return false;
     };
-    (0..58 * 8).all(|bit| is_bit_right(alloc, &key, sealed.as_slice(), bit))
+    for bit in 0..58 * 8 {
+        if !is_bit_right(alloc, &key, sealed.as_slice(), bit) {
+            return false;
+        }
+    }
+    true
 }
 
 fn is_bit_right(alloc: Global, key: &PayloadKey, sealed: &[u8], bit: usize) -> bool {

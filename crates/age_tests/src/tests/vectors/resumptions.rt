@@ -93,8 +93,17 @@ fn goes_on_from(alloc: Global, example: &Example, position: Position, old: &[u8]
 
 // The first pull gives header and nonce.
 fn goes_on_from_each_stop(alloc: Global, example: &Example) -> bool {
-    (1..22).all(|pull| goes_on_from_stop(alloc, example, Failure::Pull(pull)))
-        && (0..23).all(|put| goes_on_from_stop(alloc, example, Failure::Put(put)))
+    for pull in 1..22 {
+        if !goes_on_from_stop(alloc, example, Failure::Pull(pull)) {
+            return false;
+        }
+    }
+    for put in 0..23 {
+        if !goes_on_from_stop(alloc, example, Failure::Put(put)) {
+            return false;
+        }
+    }
+    true
 }
 
 fn goes_on_from_stop(alloc: Global, example: &Example, failure: Failure) -> bool {
@@ -223,9 +232,22 @@ fn refuses_old_texts(alloc: Global, example: &Example, rest: &Rest<'_>) -> bool 
 // Twenty-one pulls give the file, and one more tells the end; fourteen give the old text. Fifteen
 // puts take the copy, eight the rest, and the flush is one more call.
 fn stops_in_turn(alloc: Global, example: &Example, rest: &Rest<'_>) -> bool {
-    (0..22).all(|pull| stops(alloc, example, rest, Failure::Pull(pull), read_after(pull)))
-        && (0..24).all(|put| stops(alloc, example, rest, Failure::Put(put), put_after(put)))
-        && (0..14).all(|pull| stops_in_old(alloc, rest, pull))
+    for pull in 0..22 {
+        if !stops(alloc, example, rest, Failure::Pull(pull), read_after(pull)) {
+            return false;
+        }
+    }
+    for put in 0..24 {
+        if !stops(alloc, example, rest, Failure::Put(put), put_after(put)) {
+            return false;
+        }
+    }
+    for pull in 0..14 {
+        if !stops_in_old(alloc, rest, pull) {
+            return false;
+        }
+    }
+    true
 }
 
 // The calls after those that a run makes.

@@ -138,17 +138,33 @@ pub(super) fn decrypted(
 // Twenty pulls give bytes, and one more tells the end. The front takes one put, each of three
 // blocks seven, the last block one, and the flush is one more call.
 fn encrypt_rows(alloc: Global, example: &Example) -> bool {
-    (0..21).all(|pull| stops_encrypting(alloc, example, Failure::Pull(pull), sealed_after(pull)))
-        && (0..24).all(|put| stops_encrypting(alloc, example, Failure::Put(put), file_after(put)))
-        && encrypts_all(alloc, example, Failure::Pull(21))
+    for pull in 0..21 {
+        if !stops_encrypting(alloc, example, Failure::Pull(pull), sealed_after(pull)) {
+            return false;
+        }
+    }
+    for put in 0..24 {
+        if !stops_encrypting(alloc, example, Failure::Put(put), file_after(put)) {
+            return false;
+        }
+    }
+    encrypts_all(alloc, example, Failure::Pull(21))
         && encrypts_all(alloc, example, Failure::Put(24))
 }
 
 // Twenty-one pulls give bytes, and one more tells the end. There is no front to put.
 fn decrypt_rows(alloc: Global, example: &Example) -> bool {
-    (0..22).all(|pull| stops_decrypting(alloc, example, Failure::Pull(pull), opened_after(pull)))
-        && (0..23).all(|put| stops_decrypting(alloc, example, Failure::Put(put), text_after(put)))
-        && decrypts_all(alloc, example, Failure::Pull(22))
+    for pull in 0..22 {
+        if !stops_decrypting(alloc, example, Failure::Pull(pull), opened_after(pull)) {
+            return false;
+        }
+    }
+    for put in 0..23 {
+        if !stops_decrypting(alloc, example, Failure::Put(put), text_after(put)) {
+            return false;
+        }
+    }
+    decrypts_all(alloc, example, Failure::Pull(22))
         && decrypts_all(alloc, example, Failure::Put(23))
 }
 
