@@ -304,13 +304,28 @@ fn each_byte_of_a_payload_changed(rt: HostRuntime) {
     }
 }
 
-/// How the decryption of `hello` under another key ends; it ought to write nothing.
-fn hello_under_another_key(alloc: Global) -> Option<Outcome> {
-    let mut source = MemSource::new(hello_file(alloc)?, 50, None);
-    match MemSink::new(alloc, 5, 5, None) {
+/// How the decryption of `hello` ends under a key of these bytes, into a sink of this room.
+fn hello_under(alloc: Global, key: [u8; 16], positions: Positions, room: usize) -> Option<Outcome> {
+    match hello_file(alloc) {
+        Some(file) => {
+            let mut source = MemSource::new(file, 50, None);
+            opened_under(alloc, &KnownKey::new(key), positions, &mut source, room)
+        }
+        None => None,
+    }
+}
+
+fn opened_under(
+    alloc: Global,
+    key: &KnownKey,
+    positions: Positions,
+    source: &mut MemSource,
+    room: usize,
+) -> Option<Outcome> {
+    match MemSink::new(alloc, room, 5, None) {
         Ok(mut sink) => {
-            let answer = decrypt(alloc, &KnownKey::new([7; 16]), &mut source, &mut sink);
-            outcome_of(&answer, sink.bytes(), b"")
+            let answer = decrypt_with(alloc, positions, key, source, &mut sink);
+            outcome_of(&answer, sink.bytes(), b"hello")
         }
         Err(_) => None,
     }
@@ -318,7 +333,8 @@ fn hello_under_another_key(alloc: Global) -> Option<Outcome> {
 
 #[test]
 fn another_key(rt: HostRuntime) {
-    assert!(rt; ends(&hello_under_another_key(rt.alloc()), 14, 0, None));
+    let outcome = hello_under(rt.alloc(), [7; 16], Positions::Kept, 5);
+    assert!(rt; ends(&outcome, 14, 0, None));
 }
 
 /// How the decryption of `hello` ends where this pull fails.
@@ -345,23 +361,11 @@ fn each_pull_fails_in_turn(rt: HostRuntime) {
     assert!(rt; ends(&hello_pulled(rt.alloc(), 18), 0, 5, None));
 }
 
-/// How the decryption of `hello` ends that keeps no positions, into a sink of two bytes.
-fn hello_without_positions(alloc: Global) -> Option<Outcome> {
-    let mut source = MemSource::new(hello_file(alloc)?, 50, None);
-    match MemSink::new(alloc, 2, 5, None) {
-        Ok(mut sink) => {
-            let unlock = KnownKey::new(KEY);
-            let answer = decrypt_with(alloc, Positions::Dropped, &unlock, &mut source, &mut sink);
-            outcome_of(&answer, sink.bytes(), b"hello")
-        }
-        Err(_) => None,
-    }
-}
-
 // A stop hands out no position where positions are dropped.
 #[test]
 fn dropped_positions(rt: HostRuntime) {
-    assert!(rt; ends(&hello_without_positions(rt.alloc()), 27, 2, None));
+    let outcome = hello_under(rt.alloc(), KEY, Positions::Dropped, 2);
+    assert!(rt; ends(&outcome, 27, 2, None));
 }
 
 /// How the decryption of `hello` ends where this put fails.

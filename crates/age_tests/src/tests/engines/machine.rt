@@ -72,23 +72,17 @@ fn a_read_that_fails_is_told_and_counted(rt: HostRuntime) {
     assert!(rt; source.pull(&mut into) == Ok(0) && source.failures() == 1);
 }
 
-/// How a decryption of `hello` ends whose writer fails at this call, and the number of its
-/// failures.
-fn writer_fails(alloc: Global, fail_call: u32, len: usize) -> Option<(Option<Outcome>, u64)> {
-    let file = hello_file(alloc)?;
+/// Whether a decryption of `hello` whose writer fails at this call holds so many bytes then.
+fn stops_at_write(alloc: Global, file: &[u8], fail_call: u32, len: usize) -> bool {
     let mut held = [0u8; 5];
-    let mut source = Reading::new(file.as_slice());
+    let mut source = Reading::new(file);
     let mut sink = Writing::new(FailsAt::new(held.as_mut_slice(), fail_call));
     let answer = decrypt(alloc, &KnownKey::new(KEY), &mut source, &mut sink);
-    let failures = sink.failures();
-    let written = held.get(..len)?;
-    Some((outcome_of(&answer, written, b"hello"), failures))
-}
-
-/// Whether a decryption of `hello` whose writer fails at this call holds so many bytes then.
-fn stops_at_write(alloc: Global, fail_call: u32, len: usize) -> bool {
-    match writer_fails(alloc, fail_call, len) {
-        Some((outcome, failures)) => failures == 1 && ends(&outcome, 27, len, Some(0)),
+    let has_failed = sink.failures() == 1;
+    match held.get(..len) {
+        Some(written) => {
+            has_failed && ends(&outcome_of(&answer, written, b"hello"), 27, len, Some(0))
+        }
         None => false,
     }
 }
@@ -96,17 +90,18 @@ fn stops_at_write(alloc: Global, fail_call: u32, len: usize) -> bool {
 // One write takes the whole text, and a flush follows it.
 #[test]
 fn a_writer_fails_in_a_decryption(rt: HostRuntime) {
-    assert!(rt; stops_at_write(rt.alloc(), 0, 0));
-    assert!(rt; stops_at_write(rt.alloc(), 1, 5));
+    let Some(file) = hello_file(rt.alloc()) else {
+        assert!(rt; false, "no memory");
+        return;
+    };
+    assert!(rt; stops_at_write(rt.alloc(), file.as_slice(), 0, 0));
+    assert!(rt; stops_at_write(rt.alloc(), file.as_slice(), 1, 5));
 }
 
 /// Whether a decryption whose first read fails is told so, and writes nothing.
-fn stops_at_read(alloc: Global) -> bool {
-    let Some(file) = hello_file(alloc) else {
-        return false;
-    };
+fn stops_at_read(alloc: Global, file: &[u8]) -> bool {
     let mut held = [0u8; 5];
-    let mut source = Reading::new(FailsAt::new(file.as_slice(), 0));
+    let mut source = Reading::new(FailsAt::new(file, 0));
     let mut sink = Writing::new(held.as_mut_slice());
     let answer = decrypt(alloc, &KnownKey::new(KEY), &mut source, &mut sink);
     let outcome = outcome_of(&answer, b"", b"hello");
@@ -115,5 +110,9 @@ fn stops_at_read(alloc: Global) -> bool {
 
 #[test]
 fn a_reader_fails_in_a_decryption(rt: HostRuntime) {
-    assert!(rt; stops_at_read(rt.alloc()));
+    let Some(file) = hello_file(rt.alloc()) else {
+        assert!(rt; false, "no memory");
+        return;
+    };
+    assert!(rt; stops_at_read(rt.alloc(), file.as_slice()));
 }
