@@ -86,13 +86,18 @@ fn what_is_written_before_a_failure_is_counted(rt: HostRuntime) {
     assert!(rt; sink.into_bytes().as_slice() == b"abcde".as_slice());
 }
 
+/// Whether a source gives so many bytes to a pull of two.
+fn gives(source: &mut Reading<&[u8]>, len: usize) -> bool {
+    let mut into = [0u8; 2];
+    source.pull(&mut into) == Ok(len)
+}
+
 #[test]
 fn a_reader_of_std(rt: HostRuntime) {
     let mut source = Reading::new(b"abc".as_slice());
-    let mut into = [0u8; 2];
-    assert!(rt; source.pull(&mut into) == Ok(2));
-    assert!(rt; source.pull(&mut into) == Ok(1));
-    assert!(rt; source.pull(&mut into) == Ok(0));
+    assert!(rt; gives(&mut source, 2));
+    assert!(rt; gives(&mut source, 1));
+    assert!(rt; gives(&mut source, 0));
     assert!(rt; source.failures() == 0);
 }
 
