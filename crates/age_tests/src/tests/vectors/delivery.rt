@@ -87,12 +87,19 @@ fn leaves(
 ) -> bool {
     let key = ClearBox;
     let mut replay = Replay::<ClearBox, 20>::new(alloc, &key);
+    are_taken(&mut replay, deliveries)
+        && replay.text() == text
+        && replay.index() == index
+        && replay.status() == status
+}
+
+fn are_taken(replay: &mut Replay<'_, ClearBox, 20>, deliveries: &[Delivery<'_>]) -> bool {
     for delivery in deliveries {
         if replay.take(delivery).is_err() {
             return false;
         }
     }
-    replay.text() == text && replay.index() == index && replay.status() == status
+    true
 }
 
 pub(super) fn failed(kind: StreamKind, chunk: u64) -> Status {
@@ -175,15 +182,20 @@ fn restart_rows(alloc: Global) -> bool {
 fn byte_by_byte(alloc: Global) -> bool {
     let key = ClearBox;
     let mut replay = Replay::<ClearBox, 20>::new(alloc, &key);
-    for byte in EIGHT {
-        if replay.take(&Delivery::Piece(&[*byte])).is_err() {
-            return false;
-        }
-    }
-    replay.take(&Delivery::End).is_ok()
+    are_bytes_taken(&mut replay, EIGHT)
+        && replay.take(&Delivery::End).is_ok()
         && replay.text() == b"abcdefgh".as_slice()
         && replay.index() == 1
         && replay.status() == Status::Done
+}
+
+fn are_bytes_taken(replay: &mut Replay<'_, ClearBox, 20>, bytes: &[u8]) -> bool {
+    for byte in bytes.chunks(1) {
+        if replay.take(&Delivery::Piece(byte)).is_err() {
+            return false;
+        }
+    }
+    true
 }
 
 // A block at the greatest number is the last one, or one too many.

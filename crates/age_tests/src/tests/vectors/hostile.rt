@@ -86,19 +86,27 @@ fn leaves_at_once<B: ChunkBox>(
 fn by_bytes<'a>(alloc: Global, events: &[Delivery<'a>]) -> Option<Vec<Delivery<'a>>> {
     let mut cut = Vec::new(alloc);
     for event in events {
-        match *event {
-            Delivery::Piece(piece) => push_bytes(&mut cut, piece)?,
-            other => cut.push(other).ok()?,
+        if !push_event(&mut cut, event) {
+            return None;
         }
     }
     Some(cut)
 }
 
-fn push_bytes<'a>(cut: &mut Vec<Delivery<'a>>, piece: &'a [u8]) -> Option<()> {
-    for byte in piece.chunks(1) {
-        cut.push(Delivery::Piece(byte)).ok()?;
+fn push_event<'a>(cut: &mut Vec<Delivery<'a>>, event: &Delivery<'a>) -> bool {
+    match *event {
+        Delivery::Piece(piece) => push_bytes(cut, piece),
+        other => cut.push(other).is_ok(),
     }
-    Some(())
+}
+
+fn push_bytes<'a>(cut: &mut Vec<Delivery<'a>>, piece: &'a [u8]) -> bool {
+    for byte in piece.chunks(1) {
+        if cut.push(Delivery::Piece(byte)).is_err() {
+            return false;
+        }
+    }
+    true
 }
 
 // The payload cut after so many bytes.
