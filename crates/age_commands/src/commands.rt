@@ -218,10 +218,7 @@ fn with_arguments<'a>(
 {
     let mut whole = plain;
     for argument in arguments {
-        match whole.arg(arg_of(alloc, argument)) {
-            Ok(longer) => whole = longer,
-            Err(refused) => return Err(refused),
-        }
+        whole = whole.arg(arg_of(alloc, argument))?;
     }
     Ok(whole)
 }
@@ -243,13 +240,7 @@ fn with_command<'a>(
     ensures { (a : App) → HasApp a program.entry
         → IfOk result (HasApp (with_subcommand a (app_as sub.now).top)) }
 {
-    match command_of(alloc, sub) {
-        Ok(command) => program.subcommand(command),
-        Err(refused) => {
-            drop(program);
-            Err(refused)
-        }
-    }
+    program.subcommand(command_of(alloc, sub)?)
 }
 
 fn with_commands<'a>(
@@ -262,10 +253,7 @@ fn with_commands<'a>(
 {
     let mut whole = bare;
     for sub in subs {
-        match with_command(alloc, whole, sub) {
-            Ok(longer) => whole = longer,
-            Err(refused) => return Err(refused),
-        }
+        whole = with_command(alloc, whole, sub)?;
     }
     Ok(whole)
 }
@@ -292,10 +280,7 @@ fn bare<'a>(alloc: Global) -> Result<Command<'a>, AllocError>
 fn program<'a>(alloc: Global) -> Result<Command<'a>, AllocError>
     ensures { IfOk result (HasApp age_tool) }
 {
-    match bare(alloc) {
-        Ok(bare) => with_commands(alloc, bare, COMMANDS),
-        Err(refused) => Err(refused),
-    }
+    with_commands(alloc, bare(alloc)?, COMMANDS)
 }
 
 /// What the command line gives for each argument.
@@ -303,8 +288,5 @@ pub(crate) fn matches_of<'a>(alloc: Global, words: &'a [&'a str]) -> Result<ArgM
     ensures matches { IfOk result (λ m. subcommand_rows_of m ≡ named (texts words.now)) }
     ensures refusals { FailsBy (refusals (texts words.now)) result }
 {
-    match program(alloc) {
-        Ok(program) => program.try_get_matches_from(words),
-        Err(refused) => Err(refused.into()),
-    }
+    program(alloc)?.try_get_matches_from(words)
 }

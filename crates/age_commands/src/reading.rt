@@ -79,22 +79,14 @@ fn command_of<'m, 'a>(matches: &'m ArgMatches<'a>) -> Option<(&'a str, &'m ArgMa
 fn encrypting<'a>(matches: &ArgMatches<'a>) -> Option<Encrypting<'a>>
     ensures { IfSome result (IsEncrypting (rows_of (found_of matches.now))) }
 {
-    let (Some(pass), Some(log), Some(from), Some(to)) = (
-        text(matches, "pass"),
-        number(matches, "log", 18),
-        text(matches, "IN"),
-        text(matches, "OUT"),
-    ) else {
-        return None;
-    };
     Some(Encrypting {
-        pass,
-        log,
+        pass: text(matches, "pass")?,
+        log: number(matches, "log", 18)?,
         random: text(matches, "random"),
         durability: durability(matches),
         progress: progress(matches),
-        from,
-        to,
+        from: text(matches, "IN")?,
+        to: text(matches, "OUT")?,
     })
 }
 
@@ -112,51 +104,34 @@ fn unlocking<'a>(matches: &ArgMatches<'a>) -> Option<Unlocking<'a>>
 fn decrypting<'a>(matches: &ArgMatches<'a>) -> Option<Decrypting<'a>>
     ensures { IfSome result (IsDecrypting (rows_of (found_of matches.now))) }
 {
-    let (Some(unlocking), Some(from), Some(to)) = (
-        unlocking(matches),
-        text(matches, "IN"),
-        text(matches, "OUT"),
-    ) else {
-        return None;
-    };
     Some(Decrypting {
-        unlocking,
+        unlocking: unlocking(matches)?,
         save: text(matches, "save"),
         durability: durability(matches),
         progress: progress(matches),
-        from,
-        to,
+        from: text(matches, "IN")?,
+        to: text(matches, "OUT")?,
     })
 }
 
 fn resuming<'a>(matches: &ArgMatches<'a>) -> Option<Resuming<'a>>
     ensures { IfSome result (IsResuming (rows_of (found_of matches.now))) }
 {
-    let (Some(decrypting), Some(position), Some(old)) = (
-        decrypting(matches),
-        text(matches, "position"),
-        text(matches, "old"),
-    ) else {
-        return None;
-    };
     Some(Resuming {
-        decrypting,
-        position,
-        old,
+        decrypting: decrypting(matches)?,
+        position: text(matches, "position")?,
+        old: text(matches, "old")?,
     })
 }
 
 fn drilling<'a>(matches: &ArgMatches<'a>) -> Option<Drilling<'a>>
     ensures { IfSome result (IsDrilling (rows_of (found_of matches.now))) }
 {
-    let (Some(script), Some(from)) = (text(matches, "SCRIPT"), text(matches, "IN")) else {
-        return None;
-    };
     Some(Drilling {
         clear: flag(matches, "clear"),
         pass: text(matches, "pass"),
-        script,
-        from,
+        script: text(matches, "SCRIPT")?,
+        from: text(matches, "IN")?,
     })
 }
 
@@ -185,11 +160,9 @@ pub fn read_request<'a>(alloc: Global, words: &'a [&'a str]) -> Result<Option<Re
     ensures asked { IfOk result (λ o. IfSome o (Requests (texts words.now))) }
     ensures refusals { FailsBy (refusals (texts words.now)) result }
 {
-    match matches_of(alloc, words) {
-        Ok(matches) => match command_of(&matches) {
-            Some((name, inner)) => Ok(request_of(name, inner)),
-            None => Ok(None),
-        },
-        Err(refused) => Err(refused),
+    let matches = matches_of(alloc, words)?;
+    match command_of(&matches) {
+        Some((name, inner)) => Ok(request_of(name, inner)),
+        None => Ok(None),
     }
 }

@@ -8,19 +8,19 @@ use Rattle.age_commands.specs.Asked.{named, refusals}
 use Rattle.age_commands.proofs.Simple.{is_simple-age_tool, is_free-age_tool}
 use Rattle.age_commands.proofs.commands.matches_of.Goals as goal
 
-pub returns-in-Ok-clause-matches : goal.returns-in-Ok-clause-matches
+pub returns-clause-matches : goal.returns-clause-matches
 unfolding named
-returns-in-Ok-clause-matches c =
-    let program_is : app_of c.in-Ok.program ≡ age_tool = c.in-Ok.ensures.0 in
+returns-clause-matches c =
+    let program_is : app_of c.in_ok-program.field-0 ≡ age_tool = c.in_ok-program.ensures.0 in
     let words = texts c.args.words.now in
     let parse = c.try_get_matches_from in
     IfOk-weaker parse.result _ _ (λ m h. (h (ap is_simple program_is ∙ is_simple-age_tool)).1
     ∙ ap (λ (a : App). subcommand_of a (texts c.args.words.now)) program_is) parse.ensures.matches
 
-pub returns-in-Ok-clause-refusals : goal.returns-in-Ok-clause-refusals
+pub returns-clause-refusals : goal.returns-clause-refusals
 unfolding refusals
-returns-in-Ok-clause-refusals c =
-    let program_is : app_of c.in-Ok.program ≡ age_tool = c.in-Ok.ensures.0 in
+returns-clause-refusals c =
+    let program_is : app_of c.in_ok-program.field-0 ≡ age_tool = c.in_ok-program.ensures.0 in
     let parse = c.try_get_matches_from in
     fails_as parse.result _ _ (ap (λ (a : App). fault_of a (texts c.args.words.now)) program_is) (parse.ensures.kinds (ap is_simple_and_free program_is
     ∙ is_free-age_tool))

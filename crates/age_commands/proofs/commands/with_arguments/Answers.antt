@@ -10,7 +10,7 @@ loop-argument-init c a h = (ap (λ (x : App). with_all x c.args.arguments.now) h
 pub loop-argument-preserved : goal.loop-argument-preserved
 loop-argument-preserved c a h =
     let rest = c.loop-argument.invariant a h in
-    let added = c.in-Ok.ensures in
+    let added = c.in_ok-whole.ensures in
     let local = c.arg_of.ensures.local in
     (add_one _ _ _ _ _ _ c.loop-argument-test.true (added.shape local) c.arg_of.ensures.rule ∙ rest.0, neither _ _ _ added.globals rest.1 local)
 

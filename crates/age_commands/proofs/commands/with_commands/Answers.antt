@@ -10,7 +10,7 @@ loop-sub-init c a h = (ap (λ (x : App). with_subcommands x c.args.subs.now) h.0
 pub loop-sub-preserved : goal.loop-sub-preserved
 loop-sub-preserved c a h =
     let rest = c.loop-sub.invariant a h in
-    let longer = c.in-Ok.ensures _ (refl, rest.1) in
+    let longer = c.in_ok-whole.ensures _ (refl, rest.1) in
     (add_command _ _ _ _ _ c.loop-sub-test.true longer.0 ∙ rest.0, longer.1)
 
 pub returns : goal.returns
