@@ -35,21 +35,16 @@ fn read_lines(partial: &mut PartialHeader, bytes: &[u8]) -> Result<HeadStep, Hea
 {
     let mut rest = bytes;
     while let Some(end) = line_end(rest) {
-        match partial.end_line(&rest[..end]) {
-            Ok(None) => rest = &rest[end + 1..],
-            Ok(Some(header)) => {
-                return Ok(HeadStep::Ready {
-                    taken: bytes.len() - rest.len() + end + 1,
-                    header,
-                });
-            }
-            Err(fault) => return Err(fault),
+        if let Some(header) = partial.end_line(&rest[..end])? {
+            return Ok(HeadStep::Ready {
+                taken: bytes.len() - rest.len() + end + 1,
+                header,
+            });
         }
+        rest = &rest[end + 1..];
     }
-    match partial.extend(rest) {
-        Ok(()) => Ok(HeadStep::More),
-        Err(fault) => Err(fault),
-    }
+    partial.extend(rest)?;
+    Ok(HeadStep::More)
 }
 
 /// Takes a piece, of which no more than the limit allows is read.
@@ -58,14 +53,13 @@ pub(crate) fn take_piece(partial: &mut PartialHeader, piece: &[u8]) -> Result<He
     ensures { TakesPiece partial.old piece.now result partial.new }
 {
     let room = HEAD_MAX - partial.len();
-    match read_lines(partial, first_bytes(piece, room)) {
-        Ok(HeadStep::More) => {
+    match read_lines(partial, first_bytes(piece, room))? {
+        HeadStep::Ready { taken, header } => Ok(HeadStep::Ready { taken, header }),
+        HeadStep::More => {
             if partial.len() == HEAD_MAX {
                 return Err(partial.too_long_fault());
             }
             Ok(HeadStep::More)
         }
-        Ok(HeadStep::Ready { taken, header }) => Ok(HeadStep::Ready { taken, header }),
-        Err(fault) => Err(fault),
     }
 }

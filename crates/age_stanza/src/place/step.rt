@@ -73,9 +73,7 @@ fn body_line(
 ) -> Result<Next, HeadKind>
     ensures { Gives result (step_of (Place.InBody stanzas args body) line.now) }
 {
-    if let Err(kind) = add_line(&mut body, line) {
-        return Err(kind);
-    }
+    add_line(&mut body, line)?;
     if line.len() == 64 {
         return Ok(Next::Go(Place::InBody(stanzas, args, body)));
     }

@@ -1,4 +1,5 @@
 use Rattle.std.proofs.Common.{◌+◌, length, ap, sym, arith, refl}
+use Rattle.std.proofs.lemmas.Result.{err_from_is_err_and}
 use Rattle.std.proofs.lemmas.List.{length-append, length-take, take_rest}
 use Rattle.age_stanza.proofs.LineEnds.{first_line, no_line, faulty_at, ready_at, left_behind}
 use Rattle.age_stanza.proofs.piece.read_lines.Goals as goal
@@ -19,19 +20,20 @@ end_line-requires-clause-within c =
       length-take c.in-Some.end c.loop-end.rest.now,
     )
 
-pub returns-in-Err : goal.returns-in-Err
-returns-in-Err c =
-    faulty_at _ _ _ _ _ _ (first_line _ _ (sym c.in-Some.ensures)) c.loop-end.invariant.same refl c.in-Err.ensures
+pub returns-in_err-header : goal.returns-in_err-header
+returns-in_err-header c =
+    let p = err_from_is_err_and c.from_residual.result c.from_residual.ensures.1 in
+    rw (p.1, p.2) (faulty_at _ _ _ _ _ _ (first_line _ _ (sym c.in-Some.ensures)) c.loop-end.invariant.same refl c.in_err-header.ensures)
 
-pub returns-in-Ok-Some : goal.returns-in-Ok-Some
-returns-in-Ok-Some c =
+pub returns-in-Some-2 : goal.returns-in-Some-2
+returns-in-Some-2 c =
     let left = c.loop-end.invariant in
-    let finds = rw c.in-Ok-Some.field-0-is at c.in-Ok-Some.ensures in
+    let finds = rw (c.in-Some-2.is) at c.in_ok-header.ensures in
     ready_at _ _ _ _ _ _ _ (first_line _ _ (sym c.in-Some.ensures)) left.within left.suffix left.same refl finds
 
 pub loop-end-preserved : goal.loop-end-preserved
 loop-end-preserved c =
-    let goes = rw c.in-Ok-None.field-0-is at c.in-Ok-None.ensures in
+    let goes = rw (c.in_default-2.is) at c.in_ok-header.ensures in
     rw (take_rest c.loop-end.rest.now (c.in-Some.end + 1)) (left_behind _ _ _ _ _ _ _ (first_line c.loop-end.rest.now c.in-Some.end (sym c.in-Some.ensures))
     c.loop-end.invariant refl goes)
 

@@ -1,4 +1,5 @@
 use Rattle.std.proofs.Common.{◌++◌, ◌-◌, ◌∙◌, ℕ, List, length, take, sym, ap, arith, inr}
+use Rattle.std.proofs.lemmas.Result.{err_from_is_err_and}
 use Rattle.base64.specs.GeneralPurpose.{IsBytes}
 use Rattle.age_stanza.specs.declared.fault.HeadKind.TheVariants.{HeadTooLong}
 use Rattle.age_stanza.specs.Faults.{line_after}
@@ -6,28 +7,29 @@ use Rattle.age_stanza.proofs.Texts.{IsBytes-append, IsBytes-take}
 use Rattle.age_stanza.proofs.Pieces.{found_in, none_in, none_yet}
 use Rattle.age_stanza.proofs.piece.take_piece.Goals as goal
 
-pub returns-in-Err : goal.returns-in-Err
-returns-in-Err c =
+pub returns-in_err-taken : goal.returns-in_err-taken
+returns-in_err-taken c =
     let room : ℕ = 1048576 - c.len-room.result in
     let fits = c.type_inv.piece in
     let bytes : IsBytes (c.args.partial.now ++ take room c.args.piece.now) =
     IsBytes-append _ _ c.len-room.ensures.known.are_bytes (IsBytes-take room _ (λ i. omega (arith, fits i))) in
-    none_in c.args.partial.now c.args.piece.now room _ (omega (arith, c.len-room.ensures.len)) c.requires bytes
-    (rw c.first_bytes.ensures at c.in-Err.ensures)
+    let p = err_from_is_err_and c.from_residual.result c.from_residual.ensures.1 in
+    rw (p.1, p.2) (none_in c.args.partial.now c.args.piece.now room _ (omega (arith, c.len-room.ensures.len)) c.requires bytes
+    (rw c.first_bytes.ensures at c.in_err-taken.ensures))
 
 pub returns-then-len-eq-HEAD_MAX : goal.returns-then-len-eq-HEAD_MAX
 returns-then-len-eq-HEAD_MAX c =
     let room : ℕ = 1048576 - c.len-room.result in
-    let goes = rw (c.in-Ok-More.field-0-is, c.first_bytes.ensures) at c.in-Ok-More.ensures in
+    let goes = rw (c.in-More.is, c.first_bytes.ensures) at c.in_ok-taken.ensures in
     inr (none_yet c.args.partial.now c.args.piece.now room _ (omega (arith, c.len-room.ensures.len)) c.requires (rw goes at c.len.ensures.known)
     (ap length (sym goes) ∙ sym c.len.ensures.len ∙ c.if-len-eq-HEAD_MAX.true) (c.too_long_fault.ensures
     ∙ ap (λ (t : List ℕ). record { kind = HeadTooLong; line = line_after (take 1048575 t) }) goes))
 
-pub returns-in-Ok-Ready : goal.returns-in-Ok-Ready
-returns-in-Ok-Ready c =
+pub returns-in-Ready : goal.returns-in-Ready
+returns-in-Ready c =
     let room : ℕ = 1048576 - c.len-room.result in
     let fits = c.type_inv.piece in
     let bytes : IsBytes (c.args.partial.now ++ take room c.args.piece.now) =
     IsBytes-append _ _ c.len-room.ensures.known.are_bytes (IsBytes-take room _ (λ i. omega (arith, fits i))) in
-    let finds = rw (c.in-Ok-Ready.field-0-is, c.first_bytes.ensures) at c.in-Ok-Ready.ensures in
+    let finds = rw (c.in-Ready.is, c.first_bytes.ensures) at c.in_ok-taken.ensures in
     found_in c.args.partial.now c.args.piece.now room _ _ (omega (arith, c.len-room.ensures.len)) c.requires c.len-room.ensures.known bytes finds.0 finds.1
