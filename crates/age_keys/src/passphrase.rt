@@ -79,9 +79,7 @@ impl<'a> Unlock for Passphrase<'a> {
         if read.log > self.max_log {
             return Err(KeyFault::WorkTooHigh);
         }
-        match wrap_key(alloc, self.bytes, &read.salt, read.log) {
-            Ok(wrap_key) => unwrapped_key(&wrap_key, &read.body).ok_or(KeyFault::WrongKey),
-            Err(fault) => Err(fault),
-        }
+        let wrap_key = wrap_key(alloc, self.bytes, &read.salt, read.log)?;
+        unwrapped_key(&wrap_key, &read.body).ok_or(KeyFault::WrongKey)
     }
 }
