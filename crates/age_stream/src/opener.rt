@@ -102,10 +102,8 @@ impl<'k, B: ChunkBox, const SEALED: usize> OpenerState<'k, B, SEALED> {
         }
         push_bytes(&mut self.buffer, &piece[..room]);
         self.lent = true;
-        match self.try_block() {
-            Ok(()) => Ok((room, true)),
-            Err(fault) => Err(fault),
-        }
+        self.try_block()?;
+        Ok((room, true))
     }
 
     // Takes nothing more.

@@ -1,5 +1,6 @@
 use Rattle.std.proofs.Common.{◌≡◌, ◌-◌, refl, ap, ◌∙◌, List, ◌++◌, [], length, take, Bool, ℕ, if◌then◌else◌, arith}
 use Rattle.std.proofs.lemmas.List.{length-append, length-take}
+use Rattle.std.proofs.lemmas.Result.{err_from_is_err_and}
 use Rattle.age_stream.specs.Opening.{held_bytes}
 use Rattle.age_stream.specs.declared.step.Status.TheVariants.{Open}
 use Rattle.age_stream.proofs.OpenerSteps.{tried_ok, tried_err}
@@ -78,11 +79,11 @@ try_block-requires g c =
       ),
     )
 
-pub returns-in-Ok-clause-part : goal.returns-in-Ok-clause-part
-returns-in-Ok-clause-part g c = λ short. absurd (omega (arith, ap length c.settle.ensures.buffer))
+pub returns-clause-part : goal.returns-clause-part
+returns-clause-part g c = λ short. absurd (omega (arith, ap length c.settle.ensures.buffer))
 
-pub returns-in-Ok-clause-whole : goal.returns-in-Ok-clause-whole
-returns-in-Ok-clause-whole g c = λ _.
+pub returns-clause-whole : goal.returns-clause-whole
+returns-clause-whole g c = λ _.
     let piece = c.args.piece.now in
     let old = c.args.self.now in
     let room = g.row.SEALED - c.len-room.result in
@@ -91,20 +92,20 @@ returns-in-Ok-clause-whole g c = λ _.
     c.push_bytes-2.ensures ∙ (ap (λ (front : List ℕ). front ++ take room piece) c.settle.ensures.buffer
     ∙ ap (λ (k : ℕ). held_bytes old ++ take k piece) size) in
     tried_ok g.B.ChunkBox.opening old _ c.try_block.new.self piece c.settle.ensures.same.1 c.settle.ensures.same.0 items room
-    (omega (arith, size, c.len-room.ensures.fits, ap length c.settle.ensures.buffer)) c.in-Ok.ensures
+    (omega (arith, size, c.len-room.ensures.fits, ap length c.settle.ensures.buffer)) c.in_ok-try_block.ensures
 
-pub returns-in-Ok-clause-short : goal.returns-in-Ok-clause-short
-returns-in-Ok-clause-short g c =
+pub returns-clause-short : goal.returns-clause-short
+returns-clause-short g c =
     omega (arith, ap length c.settle.ensures.buffer, c.settle.new.self.room (c.settle.ensures.same.2 ∙ c.requires) c.settle.ensures.lent)
 
-pub returns-in-Ok-clause-key : goal.returns-in-Ok-clause-key
-returns-in-Ok-clause-key g c = c.in-Ok.ensures.key ∙ c.settle.ensures.same.1
+pub returns-clause-key : goal.returns-clause-key
+returns-clause-key g c = c.in_ok-try_block.ensures.key ∙ c.settle.ensures.same.1
 
-pub returns-in-Err-clause-part : goal.returns-in-Err-clause-part
-returns-in-Err-clause-part g c = λ short. absurd (omega (arith, ap length c.settle.ensures.buffer))
+pub returns-in_err-try_block-clause-part : goal.returns-in_err-try_block-clause-part
+returns-in_err-try_block-clause-part g c = λ short. absurd (omega (arith, ap length c.settle.ensures.buffer))
 
-pub returns-in-Err-clause-whole : goal.returns-in-Err-clause-whole
-returns-in-Err-clause-whole g c = λ _.
+pub returns-in_err-try_block-clause-whole : goal.returns-in_err-try_block-clause-whole
+returns-in_err-try_block-clause-whole g c = λ _.
     let piece = c.args.piece.now in
     let old = c.args.self.now in
     let room = g.row.SEALED - c.len-room.result in
@@ -112,11 +113,13 @@ returns-in-Err-clause-whole g c = λ _.
     let items : c.push_bytes-2.new.buffer.items ≡ held_bytes old ++ take (g.row.SEALED - length (held_bytes old)) piece =
     c.push_bytes-2.ensures ∙ (ap (λ (front : List ℕ). front ++ take room piece) c.settle.ensures.buffer
     ∙ ap (λ (k : ℕ). held_bytes old ++ take k piece) size) in
-    tried_err g.B.ChunkBox.opening old _ c.try_block.new.self piece c.settle.ensures.same.1 c.settle.ensures.same.0 items c.in-Err.fault c.in-Err.ensures
+    let told = err_from_is_err_and c.from_residual.result c.from_residual.ensures.1 in
+    rw (told.1, told.2) (tried_err g.B.ChunkBox.opening old _ c.try_block.new.self piece c.settle.ensures.same.1 c.settle.ensures.same.0 items _
+    c.in_err-try_block.ensures)
 
-pub returns-in-Err-clause-short : goal.returns-in-Err-clause-short
-returns-in-Err-clause-short g c =
+pub returns-in_err-try_block-clause-short : goal.returns-in_err-try_block-clause-short
+returns-in_err-try_block-clause-short g c =
     omega (arith, ap length c.settle.ensures.buffer, c.settle.new.self.room (c.settle.ensures.same.2 ∙ c.requires) c.settle.ensures.lent)
 
-pub returns-in-Err-clause-key : goal.returns-in-Err-clause-key
-returns-in-Err-clause-key g c = c.in-Err.ensures.key ∙ c.settle.ensures.same.1
+pub returns-in_err-try_block-clause-key : goal.returns-in_err-try_block-clause-key
+returns-in_err-try_block-clause-key g c = c.in_err-try_block.ensures.key ∙ c.settle.ensures.same.1
