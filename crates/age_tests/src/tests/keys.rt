@@ -118,13 +118,9 @@ fn opened(alloc: Global, pass: &[u8]) -> Result<[u8; 16], KeyFault>
     let Some(passphrase) = Passphrase::new(pass, 1) else {
         return Err(KeyFault::WrongKey);
     };
-    match scrypt_header(alloc, pass, 1, &[9; 16], &FileKey::new([7; 16])) {
-        Ok(header) => match open_header(alloc, &header, &passphrase) {
-            Ok(key) => Ok(*key.bytes()),
-            Err(fault) => Err(fault),
-        },
-        Err(fault) => Err(fault),
-    }
+    let header = scrypt_header(alloc, pass, 1, &[9; 16], &FileKey::new([7; 16]))?;
+    let key = open_header(alloc, &header, &passphrase)?;
+    Ok(*key.bytes())
 }
 
 // `checks/allocations` runs it with each allocation refused in turn: the call that meets the

@@ -168,10 +168,8 @@ fn holds_eight(held: &Drill) -> bool {
 }
 
 fn drills_eight(alloc: Global, events: &[Delivery<'_>]) -> Result<bool, Memory> {
-    match drill::<ClearBox, 20>(alloc, &ClearBox, events) {
-        Ok(held) => Ok(holds_eight(&held)),
-        Err(memory) => Err(memory),
-    }
+    let held = drill::<ClearBox, 20>(alloc, &ClearBox, events)?;
+    Ok(holds_eight(&held))
 }
 
 // The same of a whole drill, which then begins again.
