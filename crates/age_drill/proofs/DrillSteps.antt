@@ -1,5 +1,6 @@
 -- The files that a drill opens, in order.
 use Rattle.std.proofs.Common.{◌≡◌, ◌∙◌, ◌++◌, ◌∷◌, [], refl, ap, List, Result, Ok, Err, OnOk, append_assoc}
+use Rattle.std.specs.Result.{IsErr}
 use Rattle.age_fileset.specs.Events.{Event}
 use Rattle.age_steps.specs.EventOrders.{Follows}
 
@@ -24,7 +25,12 @@ follows_first old new rest a m = record { done = a ∷ []; rest = rest; did = m;
 pub follows_both : (old mid new : List Event) (a b : Event) → mid ≡ old ++ a ∷ [] → new ≡ mid ++ b ∷ [] → Follows (a ∷ b ∷ []) old new
 follows_both old mid new a b m n = record { done = a ∷ b ∷ []; rest = []; did = then old mid new (b ∷ []) a m n; front = refl }
 
--- what holds in any case is so of a result that is well
+-- what is said of a result that is well, of a fault
+pub none_of_err : {T E : Type 0} (r : Result T E) (P : Type 0) → IsErr r → OnOk r P
+none_of_err (Ok x) P h = cc
+none_of_err (Err e) P h = tt
+
+-- and of what holds in any case
 pub always : {T E : Type 0} (r : Result T E) (P : Type 0) → P → OnOk r P
 always (Ok x) P h = h
 always (Err e) P h = tt

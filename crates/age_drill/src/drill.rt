@@ -34,10 +34,9 @@ const MAX_LOG: u32 = 22;
 
 /// The bytes of a script.
 fn script_in<S: Source>(alloc: Global, source: &mut S) -> Result<Vec<u8>, Ending> {
-    match read_up_to(alloc, source, SCRIPT_MAX) {
-        Ok(Some(script)) if !has_too_many_lines(script.as_slice()) => Ok(script),
-        Ok(_) => Err(Ending::Usage(Usage::ScriptTooLong)),
-        Err(fault) => Err(Ending::Fault(fault)),
+    match read_up_to(alloc, source, SCRIPT_MAX)? {
+        Some(script) if !has_too_many_lines(script.as_slice()) => Ok(script),
+        _ => Err(Ending::Usage(Usage::ScriptTooLong)),
     }
 }
 
@@ -46,10 +45,8 @@ fn read_script<F: FileSet>(alloc: Global, files: &mut F, name: &str) -> Result<V
     ensures kept { F.entry files.new ≡ F.entry files.old }
     ensures noted { F.events files.new ≡ F.events files.old ++ Opened name.now ∷ [] }
 {
-    match files.open(alloc, name) {
-        Ok(mut source) => script_in(alloc, &mut source),
-        Err(fault) => Err(Ending::Fault(fault)),
-    }
+    let mut source = files.open(alloc, name)?;
+    script_in(alloc, &mut source)
 }
 
 /// The header that a parser finds at the beginning of a file, and its length. `read` is how reading
@@ -63,13 +60,12 @@ fn find_header(
     ensures text { IfOk result (λ p. HasText p.0) }
     ensures within { IfOk result (λ p. p.1 ≤ length bytes.now) }
 {
-    match parser.feed(bytes) {
-        Ok(HeadStep::Ready { taken, header }) => Ok((header, taken)),
-        Ok(HeadStep::More) => match read {
-            Ok(()) => Err(FileFault::from(parser.end())),
-            Err(fault) => Err(fault),
-        },
-        Err(fault) => Err(FileFault::from(fault)),
+    match parser.feed(bytes)? {
+        HeadStep::Ready { taken, header } => Ok((header, taken)),
+        HeadStep::More => {
+            read?;
+            Err(FileFault::from(parser.end()))
+        }
     }
 }
 
@@ -96,13 +92,8 @@ fn payload_after(
     requires { len ≤ length bytes.now }
     ensures { IfOk result (λ p. p.1 ≤ length bytes.now) }
 {
-    let key = match key {
-        Ok(key) => key,
-        Err(fault) => return Err(FileFault::from(fault)),
-    };
-    if let Err(fault) = read {
-        return Err(fault);
-    }
+    let key = key?;
+    read?;
     match bytes[len..].first_chunk::<NONCE_LEN>() {
         Some(nonce) => Ok((payload_key(&key, nonce), len + NONCE_LEN)),
         None => Err(FileFault::NonceCut),
@@ -119,12 +110,8 @@ fn open_payload(
 ) -> Result<(PayloadKey, usize), FileFault>
     ensures { IfOk result (λ p. p.1 ≤ length bytes.now) }
 {
-    match read_header(alloc, bytes, read) {
-        Ok((header, len)) => {
-            payload_after(open_header(alloc, &header, unlock), len, bytes, read)
-        }
-        Err(fault) => Err(fault),
-    }
+    let (header, len) = read_header(alloc, bytes, read)?;
+    payload_after(open_header(alloc, &header, unlock), len, bytes, read)
 }
 
 /// The word for where a replay stands, or its fault.
@@ -188,13 +175,9 @@ fn answer_line<O: Sink>(
     output: &mut O,
 ) -> Result<(), FileFault> {
     let refused = replay.refused();
-    if let Err(fault) = obey_line(replay, payload, line) {
-        return Err(fault);
-    }
-    match answer(alloc, number, replay, replay.refused() > refused) {
-        Ok(text) => put_bytes(output, text.as_bytes()),
-        Err(_) => Err(FileFault::Memory),
-    }
+    obey_line(replay, payload, line)?;
+    let text = answer(alloc, number, replay, replay.refused() > refused)?;
+    put_bytes(output, text.as_bytes())
 }
 
 /// Obeys each line of the script, and writes a line for it.
@@ -219,13 +202,9 @@ fn deliver<O: Sink>(
     script: &[u8],
     output: &mut O,
 ) -> Result<(), Ending> {
-    match read_lines(alloc, script, payload.len()) {
-        Ok(lines) => match answer_lines(alloc, replay, payload, lines.as_slice(), output) {
-            Ok(()) => Ok(()),
-            Err(fault) => Err(Ending::Fault(fault)),
-        },
-        Err(ending) => Err(ending),
-    }
+    let lines = read_lines(alloc, script, payload.len())?;
+    answer_lines(alloc, replay, payload, lines.as_slice(), output)?;
+    Ok(())
 }
 
 /// Delivers a payload whose chunks are in the clear.
@@ -235,13 +214,12 @@ fn deliver_clear<S: Source, O: Sink>(
     script: &[u8],
     output: &mut O,
 ) -> Result<(), Ending> {
-    match read_up_to(alloc, source, PAYLOAD_MAX) {
-        Ok(Some(mut payload)) => {
+    match read_up_to(alloc, source, PAYLOAD_MAX)? {
+        Some(mut payload) => {
             let mut replay = Replaying::Clear(Replay::new(alloc, &ClearBox));
             deliver(alloc, &mut replay, payload.as_mut_slice(), script, output)
         }
-        Ok(None) => Err(Ending::Usage(Usage::PayloadTooLong)),
-        Err(fault) => Err(Ending::Fault(fault)),
+        None => Err(Ending::Usage(Usage::PayloadTooLong)),
     }
 }
 
@@ -271,13 +249,9 @@ fn deliver_sealed<S: Source, O: Sink>(
 ) -> Result<(), Ending> {
     let mut bytes = Vec::new(alloc);
     let read = fill_first(source, &mut bytes, BYTES_MAX);
-    match open_payload(alloc, unlock, bytes.as_slice(), read) {
-        Ok((key, start)) => {
-            let payload = &mut bytes.as_mut_slice()[start..];
-            deliver_payload(alloc, &key, payload, script, output)
-        }
-        Err(fault) => Err(Ending::Fault(fault)),
-    }
+    let (key, start) = open_payload(alloc, unlock, bytes.as_slice(), read)?;
+    let payload = &mut bytes.as_mut_slice()[start..];
+    deliver_payload(alloc, &key, payload, script, output)
 }
 
 /// Delivers a payload from a file that was opened, in the clear where no passphrase is given.
@@ -288,12 +262,10 @@ fn deliver_opened<S: Source + Drop, O: Sink>(
     script: &[u8],
     output: &mut O,
 ) -> Result<(), Ending> {
-    match opened {
-        Ok(mut source) => match unlock {
-            Some(unlock) => deliver_sealed(alloc, unlock, &mut source, script, output),
-            None => deliver_clear(alloc, &mut source, script, output),
-        },
-        Err(fault) => Err(Ending::Fault(fault)),
+    let mut source = opened?;
+    match unlock {
+        Some(unlock) => deliver_sealed(alloc, unlock, &mut source, script, output),
+        None => deliver_clear(alloc, &mut source, script, output),
     }
 }
 
@@ -311,13 +283,9 @@ fn drill<F: FileSet, O: Sink>(
     ensures order_done { OnOk result (F.events files.new
         ≡ F.events files.old ++ Opened asked.now.script.now ∷ Opened asked.now.from.now ∷ []) }
 {
-    match read_script(alloc, files, asked.script) {
-        Ok(script) => {
-            let opened = files.open(alloc, asked.from);
-            deliver_opened(alloc, unlock, opened, script.as_slice(), output)
-        }
-        Err(ending) => Err(ending),
-    }
+    let script = read_script(alloc, files, asked.script)?;
+    let opened = files.open(alloc, asked.from);
+    deliver_opened(alloc, unlock, opened, script.as_slice(), output)
 }
 
 /// Drills the payload of an age file that a passphrase opens.
@@ -335,10 +303,7 @@ fn drill_sealed<F: FileSet, O: Sink>(
     ensures order_done { OnOk result (F.events files.new ≡ F.events files.old
         ++ Opened pass_name.now ∷ Opened asked.now.script.now ∷ Opened asked.now.from.now ∷ []) }
 {
-    let pass = match read_pass(alloc, files, pass_name) {
-        Ok(pass) => pass,
-        Err(ending) => return Err(ending),
-    };
+    let pass = read_pass(alloc, files, pass_name)?;
     match Passphrase::new(trimmed(pass.as_slice()), MAX_LOG) {
         Some(unlock) => drill(alloc, files, asked, Some(&unlock), output),
         None => Err(Ending::Usage(Usage::BadPassphraseFile)),

@@ -39,9 +39,7 @@ fn number(word: &str) -> Option<u64> {
 
 /// A piece that ends within the payload, by two numbers.
 fn piece(numbers: &str, payload_len: usize) -> Option<Line> {
-    let Some((offset, len)) = numbers.split_once(' ') else {
-        return None;
-    };
+    let (offset, len) = numbers.split_once(' ')?;
     match (number(offset), number(len)) {
         (Some(offset), Some(len)) => piece_within(offset, len, payload_len),
         _ => None,
@@ -89,13 +87,8 @@ fn read_words(text: &str, payload_len: usize) -> Option<Line> {
 
 /// Reads a line with its LF.
 fn read_line(line: &[u8], payload_len: usize) -> Option<Line> {
-    let Some(line) = line.strip_suffix(b"\n") else {
-        return None;
-    };
-    match std::str::from_utf8(line) {
-        Ok(text) => read_words(text, payload_len),
-        Err(_) => None,
-    }
+    let text = std::str::from_utf8(line.strip_suffix(b"\n")?).ok()?;
+    read_words(text, payload_len)
 }
 
 /// The lines of a script for a payload of this length, or the first bad one.
@@ -106,9 +99,7 @@ pub(crate) fn read_lines(
 ) -> Result<Vec<Line>, Ending> {
     let mut lines = Vec::new(alloc);
     for line in script.split_inclusive(|b| *b == b'\n') {
-        if let Err(ending) = push(&mut lines, read_line(line, payload_len)) {
-            return Err(ending);
-        }
+        push(&mut lines, read_line(line, payload_len))?;
     }
     Ok(lines)
 }

@@ -1,7 +1,7 @@
 use Rattle.std.proofs.Common.{◌∙◌, ◌∷◌, []}
 use Rattle.std.proofs.lemmas.Result.{on_ok_weaker}
 use Rattle.age_fileset.specs.Events.{Opened}
-use Rattle.age_drill.proofs.DrillSteps.{then, follows_first, follows_then}
+use Rattle.age_drill.proofs.DrillSteps.{then, none_of_err, follows_first, follows_then}
 use Rattle.age_drill.proofs.drill.drill_sealed.Goals as goal
 
 pub returns-in-Some : goal.returns-in-Some
@@ -26,11 +26,11 @@ returns g c =
       order_done = tt;
     }
 
-pub returns-in-Err : goal.returns-in-Err
-returns-in-Err g c =
+pub returns-in_err-pass : goal.returns-in_err-pass
+returns-in_err-pass g c =
     let asked = c.args.asked.now in
     record {
       kept = c.read_pass.ensures.kept;
       order = follows_first _ _ (Opened asked.script.now ∷ Opened asked.from.now ∷ []) (Opened c.args.pass_name.now) c.read_pass.ensures.noted;
-      order_done = tt;
+      order_done = none_of_err c.from_residual.result _ c.from_residual.ensures.0;
     }
