@@ -46,10 +46,9 @@ impl HostIn {
         rt: &HostRuntime,
         name: &str,
     ) -> io::Result<(HostIn, Option<Identity>)> {
-        match place_of(alloc, rt, name) {
-            Ok(Place::Stream(stream)) => HostIn::open_stream(rt, stream),
-            Ok(Place::Path(_)) => HostIn::open_path(rt, name),
-            Err(error) => Err(error),
+        match place_of(alloc, rt, name)? {
+            Place::Stream(stream) => HostIn::open_stream(rt, stream),
+            Place::Path(_) => HostIn::open_path(rt, name),
         }
     }
 
@@ -76,20 +75,14 @@ impl HostIn {
     }
 
     fn open_path(rt: &HostRuntime, name: &str) -> io::Result<(HostIn, Option<Identity>)> {
-        match above_streams(File::open(rt, name)?) {
-            Ok(file) => HostIn::of_file(file),
-            Err(error) => Err(error),
-        }
+        HostIn::of_file(above_streams(File::open(rt, name)?)?)
     }
 
     fn of_file(file: File) -> io::Result<(HostIn, Option<Identity>)> {
-        let metadata = match file.metadata() {
-            Ok(metadata) if metadata.is_dir() => {
-                return Err(io::Error::from(io::ErrorKind::IsADirectory));
-            }
-            Ok(metadata) => metadata,
-            Err(error) => return Err(error),
-        };
+        let metadata = file.metadata()?;
+        if metadata.is_dir() {
+            return Err(io::Error::from(io::ErrorKind::IsADirectory));
+        }
         let left = if metadata.is_file() {
             Some(metadata.len())
         } else {

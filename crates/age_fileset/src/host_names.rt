@@ -61,10 +61,8 @@ impl Stream {
 
 /// Fails where nothing is open at a descriptor.
 fn check_open(descriptor: BorrowedFd<'_>) -> io::Result<()> {
-    match descriptor.try_clone_to_owned() {
-        Ok(_) => Ok(()),
-        Err(error) => Err(error),
-    }
+    descriptor.try_clone_to_owned()?;
+    Ok(())
 }
 
 /// What a name stands for.
@@ -86,10 +84,9 @@ pub(crate) fn place_of(alloc: Global, rt: &HostRuntime, name: &str) -> io::Resul
         if let Some(stream) = Stream::named(path.as_str()) {
             return Ok(Place::Stream(stream));
         }
-        match target_of(alloc, rt, &path) {
-            Ok(Some(target)) => path = target,
-            Ok(None) => return Ok(Place::Path(path)),
-            Err(error) => return Err(error),
+        match target_of(alloc, rt, &path)? {
+            Some(target) => path = target,
+            None => return Ok(Place::Path(path)),
         }
     }
     Err(io::Error::from(io::ErrorKind::FilesystemLoop))

@@ -77,10 +77,7 @@ pub(crate) fn sync_folder(rt: &HostRuntime, path: &PathBuf) -> io::Result<()> {
 
 /// Whether a file is a regular one.
 fn is_regular(file: &File) -> io::Result<bool> {
-    match file.metadata() {
-        Ok(metadata) => Ok(metadata.is_file()),
-        Err(error) => Err(error),
-    }
+    Ok(file.metadata()?.is_file())
 }
 
 /// Whether a file is the one at a path, where no link is followed.
@@ -102,27 +99,24 @@ fn is_empty_at(rt: &HostRuntime, file: &File, path: &PathBuf) -> bool {
 impl OutFile {
     /// Opens a file without emptying it, or makes it where there is none.
     fn open(rt: &HostRuntime, name: &str, path: PathBuf) -> io::Result<OutFile> {
-        match open_to_write(rt, name) {
-            Ok(Some(file)) => Ok(OutFile {
+        match open_to_write(rt, name)? {
+            Some(file) => Ok(OutFile {
                 file: above_streams(file)?,
                 made: None,
                 is_stale: true,
             }),
-            Ok(None) => OutFile::make(rt, path),
-            Err(error) => Err(error),
+            None => OutFile::make(rt, path),
         }
     }
 
     /// Makes a file at a path that is no link, and where there is none.
     fn make(rt: &HostRuntime, path: PathBuf) -> io::Result<OutFile> {
-        match make_file(rt, path.as_str()) {
-            Ok(file) => Ok(OutFile {
-                file,
-                made: Some(path),
-                is_stale: false,
-            }),
-            Err(error) => Err(error),
-        }
+        let file = make_file(rt, path.as_str())?;
+        Ok(OutFile {
+            file,
+            made: Some(path),
+            is_stale: false,
+        })
     }
 
     /// Cuts off what a regular file held after so many bytes, once.
@@ -165,14 +159,13 @@ impl OutFile {
 
     /// Waits until a regular file, and its name where opening made it, have reached the disk.
     fn reach_disk(&self, rt: &HostRuntime) -> io::Result<()> {
-        match is_regular(&self.file) {
-            Ok(true) => {}
-            Ok(false) => return Ok(()),
-            Err(error) => return Err(error),
+        if !is_regular(&self.file)? {
+            return Ok(());
         }
-        match (sync(&self.file), &self.made) {
-            (Ok(()), Some(path)) => sync_folder(rt, path),
-            (synced, _) => synced,
+        sync(&self.file)?;
+        match &self.made {
+            Some(path) => sync_folder(rt, path),
+            None => Ok(()),
         }
     }
 
@@ -188,11 +181,10 @@ impl OutFile {
 
 /// Cuts off what a regular file holds after so many bytes.
 fn cut_file(file: &File, len: u64) -> io::Result<()> {
-    match is_regular(file) {
-        Ok(true) => file.set_len(len),
-        Ok(false) => Ok(()),
-        Err(error) => Err(error),
+    if is_regular(file)? {
+        file.set_len(len)?;
     }
+    Ok(())
 }
 
 impl HostOut {
@@ -207,10 +199,9 @@ impl HostOut {
         rt: &HostRuntime,
         name: &str,
     ) -> io::Result<(HostOut, Option<Identity>)> {
-        match place_of(alloc, rt, name) {
-            Ok(Place::Path(path)) => HostOut::open_path(rt, name, path),
-            Ok(Place::Stream(stream)) => HostOut::open_stream(rt, stream),
-            Err(error) => Err(error),
+        match place_of(alloc, rt, name)? {
+            Place::Path(path) => HostOut::open_path(rt, name, path),
+            Place::Stream(stream) => HostOut::open_stream(rt, stream),
         }
     }
 
@@ -220,10 +211,8 @@ impl HostOut {
         path: PathBuf,
     ) -> io::Result<(HostOut, Option<Identity>)> {
         let out = OutFile::open(rt, name, path)?;
-        match out.file.metadata() {
-            Ok(metadata) => Ok((HostOut::new(Target::File(out)), Identity::of(&metadata))),
-            Err(error) => Err(error),
-        }
+        let identity = Identity::of(&out.file.metadata()?);
+        Ok((HostOut::new(Target::File(out)), identity))
     }
 
     fn open_stream(rt: &HostRuntime, stream: Stream) -> io::Result<(HostOut, Option<Identity>)> {

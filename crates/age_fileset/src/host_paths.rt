@@ -16,16 +16,12 @@ pub(crate) fn open_to_write(rt: &HostRuntime, name: &str) -> io::Result<Option<F
 
 /// Makes a file where there is none, at a path that is no link.
 pub(crate) fn make_file(rt: &HostRuntime, path: &str) -> io::Result<File> {
-    match File::options().write(true).create_new(true).open(rt, path) {
-        Ok(made) => {
-            let file = above_streams(made);
-            if file.is_err() {
-                remove(rt, path);
-            }
-            file
-        }
-        Err(error) => Err(error),
+    let made = File::options().write(true).create_new(true).open(rt, path)?;
+    let file = above_streams(made);
+    if file.is_err() {
+        remove(rt, path);
     }
+    file
 }
 
 /// Removes a file that was made, where that is allowed.

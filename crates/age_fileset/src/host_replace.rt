@@ -36,10 +36,8 @@ fn make_beside(alloc: Global, rt: &HostRuntime, path: &PathBuf) -> io::Result<Be
 fn make_numbered(alloc: Global, rt: &HostRuntime, path: &PathBuf, n: u32) -> io::Result<Beside> {
     let name = path.as_str();
     let path = format!(in alloc; "{name}.new-{n}")?;
-    match make_file(rt, path.as_str()) {
-        Ok(file) => Ok(Beside { file, path }),
-        Err(error) => Err(error),
-    }
+    let file = make_file(rt, path.as_str())?;
+    Ok(Beside { file, path })
 }
 
 impl Beside {
@@ -70,13 +68,9 @@ impl Beside {
 
 /// Who may do what with the file at a path, where there is one. Fails where that can't be written.
 fn permissions_at(rt: &HostRuntime, path: &PathBuf) -> io::Result<Option<Permissions>> {
-    match open_to_write(rt, path.as_str()) {
-        Ok(Some(file)) => match file.metadata() {
-            Ok(metadata) => Ok(Some(metadata.permissions())),
-            Err(error) => Err(error),
-        },
-        Ok(None) => Ok(None),
-        Err(error) => Err(error),
+    match open_to_write(rt, path.as_str())? {
+        Some(file) => Ok(Some(file.metadata()?.permissions())),
+        None => Ok(None),
     }
 }
 
@@ -136,11 +130,10 @@ pub(crate) fn replace(
     bytes: &[u8],
     durability: Durability,
 ) -> io::Result<()> {
-    match place_of(alloc, rt, name) {
-        Ok(Place::Path(path)) if leads_to(rt, name, &path) => {
+    match place_of(alloc, rt, name)? {
+        Place::Path(path) if leads_to(rt, name, &path) => {
             replace_file(alloc, rt, &path, bytes, durability)
         }
-        Ok(_) => write_directly(alloc, rt, name, bytes, durability),
-        Err(error) => Err(error),
+        _ => write_directly(alloc, rt, name, bytes, durability),
     }
 }
