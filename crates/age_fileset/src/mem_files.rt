@@ -250,10 +250,7 @@ impl FileSet for MemFiles {
         if refused {
             return Err(CreateFault::Fault(FileFault::Write));
         }
-        match new_out(alloc, name, self.room) {
-            Ok(out) => Ok(out),
-            Err(fault) => Err(CreateFault::Fault(fault)),
-        }
+        Ok(new_out(alloc, name, self.room)?)
     }
 
     /// Puts what the sink took under its name. That takes no memory where a file of the name is

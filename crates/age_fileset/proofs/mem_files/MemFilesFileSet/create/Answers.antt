@@ -21,3 +21,15 @@ returns-clause-kept c = rw (c.created.ensures, ← c.self.view_is) refl
 
 pub returns-clause-faults : goal.returns-clause-faults
 returns-clause-faults c = search rules
+
+pub returns-in_err-new_out-clause-made : goal.returns-in_err-new_out-clause-made
+returns-in_err-new_out-clause-made c = search rules
+
+pub returns-in_err-new_out-clause-refused : goal.returns-in_err-new_out-clause-refused
+returns-in_err-new_out-clause-refused c = search rules
+
+pub returns-in_err-new_out-clause-kept : goal.returns-in_err-new_out-clause-kept
+returns-in_err-new_out-clause-kept c = rw (c.created.ensures, ← c.self.view_is) refl
+
+pub returns-in_err-new_out-clause-faults : goal.returns-in_err-new_out-clause-faults
+returns-in_err-new_out-clause-faults c = search rules
