@@ -223,18 +223,9 @@ pub fn decrypt_file<F: FileSet, P: Meter>(
     ensures silent { asked.now.progress ≡ Silent → progress.new ≡ progress.old }
 {
     let is_file_named_twice = names_a_file_twice(files, asked);
-    let secret = match read_unlocking(alloc, files, asked, is_file_named_twice) {
-        Ok(secret) => secret,
-        Err(ending) => return Err(ending),
-    };
-    let identity = match identity_of(&asked.unlocking, &secret) {
-        Ok(identity) => identity,
-        Err(usage) => return Err(Ending::Usage(usage)),
-    };
-    let (source, out) = match open_both(alloc, files, asked.from, asked.to, asked.save, None) {
-        Ok(both) => both,
-        Err(ending) => return Err(ending),
-    };
+    let secret = read_unlocking(alloc, files, asked, is_file_named_twice)?;
+    let identity = identity_of(&asked.unlocking, &secret)?;
+    let (source, out) = open_both(alloc, files, asked.from, asked.to, asked.save, None)?;
     match write_out(alloc, files, source, &identity, out, asked, progress) {
         Ok(()) => Ok(()),
         Err(stop) => Err(end_of(alloc, files, asked.save, stop, asked.durability)),

@@ -275,18 +275,9 @@ pub fn encrypt_file<F: FileSet, P: Meter>(
         (order_asked (Encrypt asked.now)).judged (F.events files.old) (F.events files.new)) }
     ensures silent { asked.now.progress ≡ Silent → progress.new ≡ progress.old }
 {
-    let material = match read_material(alloc, files, asked) {
-        Ok(material) => material,
-        Err(ending) => return Err(ending),
-    };
-    let secret = match secret_of(asked, &material) {
-        Ok(secret) => secret,
-        Err(usage) => return Err(Ending::Usage(usage)),
-    };
-    let (source, out) = match open_both(alloc, files, asked.from, asked.to, None, None) {
-        Ok(both) => both,
-        Err(ending) => return Err(ending),
-    };
+    let material = read_material(alloc, files, asked)?;
+    let secret = secret_of(asked, &material)?;
+    let (source, out) = open_both(alloc, files, asked.from, asked.to, None, None)?;
     match write_out(alloc, files, source, &secret, out, asked, progress) {
         Ok(()) => Ok(()),
         Err(fault) => Err(Ending::Fault(fault)),

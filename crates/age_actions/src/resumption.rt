@@ -246,23 +246,11 @@ pub fn resume_file<F: FileSet, P: Meter>(
 {
     let wanted = &asked.decrypting;
     let is_file_named_twice = names_one_twice(files, asked);
-    let secret = match read_unlocking(alloc, files, wanted, is_file_named_twice) {
-        Ok(secret) => secret,
-        Err(ending) => return Err(ending),
-    };
-    let identity = match identity_of(&wanted.unlocking, &secret) {
-        Ok(identity) => identity,
-        Err(usage) => return Err(Ending::Usage(usage)),
-    };
-    let (position, mut old) = match open_earlier(alloc, files, asked) {
-        Ok(earlier) => earlier,
-        Err(fault) => return Err(Ending::Fault(fault)),
-    };
+    let secret = read_unlocking(alloc, files, wanted, is_file_named_twice)?;
+    let identity = identity_of(&wanted.unlocking, &secret)?;
+    let (position, mut old) = open_earlier(alloc, files, asked)?;
     let held = Some(asked.position);
-    let (source, out) = match open_both(alloc, files, wanted.from, wanted.to, wanted.save, held) {
-        Ok(both) => both,
-        Err(ending) => return Err(ending),
-    };
+    let (source, out) = open_both(alloc, files, wanted.from, wanted.to, wanted.save, held)?;
     match write_out(
         alloc, files, source, &mut old, &identity, &position, out, wanted, progress,
     ) {
