@@ -50,13 +50,10 @@ fn write_from<F: FileSet, S: Source>(
 {
     let positions = positions_for(asked.save);
     match decrypt_with(alloc, positions, identity, source, &mut out) {
-        Ok(_) => match files.close(out, asked.durability) {
-            Ok(()) => Ok(()),
-            Err(fault) => Err(Stop {
-                fault,
-                position: None,
-            }),
-        },
+        Ok(_) => {
+            files.close(out, asked.durability)?;
+            Ok(())
+        }
         Err(stopped) => {
             leave(files, out, stopped.written, asked.durability);
             Err(Stop::from(stopped))
@@ -180,17 +177,11 @@ pub(crate) fn read_unlocking<F: FileSet>(
         (F.events files.old) (F.events files.new) }
     ensures early { IfErr result EndsEarly }
 {
-    let name = match secret_file(&asked.unlocking) {
-        Ok(name) => name,
-        Err(usage) => return Err(Ending::Usage(usage)),
-    };
+    let name = secret_file(&asked.unlocking)?;
     if is_file_named_twice {
         return Err(Ending::Usage(Usage::SameFile));
     }
-    match read_secret(alloc, files, name) {
-        Ok(secret) => Ok(secret),
-        Err(fault) => Err(Ending::Fault(fault)),
-    }
+    Ok(read_secret(alloc, files, name)?)
 }
 
 /// Decrypts a file as asked. If it stops, its position is saved.

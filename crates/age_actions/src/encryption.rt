@@ -42,15 +42,9 @@ struct Random {
 fn random_of(bytes: &[u8]) -> Option<Random>
     ensures { IfSome result (λ r. IsRandom bytes.now r) }
 {
-    let Some((file_key, rest)) = bytes.split_first_chunk::<16>() else {
-        return None;
-    };
-    let Some((salt, rest)) = rest.split_first_chunk::<16>() else {
-        return None;
-    };
-    let Some(payload_nonce) = rest.first_chunk::<16>() else {
-        return None;
-    };
+    let (file_key, rest) = bytes.split_first_chunk::<16>()?;
+    let (salt, rest) = rest.split_first_chunk::<16>()?;
+    let payload_nonce = rest.first_chunk::<16>()?;
     Some(Random {
         file_key: *file_key,
         salt: *salt,
@@ -64,12 +58,10 @@ fn random_in<S: Source>(alloc: Global, source: &mut S) -> Result<Random, Ending>
         (S.view source.new).remaining bytes × IsRandom bytes r) }
     ensures early { IfErr result EndsEarly }
 {
-    match read_first(alloc, source, 48) {
-        Ok(bytes) => match random_of(bytes.as_slice()) {
-            Some(random) => Ok(random),
-            None => Err(Ending::Usage(Usage::BadRandomFile)),
-        },
-        Err(fault) => Err(Ending::Fault(fault)),
+    let bytes = read_first(alloc, source, 48)?;
+    match random_of(bytes.as_slice()) {
+        Some(random) => Ok(random),
+        None => Err(Ending::Usage(Usage::BadRandomFile)),
     }
 }
 
@@ -83,10 +75,8 @@ fn read_random<F: FileSet>(alloc: Global, files: &mut F, name: &str) -> Result<R
     ensures noted { F.events files.new ≡ F.events files.old ++ Opened name.now ∷ [] }
     ensures early { IfErr result EndsEarly }
 {
-    match files.open(alloc, name) {
-        Ok(mut source) => random_in(alloc, &mut source),
-        Err(fault) => Err(Ending::Fault(fault)),
-    }
+    let mut source = files.open(alloc, name)?;
+    random_in(alloc, &mut source)
 }
 
 /// What a secret is made of: the bytes of the file of the passphrase, and the random parts.
@@ -220,13 +210,9 @@ fn read_material<F: FileSet>(
     if names_out_twice(files, asked) {
         return Err(Ending::Usage(Usage::SameFile));
     }
-    match read_pass(alloc, files, asked.pass) {
-        Ok(pass) => match read_random(alloc, files, random_name(asked)) {
-            Ok(random) => Ok(Material { pass, random }),
-            Err(ending) => Err(ending),
-        },
-        Err(ending) => Err(ending),
-    }
+    let pass = read_pass(alloc, files, asked.pass)?;
+    let random = read_random(alloc, files, random_name(asked))?;
+    Ok(Material { pass, random })
 }
 
 /// The secret of a work factor and of what it is made of.

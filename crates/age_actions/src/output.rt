@@ -42,10 +42,7 @@ fn create_out<F: FileSet>(
     ensures early { IfErr result EndsEarly }
     ensures usage { F.tells files.old ≡ true → IfErr result (λ e. is_usage e ≡ false) }
 {
-    let out = match files.create(alloc, to) {
-        Ok(out) => out,
-        Err(fault) => return Err(Ending::from(fault)),
-    };
+    let out = files.create(alloc, to)?;
     if saves_over(files, save, position) {
         files.discard(out);
         return Err(Ending::Usage(Usage::SameFile));
@@ -77,13 +74,9 @@ pub(crate) fn open_both<F: FileSet>(
     ensures early { IfErr result EndsEarly }
     ensures usage { F.tells files.old ≡ true → IfErr result (λ e. is_usage e ≡ false) }
 {
-    match files.open(alloc, from) {
-        Ok(source) => match create_out(alloc, files, to, save, position) {
-            Ok(out) => Ok((source, out)),
-            Err(ending) => Err(ending),
-        },
-        Err(fault) => Err(Ending::Fault(fault)),
-    }
+    let source = files.open(alloc, from)?;
+    let out = create_out(alloc, files, to, save, position)?;
+    Ok((source, out))
 }
 
 /// Ends the output of a run that stopped: with what was written, or as it was, where nothing was.

@@ -36,10 +36,9 @@ fn position_in<S: Source>(alloc: Global, source: &mut S) -> Result<Position, Fil
         (S.view source.new).remaining (position_text p) × IsAtEnd (S.view source.new).remaining) }
     ensures faults { IfErr result (λ f. IsMemoryOr Read f ⊎ (f ≡ BadPosition)) }
 {
-    match read_up_to(alloc, source, 256) {
-        Ok(Some(text)) => Position::read(text.as_slice()),
-        Ok(None) => Err(FileFault::BadPosition),
-        Err(fault) => Err(fault),
+    match read_up_to(alloc, source, 256)? {
+        Some(text) => Position::read(text.as_slice()),
+        None => Err(FileFault::BadPosition),
     }
 }
 
@@ -56,10 +55,8 @@ fn read_position<F: FileSet>(
     ensures noted { F.events files.new ≡ F.events files.old ++ Opened name.now ∷ [] }
     ensures faults { IfErr result (λ f. IsMemoryOr Read f ⊎ (f ≡ BadPosition)) }
 {
-    match files.open(alloc, name) {
-        Ok(mut source) => position_in(alloc, &mut source),
-        Err(fault) => Err(fault),
-    }
+    let mut source = files.open(alloc, name)?;
+    position_in(alloc, &mut source)
 }
 
 /// Writes the whole plaintext into the output, and ends that: the earlier output up to the
@@ -90,13 +87,10 @@ fn write_from<F: FileSet, S: Source>(
 {
     let positions = positions_for(wanted.save);
     match resume_with(alloc, positions, identity, position, source, old, &mut out) {
-        Ok(_) => match files.close(out, wanted.durability) {
-            Ok(()) => Ok(()),
-            Err(fault) => Err(Stop {
-                fault,
-                position: None,
-            }),
-        },
+        Ok(_) => {
+            files.close(out, wanted.durability)?;
+            Ok(())
+        }
         Err(stopped) => {
             leave(files, out, stopped.written, wanted.durability);
             Err(Stop::from(stopped))
@@ -204,13 +198,9 @@ fn open_earlier<F: FileSet>(
         (F.events files.old) (F.events files.new) }
     ensures faults { IfErr result (λ f. IsMemoryOr Read f ⊎ (f ≡ BadPosition)) }
 {
-    match read_position(alloc, files, asked.position) {
-        Ok(position) => match files.open(alloc, asked.old) {
-            Ok(old) => Ok((position, old)),
-            Err(fault) => Err(fault),
-        },
-        Err(fault) => Err(fault),
-    }
+    let position = read_position(alloc, files, asked.position)?;
+    let old = files.open(alloc, asked.old)?;
+    Ok((position, old))
 }
 
 /// Continues a decryption as asked. If it stops, its position is saved.

@@ -21,6 +21,17 @@ pub(crate) struct Stop {
     pub(crate) position: Option<Position>,
 }
 
+impl From<FileFault> for Stop {
+    ghost from_gives = { λ f s. s ≡ record { fault = f; position = None } };
+
+    fn from(fault: FileFault) -> Stop {
+        Stop {
+            fault,
+            position: None,
+        }
+    }
+}
+
 impl From<Stopped> for Stop {
     ghost from_gives = { λ f s. s ≡ record { fault = f.fault; position = f.position } };
 
@@ -54,10 +65,8 @@ fn save<F: FileSet>(
     let (Some(name), Some(position)) = (name, position) else {
         return Ok(());
     };
-    match position.text(alloc) {
-        Ok(text) => files.replace(alloc, name, text.as_slice(), durability),
-        Err(fault) => Err(fault),
-    }
+    let text = position.text(alloc)?;
+    files.replace(alloc, name, text.as_slice(), durability)
 }
 
 /// How a command ends that stopped, once its position is saved.

@@ -1,10 +1,11 @@
-use Rattle.std.proofs.Common.{◌≡◌, ◌∙◌, inl, inr, refl, ap, sym, subst, Some, []}
+use Rattle.std.proofs.Common.{◌≡◌, ◌∙◌, inl, inr, refl, ap, sym, subst, Some, None, []}
 use Rattle.age_file.specs.Ports.{ports}
 use Rattle.age_file.specs.Decrypts.{DecryptFails}
 use Rattle.age_commands.specs.Requests.{text_of}
 use Rattle.age_actions.specs.Stops.{DecryptionStop, Leaves, OutStops, PortsOf, kept_for}
 use Rattle.age_steps.specs.Identities.{allows_by, refuses_by}
 use Rattle.age_actions.specs.declared.stop.Stop.{Stop}
+use Rattle.age_actions.proofs.CommandSteps.{not_well, this_error}
 use Rattle.age_actions.proofs.StopSteps.{stop_wrote, holds_nothing}
 use Rattle.age_actions.proofs.decryption.write_from.Goals as goal
 
@@ -56,13 +57,13 @@ returns-in-Err-clause-others g c = λ q other. c.leave.ensures.others q (λ e. o
 pub returns-in-Err-clause-noted : goal.returns-in-Err-clause-noted
 returns-in-Err-clause-noted g c = c.leave.ensures.noted
 
-pub returns-in-Ok-close : goal.returns-in-Ok-close
-returns-in-Ok-close g c =
+pub returns-in_ok-close-in-Ok : goal.returns-in_ok-close-in-Ok
+returns-in_ok-close-in-Ok g c =
     let writer = c.decrypt_with.new.writer in
     let Read = g.S.Source in
     let Out = g.F.Out.Sink in
     record {
-      told = c.in-Ok-close.ensures.told;
+      told = c.in_ok-close-in-Ok.ensures.told;
       done = λ told empty. record {
         before = ports (Read.view c.args.source.now) (Out.view c.args.out);
         after = ports (Read.view c.decrypt_with.new.reader) (Out.view writer);
@@ -70,20 +71,24 @@ returns-in-Ok-close g c =
         coming = refl;
         empty = empty;
         ends = c.in-Ok.ensures.done;
-        taken = subst (λ l. g.F.FileSet.entry c.close.new.self l ≡ (Out.view writer).taken) c.in-Ok.ensures.named (c.in-Ok-close.ensures.put told);
+        taken = subst (λ l. g.F.FileSet.entry c.close.new.self l ≡ (Out.view writer).taken) c.in-Ok.ensures.named (c.in_ok-close-in-Ok.ensures.put told);
       };
       stops = tt;
-      others = λ q other. c.in-Ok-close.ensures.others q (λ e. other (e ∙ c.in-Ok.ensures.named));
-      noted = c.in-Ok-close.ensures.noted;
+      others = λ q other. c.in_ok-close-in-Ok.ensures.others q (λ e. other (e ∙ c.in-Ok.ensures.named));
+      noted = c.in_ok-close-in-Ok.ensures.noted;
     }
 
-pub returns-in-Err-close : goal.returns-in-Err-close
-returns-in-Err-close g c =
-    let kept = c.in-Err-close.ensures.err in
+pub returns-in_err-close-in-Ok : goal.returns-in_err-close-in-Ok
+returns-in_err-close-in-Ok g c =
+    let r = c.from_residual.result in
+    let e : Stop = record { fault = c.in_err-close-in-Ok.field-0.0; position = None } in
+    let is = c.from_residual.ensures in
+    let kept = c.in_err-close-in-Ok.ensures.err in
     record {
-      told = c.in-Err-close.ensures.told;
-      done = tt;
-      stops = λ told empty. inr (ap (λ f. f (g.F.Out.Sink.view c.args.out).label) kept, refl, c.in-Err-close.ensures.faults);
+      told = c.in_err-close-in-Ok.ensures.told;
+      done = not_well r e is _;
+      stops = this_error r e is _ (λ told empty.
+          inr (ap (λ f. f (g.F.Out.Sink.view c.args.out).label) kept, refl, c.in_err-close-in-Ok.ensures.faults));
       others = λ q other. ap (λ f. f q) kept;
-      noted = c.in-Err-close.ensures.noted;
+      noted = c.in_err-close-in-Ok.ensures.noted;
     }

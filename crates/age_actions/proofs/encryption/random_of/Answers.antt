@@ -5,14 +5,14 @@ use Rattle.age_actions.proofs.encryption.random_of.Goals as goal
 pub returns : goal.returns
 returns c =
     let xs = c.args.bytes.now in
-    let a = c.in-Some.ensures.cases in
-    let b = c.in-Some-split_first_chunk.ensures.cases in
-    let d = c.in-Some-first_chunk.ensures.cases in
-    let key = c.in-Some.file_key.now in
-    let ys = c.in-Some.rest.now in
-    let salt = c.in-Some-split_first_chunk.salt.now in
-    let zs = c.in-Some-split_first_chunk.rest.now in
-    let nonce = c.in-Some-first_chunk.payload_nonce.now in
+    let a = c.in_ok-file_key.ensures.cases in
+    let b = c.in_ok-salt.ensures.cases in
+    let d = c.in_ok-payload_nonce.ensures.cases in
+    let key = c.in_ok-file_key.file_key.now in
+    let ys = c.in_ok-file_key.rest.now in
+    let salt = c.in_ok-salt.salt.now in
+    let zs = c.in_ok-salt.rest.now in
+    let nonce = c.in_ok-payload_nonce.payload_nonce.now in
     record {
       rest = drop 16 zs;
       parts = cut_in_two 16 xs key ys a.0 a.1 ∙ ap (λ (t : List ℕ). key ++ t) (cut_in_two 16 ys salt zs b.0 b.1

@@ -1,7 +1,9 @@
 use Rattle.std.proofs.Common.{◌∙◌, ◌++◌, ◌∷◌, [], refl, ap, sym}
 use Rattle.age_commands.specs.Requests.{text_of}
 use Rattle.age_fileset.specs.Events.{Opened}
+use Rattle.age_steps.specs.Endings.{EndsEarly}
 use Rattle.age_steps.specs.Orders.{random_name}
+use Rattle.age_actions.proofs.CommandSteps.{no_value, not_well, this_error}
 use Rattle.age_actions.proofs.EventSteps.{followed, none_done, then_did}
 use Rattle.age_actions.proofs.encryption.read_material.Goals as goal
 
@@ -15,60 +17,62 @@ returns-then-names_out_twice g c = record {
   early = tt;
 }
 
-pub returns-in-Ok-read_random : goal.returns-in-Ok-read_random
-returns-in-Ok-read_random g c =
+pub returns-in_err-pass : goal.returns-in_err-pass
+returns-in_err-pass g c =
+    let a = c.args.asked.now in
+    let r = c.from_residual.result in
+    let e = c.in_err-pass.field-0.0 in
+    let is = c.from_residual.ensures in
+    record {
+      told = c.in_err-pass.ensures.told;
+      kept = c.in_err-pass.ensures.kept;
+      read = no_value r e is _;
+      noted = not_well r e is _;
+      follows = record {
+        done = Opened a.pass.now ∷ [];
+        rest = Opened (random_name (text_of a.random)) ∷ [];
+        did = c.in_err-pass.ensures.noted;
+        front = refl;
+      };
+      early = this_error r e is EndsEarly c.in_err-pass.ensures.early;
+    }
+
+pub returns-in_err-random : goal.returns-in_err-random
+returns-in_err-random g c =
+    let a = c.args.asked.now in
+    let r = c.from_residual-in_err-random.result in
+    let e = c.in_err-random.field-0.0 in
+    let is = c.from_residual-in_err-random.ensures in
+    record {
+      told = c.in_err-random.ensures.told ∙ c.in_ok-pass.ensures.told;
+      kept = c.in_err-random.ensures.kept ∙ c.in_ok-pass.ensures.kept;
+      read = no_value r e is _;
+      noted = not_well r e is _;
+      follows = followed _ _ _ (then_did _ _ _ (Opened a.pass.now ∷ []) (Opened c.random_name.result.now ∷ []) c.in_ok-pass.ensures.noted
+          c.in_err-random.ensures.noted ∙ ap (λ n. g.F.FileSet.events c.args.files.now ++ Opened a.pass.now ∷ Opened n ∷ []) c.random_name.ensures);
+      early = this_error r e is EndsEarly c.in_err-random.ensures.early;
+    }
+
+pub returns : goal.returns
+returns g c =
     let a = c.args.asked.now in
     let name = c.random_name.ensures in
-    let pass = c.in-Ok.ensures in
-    let random = c.in-Ok-read_random.ensures in
-    let events = then_did _ _ _ (Opened a.pass.now ∷ []) (Opened c.random_name.result.now ∷ []) pass.noted random.noted
+    let events = then_did _ _ _ (Opened a.pass.now ∷ []) (Opened c.random_name.result.now ∷ []) c.in_ok-pass.ensures.noted c.in_ok-random.ensures.noted
     ∙ ap (λ n. g.F.FileSet.events c.args.files.now ++ Opened a.pass.now ∷ Opened n ∷ []) name in
     record {
-      told = random.told ∙ pass.told;
-      kept = random.kept ∙ pass.kept;
+      told = c.in_ok-random.ensures.told ∙ c.in_ok-pass.ensures.told;
+      kept = c.in_ok-random.ensures.kept ∙ c.in_ok-pass.ensures.kept;
       read = λ told.
-          let parts = random.read (pass.told ∙ told) in
+          let random = c.in_ok-random.ensures.read (c.in_ok-pass.ensures.told ∙ told) in
           record {
-            pass_is = pass.read told;
-            bytes = parts.0;
-            rest = parts.1;
-            random_held = ap (λ f. f (random_name (text_of a.random))) (sym pass.kept)
-                ∙ (ap (λ q. g.F.FileSet.entry c.read_pass.new.files q) (sym name) ∙ parts.2);
-            random_is = parts.3;
+            pass_is = c.in_ok-pass.ensures.read told;
+            bytes = random.0;
+            rest = random.1;
+            random_held = ap (λ f. f (random_name (text_of a.random))) (sym c.in_ok-pass.ensures.kept)
+                ∙ (ap (λ q. g.F.FileSet.entry c.read_pass.new.files q) (sym name) ∙ random.2);
+            random_is = random.3;
           };
       noted = events;
       follows = followed _ _ _ events;
       early = tt;
-    }
-
-pub returns-in-Err-read_random : goal.returns-in-Err-read_random
-returns-in-Err-read_random g c =
-    let a = c.args.asked.now in
-    let pass = c.in-Ok.ensures in
-    let random = c.in-Err-read_random.ensures in
-    record {
-      told = random.told ∙ pass.told;
-      kept = random.kept ∙ pass.kept;
-      read = tt;
-      noted = tt;
-      follows = followed _ _ _ (then_did _ _ _ (Opened a.pass.now ∷ []) (Opened c.random_name.result.now ∷ []) pass.noted random.noted
-          ∙ ap (λ n. g.F.FileSet.events c.args.files.now ++ Opened a.pass.now ∷ Opened n ∷ []) c.random_name.ensures);
-      early = random.early;
-    }
-
-pub returns-in-Err : goal.returns-in-Err
-returns-in-Err g c =
-    let a = c.args.asked.now in
-    record {
-      told = c.in-Err.ensures.told;
-      kept = c.in-Err.ensures.kept;
-      read = tt;
-      noted = tt;
-      follows = record {
-        done = Opened a.pass.now ∷ [];
-        rest = Opened (random_name (text_of a.random)) ∷ [];
-        did = c.in-Err.ensures.noted;
-        front = refl;
-      };
-      early = c.in-Err.ensures.early;
     }

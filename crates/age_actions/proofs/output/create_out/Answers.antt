@@ -5,8 +5,8 @@ use Rattle.age_actions.proofs.output.create_out.Goals as goal
 
 pub returns-then-saves_over : goal.returns-then-saves_over
 returns-then-saves_over g c =
-    let created = c.in-Ok.ensures in
-    let empty : g.F.FileSet.tells c.create.new.self ≡ true → (g.F.Out.Sink.view c.in-Ok.out).taken ≡ Some [] =
+    let created = c.in_ok-out.ensures in
+    let empty : g.F.FileSet.tells c.create.new.self ≡ true → (g.F.Out.Sink.view c.in_ok-out.out).taken ≡ Some [] =
     λ told. (created.made (sym created.told ∙ told)).0 in
     record {
       told = c.discard.ensures.told ∙ created.told;
@@ -20,10 +20,10 @@ returns-then-saves_over g c =
 
 pub returns : goal.returns
 returns g c = record {
-  told = c.in-Ok.ensures.told;
-  kept = c.in-Ok.ensures.kept;
-  made = c.in-Ok.ensures.made;
-  noted = c.in-Ok.ensures.noted;
+  told = c.in_ok-out.ensures.told;
+  kept = c.in_ok-out.ensures.kept;
+  made = c.in_ok-out.ensures.made;
+  noted = c.in_ok-out.ensures.noted;
   noted_err = tt;
   early = tt;
   usage = λ told. tt;
