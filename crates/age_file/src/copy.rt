@@ -37,17 +37,12 @@ fn copy_chunk<S: Source, O: Sink>(
     digest.update(&chain);
     let mut left = CHUNK;
     'parts: while left > 0 {
-        match some_bytes(reader) {
-            Ok(true) => {}
-            Ok(false) => return Err(FileFault::ShortText),
-            Err(fault) => return Err(fault),
+        if !some_bytes(reader)? {
+            return Err(FileFault::ShortText);
         }
         let n = left.min(reader.intake.bytes().len());
         let piece = &reader.intake.bytes()[..n];
-        match write_all(writer.sink, piece, &mut writer.progress.written) {
-            Ok(()) => {}
-            Err(fault) => return Err(fault),
-        }
+        write_all(writer.sink, piece, &mut writer.progress.written)?;
         digest.update(piece);
         reader.intake.use_front(n);
         left -= n;
@@ -73,10 +68,7 @@ pub(crate) fn copy_chunks<S: Source, O: Sink>(
     ensures same_writer { SameWriter writer.old writer.new }
 {
     for _copied in 0..chunks {
-        match copy_chunk(reader, writer) {
-            Ok(()) => {}
-            Err(fault) => return Err(fault),
-        }
+        copy_chunk(reader, writer)?;
     }
     Ok(())
 }

@@ -1,4 +1,5 @@
 use Rattle.std.proofs.Common.{◌≡◌, ◌++◌, ◌+◌, ◌<◌, ◌∙◌, ℕ, List, Option, Some, [], refl, sym, ap, subst, take, length, arith, append-nil, append_assoc}
+use Rattle.std.proofs.lemmas.Result.{err_from_is_err_and}
 use Rattle.std.proofs.lemmas.List.{length-append, length-take}
 use Rattle.std.proofs.KnownBytes.{Appends-nil}
 use Rattle.std.specs.Io.KnownBytes.{Appends}
@@ -34,10 +35,10 @@ parts-init g c =
           subst (λ (t : List ℕ). Holds256 c.update.new.self t) (same ∙ sym (append-nil links)) start;
     }
 
-pub returns-in-Ok-false-clause-copied : goal.returns-in-Ok-false-clause-copied
-returns-in-Ok-false-clause-copied g c =
+pub returns-then-not-branch-clause-copied : goal.returns-then-not-branch-clause-copied
+returns-then-not-branch-clause-copied g c =
     let kept = c.parts.invariant in
-    let r = rw c.in-Ok-false.field-0-test at c.in-Ok-false.ensures.answers in
+    let r = rw c.if-not-branch.true at c.in_ok-some_bytes.ensures.answers in
     let old = view_of_reader g.S.Source.view c.args.reader.now in
     let mid = view_of_reader g.S.Source.view c.parts.reader in
     let new = view_of_reader g.S.Source.view c.some_bytes.new.reader in
@@ -50,16 +51,17 @@ returns-in-Ok-false-clause-copied g c =
       answered = (omega (arith, kept.size, c.parts-test.true), (passes, r.0, r.1, kept.failures));
     }
 
-pub returns-in-Err-clause-copied : goal.returns-in-Err-clause-copied
-returns-in-Err-clause-copied g c =
+pub returns-in_err-some_bytes-clause-copied : goal.returns-in_err-some_bytes-clause-copied
+returns-in_err-some_bytes-clause-copied g c =
+    let p = err_from_is_err_and c.from_residual.result c.from_residual.ensures.1 in
     let kept = c.parts.invariant in
-    let a = c.in-Err.ensures.answers in
+    let a = c.in_err-some_bytes.ensures.answers in
     let old = view_of_reader g.S.Source.view c.args.reader.now in
     let mid = view_of_reader g.S.Source.view c.parts.reader in
     let new = view_of_reader g.S.Source.view c.some_bytes.new.reader in
     let was = view_of_writer g.O.Sink.view c.args.writer.now in
     let now = view_of_writer g.O.Sink.view c.parts.writer in
-    let dries = dries_same old mid new kept.copied c.in-Err.fault kept.passes (record {
+    let dries = dries_same old mid new kept.copied c.in_err-some_bytes.field-0.0 kept.passes (record {
       uses = c.some_bytes.ensures.uses;
       used = a.0;
       why = a.1;
@@ -69,18 +71,19 @@ returns-in-Err-clause-copied g c =
       wrote = kept.wrote;
       named = kept.named;
       count = kept.count;
-      answered = (
+      answered = rw (p.1, p.2) (
         omega (arith, kept.size, c.parts-test.true),
-        copy_dry old new was now kept.copied c.in-Err.fault dries
+        copy_dry old new was now kept.copied c.in_err-some_bytes.field-0.0 dries
             kept.failures,
       );
     }
 
-pub returns-in-Err-write_all-clause-copied : goal.returns-in-Err-write_all-clause-copied
-returns-in-Err-write_all-clause-copied g c =
+pub returns-in_err-write_all-clause-copied : goal.returns-in_err-write_all-clause-copied
+returns-in_err-write_all-clause-copied g c =
+    let p = err_from_is_err_and c.from_residual-in_err-write_all.result c.from_residual-in_err-write_all.ensures.1 in
     let kept = c.parts.invariant in
-    let r = rw c.in-Ok-true.field-0-test at c.in-Ok-true.ensures.answers in
-    let put = c.in-Err-write_all.ensures.writes in
+    let r = rw c.if-not-branch.false at c.in_ok-some_bytes.ensures.answers in
+    let put = c.in_err-write_all.ensures.writes in
     let old = view_of_reader g.S.Source.view c.args.reader.now in
     let mid = view_of_reader g.S.Source.view c.parts.reader in
     let new = view_of_reader g.S.Source.view c.some_bytes.new.reader in
@@ -91,9 +94,9 @@ returns-in-Err-write_all-clause-copied g c =
       out = kept.copied ++ put.out;
       wrote = Appends-then (g.O.Sink.view c.args.writer.now.sink.now).taken (g.O.Sink.view c.parts.writer.sink.now).taken
           (g.O.Sink.view c.write_all.new.sink).taken kept.copied put.out kept.wrote put.wrote;
-      named = c.in-Err-write_all.ensures.named ∙ kept.named;
+      named = c.in_err-write_all.ensures.named ∙ kept.named;
       count = omega (arith, kept.count, put.count, length-append kept.copied put.out);
-      answered = rw c.in-Err-write_all.ensures.fault (
+      answered = rw (p.1, p.2, c.in_err-write_all.ensures.fault) (
         omega (
           arith,
           kept.size,
@@ -118,20 +121,20 @@ returns-in-Err-write_all-clause-copied g c =
 pub parts-preserved : goal.parts-preserved
 parts-preserved g c =
     let kept = c.parts.invariant in
-    let r = rw c.in-Ok-true.field-0-test at c.in-Ok-true.ensures.answers in
+    let r = rw c.if-not-branch.false at c.in_ok-some_bytes.ensures.answers in
     let old = view_of_reader g.S.Source.view c.args.reader.now in
     let mid = view_of_reader g.S.Source.view c.parts.reader in
     let there = view_of_reader g.S.Source.view c.some_bytes.new.reader in
     let new = reader_view (g.S.Source.view c.some_bytes.new.reader.source.now) c.use_front.new.self in
     let n = c.min-n.result in
     let bytes = c.bytes-in-parts.result.now in
-    let put = c.in-Ok.ensures.writes in
+    let put = c.in_ok-write_all.ensures.writes in
     let whole : put.out ≡ take n bytes = all_out (take n bytes) put.out put.unwritten put.parts put.answered.0 in
     let wrote = subst (λ (t : List ℕ). Appends (g.O.Sink.view c.parts.writer.sink.now).taken (g.O.Sink.view c.write_all.new.sink).taken t) whole put.wrote in
     let front = uses_front (g.S.Source.view c.some_bytes.new.reader.source.now) c.some_bytes.new.reader.intake.now c.use_front.new.self bytes n
     c.use_front.ensures.pulls c.bytes-in-parts.ensures.bytes c.use_front.ensures.bytes in
     record {
-      same_reader = (c.some_bytes.ensures.same.0 ∙ kept.same_reader.0, c.some_bytes.ensures.same.1 ∙ kept.same_reader.1);
+      same_reader = (c.in_ok-some_bytes.ensures.same.0 ∙ kept.same_reader.0, c.in_ok-some_bytes.ensures.same.1 ∙ kept.same_reader.1);
       same_writer = kept.same_writer;
       copied = kept.copied ++ take n bytes;
       size = omega (
@@ -148,7 +151,7 @@ parts-preserved g c =
       wrote = Appends-then (g.O.Sink.view c.args.writer.now.sink.now).taken (g.O.Sink.view c.parts.writer.sink.now).taken
           (g.O.Sink.view c.write_all.new.sink).taken kept.copied (take n bytes) kept.wrote wrote;
       failures = put.answered.1 ∙ kept.failures;
-      named = c.in-Ok.ensures.named ∙ kept.named;
+      named = c.in_ok-write_all.ensures.named ∙ kept.named;
       count = omega (arith, kept.count, put.count, ap length whole, length-append kept.copied (take n bytes));
       index = kept.index;
       chain = kept.chain;

@@ -1,4 +1,5 @@
 use Rattle.std.proofs.Common.{◌≡◌, ◌++◌, ◌∙◌, ◌+◌, ℕ, List, Option, Some, [], refl, sym, ap, suc, arith}
+use Rattle.std.proofs.lemmas.Result.{err_from_is_err_and}
 use Rattle.std.proofs.lemmas.List.{length-append}
 use Rattle.std.specs.Simd.{first_chunks}
 use Rattle.age_file.specs.inner.Bindings.{chain_if, link_if}
@@ -16,8 +17,9 @@ copy_chunk-requires-clause-room g c = let kept = c.loop-copied.invariant in omeg
 pub copy_chunk-requires-clause-limit : goal.copy_chunk-requires-clause-limit
 copy_chunk-requires-clause-limit g c = omega (arith, c.loop-copied.invariant.index, c.requires.limit, c.loop-copied-test.true)
 
-pub returns-in-Err-clause-copied : goal.returns-in-Err-clause-copied
-returns-in-Err-clause-copied g c =
+pub returns-in_err-copy_chunk-clause-copied : goal.returns-in_err-copy_chunk-clause-copied
+returns-in_err-copy_chunk-clause-copied g c =
+    let p = err_from_is_err_and c.from_residual.result c.from_residual.ensures.1 in
     let kept = c.loop-copied.invariant in
     let old = view_of_reader g.S.Source.view c.args.reader.now in
     let mid = view_of_reader g.S.Source.view c.loop-copied.reader in
@@ -25,8 +27,8 @@ returns-in-Err-clause-copied g c =
     let was = view_of_writer g.O.Sink.view c.args.writer.now in
     let between = view_of_writer g.O.Sink.view c.loop-copied.writer in
     let now = view_of_writer g.O.Sink.view c.copy_chunk.new.writer in
-    chunk_failed 65536 c.args.chunks c.loop-copied._copied old mid new was between now kept.out c.in-Err.fault kept.size
-    (omega arith) kept.passes kept.wrote kept.named kept.failures (omega (arith, kept.count, c.requires.fresh.0)) c.in-Err.ensures.copied
+    rw (p.1, p.2) (chunk_failed 65536 c.args.chunks c.loop-copied._copied old mid new was between now kept.out c.in_err-copy_chunk.field-0.0 kept.size
+    (omega arith) kept.passes kept.wrote kept.named kept.failures (omega (arith, kept.count, c.requires.fresh.0)) c.in_err-copy_chunk.ensures.copied)
 
 pub loop-copied-init : goal.loop-copied-init
 loop-copied-init g c = record {
@@ -46,7 +48,7 @@ loop-copied-init g c = record {
 pub loop-copied-preserved : goal.loop-copied-preserved
 loop-copied-preserved g c =
     let kept = c.loop-copied.invariant in
-    let step = c.in-Ok.ensures.copied in
+    let step = c.in_ok-copy_chunk.ensures.copied in
     let goes = step.answered in
     let i = c.loop-copied._copied in
     let old = view_of_reader g.S.Source.view c.args.reader.now in
@@ -57,8 +59,8 @@ loop-copied-preserved g c =
     goes.4 ∙ ap (λ (xs : Option (List ℕ)). link_if xs step.out) kept.chain_is ∙ ap Some (sym (chain_more 65536 i kept.out step.out kept.size goes.0))
     ∙ ap (λ (k : ℕ). chain_if Kept (first_chunks 65536 k (kept.out ++ step.out))) next in
     record {
-      same_reader = (c.in-Ok.ensures.same_reader.0 ∙ kept.same_reader.0, c.in-Ok.ensures.same_reader.1 ∙ kept.same_reader.1);
-      same_writer = c.in-Ok.ensures.same_writer ∙ kept.same_writer;
+      same_reader = (c.in_ok-copy_chunk.ensures.same_reader.0 ∙ kept.same_reader.0, c.in_ok-copy_chunk.ensures.same_reader.1 ∙ kept.same_reader.1);
+      same_writer = c.in_ok-copy_chunk.ensures.same_writer ∙ kept.same_writer;
       out = kept.out ++ step.out;
       size = omega (arith, kept.size, goes.0, length-append kept.out step.out);
       passes = passes_then old mid new kept.out step.out kept.passes goes.1;
