@@ -86,13 +86,9 @@ fn read_nonce<S: Source>(
         (view_of_reader S.view reader.new)) }
     ensures same { SameReader reader.old reader.new }
 {
-    match take_nonce(reader) {
-        Ok(nonce) => {
-            let id = file_id(digest, &nonce);
-            Ok(Unlocked { key, nonce, id })
-        }
-        Err(fault) => Err(fault),
-    }
+    let nonce = take_nonce(reader)?;
+    let id = file_id(digest, &nonce);
+    Ok(Unlocked { key, nonce, id })
 }
 
 /// Reads a file up to its payload: the header, which is opened, and the payload nonce.
@@ -111,12 +107,7 @@ pub(crate) fn start<U: Unlock, S: Source>(
     ensures same { SameReader reader.old reader.new }
 {
     one_header();
-    let head = match read_head(alloc, reader) {
-        Ok(head) => head,
-        Err(fault) => return Err(fault),
-    };
-    match open_header(alloc, &head.header, unlock) {
-        Ok(key) => read_nonce(key, head.digest, reader),
-        Err(fault) => Err(FileFault::from(fault)),
-    }
+    let head = read_head(alloc, reader)?;
+    let key = open_header(alloc, &head.header, unlock)?;
+    read_nonce(key, head.digest, reader)
 }
