@@ -59,10 +59,8 @@ fn write_front<O: Sink>(
     ensures named { (O.view writer.new.sink.now).label ≡ (O.view writer.old.sink.now).label }
     ensures same { SameWriter writer.old writer.new }
 {
-    match front_of(alloc, secret) {
-        Ok(front) => write_all(writer.sink, front.as_slice(), &mut writer.progress.written),
-        Err(fault) => Err(fault),
-    }
+    let front = front_of(alloc, secret)?;
+    write_all(writer.sink, front.as_slice(), &mut writer.progress.written)
 }
 
 /// Encrypts all that a source gives under a passphrase, into an age file (<https://c2sp.org/age>):
@@ -97,10 +95,7 @@ pub fn encrypt<S: Source, O: Sink>(
         sink: writer,
         progress: Progress::new(Positions::Dropped),
     };
-    match write_front(alloc, secret, &mut writer) {
-        Ok(()) => {}
-        Err(fault) => return Err(fault),
-    }
+    write_front(alloc, secret, &mut writer)?;
     let key = payload_key(&FileKey::new(secret.file_key), &secret.payload_nonce);
     seal_all(&key, &mut reader, &mut writer)
 }

@@ -96,28 +96,19 @@ pub fn inspect<S: Source>(alloc: Global, source: &mut S) -> Result<Report, FileF
     // When each fault comes.
     ensures fails { IfErr result (HeadFails (S.view source.old) (S.view source.new)) }
 {
-    let Ok(mut intake) = Intake::new(alloc) else {
-        return Err(FileFault::Memory);
-    };
+    let mut intake = Intake::new(alloc)?;
     let mut reader = Reader {
         source,
         intake: &mut intake,
     };
-    let head = match read_head(alloc, &mut reader) {
-        Ok(head) => head,
-        Err(fault) => return Err(fault),
-    };
+    let head = read_head(alloc, &mut reader)?;
     // all memory is taken before the rest is read
-    let Ok(stanzas) = reports_of(alloc, head.header.stanzas.as_slice()) else {
-        return Err(FileFault::Memory);
-    };
-    match count_rest(&mut reader) {
-        Ok(rest) => Ok(Report {
-            header: head.len,
-            stanzas,
-            rest,
-            plain: plain_of(rest),
-        }),
-        Err(fault) => Err(fault),
-    }
+    let stanzas = reports_of(alloc, head.header.stanzas.as_slice())?;
+    let rest = count_rest(&mut reader)?;
+    Ok(Report {
+        header: head.len,
+        stanzas,
+        rest,
+        plain: plain_of(rest),
+    })
 }

@@ -55,10 +55,7 @@ fn copy_old<L: Source, O: Sink>(
     ensures same_reader { SameReader reader.old reader.new }
     ensures same_writer { SameWriter writer.old writer.new }
 {
-    match copy_chunks(reader, position.index, writer) {
-        Ok(()) => {}
-        Err(fault) => return Err(fault),
-    }
+    copy_chunks(reader, position.index, writer)?;
     if writer.progress.chain != Some(position.chain) {
         return Err(FileFault::OldTextDiffers);
     }

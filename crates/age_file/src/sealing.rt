@@ -120,11 +120,9 @@ pub(crate) fn seal_all<S: Source, O: Sink>(
         plain += reader.intake.bytes().len() as u128;
         reader.intake.use_all();
     }
-    match finish(&mut sealer, writer) {
-        Ok(()) => Ok(Written {
-            plain,
-            file: writer.progress.written,
-        }),
-        Err(fault) => Err(fault),
-    }
+    finish(&mut sealer, writer)?;
+    Ok(Written {
+        plain,
+        file: writer.progress.written,
+    })
 }

@@ -20,10 +20,8 @@ fn skip_block<S: Source>(reader: &mut Reader<'_, S>) -> Result<bool, FileFault>
 {
     let mut left = BLOCK;
     'parts: while left > 0 {
-        match some_bytes(reader) {
-            Ok(true) => {}
-            Ok(false) => return Ok(false),
-            Err(fault) => return Err(fault),
+        if !some_bytes(reader)? {
+            return Ok(false);
         }
         let n = left.min(reader.intake.bytes().len());
         reader.intake.use_front(n);

@@ -1,4 +1,5 @@
 use Rattle.std.proofs.Common.{◌≡◌, ◌∙◌, ap, subst, refl, List, ℕ, [], rules, IfOk, IfErr}
+use Rattle.std.proofs.lemmas.Result.{err_from_is_err_and}
 use Rattle.age_cipher.specs.Aead.{sealing}
 use Rattle.age_keys.specs.Keys.{payload_key}
 use Rattle.age_file.specs.Ports.{ports}
@@ -9,19 +10,21 @@ use Rattle.age_file.specs.Encrypts.{Encrypts, EncryptFails}
 use Rattle.age_file.proofs.ReaderSteps.{ports_last}
 use Rattle.age_file.proofs.encryption.encrypt.Goals as goal
 
-pub returns-in-Err-clause-fails : goal.returns-in-Err-clause-fails
-returns-in-Err-clause-fails g c =
+pub returns-in_err-write_front-clause-fails : goal.returns-in_err-write_front-clause-fails
+returns-in_err-write_front-clause-fails g c =
+    let p = err_from_is_err_and c.from_residual.result c.from_residual.ensures.1 in
+    let fault = c.in_err-write_front.field-0.0 in
     let s = c.args.secret.now in
     let source = g.S.Source.view c.args.reader.now in
     let old = ports source (g.O.Sink.view c.args.writer.now) in
-    ports_last g.S.Source.view g.O.Sink.view (λ q. EncryptFails s old q c.in-Err.fault) _ c.args.reader.now _ c.write_front.new.writer.sink.now refl
+    rw (p.1, p.2) (ports_last g.S.Source.view g.O.Sink.view (λ q. EncryptFails s old q fault) _ c.args.reader.now _ c.write_front.new.writer.sink.now refl
     (search rules) (front_fails s source (writer_view (g.O.Sink.view c.args.writer.now) c.new-2.result)
-    (view_of_writer g.O.Sink.view c.write_front.new.writer) c.in-Err.fault c.in-Err.ensures.wrote)
+    (view_of_writer g.O.Sink.view c.write_front.new.writer) fault c.in_err-write_front.ensures.wrote))
 
 pub returns-clause-done : goal.returns-clause-done
 returns-clause-done g c =
     let s = c.args.secret.now in
-    let front = c.in-Ok-write_front.ensures.wrote in
+    let front = c.in_ok-write_front.ensures.wrote in
     let is : c.payload_key-key.result ≡ payload_key s.key s.nonce =
     c.payload_key-key.ensures ∙ (ap (λ k. payload_key k c.secret.inside.payload_nonce) c.new-3.ensures
     ∙ ap (λ v. payload_key v.key v.nonce) c.secret.view_is) in
@@ -40,7 +43,7 @@ returns-clause-done g c =
 pub returns-clause-fails : goal.returns-clause-fails
 returns-clause-fails g c =
     let s = c.args.secret.now in
-    let front = c.in-Ok-write_front.ensures.wrote in
+    let front = c.in_ok-write_front.ensures.wrote in
     let is : c.payload_key-key.result ≡ payload_key s.key s.nonce =
     c.payload_key-key.ensures ∙ (ap (λ k. payload_key k c.secret.inside.payload_nonce) c.new-3.ensures
     ∙ ap (λ v. payload_key v.key v.nonce) c.secret.view_is) in

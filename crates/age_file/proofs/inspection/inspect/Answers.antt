@@ -1,4 +1,5 @@
 use Rattle.std.proofs.Common.{◌≡◌, ◌++◌, ℕ, List, refl, subst, rules}
+use Rattle.std.proofs.lemmas.Result.{err_from_is_err_and}
 use Rattle.std.specs.Io.KnownBytes.{Consumes, IsAtEnd}
 use Rattle.age_file.specs.Faults.{HeadFails}
 use Rattle.age_fault.specs.Faults.{HasRisen}
@@ -19,31 +20,33 @@ rest_to_head first mid now front Read same h f = subst (λ (k : ℕ). HasRisen k
 rest_to_head first mid now front ReadNeverEnds same h f = f first.remaining front h
 rest_to_head first mid now front other same h f = absurd f
 
-pub returns-in_default-clause-fails : goal.returns-in_default-clause-fails
-returns-in_default-clause-fails g c = stops_unread (g.S.Source.view c.args.source.now).remaining
+pub returns-in_err-intake-clause-fails : goal.returns-in_err-intake-clause-fails
+returns-in_err-intake-clause-fails g c =
+    let p = err_from_is_err_and c.from_residual.result c.from_residual.ensures.1 in
+    rw (p.1, p.2) (stops_unread (g.S.Source.view c.args.source.now).remaining)
 
-pub returns-clause-fails : goal.returns-clause-fails
-returns-clause-fails g c =
-    let head = c.in-Ok-read_head.ensures.found in
+pub returns-in_err-rest-clause-fails : goal.returns-in_err-rest-clause-fails
+returns-in_err-rest-clause-fails g c =
+    let p = err_from_is_err_and c.from_residual-in_err-rest.result c.from_residual-in_err-rest.ensures.1 in
+    let head = c.in_ok-head.ensures.found in
     let first = g.S.Source.view c.args.source.now in
     let mid = view_of_reader g.S.Source.view c.read_head.new.reader in
     let last = view_of_reader g.S.Source.view c.count_rest.new.reader in
-    let fault = c.in-Err-count_rest.fault in
-    let fails = rest_to_head first mid last head.front fault c.in-Ok-read_head.ensures.unfailed head.pulled c.in-Err-count_rest.ensures.fails in
-    read_last g.S.Source.view (λ v. HeadFails first v fault) _ c.count_rest.new.reader.source.now (search rules) fails
+    let fails = rest_to_head first mid last head.front c.in_err-rest.field-0.0 c.in_ok-head.ensures.unfailed head.pulled c.in_err-rest.ensures.fails in
+    rw (p.1, p.2) (read_last g.S.Source.view (λ v. HeadFails first v c.in_err-rest.field-0.0) _ c.count_rest.new.reader.source.now (search rules) fails)
 
-pub returns-in-Ok-count_rest-clause-ok : goal.returns-in-Ok-count_rest-clause-ok
-returns-in-Ok-count_rest-clause-ok g c =
-    let head = c.in-Ok-read_head.ensures.found in
+pub returns-clause-ok : goal.returns-clause-ok
+returns-clause-ok g c =
+    let head = c.in_ok-head.ensures.found in
     let first = g.S.Source.view c.args.source.now in
-    let counted = c.in-Ok-count_rest.ensures.counts first.remaining head.front head.pulled in
-    let reports = c.in-Ok-reports_of.ensures in (
+    let counted = c.in_ok-rest.ensures.counts first.remaining head.front head.pulled in
+    let reports = rw c.in_ok-stanzas.was at c.reports_of.ensures in (
       head.front ++ counted.0,
       read_last g.S.Source.view (λ v. Consumes first.remaining v.remaining (head.front ++ counted.0)) _ c.count_rest.new.reader.source.now (search rules)
           counted.2,
-      read_last g.S.Source.view (λ v. IsAtEnd v.remaining) _ c.count_rest.new.reader.source.now (search rules) c.in-Ok-count_rest.ensures.ended,
+      read_last g.S.Source.view (λ v. IsAtEnd v.remaining) _ c.count_rest.new.reader.source.now (search rules) c.in_ok-rest.ensures.ended,
       record {
-        h = c.in-Ok-read_head.head.header;
+        h = c.in_ok-head.head.header;
         front = head.front;
         rest = counted.0;
         text = head.text;

@@ -157,13 +157,14 @@ finish-requires g c =
     let product : length kept.text * 65552 ≤ 2 ^ 80 * 65552 = mul-le (length kept.text) 65552 (2 ^ 80) 65552 small (omega arith) in
     record { feeding = kept.goes.feeding; room = omega (arith, c.requires.room, kept.wrote.count, fits, product) }
 
-pub returns-in-Err-clause-fails : goal.returns-in-Err-clause-fails
-returns-in-Err-clause-fails g c =
+pub returns-in_err-finish-clause-fails : goal.returns-in_err-finish-clause-fails
+returns-in_err-finish-clause-fails g c =
+    let p = err_from_is_err_and c.from_residual-in_err-finish.result c.from_residual-in_err-finish.ensures.1 in
     let kept = c.pulls.invariant in
     let r = rw c.if-branch.false at c.in_ok-refill.ensures in
     let all = cut_pulled _ _ _ kept.text _ r.answered.0 (r.pulled _ kept.text kept.pulled) in
     let small : length kept.text ≤ 2 ^ 80 = omega (arith, all.small, all.most) in
-    let l = c.in-Err.ensures.sealed in
+    let l = c.in_err-finish.ensures.sealed in
     let n : ℕ = 65536 in
     let a = c.new-sealer.result in
     let b = c.pulls.sealer in
@@ -173,7 +174,7 @@ returns-in-Err-clause-fails g c =
     let old = ports (g.S.Source.view c.args.reader.now.source.now) (g.O.Sink.view c.args.writer.now.sink.now) in
     let new = ports (g.S.Source.view c.refill.new.source) (g.O.Sink.view c.finish.new.writer.sink.now) in
     let out = last_written seals n a b was mid now kept.text kept.goes.key (kept.goes.holds [] kept.fresh) kept.wrote l.out l.unwritten l.wrote l.blocks in
-    subst (λ k. SealsFront (seals k) n old new c.args.writer.now.progress.written c.finish.new.writer.progress.written c.in-Err.fault)
+    rw (p.1, p.2) (subst (λ k. SealsFront (seals k) n old new c.args.writer.now.progress.written c.finish.new.writer.progress.written c.in_err-finish.field-0.0)
     (ap (λ v. v.key) c.new-sealer.ensures) (record {
       text = kept.text;
       out = front_of (seals a.key) n kept.text ++ l.out;
@@ -181,15 +182,15 @@ returns-in-Err-clause-fails g c =
       prefix = last_begins seals n a b was mid now kept.text kept.goes.key (kept.goes.holds [] kept.fresh) kept.wrote l.out l.unwritten l.wrote l.blocks;
       fails = subst (λ (f : FileFault). SealingFails n old new kept.text f) (sym l.answered.0) (subst (λ (k : ℕ). HasRisen k new.sink.failed) kept.write_failed
           l.answered.1);
-    })
+    }))
 
-pub returns-in-Ok-clause-sealed : goal.returns-in-Ok-clause-sealed
-returns-in-Ok-clause-sealed g c =
+pub returns-clause-sealed : goal.returns-clause-sealed
+returns-clause-sealed g c =
     let kept = c.pulls.invariant in
     let r = rw c.if-branch.false at c.in_ok-refill.ensures in
     let all = cut_pulled _ _ _ kept.text _ r.answered.0 (r.pulled _ kept.text kept.pulled) in
     let small : length kept.text ≤ 2 ^ 80 = omega (arith, all.small, all.most) in
-    let l = c.in-Ok.ensures.sealed in
+    let l = c.in_ok-finish.ensures.sealed in
     let n : ℕ = 65536 in
     let a = c.new-sealer.result in
     let b = c.pulls.sealer in

@@ -1,14 +1,15 @@
 use Rattle.std.proofs.Common.{◌++◌, ◌∙◌, refl, take, arith}
+use Rattle.std.proofs.lemmas.Result.{err_from_is_err_and}
 use Rattle.std.proofs.lemmas.List.{length-append, length-take}
 use Rattle.age_file.specs.inner.Readers.{reader_view, view_of_reader}
 use Rattle.age_file.proofs.StartSteps.{uses_front}
 use Rattle.age_file.proofs.SkipSteps.{passes_then, passes_same, dries_same}
 use Rattle.age_file.proofs.skip.skip_block.Goals as goal
 
-pub returns-in-Ok-false-clause-skipped : goal.returns-in-Ok-false-clause-skipped
-returns-in-Ok-false-clause-skipped g c =
+pub returns-then-not-branch-clause-skipped : goal.returns-then-not-branch-clause-skipped
+returns-then-not-branch-clause-skipped g c =
     let kept = c.parts.invariant in
-    let r = rw c.in-Ok-false.field-0-test at c.in-Ok-false.ensures.answers in
+    let r = rw c.if-not-branch.true at c.in_ok-some_bytes.ensures.answers in
     let old = view_of_reader g.S.Source.view c.args.reader.now in
     let mid = view_of_reader g.S.Source.view c.parts.reader in
     let new = view_of_reader g.S.Source.view c.some_bytes.new.reader in (
@@ -19,22 +20,24 @@ returns-in-Ok-false-clause-skipped g c =
       r.1,
     )
 
-pub returns-in-Err-clause-skipped : goal.returns-in-Err-clause-skipped
-returns-in-Err-clause-skipped g c =
+pub returns-in_err-some_bytes-clause-skipped : goal.returns-in_err-some_bytes-clause-skipped
+returns-in_err-some_bytes-clause-skipped g c =
+    let p = err_from_is_err_and c.from_residual.result c.from_residual.ensures.1 in
     let kept = c.parts.invariant in
-    let a = c.in-Err.ensures.answers in
+    let a = c.in_err-some_bytes.ensures.answers in
     let old = view_of_reader g.S.Source.view c.args.reader.now in
     let mid = view_of_reader g.S.Source.view c.parts.reader in
-    let new = view_of_reader g.S.Source.view c.some_bytes.new.reader in (
+    let new = view_of_reader g.S.Source.view c.some_bytes.new.reader in
+    rw (p.1, p.2) (
       kept.passed,
       omega (arith, kept.size, c.parts-test.true),
-      dries_same old mid new kept.passed c.in-Err.fault kept.passes (record { uses = c.some_bytes.ensures.uses; used = a.0; why = a.1 }),
+      dries_same old mid new kept.passed c.in_err-some_bytes.field-0.0 kept.passes (record { uses = c.some_bytes.ensures.uses; used = a.0; why = a.1 }),
     )
 
 pub parts-preserved : goal.parts-preserved
 parts-preserved g c =
     let kept = c.parts.invariant in
-    let r = rw c.in-Ok-true.field-0-test at c.in-Ok-true.ensures.answers in
+    let r = rw c.if-not-branch.false at c.in_ok-some_bytes.ensures.answers in
     let old = view_of_reader g.S.Source.view c.args.reader.now in
     let mid = view_of_reader g.S.Source.view c.parts.reader in
     let there = view_of_reader g.S.Source.view c.some_bytes.new.reader in
@@ -44,7 +47,7 @@ parts-preserved g c =
     let front = uses_front (g.S.Source.view c.some_bytes.new.reader.source.now) c.some_bytes.new.reader.intake.now c.use_front.new.self piece n
     c.use_front.ensures.pulls c.bytes.ensures.bytes c.use_front.ensures.bytes in
     record {
-      same = (c.some_bytes.ensures.same.0 ∙ kept.same.0, c.some_bytes.ensures.same.1 ∙ kept.same.1);
+      same = (c.in_ok-some_bytes.ensures.same.0 ∙ kept.same.0, c.in_ok-some_bytes.ensures.same.1 ∙ kept.same.1);
       passed = kept.passed ++ take n piece;
       size = omega (arith, kept.size, c.min-n.ensures, length-append kept.passed (take n piece), length-take n piece);
       passes = passes_then old there new kept.passed (take n piece) (passes_same old mid there kept.passed kept.passes
