@@ -63,20 +63,19 @@ impl Front {
             → TakesFront held intake.old intake.new self.new result }
     {
         let piece = intake.bytes();
-        match self.parser.feed(piece) {
-            Ok(HeadStep::More) => {
+        match self.parser.feed(piece)? {
+            HeadStep::More => {
                 self.len += piece.len() as u64;
                 self.digest.update(piece);
                 intake.use_all();
                 Ok(None)
             }
-            Ok(HeadStep::Ready { taken, header }) => {
+            HeadStep::Ready { taken, header } => {
                 self.len += taken as u64;
                 self.digest.update(&piece[..taken]);
                 intake.use_front(taken);
                 Ok(Some(header))
             }
-            Err(fault) => Err(fault),
         }
     }
 
@@ -97,18 +96,12 @@ impl Front {
             (S.view reader.new.source.now).remaining) }
         ensures same { SameReader reader.old reader.new }
     {
-        'pieces: loop {
-            match reader.intake.refill(reader.source) {
-                Ok(true) => {}
-                Ok(false) => return Err(FileFault::from(self.parser.end())),
-                Err(fault) => return Err(fault),
-            }
-            match self.take(reader.intake) {
-                Ok(Some(header)) => return Ok(header),
-                Ok(None) => {}
-                Err(fault) => return Err(FileFault::from(fault)),
+        'pieces: while reader.intake.refill(reader.source)? {
+            if let Some(header) = self.take(reader.intake)? {
+                return Ok(header);
             }
         }
+        Err(FileFault::from(self.parser.end()))
     }
 }
 
@@ -132,8 +125,6 @@ pub(crate) fn read_head<S: Source>(
     ensures same { SameReader reader.old reader.new }
 {
     let mut front = Front::new(alloc);
-    match front.read(reader) {
-        Ok(header) => Ok(front.head(header)),
-        Err(fault) => Err(fault),
-    }
+    let header = front.read(reader)?;
+    Ok(front.head(header))
 }

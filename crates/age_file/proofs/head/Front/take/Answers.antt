@@ -1,13 +1,14 @@
 use Rattle.std.proofs.Common.{ap, take, length, arith}
 use Rattle.std.proofs.lemmas.List.{length-append, length-take}
+use Rattle.std.proofs.lemmas.Result.{err_from_is_err_and}
 use Rattle.age_file.proofs.head.Front.take.Goals as goal
 
-pub returns-in-Ok-More : goal.returns-in-Ok-More
-returns-in-Ok-More c =
+pub returns-in-More : goal.returns-in-More
+returns-in-More c =
     λ held f.
     let bytes = c.args.intake.now.bytes in
     let is = c.bytes-piece.ensures.bytes in
-    let feeds = rw (f.parser_is, c.in-Ok-More.field-0-is, is) at c.in-Ok-More.ensures in (
+    let feeds = rw (f.parser_is, c.in-More.is, is) at c.in_ok-feed.ensures in (
       record {
         parser_is = feeds.0;
         len_is = omega (arith, f.len_is, length-append held bytes, ap length is);
@@ -20,24 +21,25 @@ returns-in-Ok-More c =
       c.use_all.ensures.pulls,
     )
 
-pub returns-in-Ok-Ready : goal.returns-in-Ok-Ready
-returns-in-Ok-Ready c =
+pub returns-in-Ready : goal.returns-in-Ready
+returns-in-Ready c =
     λ held f.
     let bytes = c.args.intake.now.bytes in
     let is = c.bytes-piece.ensures.bytes in
-    let n = c.in-Ok-Ready.taken in
-    let feeds = rw (f.parser_is, c.in-Ok-Ready.field-0-is, is) at c.in-Ok-Ready.ensures in
+    let n = c.in-Ready.taken in
+    let feeds = rw (f.parser_is, c.in-Ready.is, is) at c.in_ok-feed.ensures in
     record {
       taken = n;
       text = feeds.2;
       len_is = omega (arith, f.len_is, feeds.1, length-append held (take n bytes), length-take n bytes);
-      hashed = rw is at (c.update-in-Ok-Ready.ensures held f.hashed);
+      hashed = rw is at (c.update-in-Ready.ensures held f.hashed);
       rest = c.use_front.ensures.bytes;
       pulls = c.use_front.ensures.pulls;
     }
 
-pub returns-in-Err : goal.returns-in-Err
-returns-in-Err c =
+pub returns-in_err-feed : goal.returns-in_err-feed
+returns-in_err-feed c =
     λ held f.
-    let feeds = rw (f.parser_is, c.bytes-piece.ensures.bytes) at c.in-Err.ensures in
-    feeds.1
+    let p = err_from_is_err_and c.from_residual.result c.from_residual.ensures.1 in
+    let feeds = rw (f.parser_is, c.bytes-piece.ensures.bytes) at c.in_err-feed.ensures in
+    rw (p.1, p.2) feeds.1
