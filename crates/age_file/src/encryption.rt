@@ -35,16 +35,10 @@ fn front_of(alloc: Global, secret: &Secret<'_>) -> Result<Vec<u8>, FileFault>
     ensures memory { IfErr result (λ fault. fault ≡ Memory) }
 {
     let key = FileKey::new(secret.file_key);
-    let Ok(header) = scrypt_header(alloc, secret.pass, secret.log, &secret.salt, &key) else {
-        return Err(FileFault::Memory);
-    };
-    let Ok(mut front) = encode_head(alloc, &header) else {
-        return Err(FileFault::Memory);
-    };
-    match front.extend_from_slice(&secret.payload_nonce) {
-        Ok(()) => Ok(front),
-        Err(_) => Err(FileFault::Memory),
-    }
+    let header = scrypt_header(alloc, secret.pass, secret.log, &secret.salt, &key)?;
+    let mut front = encode_head(alloc, &header)?;
+    front.extend_from_slice(&secret.payload_nonce)?;
+    Ok(front)
 }
 
 /// Writes what stands before the payload.
