@@ -78,9 +78,7 @@ pub fn encrypt<S: Source, O: Sink>(
     ensures settled { OnOk result ((O.view writer.new).settled ≡ true) }
     ensures named { (O.view writer.new).label ≡ (O.view writer.old).label }
 {
-    let Ok(mut intake) = Intake::new(alloc) else {
-        return Err(FileFault::Memory);
-    };
+    let mut intake = Intake::new(alloc)?;
     let mut reader = Reader {
         source: reader,
         intake: &mut intake,

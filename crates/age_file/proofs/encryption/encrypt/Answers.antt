@@ -12,7 +12,7 @@ use Rattle.age_file.proofs.encryption.encrypt.Goals as goal
 
 pub returns-in_err-write_front-clause-fails : goal.returns-in_err-write_front-clause-fails
 returns-in_err-write_front-clause-fails g c =
-    let p = err_from_is_err_and c.from_residual.result c.from_residual.ensures.1 in
+    let p = err_from_is_err_and c.from_residual-in_err-write_front.result c.from_residual-in_err-write_front.ensures.1 in
     let fault = c.in_err-write_front.field-0.0 in
     let s = c.args.secret.now in
     let source = g.S.Source.view c.args.reader.now in
