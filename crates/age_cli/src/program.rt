@@ -190,9 +190,9 @@ pub fn run<F: FileSet, I: Source, O: Sink, E: Sink, P: Meter>(
         → IsWritersResumption rows (F.entry files.old) text
         → KeepsOut rows (F.entry files.old) (F.entry files.new) result text }
     // What is opened and made, also of the machine's files: the beginning of the command's order;
-    // with 0 all of it but what a stop adds; with 2 the beginning of that, and of files that are
-    // told only what the arguments are judged by, for a name may turn out to be another file's only
-    // once the output is opened; and nothing of a command line that is refused.
+    // with 0 all of it but what a stop adds; with 2 a beginning of that, and where a contract can
+    // see the files only what the arguments are judged by, since a name may turn out to be another
+    // file's only once the output is opened; and nothing for a command line that is refused.
     ensures touches { Touching (texts words.now) (F.events files.old) (F.events files.new) }
     ensures finished { Finishing (texts words.now) (F.events files.old) (F.events files.new)
         (λ P. result ≡ 0 → P) }

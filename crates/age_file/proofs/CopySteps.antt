@@ -52,7 +52,7 @@ chunk_failed n chunks i x y z a b c p fault size lt f wrote named same count g =
   answered = (within n chunks i p g.out size lt g.answered.0, copy_fails x y z a b c p g.out fault f same g.answered.1);
 }
 
--- the front of a piece was written behind what was used
+-- the front of a piece was written after what was used
 pub front_written : (used out unwritten bytes : List ℕ) (n : ℕ) → take n bytes ≡ out ++ unwritten → IsPrefixOf (used ++ out) (used ++ bytes)
 front_written used out unwritten bytes n parts = (
   unwritten ++ drop n bytes,

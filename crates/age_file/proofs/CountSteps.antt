@@ -385,7 +385,7 @@ module _ (sealing : List ℕ → List ℕ → List ℕ) (opening : List ℕ → 
       (chain_is ∙ (ap (λ (t : List ℕ). chain_if keep (first_chunks n k t)) same
       ∙ ap (λ (i : ℕ). chain_if keep (first_chunks n i (base ++ released opening n (fresh k)))) (sym index)))
 
-  -- and at the end of a run, with bytes behind that were not fed
+  -- and at the end of a run, with bytes after it that were not fed
   pub marked : (base : List ℕ) (s last : Segment) (more out unwritten : List ℕ) (p : Progress) → with_piece s more ≡ last → released opening n s
       ≡ out ++ unwritten → CountsChunks keep opening n base s unwritten p
       → HasCounted keep opening n (base ++ out) last p

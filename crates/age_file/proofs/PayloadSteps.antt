@@ -56,7 +56,7 @@ module _ {B : Type 0} (sealing : B → List ℕ → List ℕ → List ℕ) (open
     status_of next old new was now unwritten key h o =
         (o.stands (fresh k) h).status ∙ ap (λ c. (outcome (opening c) n (next (fresh k))).status) (o.key ∙ key)
 
-    -- what the progress then counts, behind a base
+    -- what the progress then counts, after a base
     counts_of : (next : Segment → Segment) (old new : OpenerView B) (was now : WriterView) (more unwritten : List ℕ) (last : Segment) → old.key ≡ K
         → Stands opening n old (fresh k)
         → with_piece (next (fresh k)) more ≡ last → (o : Releases opening n next old new was now unwritten) → (keep : Positions) (base : List ℕ)

@@ -125,7 +125,7 @@ module _ (field : List ℕ) where
 length-field : (b : List ℕ) → IsDigest b → length (field_text b) ≡ 44
 length-field b d = omega (arith, length-text b, d.size)
 
--- ---- fields behind each other
+-- ---- fields one after the other
 
 module _ (fields id links tag : List ℕ) (d1 : IsDigest id) (d2 : IsDigest links) (d3 : IsDigest tag) (e : fields ≡ fields_text id links tag) where
   pub first_field : take 44 fields ≡ field_text id

@@ -243,7 +243,7 @@ module _ (keep : Positions) (Allows : Header → List ℕ → Type 0) (Refused :
         )
     copy_fails other c = absurd c.answered.1
 
-    -- ---- a run that went on behind the old text
+    -- ---- a run that went on after the old text
 
     -- the old text was copied, and is the position's
     module _ (c : CopiesText keep 65536 p.index p.chain x z first s1.writer (Ok tt)) (limit : p.index < 281474976710656) (kept : s1.reader.unread.bytes
@@ -388,14 +388,14 @@ module _ (keep : Positions) (Allows : Header → List ℕ → Type 0) (Refused :
         after_blocks : Pulled (preceded old_bytes a.remaining) m.source.remaining m.unread.pulls ((old_bytes ++ head) ++ (passed ++ m.unread.bytes))
         after_blocks = passes.uses (preceded old_bytes a.remaining) (old_bytes ++ head) again
 
-        -- there is room for what is behind them
+        -- there is room for what is after them
         pub place_after : HasPlace (stage m s1.writer)
         place_after =
             let all = after_blocks in
             let both = length-append (old_bytes ++ head) (passed ++ m.unread.bytes) in
             (omega (arith, all.small, both, length-append passed m.unread.bytes, c.count, zero, c.answered.0, limit), all.most)
 
-        -- what was read and decrypted behind them
+        -- what was read and decrypted after them
         record IsDecrypted (s2 : Stage) (result : Result (Unit {0}) FileFault) : Type 0 where
           run : Run
           file_is : run.file ≡ file

@@ -48,11 +48,11 @@ nonce_fails x y z p Read lt e f g none h = ((p, lt, uses_then x y z p [] p (appe
 nonce_fails x y z p ReadNeverEnds lt e f g none h = ((p, lt, uses_then x y z p [] p (append-nil p) f g, none), h.0)
 nonce_fails x y z p other lt e f g none h = absurd h
 
--- where no header stands, none has a nonce behind it
+-- where no header stands, none has a nonce after it
 in_header_short : (a b : Option (List ℕ)) → IsInHeader a b → IsShort a b
 in_header_short a b none = (none.0, none.1, λ h front rest text parts. absurd (none.2 (h, front, rest, text, parts)))
 
--- there is one header in front of the bytes, and fewer than 16 behind it
+-- there is one header in front of the bytes, and fewer than 16 after it
 after_short : OneHeader → (a b : Option (List ℕ)) (h : Header) (front short : List ℕ) → HeadText h front → length short < 16 → Consumes a b (front ++ short)
     → IsShort a b
 after_short one a b h front short text lt consumed = (
@@ -116,7 +116,7 @@ module _ (Allows : Header → List ℕ → Type 0) (Refused : Header → KeyFaul
       )
   nonce_to_start one a y z h front key other e text opens p f = absurd f
 
-  -- the nonce was read behind a header that was opened, or not
+  -- the nonce was read after a header that was opened, or not
   module _ (one : OneHeader) (a : SourceView) (y z : ReaderView) (h : Header) (front key : List ℕ) (digest : Sha256) (same : y.source.failed
       ≡ a.failed) (text : HeadText h front) (opens : Opens Allows h key) (hashed : Holds256 digest front)
       (pulled : Pulled a.remaining y.source.remaining y.unread.pulls (front ++ y.unread.bytes)) where

@@ -137,7 +137,7 @@ module _ (one : OneHeader) (Allows : Header → List ℕ → Type 0) (Refused : 
         u.file.size,
       )
 
-  -- what was read behind the nonce is the payload's beginning
+  -- what was read after the nonce is the payload's beginning
   pub record IsOpenedAs (key nonce behind : List ℕ) (after : Option (List ℕ)) : Type 0 where
     pub key_is : key ≡ u.key
     pub nonce_is : nonce ≡ u.nonce

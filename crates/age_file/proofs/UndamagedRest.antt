@@ -1,4 +1,4 @@
--- What can't stop a resumed decryption of an age file that is undamaged, behind the text that it was made for.
+-- What can't stop a resumed decryption of an age file that is undamaged, after the text that it was made for.
 use Rattle.std.proofs.Common.{inl, inr, ◌≡◌, ℕ, ◌*◌, ◌≤◌, List, ◌++◌, length, take, Option, sym, ap, ◌∙◌, arith, append_assoc}
 use Rattle.std.proofs.lemmas.List.{length-append, length-take}
 use Rattle.std.specs.Simd.{first_chunks}

@@ -101,7 +101,7 @@ pub(crate) fn ended(
     }
 }
 
-/// Opens the payload of a file from a chunk on, and tells how the run ended.
+/// Opens the payload of a file from a chunk on, and returns how the run ended.
 pub(crate) fn open_payload<S: Source, O: Sink>(
     unlocked: &Unlocked,
     index: u64,

@@ -56,7 +56,7 @@ impl Front {
         }
     }
 
-    /// Takes the bytes that were pulled, up to the header's end. Those behind it stay.
+    /// Takes the bytes that were pulled, up to the header's end. Those after it stay.
     fn take(&mut self, intake: &mut Intake) -> Result<Option<Header>, HeadFault>
         requires { IsReading self.old }
         ensures { (held : List ℕ) → IsFront self.old held

@@ -1,4 +1,4 @@
-//! Reads a file to its end, and tells what it holds.
+//! Reads a file to its end, and reports what it holds.
 
 ghost use Rattle.std.specs.Prelude.{◌≡◌, ◌+◌, ◌^◌, ◌<◌, ◌≤◌, ◌*◌, IfOk, IfErr};
 ghost use Rattle.std.specs.Prelude.{OnOk, map};

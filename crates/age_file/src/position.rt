@@ -87,8 +87,8 @@ pub(crate) fn next_link(chain: &[u8; 32], chunk: &[u8]) -> [u8; 32]
     digest.finalize()
 }
 
-/// What tells a file from others: the digest of its header's bytes, which it was fed before, and
-/// its payload nonce.
+/// What identifies a file: the digest of its header's bytes, which it was fed before, and of its
+/// payload nonce.
 #[tactic(auto, unfolding(crate::specs::Bindings::file_id))]
 pub(crate) fn file_id(mut digest: Sha256, nonce: &[u8; 16]) -> [u8; 32]
     ensures { (front : List ℕ) → Holds256 digest front → result ≡ file_id front nonce.now }

@@ -53,7 +53,7 @@ fn number_of(digits: &[u8]) -> Option<u64>
     }
 }
 
-/// The index that a text up to its index tells.
+/// The index in the front of a position's text, which ends with the index.
 fn index_of(front: &[u8]) -> Option<u64>
     ensures limit { IfSome result (λ index. index < 281474976710656) }
     ensures some { IfSome result (λ index. front.now ≡ index_text index) }

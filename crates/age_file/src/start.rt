@@ -21,7 +21,7 @@ use std::alloc::Global;
 pub(crate) struct Unlocked {
     pub(crate) key: FileKey,
     pub(crate) nonce: [u8; 16],
-    // what tells the file from others
+    // identifies the file: see `file_id`
     pub(crate) id: [u8; 32],
 }
 
@@ -72,7 +72,7 @@ fn take_nonce<S: Source>(reader: &mut Reader<'_, S>) -> Result<[u8; 16], FileFau
     Ok(nonce)
 }
 
-/// Reads the payload nonce behind a header that was opened, and whose text the digest was fed.
+/// Reads the payload nonce after a header that was opened, and whose text the digest was fed.
 fn read_nonce<S: Source>(
     key: FileKey,
     digest: Sha256,

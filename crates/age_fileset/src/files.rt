@@ -46,7 +46,7 @@ pub trait FileSet {
     /// A file that is written.
     type Out: Sink + Drop;
 
-    // The entries are told.
+    // Whether contracts see the entries.
     ghost tells: { Self → Bool };
 
     // The bytes of the entry of a name, where there is one.
@@ -65,8 +65,8 @@ pub trait FileSet {
         one == other
     }
 
-    /// Whether a name stands for a file that was opened or created so far under another name. Of
-    /// files that are told none does.
+    /// Whether a name stands for a file that was opened or created so far under another name. None
+    /// does in a set whose entries contracts see.
     fn is_open(&self, _name: &str) -> bool
         ensures told { tells self.now ≡ true → result ≡ false }
     {

@@ -136,7 +136,7 @@ impl<'r> FileSet for HostFiles<'r> {
         }
     }
 
-    /// That of a regular file; of standard input none is told.
+    /// That of a regular file. Standard input has none.
     fn length(&self, source: &HostIn) -> Option<u64> {
         source.length()
     }

@@ -20,8 +20,8 @@ enum Origin {
     Input(Stdin),
 }
 
-/// A file of the machine that is read, or standard input. It tells no bytes. A contract sees how
-/// many pulls have failed.
+/// A file of the machine that is read, or standard input. A contract sees none of its bytes, only
+/// how many pulls have failed.
 #[derive(Drop)]
 pub struct HostIn {
     origin: Origin,

@@ -35,7 +35,7 @@ enum Target {
 }
 
 /// A file of the machine that is written, or standard output or error. A regular file keeps its
-/// bytes until a put takes some. It tells no bytes. A contract sees how many puts have failed.
+/// bytes until a put takes some. A contract sees none of them, only how many puts have failed.
 #[derive(Drop)]
 pub struct HostOut {
     target: Target,

@@ -1,8 +1,8 @@
 //! The files that a command works with: a trait for a set of them, one over memory and the
 //! machine's.
 //!
-//! A set notes what was opened, created, replaced and ended, in order. One over memory also tells
-//! contracts the bytes of each file; of the machine's files no contract can see any.
+//! A set notes what was opened, created, replaced and ended, in order. Contracts also see the bytes
+//! of each file of a set over memory; of the machine's files they see none.
 #![tactic(auto)]
 
 mod files;

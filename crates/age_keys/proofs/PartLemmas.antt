@@ -1,4 +1,4 @@
--- Bytes that stand, or are written, behind others.
+-- Bytes that stand, or are written, after others.
 use Rattle.std.proofs.Common.{◌≡◌, ℕ, ◌-◌, List, ◌++◌, length, take, drop, ap, ap₂, ◌∙◌, arith}
 use Rattle.std.proofs.lemmas.List.{length-append, length-drop, append-nil, take_at, drop_all}
 use borrow.Rule.Slice.PartMut.{put_mid}

@@ -16,7 +16,7 @@ pub all_more : (P : Stanza → Type 0) (ss : List Stanza) (i : ℕ) (s : Stanza)
 all_more P ss i s lt is all here =
     rw (take_more ss i s lt) (All-append P (take i ss) (get_or ss i s ∷ []) all (subst P is here, tt))
 
--- those before a stanza, it, and those behind it
+-- those before a stanza, it, and those after it
 pub around : (ss : List Stanza) (i : ℕ) (s : Stanza) → i < length ss → s ≡ get_or ss i s → ss ≡ take i ss ++ s ∷ drop (i + 1) ss
 around ss i s lt is =
     sym (take-append-drop i ss)

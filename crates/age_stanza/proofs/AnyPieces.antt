@@ -16,7 +16,7 @@ use Rattle.age_stanza.specs.Pieces.{Fed, none, more, StandsFor}
 
 -- ---- what more bytes leave as it was
 
--- the first bytes, with more behind them
+-- the first bytes, with more after them
 take_more_bytes : (n : ℕ) (bytes piece : List ℕ) → (rest : List ℕ) × (take n (bytes ++ piece) ≡ take n bytes ++ rest)
 take_more_bytes n bytes piece = elim (cases_lt (length bytes) n) [
   | inl lt ↦
@@ -54,7 +54,7 @@ prefix_of a x b y e le =
     let front : take (length a) b ≡ a = sym (take-append-le (length a) b y le) ∙ ap (take (length a)) (sym e) ∙ take_at a x (length a) refl in
     sym (take-append-drop (length a) b) ∙ ap (λ (t : List ℕ). t ++ drop (length a) b) front
 
--- no header ends inside the bytes, and none behind them
+-- no header ends inside the bytes, and none after them
 none_longer : (bytes piece : List ℕ) → (HasHeader bytes → ⊥)
     → ((h : Header) (front : List ℕ) → HeadText h front → length bytes < length front → front ≡ bytes ++ drop (length bytes) front → ⊥)
     → HasHeader (bytes ++ piece) → ⊥

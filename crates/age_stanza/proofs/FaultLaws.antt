@@ -68,7 +68,7 @@ completes (InBody ss args body) known =
     let valid : IsStanza s = record { some_argument = known.1; arguments = known.2; body = IsBytes-append body [] known.3 no_bytes } in
     (record { stanzas = ss ++ s ∷ []; mac = zeros }, in_lines 0 (base64_text []) ++ tail_text [] zeros, pushed_valid ss s known.0 valid, ([], [], refl, refl))
 
--- ---- where a walk stands behind whole lines
+-- ---- where a walk stands after whole lines
 
 pub record At (before : List ℕ) (place : Place) (n : ℕ) : Type 0 where
   pub known : IsPlace place
@@ -360,7 +360,7 @@ refuses before l (InBody ss args body) n kind at fits e =
 pub not_ready : (f : HeadFault) (h : Header) (rest : List ℕ) → faulty f ≡ ready h rest → ⊥
 not_ready f h rest e = cc
 
--- no text goes on behind a line that is refused
+-- no text goes on after a line that is refused
 pub no_text_goes_on : (before l : List ℕ) (place : Place) (n : ℕ) (kind : HeadKind) → At before place n → IsLine l → step place l ≡ Err kind
     → Begins (before ++ line l) → ⊥
 no_text_goes_on before l place n kind at lined e has =
@@ -456,7 +456,7 @@ last_of x (y ∷ ys) =
     let deeper = last_of y ys in
     (x ∷ deeper.0, deeper.1, ap (λ (t : List ℕ). x ∷ t) deeper.2)
 
--- whole lines have no line begun behind them
+-- whole lines have no line begun after them
 pub nothing_begun : (xs ys l : List ℕ) → IsLine l → xs ++ 10 ∷ [] ≡ ys ++ l → l ≡ []
 nothing_begun xs ys [] lined e = refl
 nothing_begun xs ys (x ∷ l) lined e =

@@ -1,4 +1,4 @@
--- Finished lines, and the line that is begun behind them.
+-- Finished lines, and the line that is begun after them.
 use Rattle.std.proofs.Common.{◌≡◌, ℕ, ◌+◌, ◌<◌, ◌≤◌, List, [], ◌∷◌, ◌++◌, length, take, Ok, Err, refl, sym, ap, subst, ◌∙◌, arith, inl, inr, eqb}
 use Rattle.std.specs.Prelude.{◌⊎◌, count_by}
 use Rattle.std.proofs.lemmas.Bool.{ne_eqb}
@@ -54,7 +54,7 @@ line_after-line front l lined =
     let one = count_line l lined in
     omega (arith, both, one)
 
--- the begun line is the one behind the finished ones
+-- the begun line is the one after the finished ones
 pub begun_number : (place : Place) (lines : ℕ) (l : List ℕ) → LeadTo place lines → IsLine l → lines + 1 ≡ line_after (bytes_before place ++ l)
 begun_number place lines l led lined = led.line_count ∙ sym (line_after-begun (bytes_before place) l lined)
 
@@ -135,7 +135,7 @@ next_lead place next lines l led lined fits e =
 no_bytes : IsBytes []
 no_bytes = bytes_from_pass [] refl
 
--- what is kept behind a finished line
+-- what is kept after a finished line
 pub next_partial : (place next : Place) (bytes lines : ℕ) (l : List ℕ) → IsPartial place l bytes lines → bytes < 1048576 → step place l ≡ Ok (Go next)
     → IsPartial next [] (bytes + 1) (lines + 1)
 next_partial place next bytes lines l known room e =

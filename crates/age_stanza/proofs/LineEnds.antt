@@ -19,7 +19,7 @@ part_of_front mark zero xs other = tt
 part_of_front mark (suc i) [] other = tt
 part_of_front mark (suc i) (x ∷ xs) other = (eqb-false x mark (other 0 (omega arith)), part_of_front mark i xs (λ k lt. other (suc k) (omega arith)))
 
--- the first part, in which no mark stands, and what follows the mark behind it
+-- the first part, in which no mark stands, and what follows the mark
 pub record FirstPart (mark : ℕ) (xs : List ℕ) (i : ℕ) : Type 0 where
   pub within : i < length xs
   pub one_line : AllByRecursion (λ c. c ≡ mark → ⊥) (take i xs)
@@ -73,7 +73,7 @@ faulty_at held rest bytes longer i fault first e is (inl memory) = inl memory
 faulty_at held rest bytes longer i fault first e is (inr fails) =
     inr (ap (walk Start 1 []) (sym (regrouped held rest bytes longer i first e is)) ∙ fails (drop (i + 1) rest))
 
--- what is left behind the first line
+-- what is left after the first line
 after_line : (rest bytes : List ℕ) (i : ℕ) → length rest ≤ length bytes → rest ≡ drop (length bytes - length rest) bytes → drop (i + 1) rest
     ≡ drop (length bytes - length rest + i + 1) bytes
 after_line rest bytes i within is =
@@ -90,7 +90,7 @@ ready_at held rest bytes joined longer i h first within suffix e is finds =
           ∙ ap (ready h) (after_line rest bytes i within suffix),
     )
 
--- the loop's invariant behind the first line
+-- the loop's invariant after the first line
 pub record Left (held rest bytes joined : List ℕ) : Type 0 where
   pub within : length rest ≤ length bytes
   pub suffix : rest ≡ drop (length bytes - length rest) bytes

@@ -239,7 +239,7 @@ pub read_end_line : (mac : List ℕ) → length mac ≡ 32 → IsBytes mac → m
 unfolding mac_of
 read_end_line mac long fits = rw (decoded-text mac fits, eq-eqb (length mac) 32 long) refl
 
--- ---- what stands behind the marks of an end line
+-- ---- what stands after the marks of an end line
 
 pub no_end_line : (l : List ℕ) → starts_with nat_eq l (codes "--- ") ≡ false → None ≡ mac_of l
 unfolding mac_of

@@ -25,7 +25,7 @@ use Rattle.age_stanza.proofs.AnyPieces.{prefix_of}
 
 -- ---- the faulty line
 
--- more lines behind a faulty one begin no text
+-- more lines after a faulty one begin no text
 never_behind : (before l y : List ℕ) → (Begins (before ++ line l) → ⊥) → Begins ((before ++ line l) ++ y) → ⊥
 never_behind before l y refused has = refused (has.0, y ++ has.1, subst (Spells has.0) (append_assoc (before ++ line l) y has.1) has.2)
 

@@ -38,7 +38,7 @@ without_line_feed xs =
 abbrev pub IsPassphraseIn : Option (List ℕ) → List ℕ → Type 0
 IsPassphraseIn held pass = (bytes : List ℕ) × (held ≡ Some bytes) × (pass ≡ without_line_feed bytes)
 
--- the shared secret in a file, with the recipient behind it
+-- the shared secret in a file, followed by the recipient
 pub record IsSharedIn (held : Option (List ℕ)) (shared : Shared) : Type 0 where
   pub bytes : held ≡ Some (shared.secret ++ shared.recipient)
   pub secret_length : length shared.secret ≡ 32

@@ -66,7 +66,7 @@ module _ (sealing : List ℕ → List ℕ → List ℕ) (opening : List ℕ → 
       subst (λ (s : Standing). AllByRecursion (IsAuthentic sealing opening n text) s.given_up) (sym is) tt in
       (all, subst (λ (s : Standing). IsAuthentic sealing opening n text s.segment) (sym is) (rest_right closed last rest))
 
-  -- behind a restart too
+  -- after a restart too
   pub undamaged_right : IsClosed sealing opening n text → (k : ℕ) (deliveries : List Delivery) (u : IsUndamaged sealing opening n text k deliveries)
       → AllByRecursion (IsAuthentic sealing opening n text) (standing opening n u.front).given_up → AreAuthentic sealing opening n text deliveries
   undamaged_right closed k deliveries u given =

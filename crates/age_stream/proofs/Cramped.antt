@@ -50,7 +50,7 @@ whole_long n x h =
       | inr z ↦ (let q0 : q ≡ 0 = omega (arith, z) in let no : q * n ≡ 0 * n = ap (λ (k : ℕ). k * n) q0 in absurd (omega (arith, no, h)))
     ]
 
--- what could release text came behind more bytes than a tag has
+-- what could release text came after more bytes than a tag has
 pub tag_came : {B : Type 0} (opening : B → List ℕ → List ℕ → Option (List ℕ)) (n : ℕ) (o : OpenerView B) (s : Segment) (d : Delivery) → Stands opening n o s
     → 0 < could_release n o d → 16 < length s.bytes + length (bytes_in d)
 tag_came opening n o s (Piece p) h some =

@@ -26,7 +26,7 @@ module _ {B : Type 0} {n : ℕ} {g : _} (opening : B → List ℕ → List ℕ �
   by_answer o (Ok len) t = t.2
   by_answer o (Err f) t = ap (flat_map (λ (t : List ℕ). t)) t.1
 
-  -- the outcome of the whole segment is that of the end, behind the texts so far
+  -- the outcome of the whole segment is that of the end, after the texts so far
   finishes : (s : Segment) (o : Outcome) (answer : Result ℕ StreamFault) → Ends o old answer new
       → (outcome (opening old.key.now) (n - 16) (with_end s)).texts ≡ (outcome (opening old.key.now) (n - 16) s).texts ++ o.texts
       → (outcome (opening old.key.now) (n - 16) (with_end s)).index ≡ o.index → (outcome (opening old.key.now) (n - 16) (with_end s)).status ≡ o.status

@@ -245,7 +245,7 @@ module _ (opening : List ℕ → List ℕ → Option (List ℕ)) (n : ℕ) where
     pub unended : s.ended ≡ false
     pub all : length (front_texts opening s.start (whole_blocks n s.bytes)) ≡ length (whole_blocks n s.bytes)
 
-  -- where a segment stands: at a whole block, or behind all of them
+  -- where a segment stands: at a whole block, or after all of them
   pub place : (s : Segment) → ((length (front_texts opening s.start (whole_blocks n s.bytes)) < length (whole_blocks n s.bytes))
       ⊎ (length (front_texts opening s.start (whole_blocks n s.bytes)) ≡ length (whole_blocks n s.bytes)))
   place s =
@@ -267,7 +267,7 @@ module _ (opening : List ℕ → List ℕ → Option (List ℕ)) (n : ℕ) where
       (rest_bytes n s.bytes) s.late s.ended)
       (slice_get-within blocks (length texts) [] lt)
 
-  -- and behind them
+  -- and after them
   pub past_place : (s : Segment) → length (front_texts opening s.start (whole_blocks n s.bytes)) ≡ length (whole_blocks n s.bytes)
       → let texts = front_texts opening s.start (whole_blocks n s.bytes) in
       outcome opening n s ≡ final_block opening texts (s.start + length texts) (rest_bytes n s.bytes) s.late s.ended
@@ -482,7 +482,7 @@ module _ (opening : List ℕ → List ℕ → Option (List ℕ)) (n : ℕ) where
   prepend_block texts i b (Some t) = ap (λ (ts : List (List ℕ)). record { texts = ts; index = i; status = failed TooManyChunks i }) (sym (append-nil texts))
   prepend_block texts i b None = prepend_last texts i (opening (nonce_bytes i true) b)
 
-  -- one more block behind blocks that all opened
+  -- one more block after blocks that all opened
   one_more : (o : Option (List ℕ)) (blocks : List (List ℕ)) (b : List ℕ) (start len : ℕ) (rest : List ℕ) → length (front_texts opening start blocks)
       ≡ length blocks → len ≡ (length blocks + 1) * (n + 16)
       → let texts = front_texts opening start blocks in let ts = texts ++ text_then opening o [] in
@@ -547,7 +547,7 @@ module _ (opening : List ℕ → List ℕ → Option (List ℕ)) (n : ℕ) where
   end_last texts i None = ap (λ (ts : List (List ℕ)). record { texts = ts; index = i; status = failed ChunkDamaged i }) (sym (append-nil texts))
   end_last texts i (Some t) = refl
 
-  -- the rest at an end, behind texts
+  -- the rest at an end, after texts
   pub prepend_rest : (texts : List (List ℕ)) (i : ℕ) (rest : List ℕ) → final_block opening texts i rest false true
       ≡ prepend opening texts (final_block opening [] i rest false true)
   prepend_rest texts i rest =

@@ -177,7 +177,7 @@ module _ (sealing : List ℕ → List ℕ → List ℕ) (opening : List ℕ → 
   unsure_short : (i : ℕ) (block : List ℕ) → length block < n + 16 → sure (nonce_bytes i false) block ≡ false
   unsure_short i block short = unsure_short_by i block (sure (nonce_bytes i false) block) short refl
 
-  -- the block behind those in front doesn't open as one before the last, unless its number is the greatest
+  -- the block after those in front doesn't open as one before the last, unless its number is the greatest
   stop_step : (block : List ℕ) (blocks : List (List ℕ)) (i : ℕ) (o : Option (List ℕ)) → text_before_last opening i block ≡ o
       → (length (front_texts opening (i + 1) blocks) < length blocks
       → text_before_last opening (i + 1 + length (front_texts opening (i + 1) blocks)) (get_or blocks (length (front_texts opening (i + 1) blocks)) []) ≡ None)

@@ -103,7 +103,7 @@ module _ (sealing : List ℕ → List ℕ → List ℕ) (opening : List ℕ → 
       ∙ (sym (drop-drop ((length ds + c) * z) z (b ++ rest))
       ∙ (ap (drop ((length ds + c) * z)) (drop_at b rest z (full_len i d h.0)) ∙ rest_of (i + 1) c ds l h.1)))
 
-  -- the whole blocks and the rest of these chunks' blocks with more behind them
+  -- the whole blocks and the rest of these chunks' blocks with more after them
   count_of : (i : ℕ) (ds : List (List ℕ)) (l : List ℕ) → Full ds → length (bytes_of i ds ++ l) / (n + 16) ≡ length ds + length l / (n + 16)
   count_of i ds l h =
       let z = n + 16 in
@@ -210,7 +210,7 @@ module _ (sealing : List ℕ → List ℕ → List ℕ) (opening : List ℕ → 
         ∙ (ap (λ (ts : List (List ℕ)). ts ++ front_texts opening (k + length (blocks_of k ds)) ys) open_front
         ∙ ap (λ (j : ℕ). ds ++ front_texts opening j ys) e)
 
-    -- the last chunk is short: its block is what is left behind the whole ones
+    -- the last chunk is short: its block is what is left after the whole ones
     module _ (short : length tail < n + 16) where
       none_whole : whole_blocks n tail ≡ []
       none_whole =

@@ -6,7 +6,7 @@ use Rattle.age_steps.specs.Files.{Files}
 use Rattle.age_actions.specs.declared.encryption.Random.{Random}
 use Rattle.age_actions.specs.declared.encryption.Material.{Material}
 
--- one behind the other, each of 16 bytes
+-- one after the other, each of 16 bytes
 pub record IsRandom (bytes : List ℕ) (r : Random) : Type 0 where
   pub rest : List ℕ
   pub parts : bytes ≡ r.file_key ++ (r.salt ++ (r.payload_nonce ++ rest))

@@ -16,7 +16,7 @@ pub record Advances (index : ℕ) (links : Option (List ℕ)) (risen : ℕ) (lin
   pub still : risen ≤ index → (new.index ≡ index) × (new.chain ≡ links)
 
 -- all of the text but for a part was written: the chunks that are counted are those that are whole
--- and were released as not last, and the chain is over them, whatever bytes come behind
+-- and were released as not last, and the chain is over them, whatever bytes follow
 pub record CountsChunks (keep : Positions) (opening : List ℕ → List ℕ → Option (List ℕ)) (n : ℕ)
     (base : List ℕ) (s : Segment) (unwritten : List ℕ) (p : Progress) : Type 0 where
   pub index : (more : List ℕ) → p.index

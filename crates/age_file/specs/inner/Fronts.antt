@@ -33,7 +33,7 @@ pub record EndsFront (held : List ℕ) (was now : Unread) (new : Front) (header 
   pub rest : now.bytes ≡ drop taken was.bytes
   pub pulls : now.pulls ≡ was.pulls
 
--- behind these the bytes of the intake were fed
+-- after these the bytes of the intake were fed
 abbrev pub TakesFront : List ℕ → Unread → Unread → Front → Result (Option Header) HeadFault
     → Type 0
 TakesFront held was now new (Ok None) = IsFront new (held ++ was.bytes) × (now.bytes ≡ [])

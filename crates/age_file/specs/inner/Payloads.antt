@@ -1,4 +1,4 @@
--- What was made of the bytes behind a nonce. Only private functions cite this. A chunk has n bytes.
+-- What was made of the bytes after a nonce. Only private functions cite this. A chunk has n bytes.
 use Rattle.std.specs.Prelude.{◌≡◌, ℕ, ◌+◌, ◌*◌, ◌^◌, ◌≤◌, List, ◌++◌, length}
 use Rattle.std.specs.Prelude.{Option, Result}
 use Rattle.std.specs.Prelude.{MatchResult, Bool, true}

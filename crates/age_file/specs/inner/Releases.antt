@@ -17,7 +17,7 @@ use Rattle.age_fault.specs.declared.fault.FileFault.TheVariants.{Stream, Write}
 
 module _ {B : Type 0} (opening : B → List ℕ → List ℕ → Option (List ℕ)) (n : ℕ) where
   -- for each segment that the opener stood for, it stands for the next, whose text is more by what
-  -- was written and what wasn't; behind any base, the progress goes on counting the chunks that
+  -- was written and what wasn't; after any base, the progress goes on counting the chunks that
   -- were written
   pub record Releases (next : Segment → Segment) (old new : OpenerView B) (was now : WriterView)
       (unwritten : List ℕ) : Type 0 where

@@ -17,7 +17,7 @@ use Rattle.age_file.specs.declared.start.Unlocked.{Unlocked}
 use Rattle.age_fault.specs.declared.fault.FileFault.{FileFault}
 use Rattle.age_fault.specs.declared.fault.FileFault.TheVariants.{NonceCut, Read, ReadNeverEnds}
 
--- bytes of the intake were used, behind those that were used before
+-- bytes of the intake were used, after those that were used before
 abbrev pub Uses : ReaderView → ReaderView → List ℕ → Type 0
 Uses old new bytes = (start : Option (List ℕ)) (used : List ℕ)
     → Pulled start old.source.remaining old.unread.pulls (used ++ old.unread.bytes)
@@ -42,7 +42,7 @@ NonceFails old new Read = UsesShort old new × HasRisen old.source.failed new.so
 NonceFails old new ReadNeverEnds = UsesShort old new × (new.unread.pulls ≡ 2 ^ 63)
 NonceFails old new other = ⊥
 
--- the nonce behind a header was read, and names the file with what the digest was fed
+-- the nonce after a header was read, and identifies the file with what the digest was fed
 pub record ReadsNonce (key : List ℕ) (digest : Sha256) (old new : ReaderView) (unlocked : Unlocked)
     : Type 0 where
   pub key_is : unlocked.key ≡ key
@@ -50,7 +50,7 @@ pub record ReadsNonce (key : List ℕ) (digest : Sha256) (old new : ReaderView) 
   pub uses : Uses old new unlocked.nonce
   pub id : (front : List ℕ) → Holds256 digest front → unlocked.id ≡ file_id front unlocked.nonce
 
--- a header was read and opened, and the nonce behind it was read
+-- a header was read and opened, and the nonce after it was read
 pub record StartsAt (Allows : Header → List ℕ → Type 0) (old : SourceView) (new : ReaderView)
     (unlocked : Unlocked) : Type 0 where
   pub header : Header

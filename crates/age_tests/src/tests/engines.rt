@@ -348,7 +348,7 @@ fn hello_pulled(alloc: Global, fail_pull: u64) -> Option<Outcome> {
     hello(alloc, &plan)
 }
 
-// Seventeen pulls give bytes, and one more tells the end.
+// Seventeen pulls give bytes, and one more finds the end.
 #[test]
 fn each_pull_fails_in_turn(rt: HostRuntime) {
     for call in 0..18 {

@@ -47,7 +47,7 @@ fn is_report(report: &Report, rest: usize, plain: Option<u128>) -> bool {
         && report.stanzas.as_slice().len() == 1
 }
 
-/// Whether the report on a file tells the length of its plaintext, or that it has none.
+/// Whether the report on a file gives the length of its plaintext, or says that it has none.
 fn tells(alloc: Global, rest: usize, step: usize, plain: Option<u128>) -> bool
     requires { 0 < step }
 {

@@ -12,7 +12,7 @@ use Rattle.age_file.proofs.Bytes.{stops_unread}
 use Rattle.age_file.proofs.ReaderSteps.{read_last}
 use Rattle.age_file.proofs.inspection.inspect.Goals as goal
 
--- a rest that could not be read, behind a header that was
+-- a rest that could not be read, after a header that was
 rest_to_head : (first : SourceView) (mid now : ReaderView) (front : List ℕ) (fault : FileFault) → mid.source.failed ≡ first.failed
     → Pulled first.remaining mid.source.remaining mid.unread.pulls (front ++ mid.unread.bytes)
     → RestFails mid now fault → HeadFails first now.source fault

@@ -98,7 +98,7 @@ fn a_writer_fails_in_a_decryption(rt: HostRuntime) {
     assert!(rt; stops_at_write(rt.alloc(), file.as_slice(), 1, 5));
 }
 
-/// Whether a decryption whose first read fails is told so, and writes nothing.
+/// Whether a decryption whose first read fails reports that, and writes nothing.
 fn stops_at_read(alloc: Global, file: &[u8]) -> bool {
     let mut held = [0u8; 5];
     let mut source = Reading::new(FailsAt::new(file, 0));

@@ -229,7 +229,7 @@ fn refuses_old_texts(alloc: Global, example: &Example, rest: &Rest<'_>) -> bool 
     ) && writes_old(alloc, &changed, 31, 131_072)
 }
 
-// Twenty-one pulls give the file, and one more tells the end; fourteen give the old text. Fifteen
+// Twenty-one pulls give the file, and one more finds the end; fourteen give the old text. Fifteen
 // puts take the copy, eight the rest, and the flush is one more call.
 fn stops_in_turn(alloc: Global, example: &Example, rest: &Rest<'_>) -> bool {
     for pull in 0..22 {

@@ -135,7 +135,7 @@ pub(super) fn decrypted(
     Some((answer, sink.into_bytes()))
 }
 
-// Twenty pulls give bytes, and one more tells the end. The front takes one put, each of three
+// Twenty pulls give bytes, and one more finds the end. The front takes one put, each of three
 // blocks seven, the last block one, and the flush is one more call.
 fn encrypt_rows(alloc: Global, example: &Example) -> bool {
     for pull in 0..21 {
@@ -152,7 +152,7 @@ fn encrypt_rows(alloc: Global, example: &Example) -> bool {
         && encrypts_all(alloc, example, Failure::Put(24))
 }
 
-// Twenty-one pulls give bytes, and one more tells the end. There is no front to put.
+// Twenty-one pulls give bytes, and one more finds the end. There is no front to put.
 fn decrypt_rows(alloc: Global, example: &Example) -> bool {
     for pull in 0..22 {
         if !stops_decrypting(alloc, example, Failure::Pull(pull), opened_after(pull)) {
