@@ -92,9 +92,11 @@ fn refused_rows(alloc: Global) -> bool {
 /// open.
 pub fn shared_rows(alloc: Global) -> bool
     ensures one { IsTrue result
-        → OpensIn (IsSharedKey (record { secret = X25519_SECRET; recipient = X25519_RECIPIENT })) X25519_HEADER FILE_KEY }
+        → OpensIn (IsSharedKey (record { secret = X25519_SECRET; recipient = X25519_RECIPIENT }))
+        X25519_HEADER FILE_KEY }
     ensures first { IsTrue result
-        → OpensIn (IsSharedKey (record { secret = X25519_SECRET; recipient = X25519_RECIPIENT })) BOTH FILE_KEY }
+        → OpensIn (IsSharedKey (record { secret = X25519_SECRET; recipient = X25519_RECIPIENT }))
+        BOTH FILE_KEY }
 {
     let shared = SharedSecret::new(&X25519_SECRET, &X25519_RECIPIENT);
     if !refused_rows(alloc) {
