@@ -15,16 +15,16 @@ use Rattle.age_file.specs.Runs.{Run, IsFromStart, held, IsRun, IsTexts, IsAuthen
 use Rattle.age_file.specs.declared.position.Positions.{Positions}
 use Rattle.age_file.specs.declared.position.Position.{Position}
 use Rattle.age_fault.specs.declared.fault.FileFault.{FileFault}
-use Rattle.age_steps.specs.Files.{Files}
-use Rattle.age_steps.specs.declared.identity.Identity.{Identity}
-use Rattle.age_steps.specs.Identities.{allows_by, refuses_by}
+use Rattle.age_cli_common.specs.Files.{Files}
+use Rattle.age_cli_common.specs.declared.identity.Identity.{Identity}
+use Rattle.age_cli_common.specs.Identities.{allows_by, refuses_by}
 use Rattle.age_cli.specs.Rows.{DecryptsRows}
 use Rattle.age_cli.specs.Rows.{ResumesRows}
-use Rattle.age_actions.specs.Stops.{OutStops, DecryptionStop, ResumptionStop, kept_for}
+use Rattle.age_cli.specs.CommandStops.{OutStops, DecryptionStop, ResumptionStop, kept_for}
 use Rattle.age_cli.specs.Stops.{FailsToDecrypt, FailsToResume}
-use Rattle.age_actions.proofs.StopSteps.{stop_wrote, resume_wrote}
+use Rattle.age_cli.proofs.CommandStopSteps.{stop_wrote, resume_wrote}
 use Rattle.age_cli.specs.Headline.{IsRead, IsWritersInput, HoldsNoMore, KeepsOut, BeginsAt, IsWritersResumption}
-use Rattle.age_steps.specs.declared.ending.Ending.{Ending}
+use Rattle.age_cli_common.specs.declared.ending.Ending.{Ending}
 
 appended_nil : (b : Option (List ℕ)) (out : List ℕ) → Appends (Some []) b out → b ≡ Some out
 appended_nil None out p = absurd p

@@ -1,3 +1,10 @@
+pub mod CommandSteps
+pub mod DecryptionSteps
+pub mod EncryptionSteps
+pub mod ResumptionSteps
+pub mod CommandStopSteps
+pub mod EventSteps
+pub mod PortSteps
 pub mod RowSteps
 pub mod Telling
 pub mod StopSteps

@@ -14,31 +14,31 @@ use Rattle.clap.specs.Values.{kind_of}
 use Rattle.clap.specs.declared.error.Error.{Error}
 use Rattle.clap.specs.declared.error.kind.ErrorKind.{ErrorKind}
 use Rattle.clap.specs.declared.error.kind.ErrorKind.TheVariants as kind
-use Rattle.age_commands.specs.Asked.{Asks, IsServed, refusals}
-use Rattle.age_commands.specs.Requests.{Requests, IsRequest, text_of}
-use Rattle.age_commands.specs.declared.request.Request.{Request}
-use Rattle.age_commands.specs.declared.request.Request.TheVariants.{Inspect, Encrypt, Decrypt, Resume, Drill}
-use Rattle.age_commands.specs.declared.request.Encrypting.{Encrypting}
-use Rattle.age_commands.specs.declared.request.Decrypting.{Decrypting}
-use Rattle.age_commands.specs.declared.request.Resuming.{Resuming}
-use Rattle.age_commands.specs.declared.request.Drilling.{Drilling}
-use Rattle.age_commands.specs.declared.request.Progress.TheVariants.{Silent as Unshown}
-use Rattle.age_commands.proofs.Simple.{no_command}
+use Rattle.age_cli_args.specs.Asked.{Asks, IsServed, refusals}
+use Rattle.age_cli_args.specs.Requests.{Requests, IsRequest, text_of}
+use Rattle.age_cli_args.specs.declared.request.Request.{Request}
+use Rattle.age_cli_args.specs.declared.request.Request.TheVariants.{Inspect, Encrypt, Decrypt, Resume, Drill}
+use Rattle.age_cli_args.specs.declared.request.Encrypting.{Encrypting}
+use Rattle.age_cli_args.specs.declared.request.Decrypting.{Decrypting}
+use Rattle.age_cli_args.specs.declared.request.Resuming.{Resuming}
+use Rattle.age_cli_args.specs.declared.request.Drilling.{Drilling}
+use Rattle.age_cli_args.specs.declared.request.Progress.TheVariants.{Silent as Unshown}
+use Rattle.age_cli_args.proofs.Simple.{no_command}
 use Rattle.age_file.specs.Ports.{Ports}
 use Rattle.age_fileset.specs.Events.{Event}
 use Rattle.age_fault.specs.declared.fault.FileFault.TheVariants as fault
-use Rattle.age_steps.specs.Files.{Files, SparesBut, SparesBoth}
-use Rattle.age_steps.specs.Identities.{options_asked}
-use Rattle.age_steps.specs.declared.ending.Ending.TheVariants.{Fault}
-use Rattle.age_actions.specs.Encryptions.{EncryptsFile}
-use Rattle.age_actions.specs.Decryptions.{DecryptsFile}
-use Rattle.age_actions.specs.Resumptions.{ResumesFile}
-use Rattle.age_actions.specs.Stops.{EncryptsStop, DecryptsStop, ResumesStop}
-use Rattle.age_steps.specs.Endings.{EndsEarly, is_usage}
-use Rattle.age_steps.specs.EventOrders.{Follows}
-use Rattle.age_steps.specs.Orders.{Order, order_asked}
-use Rattle.age_steps.specs.declared.ending.Ending.{Ending}
-use Rattle.age_actions.proofs.EventSteps.{none_done, followed}
+use Rattle.age_cli_common.specs.Files.{Files, SparesBut, SparesBoth}
+use Rattle.age_cli_common.specs.Identities.{options_asked}
+use Rattle.age_cli_common.specs.declared.ending.Ending.TheVariants.{Fault}
+use Rattle.age_cli.specs.Encryptions.{EncryptsFile}
+use Rattle.age_cli.specs.Decryptions.{DecryptsFile}
+use Rattle.age_cli.specs.Resumptions.{ResumesFile}
+use Rattle.age_cli.specs.CommandStops.{EncryptsStop, DecryptsStop, ResumesStop}
+use Rattle.age_cli_common.specs.Endings.{EndsEarly, is_usage}
+use Rattle.age_cli_common.specs.EventOrders.{Follows}
+use Rattle.age_cli_common.specs.Orders.{Order, order_asked}
+use Rattle.age_cli_common.specs.declared.ending.Ending.{Ending}
+use Rattle.age_cli.proofs.EventSteps.{none_done, followed}
 use Rattle.age_cli.specs.Runs.{Reports, Inspects}
 use Rattle.age_cli.specs.Promises.{Touching, Finishing, Judging, JudgingTold}
 use Rattle.age_cli.specs.inner.Obeying.{Obeys}

@@ -2,13 +2,13 @@
 use Rattle.std.proofs.Common.{◌≡◌, ◌∙◌, ap, sym, refl, codes, List, Option}
 use Rattle.std.specs.Option.{option_map_or}
 use Rattle.clap.specs.Words.{Row, Text, first_of}
-use Rattle.age_commands.specs.Asked.{Asks}
-use Rattle.age_commands.specs.Requests.{Requests, IsRequest}
+use Rattle.age_cli_args.specs.Asked.{Asks}
+use Rattle.age_cli_args.specs.Requests.{Requests, IsRequest}
 use Rattle.age_cli.specs.Orders.{order_of}
-use Rattle.age_steps.specs.Orders.{inspecting_order, encrypting_order, decrypting_order, resuming_order, drilling_order}
-use Rattle.age_steps.specs.Orders.{order_asked}
-use Rattle.age_commands.specs.declared.request.Request.{Request}
-use Rattle.age_commands.specs.declared.request.Request.TheVariants.{Inspect, Decrypt, Resume, Encrypt, Drill}
+use Rattle.age_cli_common.specs.Orders.{inspecting_order, encrypting_order, decrypting_order, resuming_order, drilling_order}
+use Rattle.age_cli_common.specs.Orders.{order_asked}
+use Rattle.age_cli_args.specs.declared.request.Request.{Request}
+use Rattle.age_cli_args.specs.declared.request.Request.TheVariants.{Inspect, Decrypt, Resume, Encrypt, Drill}
 use Rattle.std.proofs.Common.{Result, Ok, Err}
 use Rattle.std.specs.Prelude.{IfErr}
 

@@ -3,24 +3,24 @@ use Rattle.std.proofs.Common.{◌≡◌, ◌∙◌, ℕ, ap, sym, subst, refl, c
 use Rattle.std.specs.Prelude.{if◌then◌else◌}
 use Rattle.std.specs.Option.{option_map_or}
 use Rattle.clap.specs.Words.{Row, Text, first_of}
-use Rattle.age_commands.specs.Asked.{Asks, AsksProgress, is_given}
-use Rattle.age_commands.specs.Requests.{text_of, IsProgress, IsEncrypting, IsUnlocking, IsDecrypting, IsResuming, Requests}
-use Rattle.age_commands.specs.declared.request.Progress.{Progress}
-use Rattle.age_commands.specs.declared.request.Progress.TheVariants.{Shown, Silent}
-use Rattle.age_commands.specs.declared.request.Request.TheVariants.{Encrypt, Decrypt, Resume}
-use Rattle.age_commands.specs.declared.request.Encrypting.{Encrypting}
-use Rattle.age_commands.specs.declared.request.Unlocking.{Unlocking}
-use Rattle.age_commands.specs.declared.request.Decrypting.{Decrypting}
-use Rattle.age_commands.specs.declared.request.Resuming.{Resuming}
-use Rattle.age_steps.specs.Files.{Files, SparesBut, SparesBoth}
-use Rattle.age_steps.specs.Identities.{Options}
+use Rattle.age_cli_args.specs.Asked.{Asks, AsksProgress, is_given}
+use Rattle.age_cli_args.specs.Requests.{text_of, IsProgress, IsEncrypting, IsUnlocking, IsDecrypting, IsResuming, Requests}
+use Rattle.age_cli_args.specs.declared.request.Progress.{Progress}
+use Rattle.age_cli_args.specs.declared.request.Progress.TheVariants.{Shown, Silent}
+use Rattle.age_cli_args.specs.declared.request.Request.TheVariants.{Encrypt, Decrypt, Resume}
+use Rattle.age_cli_args.specs.declared.request.Encrypting.{Encrypting}
+use Rattle.age_cli_args.specs.declared.request.Unlocking.{Unlocking}
+use Rattle.age_cli_args.specs.declared.request.Decrypting.{Decrypting}
+use Rattle.age_cli_args.specs.declared.request.Resuming.{Resuming}
+use Rattle.age_cli_common.specs.Files.{Files, SparesBut, SparesBoth}
+use Rattle.age_cli_common.specs.Identities.{Options}
 use Rattle.age_cli.specs.Rows.{options_of, Spares}
-use Rattle.age_steps.specs.Identities.{options_asked}
-use Rattle.age_actions.specs.Encryptions.{EncryptsFile}
+use Rattle.age_cli_common.specs.Identities.{options_asked}
+use Rattle.age_cli.specs.Encryptions.{EncryptsFile}
 use Rattle.age_cli.specs.Rows.{EncryptsRows}
-use Rattle.age_actions.specs.Decryptions.{DecryptsFile}
+use Rattle.age_cli.specs.Decryptions.{DecryptsFile}
 use Rattle.age_cli.specs.Rows.{DecryptsRows}
-use Rattle.age_actions.specs.Resumptions.{ResumesFile}
+use Rattle.age_cli.specs.Resumptions.{ResumesFile}
 use Rattle.age_cli.specs.Rows.{ResumesRows}
 
 -- the arguments name one command

@@ -3,19 +3,19 @@ use Rattle.std.proofs.Common.{◌≡◌, ◌⊎◌, ℕ, inl, inr, sym, subst, c
 use Rattle.clap.specs.Words.{Row, Text, first_of}
 use Rattle.age_file.specs.Ports.{Ports}
 use Rattle.age_fault.specs.declared.fault.FileFault.TheVariants as fault
-use Rattle.age_commands.specs.Asked.{Asks}
-use Rattle.age_commands.specs.Requests.{IsEncrypting, IsDecrypting, IsResuming, Requests, text_of}
-use Rattle.age_commands.specs.declared.request.Request.TheVariants.{Encrypt, Decrypt, Resume}
-use Rattle.age_commands.specs.declared.request.Encrypting.{Encrypting}
-use Rattle.age_commands.specs.declared.request.Decrypting.{Decrypting}
-use Rattle.age_commands.specs.declared.request.Resuming.{Resuming}
-use Rattle.age_steps.specs.Files.{Files}
-use Rattle.age_steps.specs.Identities.{Options, options_asked}
-use Rattle.age_steps.specs.Endings.{EndsEarly}
-use Rattle.age_actions.specs.Stops.{EncryptsStop, DecryptsStop, ResumesStop}
+use Rattle.age_cli_args.specs.Asked.{Asks}
+use Rattle.age_cli_args.specs.Requests.{IsEncrypting, IsDecrypting, IsResuming, Requests, text_of}
+use Rattle.age_cli_args.specs.declared.request.Request.TheVariants.{Encrypt, Decrypt, Resume}
+use Rattle.age_cli_args.specs.declared.request.Encrypting.{Encrypting}
+use Rattle.age_cli_args.specs.declared.request.Decrypting.{Decrypting}
+use Rattle.age_cli_args.specs.declared.request.Resuming.{Resuming}
+use Rattle.age_cli_common.specs.Files.{Files}
+use Rattle.age_cli_common.specs.Identities.{Options, options_asked}
+use Rattle.age_cli_common.specs.Endings.{EndsEarly}
+use Rattle.age_cli.specs.CommandStops.{EncryptsStop, DecryptsStop, ResumesStop}
 use Rattle.age_cli.specs.Stops.{FailsToEncrypt, FailsToDecrypt, FailsToResume}
-use Rattle.age_steps.specs.declared.ending.Ending.{Ending}
-use Rattle.age_steps.specs.declared.ending.Ending.TheVariants.{Fault}
+use Rattle.age_cli_common.specs.declared.ending.Ending.{Ending}
+use Rattle.age_cli_common.specs.declared.ending.Ending.TheVariants.{Fault}
 use Rattle.age_cli.proofs.RowSteps.{one_command, options_same}
 
 -- a stop, of the arguments that ask for it

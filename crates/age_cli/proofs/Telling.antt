@@ -1,10 +1,10 @@
 -- What was told of an ending with status 1.
 use Rattle.std.proofs.Common.{◌≡◌, ◌≤◌, ℕ, List, Option, inl, inr, arith, refl, true}
-use Rattle.age_steps.specs.Endings.{is_usage}
+use Rattle.age_cli_common.specs.Endings.{is_usage}
 use Rattle.age_cli.specs.Endings.{status_of}
-use Rattle.age_steps.specs.FaultLines.{TellsEnding, TellsFault}
-use Rattle.age_steps.specs.declared.ending.Ending.{Ending}
-use Rattle.age_steps.specs.declared.ending.Ending.TheVariants.{Words, Usage, Fault, Unsaved}
+use Rattle.age_cli_common.specs.FaultLines.{TellsEnding, TellsFault}
+use Rattle.age_cli_common.specs.declared.ending.Ending.{Ending}
+use Rattle.age_cli_common.specs.declared.ending.Ending.TheVariants.{Words, Usage, Fault, Unsaved}
 
 -- it is that of a fault, or of two
 pub tells_fault : (e : Ending) (old new : Option (List ℕ)) (failed_old failed_new : ℕ) → status_of e ≡ 1

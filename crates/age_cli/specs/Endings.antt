@@ -1,7 +1,7 @@
 -- How runs end.
 use Rattle.std.specs.Prelude.{ℕ, if◌then◌else◌}
-use Rattle.age_steps.specs.Endings.{is_usage}
-use Rattle.age_steps.specs.declared.ending.Ending.{Ending}
+use Rattle.age_cli_common.specs.Endings.{is_usage}
+use Rattle.age_cli_common.specs.declared.ending.Ending.{Ending}
 
 -- the status of the program: 1 on a fault, 2 for a bad command line
 abbrev pub status_of : Ending → ℕ

@@ -10,11 +10,11 @@ use Rattle.age_keys.specs.Opened.{Opens}
 use Rattle.age_file.specs.Runs.{Run, IsFromStart, IsTexts, IsAuthenticRun}
 use Rattle.age_file.specs.Verdicts.{HasId, HasTag}
 use Rattle.age_file.specs.declared.position.Position.{Position}
-use Rattle.age_steps.specs.Files.{Files}
-use Rattle.age_steps.specs.declared.identity.Identity.{Identity}
+use Rattle.age_cli_common.specs.Files.{Files}
+use Rattle.age_cli_common.specs.declared.identity.Identity.{Identity}
 use Rattle.age_cli.specs.Rows.{options_of}
-use Rattle.age_steps.specs.Identities.{allows_by, OpensBy}
-use Rattle.age_actions.specs.Resumptions.{IsPositionIn}
+use Rattle.age_cli_common.specs.Identities.{allows_by, OpensBy}
+use Rattle.age_cli.specs.Resumptions.{IsPositionIn}
 
 -- a beginning of the input, as a run may have read it: a header that opens, the payload nonce, the
 -- blocks before the run's first chunk, and bytes after them; and all of the input where it was read

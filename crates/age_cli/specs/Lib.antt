@@ -1,3 +1,7 @@
+pub mod Encryptions
+pub mod Decryptions
+pub mod Resumptions
+pub mod CommandStops
 pub mod Endings
 pub mod ReportTexts
 pub mod Runs

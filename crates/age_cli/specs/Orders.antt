@@ -2,8 +2,8 @@
 use Rattle.std.specs.Prelude.{List, [], codes, if◌then◌else◌}
 use Rattle.std.specs.Str.{bytes_eq}
 use Rattle.clap.specs.Words.{Row, Text, first_of}
-use Rattle.age_steps.specs.Orders.{Order, inspecting_order, encrypting_order, decrypting_order}
-use Rattle.age_steps.specs.Orders.{resuming_order, drilling_order}
+use Rattle.age_cli_common.specs.Orders.{Order, inspecting_order, encrypting_order, decrypting_order}
+use Rattle.age_cli_common.specs.Orders.{resuming_order, drilling_order}
 
 -- the order of a command, by its name and by what the arguments give
 abbrev pub order_of : Text → List Row → Order

@@ -4,15 +4,15 @@
 use Rattle.std.specs.Prelude.{◌≡◌, ℕ, Bool, true, List, ◌++◌, Option, codes}
 use Rattle.clap.specs.Words.{Row, Text, first_of}
 use Rattle.age_file.specs.Ports.{Ports}
-use Rattle.age_commands.specs.Asked.{Asks}
-use Rattle.age_steps.specs.Files.{Files}
+use Rattle.age_cli_args.specs.Asked.{Asks}
+use Rattle.age_cli_common.specs.Files.{Files}
 use Rattle.age_cli.specs.Rows.{Spares, EncryptsRows, DecryptsRows, ResumesRows}
 use Rattle.age_cli.specs.Runs.{Inspects}
 use Rattle.age_cli.specs.Stops.{FailsToEncrypt, FailsToDecrypt, FailsToResume}
 use Rattle.age_fileset.specs.Events.{Event}
-use Rattle.age_steps.specs.EventOrders.{Follows}
+use Rattle.age_cli_common.specs.EventOrders.{Follows}
 use Rattle.age_cli.specs.Orders.{order_of}
-use Rattle.age_steps.specs.declared.ending.Ending.{Ending}
+use Rattle.age_cli_common.specs.declared.ending.Ending.{Ending}
 
 -- of the entries, at the call and at the end
 module _ (words : List Text) (tells : Bool) (old new : Files) where

@@ -1,12 +1,12 @@
 -- What a command did, of what the arguments give for each of its options and operands.
 use Rattle.std.specs.Prelude.{◌≡◌, List, Some, codes}
 use Rattle.clap.specs.Words.{Row, Text, first_of, one_of}
-use Rattle.age_commands.specs.Requests.{number_or}
-use Rattle.age_steps.specs.Files.{Files, SparesBoth}
-use Rattle.age_steps.specs.Identities.{Options}
-use Rattle.age_actions.specs.Encryptions.{EncryptsFile}
-use Rattle.age_actions.specs.Decryptions.{DecryptsFile}
-use Rattle.age_actions.specs.Resumptions.{ResumesFile}
+use Rattle.age_cli_args.specs.Requests.{number_or}
+use Rattle.age_cli_common.specs.Files.{Files, SparesBoth}
+use Rattle.age_cli_common.specs.Identities.{Options}
+use Rattle.age_cli.specs.Encryptions.{EncryptsFile}
+use Rattle.age_cli.specs.Decryptions.{DecryptsFile}
+use Rattle.age_cli.specs.Resumptions.{ResumesFile}
 
 -- the options that say what opens a file
 abbrev pub options_of : List Row → Options

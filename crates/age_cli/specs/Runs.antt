@@ -5,7 +5,7 @@ use Rattle.clap.specs.Words.{Text}
 use Rattle.age_file.specs.declared.report.Report.{Report}
 use Rattle.age_file.specs.Reports.{IsReport}
 use Rattle.age_file.specs.Reports as file
-use Rattle.age_steps.specs.Files.{Files}
+use Rattle.age_cli_common.specs.Files.{Files}
 use Rattle.age_cli.specs.ReportTexts.{report_text}
 
 -- the input was read to its end, and its report was written

@@ -3,15 +3,15 @@ use Rattle.std.specs.Prelude.{◌≡◌, ◌⊎◌, ℕ, List, Option, Some, cod
 use Rattle.clap.specs.Words.{Row, Text, first_of, one_of}
 use Rattle.age_file.specs.Ports.{Ports}
 use Rattle.age_fault.specs.declared.fault.FileFault.TheVariants.{BadPosition}
-use Rattle.age_commands.specs.Requests.{number_or}
-use Rattle.age_actions.specs.Stops.{EncryptsStop, DecryptsStop, ResumesStop}
-use Rattle.age_steps.specs.Endings.{EndsEarly}
+use Rattle.age_cli_args.specs.Requests.{number_or}
+use Rattle.age_cli.specs.CommandStops.{EncryptsStop, DecryptsStop, ResumesStop}
+use Rattle.age_cli_common.specs.Endings.{EndsEarly}
 use Rattle.age_cli.specs.Endings.{status_of}
-use Rattle.age_steps.specs.FaultLines.{TellsEnding}
-use Rattle.age_steps.specs.Files.{Files}
+use Rattle.age_cli_common.specs.FaultLines.{TellsEnding}
+use Rattle.age_cli_common.specs.Files.{Files}
 use Rattle.age_cli.specs.Rows.{options_of}
-use Rattle.age_steps.specs.declared.ending.Ending.{Ending}
-use Rattle.age_steps.specs.declared.ending.Ending.TheVariants.{Fault}
+use Rattle.age_cli_common.specs.declared.ending.Ending.{Ending}
+use Rattle.age_cli_common.specs.declared.ending.Ending.TheVariants.{Fault}
 
 -- a command stopped with its output created; `IsPorts` tells the ports of the set's files
 module _ (IsPorts : Ports → Type 0) where

@@ -1,1 +1,4 @@
+pub mod Files
+pub mod Ports
+pub mod Randoms
 pub mod Obeying

@@ -1,14 +1,14 @@
 //! The command that reports what a file holds.
 
 ghost use Rattle.std.specs.Prelude.{◌≡◌, [], ◌∷◌, ◌++◌, true, false, OnOk, IfErr};
-ghost use Rattle.age_steps.specs.Endings.{is_usage};
+ghost use Rattle.age_cli_common.specs.Endings.{is_usage};
 ghost use Rattle.age_fileset.specs.Events.{Opened};
 ghost use Rattle.age_cli.specs.Runs.{Reports, ReportsFile};
 
 use crate::print::text_of;
+use age_cli_common::{Ending, put_bytes};
 use age_file::{FileFault, Sink, Source, flush_all, inspect};
 use age_fileset::FileSet;
-use age_steps::{Ending, put_bytes};
 use std::alloc::Global;
 
 /// Writes the report of what it reads, to the end.

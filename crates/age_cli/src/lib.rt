@@ -3,12 +3,26 @@
 //! `run` takes the arguments after the program's name, a set of files, the input, the output, a
 //! sink for faults and a meter for progress, and returns the status: 0 on success, 1 on a fault, 2
 //! on a bad command line. It is generic over all of them, so that its contract speaks of every
-//! input and every set of files; the program hands in the machine's. What `encrypt`, `decrypt` and
-//! `resume` do is in `age_actions`, what `drill` does in `age_drill`; `inspect` is here.
+//! input and every set of files; the program hands in the machine's. What `drill` does is in
+//! `age_drill`; the other commands are here.
+//!
+//! `encrypt_file`, `decrypt_file` and `resume_file` do what one command asks for, once its words
+//! are read. Each finds what opens or seals the input, opens the files in a fixed order, runs the
+//! engine of `age_file`, and leaves the output, and the position where it is to be saved, as its
+//! contract says, whether it succeeds or stops. An `Ending` says why it did not succeed.
 #![tactic(auto)]
 
+mod decryption;
+mod encryption;
 mod inspection;
+mod output;
 mod print;
 mod program;
+mod resumption;
+mod stop;
 
+pub use age_fileset::{CreateFault, FileSet, MemFiles};
+pub use decryption::decrypt_file;
+pub use encryption::encrypt_file;
 pub use program::run;
+pub use resumption::resume_file;

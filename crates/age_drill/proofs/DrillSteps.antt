@@ -2,7 +2,7 @@
 use Rattle.std.proofs.Common.{◌≡◌, ◌∙◌, ◌++◌, ◌∷◌, [], refl, ap, List, Result, Ok, Err, OnOk, append_assoc}
 use Rattle.std.specs.Result.{IsErr}
 use Rattle.age_fileset.specs.Events.{Event}
-use Rattle.age_steps.specs.EventOrders.{Follows}
+use Rattle.age_cli_common.specs.EventOrders.{Follows}
 
 -- one event, and then others
 pub then : (old mid new rest : List Event) (a : Event) → mid ≡ old ++ a ∷ [] → new ≡ mid ++ rest → new ≡ old ++ a ∷ rest

@@ -2,21 +2,21 @@
 
 ghost use Rattle.std.specs.Prelude.{◌≡◌, ◌≤◌, ◌++◌, ◌∷◌, [], Some, IfOk, OnOk, length};
 ghost use Rattle.age_fileset.specs.Events.{Opened};
-ghost use Rattle.age_steps.specs.EventOrders.{Follows};
-ghost use Rattle.age_steps.specs.Orders.{order_asked};
-ghost use Rattle.age_commands.specs.declared.request.Request.TheVariants.{Drill};
+ghost use Rattle.age_cli_common.specs.EventOrders.{Follows};
+ghost use Rattle.age_cli_common.specs.Orders.{order_asked};
+ghost use Rattle.age_cli_args.specs.declared.request.Request.TheVariants.{Drill};
 ghost use Rattle.age_stanza.specs.Grammar.{HasText};
 ghost use Rattle.age_stanza.specs.Parsing.{reading};
 
 use crate::replaying::Replaying;
 use crate::script::{Line, SCRIPT_MAX, has_too_many_lines, read_lines};
-use age_commands::Drilling;
+use age_cli_args::Drilling;
+use age_cli_common::{Ending, Usage, fill_first, put_bytes, read_pass, read_up_to, trimmed};
 use age_fault::{FileFault, flush_all};
 use age_fileset::FileSet;
 use age_io::{Sink, Source};
 use age_keys::{FileKey, KeyFault, Passphrase, PayloadKey, open_header, payload_key};
 use age_stanza::{HEAD_MAX, HeadParser, HeadStep, Header};
-use age_steps::{Ending, Usage, fill_first, put_bytes, read_pass, read_up_to, trimmed};
 use age_stream::{ClearBox, Delivery, Replay, Status, StreamFault};
 use std::alloc::{AllocError, Global};
 

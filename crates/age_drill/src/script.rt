@@ -1,7 +1,7 @@
 //! Scripts of drills: one step a line.
 
+use age_cli_common::{Ending, Usage};
 use age_fault::FileFault;
-use age_steps::{Ending, Usage};
 use std::alloc::Global;
 
 /// The most bytes of a script.

@@ -1,6 +1,6 @@
 -- Bound positions.
 use Rattle.std.proofs.Common.{◌≡◌, ℕ, ◌*◌, ◌<◌, List, take, sym, ap, ◌∙◌, arith}
-use Rattle.age_header.specs.declared.header.Header.{Header}
+use Rattle.age_stanza.specs.declared.header.Header.{Header}
 use Rattle.age_file.specs.Runs.{Run, held, IsRun, IsAuthenticRun, IsDone}
 use Rattle.age_file.specs.Resumes.{ResumePorts, IsFrom}
 use Rattle.age_file.specs.Bound.{BindsTo, Bound}

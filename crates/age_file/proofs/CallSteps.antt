@@ -2,7 +2,7 @@
 use Rattle.std.proofs.Common.{refl, inl, inr, ◌≡◌, ℕ, ◌≤◌, List, [], ◌∷◌, ◌++◌, Option, None, Some, sym, ap, subst, ◌∙◌, append-nil}
 use Rattle.std.specs.Prelude.{Result, Ok, Err, IfSome, IsSomeAnd}
 use Rattle.std.specs.Io.KnownBytes.{Consumes, Appends}
-use Rattle.age_header.specs.declared.header.Header.{Header}
+use Rattle.age_stanza.specs.declared.header.Header.{Header}
 use Rattle.age_stream.specs.Headline.{IsPrefixOf}
 use Rattle.age_chunk.specs.Payload.{chunk_count}
 use Rattle.age_keys.specs.declared.fault.KeyFault.{KeyFault}

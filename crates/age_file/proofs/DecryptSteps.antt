@@ -6,7 +6,7 @@ use Rattle.age_stanza.specs.Laws.{OneHeader}
 use Rattle.age_file.specs.declared.decryption.Done.{Done}
 use Rattle.age_file.specs.declared.decryption.Stopped.{Stopped}
 use Rattle.age_file.proofs.Undamaged.{undamaged, undamaged_done}
-use Rattle.age_header.specs.declared.header.Header.{Header}
+use Rattle.age_stanza.specs.declared.header.Header.{Header}
 use Rattle.age_keys.specs.declared.fault.KeyFault.{KeyFault}
 use Rattle.age_file.specs.inner.Boxes.{opens}
 use Rattle.age_keys.specs.Keys.{payload_key}

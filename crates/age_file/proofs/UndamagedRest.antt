@@ -3,7 +3,7 @@ use Rattle.std.proofs.Common.{inl, inr, ◌≡◌, ℕ, ◌*◌, ◌≤◌, List
 use Rattle.std.proofs.lemmas.List.{length-append, length-take}
 use Rattle.std.specs.Simd.{first_chunks}
 use Rattle.std.specs.Io.KnownBytes.{IsAtEnd}
-use Rattle.age_header.specs.declared.header.Header.{Header}
+use Rattle.age_stanza.specs.declared.header.Header.{Header}
 use Rattle.age_stanza.specs.Laws.{OneHeader}
 use Rattle.age_file.proofs.FirstChunks.{first_chunks-append}
 use Rattle.age_keys.specs.declared.fault.KeyFault.{KeyFault}

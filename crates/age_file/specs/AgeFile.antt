@@ -1,6 +1,6 @@
 -- The age file of a text (C2SP age.md).
 use Rattle.std.specs.Prelude.{◌≡◌, ℕ, List, [], ◌++◌, length, Option}
-use Rattle.age_header.specs.declared.header.Header.{Header}
+use Rattle.age_stanza.specs.declared.header.Header.{Header}
 use Rattle.age_stanza.specs.Grammar.{HeadText}
 use Rattle.age_cipher.specs.Aead.{sealing}
 use Rattle.age_cipher.specs.Opening.{opening}

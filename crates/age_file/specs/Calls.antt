@@ -3,7 +3,7 @@
 use Rattle.std.specs.Prelude.{◌≡◌, ◌⊎◌, ℕ, ◌≤◌, List, [], ◌∷◌, Option, Some, IfSome}
 use Rattle.std.specs.Prelude.{Result, Ok, Err, MatchResult}
 use mathlib.Core.Logic.{inl, inr}
-use Rattle.age_header.specs.declared.header.Header.{Header}
+use Rattle.age_stanza.specs.declared.header.Header.{Header}
 use Rattle.age_chunk.specs.Payload.{chunk_count, chunk_length}
 use Rattle.age_stream.specs.Headline.{IsPrefixOf}
 use Rattle.age_chunk.specs.Nonce.{chunk_limit}

@@ -5,7 +5,7 @@ use Rattle.std.specs.Io.KnownBytes.{Consumes, IsAtEnd}
 use Rattle.age_io.specs.Views.{SourceView}
 use Rattle.age_stanza.specs.declared.fault.HeadKind.TheVariants.{HeadCut}
 use Rattle.age_stanza.specs.declared.fault.HeadFault.{HeadFault}
-use Rattle.age_header.specs.declared.header.Header.{Header}
+use Rattle.age_stanza.specs.declared.header.Header.{Header}
 use Rattle.age_stanza.specs.Grammar.{HeadText}
 use Rattle.age_stanza.specs.Faults.{HasHeader, NoFault, IsFault, line_after}
 use Rattle.age_fault.specs.Faults.{HasRisen}

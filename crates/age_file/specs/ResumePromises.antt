@@ -1,6 +1,6 @@
 -- What a resumed decryption promises.
 use Rattle.std.specs.Prelude.{◌≡◌, ℕ, List, true, Result, IfOk, IfErr, OnOk, MatchResult}
-use Rattle.age_header.specs.declared.header.Header.{Header}
+use Rattle.age_stanza.specs.declared.header.Header.{Header}
 use Rattle.age_keys.specs.declared.fault.KeyFault.{KeyFault}
 use Rattle.age_file.specs.Decrypts.{WritesText, StopsOutside}
 use Rattle.age_file.specs.Resumes.{ResumePorts}

@@ -1,7 +1,7 @@
 -- A file that is undamaged from a position on. A chunk has 65,536 bytes, its block 65,552.
 use Rattle.std.specs.Prelude.{◌≡◌, ℕ, ◌<◌, List, Option}
 use Rattle.std.specs.Simd.{first_chunks}
-use Rattle.age_header.specs.declared.header.Header.{Header}
+use Rattle.age_stanza.specs.declared.header.Header.{Header}
 use Rattle.age_chunk.specs.Payload.{chunk_count, chunk_length}
 use Rattle.age_stream.specs.Authentic.{IsClosed}
 use Rattle.age_keys.specs.declared.fault.KeyFault.{KeyFault}

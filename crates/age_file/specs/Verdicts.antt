@@ -1,6 +1,6 @@
 -- Whether a position is a file's, and was made under its key.
 use Rattle.std.specs.Prelude.{◌≡◌, ℕ, List}
-use Rattle.age_header.specs.declared.header.Header.{Header}
+use Rattle.age_stanza.specs.declared.header.Header.{Header}
 use Rattle.age_keys.specs.Keys.{position_key}
 use Rattle.age_file.specs.Bindings.{file_id, position_tag}
 use Rattle.age_file.specs.declared.position.Position.{Position}

@@ -2,13 +2,16 @@
 //!
 //! A `Source` gives bytes and a `Sink` takes them. Both count their failures. `Reading` and
 //! `Writing` are those over std's readers and writers, `MemSource` and `MemSink` those over memory,
-//! which also tell contracts their bytes, and fail at a call that is planned.
+//! which also tell contracts their bytes, and fail at a call that is planned. A `Metered` source
+//! tells a `Meter` how many bytes each pull gave.
 #![tactic(auto)]
 
 mod durability;
 mod failed;
 mod mem_sink;
 mod mem_source;
+mod meter;
+mod metered;
 mod sink;
 mod source;
 
@@ -16,5 +19,7 @@ pub use durability::Durability;
 pub use failed::{Failed, Memory};
 pub use mem_sink::MemSink;
 pub use mem_source::MemSource;
+pub use meter::Meter;
+pub use metered::Metered;
 pub use sink::{Sink, Writing};
 pub use source::{Reading, Source};

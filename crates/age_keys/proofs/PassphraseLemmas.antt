@@ -6,8 +6,8 @@ use Rattle.std.specs.Fmt.{decimal}
 use Rattle.std.specs.Str.Parse.{digits_value}
 use Rattle.std.proofs.lemmas.Fmt.{decimal_is_IsNumeral, first_decimal}
 use Rattle.base64.specs.GeneralPurpose.{IsBytes}
-use Rattle.age_header.specs.declared.header.Header.{Header}
-use Rattle.age_header.specs.declared.header.Stanza.{Stanza}
+use Rattle.age_stanza.specs.declared.header.Header.{Header}
+use Rattle.age_stanza.specs.declared.header.Stanza.{Stanza}
 use Rattle.age_stanza.specs.Text.{base64_text}
 use Rattle.age_cipher.proofs.SealingLemmas.{length-sealing, one_text as one_sealed}
 use Rattle.age_keys.specs.declared.fault.KeyFault.{KeyFault}

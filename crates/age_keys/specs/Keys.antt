@@ -5,8 +5,8 @@ use Rattle.std.specs.Prelude.{replicate, Ok}
 use Rattle.std.specs.List.{list_any}
 use Rattle.std.specs.Str.{bytes_eq}
 use Rattle.hex.specs.Hex.{decode_sized}
-use Rattle.age_header.specs.declared.header.Stanza.{Stanza}
-use Rattle.age_header.specs.declared.header.Header.{Header}
+use Rattle.age_stanza.specs.declared.header.Stanza.{Stanza}
+use Rattle.age_stanza.specs.declared.header.Header.{Header}
 use Rattle.age_stanza.specs.Encoding.{mac_text}
 use Rattle.age_kdf.specs.Hmac.{hmac}
 use Rattle.age_kdf.specs.Hkdf.{hkdf32}

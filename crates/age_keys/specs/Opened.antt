@@ -1,6 +1,6 @@
 -- What opening a header may answer, by the unlocker's two relations.
 use Rattle.std.specs.Prelude.{◌≡◌, ◌⊎◌, ℕ, List, length}
-use Rattle.age_header.specs.declared.header.Header.{Header}
+use Rattle.age_stanza.specs.declared.header.Header.{Header}
 use Rattle.age_keys.specs.declared.fault.KeyFault.{KeyFault}
 use Rattle.age_keys.specs.declared.fault.KeyFault.TheVariants.{ScryptNotAlone, MacMismatch, Memory}
 use Rattle.age_keys.specs.Keys.{IsScryptNotAlone, IsMacOf}

@@ -1,7 +1,7 @@
 -- The X25519 stanza (C2SP age.md, "The X25519 recipient type"). X25519 itself stays outside.
 use Rattle.std.specs.Prelude.{◌≡◌, ℕ, Bool, true, false, List, [], ◌∷◌, length, codes}
 use Rattle.base64.specs.GeneralPurpose.{IsBytes}
-use Rattle.age_header.specs.declared.header.Stanza.{Stanza}
+use Rattle.age_stanza.specs.declared.header.Stanza.{Stanza}
 use Rattle.age_stanza.specs.Text.{base64_text}
 use Rattle.age_keys.specs.declared.fault.KeyFault.{KeyFault}
 use Rattle.age_keys.specs.declared.fault.KeyFault.TheVariants.{NoMatch, BadX25519}

@@ -1,7 +1,7 @@
 //! What finds a file key in a header.
 
 ghost use Rattle.std.specs.Prelude.{◌≡◌, ℕ, List, MatchResult, IfSome, IfNone};
-ghost use Rattle.age_header.specs.declared.header.Header.{Header as HeaderValue};
+ghost use Rattle.age_stanza.specs.declared.header.Header.{Header as HeaderValue};
 ghost use Rattle.age_keys.specs.declared.fault.KeyFault.{KeyFault as Fault};
 ghost use Rattle.age_keys.specs.Keys.{SpellsKey};
 

@@ -5,8 +5,8 @@ use Rattle.std.specs.List.{flat_map, AllByRecursion}
 use Rattle.std.proofs.lemmas.Bool.{eq-eqb, ne_eqb, le-ltb, cases_lt}
 use Rattle.std.proofs.lemmas.List.{append-nil, append_assoc, length-take, length-drop, take-append-drop}
 use Rattle.base64.specs.GeneralPurpose.{IsBytes}
-use Rattle.age_header.specs.declared.header.Stanza.{Stanza}
-use Rattle.age_header.specs.declared.header.Header.{Header}
+use Rattle.age_stanza.specs.declared.header.Stanza.{Stanza}
+use Rattle.age_stanza.specs.declared.header.Header.{Header}
 use Rattle.age_stanza.specs.declared.place.Place.{Place}
 use Rattle.age_stanza.specs.declared.place.Place.TheVariants.{Start, Between, InBody}
 use Rattle.age_stanza.specs.declared.place.Next.TheVariants.{Go, Done}

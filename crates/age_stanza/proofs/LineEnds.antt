@@ -7,7 +7,7 @@ use Rattle.std.proofs.lemmas.Iterator.Adapters.{position_from-zero}
 use Rattle.std.proofs.lemmas.List.{append_assoc, take-append-drop, drop_more, drop-drop, length-drop}
 use Rattle.std.proofs.lemmas.List.Quantifiers.{position-Some}
 use Rattle.std.specs.Prelude.{◌⊎◌}
-use Rattle.age_header.specs.declared.header.Header.{Header}
+use Rattle.age_stanza.specs.declared.header.Header.{Header}
 use Rattle.age_stanza.specs.declared.fault.HeadFault.{HeadFault}
 use Rattle.age_stanza.specs.declared.place.Place.TheVariants.{Start}
 use Rattle.age_stanza.specs.Faults.{IsLine, memory_fault}

@@ -4,7 +4,7 @@ use Rattle.std.specs.Prelude.{◌⊎◌}
 use Rattle.std.proofs.lemmas.List.{append-nil, append_assoc, length-append, length-take, take-append-drop, take-take, append_cancel_right}
 use Rattle.std.proofs.Math.Seq.{take-append-add}
 use Rattle.base64.specs.GeneralPurpose.{IsBytes}
-use Rattle.age_header.specs.declared.header.Header.{Header}
+use Rattle.age_stanza.specs.declared.header.Header.{Header}
 use Rattle.age_stanza.specs.declared.fault.HeadFault.{HeadFault}
 use Rattle.age_stanza.specs.declared.place.Place.TheVariants.{Start}
 use Rattle.age_stanza.specs.Grammar.{head_text, HeadText}

@@ -1,4 +1,5 @@
 -- What public contracts cite
+pub mod Letters
 pub mod Text
 pub mod Grammar
 pub mod Encoding

@@ -7,8 +7,9 @@ ghost use Rattle.age_stanza.specs.Grammar.{IsArgument};
 ghost use Rattle.age_stanza.specs.inner.LineMachine.{arguments_from};
 ghost use Rattle.age_stanza.specs.inner.LineMachine.{arguments_of as spec_arguments_of};
 
+use crate::argument::Argument;
+use crate::bytes::Arguments;
 use crate::valid::is_argument;
-use age_header::{Argument, Arguments};
 use std::alloc::{AllocError, Global};
 
 /// Adds an argument. False where its characters aren't valid; then nothing changes.

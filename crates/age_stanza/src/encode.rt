@@ -8,10 +8,11 @@ ghost use Rattle.age_stanza.specs.Grammar.{HasText};
 ghost use Rattle.age_stanza.specs.Encoding.{mac_text};
 ghost use Rattle.age_stanza.specs.Faults.{memory_fault};
 
+use crate::argument::Argument;
 use crate::fault::HeadFault;
+use crate::header::{Header, Stanza};
 use crate::text::LINE_BYTES;
 use crate::valid::text_len;
-use age_header::{Argument, Header, Stanza};
 use base64::engine::general_purpose::STANDARD_NO_PAD;
 use std::alloc::{AllocError, Global};
 

@@ -1,6 +1,6 @@
 //! What a step of the parser returns.
 
-use age_header::Header;
+use crate::header::Header;
 
 /// What a piece led to.
 #[derive(Debug, Drop)]

@@ -8,6 +8,9 @@
 //! line is `--- ` and the 43 characters of the header's MAC. The binary
 //! payload follows at once.
 //!
+//! A [`Header`] has recipient [`Stanzas`] and a MAC. A [`Stanza`] has [`Arguments`], each an
+//! [`Argument`], and a body, which is [`Bytes`].
+//!
 //! [`HeadParser`] takes a file's bytes in pieces, however they are cut, and returns the header as
 //! soon as its last byte came, or the first fault with its line. It accepts exactly the texts of
 //! the grammar and takes no byte of the payload. [`encode_head`] writes the one text of a header,
@@ -15,10 +18,13 @@
 //! argument out of its base64.
 #![tactic(auto)]
 
+mod argument;
 mod arguments;
+mod bytes;
 mod encode;
 mod fault;
 mod head_step;
+mod header;
 mod laws;
 mod parser;
 mod partial;
@@ -27,10 +33,12 @@ mod place;
 mod text;
 mod valid;
 
-pub use age_header::{Argument, Arguments, Bytes, Header, Stanza, Stanzas};
+pub use argument::Argument;
+pub use bytes::{Arguments, Bytes};
 pub use encode::{encode_head, mac_text};
 pub use fault::{HeadFault, HeadKind};
 pub use head_step::HeadStep;
+pub use header::{Header, Stanza, Stanzas};
 pub use laws::{
     alphabet, any_pieces, faults_stay, lines_of_64, mac_text_is_front, one_fault, one_header,
     text_is_base64,

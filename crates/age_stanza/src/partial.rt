@@ -9,8 +9,8 @@ ghost use Rattle.age_stanza.specs.inner.LineMachine.{step as step_of};
 ghost use Rattle.age_stanza.specs.inner.Retelling.{IsUnderWay};
 
 use crate::fault::{HeadFault, HeadKind, MEMORY};
+use crate::header::Header;
 use crate::place::{Next, Place, step};
-use age_header::Header;
 use std::alloc::Global;
 use std::marker::Model;
 use std::mem;

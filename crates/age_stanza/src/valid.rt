@@ -11,7 +11,8 @@ ghost use Rattle.age_stanza.specs.inner.Lengths.{HasArguments, Leaves, LeavesAft
 ghost use Rattle.age_stanza.specs.inner.Lengths.{IsTextLength};
 
 use crate::HEAD_MAX;
-use age_header::{Argument, Header, Stanza};
+use crate::argument::Argument;
+use crate::header::{Header, Stanza};
 
 /// Whether all bytes are visible ASCII characters.
 fn are_visible(bytes: &[u8]) -> bool

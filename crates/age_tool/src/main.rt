@@ -4,8 +4,7 @@
 
 use age_cli::run;
 use age_file::{Reading, Writing};
-use age_fileset::HostFiles;
-use age_progress::ProgressLine;
+use age_host::{HostFiles, ProgressLine};
 use std::alloc::Global;
 use std::io;
 use std::process::ExitCode;

@@ -1,6 +1,6 @@
 -- A key that the definitions find in the header of a text.
 use Rattle.std.specs.Prelude.{ℕ, List, take}
-use Rattle.age_header.specs.declared.header.Header.{Header}
+use Rattle.age_stanza.specs.declared.header.Header.{Header}
 use Rattle.age_stanza.specs.Grammar.{HeadText}
 use Rattle.age_keys.specs.Opened.{Opens}
 

@@ -2,12 +2,12 @@
 -- code cites.
 use Rattle.std.specs.Prelude.{◌≡◌, ℕ, Bool, true, List, [], Option, Result, OnOk, IfErr}
 use Rattle.clap.specs.Words.{Text}
-use Rattle.age_commands.specs.Asked.{AsksProgress, IsServed, refusals}
+use Rattle.age_cli_args.specs.Asked.{AsksProgress, IsServed, refusals}
 use Rattle.age_file.specs.Ports.{Ports}
 use Rattle.age_fileset.specs.Events.{Event}
-use Rattle.age_steps.specs.Files.{Files}
-use Rattle.age_steps.specs.Endings.{is_usage}
-use Rattle.age_steps.specs.declared.ending.Ending.{Ending}
+use Rattle.age_cli_common.specs.Files.{Files}
+use Rattle.age_cli_common.specs.Endings.{is_usage}
+use Rattle.age_cli_common.specs.declared.ending.Ending.{Ending}
 use Rattle.age_cli.specs.Runs.{Reports}
 use Rattle.age_cli.specs.Promises.{Inspecting, Encrypting, Decrypting, Resuming, SparingOthers}
 use Rattle.age_cli.specs.Promises.{EncryptingStops, DecryptingStops, ResumingStops}

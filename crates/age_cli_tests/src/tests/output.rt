@@ -2,8 +2,8 @@
 
 use age_cli::run;
 use age_fileset::MemFiles;
+use age_host::ProgressLine;
 use age_io::{MemSink, MemSource};
-use age_progress::ProgressLine;
 use std::test::Fail;
 
 const HEADER: &[u8] =

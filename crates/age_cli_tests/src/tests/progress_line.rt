@@ -1,7 +1,7 @@
 //! The progress line over memory: which lines come, and in which unit.
 
-use age_io::{MemSink, MemSource, Source};
-use age_progress::{Meter, Metered, ProgressLine};
+use age_host::ProgressLine;
+use age_io::{MemSink, MemSource, Meter, Metered, Source};
 use std::alloc::Global;
 use std::process::Abort;
 use std::test::Fail;

@@ -6,7 +6,7 @@ use Rattle.age_stanza.specs.Faults.{HasHeader, NoFault, IsFault, memory_fault}
 use Rattle.age_stanza.specs.Grammar.{HeadText}
 use Rattle.age_stanza.specs.Parsing.{reading}
 use Rattle.age_stanza.specs.declared.fault.HeadFault.{HeadFault}
-use Rattle.age_header.specs.declared.header.Header.{Header}
+use Rattle.age_stanza.specs.declared.header.Header.{Header}
 use Rattle.age_file.specs.declared.head.Front.{Front}
 use Rattle.age_file.specs.declared.head.Head.{Head}
 use Rattle.age_file.specs.inner.Unread.{Unread}

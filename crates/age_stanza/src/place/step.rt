@@ -7,9 +7,10 @@ ghost use Rattle.age_stanza.specs.inner.LineMachine.{arguments_of as spec_argume
 
 use super::{ARMOR, ARMOR_CR, Next, Place, VERSION};
 use crate::arguments::arguments_of;
+use crate::bytes::{Arguments, Bytes};
 use crate::fault::HeadKind;
+use crate::header::{Header, Stanza, Stanzas};
 use crate::text::{LINE_BYTES, decode_line, mac_of};
-use age_header::{Arguments, Bytes, Header, Stanza, Stanzas};
 use std::alloc::Global;
 
 /// The first line: the version, an armored file's first line, or that of no age file.

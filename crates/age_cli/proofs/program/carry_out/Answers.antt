@@ -1,6 +1,6 @@
 use Rattle.std.proofs.Common.{◌∙◌, ap, sym, subst, Some, None, refl, append-nil}
-use Rattle.age_commands.specs.Requests.{Requests}
-use Rattle.age_commands.specs.declared.request.Request.TheVariants.{Inspect}
+use Rattle.age_cli_args.specs.Requests.{Requests}
+use Rattle.age_cli_args.specs.declared.request.Request.TheVariants.{Inspect}
 use Rattle.age_cli.proofs.ObeySteps.{obeys_inspecting, obeys_encrypting, obeys_decrypting, obeys_resuming, obeys_drilling}
 use Rattle.age_cli.proofs.program.carry_out.Goals as goal
 

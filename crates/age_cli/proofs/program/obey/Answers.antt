@@ -1,7 +1,7 @@
 use Rattle.std.proofs.Common.{refl, Err}
 use Rattle.clap.specs.Walk.{texts}
-use Rattle.age_steps.specs.declared.ending.Ending.TheVariants.{Usage}
-use Rattle.age_steps.specs.declared.ending.Usage as usage
+use Rattle.age_cli_common.specs.declared.ending.Ending.TheVariants.{Usage}
+use Rattle.age_cli_common.specs.declared.ending.Usage as usage
 use Rattle.age_cli.proofs.ObeySteps.{obeys_nothing, obeys_no_command, help_served, no_words, some_words}
 use Rattle.age_cli.proofs.program.obey.Goals as goal
 

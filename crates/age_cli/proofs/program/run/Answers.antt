@@ -1,6 +1,6 @@
 use Rattle.std.proofs.Common.{◌≡◌, ◌≤◌, ◌∙◌, ℕ, ap, sym, subst, refl, arith}
 use Rattle.clap.specs.Walk.{texts}
-use Rattle.age_actions.specs.Stops.{PortsOf}
+use Rattle.age_cli.specs.CommandStops.{PortsOf}
 use Rattle.age_cli.proofs.HeadlineSteps.{kept_done, kept_stop, kept_resumption_done, kept_resumption_stop}
 use Rattle.age_cli.proofs.Telling.{tells_fault, failed_status, usage_status, status_within}
 use Rattle.age_cli.proofs.program.run.Goals as goal

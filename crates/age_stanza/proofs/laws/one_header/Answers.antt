@@ -1,5 +1,5 @@
 use Rattle.std.proofs.Common.{◌≡◌, ◌∙◌, sym, ap, List, ℕ, ◌++◌, []}
-use Rattle.age_header.specs.declared.header.Header.{Header}
+use Rattle.age_stanza.specs.declared.header.Header.{Header}
 use Rattle.age_stanza.specs.declared.place.Place.TheVariants.{Start}
 use Rattle.age_stanza.specs.Grammar.{Spells, head_text}
 use Rattle.age_stanza.specs.inner.LineMachine.{ready, walk}

@@ -2,7 +2,7 @@ use Rattle.std.proofs.Common.{◌≡◌, length, ap, subst, arith, List}
 use Rattle.std.specs.List.{AllByRecursion}
 use Rattle.std.proofs.lemmas.List.{take_all}
 use Rattle.base64.specs.GeneralPurpose.{IsBytes}
-use Rattle.age_header.specs.declared.header.Stanza.{Stanza}
+use Rattle.age_stanza.specs.declared.header.Stanza.{Stanza}
 use Rattle.age_stanza.proofs.TextLengths.{length-head, stanza_within, none_left}
 use Rattle.age_stanza.proofs.valid.text_len.Goals as goal
 

@@ -1,6 +1,6 @@
 use Rattle.std.proofs.Common.{◌≡◌, ℕ, ◌≤◌, Bool, true, false, List, ◌++◌, length, Some, refl, inr, take, nat_eq, arith}
 use Rattle.std.proofs.lemmas.Bool.{lt-ltb, le-ltb}
-use Rattle.age_header.specs.declared.header.Stanza.{Stanza}
+use Rattle.age_stanza.specs.declared.header.Stanza.{Stanza}
 use Rattle.age_stanza.specs.declared.place.Place.TheVariants.{InBody}
 use Rattle.age_stanza.specs.inner.LineMachine.{base64_bytes, step, body_line_result, line_added}
 use Rattle.age_stanza.proofs.place.step.add_line.Goals as goal

@@ -1,3 +1,0 @@
-pub mod Files
-pub mod Ports
-pub mod Randoms

@@ -1,0 +1,50 @@
+-- What is so where a command or a step of one ends early, and of what a step read.
+use Rattle.std.proofs.Common.{◌≡◌, ◌∙◌, ◌++◌, inl, inr, ap, sym, subst, true, true≢false, append-nil, List, ℕ, Option, Some, None}
+use Rattle.std.proofs.Common.{Result, Ok, Err, IfOk, IfErr, OnOk}
+use Rattle.std.specs.Prelude.{IsErr, IsErrAnd, is_some, OnErr}
+use Rattle.std.specs.Io.KnownBytes.{Consumes, IsAtEnd}
+use Rattle.age_fault.specs.declared.fault.FileFault.{FileFault}
+use Rattle.age_fault.specs.declared.fault.FileFault.TheVariants.{Read}
+use Rattle.age_fileset.specs.FileSet.{IsMemoryOr}
+use Rattle.age_cli_common.specs.Endings.{EndsEarly}
+use Rattle.age_cli_common.specs.declared.ending.Ending.TheVariants.{Fault}
+
+-- what is so of a result that is this error
+pub no_value : {T E : Type 0} (r : Result T E) (e : E) → IsErr r × IsErrAnd r (λ x. x ≡ e) → (P : T → Type 0) → IfOk r P
+no_value (Ok x) e is P = absurd is.1
+no_value (Err x) e is P = tt
+
+pub not_well : {T E : Type 0} (r : Result T E) (e : E) → IsErr r × IsErrAnd r (λ x. x ≡ e) → (P : Type 0) → OnOk r P
+not_well (Ok x) e is P = absurd is.1
+not_well (Err x) e is P = tt
+
+pub this_error : {T E : Type 0} (r : Result T E) (e : E) → IsErr r × IsErrAnd r (λ x. x ≡ e) → (P : E → Type 0) → P e → IfErr r P
+this_error (Ok x) e is P h = tt
+this_error (Err x) e is P h = subst P (sym is.1) h
+
+pub an_error : {T E : Type 0} (r : Result T E) (P : Type 0) → P → OnErr r P
+an_error (Ok x) P h = tt
+an_error (Err x) P h = h
+
+-- a fault of a file that is read is one that a command may end by early
+pub early_fault : (f : FileFault) → IsMemoryOr Read f → EndsEarly (Fault f)
+early_fault f (inl read) = inl read
+early_fault f (inr memory) = inr (inr memory)
+
+-- what was read from a file that is there is at its front
+pub front_read : (old new : Option (List ℕ)) (bytes : List ℕ) → is_some old ≡ true → Consumes old new bytes
+    → (rest : List ℕ) × (old ≡ Some (bytes ++ rest))
+front_read None new bytes there read = absurd (true≢false (sym there))
+front_read (Some xs) None bytes there read = absurd read
+front_read (Some xs) (Some ys) bytes there read = (ys, ap Some read)
+
+-- and is all of it, where it was read to its end
+pub whole_read : (old new : Option (List ℕ)) (bytes : List ℕ) → is_some old ≡ true → Consumes old new bytes → IsAtEnd new → old ≡ Some bytes
+whole_read None new bytes there read ended = absurd (true≢false (sym there))
+whole_read (Some xs) None bytes there read ended = absurd read
+whole_read (Some xs) (Some ys) bytes there read ended = ap Some (read ∙ (ap (λ t. bytes ++ t) ended ∙ append-nil bytes))
+
+-- what follows from a result that is well and from one that isn't
+pub either_way : {T E : Type 0} (r : Result T E) (P Q R : Type 0) → OnOk r P → OnErr r Q → (P → R) → (Q → R) → R
+either_way (Ok x) P Q R p q well bad = well p
+either_way (Err e) P Q R p q well bad = bad q

@@ -1,0 +1,19 @@
+use Rattle.std.proofs.Common.{◌∙◌, sym, ap, refl}
+use Rattle.clap.specs.Words.{App}
+use Rattle.age_cli_args.specs.inner.Commands.{with_subcommands}
+use Rattle.age_cli_args.proofs.Arguments.{add_command, no_command_left}
+use Rattle.age_cli_args.proofs.commands.with_commands.Goals as goal
+
+pub loop-sub-init : goal.loop-sub-init
+loop-sub-init c a h = (ap (λ (x : App). with_subcommands x c.args.subs.now) h.0, h.1)
+
+pub loop-sub-preserved : goal.loop-sub-preserved
+loop-sub-preserved c a h =
+    let rest = c.loop-sub.invariant a h in
+    let longer = c.in_ok-whole.ensures _ (refl, rest.1) in
+    (add_command _ _ _ _ _ c.loop-sub-test.true longer.0 ∙ rest.0, longer.1)
+
+pub returns : goal.returns
+returns c a h =
+    let rest = c.loop-sub.invariant a h in
+    (sym (no_command_left _ _ _ c.loop-sub-test.false) ∙ rest.0, rest.1)

@@ -1,0 +1,80 @@
+-- What a command asks for, by what stands for each of its arguments.
+use Rattle.std.specs.Prelude.{◌≡◌, ℕ, List, Option, Some, codes, option_map, if◌then◌else◌}
+use Rattle.std.specs.Borrow.{Bor}
+use Rattle.std.specs.Option.{option_map_or}
+use Rattle.std.specs.Str.Parse.{digits_value, without_leading_plus}
+use Rattle.clap.specs.Words.{Row, Text, first_of, one_of}
+use Rattle.age_cli_args.specs.Asked.{Asks, is_given}
+use Rattle.age_io.specs.declared.durability.Durability.{Durability}
+use Rattle.age_io.specs.declared.durability.Durability.TheVariants.{Synced, Buffered}
+use Rattle.age_cli_args.specs.declared.request.Progress.{Progress}
+use Rattle.age_cli_args.specs.declared.request.Progress.TheVariants.{Shown, Silent}
+use Rattle.age_cli_args.specs.declared.request.Encrypting.{Encrypting}
+use Rattle.age_cli_args.specs.declared.request.Unlocking.{Unlocking}
+use Rattle.age_cli_args.specs.declared.request.Decrypting.{Decrypting}
+use Rattle.age_cli_args.specs.declared.request.Resuming.{Resuming}
+use Rattle.age_cli_args.specs.declared.request.Drilling.{Drilling}
+use Rattle.age_cli_args.specs.declared.request.Request.{Request}
+use Rattle.age_cli_args.specs.declared.request.Request.TheVariants.{Inspect, Decrypt, Resume}
+use Rattle.age_cli_args.specs.declared.request.Request.TheVariants.{Encrypt, Drill}
+
+-- the number that a text spells, or this one where there is no text
+abbrev pub number_or : ℕ → Option Text → ℕ
+number_or default text = option_map_or (λ t. digits_value 10 (without_leading_plus t)) text default
+
+abbrev pub text_of : Option (Bor Text) → Option Text
+text_of = option_map (λ s. s.now)
+
+-- `--no-sync` says that what is written may reach the disk later
+abbrev pub IsDurability : List Row → Durability → Type 0
+IsDurability rows d = d ≡ (if is_given (codes "no-sync") rows then Buffered else Synced)
+
+-- `--progress` says that progress is shown
+abbrev pub IsProgress : List Row → Progress → Type 0
+IsProgress rows p = p ≡ (if is_given (codes "progress") rows then Shown else Silent)
+
+pub record IsEncrypting (rows : List Row) (e : Encrypting) : Type 0 where
+  pub pass : Some e.pass.now ≡ first_of (codes "pass") rows
+  pub log : e.log ≡ number_or 18 (one_of (codes "log") rows)
+  pub random : text_of e.random ≡ first_of (codes "random") rows
+  pub durability : IsDurability rows e.durability
+  pub progress : IsProgress rows e.progress
+  pub from : Some e.from.now ≡ first_of (codes "IN") rows
+  pub to : Some e.to.now ≡ first_of (codes "OUT") rows
+
+pub record IsUnlocking (rows : List Row) (u : Unlocking) : Type 0 where
+  pub pass : text_of u.pass ≡ first_of (codes "pass") rows
+  pub file_key : text_of u.file_key ≡ first_of (codes "file-key") rows
+  pub shared : text_of u.shared ≡ first_of (codes "shared") rows
+  pub max_log : u.max_log ≡ number_or 22 (one_of (codes "max-log") rows)
+
+pub record IsDecrypting (rows : List Row) (d : Decrypting) : Type 0 where
+  pub unlocking : IsUnlocking rows d.unlocking
+  pub save : text_of d.save ≡ first_of (codes "save") rows
+  pub durability : IsDurability rows d.durability
+  pub progress : IsProgress rows d.progress
+  pub from : Some d.from.now ≡ first_of (codes "IN") rows
+  pub to : Some d.to.now ≡ first_of (codes "OUT") rows
+
+pub record IsResuming (rows : List Row) (r : Resuming) : Type 0 where
+  pub decrypting : IsDecrypting rows r.decrypting
+  pub position : Some r.position.now ≡ first_of (codes "position") rows
+  pub old : Some r.old.now ≡ first_of (codes "old") rows
+
+pub record IsDrilling (rows : List Row) (d : Drilling) : Type 0 where
+  pub clear : d.clear ≡ is_given (codes "clear") rows
+  pub pass : text_of d.pass ≡ first_of (codes "pass") rows
+  pub script : Some d.script.now ≡ first_of (codes "SCRIPT") rows
+  pub from : Some d.from.now ≡ first_of (codes "IN") rows
+
+abbrev pub IsRequest : Text → List Row → Request → Type 0
+IsRequest name rows (Encrypt e) = (name ≡ codes "encrypt") × IsEncrypting rows e
+IsRequest name rows (Decrypt d) = (name ≡ codes "decrypt") × IsDecrypting rows d
+IsRequest name rows (Resume r) = (name ≡ codes "resume") × IsResuming rows r
+IsRequest name rows (Drill d) = (name ≡ codes "drill") × IsDrilling rows d
+IsRequest name rows (Inspect file) = (name ≡ codes "inspect")
+    × (text_of file ≡ first_of (codes "FILE") rows)
+
+-- the words ask for this
+abbrev pub Requests : List Text → Request → Type 0
+Requests words r = (name : Text) × (rows : List Row) × Asks words name rows × IsRequest name rows r

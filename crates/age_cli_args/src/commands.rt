@@ -1,0 +1,292 @@
+//! The commands of the program and their arguments, for the parser of command lines.
+
+ghost use Rattle.std.specs.Prelude.{◌≡◌, false, IfOk};
+ghost use Rattle.clap.specs.Words.{App, rule_of, new_rule, with_subcommand, new_app};
+ghost use Rattle.clap.specs.Words.{FailsBy, subcommand_rows_of};
+ghost use Rattle.clap.specs.Walk.{texts};
+ghost use Rattle.age_cli_args.specs.Commands.{option_rule, required_rule, number_rule, flag_rule};
+ghost use Rattle.age_cli_args.specs.Commands.{age_tool};
+ghost use Rattle.age_cli_args.specs.inner.Commands.{HasApp, described_tool, bare_tool};
+ghost use Rattle.age_cli_args.specs.inner.Commands.{rule_as, with_all, app_as, with_subcommands};
+ghost use Rattle.age_cli_args.specs.Asked.{refusals, named};
+
+use crate::help;
+use clap::{Arg, ArgAction, ArgMatches, Command, Error};
+use std::alloc::{AllocError, Global};
+
+/// How an argument of a command is given.
+#[derive(Clone, Copy)]
+enum Given {
+    /// `--ID VALUE`, where the help shows this word for the value.
+    Value(&'static str),
+    /// `--ID FILE`, which has to be there.
+    File,
+    /// `--ID N`, for N from 1 to 22.
+    Number,
+    /// `--ID`.
+    Flag,
+    /// A word that has to be there.
+    Operand,
+    /// A word that may be there.
+    Word,
+}
+
+/// An argument of a command: its name, how it is given, and what the help says of it.
+#[derive(Clone, Copy)]
+struct Argument(&'static str, Given, &'static str);
+
+const PASS: Argument = Argument("pass", Given::Value("FILE"), help::PASS);
+
+const FILE_KEY: Argument = Argument("file-key", Given::Value("HEX"), help::FILE_KEY);
+
+const SHARED: Argument = Argument("shared", Given::Value("FILE"), help::SHARED);
+
+const MAX_LOG: Argument = Argument("max-log", Given::Number, help::MAX_LOG);
+
+const SAVE: Argument = Argument("save", Given::Value("FILE"), help::SAVE);
+
+const NO_SYNC: Argument = Argument("no-sync", Given::Flag, help::NO_SYNC);
+
+const PROGRESS: Argument = Argument("progress", Given::Flag, help::PROGRESS);
+
+const ENCRYPT: &[Argument] = &[
+    Argument("pass", Given::File, help::PASS),
+    Argument("log", Given::Number, help::LOG),
+    Argument("random", Given::Value("FILE"), help::RANDOM),
+    NO_SYNC,
+    PROGRESS,
+    Argument("IN", Given::Operand, help::PLAIN_IN),
+    Argument("OUT", Given::Operand, help::FILE_OUT),
+];
+
+const DECRYPT: &[Argument] = &[
+    PASS,
+    FILE_KEY,
+    SHARED,
+    MAX_LOG,
+    SAVE,
+    NO_SYNC,
+    PROGRESS,
+    Argument("IN", Given::Operand, help::FILE_IN),
+    Argument("OUT", Given::Operand, help::PLAIN_OUT),
+];
+
+const RESUME: &[Argument] = &[
+    Argument("position", Given::File, help::POSITION),
+    Argument("old", Given::File, help::OLD),
+    PASS,
+    FILE_KEY,
+    SHARED,
+    MAX_LOG,
+    SAVE,
+    NO_SYNC,
+    PROGRESS,
+    Argument("IN", Given::Operand, help::FILE_IN),
+    Argument("OUT", Given::Operand, help::WHOLE_OUT),
+];
+
+const INSPECT: &[Argument] = &[Argument("FILE", Given::Word, help::INSPECTED)];
+
+const DRILL: &[Argument] = &[
+    Argument("clear", Given::Flag, help::CLEAR),
+    PASS,
+    Argument("SCRIPT", Given::Operand, help::SCRIPT),
+    Argument("IN", Given::Operand, help::DRILLED),
+];
+
+/// A command of the program: its name, its arguments, and what the help says before them and after.
+#[derive(Clone, Copy)]
+struct Subcommand {
+    name: &'static str,
+    arguments: &'static [Argument],
+    about: &'static str,
+    after: &'static str,
+}
+
+const COMMANDS: &[Subcommand] = &[
+    Subcommand {
+        name: "encrypt",
+        arguments: ENCRYPT,
+        about: help::ENCRYPT,
+        after: help::AFTER_ENCRYPT,
+    },
+    Subcommand {
+        name: "decrypt",
+        arguments: DECRYPT,
+        about: help::DECRYPT,
+        after: help::AFTER_DECRYPT,
+    },
+    Subcommand {
+        name: "resume",
+        arguments: RESUME,
+        about: help::RESUME,
+        after: help::AFTER_RESUME,
+    },
+    Subcommand {
+        name: "inspect",
+        arguments: INSPECT,
+        about: help::INSPECT,
+        after: help::AFTER_INSPECT,
+    },
+    Subcommand {
+        name: "drill",
+        arguments: DRILL,
+        about: help::DRILL,
+        after: help::AFTER_DRILL,
+    },
+];
+
+/// `--ID VALUE`.
+fn option<'a>(alloc: Global, id: &'a str, value: &'a str, help: &'a str) -> Arg<'a>
+    ensures rule { rule_of result ≡ option_rule id.entry.now }
+    ensures local { result.global ≡ false }
+{
+    Arg::new(alloc, id).long(id).value_name(value).help(help)
+}
+
+/// `--ID FILE`, which has to be there.
+fn required<'a>(alloc: Global, id: &'a str, help: &'a str) -> Arg<'a>
+    ensures rule { rule_of result ≡ required_rule (option_rule id.entry.now) }
+    ensures local { result.global ≡ false }
+{
+    option(alloc, id, "FILE", help).required(true)
+}
+
+/// `--ID N`, for N from 1 to 22.
+fn number<'a>(alloc: Global, id: &'a str, help: &'a str) -> Arg<'a>
+    ensures rule { rule_of result ≡ number_rule id.entry.now }
+    ensures local { result.global ≡ false }
+{
+    option(alloc, id, "N", help).value_parser(clap::value_parser!(u32).range(1..=22))
+}
+
+/// `--ID`.
+fn flag<'a>(alloc: Global, id: &'a str, help: &'a str) -> Arg<'a>
+    ensures rule { rule_of result ≡ flag_rule id.entry.now }
+    ensures local { result.global ≡ false }
+{
+    Arg::new(alloc, id)
+        .long(id)
+        .action(ArgAction::SetTrue)
+        .help(help)
+}
+
+/// A word that may be there.
+fn word<'a>(alloc: Global, id: &'a str, help: &'a str) -> Arg<'a>
+    ensures rule { rule_of result ≡ new_rule id.entry.now }
+    ensures local { result.global ≡ false }
+{
+    Arg::new(alloc, id).help(help)
+}
+
+/// A word that has to be there.
+fn operand<'a>(alloc: Global, id: &'a str, help: &'a str) -> Arg<'a>
+    ensures rule { rule_of result ≡ required_rule (new_rule id.entry.now) }
+    ensures local { result.global ≡ false }
+{
+    word(alloc, id, help).required(true)
+}
+
+fn arg_of<'a>(alloc: Global, argument: &Argument) -> Arg<'a>
+    ensures rule { rule_of result ≡ rule_as argument.now.0.now argument.now.1 }
+    ensures local { result.global ≡ false }
+{
+    let Argument(id, given, help) = *argument;
+    match given {
+        Given::Value(name) => option(alloc, id, name, help),
+        Given::File => required(alloc, id, help),
+        Given::Number => number(alloc, id, help),
+        Given::Flag => flag(alloc, id, help),
+        Given::Operand => operand(alloc, id, help),
+        Given::Word => word(alloc, id, help),
+    }
+}
+
+fn command<'a>(alloc: Global, name: &'a str, about: &'a str, after: &'a str) -> Command<'a>
+    ensures { HasApp (new_app name.entry.now) result }
+{
+    Command::new(alloc, name).about(about).after_help(after)
+}
+
+fn with_arguments<'a>(
+    alloc: Global,
+    plain: Command<'a>,
+    arguments: &[Argument],
+) -> Result<Command<'a>, AllocError>
+    ensures { (a : App) → HasApp a plain.entry
+        → IfOk result (HasApp (with_all a arguments.now)) }
+{
+    let mut whole = plain;
+    for argument in arguments {
+        whole = whole.arg(arg_of(alloc, argument))?;
+    }
+    Ok(whole)
+}
+
+/// A command with its arguments.
+fn command_of<'a>(alloc: Global, sub: &Subcommand) -> Result<Command<'a>, AllocError>
+    ensures { IfOk result (HasApp (app_as sub.now)) }
+{
+    let plain = command(alloc, sub.name, sub.about, sub.after);
+    with_arguments(alloc, plain, sub.arguments)
+}
+
+/// A program with one command more.
+fn with_command<'a>(
+    alloc: Global,
+    program: Command<'a>,
+    sub: &Subcommand,
+) -> Result<Command<'a>, AllocError>
+    ensures { (a : App) → HasApp a program.entry
+        → IfOk result (HasApp (with_subcommand a (app_as sub.now).top)) }
+{
+    program.subcommand(command_of(alloc, sub)?)
+}
+
+fn with_commands<'a>(
+    alloc: Global,
+    bare: Command<'a>,
+    subs: &[Subcommand],
+) -> Result<Command<'a>, AllocError>
+    ensures { (a : App) → HasApp a bare.entry
+        → IfOk result (HasApp (with_subcommands a subs.now)) }
+{
+    let mut whole = bare;
+    for sub in subs {
+        whole = with_command(alloc, whole, sub)?;
+    }
+    Ok(whole)
+}
+
+/// The program's help and version, without what it takes.
+fn described<'a>(alloc: Global) -> Command<'a>
+    ensures { HasApp described_tool result }
+{
+    command(alloc, "age_tool", help::PROGRAM, help::AFTER_PROGRAM)
+        .version(help::VERSION)
+        .override_usage(help::USAGE)
+}
+
+/// The program without its commands.
+fn bare<'a>(alloc: Global) -> Result<Command<'a>, AllocError>
+    ensures { IfOk result (HasApp bare_tool) }
+{
+    described(alloc)
+        .no_binary_name(true)
+        .subcommand_required(true)
+        .bin_name("age_tool")
+}
+
+fn program<'a>(alloc: Global) -> Result<Command<'a>, AllocError>
+    ensures { IfOk result (HasApp age_tool) }
+{
+    with_commands(alloc, bare(alloc)?, COMMANDS)
+}
+
+/// What the command line gives for each argument.
+pub(crate) fn matches_of<'a>(alloc: Global, words: &'a [&'a str]) -> Result<ArgMatches<'a>, Error>
+    ensures matches { IfOk result (λ m. subcommand_rows_of m ≡ named (texts words.now)) }
+    ensures refusals { FailsBy (refusals (texts words.now)) result }
+{
+    program(alloc)?.try_get_matches_from(words)
+}

@@ -1,0 +1,168 @@
+//! Reads what the arguments ask for.
+
+ghost use Rattle.std.specs.Prelude.{◌≡◌, ◌≤◌, Some, IfOk, IfSome};
+ghost use Rattle.clap.specs.Words.{subcommand_rows_of, rows_of, found_of, one_of, first_of};
+ghost use Rattle.clap.specs.Words.{FailsBy};
+ghost use Rattle.clap.specs.Walk.{texts};
+ghost use Rattle.age_cli_args.specs.Asked.{refusals, is_given};
+ghost use Rattle.age_cli_args.specs.Requests.{number_or, text_of, IsDurability, IsProgress};
+ghost use Rattle.age_cli_args.specs.Requests.{IsEncrypting, IsUnlocking, IsDecrypting, IsResuming};
+ghost use Rattle.age_cli_args.specs.Requests.{IsDrilling, IsRequest, Requests};
+
+use crate::commands::matches_of;
+use crate::request::{Decrypting, Drilling, Encrypting, Progress, Request, Resuming, Unlocking};
+use age_io::Durability;
+use clap::{ArgMatches, Error};
+use std::alloc::Global;
+
+/// A number from 1 to 22, or the default if it isn't given. The parser's contract says nothing of a
+/// number's range, so it is tested here.
+fn number(matches: &ArgMatches<'_>, id: &str, default: u32) -> Option<u32>
+    requires low { 1 ≤ default }
+    requires high { default ≤ 22 }
+    ensures value { IfSome result
+        (λ n. n ≡ number_or default (one_of id.now (rows_of (found_of matches.now)))) }
+    ensures low { IfSome result (λ n. 1 ≤ n) }
+    ensures high { IfSome result (λ n. n ≤ 22) }
+{
+    match matches.get_one::<u32>(id) {
+        Some(n) if n >= 1 && n <= 22 => Some(n),
+        None if !matches.contains_id(id) => Some(default),
+        _ => None,
+    }
+}
+
+/// The first value of an argument.
+fn text<'a>(matches: &ArgMatches<'a>, id: &str) -> Option<&'a str>
+    ensures { text_of result ≡ first_of id.now (rows_of (found_of matches.now)) }
+{
+    matches.get_str(id)
+}
+
+/// Whether a flag is given.
+fn flag(matches: &ArgMatches<'_>, id: &str) -> bool
+    ensures { result ≡ is_given id.now (rows_of (found_of matches.now)) }
+{
+    matches.get_one::<bool>(id).unwrap_or(false)
+}
+
+/// Whether what is written has to reach the disk before the program ends.
+fn durability(matches: &ArgMatches<'_>) -> Durability
+    ensures { IsDurability (rows_of (found_of matches.now)) result }
+{
+    if flag(matches, "no-sync") {
+        Durability::Buffered
+    } else {
+        Durability::Synced
+    }
+}
+
+/// Whether progress is shown.
+fn progress(matches: &ArgMatches<'_>) -> Progress
+    ensures { IsProgress (rows_of (found_of matches.now)) result }
+{
+    if flag(matches, "progress") {
+        Progress::Shown
+    } else {
+        Progress::Silent
+    }
+}
+
+/// The command that the arguments name, with its own matches.
+fn command_of<'m, 'a>(matches: &'m ArgMatches<'a>) -> Option<(&'a str, &'m ArgMatches<'a>)>
+    ensures { IfSome result
+        (λ p. subcommand_rows_of matches.now ≡ Some (p.0.now, rows_of (found_of p.1.now))) }
+{
+    matches.subcommand()
+}
+
+fn encrypting<'a>(matches: &ArgMatches<'a>) -> Option<Encrypting<'a>>
+    ensures { IfSome result (IsEncrypting (rows_of (found_of matches.now))) }
+{
+    Some(Encrypting {
+        pass: text(matches, "pass")?,
+        log: number(matches, "log", 18)?,
+        random: text(matches, "random"),
+        durability: durability(matches),
+        progress: progress(matches),
+        from: text(matches, "IN")?,
+        to: text(matches, "OUT")?,
+    })
+}
+
+fn unlocking<'a>(matches: &ArgMatches<'a>) -> Option<Unlocking<'a>>
+    ensures { IfSome result (IsUnlocking (rows_of (found_of matches.now))) }
+{
+    Some(Unlocking {
+        pass: text(matches, "pass"),
+        file_key: text(matches, "file-key"),
+        shared: text(matches, "shared"),
+        max_log: number(matches, "max-log", 22)?,
+    })
+}
+
+fn decrypting<'a>(matches: &ArgMatches<'a>) -> Option<Decrypting<'a>>
+    ensures { IfSome result (IsDecrypting (rows_of (found_of matches.now))) }
+{
+    Some(Decrypting {
+        unlocking: unlocking(matches)?,
+        save: text(matches, "save"),
+        durability: durability(matches),
+        progress: progress(matches),
+        from: text(matches, "IN")?,
+        to: text(matches, "OUT")?,
+    })
+}
+
+fn resuming<'a>(matches: &ArgMatches<'a>) -> Option<Resuming<'a>>
+    ensures { IfSome result (IsResuming (rows_of (found_of matches.now))) }
+{
+    Some(Resuming {
+        decrypting: decrypting(matches)?,
+        position: text(matches, "position")?,
+        old: text(matches, "old")?,
+    })
+}
+
+fn drilling<'a>(matches: &ArgMatches<'a>) -> Option<Drilling<'a>>
+    ensures { IfSome result (IsDrilling (rows_of (found_of matches.now))) }
+{
+    Some(Drilling {
+        clear: flag(matches, "clear"),
+        pass: text(matches, "pass"),
+        script: text(matches, "SCRIPT")?,
+        from: text(matches, "IN")?,
+    })
+}
+
+/// What a command asks for, by its name and its matches.
+fn request_of<'a>(name: &str, matches: &ArgMatches<'a>) -> Option<Request<'a>>
+    ensures { IfSome result (IsRequest name.now (rows_of (found_of matches.now))) }
+{
+    match name {
+        "encrypt" => encrypting(matches).map(Request::Encrypt),
+        "decrypt" => decrypting(matches).map(Request::Decrypt),
+        "resume" => resuming(matches).map(Request::Resume),
+        "inspect" => Some(Request::Inspect(text(matches, "FILE"))),
+        "drill" => drilling(matches).map(Request::Drill),
+        _ => None,
+    }
+}
+
+/// Reads what the arguments after the program's name ask for. It fails with the error of the parser
+/// of command lines: for arguments that no command takes, where help or the version is asked for,
+/// and where memory is refused.
+///
+/// `None` never comes up: each command has an argument for all that it takes, and numbers outside
+/// 1 to 22 are refused. The parser of command lines doesn't promise this, so callers have to answer
+/// it.
+pub fn read_request<'a>(alloc: Global, words: &'a [&'a str]) -> Result<Option<Request<'a>>, Error>
+    ensures asked { IfOk result (λ o. IfSome o (Requests (texts words.now))) }
+    ensures refusals { FailsBy (refusals (texts words.now)) result }
+{
+    let matches = matches_of(alloc, words)?;
+    match command_of(&matches) {
+        Some((name, inner)) => Ok(request_of(name, inner)),
+        None => Ok(None),
+    }
+}

@@ -1,0 +1,40 @@
+-- The lines in which faults are told.
+use Rattle.std.specs.Prelude.{◌⊎◌, ℕ, List, [], ◌++◌, codes, decimal, nat_le, Option, Some, None}
+use Rattle.std.specs.Prelude.{if◌then◌else◌}
+use Rattle.std.specs.Io.KnownBytes.{Appends}
+use Rattle.age_fault.specs.Faults.{number_of, name_of, place_of, HasRisen}
+use Rattle.age_fault.specs.declared.fault.FileFault.{FileFault}
+use Rattle.age_cli_common.specs.declared.ending.Ending.{Ending}
+use Rattle.age_cli_common.specs.declared.ending.Ending.TheVariants.{Words, Usage, Fault, Unsaved}
+
+-- ` line L` of a header's fault, ` chunk I` of a payload's
+abbrev pub place_text : ℕ → Option ℕ → List ℕ
+place_text number None = []
+place_text number (Some place) = if nat_le number 8 then codes " line " ++ decimal place
+    else if nat_le number 20 then codes " chunk " ++ decimal place else []
+
+-- `age_tool: N NAME` with the place, and LF
+abbrev pub fault_line : FileFault → List ℕ
+fault_line fault = codes "age_tool: " ++ (decimal (number_of fault) ++ (codes " " ++ (name_of fault
+    ++ (place_text (number_of fault) (place_of fault) ++ codes "\n"))))
+
+-- a sink took these bytes, or failed
+abbrev pub TakesOrFails : Option (List ℕ) → Option (List ℕ) → ℕ → ℕ → List ℕ → Type 0
+TakesOrFails old new failed_old failed_new bytes = Appends old new bytes
+    ⊎ HasRisen failed_old failed_new
+
+-- the line of the fault that ended a run, or the two lines, unless the sink failed
+abbrev pub TellsEnding : Ending → Option (List ℕ) → Option (List ℕ) → ℕ → ℕ → Type 0
+TellsEnding (Fault fault) old new failed_old failed_new =
+    TakesOrFails old new failed_old failed_new (fault_line fault)
+TellsEnding (Unsaved fault second) old new failed_old failed_new =
+    TakesOrFails old new failed_old failed_new (fault_line fault ++ fault_line second)
+TellsEnding (Words text) old new failed_old failed_new = Unit {0}
+TellsEnding (Usage usage) old new failed_old failed_new = Unit {0}
+
+-- the same of some fault, or of two
+abbrev pub TellsFault : Option (List ℕ) → Option (List ℕ) → ℕ → ℕ → Type 0
+TellsFault old new failed_old failed_new =
+    ((fault : FileFault) × TakesOrFails old new failed_old failed_new (fault_line fault))
+    ⊎ ((fault : FileFault) × (second : FileFault)
+    × TakesOrFails old new failed_old failed_new (fault_line fault ++ fault_line second))

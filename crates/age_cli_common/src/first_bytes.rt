@@ -1,0 +1,95 @@
+//! The first bytes of a source.
+
+ghost use Rattle.std.specs.Prelude.{◌≡◌, ◌^◌, ◌<◌, ◌≤◌, take, [], OnOk, IfOk, IfErr};
+ghost use Rattle.std.specs.Prelude.{IfSome};
+ghost use Rattle.age_fileset.specs.FileSet.{IsMemoryOr};
+ghost use Rattle.age_fault.specs.declared.fault.FileFault.TheVariants.{Read};
+ghost use Rattle.std.specs.Io.KnownBytes.{Consumes, IsAtEnd};
+ghost use Rattle.age_cli_common.specs.FirstBytes.{AreFirst};
+
+use age_fault::FileFault;
+use age_io::Source;
+use std::alloc::Global;
+
+/// How many bytes are pulled at once, at most.
+const ROOM: usize = 4096;
+
+/// Pulls at most so many bytes to the beginning of a buffer.
+fn pull_some<S: Source>(
+    source: &mut S,
+    buffer: &mut [u8; ROOM],
+    most: usize,
+) -> Result<usize, FileFault>
+    requires some { 0 < most }
+    requires room { most ≤ 4096 }
+    ensures count { IfOk result (λ n. n ≤ most) }
+    ensures bytes { IfOk result (λ n. Consumes (S.view source.old).remaining
+        (S.view source.new).remaining (take n buffer.new)) }
+    ensures ended { IfOk result (λ n. n ≡ 0 → IsAtEnd (S.view source.new).remaining) }
+    ensures fault { IfErr result (λ f. f ≡ Read) }
+{
+    match source.pull(&mut buffer[..most]) {
+        Ok(n) => Ok(n),
+        Err(_) => Err(FileFault::Read),
+    }
+}
+
+/// Puts the first bytes of a source into a vector that is empty: so many, or all that it gives
+/// where it ends before. Not a byte more is pulled. Where it fails, the vector holds what came
+/// before.
+pub fn fill_first<S: Source>(
+    source: &mut S,
+    held: &mut Vec<u8>,
+    most: usize,
+) -> Result<(), FileFault>
+    requires { held.old.items ≡ [] }
+    ensures first { OnOk result
+        (AreFirst (S.view source.old).remaining (S.view source.new).remaining most held.new.items) }
+    ensures faults { IfErr result (IsMemoryOr Read) }
+{
+    let mut buffer = [0; ROOM];
+    'pieces: while held.len() < most {
+        let n = pull_some(source, &mut buffer, (most - held.len()).min(ROOM))?;
+        if n == 0 {
+            return Ok(());
+        }
+        held.extend_from_slice(&buffer[..n])?;
+    }
+    Ok(())
+}
+
+/// The first bytes of a source: so many, or all that it gives where it ends before. Not a byte more
+/// is pulled.
+pub fn read_first<S: Source>(
+    alloc: Global,
+    source: &mut S,
+    most: usize,
+) -> Result<Vec<u8>, FileFault>
+    ensures first { IfOk result
+        (λ v. AreFirst (S.view source.old).remaining (S.view source.new).remaining most v.items) }
+    ensures faults { IfErr result (IsMemoryOr Read) }
+{
+    let mut held = Vec::new(alloc);
+    fill_first(source, &mut held, most)?;
+    Ok(held)
+}
+
+/// All bytes of a source that gives at most so many; `None` where it gives more. At most one byte
+/// more is pulled.
+pub fn read_up_to<S: Source>(
+    alloc: Global,
+    source: &mut S,
+    most: usize,
+) -> Result<Option<Vec<u8>>, FileFault>
+    requires { most < 2 ^ 32 }
+    ensures all { IfOk result (λ o. IfSome o
+        (λ v. Consumes (S.view source.old).remaining (S.view source.new).remaining v.items
+        × IsAtEnd (S.view source.new).remaining)) }
+    ensures faults { IfErr result (IsMemoryOr Read) }
+{
+    let first = read_first(alloc, source, most + 1)?;
+    if first.len() > most {
+        return Ok(None);
+    }
+    Ok(Some(first))
+}

@@ -1,4 +1,0 @@
-use Rattle.age_commands.proofs.commands.command_of.Goals as goal
-
-pub returns : goal.returns
-returns c = c.with_arguments.ensures _ c.command-plain.ensures

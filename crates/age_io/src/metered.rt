@@ -1,0 +1,52 @@
+//! A source that tells a meter what it gives.
+
+ghost use Rattle.std.specs.Prelude.{◌≡◌, ◌≤◌, length, IfOk, MatchResult};
+ghost use Rattle.std.specs.Io.KnownBytes.{ReadConsumes};
+ghost use Rattle.age_io.specs.Memory.{one_more};
+ghost use Rattle.age_io.specs.Counts.{pulled};
+
+use crate::failed::Failed;
+use crate::meter::Meter;
+use crate::source::Source;
+
+/// A source that hands on what another gives, and tells a meter how many bytes each pull gave. A
+/// contract sees both.
+#[derive(Debug, Drop)]
+pub struct Metered<S: Source, M: Meter> {
+    source: S,
+    meter: M,
+}
+
+impl<S: Source, M: Meter> Metered<S, M> {
+    /// A source that hands on what this one gives. The meter is one that has begun.
+    pub fn new(source: S, meter: M) -> Metered<S, M>
+        ensures source { result.source ≡ source }
+        ensures meter { result.meter ≡ meter }
+    {
+        Metered { source, meter }
+    }
+}
+
+impl<S: Source, M: Meter> Source for Metered<S, M> {
+    ghost view = { λ s. S.view s.source };
+
+    /// Does what the source's own pull does, and tells the meter how many bytes it gave; nothing
+    /// if it failed.
+    fn pull(&mut self, into: &mut [u8]) -> Result<usize, Failed>
+        ensures bound { IfOk result (λ n. n ≤ length into.new) }
+        ensures bytes { ReadConsumes (S.view self.old.source).remaining
+            (S.view self.new.source).remaining result into.new }
+        ensures counted { MatchResult result
+            (λ _. (S.view self.new.source).failed ≡ (S.view self.old.source).failed)
+            (λ _. (S.view self.new.source).failed ≡ one_more (S.view self.old.source).failed) }
+        ensures told { M.told self.new.meter ≡ pulled result (M.told self.old.meter) }
+    {
+        let n = self.source.pull(into)?;
+        self.meter.advance(n as u64);
+        Ok(n)
+    }
+
+    fn failures(&self) -> u64 {
+        self.source.failures()
+    }
+}

@@ -1,0 +1,85 @@
+//! One argument of a stanza.
+
+ghost use Rattle.std.specs.Prelude.{◌≡◌, ◌↔◌, [], length, IsTrue, IfOk};
+
+use arrayvec::ArrayVec;
+use std::alloc::{AllocError, Global};
+use std::marker::Model;
+
+/// Where the bytes of an argument lie.
+#[derive(Debug, Drop)]
+enum Letters {
+    /// In the value itself.
+    Short(ArrayVec<u8, 8>),
+    /// In an allocation. A box, since a `Vec` would make each argument 32 bytes long.
+    Long(Box<Vec<u8>>),
+}
+
+/// An argument of a stanza (<https://c2sp.org/age#header>). It is 24 bytes long, and up to 8 bytes
+/// lie in the value itself: so a header of many short arguments takes no allocation for each, and
+/// no more than 12 bytes for a byte of its text. A contract sees the list of its bytes.
+#[derive(Debug, Drop)]
+pub struct Argument {
+    letters: Letters,
+}
+
+impl Model for Argument {
+    ghost use Rattle.std.specs.Prelude.{List, ℕ};
+    ghost use Rattle.age_stanza.specs.Letters.{letters_of};
+
+    ghost Value = { List ℕ };
+
+    ghost view = { λ a. letters_of a.letters };
+}
+
+impl Argument {
+    /// A copy of some bytes. Up to 8 of them take no memory.
+    pub fn from_slice(alloc: Global, bytes: &[u8]) -> Result<Argument, AllocError>
+        ensures { IfOk result (λ argument. argument ≡ bytes.now) }
+    {
+        let letters = match ArrayVec::try_from(bytes) {
+            Ok(short) => Letters::Short(short),
+            Err(_) => Letters::Long(Box::new(alloc, Vec::from_slice(alloc, bytes)?)?),
+        };
+        Ok(Argument { letters })
+    }
+
+    /// The bytes.
+    pub fn as_slice(&self) -> &[u8]
+        ensures { result.now ≡ self.now }
+    {
+        match &self.letters {
+            Letters::Short(short) => short.as_slice(),
+            Letters::Long(long) => long.as_slice(),
+        }
+    }
+
+    /// How many bytes there are.
+    pub fn len(&self) -> usize
+        ensures { result ≡ length self.now }
+    {
+        self.as_slice().len()
+    }
+
+    /// Whether there is no byte.
+    pub fn is_empty(&self) -> bool
+        ensures { IsTrue result ↔ (self.now ≡ []) }
+    {
+        self.as_slice().is_empty()
+    }
+}
+
+impl PartialEq for Argument {
+    ghost use Rattle.std.proofs.Common.{rules};
+    ghost use Rattle.std.specs.Prelude.{nat_eq};
+    ghost use Rattle.std.specs.Cmp.Lexicographic.{pointwise};
+    ghost use Rattle.std.specs.Cmp.Rules.{comparing};
+
+    ghost eq = { λ v w. pointwise nat_eq v w };
+
+    ghost laws = { Prim.search (comparing, rules) };
+
+    fn eq(&self, other: &Self) -> bool {
+        self.as_slice() == other.as_slice()
+    }
+}
