@@ -29,46 +29,49 @@ no_tag_length : length no_tag ≡ 16
 no_tag_length = length-replicate {A = ℕ} 16 256
 
 -- what a list that is no block opens to
-abbrev marked : List ℕ → Option (List ℕ)
-marked block =
+abbrev marked : List ℕ → List ℕ → Option (List ℕ)
+marked nonce block =
     let front = take (length block - 16) block in
-    if not (is_text front) && bytes_eq (front ++ no_tag) block then Some front else None
+    if not (is_text nonce front) && bytes_eq (front ++ no_tag) block then Some front else None
 
 module _ (sealing : Seals) (opening : Opens) (valid : IsChunkBoxOnBytes sealing opening) where
-  seals : (nonce text : List ℕ) (b : Bool) → is_text text ≡ b
+  seals : (nonce text : List ℕ) (b : Bool) → is_text nonce text ≡ b
       → sealing_beyond sealing nonce text ≡ cond b (sealing nonce text) (text ++ no_tag)
   seals nonce text b e = ap (λ (x : Bool). cond x (sealing nonce text) (text ++ no_tag)) e
 
-  opens : (nonce block : List ℕ) (b : Bool) → is_block block ≡ b
-      → opening_beyond opening nonce block ≡ cond b (opening nonce block) (marked block)
-  opens nonce block b e = ap (λ (x : Bool). cond x (opening nonce block) (marked block)) e
+  opens : (nonce block : List ℕ) (b : Bool) → is_block nonce block ≡ b
+      → opening_beyond opening nonce block ≡ cond b (opening nonce block) (marked nonce block)
+  opens nonce block b e = ap (λ (x : Bool). cond x (opening nonce block) (marked nonce block)) e
 
   -- the block of a text is a block
-  block_is : (nonce text : List ℕ) → length nonce ≡ 12 → is_text text ≡ true
-      → is_block (sealing nonce text) ≡ true
+  block_is : (nonce text : List ℕ) → length nonce ≡ 12 → is_text nonce text ≡ true
+      → is_block nonce (sealing nonce text) ≡ true
   block_is nonce text h t =
       let block = sealing nonce text in
       let len = valid.longer nonce text h t in
-      let most = leb-true (length text) 65536 (and_parts (are_bytes text) (nat_le (length text) 65536) t).1 in
+      let given = and_parts (are_bytes nonce) (are_bytes text && nat_le (length text) 65536) t in
+      let most = leb-true (length text) 65536 (and_parts (are_bytes text) (nat_le (length text) 65536) given.1).1 in
       let low : nat_le 16 (length block) ≡ true = le-leb 16 (length block) (omega (arith, len)) in
       let high : nat_le (length block) 65552 ≡ true = le-leb (length block) 65552 (omega (arith, len, most)) in
-      ap (λ (b : Bool). b && (nat_le 16 (length block) && nat_le (length block) 65552)) (valid.bytes nonce text h t)
-      ∙ (ap (λ (b : Bool). b && nat_le (length block) 65552) low ∙ high)
+      ap (λ (b : Bool). b && (are_bytes block && (nat_le 16 (length block) && nat_le (length block) 65552))) given.0
+      ∙ (ap (λ (b : Bool). b && (nat_le 16 (length block) && nat_le (length block) 65552)) (valid.bytes nonce text h t)
+      ∙ (ap (λ (b : Bool). b && nat_le (length block) 65552) low ∙ high))
 
   -- a list with the mark is none
-  none_is : (text : List ℕ) → is_block (text ++ no_tag) ≡ false
-  none_is text =
+  none_is : (nonce text : List ℕ) → is_block nonce (text ++ no_tag) ≡ false
+  none_is nonce text =
       let block = text ++ no_tag in
-      ap (λ (b : Bool). b && (nat_le 16 (length block) && nat_le (length block) 65552)) (no_bytes text)
+      ap (λ (b : Bool). are_bytes nonce && (b && (nat_le 16 (length block) && nat_le (length block) 65552))) (no_bytes text)
+      ∙ never (are_bytes nonce)
 
-  unmarks : (text : List ℕ) → is_text text ≡ false → marked (text ++ no_tag) ≡ Some text
-  unmarks text f =
+  unmarks : (nonce text : List ℕ) → is_text nonce text ≡ false → marked nonce (text ++ no_tag) ≡ Some text
+  unmarks nonce text f =
       let block = text ++ no_tag in
       let len : length block ≡ length text + 16 = length-append text no_tag ∙ ap (λ (k : ℕ). length text + k) no_tag_length in
       let here : length text ≡ length block - 16 = omega (arith, len) in
       let front : take (length block - 16) block ≡ text = take_at text no_tag (length block - 16) here in
       let same : bytes_eq (text ++ no_tag) block ≡ true = (bytes_eq-Decides (text ++ no_tag) block).1 refl in
-      ap (λ (t : List ℕ). cond (not (is_text t) && bytes_eq (t ++ no_tag) block) (Some t) None) front
+      ap (λ (t : List ℕ). cond (not (is_text nonce t) && bytes_eq (t ++ no_tag) block) (Some t) None) front
       ∙ (ap (λ (b : Bool). cond (not b && bytes_eq (text ++ no_tag) block) (Some text) None) f
       ∙ ap (λ (b : Bool). cond b (Some text) None) same)
 
@@ -76,27 +79,27 @@ module _ (sealing : Seals) (opening : Opens) (valid : IsChunkBoxOnBytes sealing 
   valid_beyond =
       record {
         longer =
-            λ nonce text h. by_cases (is_text text)
+            λ nonce text h. by_cases (is_text nonce text)
             (λ t. ap length (seals nonce text true t) ∙ valid.longer nonce text h t)
             (λ f. ap length (seals nonce text false f) ∙ (length-append text no_tag ∙ ap (λ (k : ℕ). length text + k) no_tag_length));
         opens =
-            λ nonce text h. by_cases (is_text text)
+            λ nonce text h. by_cases (is_text nonce text)
             (λ t.
             ap (opening_beyond opening nonce) (seals nonce text true t)
             ∙ (opens nonce (sealing nonce text) true (block_is nonce text h t) ∙ valid.opens nonce text h t))
             (λ f.
             ap (opening_beyond opening nonce) (seals nonce text false f)
-            ∙ (opens nonce (text ++ no_tag) false (none_is text) ∙ unmarks text f));
+            ∙ (opens nonce (text ++ no_tag) false (none_is nonce text) ∙ unmarks nonce text f));
         only =
-            λ nonce text block h e. by_cases (is_block block)
+            λ nonce text block h e. by_cases (is_block nonce block)
             (λ t.
             let o = valid.only nonce text block h t (sym (opens nonce block true t) ∙ e) in
             seals nonce text true o.0 ∙ o.1)
             (λ f.
             let front = take (length block - 16) block in
-            let m = cond_some (not (is_text front) && bytes_eq (front ++ no_tag) block) front text (sym (opens nonce block false f) ∙ e) in
-            let p = and_parts (not (is_text front)) (bytes_eq (front ++ no_tag) block) m.0 in
-            let no : is_text text ≡ false = ap is_text (sym m.1) ∙ not_true (is_text front) p.0 in
+            let m = cond_some (not (is_text nonce front) && bytes_eq (front ++ no_tag) block) front text (sym (opens nonce block false f) ∙ e) in
+            let p = and_parts (not (is_text nonce front)) (bytes_eq (front ++ no_tag) block) m.0 in
+            let no : is_text nonce text ≡ false = ap (is_text nonce) (sym m.1) ∙ not_true (is_text nonce front) p.0 in
             seals nonce text false no
             ∙ (ap (λ (x : List ℕ). x ++ no_tag) (sym m.1) ∙ (bytes_eq-Decides (front ++ no_tag) block).0 p.1));
       }

@@ -18,6 +18,7 @@ use itoa::Buffer;
 struct Line {
     bytes: ArrayVec<u8, 128>,
     failed: u64,
+    failing: bool,
 }
 
 impl Line {
@@ -27,6 +28,7 @@ impl Line {
         Line {
             bytes: ArrayVec::new(),
             failed: 0,
+            failing: false,
         }
     }
 }
@@ -35,21 +37,27 @@ impl Sink for Line {
     ghost view = { λ line. record {
       taken = Some line.bytes.items;
       failed = line.failed;
+      failing = line.failing;
       label = [];
       settled = true;
     } };
 
     fn put(&mut self, from: &[u8]) -> Result<usize, Failed> {
         match self.bytes.try_extend_from_slice(from) {
-            Ok(()) => Ok(from.len()),
+            Ok(()) => {
+                self.failing = false;
+                Ok(from.len())
+            }
             Err(_) => {
                 self.failed = self.failed.saturating_add(1);
+                self.failing = true;
                 Err(Failed)
             }
         }
     }
 
     fn flush(&mut self) -> Result<(), Failed> {
+        self.failing = false;
         Ok(())
     }
 

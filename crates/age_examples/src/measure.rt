@@ -1,6 +1,6 @@
 //! A sink of one's own.
 
-ghost use Rattle.std.specs.Prelude.{◌≡◌, ℕ, [], None, true};
+ghost use Rattle.std.specs.Prelude.{◌≡◌, ℕ, [], None, true, false};
 
 use age_file::{Failed, Sink};
 
@@ -11,7 +11,13 @@ pub struct Measure {
 }
 
 impl Sink for Measure {
-    ghost view = { λ _. record { taken = None; failed = 0; label = []; settled = true } };
+    ghost view = { λ _. record {
+      taken = None;
+      failed = 0;
+      failing = false;
+      label = [];
+      settled = true;
+    } };
 
     fn put(&mut self, from: &[u8]) -> Result<usize, Failed> {
         self.count = self.count.saturating_add(from.len() as u64);

@@ -24,7 +24,7 @@ Appends-Keeps (Some a) None c x p q = absurd p
 Appends-Keeps (Some a) (Some b) None x p q = absurd q
 Appends-Keeps (Some a) (Some b) (Some c) x p q = q ∙ p
 
--- a count of failures that was raised
+-- a count of failures that was raised by one
 pub risen : (old new : ℕ) → new ≡ min (old + 1) (2 ^ 64 - 1) → HasRisen old new
 risen old new e =
     elim (cases_lt old (2 ^ 64 - 1)) [ inl lt ↦ inl (omega (arith, lt, e)) | inr le ↦ inr (omega (arith, le, e)) ]

@@ -1,5 +1,7 @@
 -- The numbers, names and places of faults.
 use Rattle.std.specs.Prelude.{◌≡◌, ◌⊎◌, ℕ, ◌^◌, ◌-◌, ◌<◌, List, Option, Some, None, codes}
+use Rattle.std.specs.Prelude.{Bool, true}
+use Rattle.age_io.specs.Memory.{one_more}
 use Rattle.age_stanza.specs.declared.fault.HeadKind.{HeadKind}
 use Rattle.age_stanza.specs.declared.fault.HeadKind.TheVariants.{NotAge, Armored, BadStanzaLine}
 use Rattle.age_stanza.specs.declared.fault.HeadKind.TheVariants.{BadBody, BadEndLine, NoStanza}
@@ -87,6 +89,11 @@ abbrev pub place_of : FileFault → Option ℕ
 place_of (Head fault) = head.place_of fault
 place_of (Stream fault) = Some fault.chunk
 place_of other = None
+
+-- a count of failures rose by one, or stayed at its greatest value, and the last call is the one that
+-- failed: no call came after it
+abbrev pub HasFailed : ℕ → ℕ → Bool → Type 0
+HasFailed old new failing = (new ≡ one_more old) × (failing ≡ true)
 
 -- a count of failures rose, or is at its greatest value
 abbrev pub HasRisen : ℕ → ℕ → Type 0

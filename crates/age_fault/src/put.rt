@@ -3,15 +3,15 @@
 ghost use Rattle.std.specs.Prelude.{◌≡◌, ◌+◌, ◌^◌, ◌<◌, length, IfErr, OnOk, MatchResult};
 ghost use Rattle.std.specs.Prelude.{true};
 ghost use Rattle.std.specs.Io.KnownBytes.{Keeps};
-ghost use Rattle.age_io.specs.Memory.{one_more};
+ghost use Rattle.age_fault.specs.Faults.{HasFailed};
 ghost use Rattle.age_fault.specs.Writes.{Writes};
 ghost use Rattle.age_fault.specs.declared.fault.FileFault.TheVariants.{Write};
 
 use crate::fault::FileFault;
 use age_io::Sink;
 
-/// Writes all of some bytes, and adds to `written` as many as the sink took. Where it fails, those
-/// that it took before are counted. It refuses with `Write` (27) alone.
+/// Writes all of some bytes, and adds to `written` as many as the sink took. If a put fails, it
+/// makes no other, and the bytes that were taken before are counted. Fails only with `Write` (27).
 pub fn write_all<O: Sink>(sink: &mut O, bytes: &[u8], written: &mut u128) -> Result<(), FileFault>
     requires { written.old + length bytes.now < 2 ^ 128 }
     ensures writes { Writes (O.view sink.old) (O.view sink.new) written.old written.new bytes.now
@@ -32,14 +32,14 @@ pub fn write_all<O: Sink>(sink: &mut O, bytes: &[u8], written: &mut u128) -> Res
     Ok(())
 }
 
-/// Sends on what a sink took. It refuses with `Write` (27) alone.
+/// Flushes the sink. Fails only with `Write` (27).
 pub fn flush_all<O: Sink>(sink: &mut O) -> Result<(), FileFault>
     ensures settled { OnOk result ((O.view sink.new).settled ≡ true) }
     ensures bytes { Keeps (O.view sink.old).taken (O.view sink.new).taken }
     ensures named { (O.view sink.new).label ≡ (O.view sink.old).label }
     ensures fault { IfErr result (λ fault. fault ≡ Write) }
     ensures counted { MatchResult result (λ _. (O.view sink.new).failed ≡ (O.view sink.old).failed)
-        (λ _. (O.view sink.new).failed ≡ one_more (O.view sink.old).failed) }
+        (λ _. HasFailed (O.view sink.old).failed (O.view sink.new).failed (O.view sink.new).failing) }
 {
     match sink.flush() {
         Ok(()) => Ok(()),

@@ -24,7 +24,7 @@ use Rattle.age_fault.specs.declared.fault.FileFault.TheVariants.{Read, ReadNever
 use Rattle.age_fault.specs.declared.fault.FileFault.TheVariants.{Memory as FileMemory}
 use Rattle.age_file.specs.inner.Intakes.{Pulled, PullFails}
 use Rattle.age_file.specs.inner.Readers.{reader_view}
-use Rattle.age_fault.specs.Faults.{HasRisen}
+use Rattle.age_fault.specs.Faults.{HasFailed}
 use Rattle.age_file.specs.inner.Unread.{Unread}
 
 -- a beginning of a beginning
@@ -130,7 +130,7 @@ cut_pulled start now pulls held bytes none h = subst (λ (t : List ℕ). Pulled 
 pub pull_fails : (old mid new : SourceView) (was now : Unread) (held : List ℕ) (fault : FileFault) → mid.failed ≡ old.failed
     → Pulled old.remaining new.remaining now.pulls held
     → PullFails (reader_view mid was) (reader_view new now) fault → HeadFails old new fault
-pull_fails old mid new was now held Read same all f = subst (λ (m : ℕ). HasRisen m new.failed) same f
+pull_fails old mid new was now held Read same all f = subst (λ (m : ℕ). HasFailed m new.failed new.failing) same f
 pull_fails old mid new was now held ReadNeverEnds same all f = (held, all.consumed, (omega (arith, all.each_gave, f.0), omega (arith, all.small, f.0)))
 pull_fails old mid new was now held other same all f = absurd f
 

@@ -6,7 +6,7 @@ use Rattle.std.specs.Simd.{first_chunks}
 use Rattle.std.specs.Io.KnownBytes.{Appends}
 use Rattle.age_file.proofs.FirstChunks.{first_chunks-append, first_chunks_more}
 use Rattle.age_stream.specs.Headline.{IsPrefixOf}
-use Rattle.age_fault.specs.Faults.{HasRisen}
+use Rattle.age_fault.specs.Faults.{HasFailed}
 use Rattle.age_file.specs.Bindings.{link, chain}
 use Rattle.age_file.specs.inner.Readers.{ReaderView, WriterView}
 use Rattle.age_file.specs.inner.Skips.{Passes, Dries}
@@ -34,7 +34,7 @@ copy_fails x y z a b c p q ShortText f same g = (passes_then x y z p q f g.0, g.
 copy_fails x y z a b c p q Write f same g =
     let more : IsPrefixOf (p ++ q) ((p ++ g.0) ++ z.unread.bytes) =
     (g.2.0, append_assoc p q g.2.0 ∙ ap (λ (t : List ℕ). p ++ t) g.2.1 ∙ sym (append_assoc p g.0 z.unread.bytes)) in
-    (p ++ g.0, passes_then x y z p g.0 f g.1, more, subst (λ (m : ℕ). HasRisen m c.sink.failed) same g.3)
+    (p ++ g.0, passes_then x y z p g.0 f g.1, more, subst (λ (m : ℕ). HasFailed m c.sink.failed c.sink.failing) same g.3)
 copy_fails x y z a b c p q Read f same g = (dries_then x y z p q Read f g.0, g.1 ∙ same)
 copy_fails x y z a b c p q ReadNeverEnds f same g = (dries_then x y z p q ReadNeverEnds f g.0, g.1 ∙ same)
 copy_fails x y z a b c p q other f same g = absurd g

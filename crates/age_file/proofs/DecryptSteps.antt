@@ -10,7 +10,7 @@ use Rattle.age_stanza.specs.declared.header.Header.{Header}
 use Rattle.age_keys.specs.declared.fault.KeyFault.{KeyFault}
 use Rattle.age_file.specs.inner.Boxes.{opens}
 use Rattle.age_keys.specs.Keys.{payload_key}
-use Rattle.age_fault.specs.Faults.{HasRisen}
+use Rattle.age_fault.specs.Faults.{HasFailed}
 use Rattle.age_io.specs.Views.{SourceView}
 use Rattle.age_file.specs.inner.Intakes.{Pulled}
 use Rattle.age_file.specs.AgeFile.{unbox}
@@ -62,7 +62,7 @@ module _ (keep : Positions) (Allows : Header → List ℕ → Type 0) (Refused :
   fails a old new r pulled p Write from same h is at f = (r, from, (is, writes_of r (first_fits r from) is.prefix, at), f)
   fails a old new r pulled p Read from same h is at f = (
     inr (r, from, (record { is = is; whole = f.0; of = writes_of r (first_fits r from) is.prefix }, at)),
-    subst (λ (m : ℕ). HasRisen m new.reader.source.failed) same f.1,
+    subst (λ (m : ℕ). HasFailed m new.reader.source.failed new.reader.source.failing) same f.1,
   )
   fails a old new r pulled p ReadNeverEnds from same h is at f = (
     inr (r, from, (record { is = is; whole = f.0; of = writes_of r (first_fits r from) is.prefix }, at)),

@@ -13,7 +13,7 @@ use Rattle.age_file.specs.declared.encryption.Written.{Written}
 use Rattle.age_fault.specs.Writes.{Writes}
 use Rattle.age_io.specs.Views.{SourceView}
 use Rattle.age_file.specs.inner.Readers.{WriterView}
-use Rattle.age_fault.specs.Faults.{HasRisen}
+use Rattle.age_fault.specs.Faults.{HasFailed}
 use Rattle.age_file.specs.Ports.{Ports, ports}
 use Rattle.age_file.specs.inner.Seals.{SealingFails, SealsAll, SealsFront}
 use Rattle.age_file.specs.Secrets.{SecretView}
@@ -38,7 +38,7 @@ module _ (s : SecretView) (front : List ℕ) (begins : BeginsFile s front) where
       }
 
   -- the sink failed in the front
-  pub front_cut : (old new : Ports) (coming : new.source.remaining ≡ old.source.remaining) (failed : HasRisen old.sink.failed new.sink.failed)
+  pub front_cut : (old new : Ports) (coming : new.source.remaining ≡ old.source.remaining) (failed : HasFailed old.sink.failed new.sink.failed new.sink.failing)
       (out unwritten : List ℕ) → front ≡ out ++ unwritten → Appends old.sink.taken new.sink.taken out
       → EncryptsFront s old new Write
   front_cut old new coming failed out unwritten parts wrote =
@@ -83,8 +83,8 @@ module _ (s : SecretView) (front : List ℕ) (begins : BeginsFile s front) where
 
     why_stopped : (text : List ℕ) (fault : FileFault) → SealingFails 65536 mid new text fault → WhyStopped old new text fault
     why_stopped text (Stream fault) f = (omega (arith, f.0), f.1)
-    why_stopped text Read f = subst (λ (k : ℕ). HasRisen k new.source.failed) read_failed f
-    why_stopped text Write f = subst (λ (k : ℕ). HasRisen k new.sink.failed) write_failed f
+    why_stopped text Read f = subst (λ (k : ℕ). HasFailed k new.source.failed new.source.failing) read_failed f
+    why_stopped text Write f = subst (λ (k : ℕ). HasFailed k new.sink.failed new.sink.failing) write_failed f
     why_stopped text ReadNeverEnds f = f
     why_stopped text (Head fault) f = absurd f
     why_stopped text (Key fault) f = absurd f

@@ -8,7 +8,7 @@ use Rattle.age_io.specs.Views.{SourceView}
 use Rattle.age_stream.specs.declared.step.Status.TheVariants.{Failed}
 use Rattle.age_stream.specs.Deliveries.{with_piece}
 use Rattle.age_stream.specs.Opening.{OpenerView}
-use Rattle.age_fault.specs.Faults.{HasRisen}
+use Rattle.age_fault.specs.Faults.{HasFailed}
 use Rattle.age_file.specs.Ports.{NoneFailed}
 use Rattle.age_file.specs.inner.Unread.{Unread}
 use Rattle.age_file.specs.inner.Readers.{ReaderView, reader_view, WriterView, Stage, stage, ports_at}
@@ -22,8 +22,8 @@ use Rattle.age_file.proofs.ReleaseSteps.{releases_none, releases_then}
 abbrev pub FlowFails : {B : Type 0} → OpenerView B → Stage → Stage → List ℕ → List ℕ → FileFault → Type 0
 FlowFails opener old new left unwritten (Stream fault) = (opener.status ≡ Failed fault) × (left ≡ []) × (unwritten ≡ [])
     × NoneFailed (ports_at old) (ports_at new)
-FlowFails opener old new left unwritten Write = HasRisen old.writer.sink.failed new.writer.sink.failed
-FlowFails opener old new left unwritten Read = (left ≡ []) × (unwritten ≡ []) × HasRisen old.reader.source.failed new.reader.source.failed
+FlowFails opener old new left unwritten Write = HasFailed old.writer.sink.failed new.writer.sink.failed new.writer.sink.failing
+FlowFails opener old new left unwritten Read = (left ≡ []) × (unwritten ≡ []) × HasFailed old.reader.source.failed new.reader.source.failed new.reader.source.failing
 FlowFails opener old new left unwritten ReadNeverEnds = (left ≡ []) × (unwritten ≡ []) × (new.reader.unread.pulls ≡ 2 ^ 63)
     × NoneFailed (ports_at old) (ports_at new)
 FlowFails opener old new left unwritten other = ⊥
@@ -107,7 +107,7 @@ module _ {B : Type 0} (opening : B → List ℕ → List ℕ → Option (List �
     feed_fails : (left unwritten : List ℕ) (fault : FileFault) → FeedFails opening n c was now left unwritten fault
         → FlowFails c old (stage (reader_view source v) now) left unwritten fault
     feed_fails left unwritten (Stream f) h = (h.0, h.1, h.2, (p.same.0, h.3 ∙ p.same.1))
-    feed_fails left unwritten Write h = subst (λ (k : ℕ). HasRisen k now.sink.failed) p.same.1 h
+    feed_fails left unwritten Write h = subst (λ (k : ℕ). HasFailed k now.sink.failed now.sink.failing) p.same.1 h
     feed_fails left unwritten other h = absurd h
 
     -- the piece was refused, or the sink failed
@@ -156,7 +156,7 @@ module _ {B : Type 0} (opening : B → List ℕ → List ℕ → Option (List �
         }
 
     pull_fails : (fault : FileFault) → z.unread.bytes ≡ [] → PullFails x z fault → FlowFails b old (stage z now) z.unread.bytes [] fault
-    pull_fails Read none h = (none, refl, subst (λ (k : ℕ). HasRisen k z.source.failed) p.same.0 h)
+    pull_fails Read none h = (none, refl, subst (λ (k : ℕ). HasFailed k z.source.failed z.source.failing) p.same.0 h)
     pull_fails ReadNeverEnds none h = (none, refl, h.0, (h.1 ∙ p.same.0, p.same.1))
     pull_fails other none h = absurd h
 

@@ -8,7 +8,7 @@ use Rattle.age_stream.specs.Deliveries.{with_piece, with_end, fresh}
 use Rattle.age_stream.specs.Opening.{OpenerView, Stands}
 use Rattle.age_stream.specs.Headline.{IsPrefixOf}
 use Rattle.age_stream.proofs.PublicLaws.{fresh_is_open, released_grows}
-use Rattle.age_fault.specs.Faults.{HasRisen}
+use Rattle.age_fault.specs.Faults.{HasFailed}
 use Rattle.age_file.specs.Ports.{NoneFailed}
 use Rattle.age_file.specs.inner.Readers.{WriterView, Stage, stage, ports_at}
 use Rattle.age_file.specs.inner.Releases.{Releases, Closes, FeedFails}
@@ -118,7 +118,7 @@ module _ {B : Type 0} (sealing : B → List ℕ → List ℕ → List ℕ) (open
         (refl, sym s ∙ h.0, sym (append-nil out) ∙ (ap (λ (t : List ℕ). out ++ t) (sym h.1) ∙ sym e), (same.0, h.2 ∙ same.1))
     done_or_fails c old mid now bytes out unwritten (Err (Stream f)) same e s h =
         (sym s ∙ h.0, sym (append-nil out) ∙ (ap (λ (t : List ℕ). out ++ t) (sym h.2) ∙ sym e), (same.0, h.3 ∙ same.1))
-    done_or_fails c old mid now bytes out unwritten (Err Write) same e s h = subst (λ (x : ℕ). HasRisen x now.sink.failed) same.1 h
+    done_or_fails c old mid now bytes out unwritten (Err Write) same e s h = subst (λ (x : ℕ). HasFailed x now.sink.failed now.sink.failing) same.1 h
     done_or_fails c old mid now bytes out unwritten (Err other) same e s h = absurd h
 
     pub pour_ended : (a b c : OpenerView B) (old mid : Stage) (now : WriterView) (result : Result (Unit {0}) FileFault) → a.key ≡ K

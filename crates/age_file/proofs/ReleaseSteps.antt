@@ -11,7 +11,7 @@ use Rattle.age_stream.specs.Deliveries.{with_piece}
 use Rattle.age_stream.specs.Opening.{OpenerView, Stands, chunk_texts}
 use Rattle.age_stream.proofs.PublicLaws.{pieces_join}
 use Rattle.age_stream.specs.Lent.{chunk_bytes}
-use Rattle.age_fault.specs.Faults.{HasRisen}
+use Rattle.age_fault.specs.Faults.{HasFailed}
 use Rattle.age_file.specs.inner.Releases.{Releases, FeedGoes, FeedFails}
 use Rattle.age_file.specs.inner.Readers.{WriterView}
 use Rattle.age_fault.specs.declared.fault.FileFault.{FileFault}
@@ -191,5 +191,5 @@ module _ {B : Type 0} (opening : B → List ℕ → List ℕ → Option (List �
       → FeedGoes opening n old mid was between a [] → FeedFails opening n new between now left unwritten fault
       → FeedFails opening n new was now left unwritten fault
   fails_then a old mid new was between now left unwritten (Stream f) p h = (h.0, h.1, h.2, h.3 ∙ p.2)
-  fails_then a old mid new was between now left unwritten Write p h = subst (λ (k : ℕ). HasRisen k now.sink.failed) p.2 h
+  fails_then a old mid new was between now left unwritten Write p h = subst (λ (k : ℕ). HasFailed k now.sink.failed now.sink.failing) p.2 h
   fails_then a old mid new was between now left unwritten other p h = h

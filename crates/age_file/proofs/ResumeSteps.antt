@@ -21,7 +21,7 @@ use Rattle.age_file.specs.Bindings.{file_id, chain, position_tag}
 use Rattle.age_file.specs.inner.Bindings.{chain_if}
 use Rattle.age_file.specs.declared.position.Positions.TheVariants.{Kept, Dropped}
 use Rattle.age_file.specs.inner.Copies.{CopiesText}
-use Rattle.age_fault.specs.Faults.{HasRisen}
+use Rattle.age_fault.specs.Faults.{HasFailed}
 use Rattle.age_file.specs.inner.Readers.{ReaderView, reader_view, WriterView, Stage, stage}
 use Rattle.age_file.specs.inner.Intakes.{Pulled}
 use Rattle.age_file.specs.Runs.{Told}
@@ -336,7 +336,7 @@ module _ (keep : Positions) (Allows : Header → List ℕ → Type 0) (Refused :
           )
       skipped_fails m position Read at f =
           let all = read_on m (head ++ f.0) (dried m f.0 f.2.used f.2.uses) in
-          inr (inr (inl (f.0, stops_in_skipped m position f.0 at f.1 all, subst (λ (k : ℕ). HasRisen k m.source.failed) same f.2.why)))
+          inr (inr (inl (f.0, stops_in_skipped m position f.0 at f.1 all, subst (λ (k : ℕ). HasFailed k m.source.failed m.source.failing) same f.2.why)))
       skipped_fails m position ReadNeverEnds at f =
           let all = dried m f.0 f.2.used f.2.uses in
           inr (inr (inl (
@@ -455,11 +455,11 @@ module _ (keep : Positions) (Allows : Header → List ℕ → Type 0) (Refused :
             )
         decrypted_fails s2 position Write b h f = (
           inr (b.run, b.from, (b.is, writes_of b.run (first_fits s2 (Err Write) b) b.is.prefix, h)),
-          subst (λ (k : ℕ). HasRisen k s2.writer.sink.failed) c.answered.2 f,
+          subst (λ (k : ℕ). HasFailed k s2.writer.sink.failed s2.writer.sink.failing) c.answered.2 f,
         )
         decrypted_fails s2 position Read b h f =
             let of = writes_of b.run (first_fits s2 (Err Read) b) b.is.prefix in
-            let why = subst (λ (k : ℕ). HasRisen k s2.reader.source.failed) (passes.unfailed ∙ same) f.1 in
+            let why = subst (λ (k : ℕ). HasFailed k s2.reader.source.failed s2.reader.source.failing) (passes.unfailed ∙ same) f.1 in
             inr (inr (inr (b.run, b.from, (record { is = b.is; whole = f.0; of = of }, h), why)))
         decrypted_fails s2 position ReadNeverEnds b h f =
             let of = writes_of b.run (first_fits s2 (Err ReadNeverEnds) b) b.is.prefix in

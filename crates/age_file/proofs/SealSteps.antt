@@ -14,7 +14,7 @@ use Rattle.age_chunk.specs.Payload.{last_index}
 use Rattle.age_stream.specs.Sealing.{SealerView, Holds, step_len, needs_too_many}
 use Rattle.age_stream.specs.Lent.{chunk_bytes}
 use Rattle.age_stream.proofs.PublicLaws.{payload_is_longer}
-use Rattle.age_fault.specs.Faults.{HasRisen}
+use Rattle.age_fault.specs.Faults.{HasFailed}
 use Rattle.age_file.specs.inner.Readers.{WriterView}
 use Rattle.age_file.specs.inner.Seals.{front_of, IsTooLong, SealsSome, GoesOn, SealFails, HasRoom, Wrote}
 use Rattle.age_fault.specs.declared.fault.FileFault.{FileFault}
@@ -126,7 +126,7 @@ module _ {B : Type 0} (sealing : B → List ℕ → List ℕ → List ℕ) (n : 
       → SealFails sealing n b mid now rest fault → SealFails sealing n a was now (front ++ rest) fault
   fails_then a b was mid now front rest (Stream fault) same goes f =
       (λ text h. subst (λ (t : List ℕ). 281474976710656 * n < length t) (append_assoc text front rest) (f.0 (text ++ front) (goes.holds text h)), f.1)
-  fails_then a b was mid now front rest Write same goes f = subst (λ (k : ℕ). HasRisen k now.sink.failed) same f
+  fails_then a b was mid now front rest Write same goes f = subst (λ (k : ℕ). HasFailed k now.sink.failed now.sink.failing) same f
   fails_then a b was mid now front rest (Head fault) same goes f = absurd f
   fails_then a b was mid now front rest (Key fault) same goes f = absurd f
   fails_then a b was mid now front rest NonceCut same goes f = absurd f

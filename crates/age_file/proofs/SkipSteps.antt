@@ -3,7 +3,7 @@ use Rattle.std.proofs.Common.{Ok, Err, false, suc, ◌≤◌, ◌≡◌, ℕ, �
 use Rattle.std.proofs.lemmas.List.{length-append}
 use Rattle.std.proofs.Math.Nat.{mul-le-mul_right}
 use Rattle.age_file.specs.inner.Intakes.{PullFails}
-use Rattle.age_fault.specs.Faults.{HasRisen}
+use Rattle.age_fault.specs.Faults.{HasFailed}
 use Rattle.age_file.specs.inner.Readers.{ReaderView}
 use Rattle.age_file.specs.inner.Skips.{Passes, Dries, SkipsBlock, SkipFails, EndsAfter}
 use Rattle.age_fault.specs.declared.fault.FileFault.{FileFault}
@@ -21,7 +21,7 @@ pub passes_same : (x y z : ReaderView) (p : List ℕ) → Passes x y p → Passe
 passes_same x y z p f g = subst (λ (t : List ℕ). Passes x z t) (append-nil p) (passes_then x y z p [] f g)
 
 pull_fails : (x y z : ReaderView) (fault : FileFault) → y.source.failed ≡ x.source.failed → PullFails y z fault → PullFails x z fault
-pull_fails x y z Read e h = subst (λ (m : ℕ). HasRisen m z.source.failed) e h
+pull_fails x y z Read e h = subst (λ (m : ℕ). HasFailed m z.source.failed z.source.failing) e h
 pull_fails x y z ReadNeverEnds e h = (h.0, h.1 ∙ e)
 pull_fails x y z other e h = absurd h
 

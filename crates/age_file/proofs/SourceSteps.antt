@@ -9,7 +9,8 @@ use Rattle.age_stream.specs.Headline.{IsPrefixOf}
 use Rattle.age_chunk.specs.Payload.{pair, block_bytes, payload, sealed_before_last, last_index, last_chunk}
 use Rattle.age_stream.specs.Sealing.{SealerView, Holds}
 use Rattle.age_stream.proofs.PublicLaws.{sealed_grows}
-use Rattle.age_fault.specs.Faults.{HasRisen}
+use Rattle.age_io.specs.Views.{SourceView, SinkView}
+use Rattle.age_fault.specs.Faults.{HasFailed}
 use Rattle.age_file.specs.inner.Readers.{ReaderView, WriterView}
 use Rattle.age_file.specs.inner.Intakes.{PullFails}
 use Rattle.age_file.specs.Ports.{Ports}
@@ -79,11 +80,10 @@ module _ {B : Type 0} (sealing : B → List ℕ → List ℕ → List ℕ) (n : 
       (front_of key n text ++ some.out, both, prefix_trans _ _ _ first second)
 
 -- why no more came
-pub pull_fails : (n : ℕ) (old new : Ports) (text : List ℕ) (x z : ReaderView) (fault : FileFault) → x.source.failed ≡ old.source.failed → new.source.failed
-    ≡ z.source.failed → z.unread.pulls ≤ length text
+pub pull_fails : (n : ℕ) (old new : Ports) (text : List ℕ) (x z : ReaderView) (fault : FileFault) → x.source.failed ≡ old.source.failed → new.source ≡ z.source → z.unread.pulls ≤ length text
     → PullFails x z fault → SealingFails n old new text fault
-pull_fails n old new text x z Read same is gave f = subst (λ (k : ℕ). HasRisen k new.source.failed) same
-    (subst (λ (k : ℕ). HasRisen x.source.failed k) (sym is) f)
+pull_fails n old new text x z Read same is gave f = subst (λ (k : ℕ). HasFailed k new.source.failed new.source.failing) same
+    (subst (λ (s : SourceView). HasFailed x.source.failed s.failed s.failing) (sym is) f)
 pull_fails n old new text x z ReadNeverEnds same is gave f = omega (arith, gave, f.0)
 pull_fails n old new text x z (Head fault) same is gave f = absurd f
 pull_fails n old new text x z (Key fault) same is gave f = absurd f
@@ -100,11 +100,11 @@ pull_fails n old new text x z OldTextDiffers same is gave f = absurd f
 -- why a piece wasn't sealed
 pub seal_fails : {B : Type 0} (sealing : B → List ℕ → List ℕ → List ℕ) (n : ℕ) (a b : SealerView B) (old new : Ports) (was now : WriterView)
     (text piece : List ℕ) (fault : FileFault)
-    → was.sink.failed ≡ old.sink.failed → new.sink.failed ≡ now.sink.failed → GoesOn sealing n a b text → Holds n a []
+    → was.sink.failed ≡ old.sink.failed → new.sink ≡ now.sink → GoesOn sealing n a b text → Holds n a []
     → SealFails sealing n b was now piece fault → SealingFails n old new (text ++ piece) fault
 seal_fails sealing n a b old new was now text piece (Stream fault) same is goes fresh f = (f.0 text (goes.holds [] fresh), f.1)
-seal_fails sealing n a b old new was now text piece Write same is goes fresh f = subst (λ (k : ℕ). HasRisen k new.sink.failed) same
-    (subst (λ (k : ℕ). HasRisen was.sink.failed k) (sym is) f)
+seal_fails sealing n a b old new was now text piece Write same is goes fresh f = subst (λ (k : ℕ). HasFailed k new.sink.failed new.sink.failing) same
+    (subst (λ (s : SinkView). HasFailed was.sink.failed s.failed s.failing) (sym is) f)
 seal_fails sealing n a b old new was now text piece (Head fault) same is goes fresh f = absurd f
 seal_fails sealing n a b old new was now text piece (Key fault) same is goes fresh f = absurd f
 seal_fails sealing n a b old new was now text piece NonceCut same is goes fresh f = absurd f

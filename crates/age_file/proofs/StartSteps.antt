@@ -17,7 +17,7 @@ use Rattle.age_file.specs.inner.Unread.{Unread}
 use Rattle.age_file.specs.inner.Readers.{ReaderView, reader_view}
 use Rattle.age_file.specs.inner.Intakes.{Pulled, PullFails}
 use Rattle.age_file.specs.Faults.{HeadFails, IsShort, StopsAtHeader}
-use Rattle.age_fault.specs.Faults.{HasRisen}
+use Rattle.age_fault.specs.Faults.{HasFailed}
 use Rattle.age_file.specs.inner.Faults.{IsInHeader}
 use Rattle.age_fault.specs.inner.Faults.{fault_of_key}
 use Rattle.age_file.specs.Starts.{StartFails}
@@ -44,7 +44,7 @@ uses_front v x y piece n pulls is rest = λ start used h.
 -- no byte came for the rest of a nonce
 pub nonce_fails : (x y z : ReaderView) (p : List ℕ) (fault : FileFault) → length p < 16 → y.source.failed ≡ x.source.failed → Uses x y p → Uses y z []
     → z.unread.bytes ≡ [] → PullFails y z fault → NonceFails x z fault
-nonce_fails x y z p Read lt e f g none h = ((p, lt, uses_then x y z p [] p (append-nil p) f g, none), subst (λ (m : ℕ). HasRisen m z.source.failed) e h)
+nonce_fails x y z p Read lt e f g none h = ((p, lt, uses_then x y z p [] p (append-nil p) f g, none), subst (λ (m : ℕ). HasFailed m z.source.failed z.source.failing) e h)
 nonce_fails x y z p ReadNeverEnds lt e f g none h = ((p, lt, uses_then x y z p [] p (append-nil p) f g, none), h.0)
 nonce_fails x y z p other lt e f g none h = absurd h
 
@@ -107,7 +107,7 @@ module _ (Allows : Header → List ℕ → Type 0) (Refused : Header → KeyFaul
   )
   nonce_to_start one a y z h front key Read e text opens p f = (
     after_short one a.remaining z.source.remaining h front f.0.0 text f.0.1 (short_pulled a.remaining y z front f.0 p).consumed,
-    subst (λ (m : ℕ). HasRisen m z.source.failed) e f.1,
+    subst (λ (m : ℕ). HasFailed m z.source.failed z.source.failing) e f.1,
   )
   nonce_to_start one a y z h front key ReadNeverEnds e text opens p f =
       let all = short_pulled a.remaining y z front f.0 p in (

@@ -11,7 +11,7 @@ use Rattle.age_keys.specs.declared.fault.KeyFault.{KeyFault}
 use Rattle.age_keys.specs.declared.fault.KeyFault.TheVariants.{Memory as KeyMemory}
 use Rattle.age_keys.specs.Keys.{IsScryptNotAlone}
 use Rattle.age_file.specs.Faults.{NeverEnds, IsShort}
-use Rattle.age_fault.specs.Faults.{HasRisen}
+use Rattle.age_fault.specs.Faults.{HasFailed}
 use Rattle.age_file.specs.AgeFile.{box, unbox, FileOf}
 use Rattle.age_file.specs.declared.position.Position.{Position}
 use Rattle.age_file.specs.declared.position.Positions.{Positions}
@@ -41,9 +41,9 @@ module _ (keep : Positions) (Allows : Header → List ℕ → Type 0) where
       × ((outcome_of r).status ≡ Failed fault) × NoneFailed old new
   DecryptFails Refused old new written position Write =
       (r : Run) × IsFromStart r × StopsWriting keep Allows old new written position r
-      × HasRisen old.sink.failed new.sink.failed
+      × HasFailed old.sink.failed new.sink.failed new.sink.failing
   DecryptFails Refused old new written position Read = WroteSoFar old new written position
-      × HasRisen old.source.failed new.source.failed
+      × HasFailed old.source.failed new.source.failed new.source.failing
   DecryptFails Refused old new written position ReadNeverEnds = WroteSoFar old new written position
       × NeverEnds old.source.remaining new.source.remaining
   DecryptFails Refused old new written position fault =

@@ -7,7 +7,7 @@ use Rattle.age_chunk.specs.Payload.{chunk_count, chunk_length}
 use Rattle.age_stream.specs.Sealing.{too_many}
 use Rattle.age_keys.specs.Scrypt.{scrypt_head}
 use Rattle.age_file.specs.AgeFile.{FileOf}
-use Rattle.age_fault.specs.Faults.{HasRisen}
+use Rattle.age_fault.specs.Faults.{HasFailed}
 use Rattle.age_file.specs.Ports.{Ports, NoneFailed}
 use Rattle.age_file.specs.Secrets.{SecretView}
 use Rattle.age_file.specs.declared.encryption.Written.{Written}
@@ -37,8 +37,8 @@ pub record Encrypts (s : SecretView) (old new : Ports) (written : Written) : Typ
 abbrev pub WhyStopped : Ports → Ports → List ℕ → FileFault → Type 0
 WhyStopped old new text (Stream fault) = (2 ^ 64 < length text)
     × (fault ≡ too_many (chunk_limit - 1))
-WhyStopped old new text Read = HasRisen old.source.failed new.source.failed
-WhyStopped old new text Write = HasRisen old.sink.failed new.sink.failed
+WhyStopped old new text Read = HasFailed old.source.failed new.source.failed new.source.failing
+WhyStopped old new text Write = HasFailed old.sink.failed new.sink.failed new.sink.failing
 WhyStopped old new text ReadNeverEnds = 2 ^ 63 ≤ length text
 WhyStopped old new text other = ⊥
 

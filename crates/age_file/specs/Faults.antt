@@ -8,7 +8,7 @@ use Rattle.age_stanza.specs.declared.fault.HeadFault.{HeadFault}
 use Rattle.age_stanza.specs.declared.header.Header.{Header}
 use Rattle.age_stanza.specs.Grammar.{HeadText}
 use Rattle.age_stanza.specs.Faults.{HasHeader, NoFault, IsFault, line_after}
-use Rattle.age_fault.specs.Faults.{HasRisen}
+use Rattle.age_fault.specs.Faults.{HasFailed}
 use Rattle.age_fault.specs.declared.fault.FileFault.{FileFault}
 use Rattle.age_fault.specs.declared.fault.FileFault.TheVariants.{Head, Read, Memory, ReadNeverEnds}
 
@@ -62,7 +62,7 @@ pub record StopsAtHeader (old new : Option (List ℕ)) : Type 0 where
 -- fault
 abbrev pub HeadFails : SourceView → SourceView → FileFault → Type 0
 HeadFails old new (Head fault) = TellsFault old.remaining new.remaining fault
-HeadFails old new Read = HasRisen old.failed new.failed
+HeadFails old new Read = HasFailed old.failed new.failed new.failing
 HeadFails old new Memory = StopsAtHeader old.remaining new.remaining
 HeadFails old new ReadNeverEnds = NeverEnds old.remaining new.remaining
 HeadFails old new other = ⊥

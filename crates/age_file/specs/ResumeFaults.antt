@@ -10,7 +10,7 @@ use Rattle.age_stream.specs.declared.step.Status.TheVariants.{Failed}
 use Rattle.age_chunk.specs.Payload.{chunk_length, block_length}
 use Rattle.age_keys.specs.declared.fault.KeyFault.{KeyFault}
 use Rattle.age_file.specs.Faults.{IsByAllPulls, IsShort}
-use Rattle.age_fault.specs.Faults.{HasRisen}
+use Rattle.age_fault.specs.Faults.{HasFailed}
 use Rattle.age_file.specs.Bindings.{chain}
 use Rattle.age_file.specs.Starts.{StartFails}
 use Rattle.age_file.specs.Runs.{Run, outcome_of, Reads, WritesNone, Told, IsDone}
@@ -115,10 +115,10 @@ module _ (keep : Positions) (Allows : Header → List ℕ → Type 0) (p : Posit
       (StopsInOld Allows p old new written position
       ⊎ ((r : Run) × IsFrom p old.old new.old r
       × StopsWriting keep Allows old.main new.main written position r))
-      × HasRisen old.main.sink.failed new.main.sink.failed
+      × HasFailed old.main.sink.failed new.main.sink.failed new.main.sink.failing
   ResumeFails Refused old new written position Read =
-      FailsAt (HasRisen old.main.source.failed new.main.source.failed)
-      (HasRisen old.old.failed new.old.failed) old new written position
+      FailsAt (HasFailed old.main.source.failed new.main.source.failed new.main.source.failing)
+      (HasFailed old.old.failed new.old.failed new.old.failing) old new written position
   ResumeFails Refused old new written position ReadNeverEnds =
       FailsAt (NeverEnd old new) (NeverEnd old new) old new written position
   ResumeFails Refused old new written position fault =

@@ -8,7 +8,7 @@ use Rattle.age_keys.specs.declared.fault.KeyFault.{KeyFault}
 use Rattle.age_keys.specs.declared.fault.KeyFault.TheVariants.{Memory as KeyMemory}
 use Rattle.age_keys.specs.Opened.{Opens, Refuses}
 use Rattle.age_file.specs.Faults.{TellsFault, NeverEnds, IsShort, StopsAtHeader}
-use Rattle.age_fault.specs.Faults.{HasRisen}
+use Rattle.age_fault.specs.Faults.{HasFailed}
 use Rattle.age_fault.specs.declared.fault.FileFault.{FileFault}
 use Rattle.age_fault.specs.declared.fault.FileFault.TheVariants.{Head, Key, NonceCut, Read, Memory}
 use Rattle.age_fault.specs.declared.fault.FileFault.TheVariants.{ReadNeverEnds}
@@ -26,7 +26,7 @@ StartFails Allows Refused old new NonceCut =
     × Opens Allows h key × (length short < 16)
     × Consumes old.remaining new.remaining (front ++ short) × IsAtEnd new.remaining
 StartFails Allows Refused old new Read = IsShort old.remaining new.remaining
-    × HasRisen old.failed new.failed
+    × HasFailed old.failed new.failed new.failing
 StartFails Allows Refused old new Memory = StopsAtHeader old.remaining new.remaining
 StartFails Allows Refused old new ReadNeverEnds = IsShort old.remaining new.remaining
     × NeverEnds old.remaining new.remaining

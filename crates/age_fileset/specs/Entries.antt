@@ -29,5 +29,6 @@ empty_with room = record {
   fail_call = None;
   calls = 0;
   failures = 0;
+  failing = false;
   settled = false;
 }

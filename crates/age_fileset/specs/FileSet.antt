@@ -1,5 +1,5 @@
--- The faults that a set of files answers.
-use Rattle.std.specs.Prelude.{◌≡◌, ◌⊎◌, Bool, false}
+-- The faults that a set of files answers, and what it reads of a file that may be missing.
+use Rattle.std.specs.Prelude.{◌≡◌, ◌⊎◌, ℕ, Bool, false, List, [], Option, Some, None}
 use Rattle.age_fault.specs.declared.fault.FileFault.{FileFault}
 use Rattle.age_fault.specs.declared.fault.FileFault.TheVariants.{Memory, Write}
 use Rattle.age_fileset.specs.declared.files.CreateFault.{CreateFault}
@@ -14,3 +14,8 @@ IsMemoryOr other fault = (fault ≡ other) ⊎ (fault ≡ Memory)
 abbrev pub CreateFails : Bool → CreateFault → Type 0
 CreateFails tells SameFile = tells ≡ false
 CreateFails tells (Fault fault) = IsMemoryOr Write fault
+
+-- what a file holds; nothing where there is none
+abbrev pub or_empty : Option (List ℕ) → Option (List ℕ)
+or_empty None = Some []
+or_empty (Some bytes) = Some bytes

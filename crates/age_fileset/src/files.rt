@@ -1,21 +1,21 @@
 //! Files by their names.
 
-ghost use Rattle.std.specs.Prelude.{◌≡◌, ◌≢◌, ℕ, Bool, true, false, List, [], ◌∷◌};
+ghost use Rattle.std.specs.Prelude.{◌≡◌, ◌≢◌, ◌⊎◌, ℕ, Bool, true, false, List, [], ◌∷◌};
 ghost use Rattle.std.specs.Prelude.{◌++◌, Option};
 ghost use Rattle.std.specs.Prelude.{Some, IfOk, IfErr, IfSome, IsOkUnless, OnOk, OnErr, is_some};
 ghost use Rattle.std.specs.Prelude.{option_map, length};
-ghost use Rattle.age_fileset.specs.FileSet.{IsMemoryOr, CreateFails};
+ghost use Rattle.age_fileset.specs.FileSet.{IsMemoryOr, CreateFails, or_empty};
 ghost use Rattle.age_fileset.specs.declared.files.CreateFault.TheVariants.{Fault};
-ghost use Rattle.age_fileset.specs.Events.{Event, Opened, Created, Replaced, Closed};
+ghost use Rattle.age_fileset.specs.Events.{Event, Opened, Prepared, Created, Replaced, Closed};
 
 use age_fault::FileFault;
 use age_io::{Durability, Sink, Source};
 use std::alloc::Global;
 
-/// Why a file could not be created.
+/// Why a file could not be created, or prepared.
 #[derive(Clone, Copy, Debug, PartialEq, Eq)]
 pub enum CreateFault {
-    /// It is one of the files that were opened or created before, under another name.
+    /// It is one of the files that were opened, prepared or created before, under another name.
     SameFile,
     /// It can't be written (27), or memory was refused (28).
     Fault(FileFault),
@@ -38,7 +38,7 @@ impl From<FileFault> for CreateFault {
 /// - a sink that is dropped without `close` or `discard` may leave the file with some of the bytes
 ///   that it took, with none, or as it was;
 /// - two names that are one file are refused as such, by `is_same` before the second is opened, or
-///   else by `create` and `is_open`.
+///   else by `prepare` and `create`; and `replace` writes over none that was opened or created.
 pub trait FileSet {
     /// A file that is read.
     type In: Source + Drop;
@@ -52,8 +52,8 @@ pub trait FileSet {
     // The bytes of the entry of a name, where there is one.
     ghost entry: { Self → List ℕ → Option (List ℕ) };
 
-    // What was opened, created, replaced and closed, in order, also where the entries aren't shown,
-    // and whether it succeeded or not.
+    // What was opened, prepared, created, replaced and closed, in order, also where the entries
+    // aren't shown, and whether it succeeded or not.
     ghost events: { Self → List Event };
 
     /// Whether two names stand for one file. Equal names do, and no others if the set shows its
@@ -63,14 +63,6 @@ pub trait FileSet {
         ensures told { tells self.now ≡ true → result ≡ true → one.now ≡ other.now }
     {
         one == other
-    }
-
-    /// Whether a name stands for a file that was opened or created so far under another name. None
-    /// does in a set whose entries contracts see.
-    fn is_open(&self, _name: &str) -> bool
-        ensures told { tells self.now ≡ true → result ≡ false }
-    {
-        false
     }
 
     /// Opens a file to be read. Refuses with `Read` (26) where it can't be, and with `Memory` (28).
@@ -83,6 +75,16 @@ pub trait FileSet {
             × ((Self.In.view s).remaining ≡ entry self.old name.now)) }
         ensures faults { IfErr result (IsMemoryOr FileFault.Read) };
 
+    /// Opens a file to be read. One that isn't there counts as empty. Refuses with `Read` (26) where
+    /// it can't be opened, and with `Memory` (28).
+    fn open_or_empty(&mut self, alloc: Global, name: &str) -> Result<Self::In, FileFault>
+        ensures told { tells self.new ≡ tells self.old }
+        ensures kept { entry self.new ≡ entry self.old }
+        ensures noted { events self.new ≡ events self.old ++ Opened name.now ∷ [] }
+        ensures found { IfOk result (λ s. tells self.old ≡ true
+            → (Self.In.view s).remaining ≡ or_empty (entry self.old name.now)) }
+        ensures faults { IfErr result (IsMemoryOr FileFault.Read) };
+
     /// How many bytes a file that was opened still has to give, where the set can say; none of a
     /// pipe or a terminal.
     fn length(&self, _source: &Self::In) -> Option<u64>
@@ -92,10 +94,26 @@ pub trait FileSet {
         None
     }
 
+    /// Prepares that a file is replaced later, once the files to be read are open: tries, as far as
+    /// this changes nothing, whether it can be. Refuses with `Write` (27) where it can't, with
+    /// `Memory` (28), and where it is one that was opened or created before, other than that of
+    /// `spared`; which never comes of a set that shows its entries. A file that is created after
+    /// this is refused where it is the prepared one.
+    fn prepare(
+        &mut self,
+        alloc: Global,
+        name: &str,
+        spared: Option<&str>,
+    ) -> Result<(), CreateFault>
+        ensures told { tells self.new ≡ tells self.old }
+        ensures kept { entry self.new ≡ entry self.old }
+        ensures noted { events self.new ≡ events self.old ++ Prepared name.now ∷ [] }
+        ensures faults { IfErr result (CreateFails (tells self.old)) };
+
     /// Opens a file to be written, and makes it where there is none. No entry changes until it is
     /// closed. Refuses with `Write` (27) where it can't be, with `Memory` (28), and where it is one
-    /// that was opened or created before, which never comes of a set that shows its entries; a file
-    /// that it made is gone again then.
+    /// that was opened, prepared or created before, which never comes of a set that shows its
+    /// entries; a file that it made is gone again then.
     fn create(&mut self, alloc: Global, name: &str) -> Result<Self::Out, CreateFault>
         ensures told { tells self.new ≡ tells self.old }
         ensures kept { entry self.new ≡ entry self.old }
@@ -104,31 +122,43 @@ pub trait FileSet {
         ensures noted { events self.new ≡ events self.old ++ Created name.now ∷ [] }
         ensures faults { IfErr result (CreateFails (tells self.old)) };
 
+    /// Whether a file that was created is that of standard error, to which lines of progress and
+    /// faults go. None is in a set that shows its entries.
+    fn is_for_faults(&self, _out: &Self::Out) -> bool
+        ensures told { tells self.now ≡ true → result ≡ false }
+    {
+        false
+    }
+
     /// Ends a file that was created, with exactly the bytes that its sink took, in place of what it
-    /// held. Refuses with `Write` (27).
+    /// held, and waits until they have reached the disk where that is asked for and the machine can
+    /// wait. Refuses with `Write` (27); it is then as it was, or holds the bytes that its sink took.
     fn close(&mut self, out: Self::Out, durability: Durability) -> Result<(), FileFault>
         ensures told { tells self.new ≡ tells self.old }
         ensures put { OnOk result (tells self.old ≡ true
             → entry self.new (Self.Out.view out).label ≡ (Self.Out.view out).taken) }
         ensures others { (q : List ℕ) → q ≢ (Self.Out.view out).label
             → entry self.new q ≡ entry self.old q }
-        ensures err { OnErr result (entry self.new ≡ entry self.old) }
-        ensures noted { events self.new ≡ events self.old ++ Closed ∷ [] }
+        ensures err { OnErr result ((entry self.new ≡ entry self.old) ⊎ (tells self.old ≡ true
+            → entry self.new (Self.Out.view out).label ≡ (Self.Out.view out).taken)) }
+        ensures noted { events self.new ≡ events self.old ++ Closed durability ∷ [] }
         ensures faults { IsOkUnless result FileFault.Write };
 
     /// Ends a file that was created and into which nothing was put: it is as it was before
-    /// `create`, and where there was none, there is none.
-    fn discard(&mut self, out: Self::Out)
+    /// `create`, and where there was none, there is none, also on the disk where that is asked for.
+    fn discard(&mut self, out: Self::Out, durability: Durability)
         ensures told { tells self.new ≡ tells self.old }
         ensures kept { (tells self.old ≡ true → (Self.Out.view out).taken ≡ Some [])
             → entry self.new ≡ entry self.old }
         ensures others { (q : List ℕ) → q ≢ (Self.Out.view out).label
             → entry self.new q ≡ entry self.old q }
-        ensures noted { events self.new ≡ events self.old ++ Closed ∷ [] };
+        ensures noted { events self.new ≡ events self.old ++ Closed durability ∷ [] };
 
-    /// Makes a file of these bytes, in place of one of the name, which is there with what it held
-    /// until the new one is whole. Refuses with `Write` (27) and with `Memory` (28), and then
-    /// nothing has changed.
+    /// Makes a file of these bytes, in place of one of the name, and waits for the disk as `close`
+    /// does. Where the folder lets a new file be made beside it, the one of the name is there with
+    /// what it held until the new one is whole; else it is written directly. Refuses with `Write`
+    /// (27) and with `Memory` (28); no entry has changed then, though a file that is written
+    /// directly may hold a part of the bytes.
     fn replace(
         &mut self,
         alloc: Global,
@@ -141,6 +171,6 @@ pub trait FileSet {
             → entry self.new name.now ≡ Some bytes.now) }
         ensures others { (q : List ℕ) → q ≢ name.now → entry self.new q ≡ entry self.old q }
         ensures err { OnErr result (entry self.new ≡ entry self.old) }
-        ensures noted { events self.new ≡ events self.old ++ Replaced name.now ∷ [] }
+        ensures noted { events self.new ≡ events self.old ++ Replaced name.now durability ∷ [] }
         ensures faults { IfErr result (IsMemoryOr FileFault.Write) };
 }

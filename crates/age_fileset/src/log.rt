@@ -3,9 +3,11 @@
 ghost use Rattle.std.specs.Prelude.{◌≡◌, [], ◌∷◌, ◌++◌, List};
 ghost use Rattle.std.specs.Borrow.{ftrue};
 ghost use Rattle.std.specs.Coded.{coded_list};
-ghost use Rattle.age_fileset.specs.Events.{Event, Opened, Created, Replaced, Closed};
+ghost use Rattle.age_io.specs.declared.durability.Durability.TheVariants.{Synced, Buffered};
+ghost use Rattle.age_fileset.specs.Events.{Event, Opened, Prepared, Created, Replaced, Closed};
 ghost use Rattle.age_fileset.specs.inner.Events.{coded_event};
 
+use age_io::Durability;
 use std::marker::Model;
 
 // Events that no code holds: the proofs of its calls set them.
@@ -29,16 +31,28 @@ impl Cell {
         ensures { self.new.events ≡ self.old.events ++ Opened _name.now ∷ [] }
     {}
 
+    fn prepared(&mut self, _name: &[u8])
+        ensures { self.new.events ≡ self.old.events ++ Prepared _name.now ∷ [] }
+    {}
+
     fn created(&mut self, _name: &[u8])
         ensures { self.new.events ≡ self.old.events ++ Created _name.now ∷ [] }
     {}
 
-    fn replaced(&mut self, _name: &[u8])
-        ensures { self.new.events ≡ self.old.events ++ Replaced _name.now ∷ [] }
+    fn replaced_synced(&mut self, _name: &[u8])
+        ensures { self.new.events ≡ self.old.events ++ Replaced _name.now Synced ∷ [] }
     {}
 
-    fn closed(&mut self)
-        ensures { self.new.events ≡ self.old.events ++ Closed ∷ [] }
+    fn replaced_buffered(&mut self, _name: &[u8])
+        ensures { self.new.events ≡ self.old.events ++ Replaced _name.now Buffered ∷ [] }
+    {}
+
+    fn closed_synced(&mut self)
+        ensures { self.new.events ≡ self.old.events ++ Closed Synced ∷ [] }
+    {}
+
+    fn closed_buffered(&mut self)
+        ensures { self.new.events ≡ self.old.events ++ Closed Buffered ∷ [] }
     {}
 }
 
@@ -74,6 +88,13 @@ impl Log {
         self.cell.opened(name.as_bytes());
     }
 
+    /// A file was to be prepared.
+    pub fn prepared(&mut self, name: &str)
+        ensures { self.new ≡ self.old ++ Prepared name.now ∷ [] }
+    {
+        self.cell.prepared(name.as_bytes());
+    }
+
     /// A file was to be created.
     pub fn created(&mut self, name: &str)
         ensures { self.new ≡ self.old ++ Created name.now ∷ [] }
@@ -81,17 +102,23 @@ impl Log {
         self.cell.created(name.as_bytes());
     }
 
-    /// A file was to be replaced.
-    pub fn replaced(&mut self, name: &str)
-        ensures { self.new ≡ self.old ++ Replaced name.now ∷ [] }
+    /// A file was to be replaced, and to reach the disk now or later.
+    pub fn replaced(&mut self, name: &str, durability: Durability)
+        ensures { self.new ≡ self.old ++ Replaced name.now durability ∷ [] }
     {
-        self.cell.replaced(name.as_bytes());
+        match durability {
+            Durability::Synced => self.cell.replaced_synced(name.as_bytes()),
+            Durability::Buffered => self.cell.replaced_buffered(name.as_bytes()),
+        }
     }
 
-    /// A file that was created was ended.
-    pub fn closed(&mut self)
-        ensures { self.new ≡ self.old ++ Closed ∷ [] }
+    /// A file that was created was ended, to reach the disk now or later.
+    pub fn closed(&mut self, durability: Durability)
+        ensures { self.new ≡ self.old ++ Closed durability ∷ [] }
     {
-        self.cell.closed();
+        match durability {
+            Durability::Synced => self.cell.closed_synced(),
+            Durability::Buffered => self.cell.closed_buffered(),
+        }
     }
 }

@@ -3,12 +3,12 @@
 ghost use Rattle.std.specs.Prelude.{◌≡◌, ◌≢◌, ◌↔◌, ◌⊎◌, ◌++◌, ◌∷◌, ◌<◌};
 ghost use Rattle.std.specs.Prelude.{◌≤◌, IsTrue, ℕ, List, []};
 ghost use Rattle.std.specs.Prelude.{true, Some, None, OnOk, OnErr, IfOk, IsErrOf, IsOk, IfErr};
-ghost use Rattle.std.specs.Prelude.{IsOkUnless, Contains, is_some, option_map, length, MatchResult};
+ghost use Rattle.std.specs.Prelude.{IsOkUnless, Contains, is_some, option_map, length, MatchResult, is_err};
 ghost use Rattle.std.specs.Io.KnownBytes.{WriteAppends, Keeps};
 ghost use Rattle.age_io.specs.Memory.{one_more, Puts, Flushes};
 ghost use Rattle.age_fileset.specs.Entries.{entry_of, empty_with};
-ghost use Rattle.age_fileset.specs.FileSet.{IsMemoryOr, CreateFails};
-ghost use Rattle.age_fileset.specs.Events.{Opened, Created, Replaced, Closed};
+ghost use Rattle.age_fileset.specs.FileSet.{IsMemoryOr, CreateFails, or_empty};
+ghost use Rattle.age_fileset.specs.Events.{Opened, Prepared, Created, Replaced, Closed};
 ghost use Rattle.age_fileset.specs.declared.files.CreateFault.TheVariants.{Fault};
 
 use crate::files::{CreateFault, FileSet};
@@ -63,6 +63,7 @@ impl Sink for MemOut {
     ghost view = { λ o. record {
       taken = Some o.1.held;
       failed = o.1.failures;
+      failing = o.1.failing;
       label = o.0;
       settled = o.1.settled;
     } };
@@ -73,6 +74,7 @@ impl Sink for MemOut {
         ensures named { self.new.0 ≡ self.old.0 }
         ensures counted { MatchResult result (λ _. self.new.1.failures ≡ self.old.1.failures)
             (λ _. self.new.1.failures ≡ one_more self.old.1.failures) }
+        ensures last { self.new.1.failing ≡ is_err result }
         ensures plan { Puts self.old.1 from.now result self.new.1 }
     {
         self.sink.put(from)
@@ -84,6 +86,7 @@ impl Sink for MemOut {
         ensures named { self.new.0 ≡ self.old.0 }
         ensures counted { MatchResult result (λ _. self.new.1.failures ≡ self.old.1.failures)
             (λ _. self.new.1.failures ≡ one_more self.old.1.failures) }
+        ensures last { self.new.1.failing ≡ is_err result }
         ensures plan { Flushes self.old.1 result self.new.1 }
     {
         self.sink.flush()
@@ -228,11 +231,41 @@ impl FileSet for MemFiles {
         }
     }
 
+    /// Opens a copy of a file's bytes, or of none where no file has the name.
+    fn open_or_empty(&mut self, alloc: Global, name: &str) -> Result<MemSource, FileFault>
+        ensures kept { self.new
+            ≡ record self.old { events = self.old.events ++ Opened name.now ∷ [] } }
+        ensures found { IfOk result
+            (λ s. Some s.left ≡ or_empty (entry_of self.old.entries name.now)) }
+        ensures faults { OnErr result (result ≡ Err FileFault.Memory) }
+    {
+        self.log.opened(name);
+        match bytes_of(self.entries.as_slice(), name) {
+            Some(bytes) => source_of(alloc, bytes),
+            None => source_of(alloc, &[]),
+        }
+    }
+
     /// Exactly as many bytes as are still to come.
     fn length(&self, source: &MemSource) -> Option<u64>
         ensures { result ≡ Some (length source.now.left) }
     {
         Some(source.remaining() as u64)
+    }
+
+    /// Tries nothing: a name that can't be written is refused when it is replaced.
+    fn prepare(
+        &mut self,
+        _alloc: Global,
+        name: &str,
+        _spared: Option<&str>,
+    ) -> Result<(), CreateFault>
+        ensures ok { IsOk result }
+        ensures kept { self.new
+            ≡ record self.old { events = self.old.events ++ Prepared name.now ∷ [] } }
+    {
+        self.log.prepared(name);
+        Ok(())
     }
 
     /// Gives a sink with the room that was given for it; the entry is made when it is closed.
@@ -255,7 +288,7 @@ impl FileSet for MemFiles {
 
     /// Puts what the sink took under its name. That takes no memory where a file of the name is
     /// there.
-    fn close(&mut self, out: MemOut, _durability: Durability) -> Result<(), FileFault>
+    fn close(&mut self, out: MemOut, durability: Durability) -> Result<(), FileFault>
         ensures put { OnOk result (entry_of self.new.entries out.0 ≡ Some out.1.held) }
         ensures others { (q : List ℕ) → q ≢ out.0
             → entry_of self.new.entries q ≡ entry_of self.old.entries q }
@@ -263,9 +296,9 @@ impl FileSet for MemFiles {
         ensures err { OnErr result (self.new.entries ≡ self.old.entries) }
         ensures faults { IsOkUnless result FileFault.Write }
         ensures kept { (self.new.refused ≡ self.old.refused) × (self.new.room ≡ self.old.room) }
-        ensures noted { self.new.events ≡ self.old.events ++ Closed ∷ [] }
+        ensures noted { self.new.events ≡ self.old.events ++ Closed durability ∷ [] }
     {
-        self.log.closed();
+        self.log.closed(durability);
         let MemOut { name, sink } = out;
         match put_entry(&mut self.entries, name, Bytes::from_vec(sink.into_bytes())) {
             Ok(()) => Ok(()),
@@ -274,10 +307,11 @@ impl FileSet for MemFiles {
     }
 
     /// Drops what the sink took, whatever that is.
-    fn discard(&mut self, out: MemOut)
-        ensures kept { self.new ≡ record self.old { events = self.old.events ++ Closed ∷ [] } }
+    fn discard(&mut self, out: MemOut, durability: Durability)
+        ensures kept { self.new
+            ≡ record self.old { events = self.old.events ++ Closed durability ∷ [] } }
     {
-        self.log.closed();
+        self.log.closed(durability);
         let _dropped = out;
     }
 
@@ -288,7 +322,7 @@ impl FileSet for MemFiles {
         alloc: Global,
         name: &str,
         bytes: &[u8],
-        _durability: Durability,
+        durability: Durability,
     ) -> Result<(), FileFault>
         ensures put { OnOk result (entry_of self.new.entries name.now ≡ Some bytes.now) }
         ensures others { (q : List ℕ) → q ≢ name.now
@@ -298,9 +332,10 @@ impl FileSet for MemFiles {
             ↔ (Contains self.old.refused name.now ⊎ (self.old.room < length bytes.now)) }
         ensures faults { IfErr result (IsMemoryOr FileFault.Write) }
         ensures kept { (self.new.refused ≡ self.old.refused) × (self.new.room ≡ self.old.room) }
-        ensures noted { self.new.events ≡ self.old.events ++ Replaced name.now ∷ [] }
+        ensures noted { self.new.events
+            ≡ self.old.events ++ Replaced name.now durability ∷ [] }
     {
-        self.log.replaced(name);
+        self.log.replaced(name, durability);
         if is_refused(self.refused.as_slice(), name) || bytes.len() > self.room {
             return Err(FileFault::Write);
         }

@@ -1,13 +1,14 @@
 //! The machine's files.
 
-ghost use Rattle.std.specs.Prelude.{◌≡◌, true, false, None, Some, Err, IfErr, Contains};
+ghost use Rattle.std.specs.Prelude.{◌≡◌, true, false, None, Some, Err, IfErr, IsErr, Contains};
 ghost use Rattle.age_fileset.specs.FileSet.{IsMemoryOr, CreateFails};
 ghost use Rattle.age_fileset.specs.declared.files.CreateFault.TheVariants.{SameFile};
 ghost use Rattle.age_host.specs.declared.host_names.Identity.{Identity};
 
 use crate::host_in::HostIn;
-use crate::host_names::Identity;
+use crate::host_names::{Identity, Stream};
 use crate::host_out::HostOut;
+use crate::host_prepare::Prepared;
 use crate::host_replace::replace;
 use age_fault::FileFault;
 use age_fileset::{CreateFault, FileSet, Log};
@@ -18,12 +19,14 @@ use std::rt::HostRuntime;
 
 /// The machine's files. Contracts see what was done with them, and none of their bytes. A name is a
 /// path; `/dev/stdin`, `/dev/stdout`, `/dev/stderr` and their names under `/dev/fd` and
-/// `/proc/self/fd` are the streams that the program was started with. Two regular files are one
-/// where device and inode say so.
+/// `/proc/self/fd` are the streams that the program was started with. Two regular files or pipes
+/// are one where device and inode say so, and two block devices where their number does. Character
+/// devices and sockets are open to all.
 #[derive(Drop)]
 pub struct HostFiles<'r> {
     rt: &'r HostRuntime,
     open: Vec<Identity>,
+    prepared: Vec<Prepared>,
     log: Log,
 }
 
@@ -33,9 +36,87 @@ impl<'r> HostFiles<'r> {
         HostFiles {
             rt,
             open: Vec::new(rt.alloc()),
+            prepared: Vec::new(rt.alloc()),
             log: Log::new(),
         }
     }
+
+    /// Keeps a file that was opened to be read.
+    fn admit_in(
+        &mut self,
+        opened: io::Result<(HostIn, Option<Identity>)>,
+    ) -> Result<HostIn, FileFault>
+        ensures kept { self.new.log ≡ self.old.log }
+        ensures faults { IfErr result (IsMemoryOr FileFault.Read) }
+    {
+        match opened {
+            Ok((file, identity)) => match keep(&mut self.open, identity) {
+                Ok(()) => Ok(file),
+                Err(_) => Err(FileFault::Memory),
+            },
+            Err(error) => Err(fault_of(error, FileFault::Read)),
+        }
+    }
+
+    /// Replaces the file of a name, as that was prepared, or as it stands now.
+    fn replace_named(
+        &self,
+        alloc: Global,
+        name: &str,
+        bytes: &[u8],
+        durability: Durability,
+    ) -> io::Result<()> {
+        match self.prepared.iter().find(|p| p.is_named(name)) {
+            Some(prepared) => self.replace_prepared(alloc, prepared, bytes, durability),
+            None => {
+                let prepared = Prepared::new(alloc, self.rt, name, None)?;
+                self.replace_prepared(alloc, &prepared, bytes, durability)
+            }
+        }
+    }
+
+    /// Replaces a file that was prepared, unless it is open now, or standard error.
+    fn replace_prepared(
+        &self,
+        alloc: Global,
+        prepared: &Prepared,
+        bytes: &[u8],
+        durability: Durability,
+    ) -> io::Result<()> {
+        let identity = prepared.identity(self.rt);
+        if is_for_faults(self.rt, identity) {
+            return Err(io::Error::from(io::ErrorKind::AlreadyExists));
+        }
+        let opened = self.open.as_slice();
+        replace_apart(
+            alloc, self.rt, opened, prepared, identity, bytes, durability,
+        )
+    }
+
+    /// Keeps a file that was prepared, where it is none of those that are open.
+    fn admit_prepared(&mut self, prepared: Prepared) -> Result<(), CreateFault>
+        ensures kept { self.new.log ≡ self.old.log }
+        ensures faults { IfErr result (CreateFails false) }
+    {
+        let identity = prepared.identity(self.rt);
+        if is_known(self.open.as_slice(), identity) || is_for_faults(self.rt, identity) {
+            return Err(CreateFault::SameFile);
+        }
+        match self.prepared.push(prepared) {
+            Ok(()) => Ok(()),
+            Err(_) => Err(CreateFault::Fault(FileFault::Memory)),
+        }
+    }
+}
+
+/// Whether this is the file to which standard error leads.
+fn is_for_faults(rt: &HostRuntime, identity: Option<Identity>) -> bool {
+    identity.is_some() && identity == Identity::of_stream(rt, Stream::Faults)
+}
+
+/// Whether this is a file that was prepared.
+fn is_prepared(rt: &HostRuntime, prepared: &[Prepared], identity: Option<Identity>) -> bool {
+    identity.is_some() && prepared.iter().any(|p| p.identity(rt) == identity)
 }
 
 /// Whether this is a file that was opened.
@@ -71,22 +152,47 @@ fn admit(opened: &mut Vec<Identity>, identity: Option<Identity>) -> Result<(), C
     }
 }
 
-/// A file that was opened to be written, where it is admitted; otherwise it is as it was before.
+/// Keeps a file that was opened to be written, where it is none of those that were opened or
+/// prepared before; otherwise it is as it was before.
 fn admit_out(
     rt: &HostRuntime,
     opened: &mut Vec<Identity>,
+    prepared: &[Prepared],
     out: HostOut,
-    identity: Option<Identity>,
 ) -> Result<HostOut, CreateFault>
     ensures { IfErr result (CreateFails false) }
 {
-    match admit(opened, identity) {
+    let admitted = if is_prepared(rt, prepared, out.identity()) {
+        Err(CreateFault::SameFile)
+    } else {
+        admit(opened, out.identity())
+    };
+    match admitted {
         Ok(()) => Ok(out),
         Err(fault) => {
-            out.discard(rt);
+            out.discard(rt, Durability::Buffered);
             Err(fault)
         }
     }
+}
+
+/// Replaces a file that was prepared, unless it is one that was opened.
+fn replace_apart(
+    alloc: Global,
+    rt: &HostRuntime,
+    opened: &[Identity],
+    prepared: &Prepared,
+    identity: Option<Identity>,
+    bytes: &[u8],
+    durability: Durability,
+) -> io::Result<()>
+    ensures apart { (one : Identity) → identity ≡ Some one → Contains opened.now one
+        → IsErr result }
+{
+    if is_known(opened, identity) {
+        return Err(io::Error::from(io::ErrorKind::AlreadyExists));
+    }
+    replace(alloc, rt, prepared.place(), bytes, durability)
 }
 
 /// Running out of memory is reported as such, and anything else as `other`.
@@ -111,7 +217,7 @@ impl<'r> FileSet for HostFiles<'r> {
 
     ghost events = { λ f. f.log };
 
-    /// Two paths of one regular file are the same too, so that no link destroys what is read.
+    /// Two paths of one file are the same too, so that no link destroys what is read.
     fn is_same(&self, one: &str, other: &str) -> bool {
         if one == other {
             return true;
@@ -120,19 +226,14 @@ impl<'r> FileSet for HostFiles<'r> {
         one.is_some() && one == Identity::at(self.rt, other)
     }
 
-    fn is_open(&self, name: &str) -> bool {
-        is_known(self.open.as_slice(), Identity::at(self.rt, name))
-    }
-
     fn open(&mut self, alloc: Global, name: &str) -> Result<HostIn, FileFault> {
         self.log.opened(name);
-        match HostIn::open(alloc, self.rt, name) {
-            Ok((file, identity)) => match keep(&mut self.open, identity) {
-                Ok(()) => Ok(file),
-                Err(_) => Err(FileFault::Memory),
-            },
-            Err(error) => Err(fault_of(error, FileFault::Read)),
-        }
+        self.admit_in(HostIn::open(alloc, self.rt, name))
+    }
+
+    fn open_or_empty(&mut self, alloc: Global, name: &str) -> Result<HostIn, FileFault> {
+        self.log.opened(name);
+        self.admit_in(HostIn::open_or_empty(alloc, self.rt, name))
     }
 
     /// That of a regular file. Standard input has none.
@@ -140,25 +241,46 @@ impl<'r> FileSet for HostFiles<'r> {
         source.length()
     }
 
-    fn create(&mut self, alloc: Global, name: &str) -> Result<HostOut, CreateFault> {
-        self.log.created(name);
-        match HostOut::open(alloc, self.rt, name) {
-            Ok((out, identity)) => admit_out(self.rt, &mut self.open, out, identity),
+    fn prepare(
+        &mut self,
+        alloc: Global,
+        name: &str,
+        spared: Option<&str>,
+    ) -> Result<(), CreateFault> {
+        self.log.prepared(name);
+        let spared = match spared {
+            Some(spared) => Identity::at(self.rt, spared),
+            None => None,
+        };
+        match Prepared::new(alloc, self.rt, name, spared) {
+            Ok(prepared) => self.admit_prepared(prepared),
             Err(error) => Err(CreateFault::Fault(fault_of(error, FileFault::Write))),
         }
     }
 
+    fn create(&mut self, alloc: Global, name: &str) -> Result<HostOut, CreateFault> {
+        self.log.created(name);
+        match HostOut::open(alloc, self.rt, name) {
+            Ok(out) => admit_out(self.rt, &mut self.open, self.prepared.as_slice(), out),
+            Err(error) => Err(CreateFault::Fault(fault_of(error, FileFault::Write))),
+        }
+    }
+
+    fn is_for_faults(&self, out: &HostOut) -> bool {
+        out.is_for_faults(self.rt)
+    }
+
     fn close(&mut self, out: HostOut, durability: Durability) -> Result<(), FileFault> {
-        self.log.closed();
+        self.log.closed(durability);
         match out.close(self.rt, durability) {
             Ok(()) => Ok(()),
             Err(_) => Err(FileFault::Write),
         }
     }
 
-    fn discard(&mut self, out: HostOut) {
-        self.log.closed();
-        out.discard(self.rt);
+    fn discard(&mut self, out: HostOut, durability: Durability) {
+        self.log.closed(durability);
+        out.discard(self.rt, durability);
     }
 
     fn replace(
@@ -168,8 +290,8 @@ impl<'r> FileSet for HostFiles<'r> {
         bytes: &[u8],
         durability: Durability,
     ) -> Result<(), FileFault> {
-        self.log.replaced(name);
-        match replace(alloc, self.rt, name, bytes, durability) {
+        self.log.replaced(name, durability);
+        match self.replace_named(alloc, name, bytes, durability) {
             Ok(()) => Ok(()),
             Err(error) => Err(fault_of(error, FileFault::Write)),
         }

@@ -18,24 +18,27 @@ enum Origin {
     File(File),
     /// Standard input, from where it stands.
     Input(Stdin),
+    /// A file that isn't there.
+    Nothing,
 }
 
 /// A file of the machine that is read, or standard input. A contract sees none of its bytes, only
-/// how many pulls have failed.
+/// how many pulls have failed and whether the last one did.
 #[derive(Drop)]
 pub struct HostIn {
     origin: Origin,
     // How many bytes are still to come of a regular file.
     left: Option<u64>,
     failed: u64,
+    failing: bool,
 }
 
 impl Model for HostIn {
-    ghost use Rattle.std.specs.Prelude.{ℕ};
+    ghost use Rattle.std.specs.Prelude.{ℕ, Bool};
 
-    ghost Value = { ℕ };
+    ghost Value = { ℕ × Bool };
 
-    ghost view = { λ s. s.failed };
+    ghost view = { λ s. (s.failed, s.failing) };
 }
 
 impl HostIn {
@@ -52,11 +55,26 @@ impl HostIn {
         }
     }
 
+    /// The same; what isn't there counts as an empty file.
+    pub(crate) fn open_or_empty(
+        alloc: Global,
+        rt: &HostRuntime,
+        name: &str,
+    ) -> io::Result<(HostIn, Option<Identity>)> {
+        match HostIn::open(alloc, rt, name) {
+            Err(error) if error.kind() == io::ErrorKind::NotFound => {
+                Ok((HostIn::new(Origin::Nothing, Some(0)), None))
+            }
+            opened => opened,
+        }
+    }
+
     fn new(origin: Origin, left: Option<u64>) -> HostIn {
         HostIn {
             origin,
             left,
             failed: 0,
+            failing: false,
         }
     }
 
@@ -71,7 +89,7 @@ impl HostIn {
         };
         stream.check(rt)?;
         let input = HostIn::new(Origin::Input(rt.stdin()), None);
-        Ok((input, Identity::at(rt, stream.path())))
+        Ok((input, Identity::of_stream(rt, stream)))
     }
 
     fn open_path(rt: &HostRuntime, name: &str) -> io::Result<(HostIn, Option<Identity>)> {
@@ -99,16 +117,18 @@ impl HostIn {
         match &mut self.origin {
             Origin::File(file) => file.read(into),
             Origin::Input(input) => input.read(into),
+            Origin::Nothing => Ok(0),
         }
     }
 }
 
 impl Source for HostIn {
-    ghost view = { λ s. record { remaining = None; failed = s } };
+    ghost view = { λ s. record { remaining = None; failed = s.0; failing = s.1 } };
 
     fn pull(&mut self, into: &mut [u8]) -> Result<usize, Failed> {
         match self.read(into) {
             Ok(n) => {
+                self.failing = false;
                 if let Some(left) = &mut self.left {
                     *left = left.saturating_sub(n as u64);
                 }
@@ -116,6 +136,7 @@ impl Source for HostIn {
             }
             Err(_) => {
                 self.failed = self.failed.saturating_add(1);
+                self.failing = true;
                 Err(Failed)
             }
         }

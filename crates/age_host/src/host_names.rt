@@ -4,7 +4,7 @@ use std::alloc::Global;
 use std::fs::{self, File, Metadata};
 use std::io;
 use std::os::fd::{AsFd, AsRawFd, BorrowedFd};
-use std::os::unix::fs::MetadataExt;
+use std::os::unix::fs::{FileTypeExt, MetadataExt};
 use std::path::PathBuf;
 use std::rt::HostRuntime;
 
@@ -109,21 +109,24 @@ fn joined(alloc: Global, path: &PathBuf, target: PathBuf) -> io::Result<Option<P
     }
 }
 
-/// Which regular file one is, whatever its names.
+/// Which file one is, whatever its names.
 #[derive(Clone, Copy, PartialEq, Eq)]
-pub(crate) struct Identity {
-    device: u64,
-    inode: u64,
+pub(crate) enum Identity {
+    /// A regular file or a pipe, by its device and inode.
+    File(u64, u64),
+    /// A block device, by its number.
+    Block(u64),
 }
 
 impl Identity {
-    /// `None` for a pipe, a terminal or a device, which is never another's.
+    /// `None` for a terminal or another character device, and for a socket: what is written to one
+    /// is never read from it again.
     pub(crate) fn of(metadata: &Metadata) -> Option<Identity> {
-        if metadata.is_file() {
-            Some(Identity {
-                device: metadata.dev(),
-                inode: metadata.ino(),
-            })
+        let kind = metadata.file_type();
+        if kind.is_block_device() {
+            Some(Identity::Block(metadata.rdev()))
+        } else if kind.is_file() || kind.is_fifo() {
+            Some(Identity::File(metadata.dev(), metadata.ino()))
         } else {
             None
         }
@@ -131,18 +134,31 @@ impl Identity {
 
     /// That of the file to which a name leads, where there is one.
     pub(crate) fn at(rt: &HostRuntime, name: &str) -> Option<Identity> {
-        match metadata_at(rt, name) {
-            Some(metadata) => Identity::of(&metadata),
-            None => None,
+        match fs::metadata(rt, name) {
+            Ok(metadata) => Identity::of(&metadata),
+            Err(_) => None,
         }
+    }
+
+    /// That of the file to which a stream leads.
+    pub(crate) fn of_stream(rt: &HostRuntime, stream: Stream) -> Option<Identity> {
+        Identity::at(rt, stream.path())
     }
 }
 
-/// What the system says of the file to which a name leads, where there is one.
-pub(crate) fn metadata_at(rt: &HostRuntime, name: &str) -> Option<Metadata> {
-    match fs::metadata(rt, name) {
-        Ok(metadata) => Some(metadata),
-        Err(_) => None,
+/// Whether a file holds bytes that can reach a disk.
+pub(crate) fn is_on_disk(metadata: &Metadata) -> bool {
+    let kind = metadata.file_type();
+    kind.is_file() || kind.is_block_device()
+}
+
+/// What the system says of the file at a path, where no link is followed; `None` where nothing is
+/// there.
+pub(crate) fn found_at(rt: &HostRuntime, path: &str) -> io::Result<Option<Metadata>> {
+    match fs::symlink_metadata(rt, path) {
+        Ok(found) => Ok(Some(found)),
+        Err(error) if error.kind() == io::ErrorKind::NotFound => Ok(None),
+        Err(error) => Err(error),
     }
 }
 

@@ -4,7 +4,8 @@ ghost use Rattle.std.specs.Prelude.{◌≡◌, [], None, true};
 ghost use Rattle.std.specs.Io.{WritesAtMost};
 
 use crate::host_names::{Identity, Place, Stream, above_streams, place_of};
-use crate::host_paths::{make_file, open_to_write, remove};
+use crate::host_paths::{OUTPUT_MODE, make_file, open_to_write, remove};
+use crate::host_sync::{sync_file, sync_folder, sync_stream};
 use age_io::{Durability, Failed, Sink};
 use std::alloc::Global;
 use std::fs::{self, File, Metadata};
@@ -19,8 +20,9 @@ struct OutFile {
     file: File,
     // The path at which opening made it, if that was so.
     made: Option<PathBuf>,
-    // Its bytes are still there that have to go before others are written.
+    // What it held is still there, beyond the bytes that were written.
     is_stale: bool,
+    written: u64,
 }
 
 /// Where its bytes go.
@@ -35,44 +37,23 @@ enum Target {
 }
 
 /// A file of the machine that is written, or standard output or error. A regular file keeps its
-/// bytes until a put takes some. A contract sees none of them, only how many puts have failed.
+/// bytes until a put takes some. A contract sees none of them, only how many puts have failed and
+/// whether the last call did.
 #[derive(Drop)]
 pub struct HostOut {
     target: Target,
+    // Which file it is, where that can be told.
+    identity: Option<Identity>,
     failed: u64,
+    failing: bool,
 }
 
 impl Model for HostOut {
-    ghost use Rattle.std.specs.Prelude.{ℕ};
+    ghost use Rattle.std.specs.Prelude.{ℕ, Bool};
 
-    ghost Value = { ℕ };
+    ghost Value = { ℕ × Bool };
 
-    ghost view = { λ s. s.failed };
-}
-
-/// Waits until a file has reached the disk. What can't be waited for is left.
-fn sync(file: &File) -> io::Result<()> {
-    match file.sync_all() {
-        Err(error) if error.kind() != io::ErrorKind::InvalidInput => Err(error),
-        _ => Ok(()),
-    }
-}
-
-/// Waits until a file or a folder has reached the disk, where it can be opened.
-fn sync_path(rt: &HostRuntime, path: &str) -> io::Result<()> {
-    match File::open(rt, path) {
-        Ok(file) => sync(&file),
-        Err(_) => Ok(()),
-    }
-}
-
-/// Waits until the names in the folder of a path have reached the disk, where the folder can be
-/// opened.
-pub(crate) fn sync_folder(rt: &HostRuntime, path: &PathBuf) -> io::Result<()> {
-    match path.parent() {
-        Some(folder) if !folder.as_str().is_empty() => sync_path(rt, folder.as_str()),
-        _ => sync_path(rt, "."),
-    }
+    ghost view = { λ s. (s.failed, s.failing) };
 }
 
 /// Whether a file is a regular one.
@@ -104,6 +85,7 @@ impl OutFile {
                 file: above_streams(file)?,
                 made: None,
                 is_stale: true,
+                written: 0,
             }),
             None => OutFile::make(rt, path),
         }
@@ -111,31 +93,37 @@ impl OutFile {
 
     /// Makes a file at a path that is no link, and where there is none.
     fn make(rt: &HostRuntime, path: PathBuf) -> io::Result<OutFile> {
-        let file = make_file(rt, path.as_str())?;
+        let file = make_file(rt, path.as_str(), OUTPUT_MODE)?;
         Ok(OutFile {
             file,
             made: Some(path),
             is_stale: false,
+            written: 0,
         })
     }
 
-    /// Cuts off what a regular file held after so many bytes, once.
-    fn cut(&mut self, len: u64) -> io::Result<()> {
+    /// Cuts off what a regular file held beyond the bytes that were written.
+    fn cut(&mut self) -> io::Result<()> {
         if self.is_stale {
-            cut_file(&self.file, len)?;
+            cut_file(&self.file, self.written)?;
             self.is_stale = false;
         }
         Ok(())
     }
 
     // The first bytes are written before the rest is cut off, so that a first write that fails
-    // changes nothing.
+    // changes nothing. Where they can't be cut off, the bytes count as written, and what comes next
+    // tries again and fails.
     fn write(&mut self, from: &[u8]) -> io::Result<usize>
         ensures { WritesAtMost result from.now }
     {
+        if self.written > 0 {
+            self.cut()?;
+        }
         let n = self.file.write(from)?;
-        if n > 0 {
-            self.cut(n as u64)?;
+        self.written = self.written.saturating_add(n as u64);
+        if self.written > 0 {
+            let _ = self.cut();
         }
         Ok(n)
     }
@@ -143,26 +131,23 @@ impl OutFile {
     /// Whether it still holds what it held, or nothing where it was made.
     fn is_untouched(&self) -> bool {
         match self.file.metadata() {
-            Ok(there) => self.is_stale || there.len() == 0,
-            Err(_) => self.is_stale,
+            Ok(there) if !self.is_stale => there.len() == 0,
+            _ => self.is_stale && self.written == 0,
         }
     }
 
     /// Ends it with what was written.
     fn finish(&mut self, rt: &HostRuntime, durability: Durability) -> io::Result<()> {
-        self.cut(0)?;
+        self.cut()?;
         match durability {
             Durability::Synced => self.reach_disk(rt),
             Durability::Buffered => Ok(()),
         }
     }
 
-    /// Waits until a regular file, and its name where opening made it, have reached the disk.
+    /// Waits until it, and its name where opening made it, have reached the disk.
     fn reach_disk(&self, rt: &HostRuntime) -> io::Result<()> {
-        if !is_regular(&self.file)? {
-            return Ok(());
-        }
-        sync(&self.file)?;
+        sync_file(&self.file)?;
         match &self.made {
             Some(path) => sync_folder(rt, path),
             None => Ok(()),
@@ -170,11 +155,14 @@ impl OutFile {
     }
 
     /// Removes it, if opening made it, it is still the one at its path, and still empty.
-    fn remove_made(&self, rt: &HostRuntime) {
+    fn remove_made(&self, rt: &HostRuntime, durability: Durability) {
         if let Some(path) = &self.made
             && is_empty_at(rt, &self.file, path)
         {
             remove(rt, path.as_str());
+            if durability == Durability::Synced {
+                let _ = sync_folder(rt, path);
+            }
         }
     }
 }
@@ -188,41 +176,63 @@ fn cut_file(file: &File, len: u64) -> io::Result<()> {
 }
 
 impl HostOut {
-    fn new(target: Target) -> HostOut {
-        HostOut { target, failed: 0 }
-    }
-
-    /// Opens what a name stands for without emptying it, or makes a file where there is none, and
-    /// says which regular file it is. Nothing can be written to standard input.
-    pub(crate) fn open(
-        alloc: Global,
-        rt: &HostRuntime,
-        name: &str,
-    ) -> io::Result<(HostOut, Option<Identity>)> {
-        match place_of(alloc, rt, name)? {
-            Place::Path(path) => HostOut::open_path(rt, name, path),
-            Place::Stream(stream) => HostOut::open_stream(rt, stream),
+    fn new(target: Target, identity: Option<Identity>) -> HostOut {
+        HostOut {
+            target,
+            identity,
+            failed: 0,
+            failing: false,
         }
     }
 
-    fn open_path(
-        rt: &HostRuntime,
-        name: &str,
-        path: PathBuf,
-    ) -> io::Result<(HostOut, Option<Identity>)> {
-        let out = OutFile::open(rt, name, path)?;
-        let identity = Identity::of(&out.file.metadata()?);
-        Ok((HostOut::new(Target::File(out)), identity))
+    /// Opens what a name stands for without emptying it, or makes a file where there is none.
+    /// Nothing can be written to standard input.
+    pub(crate) fn open(alloc: Global, rt: &HostRuntime, name: &str) -> io::Result<HostOut> {
+        match place_of(alloc, rt, name)? {
+            Place::Path(path) => HostOut::of_file(OutFile::open(rt, name, path)?),
+            Place::Stream(stream) => HostOut::of_stream(rt, stream),
+        }
     }
 
-    fn open_stream(rt: &HostRuntime, stream: Stream) -> io::Result<(HostOut, Option<Identity>)> {
+    fn of_file(out: OutFile) -> io::Result<HostOut> {
+        let identity = Identity::of(&out.file.metadata()?);
+        Ok(HostOut::new(Target::File(out), identity))
+    }
+
+    /// A file that is open to be written, in place of what it holds.
+    pub(crate) fn over(file: File) -> io::Result<HostOut> {
+        HostOut::of_file(OutFile {
+            file,
+            made: None,
+            is_stale: true,
+            written: 0,
+        })
+    }
+
+    /// A stream that can be written, from where it stands.
+    pub(crate) fn of_stream(rt: &HostRuntime, stream: Stream) -> io::Result<HostOut> {
         stream.check(rt)?;
         let target = match stream {
             Stream::Input => return Err(io::Error::from(io::ErrorKind::Unsupported)),
             Stream::Output => Target::Output(rt.stdout()),
             Stream::Faults => Target::Faults(rt.stderr()),
         };
-        Ok((HostOut::new(target), Identity::at(rt, stream.path())))
+        Ok(HostOut::new(target, Identity::of_stream(rt, stream)))
+    }
+
+    /// Which file it is, where that can be told.
+    pub(crate) fn identity(&self) -> Option<Identity> {
+        self.identity
+    }
+
+    /// Whether it is standard error, or the file to which that leads.
+    pub(crate) fn is_for_faults(&self, rt: &HostRuntime) -> bool {
+        match &self.target {
+            Target::Faults(_) => true,
+            _ => {
+                self.identity.is_some() && self.identity == Identity::of_stream(rt, Stream::Faults)
+            }
+        }
     }
 
     fn write(&mut self, from: &[u8]) -> io::Result<usize>
@@ -247,41 +257,50 @@ impl HostOut {
     /// Ends it with what was written. Where each put failed, it is as it was before it was opened.
     pub(crate) fn close(self, rt: &HostRuntime, durability: Durability) -> io::Result<()> {
         if self.has_only_failed() {
-            self.discard(rt);
+            self.discard(rt, durability);
             return Ok(());
         }
         match self.target {
             Target::File(mut out) => out.finish(rt, durability),
-            Target::Output(_) => close_stream(rt, Stream::Output, durability),
-            Target::Faults(_) => close_stream(rt, Stream::Faults, durability),
+            Target::Output(_) => finish_stream(rt, Stream::Output, durability),
+            Target::Faults(_) => finish_stream(rt, Stream::Faults, durability),
         }
     }
 
     /// Ends it where nothing was written, as it was before it was opened.
-    pub(crate) fn discard(self, rt: &HostRuntime) {
+    pub(crate) fn discard(self, rt: &HostRuntime, durability: Durability) {
         if let Target::File(out) = self.target {
-            out.remove_made(rt);
+            out.remove_made(rt, durability);
         }
     }
 }
 
-/// A stream that leads to a regular file reaches the disk by another descriptor of that file, where
-/// one can be had.
-fn close_stream(rt: &HostRuntime, stream: Stream, durability: Durability) -> io::Result<()> {
-    if durability == Durability::Buffered || Identity::at(rt, stream.path()).is_none() {
-        return Ok(());
+/// Ends what went to a stream.
+fn finish_stream(rt: &HostRuntime, stream: Stream, durability: Durability) -> io::Result<()> {
+    match durability {
+        Durability::Synced => sync_stream(rt, stream),
+        Durability::Buffered => Ok(()),
     }
-    sync_path(rt, stream.path())
 }
 
 impl Sink for HostOut {
-    ghost view = { λ s. record { taken = None; failed = s; label = []; settled = true } };
+    ghost view = { λ s. record {
+      taken = None;
+      failed = s.0;
+      failing = s.1;
+      label = [];
+      settled = true;
+    } };
 
     fn put(&mut self, from: &[u8]) -> Result<usize, Failed> {
         match self.write(from) {
-            Ok(n) if n > 0 || from.is_empty() => Ok(n),
+            Ok(n) if n > 0 || from.is_empty() => {
+                self.failing = false;
+                Ok(n)
+            }
             _ => {
                 self.failed = self.failed.saturating_add(1);
+                self.failing = true;
                 Err(Failed)
             }
         }
@@ -289,6 +308,7 @@ impl Sink for HostOut {
 
     // The machine's files have no buffer of the program's.
     fn flush(&mut self) -> Result<(), Failed> {
+        self.failing = false;
         Ok(())
     }
 

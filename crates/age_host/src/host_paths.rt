@@ -3,7 +3,15 @@
 use crate::host_names::above_streams;
 use std::fs::{self, File};
 use std::io;
+use std::os::unix::fs::OpenOptionsExt;
 use std::rt::HostRuntime;
+
+/// Who may do what with a new output, where the umask allows it.
+pub(crate) const OUTPUT_MODE: u32 = 0o666;
+
+/// Who may do what with a new position: its owner alone, since it holds digests of the plaintext,
+/// against which guesses can be tried.
+pub(crate) const POSITION_MODE: u32 = 0o600;
 
 /// Opens a file to be written without emptying it; `None` where there is none.
 pub(crate) fn open_to_write(rt: &HostRuntime, name: &str) -> io::Result<Option<File>> {
@@ -15,8 +23,13 @@ pub(crate) fn open_to_write(rt: &HostRuntime, name: &str) -> io::Result<Option<F
 }
 
 /// Makes a file where there is none, at a path that is no link.
-pub(crate) fn make_file(rt: &HostRuntime, path: &str) -> io::Result<File> {
-    let made = File::options().write(true).create_new(true).open(rt, path)?;
+pub(crate) fn make_file(rt: &HostRuntime, path: &str, mode: u32) -> io::Result<File> {
+    let mut options = File::options();
+    let made = options
+        .write(true)
+        .create_new(true)
+        .mode(mode)
+        .open(rt, path)?;
     let file = above_streams(made);
     if file.is_err() {
         remove(rt, path);

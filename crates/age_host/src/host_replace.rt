@@ -1,13 +1,15 @@
 //! Replaces a file of the machine as a whole.
 
-use crate::host_names::{Identity, Place, metadata_at, place_of};
-use crate::host_out::{HostOut, sync_folder};
-use crate::host_paths::{make_file, open_to_write, remove};
+use crate::host_names::{Place, found_at};
+use crate::host_out::HostOut;
+use crate::host_paths::{POSITION_MODE, make_file, open_to_write, remove};
+use crate::host_sync::{sync, sync_folder};
 use age_fault::write_all;
 use age_io::Durability;
 use std::alloc::Global;
-use std::fs::{self, File, Permissions};
+use std::fs::{self, File, Metadata, Permissions};
 use std::io::{self, Write};
+use std::os::unix::fs::MetadataExt;
 use std::path::PathBuf;
 use std::rt::HostRuntime;
 
@@ -21,22 +23,41 @@ struct Beside {
     path: String,
 }
 
+/// Why a file beside another didn't take its place.
+#[derive(Drop)]
+enum Unplaced {
+    /// It could not be made, or not be renamed.
+    NotBeside,
+    /// It could not be filled, or it took the place and the wait for the disk failed.
+    Failed(io::Error),
+}
+
+impl From<io::Error> for Unplaced {
+    fn from(error: io::Error) -> Unplaced {
+        Unplaced::Failed(error)
+    }
+}
+
 /// Makes a file beside another, at a path where there is none.
-fn make_beside(alloc: Global, rt: &HostRuntime, path: &PathBuf) -> io::Result<Beside> {
+fn make_beside(alloc: Global, rt: &HostRuntime, path: &PathBuf) -> Result<Beside, Unplaced> {
     for n in 0..TRIES {
         match make_numbered(alloc, rt, path, n) {
+            Ok(made) => return Ok(made),
             Err(error) if error.kind() == io::ErrorKind::AlreadyExists => {}
-            made => return made,
+            Err(error) if error.kind() == io::ErrorKind::OutOfMemory => {
+                return Err(Unplaced::Failed(error));
+            }
+            Err(_) => return Err(Unplaced::NotBeside),
         }
     }
-    Err(io::Error::from(io::ErrorKind::AlreadyExists))
+    Err(Unplaced::NotBeside)
 }
 
 /// Makes a file beside another, under its name with a number.
 fn make_numbered(alloc: Global, rt: &HostRuntime, path: &PathBuf, n: u32) -> io::Result<Beside> {
     let name = path.as_str();
     let path = format!(in alloc; "{name}.new-{n}")?;
-    let file = make_file(rt, path.as_str())?;
+    let file = make_file(rt, path.as_str(), POSITION_MODE)?;
     Ok(Beside { file, path })
 }
 
@@ -44,16 +65,7 @@ impl Beside {
     fn fill(&mut self, bytes: &[u8], durability: Durability) -> io::Result<()> {
         self.file.write_all(bytes)?;
         match durability {
-            Durability::Synced => self.file.sync_all(),
-            Durability::Buffered => Ok(()),
-        }
-    }
-
-    /// Puts it in the place of the file at a path.
-    fn rename(&self, rt: &HostRuntime, path: &PathBuf, durability: Durability) -> io::Result<()> {
-        fs::rename(rt, self.path.as_str(), path.as_str())?;
-        match durability {
-            Durability::Synced => sync_folder(rt, path),
+            Durability::Synced => sync(&self.file),
             Durability::Buffered => Ok(()),
         }
     }
@@ -64,46 +76,52 @@ impl Beside {
             let _ = self.file.set_permissions(permissions);
         }
     }
-}
 
-/// Who may do what with the file at a path, where there is one. Fails where that can't be written.
-fn permissions_at(rt: &HostRuntime, path: &PathBuf) -> io::Result<Option<Permissions>> {
-    match open_to_write(rt, path.as_str())? {
-        Some(file) => Ok(Some(file.metadata()?.permissions())),
-        None => Ok(None),
+    /// Fills it, and puts it in the place of the file at a path.
+    fn place(
+        &mut self,
+        rt: &HostRuntime,
+        path: &PathBuf,
+        bytes: &[u8],
+        durability: Durability,
+    ) -> Result<(), Unplaced> {
+        self.fill(bytes, durability)?;
+        match fs::rename(rt, self.path.as_str(), path.as_str()) {
+            Ok(()) => Ok(()),
+            Err(_) => Err(Unplaced::NotBeside),
+        }
     }
 }
 
-/// Replaces the regular file at a path that is no link, or makes one.
-fn replace_file(
+/// Puts a new file of these bytes in the place of the one at a path, which stays as it is until the
+/// new one is whole.
+fn replace_beside(
     alloc: Global,
     rt: &HostRuntime,
     path: &PathBuf,
+    permissions: Option<Permissions>,
     bytes: &[u8],
     durability: Durability,
-) -> io::Result<()> {
-    let permissions = permissions_at(rt, path)?;
+) -> Result<(), Unplaced> {
     let mut new = make_beside(alloc, rt, path)?;
     new.set_permissions(permissions);
-    let done = match new.fill(bytes, durability) {
-        Ok(()) => new.rename(rt, path, durability),
-        failed => failed,
-    };
-    if done.is_err() {
+    if let Err(unplaced) = new.place(rt, path, bytes, durability) {
         remove(rt, new.path.as_str());
+        return Err(unplaced);
     }
-    done
+    match durability {
+        Durability::Synced => Ok(sync_folder(rt, path)?),
+        Durability::Buffered => Ok(()),
+    }
 }
 
-/// Writes to what is no regular file: a stream, a pipe or a device.
-fn write_directly(
-    alloc: Global,
+/// Writes these bytes to what is open, in place of what it holds.
+fn fill_directly(
     rt: &HostRuntime,
-    name: &str,
+    mut out: HostOut,
     bytes: &[u8],
     durability: Durability,
 ) -> io::Result<()> {
-    let (mut out, _) = HostOut::open(alloc, rt, name)?;
     let mut written = 0;
     let put = write_all(&mut out, bytes, &mut written);
     out.close(rt, durability)?;
@@ -113,27 +131,97 @@ fn write_directly(
     }
 }
 
-/// Whether a name leads to a regular file at this path, or to nothing yet.
-fn leads_to(rt: &HostRuntime, name: &str, path: &PathBuf) -> bool {
-    match metadata_at(rt, name) {
-        Some(there) => there.is_file() && Identity::of(&there) == Identity::at(rt, path.as_str()),
-        None => true,
-    }
-}
-
-/// Puts a file of these bytes in the place of the one of a name, which stays as it is until the new
-/// one is whole. What is no regular file is written directly.
-pub(crate) fn replace(
-    alloc: Global,
+/// Makes a file of these bytes at a path where there is none.
+fn make_directly(
     rt: &HostRuntime,
-    name: &str,
+    path: &PathBuf,
     bytes: &[u8],
     durability: Durability,
 ) -> io::Result<()> {
-    match place_of(alloc, rt, name)? {
-        Place::Path(path) if leads_to(rt, name, &path) => {
-            replace_file(alloc, rt, &path, bytes, durability)
+    let out = HostOut::over(make_file(rt, path.as_str(), POSITION_MODE)?)?;
+    if let Err(error) = fill_directly(rt, out, bytes, durability) {
+        remove(rt, path.as_str());
+        return Err(error);
+    }
+    match durability {
+        Durability::Synced => sync_folder(rt, path),
+        Durability::Buffered => Ok(()),
+    }
+}
+
+/// The file that was found at a path, open to be written. Fails where another is opened there, so
+/// that no link is followed.
+fn open_found(rt: &HostRuntime, path: &PathBuf, found: &Metadata) -> io::Result<File> {
+    if let Some(file) = open_to_write(rt, path.as_str())? {
+        let opened = file.metadata()?;
+        if opened.dev() == found.dev() && opened.ino() == found.ino() {
+            return Ok(file);
         }
-        _ => write_directly(alloc, rt, name, bytes, durability),
+    }
+    Err(io::Error::from(io::ErrorKind::NotFound))
+}
+
+/// Makes a file of these bytes at a path where there is none, or a link, which it replaces.
+fn make_at(
+    alloc: Global,
+    rt: &HostRuntime,
+    path: &PathBuf,
+    bytes: &[u8],
+    durability: Durability,
+) -> io::Result<()> {
+    match replace_beside(alloc, rt, path, None, bytes, durability) {
+        Ok(()) => Ok(()),
+        Err(Unplaced::NotBeside) => make_directly(rt, path, bytes, durability),
+        Err(Unplaced::Failed(error)) => Err(error),
+    }
+}
+
+/// Replaces the file that was found at a path. What is no regular file is written directly, and so
+/// is one that no other can replace.
+fn replace_found(
+    alloc: Global,
+    rt: &HostRuntime,
+    path: &PathBuf,
+    found: &Metadata,
+    bytes: &[u8],
+    durability: Durability,
+) -> io::Result<()> {
+    let file = open_found(rt, path, found)?;
+    if found.is_file() {
+        match replace_beside(
+            alloc,
+            rt,
+            path,
+            Some(found.permissions()),
+            bytes,
+            durability,
+        ) {
+            Ok(()) => return Ok(()),
+            Err(Unplaced::NotBeside) => {}
+            Err(Unplaced::Failed(error)) => return Err(error),
+        }
+    }
+    fill_directly(rt, HostOut::over(file)?, bytes, durability)
+}
+
+/// Puts a file of these bytes in a place, without following a link that has come there. A regular
+/// file stays as it is until the new one is whole, where its folder allows that.
+pub(crate) fn replace(
+    alloc: Global,
+    rt: &HostRuntime,
+    place: &Place,
+    bytes: &[u8],
+    durability: Durability,
+) -> io::Result<()> {
+    match place {
+        Place::Stream(stream) => {
+            fill_directly(rt, HostOut::of_stream(rt, *stream)?, bytes, durability)
+        }
+        Place::Path(path) => match found_at(rt, path.as_str())? {
+            Some(found) if !found.is_symlink() => {
+                replace_found(alloc, rt, path, &found, bytes, durability)
+            }
+            _ => make_at(alloc, rt, path, bytes, durability),
+        },
     }
 }

@@ -1,7 +1,7 @@
 //! A sink over memory, with a limit and a plan of failures.
 
 ghost use Rattle.std.specs.Prelude.{◌≡◌, ◌<◌, ◌≤◌, [], Some, true, false, length, IfOk, OnOk};
-ghost use Rattle.std.specs.Prelude.{MatchResult, vec_capacity};
+ghost use Rattle.std.specs.Prelude.{MatchResult, vec_capacity, is_err};
 ghost use Rattle.std.specs.Io.KnownBytes.{WriteAppends, Keeps};
 ghost use Rattle.age_io.specs.Memory.{one_more, Holding, Puts, Flushes};
 
@@ -11,8 +11,8 @@ use std::alloc::Global;
 use std::marker::Model;
 
 /// A sink over memory. A contract sees what it holds, how much it holds at most, how much a put
-/// takes at most, which call fails, how many calls were made and have failed, and whether a flush
-/// came after the last put.
+/// takes at most, which call fails, how many calls were made and have failed, whether the last one
+/// did, and whether a flush came after the last put.
 #[derive(Debug, Drop)]
 pub struct MemSink {
     held: Vec<u8>,
@@ -21,6 +21,7 @@ pub struct MemSink {
     fail_call: Option<u64>,
     calls: u64,
     failed: u64,
+    failing: bool,
     settled: bool,
 }
 
@@ -34,6 +35,7 @@ impl Model for MemSink {
       fail_call = s.fail_call;
       calls = s.calls;
       failures = s.failed;
+      failing = s.failing;
       settled = s.settled;
     } };
 
@@ -59,6 +61,7 @@ impl MemSink {
           fail_call = fail_call;
           calls = 0;
           failures = 0;
+          failing = false;
           settled = false;
         }) }
     {
@@ -70,6 +73,7 @@ impl MemSink {
             fail_call,
             calls: 0,
             failed: 0,
+            failing: false,
             settled: false,
         })
     }
@@ -94,6 +98,7 @@ impl Sink for MemSink {
     ghost view = { λ s. record {
       taken = Some s.held;
       failed = s.failures;
+      failing = s.failing;
       label = [];
       settled = s.settled;
     } };
@@ -103,6 +108,7 @@ impl Sink for MemSink {
         ensures bytes { WriteAppends (Some self.old.held) (Some self.new.held) result from.now }
         ensures counted { MatchResult result (λ _. self.new.failures ≡ self.old.failures)
             (λ _. self.new.failures ≡ one_more self.old.failures) }
+        ensures last { self.new.failing ≡ is_err result }
         ensures plan { Puts self.old from.now result self.new }
     {
         let call = self.calls;
@@ -110,8 +116,10 @@ impl Sink for MemSink {
         let n = self.step.min(from.len()).min(self.room - self.held.len());
         if self.fail_call == Some(call) || (n == 0 && !from.is_empty()) {
             self.failed = self.failed.saturating_add(1);
+            self.failing = true;
             return Err(Failed);
         }
+        self.failing = false;
         // The room was reserved.
         self.held.extend_from_slice(&from[..n]).unwrap();
         self.settled = false;
@@ -123,14 +131,17 @@ impl Sink for MemSink {
         ensures bytes { Keeps (Some self.old.held) (Some self.new.held) }
         ensures counted { MatchResult result (λ _. self.new.failures ≡ self.old.failures)
             (λ _. self.new.failures ≡ one_more self.old.failures) }
+        ensures last { self.new.failing ≡ is_err result }
         ensures plan { Flushes self.old result self.new }
     {
         let call = self.calls;
         self.calls = call.saturating_add(1);
         if self.fail_call == Some(call) {
             self.failed = self.failed.saturating_add(1);
+            self.failing = true;
             return Err(Failed);
         }
+        self.failing = false;
         self.settled = true;
         Ok(())
     }

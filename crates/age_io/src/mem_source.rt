@@ -1,7 +1,7 @@
 //! A source over memory, with a plan of failures.
 
 ghost use Rattle.std.specs.Prelude.{◌≡◌, ◌<◌, ◌≤◌, Some, length, take, IfOk, MatchResult};
-ghost use Rattle.std.specs.Prelude.{drop};
+ghost use Rattle.std.specs.Prelude.{drop, false, is_err};
 ghost use Rattle.std.specs.Io.KnownBytes.{ReadConsumes};
 ghost use Rattle.age_io.specs.Memory.{one_more, Feeding, Pulls};
 
@@ -10,7 +10,7 @@ use crate::source::Source;
 use std::marker::Model;
 
 /// A source over memory. A contract sees what is still to come, how much a pull gives at most,
-/// which pull fails, and how many pulls were made and have failed.
+/// which pull fails, how many pulls were made and have failed, and whether the last one did.
 #[derive(Debug, Drop)]
 pub struct MemSource {
     bytes: Vec<u8>,
@@ -19,6 +19,7 @@ pub struct MemSource {
     fail_call: Option<u64>,
     calls: u64,
     failed: u64,
+    failing: bool,
 }
 
 impl Model for MemSource {
@@ -30,6 +31,7 @@ impl Model for MemSource {
       fail_call = s.fail_call;
       calls = s.calls;
       failures = s.failed;
+      failing = s.failing;
     } };
 
     ghost invariant = { λ s. (s.at ≤ length s.bytes.items) × (0 < s.step) };
@@ -46,6 +48,7 @@ impl MemSource {
           fail_call = fail_call;
           calls = 0;
           failures = 0;
+          failing = false;
         } }
     {
         MemSource {
@@ -55,6 +58,7 @@ impl MemSource {
             fail_call,
             calls: 0,
             failed: 0,
+            failing: false,
         }
     }
 
@@ -69,31 +73,42 @@ impl MemSource {
 fn copy_front(from: &[u8], into: &mut [u8], n: usize)
     requires from { n ≤ length from.now }
     requires into { n ≤ length into.old }
-    ensures { take n into.new ≡ take n from.now }
+    ensures front { take n into.new ≡ take n from.now }
+    ensures rest { drop n into.new ≡ drop n into.old }
 {
     into[..n].copy_from_slice(&from[..n]);
 }
 
 impl Source for MemSource {
-    ghost view = { λ s. record { remaining = Some s.left; failed = s.failures } };
+    ghost view = { λ s. record {
+      remaining = Some s.left;
+      failed = s.failures;
+      failing = s.failing;
+    } };
 
+    /// Leaves the slice as it was past the bytes that it gives, and all of it if it fails.
     fn pull(&mut self, into: &mut [u8]) -> Result<usize, Failed>
         ensures bound { IfOk result (λ n. n ≤ length into.new) }
         ensures bytes { ReadConsumes (Some self.old.left) (Some self.new.left) result into.new }
         ensures counted { MatchResult result (λ _. self.new.failures ≡ self.old.failures)
             (λ _. self.new.failures ≡ one_more self.old.failures) }
+        ensures last { self.new.failing ≡ is_err result }
+        ensures rest { MatchResult result (λ n. drop n into.new ≡ drop n into.old)
+            (λ _. into.new ≡ into.old) }
         ensures plan { Pulls self.old (length into.new) result self.new }
     {
         let call = self.calls;
         self.calls = call.saturating_add(1);
         if self.fail_call == Some(call) {
             self.failed = self.failed.saturating_add(1);
+            self.failing = true;
             return Err(Failed);
         }
         let n = self.step.min(into.len()).min(self.bytes.len() - self.at);
         let end = self.at + n;
         copy_front(&self.bytes[self.at..], into, n);
         self.at = end;
+        self.failing = false;
         Ok(n)
     }
 

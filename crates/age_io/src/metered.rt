@@ -1,6 +1,6 @@
 //! A source that tells a meter what it gives.
 
-ghost use Rattle.std.specs.Prelude.{◌≡◌, ◌≤◌, length, IfOk, MatchResult};
+ghost use Rattle.std.specs.Prelude.{◌≡◌, ◌≤◌, length, IfOk, MatchResult, is_err};
 ghost use Rattle.std.specs.Io.KnownBytes.{ReadConsumes};
 ghost use Rattle.age_io.specs.Memory.{one_more};
 ghost use Rattle.age_io.specs.Counts.{pulled};
@@ -39,6 +39,7 @@ impl<S: Source, M: Meter> Source for Metered<S, M> {
         ensures counted { MatchResult result
             (λ _. (S.view self.new.source).failed ≡ (S.view self.old.source).failed)
             (λ _. (S.view self.new.source).failed ≡ one_more (S.view self.old.source).failed) }
+        ensures last { (S.view self.new.source).failing ≡ is_err result }
         ensures told { M.told self.new.meter ≡ pulled result (M.told self.old.meter) }
     {
         let n = self.source.pull(into)?;

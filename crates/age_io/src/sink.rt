@@ -1,11 +1,11 @@
 //! Where bytes go.
 
 ghost use Rattle.std.specs.Prelude.{◌≡◌, ◌<◌, ◌≤◌, ℕ, [], length, true, IfOk, OnOk};
-ghost use Rattle.std.specs.Prelude.{MatchResult};
+ghost use Rattle.std.specs.Prelude.{MatchResult, Bool, false, is_err};
 ghost use Rattle.std.specs.Io.KnownBytes.{WriteAppends, Keeps};
 ghost use Rattle.age_io.specs.Memory.{one_more};
 ghost use Rattle.age_io.specs.Views.{SinkView};
-ghost use Rattle.std.specs.Coded.{coded_ℕ, coded×};
+ghost use Rattle.std.specs.Coded.{coded_ℕ, coded×, coded_bool};
 
 use crate::failed::Failed;
 use std::io::Write;
@@ -13,9 +13,9 @@ use std::marker::Model;
 
 /// Where bytes go.
 pub trait Sink {
-    // The bytes that were taken, where they are shown, how many puts and flushes have failed, the
-    // name that the sink goes by, so that a set of files can say where its bytes end up, and
-    // whether what was taken was sent on; a put may undo that.
+    // The bytes that were taken, where they are shown, how many puts and flushes have failed,
+    // whether the last of them did, the name that the sink goes by, so that a set of files can say
+    // where its bytes end up, and whether what was taken was sent on; a put may undo that.
     ghost view: { Self → SinkView };
 
     /// Takes bytes from the beginning of a slice, and returns how many: at least one, unless the
@@ -26,7 +26,8 @@ pub trait Sink {
         ensures named { (view self.new).label ≡ (view self.old).label }
         ensures counted { MatchResult result
             (λ _. (view self.new).failed ≡ (view self.old).failed)
-            (λ _. (view self.new).failed ≡ one_more (view self.old).failed) };
+            (λ _. (view self.new).failed ≡ one_more (view self.old).failed) }
+        ensures last { (view self.new).failing ≡ is_err result };
 
     /// Sends on what was taken.
     fn flush(&mut self) -> Result<(), Failed>
@@ -35,7 +36,8 @@ pub trait Sink {
         ensures named { (view self.new).label ≡ (view self.old).label }
         ensures counted { MatchResult result
             (λ _. (view self.new).failed ≡ (view self.old).failed)
-            (λ _. (view self.new).failed ≡ one_more (view self.old).failed) };
+            (λ _. (view self.new).failed ≡ one_more (view self.old).failed) }
+        ensures last { (view self.new).failing ≡ is_err result };
 
     /// How many puts and flushes have failed.
     fn failures(&self) -> u64
@@ -44,43 +46,54 @@ pub trait Sink {
 
 /// A sink over one of the machine's writers. It shows contracts the bytes that the writer shows,
 /// which for a file, a pipe or a terminal are none. A writer that takes none of the bytes that it
-/// is given counts as failed. A contract sees the writer and how many puts and flushes have failed.
+/// is given counts as failed. A contract sees the writer, how many puts and flushes have failed, and
+/// whether the last of them did.
 #[derive(Debug, Drop)]
 pub struct Writing<W: Write> {
     inner: W,
     failed: u64,
+    failing: bool,
 }
 
 impl<W: Write> Model for Writing<W> {
-    ghost Value = { W × ℕ };
+    ghost Value = { W × (ℕ × Bool) };
 
-    ghost coded = { coded× W.code coded_ℕ };
+    ghost coded = { coded× W.code (coded× coded_ℕ coded_bool) };
 
-    ghost view = { λ s. (s.inner, s.failed) };
+    ghost view = { λ s. (s.inner, (s.failed, s.failing)) };
 }
 
 impl<W: Write> Writing<W> {
     /// A sink that hands on to this writer.
     pub fn new(inner: W) -> Writing<W>
-        ensures { result ≡ (inner, 0) }
+        ensures { result ≡ (inner, (0, false)) }
     {
-        Writing { inner, failed: 0 }
+        Writing {
+            inner,
+            failed: 0,
+            failing: false,
+        }
     }
 }
 
 impl<W: Write> Sink for Writing<W> {
     ghost view = { λ s. record {
       taken = W.contents s.0;
-      failed = s.1;
+      failed = s.1.0;
+      failing = s.1.1;
       label = [];
       settled = true;
     } };
 
     fn put(&mut self, from: &[u8]) -> Result<usize, Failed> {
         match self.inner.write(from) {
-            Ok(n) if n > 0 || from.is_empty() => Ok(n),
+            Ok(n) if n > 0 || from.is_empty() => {
+                self.failing = false;
+                Ok(n)
+            }
             _ => {
                 self.failed = self.failed.saturating_add(1);
+                self.failing = true;
                 Err(Failed)
             }
         }
@@ -88,9 +101,13 @@ impl<W: Write> Sink for Writing<W> {
 
     fn flush(&mut self) -> Result<(), Failed> {
         match self.inner.flush() {
-            Ok(()) => Ok(()),
+            Ok(()) => {
+                self.failing = false;
+                Ok(())
+            }
             Err(_) => {
                 self.failed = self.failed.saturating_add(1);
+                self.failing = true;
                 Err(Failed)
             }
         }

@@ -1,10 +1,10 @@
 //! Where bytes come from.
 
-ghost use Rattle.std.specs.Prelude.{◌≡◌, ◌≤◌, ℕ, length, IfOk, MatchResult};
+ghost use Rattle.std.specs.Prelude.{◌≡◌, ◌≤◌, ℕ, Bool, false, length, IfOk, MatchResult, is_err};
 ghost use Rattle.std.specs.Io.KnownBytes.{ReadConsumes};
 ghost use Rattle.age_io.specs.Memory.{one_more};
 ghost use Rattle.age_io.specs.Views.{SourceView};
-ghost use Rattle.std.specs.Coded.{coded_ℕ, coded×};
+ghost use Rattle.std.specs.Coded.{coded_ℕ, coded×, coded_bool};
 
 use crate::failed::Failed;
 use std::io::Read;
@@ -12,7 +12,8 @@ use std::marker::Model;
 
 /// Where bytes come from.
 pub trait Source {
-    // The bytes that are still to come, where they are shown, and how many pulls have failed.
+    // The bytes that are still to come, where they are shown, how many pulls have failed, and
+    // whether the last one did.
     ghost view: { Self → SourceView };
 
     /// Puts the next bytes at the beginning of a slice, and returns how many: none only at the end,
@@ -23,7 +24,8 @@ pub trait Source {
             into.new }
         ensures counted { MatchResult result
             (λ _. (view self.new).failed ≡ (view self.old).failed)
-            (λ _. (view self.new).failed ≡ one_more (view self.old).failed) };
+            (λ _. (view self.new).failed ≡ one_more (view self.old).failed) }
+        ensures last { (view self.new).failing ≡ is_err result };
 
     /// How many pulls have failed.
     fn failures(&self) -> u64
@@ -31,39 +33,52 @@ pub trait Source {
 }
 
 /// A source over one of the machine's readers. It shows contracts the bytes that the reader shows,
-/// which for a file, a pipe or a terminal are none. A contract sees the reader and how many pulls
-/// have failed.
+/// which for a file, a pipe or a terminal are none. A contract sees the reader, how many pulls have
+/// failed, and whether the last one did.
 #[derive(Debug, Drop)]
 pub struct Reading<R: Read> {
     inner: R,
     failed: u64,
+    failing: bool,
 }
 
 impl<R: Read> Model for Reading<R> {
-    ghost Value = { R × ℕ };
+    ghost Value = { R × (ℕ × Bool) };
 
-    ghost coded = { coded× R.code coded_ℕ };
+    ghost coded = { coded× R.code (coded× coded_ℕ coded_bool) };
 
-    ghost view = { λ s. (s.inner, s.failed) };
+    ghost view = { λ s. (s.inner, (s.failed, s.failing)) };
 }
 
 impl<R: Read> Reading<R> {
     /// A source of what this reader still has to give.
     pub fn new(inner: R) -> Reading<R>
-        ensures { result ≡ (inner, 0) }
+        ensures { result ≡ (inner, (0, false)) }
     {
-        Reading { inner, failed: 0 }
+        Reading {
+            inner,
+            failed: 0,
+            failing: false,
+        }
     }
 }
 
 impl<R: Read> Source for Reading<R> {
-    ghost view = { λ s. record { remaining = R.remaining s.0; failed = s.1 } };
+    ghost view = { λ s. record {
+      remaining = R.remaining s.0;
+      failed = s.1.0;
+      failing = s.1.1;
+    } };
 
     fn pull(&mut self, into: &mut [u8]) -> Result<usize, Failed> {
         match self.inner.read(into) {
-            Ok(n) => Ok(n),
+            Ok(n) => {
+                self.failing = false;
+                Ok(n)
+            }
             Err(_) => {
                 self.failed = self.failed.saturating_add(1);
+                self.failing = true;
                 Err(Failed)
             }
         }

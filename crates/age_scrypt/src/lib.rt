@@ -11,7 +11,8 @@
 //! another, and its core, Salsa20/8, works on vectors of four words. So a key at work factor 18
 //! costs 256 MiB and about a second.
 //!
-//! A count of steps for contracts alone says that the work was done: a step is one BlockMix.
+//! A count of steps, which only contracts see, says how much work was done by that count: a step is
+//! one BlockMix, and nothing else raises it.
 #![tactic(auto)]
 
 ghost use Rattle.std.specs.Prelude.{◌≡◌, ◌+◌, ◌*◌, ◌^◌, ◌≤◌, length, vec_len};
@@ -20,7 +21,6 @@ ghost use Rattle.std.specs.Prelude.{OnOk, OnErr};
 ghost use Rattle.age_scrypt.specs.Scrypt.{work_factor_limit, scrypt};
 
 mod fault;
-mod mix;
 mod part;
 mod romix;
 mod salsa;
@@ -69,7 +69,7 @@ fn derive_in(
 /// scrypt with N = `2^log`, r = 8, p = 1 and 32 bytes of output (RFC 7914, section 6).
 ///
 /// It takes `1,024 * 2^log` bytes of memory and two blocks of 1,024 bytes, all of them before the
-/// first step. Where memory is refused, no step is made.
+/// first step. If memory is refused, no step is counted.
 pub fn derive(
     alloc: Global,
     pass: &[u8],

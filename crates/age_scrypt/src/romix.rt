@@ -9,9 +9,8 @@ ghost use Rattle.age_scrypt.specs.Scrypt.{work_factor_limit};
 ghost use Rattle.age_scrypt.specs.inner.Table.{IsTable};
 ghost use Rattle.age_scrypt.specs.inner.Turned.{IsTurned};
 
-use crate::mix::block_mix;
 use crate::part::Part;
-use crate::steps::Steps;
+use crate::steps::{Steps, block_mix};
 use crate::turn::{turn, turn_back};
 
 /// How many blocks the table has.

@@ -1,8 +1,13 @@
-//! The count of BlockMix steps.
+//! BlockMix with r = 8 (RFC 7914, section 4), and the count of its steps. They stand in one module,
+//! so that no other code can raise a count.
 
-ghost use Rattle.std.specs.Prelude.{◌≡◌, ℕ, ◌+◌};
+ghost use Rattle.std.specs.Prelude.{◌≡◌, ℕ, ◌+◌, List, length};
 ghost use Rattle.std.specs.Borrow.{ftrue};
+ghost use Rattle.age_scrypt.specs.BlockMix.{block_mix};
+ghost use Rattle.age_scrypt.specs.inner.Turned.{IsTurned};
 
+use crate::part::Part;
+use crate::salsa::salsa20_8;
 use std::marker::Model;
 
 /// A number that no code holds: the proofs of `zero` and `raise` set it.
@@ -52,9 +57,25 @@ impl Steps {
     }
 
     // One more step.
-    pub(crate) fn tick(&mut self)
+    fn tick(&mut self)
         ensures { self.new ≡ self.old + 1 }
     {
         self.count.raise();
     }
+}
+
+/// Mixes a turned block of 256 words into another turned block, which is one step.
+pub(crate) fn block_mix(from: &[u32], to: &mut [u32], steps: &mut Steps)
+    requires from { length from.now ≡ 256 }
+    requires to { length to.old ≡ 256 }
+    ensures mixed { (b : List ℕ) → IsTurned b from.now → IsTurned (block_mix b) to.new }
+    ensures counted { steps.new ≡ steps.old + 1 }
+{
+    let mut x = Part::read(from, 15);
+    for i in 0..16 {
+        x = salsa20_8(x.xor(Part::read(from, i)));
+        // the outputs of even parts, and then those of odd ones
+        x.write(to, i / 2 + i % 2 * 8);
+    }
+    steps.tick();
 }

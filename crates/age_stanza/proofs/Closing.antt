@@ -16,7 +16,7 @@ pub fed_closed : (held piece : List ℕ) (step : Result HeadStep HeadFault) (new
     → TakesPiece held piece step new → Feeds (reading held) piece step (parsing_of closed)
 fed_closed held piece (Ok More) new closed e takes = cc
 fed_closed held piece (Ok (Ready taken h)) new closed e takes = let same : closed ≡ Done = cc in rw same (refl, takes.0, takes.1)
-fed_closed held piece (Err fault) new closed e takes = let same : closed ≡ Failed fault = cc in rw same (refl, takes)
+fed_closed held piece (Err fault) new closed e takes = let same : closed ≡ Failed fault = cc in rw same (refl, takes.0, takes.1)
 
 pub fed_open : (held piece : List ℕ) (step : Result HeadStep HeadFault) (new : List ℕ) → closed_by step ≡ None → TakesPiece held piece step new
     → Feeds (reading held) piece step (reading new)

@@ -27,8 +27,8 @@ abbrev pub IsOpen : Parsing → Type 0
 IsOpen parsing = parsing ≢ complete
 
 -- what is answered to a piece, and what the parser then is: a header exactly where a prefix of the
--- joined bytes is its text; else the first fault of the joined bytes; else more is asked for. A
--- fault stays
+-- joined bytes is its text; else the first fault of the joined bytes; else more is asked for. An
+-- empty piece is refused only after an earlier refusal, which stays
 abbrev pub Feeds : Parsing → List ℕ → Result HeadStep HeadFault → Parsing → Type 0
 Feeds (reading held) piece (Ok More) new = (new ≡ reading (held ++ piece))
     × (length (held ++ piece) < header_limit) × (¬ HasHeader (held ++ piece))
@@ -37,6 +37,7 @@ Feeds (reading held) piece (Ok (Ready taken h)) new = (new ≡ complete) × (tak
     × HeadText h (held ++ take taken piece)
 Feeds (reading held) piece (Err fault) new = (new ≡ refused fault)
     × ((fault ≡ memory_fault) ⊎ ((¬ HasHeader (held ++ piece)) × IsFault (held ++ piece) fault))
+    × (0 < length piece)
 Feeds complete piece result new = Unit {0}
 Feeds (refused fault) piece result new = (result ≡ Err fault) × (new ≡ refused fault)
 

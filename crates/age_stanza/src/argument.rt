@@ -1,6 +1,6 @@
 //! One argument of a stanza.
 
-ghost use Rattle.std.specs.Prelude.{◌≡◌, ◌↔◌, [], length, IsTrue, IfOk};
+ghost use Rattle.std.specs.Prelude.{◌≡◌, ◌↔◌, ◌<◌, [], length, IsTrue, IfOk, OnErr};
 
 use arrayvec::ArrayVec;
 use std::alloc::{AllocError, Global};
@@ -33,9 +33,10 @@ impl Model for Argument {
 }
 
 impl Argument {
-    /// A copy of some bytes. Up to 8 of them take no memory.
+    /// A copy of some bytes. Up to 8 of them take no memory, so only more can be refused.
     pub fn from_slice(alloc: Global, bytes: &[u8]) -> Result<Argument, AllocError>
-        ensures { IfOk result (λ argument. argument ≡ bytes.now) }
+        ensures copied { IfOk result (λ argument. argument ≡ bytes.now) }
+        ensures refused { OnErr result (8 < length bytes.now) }
     {
         let letters = match ArrayVec::try_from(bytes) {
             Ok(short) => Letters::Short(short),

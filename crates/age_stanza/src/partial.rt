@@ -1,7 +1,7 @@
 //! The part of a header that came so far.
 
 ghost use Rattle.std.specs.Prelude.{◌≡◌, ◌++◌, ◌+◌, ◌-◌, ◌<◌, ◌≤◌, [], length, take, OnOk};
-ghost use Rattle.std.specs.Prelude.{IfErr};
+ghost use Rattle.std.specs.Prelude.{IfErr, OnErr};
 ghost use Rattle.age_stanza.specs.Grammar.{header_limit};
 ghost use Rattle.age_stanza.specs.Faults.{line_after, memory_fault, IsLine};
 ghost use Rattle.age_stanza.specs.inner.LineMachine.{fault_at as spec_fault_at, Gives};
@@ -99,6 +99,7 @@ impl PartialHeader {
         requires within { length self.old + length characters.now ≤ header_limit }
         ensures ok { OnOk result (self.new ≡ self.old ++ characters.now) }
         ensures err { IfErr result (λ fault. fault ≡ memory_fault) }
+        ensures some { OnErr result (0 < length characters.now) }
     {
         self.line.extend_from_slice(characters)?;
         self.bytes += characters.len();

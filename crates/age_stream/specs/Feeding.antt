@@ -1,6 +1,6 @@
 -- What an opener is once a call returned and what was lent is back. A chunk has n bytes.
 use Rattle.std.specs.Prelude.{◌≡◌, ℕ, ◌+◌, ◌≤◌, List, [], ◌++◌, length, false, Result}
-use Rattle.std.specs.Prelude.{IfOk, IfErr, OnOk, IfSome, IfNone}
+use Rattle.std.specs.Prelude.{IfOk, IfErr, OnOk, OnErr, IfSome, IfNone}
 use Rattle.std.specs.List.{flat_map}
 use Rattle.std.specs.Borrow.{Bor}
 use Rattle.age_stream.specs.declared.step.Status.TheVariants.{Done, Failed}
@@ -28,11 +28,13 @@ module _ {B : Type 0} (sealing : B → Seals) (opening : B → Opens) (n : ℕ) 
     pub index : IfOk answer (λ step. step.index ≡ new.index)
     pub fault : IfErr answer (λ fault. new.status ≡ Failed fault)
     pub unfailed : OnOk answer (has_failed new.status ≡ false)
-    -- a text that is lent is a whole chunk, and nothing is held; else all that was taken is held
+    -- a text that is lent is a whole chunk, and nothing is held; else all that was taken is held; a
+    -- refusal leaves nothing held
     pub lent : IfOk answer (λ step. IfSome step.chunk (λ chunk. (length chunk.now ≡ n)
         × (length old.held + step.taken ≡ n + 16) × (new.held ≡ [])))
     pub unlent : IfOk answer (λ step. IfNone step.chunk
         (length new.held ≡ length old.held + step.taken))
+    pub refused : OnErr answer (new.held ≡ [])
     pub fits : IfOk answer (λ step. length new.held + length (chunk_bytes step.chunk)
         ≤ length old.held + step.taken)
     pub unchanged : length piece ≡ 0 → new ≡ old
@@ -51,7 +53,7 @@ module _ {B : Type 0} (sealing : B → Seals) (opening : B → Opens) (n : ℕ) 
     pub stands : (s : Segment) → Stands opening n old s → Stands opening n new (with_end s)
     pub fault : IfErr answer (λ fault. new.status ≡ Failed fault)
     pub done : OnOk answer (new.status ≡ Done)
-    pub nothing_held : OnOk answer (new.held ≡ [])
+    pub nothing_held : new.held ≡ []
     -- at last the headline: while what opens is the writer's, Ok comes only with all of the text
     pub written : (s : Segment) → Stands opening n old s
         → ReleasesWritten (sealing old.key) (opening old.key) n (with_end s)

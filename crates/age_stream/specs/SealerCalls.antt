@@ -32,5 +32,9 @@ module _ {B : Type 0} (n : ℕ) (old : SealerView B) where
       (new : SealerView B) : Type 0 where
     pub key : new.key ≡ old.key
     pub finished : OnOk answer (new.finished ≡ true)
+    pub unfailed : OnOk answer (new.failed ≡ false)
+    pub index : OnOk answer (new.index ≡ old.index)
+    -- it holds the block that it lent
+    pub held : IfOk answer (λ block. new.held ≡ block.now)
     pub refused : OnErr answer (IsRefused old new)
     pub unfinished : OnErr answer (new.finished ≡ false)

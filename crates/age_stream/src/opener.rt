@@ -9,7 +9,7 @@ ghost use Rattle.std.specs.Io.BufRead.{Rests};
 ghost use Rattle.age_stream.specs.Headline.{ReleasesWritten};
 ghost use Rattle.age_chunk.specs.Nonce.{nonce_bytes, chunk_limit};
 ghost use Rattle.age_chunk.specs.Payload.{chunk_length, block_length};
-ghost use Rattle.age_stream.specs.declared.step.Status.TheVariants.{Open, LastSeen, Done};
+ghost use Rattle.age_stream.specs.declared.step.Status.TheVariants.{Open};
 ghost use Rattle.age_chunk.specs.declared.fault.StreamFault.{StreamFault as StreamFaultValue};
 
 use crate::buffer::push_bytes;
@@ -22,8 +22,8 @@ use std::marker::Model;
 #[derive(Drop)]
 struct OpenerState<'k, B: ChunkBox, const SEALED: usize> {
     key: &'k B,
-    // the bytes of the block that is open; or the text and the tag of one that was opened, until
-    // the next call
+    // the bytes of the block that is open; or, if lent, the text and the tag of one that was opened,
+    // until the next call
     buffer: ArrayVec<u8, SEALED>,
     lent: bool,
     index: u64,
@@ -31,9 +31,8 @@ struct OpenerState<'k, B: ChunkBox, const SEALED: usize> {
     ghost sizes: { (17 ≤ SEALED) × (SEALED ≤ block_length) },
     ghost limit: { index < chunk_limit },
     ghost room: { status ≡ Open → lent ≡ false → length buffer.items < SEALED },
-    // after the last chunk nothing is held
-    ghost last: { status ≡ LastSeen → (if lent then [] else buffer.items) ≡ [] },
-    ghost done: { status ≡ Done → (if lent then [] else buffer.items) ≡ [] },
+    // only an open block is held
+    ghost closed: { status ≢ Open → (if lent then [] else buffer.items) ≡ [] },
 }
 
 impl<'k, B: ChunkBox, const SEALED: usize> OpenerState<'k, B, SEALED> {
@@ -250,18 +249,19 @@ impl<'k, B: ChunkBox, const SEALED: usize> OpenerState<'k, B, SEALED> {
         }
     }
 
-    // Fails for good.
+    // Fails for good, and holds nothing more.
     fn fail(&mut self, kind: StreamKind) -> StreamFault
         ensures status { self.new.status ≡ failed kind self.old.index }
         ensures fault { Status.Failed result ≡ failed kind self.old.index }
         ensures same { (self.new.index ≡ self.old.index) × (self.new.key ≡ self.old.key)
-            × (self.new.buffer ≡ self.old.buffer) × (self.new.lent ≡ self.old.lent) }
+            × (self.new.buffer ≡ self.old.buffer) × (self.new.lent ≡ true) }
     {
         let fault = StreamFault {
             kind,
             chunk: self.index,
         };
         self.status = Status::Failed(fault);
+        self.lent = true;
         fault
     }
 }
@@ -316,13 +316,26 @@ impl<'k, B: ChunkBox, const SEALED: usize> Opener<'k, B, SEALED> {
             ≡ record { key = key.now; held = []; index = index; status = Status.Open } }
         ensures stands { Stands B.opening (SEALED - 16) result (fresh index) }
     {
+        Opener::between(key, index, Status::Open)
+    }
+
+    /// An opener that holds no byte of the block that is open, by the number
+    /// of its chunk, which is below [`CHUNK_LIMIT`], and its status: for
+    /// a caller that keeps both itself between two calls. Takes no memory.
+    pub fn between(key: &'k B, index: u64, status: Status) -> Self
+        requires least { 17 ≤ SEALED }
+        requires most { SEALED ≤ block_length }
+        requires limit { index < chunk_limit }
+        ensures view { result
+            ≡ record { key = key.now; held = []; index = index; status = status } }
+    {
         Opener {
             state: OpenerState {
                 key,
                 buffer: ArrayVec::new(),
                 lent: false,
                 index,
-                status: Status::Open,
+                status,
             },
         }
     }
@@ -351,10 +364,13 @@ impl<'k, B: ChunkBox, const SEALED: usize> Opener<'k, B, SEALED> {
         matches!(self.state.status, Status::Failed(_))
     }
 
-    /// How many bytes of the block that is open are held, at most 65,552.
+    /// How many bytes of the block that is open are held: fewer than a block
+    /// has, and none once no block is open.
     pub fn held_len(&self) -> usize
         ensures len { result ≡ length self.now.held }
+        ensures below { result < SEALED }
         ensures fits { result ≤ block_length }
+        ensures closed { self.now.status ≢ Open → result ≡ 0 }
     {
         if self.state.lent {
             0

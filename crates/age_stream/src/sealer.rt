@@ -132,6 +132,8 @@ impl<'k, B: ChunkBox, const SEALED: usize> SealerState<'k, B, SEALED> {
     fn close(&mut self) -> Result<(), StreamFault>
         requires { self.old.finished ≡ false }
         ensures ok { OnOk result ((self.new.finished ≡ true) × (self.old.failed ≡ false)) }
+        ensures after { OnOk result ((self.new.failed ≡ false) × (self.new.index ≡ self.old.index)
+            × (held_text self.new ≡ self.new.buffer.items)) }
         ensures fault { IfErr result (λ fault. (self.old.failed ≡ true)
             × (fault ≡ too_many self.old.index)) }
         ensures err { OnErr result (IsRefused (sealer_view self.old) (sealer_view self.new)) }
@@ -152,6 +154,8 @@ impl<'k, B: ChunkBox, const SEALED: usize> SealerState<'k, B, SEALED> {
     fn close_text(&mut self) -> Result<(), StreamFault>
         requires { self.old.finished ≡ false }
         ensures ok { OnOk result ((self.new.finished ≡ true) × (self.old.failed ≡ false)) }
+        ensures after { OnOk result ((self.new.failed ≡ false) × (self.new.index ≡ self.old.index)
+            × (held_text self.new ≡ self.new.buffer.items)) }
         ensures fault { IfErr result (λ fault. (self.old.failed ≡ true)
             × (fault ≡ too_many self.old.index)) }
         ensures err { OnErr result (IsRefused (sealer_view self.old) (sealer_view self.new)) }
@@ -234,10 +238,11 @@ impl<'k, B: ChunkBox, const SEALED: usize> Sealer<'k, B, SEALED> {
         self.state.index
     }
 
-    /// How many bytes of the text of the open chunk are held. Once the last
+    /// How many bytes of the text of the open chunk are held. After the last
     /// chunk was sealed, the length of its block.
     pub fn held_len(&self) -> usize
-        ensures { result ≡ length self.now.held }
+        ensures len { result ≡ length self.now.held }
+        ensures fits { result ≤ SEALED }
     {
         if self.state.beside.is_some() {
             1

@@ -1,6 +1,7 @@
 //! A caller of the sealer: it feeds a text, and copies out the blocks that are lent.
 ghost use Rattle.std.specs.Prelude.{◌≡◌, ◌-◌, ◌≤◌, ◌<◌, ◌+◌, ◌*◌, ◌/◌};
-ghost use Rattle.std.specs.Prelude.{◌^◌, ◌++◌, length, IfOk, IfErr, OnOk, IfSome, IfNone};
+ghost use Rattle.std.specs.Prelude.{◌^◌, ◌++◌, length, take, IfOk, IfErr, OnOk, OnErr, IfSome};
+ghost use Rattle.std.specs.Prelude.{IfNone};
 ghost use Rattle.std.specs.Prelude.{vec_capacity};
 ghost use Rattle.age_chunk.specs.Payload.{payload, chunk_count, block_length};
 ghost use Rattle.age_chunk.specs.Nonce.{chunk_limit};
@@ -91,8 +92,8 @@ pub fn seal_all<B: ChunkBox, const SEALED: usize>(
 
 /// Appends the payload of a text, in chunks of `SEALED - 16` bytes. Memory is
 /// asked for once, before anything is sealed, and only where there is no room
-/// for the payload; where it is refused, nothing changes. That aside, only
-/// a text of more than 2^48 chunks is refused.
+/// for the payload. That aside, only a text of more than 2^48 chunks is
+/// refused. A refusal adds nothing.
 pub fn seal_into<B: ChunkBox, const SEALED: usize>(
     key: &B,
     text: &[u8],
@@ -105,14 +106,17 @@ pub fn seal_into<B: ChunkBox, const SEALED: usize>(
     ensures few { OnOk result (chunk_count (SEALED - 16) text.now ≤ chunk_limit) }
     ensures refused { IfErr result
         (SealRefuses (SEALED - 16) text.now (vec_capacity out.old - length out.old.items)) }
-    ensures unchanged { IfErr result
-        (λ fault. fault ≡ refusals.Memory → out.new.items ≡ out.old.items) }
+    ensures unchanged { OnErr result (out.new.items ≡ out.old.items) }
 {
     let Some(len) = payload_len(text.len(), SEALED - 16) else {
         return Err(SealFault::Memory);
     };
     out.reserve(len)?;
-    seal_within::<B, SEALED>(key, text, out)?;
+    let before = out.len();
+    if let Err(fault) = seal_within::<B, SEALED>(key, text, out) {
+        out.truncate(before);
+        return Err(SealFault::Stream(fault));
+    }
     Ok(())
 }
 
@@ -131,6 +135,8 @@ fn seal_within<B: ChunkBox, const SEALED: usize>(
     ensures few { OnOk result (chunk_count (SEALED - 16) text.now ≤ chunk_limit) }
     ensures refused { IfErr result (λ fault. SealRefuses (SEALED - 16) text.now 0
         (refusals.Stream fault)) }
+    ensures begun { OnErr result
+        (take (length out.old.items) out.new.items ≡ out.old.items) }
 {
     let mut sealer = Sealer::<B, SEALED>::new(key);
     let mut at = 0;

@@ -33,28 +33,32 @@ fn unread(rt: &HostRuntime, error: &io::Error) -> ExitCode {
     ExitCode::from(2)
 }
 
-fn main(rt: HostRuntime) -> ExitCode {
-    let alloc = rt.alloc();
-    let args = match args_of(&rt) {
-        Ok(args) => args,
-        Err(error) => return unread(&rt, &error),
-    };
-    let words = match words_of(alloc, args.as_slice()) {
-        Ok(words) => words,
-        Err(error) => return unread(&rt, &error),
-    };
-    let mut files = HostFiles::new(&rt);
+/// Runs the program on the words after its name, over the machine's files and its own standard
+/// streams.
+fn run_words(rt: &HostRuntime, words: &[&str]) -> ExitCode {
+    let mut files = HostFiles::new(rt);
     let mut input = Reading::new(rt.reader());
-    let mut output = Writing::new(io::writer(&rt));
+    let mut output = Writing::new(io::writer(rt));
     let mut faults = Writing::new(rt.stderr());
     let mut progress = ProgressLine::new(Writing::new(rt.stderr()));
     ExitCode::from(run(
-        alloc,
-        words.as_slice(),
+        rt.alloc(),
+        words,
         &mut files,
         &mut input,
         &mut output,
         &mut faults,
         &mut progress,
     ))
+}
+
+fn main(rt: HostRuntime) -> ExitCode {
+    let args = match args_of(&rt) {
+        Ok(args) => args,
+        Err(error) => return unread(&rt, &error),
+    };
+    match words_of(rt.alloc(), args.as_slice()) {
+        Ok(words) => run_words(&rt, words.as_slice()),
+        Err(error) => unread(&rt, &error),
+    }
 }

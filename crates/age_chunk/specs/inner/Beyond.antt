@@ -11,36 +11,40 @@ use Rattle.age_chunk.specs.Payload.{chunk_length, block_length}
 abbrev pub are_bytes : List ℕ → Bool
 are_bytes = list_all (λ (b : ℕ). nat_lt b 256)
 
--- what a box is ever given: a text of at most 65,536 bytes, and a block of 16 bytes more
-abbrev pub is_text : List ℕ → Bool
-is_text text = are_bytes text && nat_le (length text) chunk_length
+-- what a box is ever given: a nonce of bytes, with a text of at most 65,536 bytes or a block of 16
+-- bytes more
+abbrev pub is_text : List ℕ → List ℕ → Bool
+is_text nonce text =
+    are_bytes nonce && (are_bytes text && nat_le (length text) chunk_length)
 
-abbrev pub is_block : List ℕ → Bool
-is_block block = are_bytes block && (nat_le 16 (length block) && nat_le (length block) block_length)
+abbrev pub is_block : List ℕ → List ℕ → Bool
+is_block nonce block =
+    are_bytes nonce
+    && (are_bytes block && (nat_le 16 (length block) && nat_le (length block) block_length))
 
 -- the law of a box, of these alone
 pub record IsChunkBoxOnBytes (sealing : Seals) (opening : Opens) : Type 0 where
-  pub bytes : (nonce text : List ℕ) → length nonce ≡ 12 → is_text text ≡ true
+  pub bytes : (nonce text : List ℕ) → length nonce ≡ 12 → is_text nonce text ≡ true
       → are_bytes (sealing nonce text) ≡ true
-  pub longer : (nonce text : List ℕ) → length nonce ≡ 12 → is_text text ≡ true
+  pub longer : (nonce text : List ℕ) → length nonce ≡ 12 → is_text nonce text ≡ true
       → length (sealing nonce text) ≡ length text + 16
-  pub opens : (nonce text : List ℕ) → length nonce ≡ 12 → is_text text ≡ true
+  pub opens : (nonce text : List ℕ) → length nonce ≡ 12 → is_text nonce text ≡ true
       → opening nonce (sealing nonce text) ≡ Some text
-  pub only : (nonce text block : List ℕ) → length nonce ≡ 12 → is_block block ≡ true
+  pub only : (nonce text block : List ℕ) → length nonce ≡ 12 → is_block nonce block ≡ true
       → opening nonce block ≡ Some text
-      → (is_text text ≡ true) × (sealing nonce text ≡ block)
+      → (is_text nonce text ≡ true) × (sealing nonce text ≡ block)
 
 -- 16 numbers that are no bytes
 abbrev pub no_tag : List ℕ
 no_tag = replicate 16 256
 
--- a list that is no text is sealed with them in place of a tag
+-- a list that is no text, or any at a nonce that isn't bytes, is sealed with them in place of a tag
 abbrev pub sealing_beyond : Seals → Seals
 sealing_beyond sealing nonce text =
-    if is_text text then sealing nonce text else text ++ no_tag
+    if is_text nonce text then sealing nonce text else text ++ no_tag
 
 abbrev pub opening_beyond : Opens → Opens
 opening_beyond opening nonce block =
     let front = take (length block - 16) block in
-    if is_block block then opening nonce block
-    else (if not (is_text front) && bytes_eq (front ++ no_tag) block then Some front else None)
+    if is_block nonce block then opening nonce block
+    else (if not (is_text nonce front) && bytes_eq (front ++ no_tag) block then Some front else None)

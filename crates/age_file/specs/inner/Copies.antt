@@ -5,7 +5,7 @@ use Rattle.std.specs.Prelude.{MatchResult}
 use Rattle.std.specs.Simd.{first_chunks}
 use Rattle.std.specs.Io.KnownBytes.{Appends, IsAtEnd}
 use Rattle.age_stream.specs.Headline.{IsPrefixOf}
-use Rattle.age_fault.specs.Faults.{HasRisen}
+use Rattle.age_fault.specs.Faults.{HasFailed}
 use Rattle.age_file.specs.Bindings.{chain}
 use Rattle.age_file.specs.inner.Bindings.{link_if, chain_if}
 use Rattle.age_file.specs.declared.position.Positions.{Positions}
@@ -26,7 +26,7 @@ abbrev pub CopyFails : ReaderView → ReaderView → WriterView → WriterView �
 CopyFails old new was now out ShortText = Passes old new out × (new.unread.bytes ≡ [])
     × IsAtEnd new.source.remaining × (now.sink.failed ≡ was.sink.failed)
 CopyFails old new was now out Write = (used : List ℕ) × Passes old new used
-    × IsPrefixOf out (used ++ new.unread.bytes) × HasRisen was.sink.failed now.sink.failed
+    × IsPrefixOf out (used ++ new.unread.bytes) × HasFailed was.sink.failed now.sink.failed now.sink.failing
 CopyFails old new was now out Read = Dries old new out Read × (now.sink.failed ≡ was.sink.failed)
 CopyFails old new was now out ReadNeverEnds = Dries old new out ReadNeverEnds
     × (now.sink.failed ≡ was.sink.failed)

@@ -3,7 +3,7 @@ use Rattle.std.specs.Prelude.{◌≡◌, ℕ, List, ◌++◌, length, Result, Ma
 use Rattle.std.specs.Io.KnownBytes.{Appends}
 use Rattle.age_stanza.specs.Grammar.{HeadText}
 use Rattle.age_keys.specs.Scrypt.{scrypt_head}
-use Rattle.age_fault.specs.Faults.{HasRisen}
+use Rattle.age_fault.specs.Faults.{HasFailed}
 use Rattle.age_fault.specs.declared.fault.FileFault.{FileFault}
 use Rattle.age_fault.specs.declared.fault.FileFault.TheVariants.{Write, Memory}
 use Rattle.age_file.specs.Secrets.{SecretView}
@@ -32,7 +32,7 @@ pub record CutFront (s : SecretView) (was now : WriterView) : Type 0 where
   pub unwritten : List ℕ
   pub parts : front ≡ out ++ unwritten
   pub wrote : Appends was.sink.taken now.sink.taken out
-  pub failed : HasRisen was.sink.failed now.sink.failed
+  pub failed : HasFailed was.sink.failed now.sink.failed now.sink.failing
 
 -- why it was not written
 abbrev pub FrontFails : SecretView → WriterView → WriterView → FileFault → Type 0

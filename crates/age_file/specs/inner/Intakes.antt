@@ -7,7 +7,7 @@ use Rattle.age_io.specs.Views.{SourceView}
 use Rattle.sha2.specs.Hashers.{Holds256}
 use Rattle.age_stanza.specs.Grammar.{HeadText}
 use Rattle.age_file.specs.Faults.{NeverEnds}
-use Rattle.age_fault.specs.Faults.{HasRisen}
+use Rattle.age_fault.specs.Faults.{HasFailed}
 use Rattle.age_file.specs.inner.Readers.{ReaderView}
 use Rattle.age_file.specs.declared.head.Head.{Head}
 use Rattle.age_fault.specs.declared.fault.FileFault.{FileFault}
@@ -22,7 +22,7 @@ pub record Pulled (start now : Option (List ℕ)) (pulls : ℕ) (bytes : List �
 
 -- why a source gave nothing: the pull failed, or none was made, after so many that gave some
 abbrev pub PullFails : ReaderView → ReaderView → FileFault → Type 0
-PullFails old new Read = HasRisen old.source.failed new.source.failed
+PullFails old new Read = HasFailed old.source.failed new.source.failed new.source.failing
 PullFails old new ReadNeverEnds = (new.unread.pulls ≡ 2 ^ 63)
     × (new.source.failed ≡ old.source.failed)
 PullFails old new other = ⊥
@@ -60,7 +60,7 @@ CountsRest old new count = (start : Option (List ℕ)) (used : List ℕ)
 
 -- why the rest could not be read
 abbrev pub RestFails : ReaderView → ReaderView → FileFault → Type 0
-RestFails old new Read = HasRisen old.source.failed new.source.failed
+RestFails old new Read = HasFailed old.source.failed new.source.failed new.source.failing
 RestFails old new ReadNeverEnds = (start : Option (List ℕ)) (used : List ℕ)
     → Pulled start old.source.remaining old.unread.pulls (used ++ old.unread.bytes)
     → NeverEnds start new.source.remaining

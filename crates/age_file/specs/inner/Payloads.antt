@@ -7,7 +7,7 @@ use Rattle.std.specs.Io.KnownBytes.{Appends, IsAtEnd}
 use Rattle.age_stream.specs.declared.step.Status.TheVariants.{Failed, Done}
 use Rattle.age_stream.specs.Segment.{Segment, outcome, released}
 use Rattle.age_stream.specs.Headline.{IsPrefixOf}
-use Rattle.age_fault.specs.Faults.{HasRisen}
+use Rattle.age_fault.specs.Faults.{HasFailed}
 use Rattle.age_file.specs.Ports.{NoneFailed}
 use Rattle.age_file.specs.inner.Readers.{Stage, ports_at}
 use Rattle.age_file.specs.inner.Intakes.{Pulled}
@@ -28,9 +28,9 @@ module _ (opening : List ℕ → List ℕ → Option (List ℕ)) (n : ℕ) where
   abbrev pub PayloadFails : Stage → Stage → Segment → List ℕ → FileFault → Type 0
   PayloadFails old new s out (Stream fault) = ((outcome opening n s).status ≡ Failed fault)
       × (out ≡ released opening n s) × NoneFailed (ports_at old) (ports_at new)
-  PayloadFails old new s out Write = HasRisen old.writer.sink.failed new.writer.sink.failed
+  PayloadFails old new s out Write = HasFailed old.writer.sink.failed new.writer.sink.failed new.writer.sink.failing
   PayloadFails old new s out Read = (out ≡ released opening n s)
-      × HasRisen old.reader.source.failed new.reader.source.failed
+      × HasFailed old.reader.source.failed new.reader.source.failed new.reader.source.failing
   PayloadFails old new s out ReadNeverEnds = (out ≡ released opening n s)
       × (new.reader.unread.pulls ≡ 2 ^ 63)
       × NoneFailed (ports_at old) (ports_at new)

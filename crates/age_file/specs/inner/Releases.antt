@@ -8,7 +8,7 @@ use Rattle.age_stream.specs.declared.step.Status.TheVariants.{Failed, Done}
 use Rattle.age_stream.specs.Segment.{Segment, released}
 use Rattle.age_stream.specs.Deliveries.{with_piece, with_end}
 use Rattle.age_stream.specs.Opening.{OpenerView, Stands}
-use Rattle.age_fault.specs.Faults.{HasRisen}
+use Rattle.age_fault.specs.Faults.{HasFailed}
 use Rattle.age_file.specs.inner.Readers.{WriterView}
 use Rattle.age_file.specs.inner.Counts.{CountsChunks}
 use Rattle.age_file.specs.declared.position.Positions.{Positions}
@@ -40,7 +40,7 @@ module _ {B : Type 0} (opening : B → List ℕ → List ℕ → Option (List �
       → Type 0
   FeedFails new was now left unwritten (Stream fault) = (new.status ≡ Failed fault) × (left ≡ [])
       × (unwritten ≡ []) × (now.sink.failed ≡ was.sink.failed)
-  FeedFails new was now left unwritten Write = HasRisen was.sink.failed now.sink.failed
+  FeedFails new was now left unwritten Write = HasFailed was.sink.failed now.sink.failed now.sink.failing
   FeedFails new was now left unwritten other = ⊥
 
   -- what the opener holds and what was written is no more than what it held, and was fed

@@ -8,7 +8,7 @@ use Rattle.age_chunk.specs.Nonce.{chunk_limit}
 use Rattle.age_stream.specs.Sealing.{SealerView, Holds, too_many}
 use Rattle.age_chunk.specs.Payload.{sealed_before_last, block_bytes, payload, chunk_count}
 use Rattle.age_stream.specs.Headline.{IsPrefixOf}
-use Rattle.age_fault.specs.Faults.{HasRisen}
+use Rattle.age_fault.specs.Faults.{HasFailed}
 use Rattle.age_file.specs.Ports.{Ports, NoneFailed}
 use Rattle.age_file.specs.inner.Readers.{WriterView}
 use Rattle.age_fault.specs.declared.fault.FileFault.{FileFault}
@@ -51,7 +51,7 @@ module _ {B : Type 0} (sealing : B → List ℕ → List ℕ → List ℕ) (n : 
   abbrev pub SealFails : SealerView B → WriterView → WriterView → List ℕ → FileFault → Type 0
   SealFails old was now piece (Stream fault) = IsTooLong n old piece
       × (fault ≡ too_many (chunk_limit - 1))
-  SealFails old was now piece Write = HasRisen was.sink.failed now.sink.failed
+  SealFails old was now piece Write = HasFailed was.sink.failed now.sink.failed now.sink.failing
   SealFails old was now piece other = ⊥
 
   -- of a piece the sealer was fed the front; its blocks grew by what was written, and by what
@@ -100,7 +100,7 @@ module _ {B : Type 0} (sealing : B → List ℕ → List ℕ → List ℕ) (n : 
     pub blocks : (text : List ℕ) → Holds n old text → payload (sealing old.key) n text
         ≡ front_of (sealing old.key) n text ++ (out ++ unwritten)
     pub answered : MatchResult result (λ _. (unwritten ≡ []) × (now.sink.failed ≡ was.sink.failed))
-        (λ fault. (fault ≡ Write) × HasRisen was.sink.failed now.sink.failed)
+        (λ fault. (fault ≡ Write) × HasFailed was.sink.failed now.sink.failed now.sink.failing)
 
 -- ---- a whole source
 
@@ -116,8 +116,8 @@ pub record ReadsWrites (old new : Ports) (written_old written_new : ℕ) (text o
 abbrev pub SealingFails : ℕ → Ports → Ports → List ℕ → FileFault → Type 0
 SealingFails n old new text (Stream fault) = (chunk_limit * n < length text)
     × (fault ≡ too_many (chunk_limit - 1))
-SealingFails n old new text Read = HasRisen old.source.failed new.source.failed
-SealingFails n old new text Write = HasRisen old.sink.failed new.sink.failed
+SealingFails n old new text Read = HasFailed old.source.failed new.source.failed new.source.failing
+SealingFails n old new text Write = HasFailed old.sink.failed new.sink.failed new.sink.failing
 SealingFails n old new text ReadNeverEnds = 2 ^ 63 ≤ length text
 SealingFails n old new text other = ⊥
 

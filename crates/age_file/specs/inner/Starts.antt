@@ -9,7 +9,7 @@ use Rattle.age_stanza.specs.Grammar.{HeadText}
 use Rattle.sha2.specs.Hashers.{Holds256}
 use Rattle.sha2.specs.declared.Sha256.{Sha256}
 use Rattle.age_keys.specs.Opened.{Opens}
-use Rattle.age_fault.specs.Faults.{HasRisen}
+use Rattle.age_fault.specs.Faults.{HasFailed}
 use Rattle.age_file.specs.Bindings.{file_id}
 use Rattle.age_file.specs.inner.Readers.{ReaderView}
 use Rattle.age_file.specs.inner.Intakes.{Pulled, PullFails}
@@ -38,7 +38,7 @@ UsesShort old new = (short : List ℕ) × (length short < 16) × Uses old new sh
 
 abbrev pub NonceFails : ReaderView → ReaderView → FileFault → Type 0
 NonceFails old new NonceCut = UsesShort old new × IsAtEnd new.source.remaining
-NonceFails old new Read = UsesShort old new × HasRisen old.source.failed new.source.failed
+NonceFails old new Read = UsesShort old new × HasFailed old.source.failed new.source.failed new.source.failing
 NonceFails old new ReadNeverEnds = UsesShort old new × (new.unread.pulls ≡ 2 ^ 63)
 NonceFails old new other = ⊥
 

@@ -3,30 +3,46 @@ use Rattle.std.specs.Prelude.{◌≡◌, ◌⊎◌, ℕ, List, refl}
 use Rattle.std.specs.Coded.{Coded, coded_ℕ, coded_list, coded⊎, code_by}
 use base.Stored.{coded_unit}
 use mathlib.Core.Logic.{inl, inr}
-use Rattle.age_fileset.specs.Events.{Event, Opened, Created, Replaced, Closed}
+use Rattle.age_io.specs.declared.durability.Durability.{Durability}
+use Rattle.age_io.specs.declared.durability.Durability.TheVariants.{Synced, Buffered}
+use Rattle.age_fileset.specs.Events.{Event, Opened, Prepared, Created, Replaced, Closed}
 
--- an event's parts, for the form in which ghost state is kept
+-- an event's parts, for the form in which ghost state is kept: what has a name, and what has none,
+-- each with what tells it apart
 abbrev Parts : Type 0
-Parts = List ℕ ⊎ (List ℕ ⊎ (List ℕ ⊎ Unit {0}))
+Parts = List ℕ ⊎ (List ℕ ⊎ (List ℕ ⊎ (List ℕ ⊎ (List ℕ ⊎ (Unit {0} ⊎ Unit {0})))))
 
 abbrev split : Event → Parts
 split (Opened name) = inl name
-split (Created name) = inr (inl name)
-split (Replaced name) = inr (inr (inl name))
-split Closed = inr (inr (inr tt))
+split (Prepared name) = inr (inl name)
+split (Created name) = inr (inr (inl name))
+split (Replaced name Synced) = inr (inr (inr (inl name)))
+split (Replaced name Buffered) = inr (inr (inr (inr (inl name))))
+split (Closed Synced) = inr (inr (inr (inr (inr (inl tt)))))
+split (Closed Buffered) = inr (inr (inr (inr (inr (inr tt)))))
 
 abbrev join : Parts → Event
 join (inl name) = Opened name
-join (inr (inl name)) = Created name
-join (inr (inr (inl name))) = Replaced name
-join (inr (inr (inr _))) = Closed
+join (inr (inl name)) = Prepared name
+join (inr (inr (inl name))) = Created name
+join (inr (inr (inr (inl name)))) = Replaced name Synced
+join (inr (inr (inr (inr (inl name))))) = Replaced name Buffered
+join (inr (inr (inr (inr (inr (inl _)))))) = Closed Synced
+join (inr (inr (inr (inr (inr (inr _)))))) = Closed Buffered
 
 pub join-split : (e : Event) → join (split e) ≡ e
 join-split (Opened name) = refl
+join-split (Prepared name) = refl
 join-split (Created name) = refl
-join-split (Replaced name) = refl
-join-split Closed = refl
+join-split (Replaced name Synced) = refl
+join-split (Replaced name Buffered) = refl
+join-split (Closed Synced) = refl
+join-split (Closed Buffered) = refl
+
+abbrev coded_named : Coded (List ℕ)
+coded_named = coded_list coded_ℕ
 
 abbrev pub coded_event : Coded Event
-coded_event = code_by Parts (coded⊎ (coded_list coded_ℕ) (coded⊎ (coded_list coded_ℕ)
-    (coded⊎ (coded_list coded_ℕ) coded_unit))) split join join-split
+coded_event = code_by Parts (coded⊎ coded_named (coded⊎ coded_named (coded⊎ coded_named
+    (coded⊎ coded_named (coded⊎ coded_named (coded⊎ coded_unit coded_unit)))))) split join
+    join-split

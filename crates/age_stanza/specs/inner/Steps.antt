@@ -26,8 +26,8 @@ abbrev pub ReadsLines : List ℕ → List ℕ → Result HeadStep HeadFault → 
 ReadsLines held bytes (Ok More) new = new ≡ held ++ bytes
 ReadsLines held bytes (Ok (Ready taken h)) new = (taken ≤ length bytes)
     × (walk Start 1 [] (held ++ bytes) ≡ ready h (drop taken bytes))
-ReadsLines held bytes (Err fault) new = (fault ≡ memory_fault)
-    ⊎ (walk Start 1 [] (held ++ bytes) ≡ faulty fault)
+ReadsLines held bytes (Err fault) new = ((fault ≡ memory_fault)
+    ⊎ (walk Start 1 [] (held ++ bytes) ≡ faulty fault)) × (0 < length bytes)
 
 -- a piece, of which no more is read than the limit allows
 abbrev pub TakesPiece : List ℕ → List ℕ → Result HeadStep HeadFault → List ℕ → Type 0
@@ -35,5 +35,5 @@ TakesPiece held piece (Ok More) new = (new ≡ held ++ piece)
     × (length (held ++ piece) < header_limit) × IsUnderWay (held ++ piece)
 TakesPiece held piece (Ok (Ready taken h)) new = (taken ≤ length piece)
     × HeadText h (held ++ take taken piece)
-TakesPiece held piece (Err fault) new = (fault ≡ memory_fault)
-    ⊎ ((HasHeader (held ++ piece) → ⊥) × IsFault (held ++ piece) fault)
+TakesPiece held piece (Err fault) new = ((fault ≡ memory_fault)
+    ⊎ ((HasHeader (held ++ piece) → ⊥) × IsFault (held ++ piece) fault)) × (0 < length piece)

@@ -1,7 +1,7 @@
 use Rattle.std.proofs.Common.{min, ◌^◌, ◌≡◌, ◌+◌, ◌-◌, length, take, drop, refl, sym, ap, subst, ◌∙◌, arith, take-add, ◌++◌, List, ℕ}
 use Rattle.std.proofs.lemmas.List.{take_rest, length-take, length-drop, take-append-drop}
 use Rattle.std.specs.Io.KnownBytes.{Appends}
-use Rattle.age_fault.proofs.Bytes.{Appends-then, Appends-Keeps, risen}
+use Rattle.age_fault.proofs.Bytes.{Appends-then, Appends-Keeps}
 use Rattle.age_fault.proofs.put.write_all.Goals as goal
 
 pub returns-in-Err-clause-writes : goal.returns-in-Err-clause-writes
@@ -16,7 +16,7 @@ returns-in-Err-clause-writes g c =
       wrote = Appends-Keeps _ _ _ _ kept.wrote put.bytes;
       count = omega (arith, kept.count, kept.within, length-take c.loop-at.at c.args.bytes.now);
       stopped = omega (arith, c.loop-at-test.true, length-drop at c.args.bytes.now);
-      answered = risen _ _ (put.counted ∙ ap (λ k. min (k + 1) (2 ^ 64 - 1)) kept.failed);
+      answered = (put.counted ∙ ap (λ k. min (k + 1) (2 ^ 64 - 1)) kept.failed, put.last);
     }
 
 pub returns-in-Err-clause-fault : goal.returns-in-Err-clause-fault

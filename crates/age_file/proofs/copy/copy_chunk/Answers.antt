@@ -5,7 +5,7 @@ use Rattle.std.proofs.KnownBytes.{Appends-nil}
 use Rattle.std.specs.Io.KnownBytes.{Appends}
 use Rattle.sha2.specs.Hashers.{Holds256}
 use Rattle.age_stream.specs.Headline.{IsPrefixOf}
-use Rattle.age_fault.specs.Faults.{HasRisen}
+use Rattle.age_fault.specs.Faults.{HasFailed}
 use Rattle.age_file.specs.inner.Bindings.{link_if}
 use Rattle.age_file.specs.inner.Readers.{reader_view, view_of_reader, view_of_writer}
 use Rattle.age_fault.proofs.Bytes.{Appends-then}
@@ -112,7 +112,7 @@ returns-in_err-write_all-clause-copied g c =
           used,
           subst (λ (t : List ℕ). IsPrefixOf (kept.copied ++ put.out) (kept.copied ++ t)) c.bytes-in-parts.ensures.bytes
               (front_written kept.copied put.out put.unwritten bytes n put.parts),
-          subst (λ (m : ℕ). HasRisen m (g.O.Sink.view c.write_all.new.sink).failed)
+          subst (λ (m : ℕ). HasFailed m (g.O.Sink.view c.write_all.new.sink).failed (g.O.Sink.view c.write_all.new.sink).failing)
               kept.failures put.answered,
         ),
       );

@@ -2,7 +2,7 @@ use Rattle.std.proofs.Common.{◌≡◌, ◌++◌, ℕ, List, refl, subst, rules
 use Rattle.std.proofs.lemmas.Result.{err_from_is_err_and}
 use Rattle.std.specs.Io.KnownBytes.{Consumes, IsAtEnd}
 use Rattle.age_file.specs.Faults.{HeadFails}
-use Rattle.age_fault.specs.Faults.{HasRisen}
+use Rattle.age_fault.specs.Faults.{HasFailed}
 use Rattle.age_file.specs.inner.Intakes.{Pulled, RestFails}
 use Rattle.age_io.specs.Views.{SourceView}
 use Rattle.age_file.specs.inner.Readers.{ReaderView, view_of_reader}
@@ -16,7 +16,7 @@ use Rattle.age_file.proofs.inspection.inspect.Goals as goal
 rest_to_head : (first : SourceView) (mid now : ReaderView) (front : List ℕ) (fault : FileFault) → mid.source.failed ≡ first.failed
     → Pulled first.remaining mid.source.remaining mid.unread.pulls (front ++ mid.unread.bytes)
     → RestFails mid now fault → HeadFails first now.source fault
-rest_to_head first mid now front Read same h f = subst (λ (k : ℕ). HasRisen k now.source.failed) same f
+rest_to_head first mid now front Read same h f = subst (λ (k : ℕ). HasFailed k now.source.failed now.source.failing) same f
 rest_to_head first mid now front ReadNeverEnds same h f = f first.remaining front h
 rest_to_head first mid now front other same h f = absurd f
 

@@ -1,5 +1,5 @@
 use Rattle.std.proofs.Common.{ap, ◌∙◌, ◌+◌, ◌-◌, ◌^◌, min, ℕ}
-use Rattle.age_fault.proofs.Bytes.{Appends-Keeps, risen, answer_as}
+use Rattle.age_fault.proofs.Bytes.{Appends-Keeps, answer_as}
 use Rattle.age_file.proofs.sealing.finish.Goals as goal
 
 pub returns-clause-sealed : goal.returns-clause-sealed
@@ -13,5 +13,5 @@ returns-clause-sealed g c =
       wrote = record { bytes = Appends-Keeps _ _ _ _ last.wrote.bytes flushed.bytes; count = last.wrote.count };
       blocks = last.blocks;
       answered = answer_as c.flush_all.result flushed.counted flushed.fault (λ _ same. (last.answered.0, same ∙ last.answered.1))
-          (λ _ is more. (is, risen _ _ (more ∙ ap (λ (k : ℕ). min (k + 1) (2 ^ 64 - 1)) last.answered.1)));
+          (λ _ is more. (is, (more.0 ∙ ap (λ (k : ℕ). min (k + 1) (2 ^ 64 - 1)) last.answered.1, more.1)));
     }

@@ -7,7 +7,7 @@ use Rattle.age_file.specs.inner.Boxes.{opens, seals}
 use Rattle.age_keys.specs.inner.PayloadBox.{box_valid}
 use Rattle.age_file.specs.inner.Readers.{reader_view, view_of_writer}
 use Rattle.age_file.specs.inner.Intakes.{Pulled}
-use Rattle.age_fault.specs.Faults.{HasRisen}
+use Rattle.age_fault.specs.Faults.{HasFailed}
 use Rattle.age_file.specs.inner.Seals.{Wrote, front_of, SealingFails, SealsAll, SealsFront}
 use Rattle.age_file.specs.Ports.{ports}
 use Rattle.age_fault.specs.declared.fault.FileFault.{FileFault}
@@ -180,7 +180,7 @@ returns-in_err-finish-clause-fails g c =
       out = front_of (seals a.key) n kept.text ++ l.out;
       moved = record { read = all.consumed; wrote = out.bytes; count = out.count; small = small };
       prefix = last_begins seals n a b was mid now kept.text kept.goes.key (kept.goes.holds [] kept.fresh) kept.wrote l.out l.unwritten l.wrote l.blocks;
-      fails = subst (λ (f : FileFault). SealingFails n old new kept.text f) (sym l.answered.0) (subst (λ (k : ℕ). HasRisen k new.sink.failed) kept.write_failed
+      fails = subst (λ (f : FileFault). SealingFails n old new kept.text f) (sym l.answered.0) (subst (λ (k : ℕ). HasFailed k new.sink.failed new.sink.failing) kept.write_failed
           l.answered.1);
     }))
 

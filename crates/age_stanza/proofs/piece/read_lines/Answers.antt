@@ -23,7 +23,8 @@ end_line-requires-clause-within c =
 pub returns-in_err-header : goal.returns-in_err-header
 returns-in_err-header c =
     let p = err_from_is_err_and c.from_residual.result c.from_residual.ensures.1 in
-    rw (p.1, p.2) (faulty_at _ _ _ _ _ _ (first_line _ _ (sym c.in-Some.ensures)) c.loop-end.invariant.same refl c.in_err-header.ensures)
+    let first = first_line c.loop-end.rest.now c.in-Some.end (sym c.in-Some.ensures) in
+    rw (p.1, p.2) (faulty_at _ _ _ _ _ _ first c.loop-end.invariant.same refl c.in_err-header.ensures, omega (arith, first.within, c.loop-end.invariant.within))
 
 pub returns-in-Some-2 : goal.returns-in-Some-2
 returns-in-Some-2 c =

@@ -9,7 +9,18 @@ returns-in_err-len g c =
     let p = err_from_is_err_and c.from_residual.result c.from_residual.ensures.1 in
     let e = c.in_err-len.ensures in
     rw (← c.self.view_is, p.1, p.2) (
-      (refl, λ _. tt, record { key = ap (λ k. k.now) e.key; stands = e.stands; fault = e.fault; done = tt; nothing_held = tt; written = e.written }),
+      (
+        refl,
+        λ _. tt,
+        record {
+          key = ap (λ k. k.now) e.key;
+          stands = e.stands;
+          fault = e.fault;
+          done = tt;
+          nothing_held = c.close.new.self.closed (λ open_. cc (open_, e.fault));
+          written = e.written;
+        },
+      ),
       record { after = tt; text = e.text; len = tt; fits = tt; again = e.again; unfailed = tt },
     )
 

@@ -64,8 +64,7 @@ invariant_of-self g c = record {
   sizes = c.args.self.now.sizes;
   limit = c.settle.new.self.limit;
   room = λ done. cc;
-  last = λ _. refl;
-  done = λ _. refl;
+  closed = λ _. refl;
 }
 
 pub returns-then-open_in-clause-ends : goal.returns-then-open_in-clause-ends
@@ -101,8 +100,7 @@ invariant_of-self-else-open_in g c =
       sizes = c.args.self.now.sizes;
       limit = c.settle.new.self.limit;
       room = λ o l. omega (arith, c.open_in.ensures.len, c.settle.new.self.room o l);
-      last = λ e. cc (e, open_);
-      done = λ e. cc (e, open_);
+      closed = λ shut. absurd (shut open_);
     }
 
 pub returns-clause-ends : goal.returns-clause-ends

@@ -26,8 +26,7 @@ invariant_of-self g c =
       sizes = c.args.self.now.sizes;
       limit = c.settle.new.self.limit;
       room = λ _ _. omega (arith, ap length c.push_bytes.ensures, length-append c.settle.new.self.buffer.items c.args.piece.now);
-      last = λ e. cc (e, open_);
-      done = λ e. cc (e, open_);
+      closed = λ shut. absurd (shut open_);
     }
 
 pub returns-then-piece-room-clause-part : goal.returns-then-piece-room-clause-part
@@ -63,8 +62,7 @@ invariant_of-self-2 g c = record {
   sizes = c.args.self.now.sizes;
   limit = c.settle.new.self.limit;
   room = λ open_ shut. cc;
-  last = λ _. refl;
-  done = λ _. refl;
+  closed = λ _. refl;
 }
 
 pub try_block-requires : goal.try_block-requires

@@ -25,8 +25,7 @@ invariant_of-self g c = record {
   sizes = c.args.self.now.sizes;
   limit = c.args.self.now.limit;
   room = λ _ unlent. cc (unlent, c.requires.lent);
-  last = λ e. cc (e, c.requires.open);
-  done = λ e. cc (e, c.requires.open);
+  closed = λ shut. absurd (shut c.requires.open);
 }
 
 pub invariant_of-self-then-open_in-2 : goal.invariant_of-self-then-open_in-2
@@ -34,8 +33,7 @@ invariant_of-self-then-open_in-2 g c = record {
   sizes = c.args.self.now.sizes;
   limit = c.args.self.now.limit;
   room = λ _ unlent. cc (unlent, c.requires.lent);
-  last = λ _. ap (λ (lent : Bool). if lent then [] else c.open_in-2.new.buffer.items) c.requires.lent;
-  done = λ _. ap (λ (lent : Bool). if lent then [] else c.open_in-2.new.buffer.items) c.requires.lent;
+  closed = λ _. ap (λ (lent : Bool). if lent then [] else c.open_in-2.new.buffer.items) c.requires.lent;
 }
 
 pub returns-then-index : goal.returns-then-index

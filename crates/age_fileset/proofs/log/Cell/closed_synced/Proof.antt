@@ -1,6 +1,7 @@
--- A count is closedd: the code does nothing, and the walk gives the borrow back at the next number.
+-- An event is noted: the code does nothing, and the walk gives the borrow back at the next number.
 use Rattle.std.proofs.Common.{◌++◌, [], ◌∷◌, refl}
 use Rattle.std.proofs.raw_atomic.Walks.{proved}
+use Rattle.age_io.specs.declared.durability.Durability.TheVariants.{Synced}
 use Rattle.age_fileset.specs.Events.{Closed}
 use base.Fml.{ftrue, flft}
 use base.Logic.{id⊢}
@@ -14,21 +15,21 @@ use denote.Signature.{plain}
 use denote.Steps.{nothing, opens, closes}
 use denote.Triple.Walked.{Stays, says, stay_ref, Goes-ref, ends_at}
 use Rattle.age_fileset.specs.contracts.log.Cell.{the_row as R}
-use Rattle.age_fileset.specs.contracts.log.Cell.closed as f
-use Rattle.age_fileset.proofs.log.Cell.closed.Statement.{statement}
-use Rattle.age_fileset.proofs.log.Cell.closed.Code as code
+use Rattle.age_fileset.specs.contracts.log.Cell.closed_synced as f
+use Rattle.age_fileset.proofs.log.Cell.closed_synced.Statement.{statement}
+use Rattle.age_fileset.proofs.log.Cell.closed_synced.Code as code
 
 abbrev stayed : Stays f.ended.signature.params f.ended.kept
 stayed = (stay_ref (0 ∷ []) tt (plain (λ _. R)), tt)
 
-pub closed_spec : {M : Type 1} → statement M
-closed_spec 𝓤 𝓛 𝓜 𝓡 wired =
+pub closed_synced_spec : {M : Type 1} → statement M
+closed_synced_spec 𝓤 𝓛 𝓜 𝓡 wired =
     let c = f.clauses 𝓛 𝓜.mem 𝓡.returns in
     proved 𝓛 f.ended stayed c 𝓜 𝓡 (Goes-ref 𝓛 1 0 tt (plain (λ _. R)), tt)
     f.Key.name code.function (code.unfolded 𝓤 𝓛.H 𝓜 𝓡 wired)
     (λ κs. (mut_vals, tt)) (λ κs. (mut_Tells (named 0) κs.0 R, tt)) (λ κs qs bounds a _ are.
     let b = a.0.ref_ptr.0 in let o = a.0.ref_ptr.1 in let vs = mut_vals a.0 in
-    let next = record a.0.now { events = a.0.now.events ++ Closed ∷ [] } in
+    let next = record a.0.now { events = a.0.now.events ++ Closed Synced ∷ [] } in
     qed 𝓛 (((‵ (flft κs.0 qs.0) ⊛ ‵ ftrue) ⊛ ‵ ((MutRef (named 0) κs.0 R).own_val a.0 vs) ⊛ ‵ ftrue) ∷ ‵ ftrue ∷ []) ∵
     split ! $ split ! $ move ! (2 ∷ []) $ split ! $ keep ! (0 ∷ 2 ∷ []) $
     enter ! _ _ _ _ _ $ alloc_all ! (λ l. pass_all ! refl ((tt, tt), tt) $

@@ -28,12 +28,13 @@ use denote.Triple.Entry.{on_entry}
 use denote.Triple.Spec.{Meets, triple_of}
 use denote.Triple.Table.{entered}
 use denote.Triple.Walked.{says, Stays, stay_ref, stay_none_slice, walk_of, AllGo, Goes-ref, Goes-none_slice, Walks, ends_at, walked, walk_Meets}
+use Rattle.age_io.specs.declared.durability.Durability.TheVariants.{Synced}
 use Rattle.age_fileset.specs.Events.{Replaced}
 use Rattle.age_fileset.specs.declared.log.Cell.{Cell}
 use Rattle.age_fileset.specs.contracts.log.Cell.{the_row as R}
-use Rattle.age_fileset.specs.contracts.log.Cell.replaced as it
-use Rattle.age_fileset.proofs.log.Cell.replaced.Statement as stated
-use Rattle.age_fileset.proofs.log.Cell.replaced.Code as code
+use Rattle.age_fileset.specs.contracts.log.Cell.replaced_synced as it
+use Rattle.age_fileset.proofs.log.Cell.replaced_synced.Statement as stated
+use Rattle.age_fileset.proofs.log.Cell.replaced_synced.Code as code
 
 abbrev Arg : Type 0
 Arg = MutBor Cell × (Bor (List ℕ) × Unit {0})
@@ -49,7 +50,7 @@ module _ {M : Type 1} {𝓤 : Ura M} (𝓛 : Logic 𝓤) (at_mem : Memory → SP
   x = (record { ref_ptr = (b, o); ghost_name = γ; now = h }, (s, tt))
 
   abbrev h' : Cell
-  h' = record { events = h.events ++ Replaced s.now ∷ [] }
+  h' = record { events = h.events ++ Replaced s.now Synced ∷ [] }
 
   abbrev at : List Val × (List Val × Unit {0})
   at = (vptr b o ∷ [], (slice_val s.ref_ptr (length s.now) ∷ [], tt))
@@ -101,9 +102,9 @@ meets : {M : Type 1} {𝓤 : Ura M} (𝓛 : Logic 𝓤) → (at_mem : Memory →
 meets {𝓤 = 𝓤} 𝓛 at_mem run 𝓣 = walk_Meets 𝓛 it.ended stayed (goes 𝓛 at_mem run) (it.clauses 𝓛 at_mem run) (WpFn 𝓤 𝓛.H 𝓣.C 𝓣.Λ code.function)
     (WpFn-mono 𝓤 𝓛.H 𝓛.laws 𝓣 code.function) (walks 𝓛 at_mem run 𝓣.C 𝓣.Λ)
 
-pub replaced_spec : {M : Type 1} → stated.statement M
+pub replaced_synced_spec : {M : Type 1} → stated.statement M
 unfolding tables_of
-replaced_spec 𝓤 𝓛 𝓜 𝓡 wired =
+replaced_synced_spec 𝓤 𝓛 𝓜 𝓡 wired =
     entered 𝓤 𝓛.H (triple_of 𝓛 it.signature (it.spec 𝓛 𝓜.mem 𝓡.returns))
     (tables 𝓤 𝓛.H 𝓜 𝓡 𝓡.env).C (tables 𝓤 𝓛.H 𝓜 𝓡 𝓡.env).Λ it.Key.name code.function (code.unfolded 𝓤 𝓛.H 𝓜 𝓡 wired)
     (meets 𝓛 𝓜.mem 𝓡.returns (tables_of 𝓤 𝓛.H 𝓜 (tables 𝓤 𝓛.H 𝓜 𝓡 𝓡.env)))

@@ -2,7 +2,7 @@ use Rattle.std.proofs.Common.{◌≡◌, ◌+◌, ◌*◌, ◌/◌, ◌%◌, ◌
 use Rattle.age_scrypt.specs.BlockMix.{part, x_part}
 use Rattle.age_scrypt.specs.inner.Lanes.{words}
 use Rattle.age_scrypt.specs.inner.Turned.{turned, IsTurned}
-use Rattle.age_scrypt.proofs.mix.block_mix.Given as goal
+use Rattle.age_scrypt.proofs.steps.block_mix.Given as goal
 
 abbrev pub invariant-loop-i : goal.invariant-loop-i
 invariant-loop-i l = record {

@@ -4,7 +4,7 @@ use Rattle.age_scrypt.specs.BlockMix.{part, x_part, xor_words}
 use Rattle.age_scrypt.specs.inner.Lanes.{words}
 use Rattle.age_scrypt.specs.inner.Turned.{turned, IsTurned}
 use Rattle.age_scrypt.proofs.TurnLemmas.{zip2-turned, length-part, length-chained, mixed_turned}
-use Rattle.age_scrypt.proofs.mix.block_mix.Goals as goal
+use Rattle.age_scrypt.proofs.steps.block_mix.Goals as goal
 
 pub loop-i-init : goal.loop-i-init
 unfolding x_part
