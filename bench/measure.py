@@ -1,15 +1,20 @@
 """What the benchmarks measure."""
 import os
 import pathlib
+import select
+import subprocess
 import time
 import typing
 
+TOP = pathlib.Path(__file__).resolve().parent.parent
+
 
 class Cost(typing.NamedTuple):
-    """Seconds that a process took: of a processor (user and system), and on the wall."""
+    """What a process took: seconds of a processor (user and system), seconds on the wall, and MiB of resident memory at most."""
 
     processor: float
     wall: float
+    memory: float
 
 
 def least(call, turns):
@@ -23,18 +28,28 @@ def least(call, turns):
     return best
 
 
-def cost(child, start):
-    """Waits until a process ends that began at `start`, and returns its status and what it took."""
-    _, status, usage = os.wait4(child, 0)
+def program():
+    """The program, which ./age_tool builds if it has to."""
+    with open(TOP / "crates" / "age_tool" / "stdin") as report:
+        subprocess.run([TOP / "age_tool"], stdin=report, stdout=subprocess.DEVNULL, check=True)
+    return TOP / "crates" / "age_tool" / "out" / "age_tool"
+
+
+def resident(process):
+    """The most memory that a process has had resident so far, in MiB; 0 once it has ended."""
+    status = pathlib.Path(f"/proc/{process}/status").read_text()
+    return max((int(it.split()[1]) for it in status.splitlines() if it.startswith("VmHWM:")), default=0) / 1024
+
+
+def cost(process, start):
+    """Waits until a process ends that began at `start`, and returns its status and what it took.
+
+    The memory is what was seen every two milliseconds, since what the system reports at the end counts Python's own too.
+    """
+    ended, memory = os.pidfd_open(process), 0.0
+    while not select.select([ended], [], [], 0.002)[0]:
+        memory = max(memory, resident(process))
     wall = time.perf_counter() - start
-    return os.waitstatus_to_exitcode(status), Cost(usage.ru_utime + usage.ru_stime, wall)
-
-
-def most_resident(child):
-    """Waits until a process ends, and returns the most memory that it was seen to have resident, in MiB."""
-    most = 0
-    while child.poll() is None:
-        status = pathlib.Path(f"/proc/{child.pid}/status").read_text()
-        most = max([most, *(int(it.split()[1]) for it in status.splitlines() if it.startswith("VmHWM:"))])
-        time.sleep(0.002)
-    return most / 1024
+    os.close(ended)
+    _, status, usage = os.wait4(process, 0)
+    return os.waitstatus_to_exitcode(status), Cost(usage.ru_utime + usage.ru_stime, wall, memory)

@@ -1,10 +1,13 @@
 -- Words drawn from the generator, and the keystream's bytes.
-use Rattle.std.proofs.Common.{◌≡◌, ℕ, ◌+◌, ◌*◌, ◌/◌, ◌%◌, ◌^◌, ◌<◌, List, length, slice_index, bit_xor, refl, ap, ◌∙◌, arith}
+use Rattle.std.proofs.Common.{◌≡◌, ℕ, ◌+◌, ◌-◌, ◌*◌, ◌/◌, ◌%◌, ◌^◌, ◌<◌, ◌≤◌, List, length, slice_index, bit_xor, refl, ap, ◌∙◌, arith, inl, inr}
+use Rattle.std.proofs.lemmas.Bool.{cases_lt}
 use Rattle.std.proofs.lemmas.List.FromFn.{fill_by_all}
 use Rattle.rand_core.specs.Steps.{u32_at}
 use Rattle.rand_chacha.specs.ChaCha.{ChaCha, word_at, key_of, next_word}
 use Rattle.age_cipher.specs.Keystream.{stream_number, block_place, keystream_byte, ciphertext}
 use Rattle.age_cipher.specs.inner.Places.{word_byte, IsXored}
+use Rattle.age_cipher.proofs.PlaceLemmas.{get_or-put_below, get_or-put_in}
+use borrow.Rule.Slice.PartMut.{put_mid}
 
 -- the generator k words on, and its word there
 unfoldable pub generator_on : ChaCha → ℕ → ChaCha
@@ -26,53 +29,62 @@ word_drawn g now new x k at gave =
       ap (λ (q : ℕ × ChaCha). q.1) gave ∙ rw (at, next) refl,
     )
 
--- the generator after n words of a keystream
-unfoldable pub generator_after : List ℕ → List ℕ → ℕ → ℕ → ChaCha
-generator_after key nonce counter n =
-    record { key = key_of key; stream = stream_number nonce; word_pos = (block_place nonce counter + n) % 2 ^ 68 }
+-- the first n words are drawn, and the generator is n words on
+pub record IsDrawn (g : ChaCha) (n : ℕ) (words : List ℕ) (now : ChaCha) : Type 0 where
+  pub drawn : (k : ℕ) → k < n → slice_index words k ≡ word_on g k
+  pub generator : now ≡ generator_on g n
+
+-- none yet, where the generator was set to a block's first word
+pub drawn_none : (old now : ChaCha) (number place : ℕ) (words : List ℕ) → place ≡ 16 * number → now ≡ record old { word_pos = place % 2 ^ 68 }
+    → IsDrawn (record old { word_pos = 16 * number }) 0 words now
+unfolding generator_on
+drawn_none old now number place words at e =
+    let same : place % 2 ^ 68 ≡ (16 * number + 0) % 2 ^ 68 = omega arith in
+    record { drawn = λ k h. absurd (omega arith); generator = e ∙ rw same refl }
+
+-- m words more
+pub drawn_more : (g now new : ChaCha) (n m w : ℕ) (words ys : List ℕ) → w ≡ m → length ys ≡ m → n + m ≤ length words
+    → ((k : ℕ) → k < w → slice_index ys k ≡ word_at 10 now.key now.stream ((now.word_pos + k) % 2 ^ 68))
+    → new ≡ record now { word_pos = (now.word_pos + w) % 2 ^ 68 } → IsDrawn g n words now → IsDrawn g (n + m) (put_mid n m words ys) new
+unfolding generator_on word_on
+drawn_more g now new n m w words ys width len room drew gave s =
+    let key_is = ap (λ (w : ChaCha). w.key) s.generator in
+    let stream_is = ap (λ (w : ChaCha). w.stream) s.generator in
+    let pos_is : now.word_pos ≡ (g.word_pos + n) % 2 ^ 68 = ap (λ (w : ChaCha). w.word_pos) s.generator in
+    let next : (now.word_pos + w) % 2 ^ 68 ≡ (g.word_pos + (n + m)) % 2 ^ 68 = omega arith in
+    record {
+      drawn = λ k h. elim (cases_lt k n) [
+        | inl below ↦ get_or-put_below n m words ys k below (omega arith) ∙ s.drawn k below
+        | inr above ↦
+            let j : ℕ = k - n in
+            let place : (now.word_pos + j) % 2 ^ 68 ≡ (g.word_pos + k) % 2 ^ 68 = omega arith in
+            get_or-put_in n m words ys k (omega arith) (omega arith) (omega arith)
+            ∙ drew j (omega arith) ∙ rw (key_is, stream_is, place) refl
+      ];
+      generator = gave ∙ rw (next, key_is, stream_is) refl;
+    }
 
 pub u32_at-lt : (bs : List ℕ) (i : ℕ) → ((k : ℕ) → slice_index bs k < 256) → u32_at bs i < 2 ^ 32
 unfolding u32_at
 u32_at-lt bs i h = omega (arith, h (4 * i), h (4 * i + 1), h (4 * i + 2), h (4 * i + 3))
 
-pub generator_after-none : (key nonce : List ℕ) (counter : ℕ) (g : ChaCha) → ((k : ℕ) → slice_index nonce k < 256) → counter < 2 ^ 32
-    → g ≡ record { key = key_of key; stream = stream_number nonce; word_pos = block_place nonce counter } → g ≡ generator_after key nonce counter 0
-unfolding generator_after
-generator_after-none key nonce counter g fits small e =
-    let place : (block_place nonce counter + 0) % 2 ^ 68 ≡ block_place nonce counter = omega (arith, u32_at-lt nonce 0 fits) in
-    rw place e
+-- block 4 * i of a text's keystream has a number
+pub number_fits : (nonce : List ℕ) (counter first i : ℕ) → ((k : ℕ) → slice_index nonce k < 256) → 64 * counter + 256 * i < 2 ^ 38
+    → 16 * first ≡ block_place nonce counter → first + 4 * i < 2 ^ 64
+number_fits nonce counter first i fits room at = omega (arith, u32_at-lt nonce 0 fits)
 
-pub generator_after-more : (key nonce : List ℕ) (counter n m k : ℕ) (g new : ChaCha) → m ≡ n + k → g ≡ generator_after key nonce counter n
-    → new ≡ record g { word_pos = (g.word_pos + k) % 2 ^ 68 } → new ≡ generator_after key nonce counter m
-unfolding generator_after
-generator_after-more key nonce counter n m k g new more at e =
-    let pos_is : g.word_pos ≡ (block_place nonce counter + n) % 2 ^ 68 = ap (λ (w : ChaCha). w.word_pos) at in
-    let next : (g.word_pos + k) % 2 ^ 68 ≡ (block_place nonce counter + m) % 2 ^ 68 = omega arith in
-    let key_is = ap (λ (w : ChaCha). w.key) at in
-    let stream_is = ap (λ (w : ChaCha). w.stream) at in
-    e ∙ rw (next, key_is, stream_is) refl
-
-pub generator_after-low : (key nonce : List ℕ) (counter n : ℕ) (g : ChaCha) → g ≡ generator_after key nonce counter n → g.word_pos < 2 ^ 68
-unfolding generator_after
-generator_after-low key nonce counter n g at =
-    let pos_is : g.word_pos ≡ (block_place nonce counter + n) % 2 ^ 68 = ap (λ (w : ChaCha). w.word_pos) at in
-    omega arith
-
--- byte m of words that were drawn from place 64 * i on is the keystream's byte 256 * i + m
-pub word_byte_is : (key nonce : List ℕ) (counter i : ℕ) (g : ChaCha) (words : List ℕ) (m : ℕ)
+-- byte m of the four blocks from block 4 * i on is the keystream's byte 256 * i + m
+pub word_byte_is : (key nonce : List ℕ) (counter first i stream : ℕ) (seed words : List ℕ) (m : ℕ)
     → ((k : ℕ) → slice_index nonce k < 256) → 64 * counter + (256 * i + m) < 2 ^ 38 → m < 256
-    → g ≡ generator_after key nonce counter (64 * i)
-    → ((k : ℕ) → k < 64 → slice_index words k ≡ word_at 10 g.key g.stream ((g.word_pos + k) % 2 ^ 68))
+    → seed ≡ key_of key → stream ≡ stream_number nonce → 16 * first ≡ block_place nonce counter
+    → ((k : ℕ) → k < 64 → slice_index words k ≡ word_at 10 seed stream ((16 * (first + 4 * i) + k) % 2 ^ 68))
     → word_byte words m ≡ keystream_byte key nonce counter (256 * i + m)
-unfolding keystream_byte generator_after
-word_byte_is key nonce counter i g words m fits room small at drawn =
+unfolding keystream_byte
+word_byte_is key nonce counter first i stream seed words m fits room small key_is stream_is at drawn =
     let q : ℕ = m / 4 in
     let rem : (256 * i + m) % 4 ≡ m % 4 = omega arith in
     let quo : (256 * i + m) / 4 ≡ 64 * i + q = omega arith in
-    let key_is = ap (λ (w : ChaCha). w.key) at in
-    let stream_is = ap (λ (w : ChaCha). w.stream) at in
-    let pos_is : g.word_pos ≡ (block_place nonce counter + 64 * i) % 2 ^ 68 = ap (λ (w : ChaCha). w.word_pos) at in
-    let place : (g.word_pos + q) % 2 ^ 68 ≡ block_place nonce counter + (64 * i + q) = omega (arith, u32_at-lt nonce 0 fits) in
+    let place : (16 * (first + 4 * i) + q) % 2 ^ 68 ≡ block_place nonce counter + (64 * i + q) = omega (arith, u32_at-lt nonce 0 fits) in
     rw (drawn q (omega arith), rem, quo, place, key_is, stream_is) refl
 
 pub ciphertext_is : (key nonce : List ℕ) (counter : ℕ) (old text : List ℕ) → IsXored (keystream_byte key nonce counter) old text

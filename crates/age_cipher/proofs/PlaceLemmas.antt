@@ -17,11 +17,11 @@ none_xored stream text = record { done = λ j h short. absurd (omega arith); lef
 
 -- ---- an element after a write to a part of k elements from a on
 
-get_or-put_below : (a k : ℕ) (xs ys : List ℕ) (j : ℕ) → j < a → a ≤ length xs → get_or (put_mid a k xs ys) j 0 ≡ get_or xs j 0
+pub get_or-put_below : (a k : ℕ) (xs ys : List ℕ) (j : ℕ) → j < a → a ≤ length xs → get_or (put_mid a k xs ys) j 0 ≡ get_or xs j 0
 get_or-put_below a k xs ys j h room =
     get_or_append_left (take a xs) (ys ++ post_of a k xs) 0 j (omega (arith, length-take a xs)) ∙ get_or-take a xs j 0 h
 
-get_or-put_in : (a k : ℕ) (xs ys : List ℕ) (j : ℕ) → a ≤ j → j < a + length ys → a ≤ length xs → get_or (put_mid a k xs ys) j 0 ≡ get_or ys (j - a) 0
+pub get_or-put_in : (a k : ℕ) (xs ys : List ℕ) (j : ℕ) → a ≤ j → j < a + length ys → a ≤ length xs → get_or (put_mid a k xs ys) j 0 ≡ get_or ys (j - a) 0
 get_or-put_in a k xs ys j low high room =
     get_or-append_right (take a xs) (ys ++ post_of a k xs) a j 0 (omega (arith, length-take a xs)) low
     ∙ get_or_append_left ys (post_of a k xs) 0 (j - a) (omega arith)

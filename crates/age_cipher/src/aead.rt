@@ -79,9 +79,8 @@ fn tag(key: &[u8; 32], nonce: &[u8; 12], aad: &[u8], cipher: &[u8]) -> [u8; 16]
     )
 }
 
-/// Seals a text in place (RFC 8439, 2.8). A block is the text and 16 bytes more, and has 16 to
-/// 65,552 bytes, which is asked. The text becomes the ciphertext and the last 16 bytes the tag,
-/// whatever they were.
+/// Seals a text in place (RFC 8439, 2.8). `block` must have 16 to 65,552 bytes: the text and 16
+/// more. The text becomes the ciphertext and the last 16 bytes the tag, whatever they were.
 pub fn seal_in_place(key: &[u8; 32], nonce: &[u8; 12], aad: &[u8], block: &mut [u8])
     requires { (16 ≤ length block.old) × (length block.old ≤ block_limit) }
     ensures { block.new
@@ -105,9 +104,9 @@ fn is_tag(tag: &[u8; 16], bytes: &[u8]) -> bool
     differences == 0
 }
 
-/// Opens a block of 16 to 65,552 bytes, which is asked, in place (RFC 8439, 2.8). It answers true
-/// exactly where the block is the sealing of some text. That text then stands before the tag, whose
-/// 16 bytes stay. False leaves the whole block as it was.
+/// Opens a block in place (RFC 8439, 2.8). `block` must have 16 to 65,552 bytes. The result is true
+/// if and only if the block is the sealing of some text. That text then stands before the tag, whose
+/// 16 bytes stay. If the result is false, the whole block is as it was.
 ///
 /// It doesn't commit to a key: whoever knows two keys can make a block that opens under both.
 pub fn open_in_place(key: &[u8; 32], nonce: &[u8; 12], aad: &[u8], block: &mut [u8]) -> bool

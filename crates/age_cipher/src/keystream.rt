@@ -10,27 +10,28 @@ use rand_chacha::ChaCha20Rng;
 use rand_core::SeedableRng;
 use rand_core::utils::{NextWord, read_u32};
 
-/// The generator, at the first word of a block. The nonce's first word is the high half of its
-/// 64-bit counter.
-fn generator_at(key: &[u8; 32], nonce: &[u8; 12], counter: u32) -> ChaCha20Rng
-    ensures { result ≡ record {
-      key = key_of key.now;
-      stream = stream_number nonce.now;
-      word_pos = block_place nonce.now counter;
-    } }
+/// The generator of a key and a nonce. The nonce's last two words are its stream.
+fn generator_of(key: &[u8; 32], nonce: &[u8; 12]) -> ChaCha20Rng
+    ensures key { result.key ≡ key_of key.now }
+    ensures stream { result.stream ≡ stream_number nonce.now }
 {
-    let first = u64::from(read_u32(nonce, 0));
     let middle = u64::from(read_u32(nonce, 1));
     let last = u64::from(read_u32(nonce, 2));
     let mut generator = ChaCha20Rng::from_seed(*key);
     generator.set_stream(middle + (last << 32));
-    generator.set_word_pos(16 * u128::from(u64::from(counter) + (first << 32)));
     generator
 }
 
-/// Draws the next words. No other place asks the generator for a word: so the compiler puts the
-/// generator's code here, while with several places each word would be a call.
-fn draw_words(generator: &mut ChaCha20Rng, words: &mut [u32])
+/// The generator's number of block `counter`. The nonce's first word is its high half.
+fn block_number(nonce: &[u8; 12], counter: u32) -> u64
+    ensures { 16 * result ≡ block_place nonce.now counter }
+{
+    u64::from(counter) + (u64::from(read_u32(nonce, 0)) << 32)
+}
+
+/// Draws the next words.
+#[inline(always)]
+fn draw(generator: &mut ChaCha20Rng, words: &mut [u32])
     requires { generator.old.word_pos < 2 ^ 68 }
     ensures words { (k : ℕ) → k < length words.old
         → slice_index words.new k
@@ -45,6 +46,29 @@ fn draw_words(generator: &mut ChaCha20Rng, words: &mut [u32])
     }
 }
 
+/// Draws four blocks, from the one of this number on.
+///
+/// The generator holds four blocks, and asks at each word whether they are used up. Here the
+/// compiler knows the answers: at a block's first word the generator holds none, and eight words at
+/// a time are few enough for it to unroll each loop.
+fn draw_blocks(generator: &mut ChaCha20Rng, number: u64, words: &mut [u32; 64])
+    ensures words { (k : ℕ) → k < 64
+        → slice_index words.new k
+        ≡ word_at 10 generator.old.key generator.old.stream ((16 * number + k) % 2 ^ 68) }
+    ensures key { generator.new.key ≡ generator.old.key }
+    ensures stream { generator.new.stream ≡ generator.old.stream }
+{
+    generator.set_word_pos(16 * u128::from(number));
+    draw(generator, &mut words[0..8]);
+    draw(generator, &mut words[8..16]);
+    draw(generator, &mut words[16..24]);
+    draw(generator, &mut words[24..32]);
+    draw(generator, &mut words[32..40]);
+    draw(generator, &mut words[40..48]);
+    draw(generator, &mut words[48..56]);
+    draw(generator, &mut words[56..64]);
+}
+
 /// Changes each byte of a text by the keystream's byte at its place, from block `counter` on
 /// (RFC 8439, 2.4). The same call again gives the text back.
 ///
@@ -54,13 +78,13 @@ pub fn xor_stream(key: &[u8; 32], nonce: &[u8; 12], counter: u32, text: &mut [u8
     requires { 64 * counter + length text.old ≤ 2 ^ 38 }
     ensures { text.new ≡ ciphertext key.now nonce.now counter text.old }
 {
+    let mut generator = generator_of(key, nonce);
+    let first = block_number(nonce, counter);
+    let mut words = [0; 64];
     // A turn changes 256 bytes by 64 words, four blocks of the keystream.
-    let mut generator = generator_at(key, nonce, counter);
-    let mut room = [0; 64];
-    let words = room.as_mut_slice();
     for i in 0..text.len().div_ceil(256) {
-        draw_words(&mut generator, words);
+        draw_blocks(&mut generator, first + 4 * i as u64, &mut words);
         let end = text.len().min(256 * i + 256);
-        xor_words(&mut text[256 * i..end], words);
+        xor_words(&mut text[256 * i..end], &words);
     }
 }

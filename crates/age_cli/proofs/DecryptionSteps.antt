@@ -36,20 +36,19 @@ module _ (options : Options) (from to label : Text) (old read opened written : F
   }
 
   -- it stopped, and then the position was saved
-  pub decryption_stopped : (IsPorts : Ports → Type 0) (save : Option Text) (position : Option Position) (fault : FileFault) (new : Files) (e : Ending)
-      → (save ≡ Some to → ⊥) → new to ≡ written to → EndsOf fault save position written new e
-      → OutStops (DecryptionStop IsPorts (kept_for save) identity input position fault) (opened label) (written label) position fault
-      → DecryptsStop IsPorts options from to save old new e
-  decryption_stopped IsPorts save position fault new e apart same ends out = record {
-    identity = identity;
-    opens = opens;
-    there = there;
-    position = position;
-    fault = fault;
-    output = subst (λ i. OutStops (DecryptionStop IsPorts (kept_for save) identity i position fault) (old to) (new to) position fault) input_is
-        (subst (λ o. OutStops (DecryptionStop IsPorts (kept_for save) identity input position fault) o (new to) position fault)
-        (ap (λ (f : Files). f to) (opened_same ∙ read_same))
-        (subst (λ o. OutStops (DecryptionStop IsPorts (kept_for save) identity input position fault) (opened to) o position fault) (sym same)
-        (subst (λ l. OutStops (DecryptionStop IsPorts (kept_for save) identity input position fault) (opened l) (written l) position fault) named out)));
-    ends = ends_from fault save position old written new e (λ q name. spared q (λ e. apart (name ∙ ap Some e))) ends;
-  }
+  module _ (IsPorts : Ports → Type 0) (save : Option Text) (position : Option Position) (fault : FileFault) where
+    abbrev Stops : Option (List ℕ) → Option (List ℕ) → Option (List ℕ) → Type 0
+    Stops i before after = OutStops (DecryptionStop IsPorts (kept_for save) identity i position fault) (DecryptsOut identity i) before after position fault
+
+    pub decryption_stopped : (new : Files) (e : Ending) → (save ≡ Some to → ⊥) → new to ≡ written to → EndsOf fault save position written new e
+        → Stops input (opened label) (written label) → DecryptsStop IsPorts options from to save old new e
+    decryption_stopped new e apart same ends out = record {
+      identity = identity;
+      opens = opens;
+      there = there;
+      position = position;
+      fault = fault;
+      output = subst (λ i. Stops i (old to) (new to)) input_is (subst (λ o. Stops input o (new to)) (ap (λ (f : Files). f to) (opened_same ∙ read_same))
+          (subst (λ o. Stops input (opened to) o) (sym same) (subst (λ l. Stops input (opened l) (written l)) named out)));
+      ends = ends_from fault save position old written new e (λ q name. spared q (λ e. apart (name ∙ ap Some e))) ends;
+    }

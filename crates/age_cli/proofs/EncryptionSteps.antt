@@ -51,15 +51,16 @@ module _ (pass : Text) (log : ℕ) (random : Option Text) (from to label : Text)
   }
 
   pub encryption_stopped : (IsPorts : Ports → Type 0) (fault : FileFault)
-      → SealedOutStops (EncryptionStop IsPorts secret input fault) (opened label) (new label) fault
+      → SealedOutStops (EncryptionStop IsPorts secret input fault) (EncryptsOut secret input) (opened label) (new label) fault
       → EncryptsStop IsPorts pass log random from to old new (Fault fault)
   encryption_stopped IsPorts fault out = record {
     secret = secret;
     made = made;
     there = there;
     fault = fault;
-    output = subst (λ i. SealedOutStops (EncryptionStop IsPorts secret i fault) (old to) (new to) fault) input_is
-        (subst (λ o. SealedOutStops (EncryptionStop IsPorts secret input fault) o (new to) fault) (ap (λ (f : Files). f to) (opened_same ∙ read_same))
-        (subst (λ l. SealedOutStops (EncryptionStop IsPorts secret input fault) (opened l) (new l) fault) named out));
+    output = subst (λ i. SealedOutStops (EncryptionStop IsPorts secret i fault) (EncryptsOut secret i) (old to) (new to) fault) input_is
+        (subst (λ o. SealedOutStops (EncryptionStop IsPorts secret input fault) (EncryptsOut secret input) o (new to) fault)
+        (ap (λ (f : Files). f to) (opened_same ∙ read_same))
+        (subst (λ l. SealedOutStops (EncryptionStop IsPorts secret input fault) (EncryptsOut secret input) (opened l) (new l) fault) named out));
     ends = refl;
   }

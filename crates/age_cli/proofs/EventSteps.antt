@@ -1,7 +1,9 @@
 -- The events of a command, in order.
-use Rattle.std.proofs.Common.{◌≡◌, ◌∙◌, ◌++◌, ◌∷◌, [], refl, ap, sym, List, append_assoc}
-use Rattle.age_fileset.specs.Events.{Event}
-use Rattle.age_cli_common.specs.EventOrders.{Follows}
+use Rattle.std.proofs.Common.{◌≡◌, ◌∙◌, ◌++◌, ◌∷◌, [], refl, ap, sym, List, ℕ, append_assoc, Option, Some, None}
+use Rattle.clap.specs.Words.{Text}
+use Rattle.age_io.specs.declared.durability.Durability.{Durability}
+use Rattle.age_fileset.specs.Events.{Event, Opened, Created, Closed}
+use Rattle.age_cli_common.specs.EventOrders.{Follows, preparing, making}
 
 -- events came, and then others
 pub then_did : (old mid new done more : List Event) → mid ≡ old ++ done → new ≡ mid ++ more → new ≡ old ++ (done ++ more)
@@ -36,3 +38,10 @@ longer order more old new f = record {
 -- no event came so far
 pub none_done : (order old : List Event) → Follows order old old
 none_done order old = record { done = []; rest = order; did = nil_after old; front = refl }
+
+-- the input was opened and what is written prepared and created, and then it was ended
+pub then_closed : (old mid new : List Event) (from : Text) (save : Option Text) (to : Text) (d : Durability)
+    → mid ≡ old ++ (Opened from ∷ (preparing save ++ Created to ∷ [])) → new ≡ mid ++ Closed d ∷ []
+    → new ≡ old ++ (Opened from ∷ (preparing save ++ making (Some to) d))
+then_closed old mid new from (Some name) to d m n = then_did old mid new _ _ m n
+then_closed old mid new from None to d m n = then_did old mid new _ _ m n

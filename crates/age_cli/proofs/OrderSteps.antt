@@ -4,7 +4,7 @@ use Rattle.std.specs.Option.{option_map_or}
 use Rattle.clap.specs.Words.{Row, Text, first_of}
 use Rattle.age_cli_args.specs.Asked.{Asks}
 use Rattle.age_cli_args.specs.Requests.{Requests, IsRequest}
-use Rattle.age_cli.specs.Orders.{order_of}
+use Rattle.age_cli.specs.Orders.{durability_given, order_of}
 use Rattle.age_cli_common.specs.Orders.{inspecting_order, encrypting_order, decrypting_order, resuming_order, drilling_order}
 use Rattle.age_cli_common.specs.Orders.{order_asked}
 use Rattle.age_cli_args.specs.declared.request.Request.{Request}
@@ -22,16 +22,15 @@ order_given name rows (Inspect file) is = ap (λ (n : Text). order_of n rows) is
 order_given name rows (Encrypt e) is =
     let f = is.1 in
     let same : encrypting_order (first_of (codes "pass") rows) (first_of (codes "random") rows) (first_of (codes "IN") rows) (first_of (codes "OUT") rows)
-    ≡ order_asked (Encrypt e) =
-    rw (sym f.pass, sym f.random, sym f.from, sym f.to) refl in
+    (durability_given rows) ≡ order_asked (Encrypt e) =
+    rw (sym f.pass, sym f.random, sym f.from, sym f.to, sym f.durability) refl in
     ap (λ (n : Text). order_of n rows) is.0 ∙ same
 order_given name rows (Decrypt d) is =
     let f = is.1 in
     let u = f.unlocking in
     let same : decrypting_order (first_of (codes "pass") rows) (first_of (codes "shared") rows) (first_of (codes "IN") rows) (first_of (codes "OUT") rows)
-    (first_of (codes "save") rows)
-    ≡ order_asked (Decrypt d) =
-    rw (sym u.pass, sym u.shared, sym f.from, sym f.to, sym f.save) refl in
+    (first_of (codes "save") rows) (durability_given rows) ≡ order_asked (Decrypt d) =
+    rw (sym u.pass, sym u.shared, sym f.from, sym f.to, sym f.save, sym f.durability) refl in
     ap (λ (n : Text). order_of n rows) is.0 ∙ same
 order_given name rows (Resume r) is =
     let f = is.1 in
@@ -39,8 +38,8 @@ order_given name rows (Resume r) is =
     let u = d.unlocking in
     let same : resuming_order (first_of (codes "pass") rows) (first_of (codes "shared") rows) (first_of (codes "position") rows) (first_of (codes "old") rows)
     (first_of (codes "IN") rows)
-    (first_of (codes "OUT") rows) (first_of (codes "save") rows) ≡ order_asked (Resume r) =
-    rw (sym u.pass, sym u.shared, sym f.position, sym f.old, sym d.from, sym d.to, sym d.save) refl in
+    (first_of (codes "OUT") rows) (first_of (codes "save") rows) (durability_given rows) ≡ order_asked (Resume r) =
+    rw (sym u.pass, sym u.shared, sym f.position, sym f.old, sym d.from, sym d.to, sym d.save, sym d.durability) refl in
     ap (λ (n : Text). order_of n rows) is.0 ∙ same
 order_given name rows (Drill d) is =
     let f = is.1 in

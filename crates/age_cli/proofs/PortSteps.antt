@@ -9,6 +9,9 @@ use Rattle.age_fault.specs.declared.fault.FileFault.{FileFault}
 use Rattle.age_cli_common.specs.declared.identity.Identity.{Identity}
 use Rattle.age_cli.specs.declared.stop.Stop.{Stop}
 use Rattle.age_cli.specs.inner.Ports.{PortsOfEither}
+use Rattle.age_cli.specs.Encryptions.{EncryptsOut}
+use Rattle.age_cli.specs.Decryptions.{DecryptsOut}
+use Rattle.age_cli.specs.Resumptions.{ResumesOut}
 use Rattle.age_cli.specs.CommandStops.{EncryptionStop, DecryptionStop, ResumptionStop, OutStops, SealedOutStops, PortsOf}
 
 -- the ports of a source that shows what the one in it shows are that one's
@@ -41,8 +44,9 @@ module _ (One Other : Ports → Type 0) (all : (p : Ports) → One p → Other p
     took = h.took;
   }
 
-  pub sealing_stops : (s : SecretView) (input old new : Option (List ℕ)) (f : FileFault) → SealedOutStops (EncryptionStop One s input f) old new f
-      → SealedOutStops (EncryptionStop Other s input f) old new f
+  pub sealing_stops : (s : SecretView) (input old new : Option (List ℕ)) (f : FileFault)
+      → SealedOutStops (EncryptionStop One s input f) (EncryptsOut s input) old new f
+      → SealedOutStops (EncryptionStop Other s input f) (EncryptsOut s input) old new f
   sealing_stops s input old new f (inl h) = inl (h.0, sealing s input f h.0 h.1, h.2)
   sealing_stops s input old new f (inr h) = inr h
 
@@ -60,8 +64,8 @@ module _ (One Other : Ports → Type 0) (all : (p : Ports) → One p → Other p
   }
 
   pub opening_stops : (keep : Positions) (i : Identity) (input old new : Option (List ℕ)) (s : Stop)
-      → OutStops (DecryptionStop One keep i input s.position s.fault) old new s.position s.fault
-      → OutStops (DecryptionStop Other keep i input s.position s.fault) old new s.position s.fault
+      → OutStops (DecryptionStop One keep i input s.position s.fault) (DecryptsOut i input) old new s.position s.fault
+      → OutStops (DecryptionStop Other keep i input s.position s.fault) (DecryptsOut i input) old new s.position s.fault
   opening_stops keep i input old new s (inl h) = inl (h.0, h.1, opening keep i input s.position s.fault h.0 h.1 h.2, h.3)
   opening_stops keep i input old new s (inr h) = inr h
 
@@ -83,7 +87,7 @@ module _ (One Other : Ports → Type 0) (all : (p : Ports) → One p → Other p
   }
 
   pub resuming_stops : (keep : Positions) (i : Identity) (from : Position) (input old_text old new : Option (List ℕ)) (s : Stop)
-      → OutStops (ResumptionStop One keep i from input old_text s.position s.fault) old new s.position s.fault
-      → OutStops (ResumptionStop Other keep i from input old_text s.position s.fault) old new s.position s.fault
+      → OutStops (ResumptionStop One keep i from input old_text s.position s.fault) (ResumesOut i from input old_text) old new s.position s.fault
+      → OutStops (ResumptionStop Other keep i from input old_text s.position s.fault) (ResumesOut i from input old_text) old new s.position s.fault
   resuming_stops keep i from input old_text old new s (inl h) = inl (h.0, h.1, resuming keep i from input old_text s.position s.fault h.0 h.1 h.2, h.3)
   resuming_stops keep i from input old_text old new s (inr h) = inr h

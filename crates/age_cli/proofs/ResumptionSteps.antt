@@ -13,7 +13,7 @@ use Rattle.age_cli_common.specs.Identities.{Options, OpensBy}
 use Rattle.age_cli_common.specs.declared.ending.Ending.{Ending}
 use Rattle.age_cli_common.specs.declared.ending.Ending.TheVariants.{Fault}
 use Rattle.age_cli_common.specs.declared.identity.Identity.{Identity}
-use Rattle.age_cli.specs.Resumptions.{IsPositionIn, ResumesOut, ResumesFile}
+use Rattle.age_cli.specs.Resumptions.{IsPositionIn, ResumesOut, ResumesFile, old_for}
 use Rattle.age_cli.specs.CommandStops.{ResumptionStop, ResumesStop, EndsOf, OutStops, kept_for}
 use Rattle.age_cli.proofs.CommandStopSteps.{ends_from}
 
@@ -29,7 +29,7 @@ bad_position f (inr bad) = inr (ap Fault bad)
 -- what was written into an output is what the names asked for stand for, since the steps before changed nothing
 module _ (options : Options) (position_name old_name from to label : Text) (old read mid opened written : Files) (identity : Identity) (at : Position)
     (input old_text : Option (List ℕ)) (opens : OpensBy old options identity) (read_same : read ≡ old) (mid_same : mid ≡ read) (opened_same : opened ≡ mid)
-    (position_is : IsPositionIn (read position_name) at) (old_found : (is_some (read old_name) ≡ true) × (old_text ≡ read old_name))
+    (position_is : IsPositionIn (read position_name) at) (old_found : (is_some (old_for at (read old_name)) ≡ true) × (old_text ≡ old_for at (read old_name)))
     (found : (is_some (mid from) ≡ true) × (input ≡ mid from)) (named : label ≡ to) (others : SparesBut label opened written) where
   same : mid ≡ old
   same = mid_same ∙ read_same
@@ -40,14 +40,14 @@ module _ (options : Options) (position_name old_name from to label : Text) (old 
   there : is_some (old from) ≡ true
   there = ap (λ (f : Files). is_some (f from)) (sym same) ∙ found.0
 
-  old_there : is_some (old old_name) ≡ true
-  old_there = ap (λ (f : Files). is_some (f old_name)) (sym read_same) ∙ old_found.0
+  old_there : is_some (old_for at (old old_name)) ≡ true
+  old_there = ap (λ (f : Files). is_some (old_for at (f old_name))) (sym read_same) ∙ old_found.0
 
   input_is : input ≡ old from
   input_is = found.1 ∙ ap (λ (f : Files). f from) same
 
-  old_text_is : old_text ≡ old old_name
-  old_text_is = old_found.1 ∙ ap (λ (f : Files). f old_name) read_same
+  old_text_is : old_text ≡ old_for at (old old_name)
+  old_text_is = old_found.1 ∙ ap (λ (f : Files). old_for at (f old_name)) read_same
 
   spared : SparesBut to old written
   spared q other = others q (λ e. other (e ∙ named)) ∙ ap (λ (f : Files). f q) (opened_same ∙ same)
@@ -60,7 +60,7 @@ module _ (options : Options) (position_name old_name from to label : Text) (old 
     position_is = position_was;
     there = there;
     old_there = old_there;
-    output = subst (λ i. ResumesOut identity at i (old old_name) (written to)) input_is
+    output = subst (λ i. ResumesOut identity at i (old_for at (old old_name)) (written to)) input_is
         (subst (λ o. ResumesOut identity at input o (written to)) old_text_is (subst (λ l. ResumesOut identity at input old_text (written l)) named out));
     others = spared;
   }
@@ -70,8 +70,11 @@ module _ (options : Options) (position_name old_name from to label : Text) (old 
     abbrev Engine : Option (List ℕ) → Option (List ℕ) → ℕ → Option (List ℕ) → Type 0
     Engine i o = ResumptionStop IsPorts (kept_for save) identity at i o position fault
 
+    abbrev Stops : Option (List ℕ) → Option (List ℕ) → Option (List ℕ) → Option (List ℕ) → Type 0
+    Stops i o before after = OutStops (Engine i o) (ResumesOut identity at i o) before after position fault
+
     pub resumption_stopped : (new : Files) (e : Ending) → (save ≡ Some to → ⊥) → new to ≡ written to → EndsOf fault save position written new e
-        → OutStops (ResumptionStop IsPorts (kept_for save) identity at input old_text position fault) (opened label) (written label) position fault
+        → Stops input old_text (opened label) (written label)
         → ResumesStop IsPorts options position_name old_name from to save old new e
     resumption_stopped new e apart kept ends out = record {
       identity = identity;
@@ -82,10 +85,10 @@ module _ (options : Options) (position_name old_name from to label : Text) (old 
       old_there = old_there;
       position = position;
       fault = fault;
-      output = subst (λ i. OutStops (Engine i (old old_name)) (old to) (new to) position fault) input_is
-          (subst (λ o. OutStops (Engine input o) (old to) (new to) position fault) old_text_is
-          (subst (λ o. OutStops (Engine input old_text) o (new to) position fault) (ap (λ (f : Files). f to) (opened_same ∙ same))
-          (subst (λ o. OutStops (Engine input old_text) (opened to) o position fault) (sym kept)
-          (subst (λ l. OutStops (Engine input old_text) (opened l) (written l) position fault) named out))));
+      output = subst (λ i. Stops i (old_for at (old old_name)) (old to) (new to)) input_is
+          (subst (λ o. Stops input o (old to) (new to)) old_text_is
+          (subst (λ o. Stops input old_text o (new to)) (ap (λ (f : Files). f to) (opened_same ∙ same))
+          (subst (λ o. Stops input old_text (opened to) o) (sym kept)
+          (subst (λ l. Stops input old_text (opened l) (written l)) named out))));
       ends = ends_from fault save position old written new e (λ q name. spared q (λ e. apart (name ∙ ap Some e))) ends;
     }

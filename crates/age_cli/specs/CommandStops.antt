@@ -14,11 +14,12 @@ use Rattle.age_file.specs.declared.position.Positions.{Positions}
 use Rattle.age_file.specs.declared.position.Positions.TheVariants.{Kept, Dropped}
 use Rattle.age_fault.specs.declared.fault.FileFault.{FileFault}
 use Rattle.age_fault.specs.declared.fault.FileFault.TheVariants.{Write, Memory}
-use Rattle.age_cli.specs.Encryptions.{MakesSecret}
+use Rattle.age_cli.specs.Encryptions.{MakesSecret, EncryptsOut}
+use Rattle.age_cli.specs.Decryptions.{DecryptsOut}
 use Rattle.age_cli_common.specs.Files.{Files}
 use Rattle.age_cli_common.specs.declared.identity.Identity.{Identity}
 use Rattle.age_cli_common.specs.Identities.{Options, allows_by, refuses_by, OpensBy}
-use Rattle.age_cli.specs.Resumptions.{IsPositionIn}
+use Rattle.age_cli.specs.Resumptions.{IsPositionIn, ResumesOut, old_for}
 use Rattle.age_cli_common.specs.declared.ending.Ending.{Ending}
 use Rattle.age_cli_common.specs.declared.ending.Ending.TheVariants.{Fault, Unsaved}
 
@@ -54,21 +55,21 @@ EndsOf fault name position old new e = ⊥
 
 -- an engine stopped with this position and fault, and the output was left as its promise says of
 -- the bytes that were written and of what the sink took; or it did not stop, and the output could
--- not be closed, and is as it was
-abbrev pub OutStops : (ℕ → Option (List ℕ) → Type 0) → Option (List ℕ) → Option (List ℕ)
-    → Option Position → FileFault → Type 0
-OutStops Engine old new position fault =
+-- not be closed, and is as it was or whole
+abbrev pub OutStops : (ℕ → Option (List ℕ) → Type 0) → (Option (List ℕ) → Type 0)
+    → Option (List ℕ) → Option (List ℕ) → Option Position → FileFault → Type 0
+OutStops Engine Whole old new position fault =
     ((written : ℕ) × (taken : Option (List ℕ)) × Engine written taken
     × Leaves (written ≡ 0) taken old new)
-    ⊎ ((new ≡ old) × (position ≡ None) × (fault ≡ Write))
+    ⊎ (((new ≡ old) ⊎ Whole new) × (position ≡ None) × (fault ≡ Write))
 
 -- the same of an encryption, which has no position; nothing was written for sure where memory was
 -- refused
-abbrev pub SealedOutStops : (Option (List ℕ) → Type 0) → Option (List ℕ) → Option (List ℕ)
-    → FileFault → Type 0
-SealedOutStops Engine old new fault =
+abbrev pub SealedOutStops : (Option (List ℕ) → Type 0) → (Option (List ℕ) → Type 0)
+    → Option (List ℕ) → Option (List ℕ) → FileFault → Type 0
+SealedOutStops Engine Whole old new fault =
     ((taken : Option (List ℕ)) × Engine taken × Leaves (fault ≡ Memory) taken old new)
-    ⊎ ((new ≡ old) × (fault ≡ Write))
+    ⊎ (((new ≡ old) ⊎ Whole new) × (fault ≡ Write))
 
 -- the ports of a source and a sink of one set of files: what they tell, and how often they failed
 pub record PortsOf {In Out : Type 0} (read : In → SourceView) (wrote : Out → SinkView) (p : Ports)
@@ -127,7 +128,8 @@ module _ (IsPorts : Ports → Type 0) where
     pub made : MakesSecret pass log random old secret
     pub there : is_some (old from) ≡ true
     pub fault : FileFault
-    pub output : SealedOutStops (EncryptionStop secret (old from) fault) (old to) (new to) fault
+    pub output : SealedOutStops (EncryptionStop secret (old from) fault)
+        (EncryptsOut secret (old from)) (old to) (new to) fault
     pub ends : e ≡ Fault fault
 
   -- `decrypt` stopped with its output created
@@ -139,7 +141,7 @@ module _ (IsPorts : Ports → Type 0) where
     pub position : Option Position
     pub fault : FileFault
     pub output : OutStops (DecryptionStop (kept_for save) identity (old from) position fault)
-        (old to) (new to) position fault
+        (DecryptsOut identity (old from)) (old to) (new to) position fault
     pub ends : EndsOf fault save position old new e
 
   -- `resume` stopped with its output created
@@ -150,10 +152,12 @@ module _ (IsPorts : Ports → Type 0) where
     pub from_position : Position
     pub position_is : IsPositionIn (old position_name) from_position
     pub there : is_some (old from) ≡ true
-    pub old_there : is_some (old old_name) ≡ true
+    pub old_there : is_some (old_for from_position (old old_name)) ≡ true
     pub position : Option Position
     pub fault : FileFault
     pub output : OutStops
-        (ResumptionStop (kept_for save) identity from_position (old from) (old old_name) position
-        fault) (old to) (new to) position fault
+        (ResumptionStop (kept_for save) identity from_position (old from)
+        (old_for from_position (old old_name)) position fault)
+        (ResumesOut identity from_position (old from) (old_for from_position (old old_name)))
+        (old to) (new to) position fault
     pub ends : EndsOf fault save position old new e

@@ -16,10 +16,10 @@ ghost use Rattle.age_cli.specs.Decryptions.{DecryptsOut, DecryptsFile};
 ghost use Rattle.age_cli_common.specs.Endings.{EndsEarly, is_usage};
 ghost use Rattle.age_cli_common.specs.Files.{SparesBut, SparesBoth};
 
-use crate::output::{leave, open_both};
+use crate::output::{Outputs, leave, open_both};
 use crate::stop::{Stop, end_of};
 use age_cli_args::{Decrypting, Progress};
-use age_cli_common::{Ending, Identity, Usage, identity_of, read_secret, secret_file};
+use age_cli_common::{Ending, Identity, Usage, identity_of, read_secret, secret_file, secret_room};
 use age_file::{Positions, Source, decrypt_with};
 use age_fileset::FileSet;
 use age_io::{Meter, Metered};
@@ -43,10 +43,12 @@ fn write_from<F: FileSet, S: Source>(
         → (F.Out.view out).taken ≡ Some []
         → OutStops (DecryptionStop (PortsOf S.view F.Out.view)
         (kept_for (text_of asked.now.save)) identity.now (S.view source.old).remaining
-        stop.position stop.fault) (F.entry files.old (F.Out.view out).label)
-        (F.entry files.new (F.Out.view out).label) stop.position stop.fault) }
+        stop.position stop.fault) (DecryptsOut identity.now (S.view source.old).remaining)
+        (F.entry files.old (F.Out.view out).label) (F.entry files.new (F.Out.view out).label)
+        stop.position stop.fault) }
     ensures others { SparesBut (F.Out.view out).label (F.entry files.old) (F.entry files.new) }
-    ensures noted { F.events files.new ≡ F.events files.old ++ Closed ∷ [] }
+    ensures noted { F.events files.new
+        ≡ F.events files.old ++ Closed asked.now.durability ∷ [] }
 {
     let positions = positions_for(asked.save);
     match decrypt_with(alloc, positions, identity, source, &mut out) {
@@ -80,10 +82,12 @@ fn write_out<F: FileSet, P: Meter>(
         → (F.Out.view out).taken ≡ Some []
         → OutStops (DecryptionStop (PortsOf F.In.view F.Out.view)
         (kept_for (text_of asked.now.save)) identity.now (F.In.view source).remaining
-        stop.position stop.fault) (F.entry files.old (F.Out.view out).label)
-        (F.entry files.new (F.Out.view out).label) stop.position stop.fault) }
+        stop.position stop.fault) (DecryptsOut identity.now (F.In.view source).remaining)
+        (F.entry files.old (F.Out.view out).label) (F.entry files.new (F.Out.view out).label)
+        stop.position stop.fault) }
     ensures others { SparesBut (F.Out.view out).label (F.entry files.old) (F.entry files.new) }
-    ensures noted { F.events files.new ≡ F.events files.old ++ Closed ∷ [] }
+    ensures noted { F.events files.new
+        ≡ F.events files.old ++ Closed asked.now.durability ∷ [] }
     ensures silent { asked.now.progress ≡ Silent → progress.new ≡ progress.old }
 {
     match asked.progress {
@@ -181,7 +185,7 @@ pub(crate) fn read_unlocking<F: FileSet>(
     if is_file_named_twice {
         return Err(Ending::Usage(Usage::SameFile));
     }
-    Ok(read_secret(alloc, files, name)?)
+    Ok(read_secret(alloc, files, name, secret_room(&asked.unlocking))?)
 }
 
 /// Decrypts a file as asked. If it stops, its position is saved.
@@ -216,7 +220,14 @@ pub fn decrypt_file<F: FileSet, P: Meter>(
     let is_file_named_twice = names_a_file_twice(files, asked);
     let secret = read_unlocking(alloc, files, asked, is_file_named_twice)?;
     let identity = identity_of(&asked.unlocking, &secret)?;
-    let (source, out) = open_both(alloc, files, asked.from, asked.to, asked.save, None)?;
+    let outputs = Outputs {
+        to: asked.to,
+        save: asked.save,
+        position: None,
+        durability: asked.durability,
+        progress: asked.progress,
+    };
+    let (source, out) = open_both(alloc, files, asked.from, &outputs)?;
     match write_out(alloc, files, source, &identity, out, asked, progress) {
         Ok(()) => Ok(()),
         Err(stop) => Err(end_of(alloc, files, asked.save, stop, asked.durability)),

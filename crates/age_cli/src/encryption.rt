@@ -18,7 +18,7 @@ ghost use Rattle.age_cli.specs.CommandStops.{SealedOutStops};
 ghost use Rattle.age_cli_common.specs.Files.{Files, SparesBut};
 ghost use Rattle.age_fault.specs.declared.fault.FileFault.TheVariants.{Memory};
 
-use crate::output::open_both;
+use crate::output::{Outputs, open_both};
 use age_cli_args::{Encrypting, Progress};
 use age_cli_common::{Ending, Usage, read_first, read_pass, trimmed};
 use age_file::{FileFault, Secret, Source, encrypt};
@@ -92,10 +92,10 @@ fn leave_sealed<F: FileSet>(files: &mut F, out: F::Out, fault: FileFault, durabi
         → Leaves (fault ≡ Memory) (F.Out.view out).taken (F.entry files.old (F.Out.view out).label)
         (F.entry files.new (F.Out.view out).label) }
     ensures others { SparesBut (F.Out.view out).label (F.entry files.old) (F.entry files.new) }
-    ensures noted { F.events files.new ≡ F.events files.old ++ Closed ∷ [] }
+    ensures noted { F.events files.new ≡ F.events files.old ++ Closed durability ∷ [] }
 {
     match fault {
-        FileFault::Memory => files.discard(out),
+        FileFault::Memory => files.discard(out, durability),
         _ => {
             let _ = files.close(out, durability);
         }
@@ -117,10 +117,12 @@ fn write_from<F: FileSet, S: Source>(
     ensures stops { IfErr result (λ fault. F.tells files.old ≡ true
         → (F.Out.view out).taken ≡ Some []
         → SealedOutStops (EncryptionStop (PortsOf S.view F.Out.view) secret.now
-        (S.view source.old).remaining fault) (F.entry files.old (F.Out.view out).label)
-        (F.entry files.new (F.Out.view out).label) fault) }
+        (S.view source.old).remaining fault) (EncryptsOut secret.now (S.view source.old).remaining)
+        (F.entry files.old (F.Out.view out).label) (F.entry files.new (F.Out.view out).label)
+        fault) }
     ensures others { SparesBut (F.Out.view out).label (F.entry files.old) (F.entry files.new) }
-    ensures noted { F.events files.new ≡ F.events files.old ++ Closed ∷ [] }
+    ensures noted { F.events files.new
+        ≡ F.events files.old ++ Closed asked.now.durability ∷ [] }
 {
     match encrypt(alloc, secret, source, &mut out) {
         Ok(_) => files.close(out, asked.durability),
@@ -147,10 +149,12 @@ fn write_out<F: FileSet, P: Meter>(
     ensures stops { IfErr result (λ fault. F.tells files.old ≡ true
         → (F.Out.view out).taken ≡ Some []
         → SealedOutStops (EncryptionStop (PortsOf F.In.view F.Out.view) secret.now
-        (F.In.view source).remaining fault) (F.entry files.old (F.Out.view out).label)
-        (F.entry files.new (F.Out.view out).label) fault) }
+        (F.In.view source).remaining fault) (EncryptsOut secret.now (F.In.view source).remaining)
+        (F.entry files.old (F.Out.view out).label) (F.entry files.new (F.Out.view out).label)
+        fault) }
     ensures others { SparesBut (F.Out.view out).label (F.entry files.old) (F.entry files.new) }
-    ensures noted { F.events files.new ≡ F.events files.old ++ Closed ∷ [] }
+    ensures noted { F.events files.new
+        ≡ F.events files.old ++ Closed asked.now.durability ∷ [] }
     ensures silent { asked.now.progress ≡ Silent → progress.new ≡ progress.old }
 {
     match asked.progress {
@@ -262,7 +266,14 @@ pub fn encrypt_file<F: FileSet, P: Meter>(
 {
     let material = read_material(alloc, files, asked)?;
     let secret = secret_of(asked, &material)?;
-    let (source, out) = open_both(alloc, files, asked.from, asked.to, None, None)?;
+    let outputs = Outputs {
+        to: asked.to,
+        save: None,
+        position: None,
+        durability: asked.durability,
+        progress: asked.progress,
+    };
+    let (source, out) = open_both(alloc, files, asked.from, &outputs)?;
     match write_out(alloc, files, source, &secret, out, asked, progress) {
         Ok(()) => Ok(()),
         Err(fault) => Err(Ending::Fault(fault)),

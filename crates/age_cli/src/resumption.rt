@@ -17,12 +17,12 @@ ghost use Rattle.age_cli_args.specs.Requests.{text_of};
 ghost use Rattle.age_cli_args.specs.declared.request.Progress.TheVariants.{Silent};
 ghost use Rattle.age_cli_common.specs.Identities.{options_asked};
 ghost use Rattle.age_file.specs.PositionTexts.{position_text};
-ghost use Rattle.age_cli.specs.Resumptions.{IsPositionIn, ResumesOut, ResumesFile};
+ghost use Rattle.age_cli.specs.Resumptions.{IsPositionIn, ResumesOut, ResumesFile, old_for};
 ghost use Rattle.age_cli_common.specs.Endings.{EndsEarly, is_usage};
 ghost use Rattle.age_cli_common.specs.Files.{SparesBut, SparesBoth};
 
 use crate::decryption::{is_given_as, names_a_file_twice, positions_for, read_unlocking};
-use crate::output::{leave, open_both};
+use crate::output::{Outputs, leave, open_both};
 use crate::stop::{Stop, end_of};
 use age_cli_args::{Decrypting, Progress, Resuming};
 use age_cli_common::{Ending, Identity, identity_of, read_up_to};
@@ -81,10 +81,13 @@ fn write_from<F: FileSet, S: Source>(
         → OutStops (ResumptionStop (PortsOfEither S.view F.In.view F.Out.view)
         (kept_for (text_of wanted.now.save)) identity.now position.now
         (S.view source.old).remaining (F.In.view old.old).remaining stop.position stop.fault)
+        (ResumesOut identity.now position.now (S.view source.old).remaining
+        (F.In.view old.old).remaining)
         (F.entry files.old (F.Out.view out).label) (F.entry files.new (F.Out.view out).label)
         stop.position stop.fault) }
     ensures others { SparesBut (F.Out.view out).label (F.entry files.old) (F.entry files.new) }
-    ensures noted { F.events files.new ≡ F.events files.old ++ Closed ∷ [] }
+    ensures noted { F.events files.new
+        ≡ F.events files.old ++ Closed wanted.now.durability ∷ [] }
 {
     let positions = positions_for(wanted.save);
     match resume_with(alloc, positions, identity, position, source, old, &mut out) {
@@ -122,10 +125,13 @@ fn write_out<F: FileSet, P: Meter>(
         → OutStops (ResumptionStop (PortsOf F.In.view F.Out.view)
         (kept_for (text_of wanted.now.save)) identity.now position.now
         (F.In.view source).remaining (F.In.view old.old).remaining stop.position stop.fault)
+        (ResumesOut identity.now position.now (F.In.view source).remaining
+        (F.In.view old.old).remaining)
         (F.entry files.old (F.Out.view out).label) (F.entry files.new (F.Out.view out).label)
         stop.position stop.fault) }
     ensures others { SparesBut (F.Out.view out).label (F.entry files.old) (F.entry files.new) }
-    ensures noted { F.events files.new ≡ F.events files.old ++ Closed ∷ [] }
+    ensures noted { F.events files.new
+        ≡ F.events files.old ++ Closed wanted.now.durability ∷ [] }
     ensures silent { wanted.now.progress ≡ Silent → progress.new ≡ progress.old }
 {
     match wanted.progress {
@@ -180,6 +186,29 @@ fn names_one_twice<F: FileSet>(files: &F, asked: &Resuming<'_>) -> bool
         || is_given_as(files, others.save, asked.old)
 }
 
+/// Opens the earlier output. Where the position has no chunk before it, a missing one counts as
+/// empty: a run that stops before its first chunk makes none.
+fn open_old<F: FileSet>(
+    alloc: Global,
+    files: &mut F,
+    name: &str,
+    position: &Position,
+) -> Result<F::In, FileFault>
+    ensures told { F.tells files.new ≡ F.tells files.old }
+    ensures kept { F.entry files.new ≡ F.entry files.old }
+    ensures found { IfOk result (λ s. F.tells files.old ≡ true
+        → (is_some (old_for position.now (F.entry files.old name.now)) ≡ true)
+        × ((F.In.view s).remaining ≡ old_for position.now (F.entry files.old name.now))) }
+    ensures noted { F.events files.new ≡ F.events files.old ++ Opened name.now ∷ [] }
+    ensures faults { IfErr result (IsMemoryOr Read) }
+{
+    if position.index == 0 {
+        files.open_or_empty(alloc, name)
+    } else {
+        files.open(alloc, name)
+    }
+}
+
 /// The position, and then the earlier output, opened.
 fn open_earlier<F: FileSet>(
     alloc: Global,
@@ -191,8 +220,8 @@ fn open_earlier<F: FileSet>(
     ensures read { IfOk result (λ both. F.tells files.old ≡ true
         → IsPositionIn (F.entry files.old asked.now.position.now) both.0) }
     ensures found { IfOk result (λ both. F.tells files.old ≡ true
-        → (is_some (F.entry files.old asked.now.old.now) ≡ true)
-        × ((F.In.view both.1).remaining ≡ F.entry files.old asked.now.old.now)) }
+        → (is_some (old_for both.0 (F.entry files.old asked.now.old.now)) ≡ true)
+        × ((F.In.view both.1).remaining ≡ old_for both.0 (F.entry files.old asked.now.old.now))) }
     ensures noted { OnOk result (F.events files.new ≡ F.events files.old
         ++ Opened asked.now.position.now ∷ Opened asked.now.old.now ∷ []) }
     ensures follows { Follows (Opened asked.now.position.now ∷ Opened asked.now.old.now ∷ [])
@@ -200,7 +229,7 @@ fn open_earlier<F: FileSet>(
     ensures faults { IfErr result (λ f. IsMemoryOr Read f ⊎ (f ≡ BadPosition)) }
 {
     let position = read_position(alloc, files, asked.position)?;
-    let old = files.open(alloc, asked.old)?;
+    let old = open_old(alloc, files, asked.old, &position)?;
     Ok((position, old))
 }
 
@@ -240,8 +269,14 @@ pub fn resume_file<F: FileSet, P: Meter>(
     let secret = read_unlocking(alloc, files, wanted, is_file_named_twice)?;
     let identity = identity_of(&wanted.unlocking, &secret)?;
     let (position, mut old) = open_earlier(alloc, files, asked)?;
-    let held = Some(asked.position);
-    let (source, out) = open_both(alloc, files, wanted.from, wanted.to, wanted.save, held)?;
+    let outputs = Outputs {
+        to: wanted.to,
+        save: wanted.save,
+        position: Some(asked.position),
+        durability: wanted.durability,
+        progress: wanted.progress,
+    };
+    let (source, out) = open_both(alloc, files, wanted.from, &outputs)?;
     match write_out(
         alloc, files, source, &mut old, &identity, &position, out, wanted, progress,
     ) {

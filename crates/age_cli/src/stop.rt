@@ -56,8 +56,8 @@ fn save<F: FileSet>(
     ensures unsaved { OnErr result
         (SaveFails (text_of name.entry) position (F.entry files.old) (F.entry files.new)) }
     ensures alone { position ≡ None → F.entry files.new ≡ F.entry files.old }
-    ensures noted { Follows (replacing (text_of name.entry)) (F.events files.old)
-        (F.events files.new) }
+    ensures noted { Follows (replacing (text_of name.entry) durability)
+        (F.events files.old) (F.events files.new) }
     ensures idle { position ≡ None → F.events files.new ≡ F.events files.old }
     ensures others { F.tells files.old ≡ true
         → SparesBoth None (text_of name.entry) (F.entry files.old) (F.entry files.new) }
@@ -82,8 +82,8 @@ pub(crate) fn end_of<F: FileSet>(
         → EndsOf stop.fault (text_of name.entry) stop.position (F.entry files.old)
         (F.entry files.new) result }
     ensures alone { stop.position ≡ None → F.entry files.new ≡ F.entry files.old }
-    ensures noted { Follows (replacing (text_of name.entry)) (F.events files.old)
-        (F.events files.new) }
+    ensures noted { Follows (replacing (text_of name.entry) durability)
+        (F.events files.old) (F.events files.new) }
     ensures idle { stop.position ≡ None → F.events files.new ≡ F.events files.old }
     ensures others { F.tells files.old ≡ true
         → SparesBoth None (text_of name.entry) (F.entry files.old) (F.entry files.new) }

@@ -1,8 +1,9 @@
 -- The order in which a command opens and makes the files that the arguments name.
 use Rattle.std.specs.Prelude.{List, [], ◌++◌, Option, Some, None, codes}
 use Rattle.clap.specs.Words.{Text}
+use Rattle.age_io.specs.declared.durability.Durability.{Durability}
 use Rattle.age_fileset.specs.Events.{Event}
-use Rattle.age_cli_common.specs.EventOrders.{opening, making, replacing, identity_order}
+use Rattle.age_cli_common.specs.EventOrders.{opening, preparing, making, replacing, identity_order}
 use Rattle.age_cli_args.specs.Requests.{text_of}
 use Rattle.age_cli_args.specs.declared.request.Request.{Request}
 use Rattle.age_cli_args.specs.declared.request.Request.TheVariants.{Inspect, Decrypt, Resume}
@@ -25,28 +26,31 @@ random_name None = codes "/dev/urandom"
 random_name (Some name) = name
 
 -- the passphrase, the random bytes, the input, the output
-abbrev pub encrypting_order : Option Text → Option Text → Option Text → Option Text → Order
-encrypting_order pass random from to =
+abbrev pub encrypting_order : Option Text → Option Text → Option Text → Option Text → Durability
+    → Order
+encrypting_order pass random from to durability =
     let judged = opening pass ++ opening (Some (random_name random)) in
-    let done = judged ++ (opening from ++ making to) in
+    let done = judged ++ (opening from ++ making to durability) in
     record { judged = judged; done = done; whole = done }
 
--- what opens the input, the input, the output; where it stops the position
-abbrev pub decrypting_order : Option Text → Option Text → Option Text → Option Text → Option Text
-    → Order
-decrypting_order pass shared from to save =
-    let judged = identity_order pass shared in
-    let done = judged ++ (opening from ++ making to) in
-    record { judged = judged; done = done; whole = done ++ replacing save }
-
--- what opens the input, the position, the old text, the input, the output; where it stops the next
+-- what opens the input, the input, the file of the position, the output; where it stops the
 -- position
-abbrev pub resuming_order : Option Text → Option Text → Option Text → Option Text → Option Text
-    → Option Text → Option Text → Order
-resuming_order pass shared position old from to save =
+abbrev pub decrypting_order : Option Text → Option Text → Option Text → Option Text → Option Text
+    → Durability → Order
+decrypting_order pass shared from to save durability =
     let judged = identity_order pass shared in
-    let done = judged ++ ((opening position ++ (opening old ++ opening from)) ++ making to) in
-    record { judged = judged; done = done; whole = done ++ replacing save }
+    let done = judged ++ (opening from ++ (preparing save ++ making to durability)) in
+    record { judged = judged; done = done; whole = done ++ replacing save durability }
+
+-- what opens the input, the position, the old text, the input, the file of the next position, the
+-- output; where it stops the next position
+abbrev pub resuming_order : Option Text → Option Text → Option Text → Option Text → Option Text
+    → Option Text → Option Text → Durability → Order
+resuming_order pass shared position old from to save durability =
+    let judged = identity_order pass shared in
+    let done = judged ++ ((opening position ++ (opening old ++ opening from))
+    ++ (preparing save ++ making to durability)) in
+    record { judged = judged; done = done; whole = done ++ replacing save durability }
 
 -- the passphrase, where its file is named, the script, the input
 abbrev pub drilling_order : Option Text → Option Text → Option Text → Order
@@ -59,10 +63,11 @@ abbrev pub order_asked : Request → Order
 order_asked (Inspect file) = inspecting_order (text_of file)
 order_asked (Encrypt e) =
     encrypting_order (Some e.pass.now) (text_of e.random) (Some e.from.now) (Some e.to.now)
+    e.durability
 order_asked (Decrypt d) = decrypting_order (text_of d.unlocking.pass) (text_of d.unlocking.shared)
-    (Some d.from.now) (Some d.to.now) (text_of d.save)
+    (Some d.from.now) (Some d.to.now) (text_of d.save) d.durability
 order_asked (Resume r) =
     resuming_order (text_of r.decrypting.unlocking.pass) (text_of r.decrypting.unlocking.shared)
     (Some r.position.now) (Some r.old.now) (Some r.decrypting.from.now) (Some r.decrypting.to.now)
-    (text_of r.decrypting.save)
+    (text_of r.decrypting.save) r.decrypting.durability
 order_asked (Drill d) = drilling_order (text_of d.pass) (Some d.script.now) (Some d.from.now)

@@ -1,6 +1,6 @@
 //! What opens a file, as the options and the files make it.
 
-ghost use Rattle.std.specs.Prelude.{◌≡◌, [], ◌∷◌, ◌++◌, true, IfOk, IfErr, IfSome, Some};
+ghost use Rattle.std.specs.Prelude.{◌≡◌, ◌<◌, ◌^◌, [], ◌∷◌, ◌++◌, true, IfOk, IfErr, IfSome, Some};
 ghost use Rattle.age_keys.specs.Passphrase.{IsAllowed};
 ghost use Rattle.age_fault.specs.declared.fault.FileFault.TheVariants.{Read};
 ghost use Rattle.age_cli_common.specs.Endings.{EndsEarly};
@@ -108,12 +108,25 @@ pub fn secret_file<'a>(asked: &Unlocking<'a>) -> Result<Option<&'a str>, Usage>
     }
 }
 
-/// The bytes of that file. `None` where it has more than a secret may have.
+/// How many bytes that file may have: those of a shared secret and its recipient, or of a
+/// passphrase with a line feed.
+pub fn secret_room(asked: &Unlocking<'_>) -> usize
+    ensures { result < 2 ^ 32 }
+{
+    match asked.shared {
+        Some(_) => 64,
+        None => 65_537,
+    }
+}
+
+/// The bytes of that file. `None` where it has more than so many; at most one more is pulled.
 pub fn read_secret<F: FileSet>(
     alloc: Global,
     files: &mut F,
     name: Option<&str>,
+    room: usize,
 ) -> Result<Option<Vec<u8>>, FileFault>
+    requires { room < 2 ^ 32 }
     ensures told { F.tells files.new ≡ F.tells files.old }
     ensures kept { F.entry files.new ≡ F.entry files.old }
     ensures noted { F.events files.new ≡ F.events files.old ++ opening (text_of name.entry) }
@@ -124,7 +137,7 @@ pub fn read_secret<F: FileSet>(
     match name {
         Some(name) => {
             let mut source = files.open(alloc, name)?;
-            read_up_to(alloc, &mut source, 65_537)
+            read_up_to(alloc, &mut source, room)
         }
         None => Ok(None),
     }

@@ -13,6 +13,8 @@ mod telling;
 
 pub use ending::{Ending, Usage};
 pub use first_bytes::{fill_first, read_first, read_up_to};
-pub use identity::{Identity, identity_of, read_pass, read_secret, secret_file, trimmed};
+pub use identity::{
+    Identity, identity_of, read_pass, read_secret, secret_file, secret_room, trimmed,
+};
 pub use put::put_bytes;
 pub use telling::tell;

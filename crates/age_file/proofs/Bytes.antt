@@ -1,7 +1,7 @@
 -- Bytes that are told, one call after another.
 use Rattle.std.proofs.Common.{◌≡◌, ℕ, ◌≤◌, List, [], ◌++◌, length, take, drop, Option, Some, None, refl, sym, ap, subst}
 use Rattle.std.proofs.Common.{◌∙◌, append_assoc, append-nil, inl, inr, arith}
-use Rattle.std.specs.Prelude.{◌⊎◌, ◌≢◌}
+use Rattle.std.specs.Prelude.{◌⊎◌}
 use Rattle.std.specs.Io.KnownBytes.{Consumes, IsAtEnd}
 use Rattle.std.proofs.lemmas.List.{append_cancel_left, length-append, take-append-drop}
 use Rattle.age_io.specs.Views.{SourceView}
@@ -16,12 +16,11 @@ use Rattle.age_stanza.proofs.Pieces.{none_held}
 use Rattle.age_stanza.proofs.FaultLaws.{no_fault}
 use Rattle.age_stream.specs.Headline.{IsPrefixOf}
 use Rattle.age_fault.proofs.Bytes.{Consumes-then}
-use Rattle.age_file.specs.Faults.{IsCut, IsHeadFault, IsSourcesFault, TellsFault, StopsAtHeader, HeadFails}
-use Rattle.age_file.specs.inner.Faults.{IsInHeader}
+use Rattle.age_file.specs.Faults.{InHeader, IsCut, IsHeadFault, IsSourcesFault, TellsFault, StopsAtHeader, HeadFails}
+use Rattle.age_file.specs.inner.Faults.{StopsInHeader}
 use Rattle.age_fault.specs.inner.Faults.{fault_of, fault_by_kind}
 use Rattle.age_fault.specs.declared.fault.FileFault.{FileFault}
 use Rattle.age_fault.specs.declared.fault.FileFault.TheVariants.{Read, ReadNeverEnds}
-use Rattle.age_fault.specs.declared.fault.FileFault.TheVariants.{Memory as FileMemory}
 use Rattle.age_file.specs.inner.Intakes.{Pulled, PullFails}
 use Rattle.age_file.specs.inner.Readers.{reader_view}
 use Rattle.age_fault.specs.Faults.{HasFailed}
@@ -39,7 +38,7 @@ stops_at old new held piece most none sound consumed = record {
   before = held;
   last = piece;
   read = consumed;
-  one_pull = most;
+  few = most;
   no_header = none;
   no_fault = sound;
 }
@@ -114,12 +113,25 @@ piece_fails old new held piece fault most none sound consumed (inr told) =
       of_all = whole_fault old.remaining new.remaining (held ++ piece) fault consumed told.0 told.1;
     })
 
--- the same where more than the fault is asked
-pub piece_early : (old new : Option (List ℕ)) (held piece : List ℕ) (fault : HeadFault) (told : FileFault) → told ≡ fault_of fault
-    → Consumes old new (held ++ piece)
-    → (fault ≡ memory_fault) ⊎ ((HasHeader (held ++ piece) → ⊥) × IsFault (held ++ piece) fault) → told ≢ FileMemory → IsInHeader old new
-piece_early old new held piece fault told is consumed (inl memory) not = absurd (not (is ∙ ap fault_of memory))
-piece_early old new held piece fault told is consumed (inr refused) not = (held ++ piece, consumed, refused.0)
+-- a header's fault is neither that of a pull nor that of too many
+told_by_kind : (old new : Option (List ℕ)) (kind : HeadKind) (fault : HeadFault) → StopsInHeader old new (fault_by_kind kind fault)
+told_by_kind old new NotAge fault = tt
+told_by_kind old new Armored fault = tt
+told_by_kind old new BadStanzaLine fault = tt
+told_by_kind old new BadBody fault = tt
+told_by_kind old new BadEndLine fault = tt
+told_by_kind old new NoStanza fault = tt
+told_by_kind old new HeadTooLong fault = tt
+told_by_kind old new HeadCut fault = tt
+told_by_kind old new Memory fault = tt
+
+pub told_early : (old new : Option (List ℕ)) (fault : HeadFault) → StopsInHeader old new (fault_of fault)
+told_early old new fault = told_by_kind old new fault.kind fault
+
+pub pull_early : (old new : Option (List ℕ)) (fault : FileFault) → InHeader old new → StopsInHeader old new fault
+pull_early old new Read h = h
+pull_early old new ReadNeverEnds h = h
+pull_early old new other h = tt
 
 -- a refill that gave nothing
 pub cut_pulled : (start now : Option (List ℕ)) (pulls : ℕ) (held bytes : List ℕ) → bytes ≡ [] → Pulled start now pulls (held ++ bytes)

@@ -130,8 +130,8 @@ module _ (text : List ℕ) (few : chunk_count 65536 text ≤ 281474976710656) (k
     next_right OldTextDiffers f auth = (old_right f.4 f.5, none_carries (CarriesText text) position f.0)
     next_right (Stream x) (inl ends, unfailed) auth = in_skipped_right ends.skipped ends.stops
     next_right (Stream x) (inr ran, unfailed) auth = resumed_right ran.0 ran.1 ran.2.0.is ran.2.0.of ran.2.1 auth
-    next_right Write (inl s, why) auth = in_old_right s
-    next_right Write (inr ran, why) auth = resumed_right ran.0 ran.1 ran.2.0 ran.2.1 ran.2.2 auth
+    next_right Write (inl s, why, same) auth = in_old_right s
+    next_right Write (inr ran, why, same) auth = resumed_right ran.0 ran.1 ran.2.0 ran.2.1 ran.2.2 auth
     next_right Read (inl early) auth = none_right text old.main new.main written position empty early.0
     next_right Read (inr (inl s)) auth = in_old_right s.0
     next_right Read (inr (inr (inl s))) auth = in_skipped_right s.0 s.1

@@ -59,14 +59,14 @@ module _ (keep : Positions) (Allows : Header → List ℕ → Type 0) (Refused :
       → DecryptFails keep Allows Refused (before a old) (after new) new.writer.progress.written p fault
   fails a old new r pulled p (Stream x) from same h is at f =
       (r, from, (record { is = is; whole = f.1; of = writes_of r (first_fits r from) is.prefix }, at), f.0, (f.2.0 ∙ same, f.2.1))
-  fails a old new r pulled p Write from same h is at f = (r, from, (is, writes_of r (first_fits r from) is.prefix, at), f)
+  fails a old new r pulled p Write from same h is at f = (r, from, (is, writes_of r (first_fits r from) is.prefix, at, f.0), (f.1.0, f.1.1 ∙ same))
   fails a old new r pulled p Read from same h is at f = (
-    inr (r, from, (record { is = is; whole = f.0; of = writes_of r (first_fits r from) is.prefix }, at)),
-    subst (λ (m : ℕ). HasFailed m new.reader.source.failed new.reader.source.failing) same f.1,
+    inr (r, from, (record { is = is; whole = f.0; of = writes_of r (first_fits r from) is.prefix }, at), f.1),
+    (subst (λ (m : ℕ). HasFailed m new.reader.source.failed new.reader.source.failing) same f.2.0, f.2.1),
   )
   fails a old new r pulled p ReadNeverEnds from same h is at f = (
-    inr (r, from, (record { is = is; whole = f.0; of = writes_of r (first_fits r from) is.prefix }, at)),
-    (pulled, h.consumed, (omega (arith, h.each_gave, f.1), omega (arith, h.small, f.1))),
+    inr (r, from, (record { is = is; whole = f.0; of = writes_of r (first_fits r from) is.prefix }, at), f.1),
+    (pulled, h.consumed, (omega (arith, h.each_gave, f.2), omega (arith, h.small, f.2))),
   )
   fails a old new r pulled p other from same h is at f = absurd f
 
@@ -179,10 +179,10 @@ module _ (keep : Positions) (Allows : Header → List ℕ → Type 0) (Refused :
       })
 
   -- no payload came to be opened
-  pub start_fails : (old new : Ports) (fault : FileFault) → Appends old.sink.taken new.sink.taken [] → StartFails Allows Refused old.source new.source fault
+  pub start_fails : (old new : Ports) (fault : FileFault) → Appends old.sink.taken new.sink.taken [] → new.sink.failed ≡ old.sink.failed → StartFails Allows Refused old.source new.source fault
       → DecryptFails keep Allows Refused old new 0 None fault
-  start_fails old new Read none f = (inl ((none, refl, refl), f.0), f.1)
-  start_fails old new ReadNeverEnds none f = (inl ((none, refl, refl), f.0), f.1)
-  start_fails old new (Stream x) none f = absurd f
-  start_fails old new Write none f = absurd f
-  start_fails old new other none f = ((none, refl, refl), f)
+  start_fails old new Read none same f = (inl ((none, refl, refl), f.0), (f.1, same))
+  start_fails old new ReadNeverEnds none same f = (inl ((none, refl, refl), f.0), f.1)
+  start_fails old new (Stream x) none same f = absurd f
+  start_fails old new Write none same f = absurd f
+  start_fails old new other none same f = ((none, refl, refl), f)

@@ -7,15 +7,15 @@ use Rattle.age_chunk.specs.Payload.{payload}
 use Rattle.age_keys.specs.Keys.{header_mac, IsMacOf}
 use Rattle.age_keys.specs.Scrypt.{scrypt_head}
 use Rattle.age_file.specs.AgeFile.{box}
-use Rattle.age_file.specs.Encrypts.{AgeFile, Encrypts, EncryptsFront, EncryptFails, WhyStopped}
+use Rattle.age_file.specs.Encrypts.{AgeFile, Encrypts, EncryptsFront, EncryptFails, WhyStopped, without_last}
 use Rattle.age_file.specs.inner.Encrypts.{BeginsFile, FrontFails, WritesFront}
 use Rattle.age_file.specs.declared.encryption.Written.{Written}
 use Rattle.age_fault.specs.Writes.{Writes}
 use Rattle.age_io.specs.Views.{SourceView}
 use Rattle.age_file.specs.inner.Readers.{WriterView}
 use Rattle.age_fault.specs.Faults.{HasFailed}
-use Rattle.age_file.specs.Ports.{Ports, ports}
-use Rattle.age_file.specs.inner.Seals.{SealingFails, SealsAll, SealsFront}
+use Rattle.age_file.specs.Ports.{Ports, ports, NoneFailed, WriteFailed}
+use Rattle.age_file.specs.inner.Seals.{front_of, SealingFails, SealsAll, SealsFront}
 use Rattle.age_file.specs.Secrets.{SecretView}
 use Rattle.age_fault.specs.declared.fault.FileFault.{FileFault}
 use Rattle.age_fault.specs.declared.fault.FileFault.TheVariants.{Head, Key, NonceCut, Stream, BadPosition, OtherFile, ShortText, Read, Write, Memory}
@@ -38,9 +38,10 @@ module _ (s : SecretView) (front : List ℕ) (begins : BeginsFile s front) where
       }
 
   -- the sink failed in the front
-  pub front_cut : (old new : Ports) (coming : new.source.remaining ≡ old.source.remaining) (failed : HasFailed old.sink.failed new.sink.failed new.sink.failing)
+  pub front_cut : (old new : Ports) (coming : new.source.remaining ≡ old.source.remaining) (failed : WriteFailed old new)
       (out unwritten : List ℕ) → front ≡ out ++ unwritten → Appends old.sink.taken new.sink.taken out
       → EncryptsFront s old new Write
+  unfolding file_of
   front_cut old new coming failed out unwritten parts wrote =
       record {
         text = [];
@@ -81,22 +82,36 @@ module _ (s : SecretView) (front : List ℕ) (begins : BeginsFile s front) where
     file_done (Ok w) all a = sealed_all w all a
     file_done (Err fault) all a = tt
 
-    why_stopped : (text : List ℕ) (fault : FileFault) → SealingFails 65536 mid new text fault → WhyStopped old new text fault
-    why_stopped text (Stream fault) f = (omega (arith, f.0), f.1)
-    why_stopped text Read f = subst (λ (k : ℕ). HasFailed k new.source.failed new.source.failing) read_failed f
-    why_stopped text Write f = subst (λ (k : ℕ). HasFailed k new.sink.failed new.sink.failing) write_failed f
-    why_stopped text ReadNeverEnds f = f
-    why_stopped text (Head fault) f = absurd f
-    why_stopped text (Key fault) f = absurd f
-    why_stopped text NonceCut f = absurd f
-    why_stopped text BadPosition f = absurd f
-    why_stopped text OtherFile f = absurd f
-    why_stopped text ShortText f = absurd f
-    why_stopped text Memory f = absurd f
-    why_stopped text PositionForged f = absurd f
-    why_stopped text OldTextDiffers f = absurd f
+    none_failed : NoneFailed mid new → NoneFailed old new
+    none_failed f = (f.0 ∙ read_failed, f.1 ∙ write_failed)
+
+    -- the blocks before the last, after what stands before them
+    last_missing : (text out : List ℕ) → out ≡ front_of (box s.key s.nonce) 65536 text → front ++ out ≡ without_last s begins.front text
+    last_missing text out e =
+        ap (λ (t : List ℕ). front ++ t) e ∙ ap (λ (t : List ℕ). t ++ front_of (box s.key s.nonce) 65536 text) begins.parts
+
+    why_stopped : (text out : List ℕ) (fault : FileFault) → SealingFails (box s.key s.nonce) 65536 mid new text out fault
+        → WhyStopped s old new begins.front text (front ++ out) fault
+    why_stopped text out (Stream fault) f = (omega (arith, f.0), f.1, none_failed f.2)
+    why_stopped text out Read f = (
+      last_missing text out f.0,
+      (subst (λ (k : ℕ). HasFailed k new.source.failed new.source.failing) read_failed f.1.0, f.1.1 ∙ write_failed),
+    )
+    why_stopped text out Write f =
+        (subst (λ (k : ℕ). HasFailed k new.sink.failed new.sink.failing) write_failed f.0, f.1 ∙ read_failed)
+    why_stopped text out ReadNeverEnds f = (last_missing text out f.0, f.1, none_failed f.2)
+    why_stopped text out (Head fault) f = absurd f
+    why_stopped text out (Key fault) f = absurd f
+    why_stopped text out NonceCut f = absurd f
+    why_stopped text out BadPosition f = absurd f
+    why_stopped text out OtherFile f = absurd f
+    why_stopped text out ShortText f = absurd f
+    why_stopped text out Memory f = absurd f
+    why_stopped text out PositionForged f = absurd f
+    why_stopped text out OldTextDiffers f = absurd f
 
     stopped : (fault : FileFault) → SealsFront (box s.key s.nonce) 65536 mid new mid_written new_written fault → EncryptsFront s old new fault
+    unfolding file_of
     stopped fault a =
         record {
           text = a.text;
@@ -106,7 +121,7 @@ module _ (s : SecretView) (front : List ℕ) (begins : BeginsFile s front) where
           read = subst (λ t. Consumes t new.source.remaining a.text) coming a.moved.read;
           wrote = Appends-then old.sink.taken mid.sink.taken new.sink.taken front a.out wrote a.moved.wrote;
           prefix = (a.prefix.0, append_assoc front a.out a.prefix.0 ∙ ap (λ (t : List ℕ). front ++ t) a.prefix.1);
-          why = why_stopped a.text fault a.fails;
+          why = why_stopped a.text a.out fault a.fails;
         }
 
     sealing_stopped : (fault : FileFault) → SealsFront (box s.key s.nonce) 65536 mid new mid_written new_written fault → EncryptFails s old new fault
@@ -134,7 +149,7 @@ pub front_fails : (s : SecretView) (source : SourceView) (was now : WriterView) 
     → EncryptFails s (ports source was.sink) (ports source now.sink) fault
 front_fails s source was now Memory f = ap (λ w. ports source w.sink) f
 front_fails s source was now Write f =
-    front_cut s f.front f.begins (ports source was.sink) (ports source now.sink) refl f.failed f.out f.unwritten f.parts f.wrote
+    front_cut s f.front f.begins (ports source was.sink) (ports source now.sink) refl (f.failed, refl) f.out f.unwritten f.parts f.wrote
 front_fails s source was now other f = absurd f
 
 -- all of it was, or a front of it

@@ -1,15 +1,15 @@
 -- What flows from a source through an opener to a sink, one turn after another. A chunk has n bytes.
 use Rattle.std.proofs.Common.{◌≡◌, ℕ, ◌+◌, ◌*◌, ◌^◌, ◌<◌, ◌≤◌, List, [], ◌++◌, length, Option, refl, sym, ap, subst, ◌∙◌, arith}
 use Rattle.std.proofs.Common.{append-nil, append_assoc, Bool, true, false}
-use Rattle.std.specs.Prelude.{Result, Ok, Err}
+use Rattle.std.specs.Prelude.{Result, Ok, Err, ◌⊎◌}
 use Rattle.std.specs.Io.KnownBytes.{IsAtEnd}
 use Rattle.std.proofs.lemmas.List.{length-append}
 use Rattle.age_io.specs.Views.{SourceView}
-use Rattle.age_stream.specs.declared.step.Status.TheVariants.{Failed}
+use Rattle.age_stream.specs.declared.step.Status.TheVariants.{Failed, Done}
 use Rattle.age_stream.specs.Deliveries.{with_piece}
-use Rattle.age_stream.specs.Opening.{OpenerView}
+use Rattle.age_stream.specs.Opening.{OpenerView, has_failed}
 use Rattle.age_fault.specs.Faults.{HasFailed}
-use Rattle.age_file.specs.Ports.{NoneFailed}
+use Rattle.age_file.specs.Ports.{NoneFailed, ReadFailed, WriteFailed}
 use Rattle.age_file.specs.inner.Unread.{Unread}
 use Rattle.age_file.specs.inner.Readers.{ReaderView, reader_view, WriterView, Stage, stage, ports_at}
 use Rattle.age_file.specs.inner.Intakes.{Pulled, Refills, PullFails}
@@ -22,9 +22,10 @@ use Rattle.age_file.proofs.ReleaseSteps.{releases_none, releases_then}
 abbrev pub FlowFails : {B : Type 0} → OpenerView B → Stage → Stage → List ℕ → List ℕ → FileFault → Type 0
 FlowFails opener old new left unwritten (Stream fault) = (opener.status ≡ Failed fault) × (left ≡ []) × (unwritten ≡ [])
     × NoneFailed (ports_at old) (ports_at new)
-FlowFails opener old new left unwritten Write = HasFailed old.writer.sink.failed new.writer.sink.failed new.writer.sink.failing
-FlowFails opener old new left unwritten Read = (left ≡ []) × (unwritten ≡ []) × HasFailed old.reader.source.failed new.reader.source.failed new.reader.source.failing
-FlowFails opener old new left unwritten ReadNeverEnds = (left ≡ []) × (unwritten ≡ []) × (new.reader.unread.pulls ≡ 2 ^ 63)
+FlowFails opener old new left unwritten Write = ((0 < length unwritten) ⊎ ((left ≡ []) × (opener.status ≡ Done))) × WriteFailed (ports_at old) (ports_at new)
+FlowFails opener old new left unwritten Read = (left ≡ []) × (unwritten ≡ []) × (has_failed opener.status ≡ false)
+    × ReadFailed (ports_at old) (ports_at new)
+FlowFails opener old new left unwritten ReadNeverEnds = (left ≡ []) × (unwritten ≡ []) × (has_failed opener.status ≡ false) × (new.reader.unread.pulls ≡ 2 ^ 63)
     × NoneFailed (ports_at old) (ports_at new)
 FlowFails opener old new left unwritten other = ⊥
 
@@ -41,6 +42,7 @@ module _ {B : Type 0} (opening : B → List ℕ → List ℕ → Option (List �
   -- all but what is unread was fed and written, and there is room for it: few bytes for the pulls that were made
   pub record GoesOn (a b : OpenerView B) (old new : Stage) : Type 0 where
     pub flows : Flows a b old new new.reader.unread.bytes []
+    pub sound : has_failed b.status ≡ false
     pub same : NoneFailed (ports_at old) (ports_at new)
     pub room : length b.held + new.writer.progress.written + length new.reader.unread.bytes ≤ 2 ^ 64 + 65536 * new.reader.unread.pulls
     pub most : new.reader.unread.pulls ≤ 2 ^ 63
@@ -61,8 +63,8 @@ module _ {B : Type 0} (opening : B → List ℕ → List ℕ → Option (List �
 
   pub begins : (a : OpenerView B) (old : Stage) → length a.held + old.writer.progress.written + length old.reader.unread.bytes
       ≤ 2 ^ 64 + 65536 * old.reader.unread.pulls
-      → old.reader.unread.pulls ≤ 2 ^ 63 → GoesOn a a old old
-  begins a old room most =
+      → old.reader.unread.pulls ≤ 2 ^ 63 → has_failed a.status ≡ false → GoesOn a a old old
+  begins a old room most sound =
       record {
         flows = record {
           fed = [];
@@ -71,6 +73,7 @@ module _ {B : Type 0} (opening : B → List ℕ → List ℕ → Option (List �
           releases = releases_none opening n a old.writer;
           pulled = λ start bytes h. subst (λ (t : List ℕ). Pulled start old.reader.source.remaining old.reader.unread.pulls t) (sym (append-nil bytes)) h;
         };
+        sound = sound;
         same = (refl, refl);
         room = room;
         most = most;
@@ -99,6 +102,7 @@ module _ {B : Type 0} (opening : B → List ℕ → List ℕ → Option (List �
         let whole = subst (λ (t : List ℕ). Flows a c old (stage (reader_view source v) now) f.left t) goes.1 flows in
         record {
           flows = subst (λ (t : List ℕ). Flows a c old (stage (reader_view source v) now) t []) (f.answered.0 ∙ sym used) whole;
+          sound = goes.3;
           same = (p.same.0, goes.2 ∙ p.same.1);
           room = omega (arith, p.room, goes.0, pulls, ap length used, ap length is, ap length f.parts, length-append f.fed f.left);
           most = omega (arith, p.most, pulls);
@@ -107,7 +111,7 @@ module _ {B : Type 0} (opening : B → List ℕ → List ℕ → Option (List �
     feed_fails : (left unwritten : List ℕ) (fault : FileFault) → FeedFails opening n c was now left unwritten fault
         → FlowFails c old (stage (reader_view source v) now) left unwritten fault
     feed_fails left unwritten (Stream f) h = (h.0, h.1, h.2, (p.same.0, h.3 ∙ p.same.1))
-    feed_fails left unwritten Write h = subst (λ (k : ℕ). HasFailed k now.sink.failed now.sink.failing) p.same.1 h
+    feed_fails left unwritten Write h = (h.1, (subst (λ (k : ℕ). HasFailed k now.sink.failed now.sink.failing) p.same.1 h.0, p.same.0))
     feed_fails left unwritten other h = absurd h
 
     -- the piece was refused, or the sink failed
@@ -140,6 +144,7 @@ module _ {B : Type 0} (opening : B → List ℕ → List ℕ → Option (List �
         let h = r.answered in
         record {
           flows = pulled_on (Ok true) r;
+          sound = p.sound;
           same = (h.4 ∙ p.same.0, p.same.1);
           room = omega (arith, p.room, h.1, h.3, ap length used);
           most = h.2;
@@ -156,8 +161,8 @@ module _ {B : Type 0} (opening : B → List ℕ → List ℕ → Option (List �
         }
 
     pull_fails : (fault : FileFault) → z.unread.bytes ≡ [] → PullFails x z fault → FlowFails b old (stage z now) z.unread.bytes [] fault
-    pull_fails Read none h = (none, refl, subst (λ (k : ℕ). HasFailed k z.source.failed z.source.failing) p.same.0 h)
-    pull_fails ReadNeverEnds none h = (none, refl, h.0, (h.1 ∙ p.same.0, p.same.1))
+    pull_fails Read none h = (none, refl, p.sound, (subst (λ (k : ℕ). HasFailed k z.source.failed z.source.failing) p.same.0 h, p.same.1))
+    pull_fails ReadNeverEnds none h = (none, refl, p.sound, h.0, (h.1 ∙ p.same.0, p.same.1))
     pull_fails other none h = absurd h
 
     pub pull_stops : (fault : FileFault) → Refills x z (Err fault) → Stops a b old (stage z now) fault

@@ -1,11 +1,12 @@
 -- From what an opener did to the segment that it was given.
-use Rattle.std.proofs.Common.{◌<◌, ◌*◌, length, ◌≡◌, ℕ, List, [], ◌++◌, Option, refl, sym, ap, subst, ◌∙◌, append-nil, append_assoc, true, false}
+use Rattle.std.proofs.Common.{◌<◌, ◌*◌, length, ◌≡◌, ℕ, List, [], ◌++◌, Option, refl, sym, ap, subst, ◌∙◌, append-nil, append_assoc, true, false, inl, inr, arith, ◌+◌}
+use Rattle.std.proofs.lemmas.List.{length-append}
 use Rattle.std.specs.Prelude.{Result, MatchResult, Ok, Err}
 use Rattle.std.specs.List.{flat_map}
 use Rattle.age_stream.specs.declared.step.Status.TheVariants.{Done}
 use Rattle.age_stream.specs.Segment.{Segment, Outcome, outcome, released}
 use Rattle.age_stream.specs.Deliveries.{with_piece, with_end, fresh}
-use Rattle.age_stream.specs.Opening.{OpenerView, Stands}
+use Rattle.age_stream.specs.Opening.{OpenerView, Stands, has_failed}
 use Rattle.age_stream.specs.Headline.{IsPrefixOf}
 use Rattle.age_stream.proofs.PublicLaws.{fresh_is_open, released_grows}
 use Rattle.age_fault.specs.Faults.{HasFailed}
@@ -40,6 +41,20 @@ module _ (op : List ℕ → List ℕ → Option (List ℕ)) (n k : ℕ) where
       ∙ (ap (λ (t : List ℕ). out ++ t) (sym whole)
       ∙ (sym e ∙ ap (λ (t : List ℕ). released op n (segment k t false)) (sym (append-nil fed) ∙ ap (λ (t : List ℕ). fed ++ t) (sym none))))
 
+  -- what was not written of the text of some bytes was not written of that of more
+  less : (fed left out unwritten : List ℕ) → released op n (segment k fed false) ≡ out ++ unwritten → 0 < length unwritten
+      → length out < length (released op n (segment k (fed ++ left) false))
+  less fed left out unwritten e some =
+      let r = (released_grows op n (segment k fed false) left (λ _. refl)).0 in
+      omega (
+        arith,
+        some,
+        ap length e,
+        length-append out unwritten,
+        ap length r.1,
+        length-append (released op n (segment k fed false)) r.0,
+      )
+
 module _ {B : Type 0} (sealing : B → List ℕ → List ℕ → List ℕ) (opening : B → List ℕ → List ℕ → Option (List ℕ)) (valid : (key : B)
     → IsChunkBox (sealing key) (opening key)) (n : ℕ) (positive : 0 < n) where
   module _ (K : B) (k : ℕ) where
@@ -69,6 +84,13 @@ module _ {B : Type 0} (sealing : B → List ℕ → List ℕ → List ℕ) (open
         (o.counts keep positive (fresh k) base len h first) in
         marked (sealing K) (opening K) (valid K) n positive keep base (next (fresh k)) last more o.out unwritten now.progress is e m
 
+    -- an opener that has no fault, where all was fed
+    sound : (o : OpenerView B) (fed left : List ℕ) → left ≡ [] → o.status ≡ (outcome (opening K) n (segment k fed false)).status
+        → has_failed o.status ≡ false → has_failed (outcome (opening K) n (segment k (fed ++ left) false)).status ≡ false
+    sound o fed left none s h =
+        let same : fed ++ left ≡ fed = ap (λ (t : List ℕ). fed ++ t) none ∙ append-nil fed in
+        ap (λ (t : List ℕ). has_failed (outcome (opening K) n (segment k t false)).status) same ∙ (ap has_failed (sym s) ∙ h)
+
     stop_fails : (o : OpenerView B) (old new : Stage) (fed left out unwritten : List ℕ) (fault : FileFault) → released (opening K) n (segment k fed false)
         ≡ out ++ unwritten
         → o.status ≡ (outcome (opening K) n (segment k fed false)).status
@@ -79,9 +101,14 @@ module _ {B : Type 0} (sealing : B → List ℕ → List ℕ → List ℕ) (open
           exact (opening K) n k fed left out unwritten e h.1 h.2,
           h.3,
         )
-    stop_fails o old new fed left out unwritten Write e s h = h
-    stop_fails o old new fed left out unwritten Read e s h = (exact (opening K) n k fed left out unwritten e h.0 h.1, h.2)
-    stop_fails o old new fed left out unwritten ReadNeverEnds e s h = (exact (opening K) n k fed left out unwritten e h.0 h.1, h.2, h.3)
+    stop_fails o old new fed left out unwritten Write e s (inl some, h) = (inl (less (opening K) n k fed left out unwritten e some), h)
+    stop_fails o old new fed left out unwritten Write e s (inr done, h) =
+        let same : fed ≡ fed ++ left = sym (append-nil fed) ∙ ap (λ (t : List ℕ). fed ++ t) (sym done.0) in
+        (inr (ap (λ (t : List ℕ). (outcome (opening K) n (segment k t false)).status) (sym same) ∙ (sym s ∙ done.1)), h)
+    stop_fails o old new fed left out unwritten Read e s h =
+        (exact (opening K) n k fed left out unwritten e h.0 h.1, (refl, sound o fed left h.0 s h.2), h.3)
+    stop_fails o old new fed left out unwritten ReadNeverEnds e s h =
+        (exact (opening K) n k fed left out unwritten e h.0 h.1, (refl, sound o fed left h.0 s h.2), h.3, h.4)
     stop_fails o old new fed left out unwritten other e s h = absurd h
 
     pub pour_stopped : (a b : OpenerView B) (old new : Stage) (fault : FileFault) → a.key ≡ K → Stands opening n a (fresh k) → Stops opening n a b old new fault
@@ -118,7 +145,14 @@ module _ {B : Type 0} (sealing : B → List ℕ → List ℕ → List ℕ) (open
         (refl, sym s ∙ h.0, sym (append-nil out) ∙ (ap (λ (t : List ℕ). out ++ t) (sym h.1) ∙ sym e), (same.0, h.2 ∙ same.1))
     done_or_fails c old mid now bytes out unwritten (Err (Stream f)) same e s h =
         (sym s ∙ h.0, sym (append-nil out) ∙ (ap (λ (t : List ℕ). out ++ t) (sym h.2) ∙ sym e), (same.0, h.3 ∙ same.1))
-    done_or_fails c old mid now bytes out unwritten (Err Write) same e s h = subst (λ (x : ℕ). HasFailed x now.sink.failed now.sink.failing) same.1 h
+    done_or_fails c old mid now bytes out unwritten (Err Write) same e s (h, inl some) = (
+      inl (omega (arith, some, ap length e, length-append out unwritten)),
+      (subst (λ (x : ℕ). HasFailed x now.sink.failed now.sink.failing) same.1 h, same.0),
+    )
+    done_or_fails c old mid now bytes out unwritten (Err Write) same e s (h, inr done) = (
+      inr (sym s ∙ done.1),
+      (subst (λ (x : ℕ). HasFailed x now.sink.failed now.sink.failing) same.1 h, same.0),
+    )
     done_or_fails c old mid now bytes out unwritten (Err other) same e s h = absurd h
 
     pub pour_ended : (a b c : OpenerView B) (old mid : Stage) (now : WriterView) (result : Result (Unit {0}) FileFault) → a.key ≡ K

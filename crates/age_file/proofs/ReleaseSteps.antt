@@ -1,6 +1,6 @@
 -- Feeding an opener and writing what it releases, one call after another.
 use Rattle.std.proofs.Common.{◌<◌, ◌*◌, Some, None, ◌≡◌, ℕ, ◌+◌, ◌≤◌, List, [], ◌++◌, length, take, Option, refl, sym, ap, subst, ◌∙◌, arith, append-nil}
-use Rattle.std.proofs.Common.{append_assoc}
+use Rattle.std.proofs.Common.{append_assoc, false}
 use Rattle.std.specs.List.{flat_map}
 use Rattle.std.specs.Borrow.{Bor}
 use Rattle.std.proofs.lemmas.Grind.{flat_map-append}
@@ -8,7 +8,7 @@ use Rattle.std.proofs.lemmas.List.{length-append, length-take}
 use Rattle.std.specs.Io.KnownBytes.{Appends}
 use Rattle.age_stream.specs.Segment.{Segment, outcome, released}
 use Rattle.age_stream.specs.Deliveries.{with_piece}
-use Rattle.age_stream.specs.Opening.{OpenerView, Stands, chunk_texts}
+use Rattle.age_stream.specs.Opening.{has_failed, OpenerView, Stands, chunk_texts}
 use Rattle.age_stream.proofs.PublicLaws.{pieces_join}
 use Rattle.age_stream.specs.Lent.{chunk_bytes}
 use Rattle.age_fault.specs.Faults.{HasFailed}
@@ -162,14 +162,14 @@ module _ {B : Type 0} (opening : B → List ℕ → List ℕ → Option (List �
   pub goes_front : (old new : OpenerView B) (was now : WriterView) (piece : List ℕ) (taken : ℕ) (chunk : Option (Bor (List ℕ))) (out unwritten : List ℕ)
       → taken ≤ length piece → length new.held + length (chunk_bytes chunk) ≤ length old.held + taken
       → chunk_bytes chunk ≡ out ++ unwritten → now.progress.written ≡ was.progress.written + length out → unwritten ≡ [] → now.sink.failed ≡ was.sink.failed
-      → (taken ≡ length (take taken piece)) × FeedGoes opening n old new was now (take taken piece) unwritten
-  goes_front old new was now piece taken chunk out unwritten le room lent count whole failed =
+      → has_failed new.status ≡ false → (taken ≡ length (take taken piece)) × FeedGoes opening n old new was now (take taken piece) unwritten
+  goes_front old new was now piece taken chunk out unwritten le room lent count whole failed sound =
       let len : length (chunk_bytes chunk) ≡ length out = ap length (lent ∙ (ap (λ (t : List ℕ). out ++ t) whole ∙ append-nil out)) in
-      (omega (arith, le, length-take taken piece), (omega (arith, le, room, count, len, length-take taken piece), whole, failed))
+      (omega (arith, le, length-take taken piece), (omega (arith, le, room, count, len, length-take taken piece), whole, failed, sound))
 
   goes_then : (a b : List ℕ) (old mid new : OpenerView B) (was between now : WriterView) → FeedGoes opening n old mid was between a []
       → FeedGoes opening n mid new between now b [] → FeedGoes opening n old new was now (a ++ b) []
-  goes_then a b old mid new was between now p q = (omega (arith, p.0, q.0, length-append a b), refl, q.2 ∙ p.2)
+  goes_then a b old mid new was between now p q = (omega (arith, p.0, q.0, length-append a b), refl, q.2 ∙ p.2, q.3)
 
   -- one call more, for a piece of which the front was fed
   pub record Both (old new : OpenerView B) (was now : WriterView) (fed : List ℕ) : Type 0 where
@@ -182,7 +182,7 @@ module _ {B : Type 0} (opening : B → List ℕ → List ℕ → Option (List �
       → Both old new was now c
   both_then a b c old mid new was between now unwritten e p pg q qg =
       let q' = subst (λ (t : List ℕ). Releases opening n (λ s. with_piece s b) mid new between now t) qg.1 q in
-      let qg' : FeedGoes opening n mid new between now b [] = (qg.0, refl, qg.2) in
+      let qg' : FeedGoes opening n mid new between now b [] = (qg.0, refl, qg.2, qg.3) in
       subst (λ (t : List ℕ). Both old new was now t) e
       (record { releases = releases_then a b old mid new was between now [] p q'; goes = goes_then a b old mid new was between now pg qg' })
 
@@ -191,5 +191,5 @@ module _ {B : Type 0} (opening : B → List ℕ → List ℕ → Option (List �
       → FeedGoes opening n old mid was between a [] → FeedFails opening n new between now left unwritten fault
       → FeedFails opening n new was now left unwritten fault
   fails_then a old mid new was between now left unwritten (Stream f) p h = (h.0, h.1, h.2, h.3 ∙ p.2)
-  fails_then a old mid new was between now left unwritten Write p h = subst (λ (k : ℕ). HasFailed k now.sink.failed now.sink.failing) p.2 h
+  fails_then a old mid new was between now left unwritten Write p h = (subst (λ (k : ℕ). HasFailed k now.sink.failed now.sink.failing) p.2 h.0, h.1)
   fails_then a old mid new was between now left unwritten other p h = h

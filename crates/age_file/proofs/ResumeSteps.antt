@@ -98,17 +98,18 @@ module _ (keep : Positions) (Allows : Header → List ℕ → Type 0) (Refused :
   -- no payload came to be opened
   pub start_fails : (old new : ResumePorts) (fault : FileFault) → Consumes old.old.remaining new.old.remaining []
       → Appends old.main.sink.taken new.main.sink.taken []
+      → new.main.sink.failed ≡ old.main.sink.failed → new.old.failed ≡ old.old.failed
       → StartFails Allows Refused old.main.source new.main.source fault → ResumeFails keep Allows p Refused old new 0 None fault
-  start_fails old new Read unread none f = inl ((none, refl, refl), f.0, f.1)
-  start_fails old new ReadNeverEnds unread none f =
+  start_fails old new Read unread none sink text f = inl ((none, refl, refl), f.0, ((f.1, sink), text))
+  start_fails old new ReadNeverEnds unread none sink text f =
       inl ((none, refl, refl), f.0, (f.1.0, [], f.1.1, unread, (omega (arith, f.1.2.0), omega (arith, f.1.2.1))))
-  start_fails old new (Stream x) unread none f = absurd f
-  start_fails old new Write unread none f = absurd f
-  start_fails old new OtherFile unread none f = absurd f
-  start_fails old new ShortText unread none f = absurd f
-  start_fails old new PositionForged unread none f = absurd f
-  start_fails old new OldTextDiffers unread none f = absurd f
-  start_fails old new other unread none f = ((none, refl, refl), f)
+  start_fails old new (Stream x) unread none sink text f = absurd f
+  start_fails old new Write unread none sink text f = absurd f
+  start_fails old new OtherFile unread none sink text f = absurd f
+  start_fails old new ShortText unread none sink text f = absurd f
+  start_fails old new PositionForged unread none sink text f = absurd f
+  start_fails old new OldTextDiffers unread none sink text f = absurd f
+  start_fails old new other unread none sink text f = ((none, refl, refl), f)
 
   -- the position was refused
   pub verdict_fails : (old new : ResumePorts) (u : Unread) (unlocked : Unlocked) (fault : FileFault) → Appends old.main.sink.taken new.main.sink.taken []
@@ -120,6 +121,7 @@ module _ (keep : Positions) (Allows : Header → List ℕ → Type 0) (Refused :
     u.bytes,
     reads_of old.main.source (reader_view new.main.source u) unlocked s new.main.source.remaining u.bytes s.pulled.consumed,
     λ own. f (own ∙ sym s.id),
+    s.few,
   )
   verdict_fails old new u unlocked PositionForged none s f = (
     (none, refl, refl),
@@ -128,6 +130,7 @@ module _ (keep : Positions) (Allows : Header → List ℕ → Type 0) (Refused :
     reads_of old.main.source (reader_view new.main.source u) unlocked s new.main.source.remaining u.bytes s.pulled.consumed,
     f.0 ∙ s.id,
     f.1,
+    s.few,
   )
   verdict_fails old new u unlocked other none s f = absurd f
 
@@ -182,6 +185,7 @@ module _ (keep : Positions) (Allows : Header → List ℕ → Type 0) (Refused :
       file = file;
       rest = u.bytes;
       accepts = accepts_of a (reader_view s1.reader.source u) unlocked s v s1.reader.source.remaining u.bytes s.pulled.consumed;
+      few = s.few;
       copied = out;
       short = short;
       writes = record {
@@ -203,12 +207,15 @@ module _ (keep : Positions) (Allows : Header → List ℕ → Type 0) (Refused :
         let all = old_read c.out (old_dried c.out f.1.1 f.1.0.uses) in
         (stops_in_old c.out c.out c.wrote c.count f.0 all ([], append-nil c.out), refl, f.1.2)
     copy_fails Write c =
-        let f = c.answered in
-        (inl (stops_in_old c.out (f.1.0 ++ z.unread.bytes) c.wrote c.count f.0 (old_read (f.1.0 ++ z.unread.bytes) (old_pulled f.1.0 f.1.1.uses)) f.1.2), f.1.3)
+        let f = c.answered in (
+          inl (stops_in_old c.out (f.1.0 ++ z.unread.bytes) c.wrote c.count f.0 (old_read (f.1.0 ++ z.unread.bytes) (old_pulled f.1.0 f.1.1.uses)) f.1.2),
+          (f.1.3, same),
+          f.1.1.unfailed,
+        )
     copy_fails Read c =
         let f = c.answered in
         let all = old_read c.out (old_dried c.out f.1.0.used f.1.0.uses) in
-        inr (inl (stops_in_old c.out c.out c.wrote c.count f.0 all ([], append-nil c.out), refl, f.1.0.why))
+        inr (inl (stops_in_old c.out c.out c.wrote c.count f.0 all ([], append-nil c.out), refl, (f.1.0.why, (same, f.1.1))))
     copy_fails ReadNeverEnds c =
         let f = c.answered in
         let all = old_dried c.out f.1.0.used f.1.0.uses in
@@ -240,6 +247,7 @@ module _ (keep : Positions) (Allows : Header → List ℕ → Type 0) (Refused :
           },
           f.0.0,
           λ e. f.1 (f.0.4 ∙ ap Some e),
+          s.few,
         )
     copy_fails other c = absurd c.answered.1
 
@@ -336,7 +344,11 @@ module _ (keep : Positions) (Allows : Header → List ℕ → Type 0) (Refused :
           )
       skipped_fails m position Read at f =
           let all = read_on m (head ++ f.0) (dried m f.0 f.2.used f.2.uses) in
-          inr (inr (inl (f.0, stops_in_skipped m position f.0 at f.1 all, subst (λ (k : ℕ). HasFailed k m.source.failed m.source.failing) same f.2.why)))
+          inr (inr (inl (
+            f.0,
+            stops_in_skipped m position f.0 at f.1 all,
+            ((subst (λ (k : ℕ). HasFailed k m.source.failed m.source.failing) same f.2.why, c.answered.2), c.answered.1.unfailed),
+          )))
       skipped_fails m position ReadNeverEnds at f =
           let all = dried m f.0 f.2.used f.2.uses in
           inr (inr (inl (
@@ -454,17 +466,18 @@ module _ (keep : Positions) (Allows : Header → List ℕ → Type 0) (Refused :
               ((f.2.0 ∙ (passes.unfailed ∙ same), f.2.1 ∙ c.answered.2), c.answered.1.unfailed),
             )
         decrypted_fails s2 position Write b h f = (
-          inr (b.run, b.from, (b.is, writes_of b.run (first_fits s2 (Err Write) b) b.is.prefix, h)),
-          subst (λ (k : ℕ). HasFailed k s2.writer.sink.failed s2.writer.sink.failing) c.answered.2 f,
+          inr (b.run, b.from, (b.is, writes_of b.run (first_fits s2 (Err Write) b) b.is.prefix, h, f.0)),
+          (subst (λ (k : ℕ). HasFailed k s2.writer.sink.failed s2.writer.sink.failing) c.answered.2 f.1.0, f.1.1 ∙ (passes.unfailed ∙ same)),
+          c.answered.1.unfailed,
         )
         decrypted_fails s2 position Read b h f =
             let of = writes_of b.run (first_fits s2 (Err Read) b) b.is.prefix in
-            let why = subst (λ (k : ℕ). HasFailed k s2.reader.source.failed s2.reader.source.failing) (passes.unfailed ∙ same) f.1 in
-            inr (inr (inr (b.run, b.from, (record { is = b.is; whole = f.0; of = of }, h), why)))
+            let why = subst (λ (k : ℕ). HasFailed k s2.reader.source.failed s2.reader.source.failing) (passes.unfailed ∙ same) f.2.0 in
+            inr (inr (inr (b.run, b.from, (record { is = b.is; whole = f.0; of = of }, h), f.1, ((why, f.2.1 ∙ c.answered.2), c.answered.1.unfailed))))
         decrypted_fails s2 position ReadNeverEnds b h f =
             let of = writes_of b.run (first_fits s2 (Err ReadNeverEnds) b) b.is.prefix in
-            let why = never_end s2 (head ++ (b.run.skipped ++ b.run.bytes)) b.pulled f.1 in
-            inr (inr (inr (b.run, b.from, (record { is = b.is; whole = f.0; of = of }, h), why)))
+            let why = never_end s2 (head ++ (b.run.skipped ++ b.run.bytes)) b.pulled f.2 in
+            inr (inr (inr (b.run, b.from, (record { is = b.is; whole = f.0; of = of }, h), f.1, why)))
         decrypted_fails s2 position other b h f = absurd f
 
         -- the whole run

@@ -1,5 +1,5 @@
 -- A source's text, piece by piece, and what of its payload was written.
-use Rattle.std.proofs.Common.{◌≡◌, ℕ, ◌<◌, ◌≤◌, ◌/◌, sym, ap, subst, ◌∙◌, List, [], ◌∷◌, ◌++◌, length, append-nil, append_assoc, true, false, arith}
+use Rattle.std.proofs.Common.{◌*◌, refl, ◌≡◌, ℕ, ◌<◌, ◌≤◌, ◌/◌, sym, ap, subst, ◌∙◌, List, [], ◌∷◌, ◌++◌, length, append-nil, append_assoc, true, false, arith}
 use Rattle.std.specs.Prelude.{map}
 use Rattle.std.specs.List.{enumerate_from}
 use Rattle.std.specs.Simd.{first_chunks}
@@ -80,42 +80,58 @@ module _ {B : Type 0} (sealing : B → List ℕ → List ℕ → List ℕ) (n : 
       (front_of key n text ++ some.out, both, prefix_trans _ _ _ first second)
 
 -- why no more came
-pub pull_fails : (n : ℕ) (old new : Ports) (text : List ℕ) (x z : ReaderView) (fault : FileFault) → x.source.failed ≡ old.source.failed → new.source ≡ z.source → z.unread.pulls ≤ length text
-    → PullFails x z fault → SealingFails n old new text fault
-pull_fails n old new text x z Read same is gave f = subst (λ (k : ℕ). HasFailed k new.source.failed new.source.failing) same
-    (subst (λ (s : SourceView). HasFailed x.source.failed s.failed s.failing) (sym is) f)
-pull_fails n old new text x z ReadNeverEnds same is gave f = omega (arith, gave, f.0)
-pull_fails n old new text x z (Head fault) same is gave f = absurd f
-pull_fails n old new text x z (Key fault) same is gave f = absurd f
-pull_fails n old new text x z NonceCut same is gave f = absurd f
-pull_fails n old new text x z (Stream fault) same is gave f = absurd f
-pull_fails n old new text x z BadPosition same is gave f = absurd f
-pull_fails n old new text x z OtherFile same is gave f = absurd f
-pull_fails n old new text x z ShortText same is gave f = absurd f
-pull_fails n old new text x z Write same is gave f = absurd f
-pull_fails n old new text x z Memory same is gave f = absurd f
-pull_fails n old new text x z PositionForged same is gave f = absurd f
-pull_fails n old new text x z OldTextDiffers same is gave f = absurd f
+pub pull_fails : (sealing : List ℕ → List ℕ → List ℕ) (n : ℕ) (old new : Ports) (text : List ℕ) (x z : ReaderView) (fault : FileFault)
+    → x.source.failed ≡ old.source.failed → new.source ≡ z.source → new.sink.failed ≡ old.sink.failed → z.unread.pulls ≤ length text
+    → length text ≤ 65536 * z.unread.pulls
+    → PullFails x z fault → SealingFails sealing n old new text (front_of sealing n text) fault
+pull_fails sealing n old new text x z Read same is kept gave small f = (
+  refl,
+  (
+    subst (λ (k : ℕ). HasFailed k new.source.failed new.source.failing) same
+        (subst (λ (s : SourceView). HasFailed x.source.failed s.failed s.failing) (sym is) f),
+    kept,
+  ),
+)
+pull_fails sealing n old new text x z ReadNeverEnds same is kept gave small f = (
+  refl,
+  (omega (arith, gave, f.0), omega (arith, small, f.0)),
+  (ap (λ (s : SourceView). s.failed) is ∙ (f.1 ∙ same), kept),
+)
+pull_fails sealing n old new text x z (Head fault) same is kept gave small f = absurd f
+pull_fails sealing n old new text x z (Key fault) same is kept gave small f = absurd f
+pull_fails sealing n old new text x z NonceCut same is kept gave small f = absurd f
+pull_fails sealing n old new text x z (Stream fault) same is kept gave small f = absurd f
+pull_fails sealing n old new text x z BadPosition same is kept gave small f = absurd f
+pull_fails sealing n old new text x z OtherFile same is kept gave small f = absurd f
+pull_fails sealing n old new text x z ShortText same is kept gave small f = absurd f
+pull_fails sealing n old new text x z Write same is kept gave small f = absurd f
+pull_fails sealing n old new text x z Memory same is kept gave small f = absurd f
+pull_fails sealing n old new text x z PositionForged same is kept gave small f = absurd f
+pull_fails sealing n old new text x z OldTextDiffers same is kept gave small f = absurd f
 
 -- why a piece wasn't sealed
 pub seal_fails : {B : Type 0} (sealing : B → List ℕ → List ℕ → List ℕ) (n : ℕ) (a b : SealerView B) (old new : Ports) (was now : WriterView)
-    (text piece : List ℕ) (fault : FileFault)
-    → was.sink.failed ≡ old.sink.failed → new.sink ≡ now.sink → GoesOn sealing n a b text → Holds n a []
-    → SealFails sealing n b was now piece fault → SealingFails n old new (text ++ piece) fault
-seal_fails sealing n a b old new was now text piece (Stream fault) same is goes fresh f = (f.0 text (goes.holds [] fresh), f.1)
-seal_fails sealing n a b old new was now text piece Write same is goes fresh f = subst (λ (k : ℕ). HasFailed k new.sink.failed new.sink.failing) same
-    (subst (λ (s : SinkView). HasFailed was.sink.failed s.failed s.failing) (sym is) f)
-seal_fails sealing n a b old new was now text piece (Head fault) same is goes fresh f = absurd f
-seal_fails sealing n a b old new was now text piece (Key fault) same is goes fresh f = absurd f
-seal_fails sealing n a b old new was now text piece NonceCut same is goes fresh f = absurd f
-seal_fails sealing n a b old new was now text piece BadPosition same is goes fresh f = absurd f
-seal_fails sealing n a b old new was now text piece OtherFile same is goes fresh f = absurd f
-seal_fails sealing n a b old new was now text piece ShortText same is goes fresh f = absurd f
-seal_fails sealing n a b old new was now text piece Read same is goes fresh f = absurd f
-seal_fails sealing n a b old new was now text piece Memory same is goes fresh f = absurd f
-seal_fails sealing n a b old new was now text piece ReadNeverEnds same is goes fresh f = absurd f
-seal_fails sealing n a b old new was now text piece PositionForged same is goes fresh f = absurd f
-seal_fails sealing n a b old new was now text piece OldTextDiffers same is goes fresh f = absurd f
+    (text piece out : List ℕ) (fault : FileFault)
+    → was.sink.failed ≡ old.sink.failed → new.sink ≡ now.sink → new.source.failed ≡ old.source.failed → GoesOn sealing n a b text → Holds n a []
+    → SealFails sealing n b was now piece fault → SealingFails (sealing a.key) n old new (text ++ piece) out fault
+seal_fails sealing n a b old new was now text piece out (Stream fault) same is read goes fresh f =
+    (f.0 text (goes.holds [] fresh), f.1, (read, ap (λ (s : SinkView). s.failed) is ∙ (f.2 ∙ same)))
+seal_fails sealing n a b old new was now text piece out Write same is read goes fresh f = (
+  subst (λ (k : ℕ). HasFailed k new.sink.failed new.sink.failing) same
+      (subst (λ (s : SinkView). HasFailed was.sink.failed s.failed s.failing) (sym is) f),
+  read,
+)
+seal_fails sealing n a b old new was now text piece out (Head fault) same is read goes fresh f = absurd f
+seal_fails sealing n a b old new was now text piece out (Key fault) same is read goes fresh f = absurd f
+seal_fails sealing n a b old new was now text piece out NonceCut same is read goes fresh f = absurd f
+seal_fails sealing n a b old new was now text piece out BadPosition same is read goes fresh f = absurd f
+seal_fails sealing n a b old new was now text piece out OtherFile same is read goes fresh f = absurd f
+seal_fails sealing n a b old new was now text piece out ShortText same is read goes fresh f = absurd f
+seal_fails sealing n a b old new was now text piece out Read same is read goes fresh f = absurd f
+seal_fails sealing n a b old new was now text piece out Memory same is read goes fresh f = absurd f
+seal_fails sealing n a b old new was now text piece out ReadNeverEnds same is read goes fresh f = absurd f
+seal_fails sealing n a b old new was now text piece out PositionForged same is read goes fresh f = absurd f
+seal_fails sealing n a b old new was now text piece out OldTextDiffers same is read goes fresh f = absurd f
 
 -- ---- the last block
 

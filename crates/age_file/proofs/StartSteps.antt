@@ -1,5 +1,5 @@
 -- What was read up to a payload, one step after another.
-use Rattle.std.proofs.Common.{◌≡◌, ℕ, ◌<◌, List, [], ◌++◌, length, take, drop, Option, sym, ap, subst, ◌∙◌, arith, append-nil, append_assoc}
+use Rattle.std.proofs.Common.{◌≡◌, ◌≤◌, inl, inr, ℕ, ◌<◌, List, [], ◌++◌, length, take, drop, Option, sym, ap, subst, ◌∙◌, arith, append-nil, append_assoc}
 use Rattle.std.proofs.lemmas.List.{length-append}
 use Rattle.std.specs.Prelude.{◌≢◌, Result, Ok, Err, IfOk, IfErr}
 use Rattle.sha2.specs.Hashers.{Holds256}
@@ -8,7 +8,6 @@ use Rattle.std.specs.Io.KnownBytes.{Consumes}
 use Rattle.age_io.specs.Views.{SourceView}
 use Rattle.age_stanza.specs.declared.header.Header.{Header}
 use Rattle.age_stanza.specs.Grammar.{HeadText}
-use Rattle.age_stanza.specs.Laws.{OneHeader}
 use Rattle.age_keys.specs.declared.fault.KeyFault.{KeyFault}
 use Rattle.age_keys.specs.declared.fault.KeyFault.TheVariants.{ScryptNotAlone, BadScrypt, WorkTooHigh, NoMatch, WrongKey, MacMismatch, BadX25519}
 use Rattle.age_keys.specs.declared.fault.KeyFault.TheVariants.{Memory as KeyMemory}
@@ -16,9 +15,9 @@ use Rattle.age_keys.specs.Opened.{Opens, Refuses}
 use Rattle.age_file.specs.inner.Unread.{Unread}
 use Rattle.age_file.specs.inner.Readers.{ReaderView, reader_view}
 use Rattle.age_file.specs.inner.Intakes.{Pulled, PullFails}
-use Rattle.age_file.specs.Faults.{HeadFails, IsShort, StopsAtHeader}
+use Rattle.age_file.specs.Faults.{HeadFails, StopsAtHeader}
 use Rattle.age_fault.specs.Faults.{HasFailed}
-use Rattle.age_file.specs.inner.Faults.{IsInHeader}
+use Rattle.age_file.specs.inner.Faults.{StopsInHeader}
 use Rattle.age_fault.specs.inner.Faults.{fault_of_key}
 use Rattle.age_file.specs.Starts.{StartFails}
 use Rattle.age_file.specs.inner.Starts.{Uses, UsesShort, NonceFails, ReadsNonce, StartsAt}
@@ -48,41 +47,26 @@ nonce_fails x y z p Read lt e f g none h = ((p, lt, uses_then x y z p [] p (appe
 nonce_fails x y z p ReadNeverEnds lt e f g none h = ((p, lt, uses_then x y z p [] p (append-nil p) f g, none), h.0)
 nonce_fails x y z p other lt e f g none h = absurd h
 
--- where no header stands, none has a nonce after it
-in_header_short : (a b : Option (List ℕ)) → IsInHeader a b → IsShort a b
-in_header_short a b none = (none.0, none.1, λ h front rest text parts. absurd (none.2 (h, front, rest, text, parts)))
-
--- there is one header in front of the bytes, and fewer than 16 after it
-after_short : OneHeader → (a b : Option (List ℕ)) (h : Header) (front short : List ℕ) → HeadText h front → length short < 16 → Consumes a b (front ++ short)
-    → IsShort a b
-after_short one a b h front short text lt consumed = (
-  front ++ short,
-  consumed,
-  λ h' front' rest text' parts.
-      let same = one h h' front front' short rest text.spells text'.spells parts in
-      omega (arith, lt, ap length parts, length-append front short, length-append front' rest, ap length same.1),
-)
-
 module _ (Allows : Header → List ℕ → Type 0) (Refused : Header → KeyFault → Type 0) where
-  pub head_to_start : (a b : SourceView) (fault : FileFault) → HeadFails a b fault → (fault ≢ Memory → IsInHeader a.remaining b.remaining)
+  pub head_to_start : (a b : SourceView) (fault : FileFault) → HeadFails a b fault → StopsInHeader a.remaining b.remaining fault
       → StartFails Allows Refused a b fault
   head_to_start a b (Head f) h early = h
-  head_to_start a b Read h early = (in_header_short a.remaining b.remaining (early (λ e. cc)), h)
+  head_to_start a b Read h early = (inl early, h)
   head_to_start a b Memory h early = h
-  head_to_start a b ReadNeverEnds h early = (in_header_short a.remaining b.remaining (early (λ e. cc)), h)
+  head_to_start a b ReadNeverEnds h early = (inl early, h)
   head_to_start a b other h early = absurd h
 
   pub key_to_start : (a b : SourceView) (h : Header) (front rest : List ℕ) (fault : KeyFault) → StopsAtHeader a.remaining b.remaining → HeadText h front
-      → Consumes a.remaining b.remaining (front ++ rest)
+      → Consumes a.remaining b.remaining (front ++ rest) → length rest ≤ 65536
       → Refuses Allows Refused h fault → StartFails Allows Refused a b (fault_of_key fault)
-  key_to_start a b h front rest KeyMemory stops text consumed refuses = stops
-  key_to_start a b h front rest ScryptNotAlone stops text consumed refuses = (h, front, rest, text, consumed, λ e. cc, refuses)
-  key_to_start a b h front rest BadScrypt stops text consumed refuses = (h, front, rest, text, consumed, λ e. cc, refuses)
-  key_to_start a b h front rest WorkTooHigh stops text consumed refuses = (h, front, rest, text, consumed, λ e. cc, refuses)
-  key_to_start a b h front rest NoMatch stops text consumed refuses = (h, front, rest, text, consumed, λ e. cc, refuses)
-  key_to_start a b h front rest WrongKey stops text consumed refuses = (h, front, rest, text, consumed, λ e. cc, refuses)
-  key_to_start a b h front rest MacMismatch stops text consumed refuses = (h, front, rest, text, consumed, λ e. cc, refuses)
-  key_to_start a b h front rest BadX25519 stops text consumed refuses = (h, front, rest, text, consumed, λ e. cc, refuses)
+  key_to_start a b h front rest KeyMemory stops text consumed few refuses = stops
+  key_to_start a b h front rest ScryptNotAlone stops text consumed few refuses = (h, front, rest, text, consumed, λ e. cc, refuses, few)
+  key_to_start a b h front rest BadScrypt stops text consumed few refuses = (h, front, rest, text, consumed, λ e. cc, refuses, few)
+  key_to_start a b h front rest WorkTooHigh stops text consumed few refuses = (h, front, rest, text, consumed, λ e. cc, refuses, few)
+  key_to_start a b h front rest NoMatch stops text consumed few refuses = (h, front, rest, text, consumed, λ e. cc, refuses, few)
+  key_to_start a b h front rest WrongKey stops text consumed few refuses = (h, front, rest, text, consumed, λ e. cc, refuses, few)
+  key_to_start a b h front rest MacMismatch stops text consumed few refuses = (h, front, rest, text, consumed, λ e. cc, refuses, few)
+  key_to_start a b h front rest BadX25519 stops text consumed few refuses = (h, front, rest, text, consumed, λ e. cc, refuses, few)
 
   -- what was pulled where a nonce fell short
   short_pulled : (a : Option (List ℕ)) (y z : ReaderView) (front : List ℕ) (u : UsesShort y z)
@@ -91,10 +75,10 @@ module _ (Allows : Header → List ℕ → Type 0) (Refused : Header → KeyFaul
       cut_pulled a z.source.remaining z.unread.pulls (front ++ u.0) z.unread.bytes u.3
       (subst (λ (t : List ℕ). Pulled a z.source.remaining z.unread.pulls t) (sym (append_assoc front u.0 z.unread.bytes)) (u.2 a front p))
 
-  nonce_to_start : OneHeader → (a : SourceView) (y z : ReaderView) (h : Header) (front key : List ℕ) (fault : FileFault) → y.source.failed ≡ a.failed
+  nonce_to_start : (a : SourceView) (y z : ReaderView) (h : Header) (front key : List ℕ) (fault : FileFault) → y.source.failed ≡ a.failed
       → HeadText h front → Opens Allows h key
       → Pulled a.remaining y.source.remaining y.unread.pulls (front ++ y.unread.bytes) → NonceFails y z fault → StartFails Allows Refused a z.source fault
-  nonce_to_start one a y z h front key NonceCut e text opens p f = (
+  nonce_to_start a y z h front key NonceCut e text opens p f = (
     h,
     front,
     key,
@@ -105,19 +89,19 @@ module _ (Allows : Header → List ℕ → Type 0) (Refused : Header → KeyFaul
     (short_pulled a.remaining y z front f.0 p).consumed,
     f.1,
   )
-  nonce_to_start one a y z h front key Read e text opens p f = (
-    after_short one a.remaining z.source.remaining h front f.0.0 text f.0.1 (short_pulled a.remaining y z front f.0 p).consumed,
+  nonce_to_start a y z h front key Read e text opens p f = (
+    inr (h, front, key, f.0.0, text, opens, f.0.1, (short_pulled a.remaining y z front f.0 p).consumed),
     subst (λ (m : ℕ). HasFailed m z.source.failed z.source.failing) e f.1,
   )
-  nonce_to_start one a y z h front key ReadNeverEnds e text opens p f =
+  nonce_to_start a y z h front key ReadNeverEnds e text opens p f =
       let all = short_pulled a.remaining y z front f.0 p in (
-        after_short one a.remaining z.source.remaining h front f.0.0 text f.0.1 all.consumed,
+        inr (h, front, key, f.0.0, text, opens, f.0.1, all.consumed),
         (front ++ f.0.0, all.consumed, (omega (arith, all.each_gave, f.1), omega (arith, all.small, f.1))),
       )
-  nonce_to_start one a y z h front key other e text opens p f = absurd f
+  nonce_to_start a y z h front key other e text opens p f = absurd f
 
   -- the nonce was read after a header that was opened, or not
-  module _ (one : OneHeader) (a : SourceView) (y z : ReaderView) (h : Header) (front key : List ℕ) (digest : Sha256) (same : y.source.failed
+  module _ (a : SourceView) (y z : ReaderView) (h : Header) (front key : List ℕ) (digest : Sha256) (same : y.source.failed
       ≡ a.failed) (text : HeadText h front) (opens : Opens Allows h key) (hashed : Holds256 digest front)
       (pulled : Pulled a.remaining y.source.remaining y.unread.pulls (front ++ y.unread.bytes)) where
     pub nonce_found : (result : Result Unlocked FileFault) → IfOk result (ReadsNonce key digest y z) → IfOk result (StartsAt Allows a z)
@@ -128,6 +112,7 @@ module _ (Allows : Header → List ℕ → Type 0) (Refused : Header → KeyFaul
       opens = subst (λ (k : List ℕ). Opens Allows h k) (sym r.key_is) opens;
       size = r.size;
       id = r.id front hashed;
+      few = r.few;
       pulled = subst (λ (t : List ℕ). Pulled a.remaining z.source.remaining z.unread.pulls t) (sym (append_assoc front u.nonce z.unread.bytes))
           (r.uses a.remaining front pulled);
     }
@@ -135,4 +120,4 @@ module _ (Allows : Header → List ℕ → Type 0) (Refused : Header → KeyFaul
 
     pub nonce_missed : (result : Result Unlocked FileFault) → IfErr result (NonceFails y z) → IfErr result (StartFails Allows Refused a z.source)
     nonce_missed (Ok u) f = tt
-    nonce_missed (Err fault) f = nonce_to_start one a y z h front key fault same text opens pulled f
+    nonce_missed (Err fault) f = nonce_to_start a y z h front key fault same text opens pulled f

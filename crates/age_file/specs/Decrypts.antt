@@ -10,15 +10,14 @@ use Rattle.age_chunk.specs.Nonce.{chunk_limit}
 use Rattle.age_keys.specs.declared.fault.KeyFault.{KeyFault}
 use Rattle.age_keys.specs.declared.fault.KeyFault.TheVariants.{Memory as KeyMemory}
 use Rattle.age_keys.specs.Keys.{IsScryptNotAlone}
-use Rattle.age_file.specs.Faults.{NeverEnds, IsShort}
-use Rattle.age_fault.specs.Faults.{HasFailed}
+use Rattle.age_file.specs.Faults.{NeverEnds}
 use Rattle.age_file.specs.AgeFile.{box, unbox, FileOf}
 use Rattle.age_file.specs.declared.position.Position.{Position}
 use Rattle.age_file.specs.declared.position.Positions.{Positions}
-use Rattle.age_file.specs.Ports.{Ports, NoneFailed}
-use Rattle.age_file.specs.Starts.{StartFails}
+use Rattle.age_file.specs.Ports.{Ports, NoneFailed, ReadFailed, WriteFailed}
+use Rattle.age_file.specs.Starts.{IsEarly, StartFails}
 use Rattle.age_file.specs.Runs.{Run, IsFromStart, outcome_of, WritesNone, IsDone}
-use Rattle.age_file.specs.Runs.{StopsInPayload, StopsWriting}
+use Rattle.age_file.specs.Runs.{HasNoFault, StopsInPayload, StopsWriting}
 use Rattle.age_file.specs.declared.decryption.Done.{Done}
 use Rattle.age_file.specs.declared.decryption.Stopped.{Stopped}
 use Rattle.age_fault.specs.declared.fault.FileFault.{FileFault}
@@ -27,11 +26,13 @@ use Rattle.age_fault.specs.declared.fault.FileFault.TheVariants.{ReadNeverEnds}
 
 module _ (keep : Positions) (Allows : Header → List ℕ → Type 0) where
   -- a run of which all text was written, with its position; or none yet: fewer bytes were pulled
-  -- than a header and a nonce
+  -- than a header and a nonce. What came has no fault so far
   abbrev pub WroteSoFar : Ports → Ports → ℕ → Option Position → Type 0
   WroteSoFar old new written position =
-      (WritesNone old new written position × IsShort old.source.remaining new.source.remaining)
-      ⊎ ((r : Run) × IsFromStart r × StopsInPayload keep Allows old new written position r)
+      (WritesNone old new written position
+      × IsEarly Allows old.source.remaining new.source.remaining)
+      ⊎ ((r : Run) × IsFromStart r × StopsInPayload keep Allows old new written position r
+      × HasNoFault r)
 
   -- when each fault comes, and what was written then
   abbrev pub DecryptFails : (Header → KeyFault → Type 0) → Ports → Ports → ℕ → Option Position
@@ -41,9 +42,9 @@ module _ (keep : Positions) (Allows : Header → List ℕ → Type 0) where
       × ((outcome_of r).status ≡ Failed fault) × NoneFailed old new
   DecryptFails Refused old new written position Write =
       (r : Run) × IsFromStart r × StopsWriting keep Allows old new written position r
-      × HasFailed old.sink.failed new.sink.failed new.sink.failing
+      × WriteFailed old new
   DecryptFails Refused old new written position Read = WroteSoFar old new written position
-      × HasFailed old.source.failed new.source.failed new.source.failing
+      × ReadFailed old new
   DecryptFails Refused old new written position ReadNeverEnds = WroteSoFar old new written position
       × NeverEnds old.source.remaining new.source.remaining
   DecryptFails Refused old new written position fault =

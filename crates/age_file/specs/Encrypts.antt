@@ -1,14 +1,14 @@
 -- What an encryption did.
-use Rattle.std.specs.Prelude.{◌≡◌, ℕ, ◌-◌, ◌^◌, ◌<◌, ◌≤◌, List, length}
+use Rattle.std.specs.Prelude.{◌≡◌, ℕ, ◌-◌, ◌^◌, ◌<◌, ◌≤◌, List, ◌++◌, length}
 use Rattle.std.specs.Io.KnownBytes.{Consumes, Appends, IsAtEnd}
 use Rattle.age_stream.specs.Headline.{IsPrefixOf}
 use Rattle.age_chunk.specs.Nonce.{chunk_limit}
-use Rattle.age_chunk.specs.Payload.{chunk_count, chunk_length}
+use Rattle.age_chunk.specs.Payload.{chunk_count, chunk_length, sealed_before_last, block_bytes}
 use Rattle.age_stream.specs.Sealing.{too_many}
 use Rattle.age_keys.specs.Scrypt.{scrypt_head}
-use Rattle.age_file.specs.AgeFile.{FileOf}
-use Rattle.age_fault.specs.Faults.{HasFailed}
-use Rattle.age_file.specs.Ports.{Ports, NoneFailed}
+use Rattle.age_file.specs.AgeFile.{box, FileOf}
+use Rattle.age_file.specs.Faults.{IsByAllPulls}
+use Rattle.age_file.specs.Ports.{Ports, NoneFailed, ReadFailed, WriteFailed}
 use Rattle.age_file.specs.Secrets.{SecretView}
 use Rattle.age_file.specs.declared.encryption.Written.{Written}
 use Rattle.age_fault.specs.declared.fault.FileFault.{FileFault}
@@ -33,14 +33,22 @@ pub record Encrypts (s : SecretView) (old new : Ports) (written : Written) : Typ
   pub file_is : written.file ≡ length file
   pub none_failed : NoneFailed old new
 
--- why it stopped, after this text was read
-abbrev pub WhyStopped : Ports → Ports → List ℕ → FileFault → Type 0
-WhyStopped old new text (Stream fault) = (2 ^ 64 < length text)
-    × (fault ≡ too_many (chunk_limit - 1))
-WhyStopped old new text Read = HasFailed old.source.failed new.source.failed new.source.failing
-WhyStopped old new text Write = HasFailed old.sink.failed new.sink.failed new.sink.failing
-WhyStopped old new text ReadNeverEnds = 2 ^ 63 ≤ length text
-WhyStopped old new text other = ⊥
+-- the file of a text without its last block: the header's text, the payload nonce, and the blocks
+-- before the last
+abbrev pub without_last : SecretView → (front text : List ℕ) → List ℕ
+without_last s front text = (front ++ s.nonce)
+    ++ block_bytes (sealed_before_last (box s.key s.nonce) chunk_length text)
+
+-- why it stopped, after this text was read and these bytes were written. Where a pull failed, or the
+-- source never ended, the last block is missing: they are no whole file
+abbrev pub WhyStopped : SecretView → Ports → Ports → (front text out : List ℕ) → FileFault → Type 0
+WhyStopped s old new front text out (Stream fault) = (2 ^ 64 < length text)
+    × (fault ≡ too_many (chunk_limit - 1)) × NoneFailed old new
+WhyStopped s old new front text out Read = (out ≡ without_last s front text) × ReadFailed old new
+WhyStopped s old new front text out Write = WriteFailed old new
+WhyStopped s old new front text out ReadNeverEnds = (out ≡ without_last s front text)
+    × IsByAllPulls (length text) × NoneFailed old new
+WhyStopped s old new front text out other = ⊥
 
 -- a front of the age file of what was read was written
 pub record EncryptsFront (s : SecretView) (old new : Ports) (fault : FileFault) : Type 0 where
@@ -51,7 +59,7 @@ pub record EncryptsFront (s : SecretView) (old new : Ports) (fault : FileFault) 
   pub read : Consumes old.source.remaining new.source.remaining text
   pub wrote : Appends old.sink.taken new.sink.taken out
   pub prefix : IsPrefixOf out file
-  pub why : WhyStopped old new text fault
+  pub why : WhyStopped s old new is.front text out fault
 
 -- want of memory comes before anything was read or written
 abbrev pub EncryptFails : SecretView → Ports → Ports → FileFault → Type 0

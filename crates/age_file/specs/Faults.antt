@@ -42,19 +42,17 @@ IsByAllPulls count = (2 ^ 63 ≤ count) × (count ≤ 65536 * 2 ^ 63)
 abbrev pub NeverEnds : Option (List ℕ) → Option (List ℕ) → Type 0
 NeverEnds old new = (bytes : List ℕ) × Consumes old new bytes × IsByAllPulls (length bytes)
 
--- fewer bytes came than those of a header and a payload nonce
-abbrev pub IsShort : Option (List ℕ) → Option (List ℕ) → Type 0
-IsShort old new = (bytes : List ℕ) × Consumes old new bytes
-    × ((h : Header) (front rest : List ℕ) → HeadText h front → bytes ≡ front ++ rest
-    → length rest < 16)
+-- the bytes that came end within a header, none of whose lines is faulty
+abbrev pub InHeader : Option (List ℕ) → Option (List ℕ) → Type 0
+InHeader old new = (bytes : List ℕ) × Consumes old new bytes × (HasHeader bytes → ⊥)
+    × NoFault bytes
 
--- no pull was made after the one that a header ended in: what came before the last pull, which
--- gives no more than 65,536 bytes, holds neither a header nor a faulty line
+-- at most 65,536 bytes came after some that hold no header and no faulty line
 pub record StopsAtHeader (old new : Option (List ℕ)) : Type 0 where
   pub before : List ℕ
   pub last : List ℕ
   pub read : Consumes old new (before ++ last)
-  pub one_pull : length last ≤ 65536
+  pub few : length last ≤ 65536
   pub no_header : HasHeader before → ⊥
   pub no_fault : NoFault before
 

@@ -9,12 +9,13 @@ use Rattle.age_chunk.specs.declared.fault.StreamFault.{StreamFault}
 use Rattle.age_stream.specs.declared.step.Status.TheVariants.{Failed}
 use Rattle.age_chunk.specs.Payload.{chunk_length, block_length}
 use Rattle.age_keys.specs.declared.fault.KeyFault.{KeyFault}
-use Rattle.age_file.specs.Faults.{IsByAllPulls, IsShort}
+use Rattle.age_file.specs.Faults.{IsByAllPulls}
 use Rattle.age_fault.specs.Faults.{HasFailed}
 use Rattle.age_file.specs.Bindings.{chain}
-use Rattle.age_file.specs.Starts.{StartFails}
+use Rattle.age_file.specs.Starts.{IsEarly, StartFails}
 use Rattle.age_file.specs.Runs.{Run, outcome_of, Reads, WritesNone, Told, IsDone}
-use Rattle.age_file.specs.Runs.{StopsInPayload, StopsWriting}
+use Rattle.age_file.specs.Ports.{NoneFailed, ReadFailed, WriteFailed}
+use Rattle.age_file.specs.Runs.{HasNoFault, StopsInPayload, StopsWriting}
 use Rattle.age_file.specs.declared.position.Position.{Position}
 use Rattle.age_file.specs.declared.position.Positions.{Positions}
 use Rattle.age_file.specs.declared.decryption.Done.{Done}
@@ -35,13 +36,14 @@ NeverEnd old new = (bytes : List ℕ) × (texts : List ℕ)
     × IsByAllPulls (length bytes + length texts)
 
 module _ (Allows : Header → List ℕ → Type 0) (p : Position) where
-  -- a run that stopped in the old text, before all that the position needs was written; it has no
-  -- position
+  -- a run that stopped in the old text, before all that the position needs was written: at most
+  -- 65,536 bytes had been read after the nonce, and it has no position
   pub record StopsInOld (old new : ResumePorts) (written : ℕ) (position : Option Position)
       : Type 0 where
     pub file : OpenedFile
     pub rest : List ℕ
     pub accepts : Accepts Allows p old.main.source.remaining new.main.source.remaining file rest
+    pub few : length rest ≤ 65536
     pub copied : List ℕ
     pub short : length copied < p.index * chunk_length
     pub writes : WritesOld p old new written copied
@@ -75,27 +77,32 @@ module _ (keep : Positions) (Allows : Header → List ℕ → Type 0) (p : Posit
     pub most : length skipped < fault.chunk * block_length + block_length
     pub at_end : IsAtEnd new.main.source.remaining
 
-  -- why a source or a sink failed, by where the run stood
+  -- no more came, at each stage. Before the payload, nothing is written. While the old text is
+  -- copied, all that it gave is written, and there is no position. While blocks are skipped, the old
+  -- text is written, and the position is the one that the run began from. After them, all text of
+  -- the bytes that came is written, and they have no fault
   abbrev pub FailsAt : (Main Old : Type 0) → ResumePorts → ResumePorts → ℕ → Option Position
       → Type 0
   FailsAt Main Old old new written position =
       (WritesNone old.main new.main written position
-      × IsShort old.main.source.remaining new.main.source.remaining × Main)
+      × IsEarly Allows old.main.source.remaining new.main.source.remaining × Main)
       ⊎ ((s : StopsInOld Allows p old new written position) × (s.copied ≡ s.writes.pulled) × Old)
       ⊎ ((skipped : List ℕ) × StopsInSkipped old new written position skipped × Main)
       ⊎ ((r : Run) × IsFrom p old.old new.old r
-      × StopsInPayload keep Allows old.main new.main written position r × Main)
+      × StopsInPayload keep Allows old.main new.main written position r × HasNoFault r × Main)
 
-  -- when each fault comes, and what was written then
+  -- when each fault comes, and what was written then; where the position or the old text isn't the
+  -- file's, at most 65,536 bytes were read after the nonce
   abbrev pub ResumeFails : (Header → KeyFault → Type 0) → ResumePorts → ResumePorts → ℕ
       → Option Position → FileFault → Type 0
   ResumeFails Refused old new written position OtherFile =
       WritesNone old.main new.main written position × (f : OpenedFile) × (rest : List ℕ)
       × Reads Allows old.main.source.remaining new.main.source.remaining f rest × (HasId p f → ⊥)
+      × (length rest ≤ 65536)
   ResumeFails Refused old new written position PositionForged =
       WritesNone old.main new.main written position × (f : OpenedFile) × (rest : List ℕ)
       × Reads Allows old.main.source.remaining new.main.source.remaining f rest × HasId p f
-      × (HasTag p f → ⊥)
+      × (HasTag p f → ⊥) × (length rest ≤ 65536)
   ResumeFails Refused old new written position ShortText =
       (s : StopsInOld Allows p old new written position) × (s.copied ≡ s.writes.pulled)
       × IsAtEnd new.old.remaining
@@ -104,7 +111,7 @@ module _ (keep : Positions) (Allows : Header → List ℕ → Type 0) (p : Posit
       × Accepts Allows p old.main.source.remaining new.main.source.remaining f rest
       × (copied : List ℕ) × WritesOld p old new written copied
       × (length copied ≡ p.index * chunk_length)
-      × (chain (first_chunks chunk_length p.index copied) ≢ p.chain)
+      × (chain (first_chunks chunk_length p.index copied) ≢ p.chain) × (length rest ≤ 65536)
   ResumeFails Refused old new written position (Stream fault) =
       (EndsInSkipped old new written position fault
       ⊎ ((r : Run) × IsFrom p old.old new.old r
@@ -115,10 +122,11 @@ module _ (keep : Positions) (Allows : Header → List ℕ → Type 0) (p : Posit
       (StopsInOld Allows p old new written position
       ⊎ ((r : Run) × IsFrom p old.old new.old r
       × StopsWriting keep Allows old.main new.main written position r))
-      × HasFailed old.main.sink.failed new.main.sink.failed new.main.sink.failing
+      × WriteFailed old.main new.main × (new.old.failed ≡ old.old.failed)
   ResumeFails Refused old new written position Read =
-      FailsAt (HasFailed old.main.source.failed new.main.source.failed new.main.source.failing)
-      (HasFailed old.old.failed new.old.failed new.old.failing) old new written position
+      FailsAt (ReadFailed old.main new.main × (new.old.failed ≡ old.old.failed))
+      (HasFailed old.old.failed new.old.failed new.old.failing × NoneFailed old.main new.main)
+      old new written position
   ResumeFails Refused old new written position ReadNeverEnds =
       FailsAt (NeverEnd old new) (NeverEnd old new) old new written position
   ResumeFails Refused old new written position fault =

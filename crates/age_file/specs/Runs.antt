@@ -1,13 +1,15 @@
 -- Runs: what was read of an age file, and what was written. A decryption is a run that begins with
 -- chunk 0; a resumed one begins with the chunk of its position, after the old text. A chunk has
 -- 65,536 bytes, its block 65,552.
-use Rattle.std.specs.Prelude.{◌≡◌, ℕ, ◌*◌, ◌/◌, ◌≤◌, min, List, [], ◌++◌, length, take}
+use Rattle.std.specs.Prelude.{◌≡◌, ℕ, ◌⊎◌, ◌*◌, ◌/◌, ◌<◌, ◌≤◌, min, List, [], ◌++◌}
+use Rattle.std.specs.Prelude.{length, take}
 use Rattle.std.specs.Prelude.{Option, None, IsSomeAnd, Bool, true, false}
 use Rattle.std.specs.Simd.{first_chunks}
 use Rattle.std.specs.Io.KnownBytes.{Consumes, Appends, IsAtEnd}
 use Rattle.age_stanza.specs.declared.header.Header.{Header}
 use Rattle.age_stanza.specs.Grammar.{HeadText}
 use Rattle.age_stream.specs.declared.step.Status.TheVariants.{Done}
+use Rattle.age_stream.specs.Opening.{has_failed}
 use Rattle.age_chunk.specs.Payload.{chunk_count, chunk_length, block_length}
 use Rattle.age_stream.specs.Segment.{Segment, Outcome, outcome, released}
 use Rattle.age_stream.specs.Headline.{IsPrefixOf, IsAuthentic}
@@ -77,6 +79,14 @@ pub record IsRun (Allows : Header → List ℕ → Type 0) (old new : Ports) (wr
   pub count : written ≡ length (held r)
   pub prefix : IsPrefixOf r.out (text_of r)
 
+-- the end of the source was not seen, and what came has no fault
+abbrev pub HasNoFault : Run → Type 0
+HasNoFault r = (r.ended ≡ false) × (has_failed (outcome_of r).status ≡ false)
+
+-- some of the text was not written, or the end of the file was seen
+abbrev pub StopsShort : Run → Type 0
+StopsShort r = (length r.out < length (text_of r)) ⊎ ((outcome_of r).status ≡ Done)
+
 -- every block that is tried and opens is one that the writer of this text sealed there
 abbrev pub IsTexts : List ℕ → Run → Type 0
 IsTexts text r = IsAuthentic (box r.file.key r.file.nonce) (unbox r.file.key r.file.nonce)
@@ -136,11 +146,12 @@ module _ (Allows : Header → List ℕ → Type 0) where
     pub all : WritesAll r
 
 module _ (keep : Positions) (Allows : Header → List ℕ → Type 0) where
-  -- a run that stopped in its payload: all text was written, or so much as the sink took
+  -- a run that stopped in its payload, with all of its text written
   abbrev pub StopsInPayload : Ports → Ports → ℕ → Option Position → Run → Type 0
   StopsInPayload old new written position r = Wrote Allows old new written r
       × Told keep (IsPositionOf r) position
 
+  -- or with so much as the sink took: not all, unless only the flush was left
   abbrev pub StopsWriting : Ports → Ports → ℕ → Option Position → Run → Type 0
   StopsWriting old new written position r = IsRun Allows old new written r × WritesOf r
-      × Told keep (IsPositionOf r) position
+      × Told keep (IsPositionOf r) position × StopsShort r

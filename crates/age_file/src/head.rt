@@ -1,9 +1,8 @@
 //! Reads the header at the beginning of a source.
 
-ghost use Rattle.std.specs.Prelude.{◌≡◌, ◌≢◌, ℕ, List, [], IfOk, IfErr, OnOk};
-ghost use Rattle.age_fault.specs.declared.fault.FileFault.TheVariants.{Memory};
+ghost use Rattle.std.specs.Prelude.{◌≡◌, ℕ, List, [], IfOk, IfErr, OnOk};
 ghost use Rattle.age_file.specs.Faults.{HeadFails, StopsAtHeader};
-ghost use Rattle.age_file.specs.inner.Faults.{IsInHeader};
+ghost use Rattle.age_file.specs.inner.Faults.{StopsInHeader};
 ghost use Rattle.age_file.specs.inner.Readers.{view_of_reader, SameReader};
 ghost use Rattle.age_file.specs.inner.Intakes.{ReadsHead};
 ghost use Rattle.age_file.specs.inner.Fronts.{IsReading, IsFront, TakesFront, head_of};
@@ -91,8 +90,7 @@ impl Front {
             (S.view reader.old.source.now).failed) }
         ensures fails { IfErr result (HeadFails (S.view reader.old.source.now)
             (S.view reader.new.source.now)) }
-        ensures early { IfErr result (λ fault. fault ≢ Memory
-            → IsInHeader (S.view reader.old.source.now).remaining
+        ensures early { IfErr result (StopsInHeader (S.view reader.old.source.now).remaining
             (S.view reader.new.source.now).remaining) }
         ensures same { SameReader reader.old reader.new }
     {
@@ -119,8 +117,7 @@ pub(crate) fn read_head<S: Source>(
         (S.view reader.old.source.now).failed) }
     ensures fails { IfErr result (HeadFails (S.view reader.old.source.now)
         (S.view reader.new.source.now)) }
-    ensures early { IfErr result (λ fault. fault ≢ Memory
-        → IsInHeader (S.view reader.old.source.now).remaining
+    ensures early { IfErr result (StopsInHeader (S.view reader.old.source.now).remaining
         (S.view reader.new.source.now).remaining) }
     ensures same { SameReader reader.old reader.new }
 {

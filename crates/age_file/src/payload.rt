@@ -1,7 +1,8 @@
 //! Opens what a source gives, and writes each chunk once its tag was checked.
 
 ghost use Rattle.std.specs.Prelude.{◌≡◌, ◌+◌, ◌^◌, ◌<◌, ◌≤◌, length, IfOk, OnOk};
-ghost use Rattle.std.specs.Prelude.{true};
+ghost use Rattle.std.specs.Prelude.{true, false};
+ghost use Rattle.age_stream.specs.Opening.{has_failed};
 ghost use Rattle.age_file.specs.inner.Boxes.{opens};
 ghost use Rattle.age_file.specs.inner.Releases.{FeedsOnce, FeedsPiece, Closes};
 ghost use Rattle.age_file.specs.inner.Payloads.{HasPlace, DecryptsPayload};
@@ -45,6 +46,7 @@ fn feed_piece<O: Sink>(
     piece: &[u8],
     writer: &mut Writer<'_, O>,
 ) -> Result<(), FileFault>
+    requires sound { has_failed opener.old.status ≡ false }
     requires small { length opener.old.held + writer.old.progress.written + length piece.now
         < 2 ^ 128 }
     ensures fed { FeedsPiece opens 65536 opener.old opener.new (view_of_writer O.view writer.old)

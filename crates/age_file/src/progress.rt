@@ -75,7 +75,7 @@ impl Progress {
         self.advance(index, chain);
     }
 
-    /// Counts a chunk whose link is known, likewise.
+    /// Like `count`, with the link given.
     pub(crate) fn advance(&mut self, index: u64, chain: Option<[u8; 32]>)
         requires { index < 281474976710656 }
         ensures same { self.new.written ≡ self.old.written }

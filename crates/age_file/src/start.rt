@@ -12,7 +12,6 @@ use crate::reader::Reader;
 use age_fault::FileFault;
 use age_io::Source;
 use age_keys::{FileKey, Unlock, open_header};
-use age_stanza::one_header;
 use sha2::Sha256;
 use std::alloc::Global;
 
@@ -51,6 +50,8 @@ fn copy_some(from: &[u8], into: &mut [u8; 16], have: usize) -> usize
 
 /// Reads the payload nonce.
 fn take_nonce<S: Source>(reader: &mut Reader<'_, S>) -> Result<[u8; 16], FileFault>
+    requires { length reader.old.intake.now.bytes ≤ 65536 }
+    ensures few { OnOk result (length reader.new.intake.now.bytes ≤ 65536) }
     ensures found { IfOk result (Uses (view_of_reader S.view reader.old)
         (view_of_reader S.view reader.new)) }
     ensures unfailed { OnOk result ((S.view reader.new.source.now).failed ≡
@@ -78,6 +79,7 @@ fn read_nonce<S: Source>(
     digest: Sha256,
     reader: &mut Reader<'_, S>,
 ) -> Result<Unlocked, FileFault>
+    requires { length reader.old.intake.now.bytes ≤ 65536 }
     ensures found { IfOk result (ReadsNonce key digest (view_of_reader S.view reader.old)
         (view_of_reader S.view reader.new)) }
     ensures unfailed { OnOk result ((S.view reader.new.source.now).failed ≡
@@ -106,7 +108,6 @@ pub(crate) fn start<U: Unlock, S: Source>(
         (S.view reader.old.source.now) (S.view reader.new.source.now)) }
     ensures same { SameReader reader.old reader.new }
 {
-    one_header();
     let head = read_head(alloc, reader)?;
     let key = open_header(alloc, &head.header, unlock)?;
     read_nonce(key, head.digest, reader)

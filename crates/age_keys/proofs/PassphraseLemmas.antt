@@ -18,6 +18,7 @@ use Rattle.age_keys.specs.Passphrase.{PassphraseIdentity, IsPassphraseKey, Passp
 use Rattle.age_keys.specs.Scrypt.{wrap_key, IsWorkFactor, IsScryptStanza, HasScryptStanza, scrypt_stanza, scrypt_head}
 use Rattle.age_keys.proofs.Base64Lemmas.{one_text}
 use Rattle.age_keys.proofs.StanzaLemmas.{not_beside}
+use Rattle.age_keys.proofs.WorkFactorLemmas.{zero_first}
 
 length-wrapped : (wrap key : List ℕ) → length (wrapped_key wrap key) ≡ length key + 16
 unfolding wrapped_key
@@ -32,7 +33,7 @@ one_wrapped wrap key other e = one_sealed wrap (replicate 12 0) [] key other e
 factor_is : (log : ℕ) → 1 ≤ log → log ≤ 22 → IsWorkFactor (decimal log)
 factor_is log some few =
     let first = first_decimal log some (omega arith) in
-    record { digits = (decimal_is_IsNumeral log (omega arith)).0; no_leading_zero = λ zero_is. omega arith }
+    record { digits = (decimal_is_IsNumeral log (omega arith)).0; no_leading_zero = λ zero_is. let first_is = zero_first (decimal log) zero_is in omega arith }
 
 stanza_is : (salt body : List ℕ) (log : ℕ) → 1 ≤ log → log ≤ 22 → length salt ≡ 16 → IsBytes salt → length body ≡ 32
     → IsScryptStanza (scrypt_stanza salt log body) salt log body

@@ -75,9 +75,9 @@ scrypt_valid salt body log size fits body_fits few =
     }
 
 three_arguments : (a b c body : List ℕ) → length (stanza_text (record { args = a ∷ b ∷ c ∷ []; body = body }))
-    ≡ length a + length b + length c + length (in_lines 0 (base64_text body)) + 6
+    ≡ length a + length b + length c + length (in_lines (base64_text body)) + 6
 three_arguments a b c body =
-    let lines : List ℕ = in_lines 0 (base64_text body) in
+    let lines : List ℕ = in_lines (base64_text body) in
     let args : List ℕ = flat_map (λ x. 32 ∷ x) (a ∷ b ∷ c ∷ []) in
     let whole = length-append (line (codes "->" ++ args)) lines in
     let ended = length-append (codes "->" ++ args) (10 ∷ []) in

@@ -1,5 +1,5 @@
 -- The characters of a work factor, and their number.
-use Rattle.std.proofs.Common.{◌≡◌, ℕ, ◌+◌, ◌-◌, ◌*◌, ◌<◌, ◌≤◌, true, List, [], ◌∷◌, length, get_or, take, min, arith, rules}
+use Rattle.std.proofs.Common.{◌≡◌, ℕ, ◌+◌, ◌-◌, ◌*◌, ◌<◌, ◌≤◌, true, List, [], ◌∷◌, length, get_or, take, min, ap, arith, rules}
 use Rattle.std.specs.Char.{is_ascii_digit, digit_value}
 use Rattle.std.specs.Int.{IsInRange}
 use Rattle.std.specs.List.{list_all}
@@ -41,6 +41,11 @@ not_less n (c ∷ cs) =
     let rest = not_less (n * 10 + digit_value c) cs in
     omega arith
 
+-- where the first character is a zero
+pub zero_first : (ds : List ℕ) → take 1 ds ≡ 48 ∷ [] → get_or ds 0 0 ≡ 48
+zero_first [] e = cc
+zero_first (d ∷ ds) e = cc
+
 -- a work factor is above zero
 pub work_factor_some : (ds : List ℕ) → IsWorkFactor ds → 1 ≤ digits_value 10 ds
 work_factor_some [] h =
@@ -49,6 +54,6 @@ work_factor_some [] h =
 work_factor_some (c ∷ cs) h =
     let range = digit_from_value c h.digits.1.0 in
     let digit = value_of_digit c range in
-    let other = h.no_leading_zero in
+    let other : c ≡ 48 → ⊥ = λ e. h.no_leading_zero (ap (λ (d : ℕ). d ∷ []) e) in
     let rest = not_less (0 * 10 + digit_value c) cs in
     omega arith

@@ -1,6 +1,5 @@
 -- The scrypt stanza (C2SP age.md, "The scrypt recipient type").
-use Rattle.std.specs.Prelude.{◌≡◌, ◌≢◌, ℕ, List, [], ◌∷◌, ◌++◌, length, slice_index}
-use Rattle.std.specs.Prelude.{codes}
+use Rattle.std.specs.Prelude.{◌≡◌, ◌≢◌, ℕ, List, [], ◌∷◌, ◌++◌, length, take, codes}
 use Rattle.std.specs.Fmt.{decimal}
 use Rattle.std.specs.Str.Parse.{IsNumeral, digits_value}
 use Rattle.base64.specs.GeneralPurpose.{IsBytes}
@@ -15,11 +14,11 @@ use Rattle.age_keys.specs.Keys.{header_mac, wrapped_key}
 unfoldable pub wrap_key : List ℕ → List ℕ → ℕ → List ℕ
 wrap_key pass salt log = scrypt pass (codes "age-encryption.org/v1/scrypt" ++ salt) log
 
--- the characters of a work factor: decimal digits, as many as there may be, and the first isn't
+-- the characters of a work factor: decimal digits, as many as there may be, and the first isn't a
 -- zero
 pub record IsWorkFactor (characters : List ℕ) : Type 0 where
   pub digits : IsNumeral 10 characters
-  pub no_leading_zero : slice_index characters 0 ≢ 48
+  pub no_leading_zero : take 1 characters ≢ codes "0"
 
 -- the stanza `-> scrypt SALT LOG` of a salt of 16 bytes, a work factor and a body of 32 bytes
 pub record IsScryptStanza (s : Stanza) (salt : List ℕ) (log : ℕ) (body : List ℕ) : Type 0 where

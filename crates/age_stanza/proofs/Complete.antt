@@ -81,7 +81,7 @@ step_last ss args body l more short is = rw (le-ltb 64 (length l) (omega arith),
 -- ---- a walk over a body
 
 abbrev PassesBody : List Stanza → List (List ℕ) → List ℕ → List ℕ → ℕ → List ℕ → Type 0
-PassesBody ss args body rest n cs = (m : ℕ) × (walk (InBody ss args body) n [] (in_lines 0 (base64_text rest) ++ cs)
+PassesBody ss args body rest n cs = (m : ℕ) × (walk (InBody ss args body) n [] (in_lines (base64_text rest) ++ cs)
     ≡ walk (Between (ss ++ (record { args = args; body = body ++ rest }) ∷ [])) m [] cs)
 
 last_body : (ss : List Stanza) (args : List (List ℕ)) (body rest : List ℕ) (n : ℕ) (cs : List ℕ) → length rest < 48 → IsBytes rest
@@ -89,7 +89,7 @@ last_body : (ss : List Stanza) (args : List (List ℕ)) (body rest : List ℕ) (
 last_body ss args body rest n cs lt fits =
     let short : length (base64_text rest) < 64 = omega (arith, length-text rest) in (
       n + 1,
-      rw (in_lines-short 0 (base64_text rest) (omega arith))
+      rw (in_lines-short (base64_text rest) (omega arith))
           (walk_go (InBody ss args body) _ n (base64_text rest) cs (text_line rest) (step_last ss args body (base64_text rest) rest short
           (decoded-text rest fits))),
     )
@@ -99,9 +99,9 @@ full_body : (ss : List Stanza) (args : List (List ℕ)) (body a b : List ℕ) (n
 full_body ss args body a b n cs len fits on =
     let long : length (base64_text a) ≡ 64 = omega (arith, length-text a) in
     let whole : length a % 3 ≡ 0 = omega arith in
-    let cut : in_lines 0 (base64_text (a ++ b)) ≡ line (base64_text a) ++ in_lines 0 (base64_text b) = rw (text-append a b whole)
-    (in_lines-full 0 (base64_text a) (base64_text b) (omega arith) (omega arith)) in
-    let one = walk_go (InBody ss args body) (InBody ss args (body ++ a)) n (base64_text a) (in_lines 0 (base64_text b) ++ cs) (text_line a)
+    let cut : in_lines (base64_text (a ++ b)) ≡ line (base64_text a) ++ in_lines (base64_text b) = rw (text-append a b whole)
+    (in_lines-full (base64_text a) (base64_text b) (omega arith)) in
+    let one = walk_go (InBody ss args body) (InBody ss args (body ++ a)) n (base64_text a) (in_lines (base64_text b) ++ cs) (text_line a)
     (step_full ss args body (base64_text a) a long (decoded-text a fits)) in
     (on.0, rw (cut, append_assoc (line (base64_text a))) (one ∙ rw append_assoc at on.1))
 
@@ -130,8 +130,8 @@ PassesStanzas more ss n rest = (m : ℕ) × (walk (Between ss) n [] (flat_map st
 pub stanzas_reach : (more ss : List Stanza) (n : ℕ) (rest : List ℕ) → AllByRecursion IsStanza more → PassesStanzas more ss n rest
 stanzas_reach [] ss n rest valid = (n, rw append-nil refl)
 stanzas_reach (s ∷ more) ss n rest valid =
-    let apart = three_parts (line (argument_line s.args)) (in_lines 0 (base64_text s.body)) (flat_map stanza_text more) rest in
-    let one = walk_go (Between ss) (InBody ss s.args []) n (argument_line s.args) (in_lines 0 (base64_text s.body) ++ (flat_map stanza_text more ++ rest))
+    let apart = three_parts (line (argument_line s.args)) (in_lines (base64_text s.body)) (flat_map stanza_text more) rest in
+    let one = walk_go (Between ss) (InBody ss s.args []) n (argument_line s.args) (in_lines (base64_text s.body) ++ (flat_map stanza_text more ++ rest))
     (argument_line_line s.args valid.0.arguments) (step_arguments ss s.args valid.0.some_argument valid.0.arguments) in
     let two = body_walk (length s.body) ss s.args [] s.body (n + 1) (flat_map stanza_text more ++ rest) (omega arith) valid.0.body in
     let three = stanzas_reach more (ss ++ s ∷ []) two.0 rest valid.1 in (

@@ -66,7 +66,7 @@ completes (Between ss) known =
 completes (InBody ss args body) known =
     let s : Stanza = record { args = args; body = body ++ [] } in
     let valid : IsStanza s = record { some_argument = known.1; arguments = known.2; body = IsBytes-append body [] known.3 no_bytes } in
-    (record { stanzas = ss ++ s ∷ []; mac = zeros }, in_lines 0 (base64_text []) ++ tail_text [] zeros, pushed_valid ss s known.0 valid, ([], [], refl, refl))
+    (record { stanzas = ss ++ s ∷ []; mac = zeros }, in_lines (base64_text []) ++ tail_text [] zeros, pushed_valid ss s known.0 valid, ([], [], refl, refl))
 
 -- ---- where a walk stands after whole lines
 

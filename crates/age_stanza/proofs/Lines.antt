@@ -1,11 +1,12 @@
 -- The lines of a header: a body's, an argument line, an end line.
-use Rattle.std.proofs.Common.{◌≡◌, ℕ, ◌<◌, ◌≤◌, ◌+◌, Bool, true, false, cond, leb, eqb, nat_eq, ◌&&◌, List, [], ◌∷◌, ◌++◌, length, drop, Option, Some, None}
+use Rattle.std.proofs.Common.{◌≡◌, ℕ, zero, suc, ◌<◌, ◌≤◌, ◌+◌, ◌*◌, ◌/◌, Bool, true, false, cond, leb, eqb, nat_eq, ◌&&◌, List, [], ◌∷◌, ◌++◌, length, take, drop, Option, Some, None}
 use Rattle.std.proofs.Common.{refl, sym, ap, ◌∙◌, arith, inl, inr}
-use Rattle.std.specs.Prelude.{codes, ◌⊎◌}
+use Rattle.std.specs.Prelude.{codes, ◌⊎◌, ◌==◌, if◌then◌else◌}
 use Rattle.std.specs.List.{flat_map, AllByRecursion, starts_with}
 use Rattle.std.proofs.lemmas.Bool.{eqb-true, eqb-false, eq-eqb, ne_eqb, leb-true, le-leb, and_parts, and_from}
 use Rattle.std.proofs.lemmas.Bool.Decides.{Decides-eqb}
-use Rattle.std.proofs.lemmas.List.{append-nil, append_assoc, length-append}
+use Rattle.std.specs.Simd.{first_chunks}
+use Rattle.std.proofs.lemmas.List.{append-nil, append_assoc, length-append, length-take, length-drop, take_at, drop_at, drop-drop, take-append-drop}
 use Rattle.std.proofs.lemmas.List.Concat.{flat_map-append}
 use Rattle.std.proofs.lemmas.Slice.Eq.{starts_is}
 use Rattle.std.proofs.lemmas.Option.{cond_some}
@@ -35,24 +36,72 @@ starts_from s p rest e = (starts_is Decides-eqb s p (starts_with nat_eq s p) ref
 
 -- ---- a text in lines
 
-pub in_lines-full : (k : ℕ) (l rest : List ℕ) → k + length l ≡ 64 → 0 < length l → in_lines k (l ++ rest) ≡ line l ++ in_lines 0 rest
-unfolding in_lines
-in_lines-full k [] rest e some = absurd (omega arith)
-in_lines-full k (c ∷ []) rest e some =
+-- the same character by character, where k characters of a line stand already
+unfoldable pub lines_from : ℕ → List ℕ → List ℕ
+lines_from k [] = 10 ∷ []
+lines_from k (c ∷ cs) = c ∷ (if k == 63 then 10 ∷ lines_from 0 cs else lines_from (k + 1) cs)
+
+lines_from-full : (k : ℕ) (l rest : List ℕ) → k + length l ≡ 64 → 0 < length l → lines_from k (l ++ rest) ≡ line l ++ lines_from 0 rest
+unfolding lines_from
+lines_from-full k [] rest e some = absurd (omega arith)
+lines_from-full k (c ∷ []) rest e some =
     let last : k ≡ 63 = omega arith in
     rw (eq-eqb k 63 last) refl
-in_lines-full k (c ∷ d ∷ ds) rest e some =
+lines_from-full k (c ∷ d ∷ ds) rest e some =
     let before : k ≡ 63 → ⊥ = λ last. omega arith in
     let next : k + 1 + length (d ∷ ds) ≡ 64 = omega arith in
     let more : 0 < length (d ∷ ds) = omega arith in
-    rw (ne_eqb k 63 before) (ap (λ (xs : List ℕ). c ∷ xs) (in_lines-full (k + 1) (d ∷ ds) rest next more))
+    rw (ne_eqb k 63 before) (ap (λ (xs : List ℕ). c ∷ xs) (lines_from-full (k + 1) (d ∷ ds) rest next more))
 
-pub in_lines-short : (k : ℕ) (l : List ℕ) → k + length l < 64 → in_lines k l ≡ line l
-unfolding in_lines
-in_lines-short k [] lt = refl
-in_lines-short k (c ∷ cs) lt =
+lines_from-short : (k : ℕ) (l : List ℕ) → k + length l < 64 → lines_from k l ≡ line l
+unfolding lines_from
+lines_from-short k [] lt = refl
+lines_from-short k (c ∷ cs) lt =
     let before : k ≡ 63 → ⊥ = λ last. omega arith in
-    rw (ne_eqb k 63 before) (ap (λ (xs : List ℕ). c ∷ xs) (in_lines-short (k + 1) cs (omega arith)))
+    rw (ne_eqb k 63 before) (ap (λ (xs : List ℕ). c ∷ xs) (lines_from-short (k + 1) cs (omega arith)))
+
+abbrev lines_and_last : ℕ → List ℕ → List ℕ
+lines_and_last n cs = flat_map line (first_chunks 64 n cs) ++ line (drop (n * 64) cs)
+
+pub in_lines-short : (l : List ℕ) → length l < 64 → in_lines l ≡ line l
+unfolding in_lines
+in_lines-short l lt =
+    let none : length l / 64 ≡ 0 = omega arith in
+    ap (λ (n : ℕ). lines_and_last n l) none
+
+pub in_lines-full : (l rest : List ℕ) → length l ≡ 64 → in_lines (l ++ rest) ≡ line l ++ in_lines rest
+unfolding in_lines
+in_lines-full l rest len =
+    let n = length rest / 64 in
+    let all = l ++ rest in
+    let count : length all / 64 ≡ suc n = omega (arith, length-append l rest, len) in
+    let front : take 64 all ≡ l = take_at l rest 64 len in
+    let behind : drop 64 all ≡ rest = drop_at l rest 64 len in
+    let size : suc n * 64 ≡ 64 + n * 64 = omega arith in
+    let last : drop (suc n * 64) all ≡ drop (n * 64) rest =
+    ap (λ (k : ℕ). drop k all) size ∙ (sym (drop-drop (n * 64) 64 all) ∙ ap (drop (n * 64)) behind) in
+    ap (λ (k : ℕ). lines_and_last k all) count
+    ∙ (ap (λ (a : List ℕ). (line a ++ flat_map line (first_chunks 64 n (drop 64 all))) ++ line (drop (suc n * 64) all)) front
+    ∙ (ap (λ (b : List ℕ). (line l ++ flat_map line (first_chunks 64 n b)) ++ line (drop (suc n * 64) all)) behind
+    ∙ (ap (λ (d : List ℕ). (line l ++ flat_map line (first_chunks 64 n rest)) ++ line d) last
+    ∙ append_assoc (line l) (flat_map line (first_chunks 64 n rest)) (line (drop (n * 64) rest)))))
+
+is_by_count : (n : ℕ) (cs : List ℕ) → length cs / 64 ≡ n → in_lines cs ≡ lines_from 0 cs
+is_by_count zero cs e =
+    let short : length cs < 64 = omega (arith, e) in
+    in_lines-short cs short ∙ sym (lines_from-short 0 cs (omega (arith, short)))
+is_by_count (suc n) cs e =
+    let long : 64 ≤ length cs = omega (arith, e) in
+    let len : length (take 64 cs) ≡ 64 = omega (arith, length-take 64 cs, long) in
+    let fewer : length (drop 64 cs) / 64 ≡ n = omega (arith, length-drop 64 cs, e) in
+    let parts = take-append-drop 64 cs in
+    ap in_lines (sym parts)
+    ∙ (in_lines-full (take 64 cs) (drop 64 cs) len
+    ∙ (ap (λ (t : List ℕ). line (take 64 cs) ++ t) (is_by_count n (drop 64 cs) fewer)
+    ∙ (sym (lines_from-full 0 (take 64 cs) (drop 64 cs) (omega (arith, len)) (omega (arith, len))) ∙ ap (lines_from 0) parts)))
+
+pub in_lines-is : (cs : List ℕ) → in_lines cs ≡ lines_from 0 cs
+in_lines-is cs = is_by_count (length cs / 64) cs refl
 
 -- ---- an argument line
 

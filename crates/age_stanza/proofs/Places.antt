@@ -40,7 +40,7 @@ abbrev pub Follows : Place → Header → List ℕ → Type 0
 Follows Start h t = t ≡ head_text h
 Follows (Between ss) h t = (more : List Stanza) × (h.stanzas ≡ ss ++ more) × (t ≡ tail_text more h.mac)
 Follows (InBody ss args body) h t = (rest : List ℕ) × (more : List Stanza) × (h.stanzas ≡ ss ++ (record { args = args; body = body ++ rest }) ∷ more)
-    × (t ≡ in_lines 0 (base64_text rest) ++ tail_text more h.mac)
+    × (t ≡ in_lines (base64_text rest) ++ tail_text more h.mac)
 
 -- ---- a line that leads on
 
@@ -72,10 +72,10 @@ not_ended [] (Some mac) next e = cc
 not_ended (s ∷ ss) (Some mac) next e = cc
 
 stanza_front : (args : List (List ℕ)) (body : List ℕ) (more : List Stanza) (mac : List ℕ)
-    → line (argument_line args) ++ (in_lines 0 (base64_text body) ++ tail_text more mac) ≡ tail_text (record { args = args; body = body } ∷ more) mac
+    → line (argument_line args) ++ (in_lines (base64_text body) ++ tail_text more mac) ≡ tail_text (record { args = args; body = body } ∷ more) mac
 stanza_front args body more mac =
     let s : Stanza = record { args = args; body = body } in
-    sym (append_assoc (line (argument_line args)) (in_lines 0 (base64_text body)) (tail_text more mac))
+    sym (append_assoc (line (argument_line args)) (in_lines (base64_text body)) (tail_text more mac))
     ∙ sym (append_assoc (stanza_text s) (flat_map stanza_text more) (line (end_line mac)))
 
 leads_begun : (ss : List Stanza) (l : List ℕ) (next : Place) (o : Option (List (List ℕ))) → AllByRecursion IsStanza ss → arguments_of l ≡ o
@@ -98,11 +98,11 @@ leads_between ss l next known e = elim (chosen (starts_with nat_eq l (codes "---
     ]
 
 -- a body's text, cut after a whole line
-body_split : (l more rest : List ℕ) → l ≡ base64_text more → length l ≡ 64 → in_lines 0 (base64_text (more ++ rest)) ≡ line l ++ in_lines 0 (base64_text rest)
+body_split : (l more rest : List ℕ) → l ≡ base64_text more → length l ≡ 64 → in_lines (base64_text (more ++ rest)) ≡ line l ++ in_lines (base64_text rest)
 body_split l more rest is long =
     let size : (4 * length more + 2) / 3 ≡ 64 = sym (length-text more) ∙ ap length (sym is) ∙ long in
     let whole : length more % 3 ≡ 0 = omega arith in
-    rw (text-append more rest whole, ← is) (in_lines-full 0 l (base64_text rest) (omega arith) (omega arith))
+    rw (text-append more rest whole, ← is) (in_lines-full l (base64_text rest) (omega arith))
 
 leads_continued : (ss : List Stanza) (args : List (List ℕ)) (body l : List ℕ) (next : Place) (full : Bool) (o : Option (List ℕ))
     → IsPlace (InBody ss args body) → IsBytes l → length l ≤ 64 → eqb (length l) 64 ≡ full → base64_bytes l ≡ o
@@ -121,19 +121,19 @@ leads_continued ss args body l next true (Some more) known fits le long is e =
         more ++ f.0,
         f.1,
         rw (← append_assoc body more f.0) f.2,
-        rw (f.3, body_split l more f.0 read.0 len) (sym (append_assoc (line l) (in_lines 0 (base64_text f.0)) (tail_text f.1 h.mac))),
+        rw (f.3, body_split l more f.0 read.0 len) (sym (append_assoc (line l) (in_lines (base64_text f.0)) (tail_text f.1 h.mac))),
       ),
     )
 leads_continued ss args body l next false (Some more) known fits le long is e =
     let read = text_of_decoded l more fits is in
     let ne = eqb-false (length l) 64 long in
-    let short : 0 + length (base64_text more) < 64 = rw (← read.0) (omega arith) in
+    let short : length (base64_text more) < 64 = rw (← read.0) (omega arith) in
     let s : Stanza = record { args = args; body = body ++ more } in
     let valid : IsStanza s = record { some_argument = known.1; arguments = known.2; body = IsBytes-append body more known.3 read.1 } in
     subst (λ (q : Place). Leads (InBody ss args body) l q) (same_go (Between (ss ++ s ∷ [])) next e) (
       All-append IsStanza ss (s ∷ []) known.0 (valid, tt),
       λ h t f.
-          (more, f.0, f.1 ∙ append_assoc ss (s ∷ []) f.0, rw (f.2, in_lines-short 0 (base64_text more) short, read.0) refl),
+          (more, f.0, f.1 ∙ append_assoc ss (s ∷ []) f.0, rw (f.2, in_lines-short (base64_text more) short, read.0) refl),
     )
 
 leads_body : (ss : List Stanza) (args : List (List ℕ)) (body l : List ℕ) (next : Place) → IsPlace (InBody ss args body) → IsBytes l

@@ -20,7 +20,7 @@ use Rattle.age_stanza.specs.Grammar.{line, version, argument_line, in_lines, sta
 use Rattle.age_stanza.specs.Faults.{stanzas_text, armor}
 use Rattle.age_stanza.specs.inner.Retelling.{whole_lines, bytes_before, IsWhole}
 use Rattle.age_stanza.proofs.Texts.{text-append, text-nil, length-text, text_of_decoded}
-use Rattle.age_stanza.proofs.Lines.{chosen, in_lines-short, argument_line_read}
+use Rattle.age_stanza.proofs.Lines.{chosen, lines_from, in_lines-is, in_lines-short, argument_line_read}
 use Rattle.age_stanza.proofs.Places.{same_go, not_ended}
 
 by_cases : (b : Bool) → cond b true false ≡ b
@@ -30,11 +30,11 @@ by_cases false = refl
 regrouped : (a b c d : List ℕ) → a ++ (b ++ (c ++ d)) ≡ (a ++ (b ++ c)) ++ d
 regrouped a b c d = simp append_assoc
 
-whole-in : (k : ℕ) (t l : List ℕ) → (k + length t) % 64 ≡ 0 → k < 64 → in_lines k (t ++ l) ≡ whole_lines k t ++ in_lines 0 l
-unfolding in_lines whole_lines
+whole-in : (k : ℕ) (t l : List ℕ) → (k + length t) % 64 ≡ 0 → k < 64 → lines_from k (t ++ l) ≡ whole_lines k t ++ lines_from 0 l
+unfolding lines_from whole_lines
 whole-in k [] l e lt =
     let none : k ≡ 0 = omega arith in
-    ap (λ j. in_lines j l) none
+    ap (λ j. lines_from j l) none
 whole-in k (c ∷ cs) l e lt = elim (chosen (eqb k 63) true false (eqb k 63) (by_cases (eqb k 63))) [
   | inl h ↦
       let last : k ≡ 63 = eqb-true k 63 h.0 in
@@ -107,10 +107,10 @@ retells_continued ss args body l next false (Some more) whole fits le long is e 
     let third : length body % 3 ≡ 0 = omega arith in
     let lines : (0 + length (base64_text body)) % 64 ≡ 0 = omega (arith, length-text body) in
     let s : Stanza = record { args = args; body = body ++ more } in
-    let joined : in_lines 0 (base64_text (body ++ more)) ≡ whole_lines 0 (base64_text body) ++ line l =
-    ap (in_lines 0) (text-append body more third ∙ ap (λ (t : List ℕ). base64_text body ++ t) (sym read.0))
-    ∙ whole-in 0 (base64_text body) l lines (omega arith)
-    ∙ ap (λ (t : List ℕ). whole_lines 0 (base64_text body) ++ t) (in_lines-short 0 l (omega arith)) in
+    let joined : in_lines (base64_text (body ++ more)) ≡ whole_lines 0 (base64_text body) ++ line l =
+    ap in_lines (text-append body more third ∙ ap (λ (t : List ℕ). base64_text body ++ t) (sym read.0))
+    ∙ in_lines-is (base64_text body ++ l) ∙ whole-in 0 (base64_text body) l lines (omega arith)
+    ∙ ap (λ (t : List ℕ). whole_lines 0 (base64_text body) ++ t) (sym (in_lines-is l) ∙ in_lines-short l (omega arith)) in
     subst (λ (q : Place). Retells (InBody ss args body) l q) (same_go (Between (ss ++ s ∷ [])) next e) (
       ap (λ (t : List ℕ). line version ++ t) (flat_map-append stanza_text ss (s ∷ [])
           ∙ ap (λ (t : List ℕ). flat_map stanza_text ss ++ t) (append-nil (stanza_text s)))

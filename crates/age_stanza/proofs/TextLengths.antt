@@ -13,42 +13,42 @@ use Rattle.age_stanza.specs.declared.header.Header.{Header}
 use Rattle.age_stanza.specs.Text.{base64_text}
 use Rattle.age_stanza.specs.inner.Lengths.{HasArguments, Leaves, IsTextLength}
 use Rattle.age_stanza.specs.Grammar.{line, version, in_lines, stanza_text, end_line, head_text, IsStanza, HasText}
-use Rattle.age_stanza.proofs.Lines.{chosen}
+use Rattle.age_stanza.proofs.Lines.{chosen, lines_from, in_lines-is}
 use Rattle.age_stanza.proofs.Texts.{length-text}
 
 by_cases : (b : Bool) → cond b true false ≡ b
 by_cases true = refl
 by_cases false = refl
 
-in_lines-cases : (k c : ℕ) (cs : List ℕ) → ((k ≡ 63) × (in_lines k (c ∷ cs) ≡ c ∷ 10 ∷ in_lines 0 cs))
-    ⊎ ((k ≡ 63 → ⊥) × (in_lines k (c ∷ cs) ≡ c ∷ in_lines (k + 1) cs))
-unfolding in_lines
-in_lines-cases k c cs = elim (chosen (eqb k 63) true false (eqb k 63) (by_cases (eqb k 63))) [
+lines_from-cases : (k c : ℕ) (cs : List ℕ) → ((k ≡ 63) × (lines_from k (c ∷ cs) ≡ c ∷ 10 ∷ lines_from 0 cs))
+    ⊎ ((k ≡ 63 → ⊥) × (lines_from k (c ∷ cs) ≡ c ∷ lines_from (k + 1) cs))
+unfolding lines_from
+lines_from-cases k c cs = elim (chosen (eqb k 63) true false (eqb k 63) (by_cases (eqb k 63))) [
   | inl h ↦ inl (eqb-true k 63 h.0, rw (h.0) refl)
   | inr h ↦ inr (eqb-false k 63 h.0, rw (h.0) refl)
 ]
 
 -- a text in lines has an LF for each 64 characters, and one more
-pub length-in_lines : (k : ℕ) (t : List ℕ) → k < 64 → length (in_lines k t) ≡ length t + (k + length t) / 64 + 1
-unfolding in_lines
-length-in_lines k [] lt = omega arith
-length-in_lines k (c ∷ cs) lt = elim (in_lines-cases k c cs) [
+length-lines_from : (k : ℕ) (t : List ℕ) → k < 64 → length (lines_from k t) ≡ length t + (k + length t) / 64 + 1
+unfolding lines_from
+length-lines_from k [] lt = omega arith
+length-lines_from k (c ∷ cs) lt = elim (lines_from-cases k c cs) [
   | inl h ↦
       let last = h.0 in
       let size = ap length h.1 in
-      let rest = length-in_lines 0 cs (omega arith) in
+      let rest = length-lines_from 0 cs (omega arith) in
       omega arith
   | inr h ↦
       let other = h.0 in
       let before : k + 1 < 64 = omega arith in
       let size = ap length h.1 in
-      let rest = length-in_lines (k + 1) cs before in
+      let rest = length-lines_from (k + 1) cs before in
       omega arith
 ]
 
-pub length-body : (body : List ℕ) → length (in_lines 0 (base64_text body)) ≡ (4 * length body + 2) / 3 + (4 * length body + 2) / 3 / 64 + 1
+pub length-body : (body : List ℕ) → length (in_lines (base64_text body)) ≡ (4 * length body + 2) / 3 + (4 * length body + 2) / 3 / 64 + 1
 length-body body =
-    let lines = length-in_lines 0 (base64_text body) (omega arith) in
+    let lines = ap length (in_lines-is (base64_text body)) ∙ length-lines_from 0 (base64_text body) (omega arith) in
     let size = length-text body in
     omega arith
 

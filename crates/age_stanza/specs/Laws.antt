@@ -8,7 +8,7 @@ use Rattle.age_stanza.specs.declared.header.Header.{Header}
 use Rattle.age_stanza.specs.declared.fault.HeadFault.{HeadFault}
 use Rattle.age_stanza.specs.Text.{base64_text}
 use Rattle.age_stanza.specs.Grammar.{line, in_lines, Spells, HeadText}
-use Rattle.age_stanza.specs.Encoding.{mac_text}
+use Rattle.age_stanza.specs.MacText.{mac_text}
 use Rattle.age_stanza.specs.Faults.{HasHeader, IsFault}
 
 -- a text has at most one header, and no header's text begins another's
@@ -44,8 +44,8 @@ MacTextIsFront = (h : Header) (bytes : List ℕ) → HeadText h bytes
 abbrev pub LinesOf64 : Type 0
 LinesOf64 =
     ((characters rest : List ℕ) → length characters ≡ 64
-    → in_lines 0 (characters ++ rest) ≡ line characters ++ in_lines 0 rest)
-    × ((characters : List ℕ) → length characters < 64 → in_lines 0 characters ≡ line characters)
+    → in_lines (characters ++ rest) ≡ line characters ++ in_lines rest)
+    × ((characters : List ℕ) → length characters < 64 → in_lines characters ≡ line characters)
 
 -- the character of six bits; `Alphabet` says which it is
 abbrev pub character : ℕ → ℕ

@@ -2,7 +2,7 @@
 pub mod Letters
 pub mod Text
 pub mod Grammar
-pub mod Encoding
+pub mod MacText
 pub mod Faults
 pub mod FaultNumbers
 pub mod Parsing

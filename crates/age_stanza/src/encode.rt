@@ -5,7 +5,7 @@ ghost use Rattle.std.specs.List.{flat_map};
 ghost use Rattle.age_stanza.specs.Text.{base64_text};
 ghost use Rattle.age_stanza.specs.Grammar.{line, in_lines, stanza_text, head_text, HeadText};
 ghost use Rattle.age_stanza.specs.Grammar.{HasText};
-ghost use Rattle.age_stanza.specs.Encoding.{mac_text};
+ghost use Rattle.age_stanza.specs.MacText.{mac_text};
 ghost use Rattle.age_stanza.specs.Faults.{memory_fault};
 
 use crate::argument::Argument;
@@ -43,7 +43,7 @@ fn put_line(out: &mut Vec<u8>, bytes: &[u8]) -> Result<(), AllocError>
 
 /// Writes the text of a body in lines.
 fn put_body(out: &mut Vec<u8>, body: &[u8]) -> Result<(), AllocError>
-    ensures { OnOk result (out.new.items ≡ out.old.items ++ in_lines 0 (base64_text body.now)) }
+    ensures { OnOk result (out.new.items ≡ out.old.items ++ in_lines (base64_text body.now)) }
 {
     let mut rest = body;
     while rest.len() >= LINE_BYTES {

@@ -61,7 +61,7 @@ fn characters_of(bytes: &[u8]) -> usize
 /// What a body's text leaves of some room.
 fn room_after_body(room: usize, body: &[u8]) -> Option<usize>
     requires { room ≤ header_limit }
-    ensures leaves { Leaves room (length (in_lines 0 (base64_text body.now))) result }
+    ensures leaves { Leaves room (length (in_lines (base64_text body.now))) result }
     ensures bytes { IsBytes body.now }
 {
     if room < body.len() {

@@ -27,6 +27,7 @@ use Rattle.age_stream.proofs.Chunks.{length-first_chunks, get_or-first_chunks}
 use Rattle.age_stream.proofs.Segments.{by_test, tag_left, empty_first, writer_text, next_within, opens_before, front_carries, IsPair-from_Contains}
 use Rattle.age_stream.proofs.Going.{place, at_place, past_place}
 use Rattle.age_stream.proofs.Table.{rest_short}
+use Rattle.age_stream.proofs.Tried.{AreTried, tried}
 
 -- each pair is the sealing of its chunk
 abbrev AreSealed : (List ℕ → List ℕ → List ℕ) → List (List ℕ × List ℕ) → List (List ℕ) → Type 0
@@ -261,7 +262,10 @@ module _ (sealing : List ℕ → List ℕ → List ℕ) (opening : List ℕ → 
       four (nat_lt 0 (length rest) && nat_lt (length rest) 16) (length rest == 16 && nat_lt 0 i) (length rest == 0) _ _ _ _ _
       (λ uncut first some. last_both texts i rest late true (f refl (tag_left (length rest) uncut some) (empty_first (length rest) i first)))
 
-  module _ (s : Segment) (auth : IsAuthentic sealing opening n text s) where
+  module _ (s : Segment) (given : IsAuthentic sealing opening n text s) where
+    auth : AreTried sealing opening n text s
+    auth = tried sealing opening n text s given
+
     abbrev blocks : List (List ℕ)
     blocks = whole_blocks n s.bytes
 

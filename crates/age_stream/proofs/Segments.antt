@@ -24,6 +24,7 @@ use Rattle.age_stream.specs.Deliveries.{with_piece}
 use Rattle.age_chunk.proofs.Nonces.{nonce_bytes-length, nonce_bytes-number, nonce_bytes-flag}
 use Rattle.age_stream.proofs.Chunks.{length-first_chunks, get_or-first_chunks, last_chunk_le, slice_get-within, slice_get-past}
 use Rattle.age_stream.proofs.Table.{verdict_at, by_blocks, length-front_texts}
+use Rattle.age_stream.proofs.Tried.{tried}
 
 -- a pair of the writer's, by its number
 pub record IsPair (sealing : List ℕ → List ℕ → List ℕ) (n : ℕ) (text : List ℕ) (nonce block : List ℕ) : Type 0 where
@@ -264,7 +265,8 @@ module _ (sealing : List ℕ → List ℕ → List ℕ) (opening : List ℕ → 
 
   pub released_segment : (s : Segment) (base : List ℕ) → s.start < chunk_limit → s.start * n ≤ length text → base ≡ take (s.start * n) text
       → IsAuthentic sealing opening n text s → IsReleased (s.start + length (front_texts opening s.start (whole_blocks n s.bytes))) base (outcome opening n s)
-  released_segment s base small fits e auth =
+  released_segment s base small fits e given =
+      let auth = tried sealing opening n text s given in
       let size = n + 16 in
       let blocks = whole_blocks n s.bytes in
       let texts = front_texts opening s.start blocks in

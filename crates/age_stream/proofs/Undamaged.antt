@@ -24,6 +24,7 @@ use Rattle.age_stream.proofs.Sealings.{last_index_le}
 use Rattle.age_stream.proofs.Segments.{by_test, writer_text}
 use Rattle.age_stream.proofs.Going.{front_on, slice_get_end}
 use Rattle.age_stream.proofs.Table.{outcome_of, verdict_at, by_blocks}
+use Rattle.age_stream.proofs.Tried.{tried, authentic}
 
 pub all_full : (n c : ℕ) (xs : List ℕ) → c * n ≤ length xs → AllByRecursion (λ (x : List ℕ). length x ≡ n) (first_chunks n c xs)
 all_full n zero xs h = tt
@@ -285,7 +286,8 @@ module _ (sealing : List ℕ → List ℕ → List ℕ) (opening : List ℕ → 
       not_before_last : IsAuthentic sealing opening n text rest_segment → (o : Option (List ℕ)) → opening (nonce_bytes q false) tail ≡ o
           → opening (nonce_bytes q false) tail ≡ None
       not_before_last auth None e = e
-      not_before_last auth (Some t) e =
+      not_before_last given (Some t) e =
+          let auth = tried sealing opening n text rest_segment given in
           let blocks = whole_blocks n bytes in
           let front = front_texts opening k blocks in
           let there : get_or blocks (length ds) [] ≡ tail =
@@ -383,7 +385,7 @@ module _ (sealing : List ℕ → List ℕ → List ℕ) (opening : List ℕ → 
         let none : length tail / (n + 16) ≡ 0 = ap (λ (x : ℕ). x / (n + 16)) e ∙ div-mul-add 0 (n + 16) (length tail) short in
         let count : length bytes / (n + 16) ≡ length ds = omega (arith, count_of k ds tail ds_full, none) in
         let len : length (front_texts opening k (whole_blocks n bytes)) ≡ length ds = ap length front in
-        record {
+        authentic sealing opening n text rest_segment (record {
           front = λ j lt. subst (λ (bs : List (List ℕ)). IsWriters sealing opening n text (nonce_bytes (k + j) false) (get_or bs j [])) (sym whole)
               (front_writers [] j (omega (arith, lt, len)));
           next = λ lt last. absurd (omega (arith, lt, len, count));
@@ -392,7 +394,7 @@ module _ (sealing : List ℕ → List ℕ → List ℕ) (opening : List ℕ → 
               let at : k + length bytes / (n + 16) ≡ q = omega (arith, count, ds_len) in
               subst (λ (b : List ℕ). Contains (sealed sealing n text) (nonce_bytes (k + length bytes / (n + 16)) true, b)) (sym left)
               (subst (λ (i : ℕ). Contains (sealed sealing n text) (nonce_bytes i true, tail)) (sym at) writers_last);
-        }
+        })
 
     last_writers : opening (nonce_bytes q false) tail ≡ None → (last : Bool) → IsWriters sealing opening n text (nonce_bytes q last) tail
     last_writers shut true some = writers_last
@@ -409,7 +411,7 @@ module _ (sealing : List ℕ → List ℕ → List ℕ) (opening : List ℕ → 
         let there : get_or (whole_blocks n bytes) (length ds) [] ≡ tail =
         ap (λ (bs : List (List ℕ)). get_or bs (length ds) []) whole ∙ get_or_at (blocks_of k ds) tail [] [] (length ds) (length-blocks_of k ds) in
         let at : (last : Bool) → IsWriters sealing opening n text (nonce_bytes q last) tail = last_writers shut in
-        record {
+        authentic sealing opening n text rest_segment (record {
           front = λ j lt. subst (λ (bs : List (List ℕ)). IsWriters sealing opening n text (nonce_bytes (k + j) false) (get_or bs j [])) (sym whole)
               (front_writers (tail ∷ []) j (omega (arith, lt, len)));
           next = λ lt last.
@@ -419,7 +421,7 @@ module _ (sealing : List ℕ → List ℕ → List ℕ) (opening : List ℕ → 
               subst (λ (c : List ℕ). IsWriters sealing opening n text (nonce_bytes (k + length (front_texts opening k (whole_blocks n bytes))) last) c) (sym b)
               (subst (λ (j : ℕ). IsWriters sealing opening n text (nonce_bytes j last) tail) (sym i) (at last));
           rest = λ eq ended long empty. absurd (omega (arith, eq, len, count));
-        }
+        })
 
     -- all that is tried is the writer's, unless the last block is full and opens as one before the last
     pub rest_authentic : (length (last_chunk n text) ≡ n → opening (nonce_bytes q false) tail ≡ None) → IsAuthentic sealing opening n text rest_segment

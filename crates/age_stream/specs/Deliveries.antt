@@ -24,22 +24,15 @@ begin = record { given_up = []; base = []; segment = fresh 0; refused = 0 }
 
 abbrev pub with_piece : Segment → List ℕ → Segment
 with_piece s piece =
-    if s.ended
-    then record {
-      start = s.start;
-      bytes = s.bytes;
-      ended = true;
-      late = s.late || nat_lt 0 (length piece);
-    }
-    else record { start = s.start; bytes = s.bytes ++ piece; ended = false; late = s.late }
+    if s.ended then record s { ended = true; late = s.late || nat_lt 0 (length piece) }
+    else record s { bytes = s.bytes ++ piece; ended = false }
 
 abbrev pub with_end : Segment → Segment
-with_end s = record { start = s.start; bytes = s.bytes; ended = true; late = s.late }
+with_end s = record s { ended = true }
 
 -- the same, with another segment in place of the current one
 abbrev pub with_segment : Standing → Segment → Standing
-with_segment s segment =
-    record { given_up = s.given_up; base = s.base; segment = segment; refused = s.refused }
+with_segment s segment = record s { segment = segment }
 
 module _ (opening : Opens) (n : ℕ) where
   -- the text before the current segment, and what that released
@@ -54,18 +47,12 @@ module _ (opening : Opens) (n : ℕ) where
   after_delivery s End = with_segment s (with_end s.segment)
   after_delivery s (Restart k) =
       if accepts s k
-      then record {
+      then record s {
         given_up = s.given_up ++ s.segment ∷ [];
         base = take (k * n) (text_held s);
         segment = fresh k;
-        refused = s.refused;
       }
-      else record {
-        given_up = s.given_up;
-        base = s.base;
-        segment = s.segment;
-        refused = min (s.refused + 1) 18446744073709551615;
-      }
+      else record s { refused = min (s.refused + 1) 18446744073709551615 }
 
   abbrev pub standing_from : Standing → List Delivery → Standing
   standing_from s [] = s

@@ -7,7 +7,7 @@ use Rattle.age_stream.specs.declared.step.Status.TheVariants.{Done, Failed}
 use Rattle.age_stream.specs.declared.step.Step.{Step}
 use Rattle.age_chunk.specs.declared.fault.StreamFault.{StreamFault}
 use Rattle.age_chunk.specs.ChunkBoxes.{Seals, Opens}
-use Rattle.age_stream.specs.Segment.{Segment, released}
+use Rattle.age_stream.specs.Segment.{Segment, outcome, released}
 use Rattle.age_stream.specs.Deliveries.{with_piece, with_end}
 use Rattle.age_stream.specs.Opening.{OpenerView, Stands, given, handed, handed_bytes, chunk_texts}
 use Rattle.age_stream.specs.Opening.{has_failed}
@@ -15,11 +15,19 @@ use Rattle.age_stream.specs.Lent.{chunk_bytes}
 use Rattle.age_stream.specs.Headline.{ReleasesWritten}
 
 module _ {B : Type 0} (sealing : B → Seals) (opening : B → Opens) (n : ℕ) (old : OpenerView B) where
-  -- the segment with what was taken of the piece
+  -- the segment with what was taken of the piece added
   abbrev pub fed : Segment → List ℕ → Result Step StreamFault → Segment
   fed s piece answer = with_piece s (given (λ (step : Step). step.taken) answer piece)
 
-  -- the call took what the answer says of the piece, or, where it refused, all of it
+  -- what a call lends is what the outcome gains
+  abbrev pub Lends : List ℕ → Result Step StreamFault → Type 0
+  Lends piece answer = (s : Segment) → Stands opening n old s
+      → (outcome (opening old.key) n (fed s piece answer)).texts
+      ≡ (outcome (opening old.key) n s).texts
+      ++ handed (λ (step : Step). chunk_texts step.chunk) answer
+
+  -- after a call that took so many bytes of the piece, or refused all of it, the opener stands for
+  -- the segment with those bytes added
   pub record IsFed (piece : List ℕ) (answer : Result Step StreamFault)
       (new : OpenerView B) : Type 0 where
     pub key : new.key ≡ old.key

@@ -1,7 +1,6 @@
 -- What the deliveries may hold, and what then holds of the text.
-use Rattle.std.specs.Prelude.{◌≡◌, ℕ, ◌+◌, ◌*◌, ◌/◌, ◌<◌, ◌≤◌, Bool, true}
-use Rattle.std.specs.Prelude.{false, List, [], ◌∷◌, ◌++◌, length, take, drop, Contains, IsSome}
-use Rattle.std.specs.Prelude.{slice_index_or, ◌⊎◌, map}
+use Rattle.std.specs.Prelude.{◌≡◌, ℕ, ◌+◌, ◌*◌, ◌<◌, ◌≤◌, true, false, List, [], ◌∷◌, ◌++◌}
+use Rattle.std.specs.Prelude.{length, take, drop, Contains, IsSome, ◌⊎◌, map}
 use Rattle.std.specs.List.{AllByRecursion, flat_map}
 use Rattle.age_stream.specs.declared.step.Status.{Status}
 use Rattle.age_stream.specs.declared.step.Status.TheVariants.{Done}
@@ -9,7 +8,7 @@ use Rattle.std.specs.Borrow.{Bor}
 use Rattle.age_chunk.specs.ChunkBoxes.{Seals, Opens}
 use Rattle.age_chunk.specs.Nonce.{nonce_bytes, chunk_limit}
 use Rattle.age_chunk.specs.Payload.{sealed, payload, chunk_count}
-use Rattle.age_stream.specs.Segment.{Segment, front_texts, whole_blocks, rest_bytes}
+use Rattle.age_stream.specs.Segment.{Segment, stop, block_at, is_tried}
 use Rattle.age_stream.specs.Places.{IsInPlace}
 use Rattle.age_stream.specs.Deliveries.{standing, accepts}
 use Rattle.age_stream.specs.declared.delivery.Delivery.{Delivery}
@@ -24,28 +23,15 @@ module _ (sealing : Seals) (opening : Opens) (n : ℕ) (text : List ℕ) where
   IsWriters nonce block = IsSome (opening nonce block)
       → Contains (sealed sealing n text) (nonce, block)
 
-  -- how many blocks of the segment came whole, block j of them, and how many stand in front: they
-  -- open as not last
-  abbrev pub whole_count : Segment → ℕ
-  whole_count s = length s.bytes / (n + 16)
-
-  abbrev pub whole_block : Segment → ℕ → List ℕ
-  whole_block s j = slice_index_or (whole_blocks n s.bytes) j []
-
-  abbrev pub front_count : Segment → ℕ
-  front_count s = length (front_texts opening s.start (whole_blocks n s.bytes))
-
-  -- each block that the segment tries is the writer's, if it opens: those in front, the next one,
-  -- tried as not the last and as the last, and, where all whole ones are in front, what is left at
-  -- an end, unless it is shorter than a tag, or a tag alone after other chunks
+  -- each block that the segment tries is the writer's, if it opens: as not the last, those in front,
+  -- and the next one if it is whole; as the last, the next one
   pub record IsAuthentic (s : Segment) : Type 0 where
-    pub front : (j : ℕ) → j < front_count s
-        → IsWriters (nonce_bytes (s.start + j) false) (whole_block s j)
-    pub next : front_count s < whole_count s → (last : Bool)
-        → IsWriters (nonce_bytes (s.start + front_count s) last) (whole_block s (front_count s))
-    pub rest : front_count s ≡ whole_count s → s.ended ≡ true → 16 ≤ length (rest_bytes n s.bytes)
-        → (length (rest_bytes n s.bytes) ≡ 16 → s.start + whole_count s ≡ 0)
-        → IsWriters (nonce_bytes (s.start + whole_count s) true) (rest_bytes n s.bytes)
+    pub front : (j : ℕ) → j < length (stop opening n s).texts
+        → IsWriters (nonce_bytes (s.start + j) false) (block_at n s.bytes j)
+    pub next : (stop opening n s).whole ≡ true
+        → IsWriters (nonce_bytes (stop opening n s).index false) (stop opening n s).block
+    pub last : is_tried (stop opening n s) ≡ true
+        → IsWriters (nonce_bytes (stop opening n s).index true) (stop opening n s).block
 
   -- each segment of the deliveries is so, those that were given up too
   abbrev pub AreAuthentic : List Delivery → Type 0

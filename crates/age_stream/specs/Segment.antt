@@ -67,6 +67,10 @@ is_cut b = nat_lt (length b.block) 16
 abbrev pub is_empty_last : Stop → Bool
 is_empty_last b = not b.whole && (length b.block == 16 && nat_lt 0 b.index)
 
+-- it is none of these, but is tried as the last
+abbrev pub is_tried : Stop → Bool
+is_tried b = not (is_waiting b || (is_cut b || is_empty_last b))
+
 -- nothing more is released
 abbrev pub stays : Stop → Status → Outcome
 stays b status = record { texts = b.texts; index = b.index; status = status }
@@ -120,11 +124,9 @@ module _ (opening : Opens) where
 
   -- the text of the last block is released
   abbrev pub releases_last : Stop → Status → Outcome
-  releases_last b status = record {
-    texts = b.texts ++ text_then (opening (nonce_bytes b.index true) b.block) [];
-    index = b.index;
-    status = status;
-  }
+  releases_last b status =
+      let texts = text_then (opening (nonce_bytes b.index true) b.block) [] in
+      record { texts = b.texts ++ texts; index = b.index; status = status }
 
   -- the outcome: the first line that holds
   abbrev pub verdict : Stop → Outcome

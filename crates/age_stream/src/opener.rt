@@ -288,11 +288,11 @@ impl<'k, B: ChunkBox, const SEALED: usize> Model for Opener<'k, B, SEALED> {
 }
 
 impl<'k, B: ChunkBox, const SEALED: usize> Opener<'k, B, SEALED> {
-    ghost use Rattle.age_stream.specs.Segment.{Segment, outcome, released};
-    ghost use Rattle.age_stream.specs.Deliveries.{with_piece, with_end, fresh};
-    ghost use Rattle.age_stream.specs.Opening.{Stands, given, handed, handed_bytes, chunk_texts};
+    ghost use Rattle.age_stream.specs.Segment.{Segment, released};
+    ghost use Rattle.age_stream.specs.Deliveries.{with_end, fresh};
+    ghost use Rattle.age_stream.specs.Opening.{Stands, handed_bytes, chunk_texts};
     ghost use Rattle.age_stream.specs.Opening.{has_failed, text_at_end};
-    ghost use Rattle.age_stream.specs.Feeding.{IsFed, IsEnded};
+    ghost use Rattle.age_stream.specs.Feeding.{IsFed, IsEnded, Lends};
     ghost use Rattle.age_stream.specs.OpenerRow.{opener_row};
 
     /// An opener of a whole payload. Takes no memory.
@@ -401,11 +401,7 @@ impl<'k, B: ChunkBox, const SEALED: usize> Opener<'k, B, SEALED> {
     pub fn feed(&mut self, piece: &[u8]) -> Result<Step<'_>, StreamFault>
         ensures* after { sem 𝓛 (Rests (opener_row B.row SEALED.row B.ChunkBox) self.entry
             (IsFed B.sealing B.opening (SEALED - 16) self.old piece.now result)) }
-        ensures texts { (s : Segment) → Stands B.opening (SEALED - 16) self.old s
-            → (outcome (B.opening self.old.key) (SEALED - 16)
-            (with_piece s (given (λ step. step.taken) result piece.now))).texts
-            ≡ (outcome (B.opening self.old.key) (SEALED - 16) s).texts
-            ++ handed (λ step. chunk_texts step.chunk) result }
+        ensures texts { Lends B.sealing B.opening (SEALED - 16) self.old piece.now result }
         ensures taken { IfOk result
             (λ step. step.taken ≡ min (SEALED - length self.old.held) (length piece.now)) }
         ensures some { IfOk result (λ step. 0 < length piece.now → 0 < step.taken) }

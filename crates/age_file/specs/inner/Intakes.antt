@@ -49,6 +49,7 @@ pub record ReadsHead (old : SourceView) (new : ReaderView) (head : Head) : Type 
   pub text : HeadText head.header front
   pub len_is : head.len ≡ length front
   pub hashed : Holds256 head.digest front
+  pub few : length new.unread.bytes ≤ 65536
   pub pulled : Pulled old.remaining new.source.remaining new.unread.pulls
       (front ++ new.unread.bytes)
 

@@ -1,14 +1,14 @@
 -- What was made of the bytes after a nonce. Only private functions cite this. A chunk has n bytes.
 use Rattle.std.specs.Prelude.{◌≡◌, ℕ, ◌+◌, ◌*◌, ◌^◌, ◌≤◌, List, ◌++◌, length}
 use Rattle.std.specs.Prelude.{Option, Result}
-use Rattle.std.specs.Prelude.{MatchResult, Bool, true}
+use Rattle.std.specs.Prelude.{MatchResult, Bool, true, false, ◌⊎◌, ◌<◌}
 use Rattle.std.specs.Simd.{first_chunks}
 use Rattle.std.specs.Io.KnownBytes.{Appends, IsAtEnd}
 use Rattle.age_stream.specs.declared.step.Status.TheVariants.{Failed, Done}
 use Rattle.age_stream.specs.Segment.{Segment, outcome, released}
 use Rattle.age_stream.specs.Headline.{IsPrefixOf}
-use Rattle.age_fault.specs.Faults.{HasFailed}
-use Rattle.age_file.specs.Ports.{NoneFailed}
+use Rattle.age_stream.specs.Opening.{has_failed}
+use Rattle.age_file.specs.Ports.{NoneFailed, ReadFailed, WriteFailed}
 use Rattle.age_file.specs.inner.Readers.{Stage, ports_at}
 use Rattle.age_file.specs.inner.Intakes.{Pulled}
 use Rattle.age_file.specs.inner.Bindings.{chain_if}
@@ -24,14 +24,20 @@ HasPlace s = (s.writer.progress.written + length s.reader.unread.bytes
     ≤ 2 ^ 64 + 65536 * s.reader.unread.pulls) × (s.reader.unread.pulls ≤ 2 ^ 63)
 
 module _ (opening : List ℕ → List ℕ → Option (List ℕ)) (n : ℕ) where
+  -- the end was not seen, and so far there is no fault
+  abbrev pub IsUnderWay : Segment → Type 0
+  IsUnderWay s = (s.ended ≡ false) × (has_failed (outcome opening n s).status ≡ false)
+
   -- all of the text was written, and the fault is where the segment stands; unless the sink failed
   abbrev pub PayloadFails : Stage → Stage → Segment → List ℕ → FileFault → Type 0
   PayloadFails old new s out (Stream fault) = ((outcome opening n s).status ≡ Failed fault)
       × (out ≡ released opening n s) × NoneFailed (ports_at old) (ports_at new)
-  PayloadFails old new s out Write = HasFailed old.writer.sink.failed new.writer.sink.failed new.writer.sink.failing
-  PayloadFails old new s out Read = (out ≡ released opening n s)
-      × HasFailed old.reader.source.failed new.reader.source.failed new.reader.source.failing
-  PayloadFails old new s out ReadNeverEnds = (out ≡ released opening n s)
+  PayloadFails old new s out Write =
+      ((length out < length (released opening n s)) ⊎ ((outcome opening n s).status ≡ Done))
+      × WriteFailed (ports_at old) (ports_at new)
+  PayloadFails old new s out Read = (out ≡ released opening n s) × IsUnderWay s
+      × ReadFailed (ports_at old) (ports_at new)
+  PayloadFails old new s out ReadNeverEnds = (out ≡ released opening n s) × IsUnderWay s
       × (new.reader.unread.pulls ≡ 2 ^ 63)
       × NoneFailed (ports_at old) (ports_at new)
   PayloadFails old new s out other = ⊥

@@ -2,12 +2,12 @@
 -- chunk has n bytes.
 use Rattle.std.specs.Prelude.{◌≡◌, ℕ, ◌+◌, ◌*◌, ◌<◌, ◌≤◌, List, [], ◌++◌}
 use Rattle.std.specs.Prelude.{length, Option, Result}
-use Rattle.std.specs.Prelude.{MatchResult}
+use Rattle.std.specs.Prelude.{MatchResult, ◌⊎◌, false}
 use Rattle.std.specs.Io.KnownBytes.{Appends}
 use Rattle.age_stream.specs.declared.step.Status.TheVariants.{Failed, Done}
 use Rattle.age_stream.specs.Segment.{Segment, released}
 use Rattle.age_stream.specs.Deliveries.{with_piece, with_end}
-use Rattle.age_stream.specs.Opening.{OpenerView, Stands}
+use Rattle.age_stream.specs.Opening.{OpenerView, Stands, has_failed}
 use Rattle.age_fault.specs.Faults.{HasFailed}
 use Rattle.age_file.specs.inner.Readers.{WriterView}
 use Rattle.age_file.specs.inner.Counts.{CountsChunks}
@@ -35,21 +35,24 @@ module _ {B : Type 0} (opening : B → List ℕ → List ℕ → Option (List �
         → CountsChunks keep (opening old.key) n base s [] was.progress
         → CountsChunks keep (opening old.key) n base (next s) unwritten now.progress
 
-  -- a fault of the opener, or of the sink, with what was left of the piece and not written
+  -- a fault of the opener, or of the sink, with what was left of the piece and not written: some
+  -- text, unless the opener came to the end
   abbrev pub FeedFails : OpenerView B → WriterView → WriterView → List ℕ → List ℕ → FileFault
       → Type 0
   FeedFails new was now left unwritten (Stream fault) = (new.status ≡ Failed fault) × (left ≡ [])
       × (unwritten ≡ []) × (now.sink.failed ≡ was.sink.failed)
-  FeedFails new was now left unwritten Write = HasFailed was.sink.failed now.sink.failed now.sink.failing
+  FeedFails new was now left unwritten Write =
+      HasFailed was.sink.failed now.sink.failed now.sink.failing
+      × ((0 < length unwritten) ⊎ ((left ≡ []) × (new.status ≡ Done)))
   FeedFails new was now left unwritten other = ⊥
 
-  -- what the opener holds and what was written is no more than what it held, and was fed
+  -- no fault; what the opener holds and what was written is no more than what it held, and was fed
   abbrev pub FeedGoes : OpenerView B → OpenerView B → WriterView → WriterView → List ℕ → List ℕ
       → Type 0
   FeedGoes old new was now fed unwritten =
       (length new.held + now.progress.written
       ≤ length old.held + was.progress.written + length fed) × (unwritten ≡ [])
-      × (now.sink.failed ≡ was.sink.failed)
+      × (now.sink.failed ≡ was.sink.failed) × (has_failed new.status ≡ false)
 
   -- one call: the opener took the front of the piece
   pub record FeedsOnce (old new : OpenerView B) (was now : WriterView) (piece : List ℕ)

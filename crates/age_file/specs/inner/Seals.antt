@@ -9,7 +9,8 @@ use Rattle.age_stream.specs.Sealing.{SealerView, Holds, too_many}
 use Rattle.age_chunk.specs.Payload.{sealed_before_last, block_bytes, payload, chunk_count}
 use Rattle.age_stream.specs.Headline.{IsPrefixOf}
 use Rattle.age_fault.specs.Faults.{HasFailed}
-use Rattle.age_file.specs.Ports.{Ports, NoneFailed}
+use Rattle.age_file.specs.Faults.{IsByAllPulls}
+use Rattle.age_file.specs.Ports.{Ports, NoneFailed, ReadFailed, WriteFailed}
 use Rattle.age_file.specs.inner.Readers.{WriterView}
 use Rattle.age_fault.specs.declared.fault.FileFault.{FileFault}
 use Rattle.age_fault.specs.declared.fault.FileFault.TheVariants.{Stream, Read, Write, ReadNeverEnds}
@@ -50,7 +51,7 @@ module _ {B : Type 0} (sealing : B → List ℕ → List ℕ → List ℕ) (n : 
 
   abbrev pub SealFails : SealerView B → WriterView → WriterView → List ℕ → FileFault → Type 0
   SealFails old was now piece (Stream fault) = IsTooLong n old piece
-      × (fault ≡ too_many (chunk_limit - 1))
+      × (fault ≡ too_many (chunk_limit - 1)) × (now.sink.failed ≡ was.sink.failed)
   SealFails old was now piece Write = HasFailed was.sink.failed now.sink.failed now.sink.failing
   SealFails old was now piece other = ⊥
 
@@ -112,16 +113,18 @@ pub record ReadsWrites (old new : Ports) (written_old written_new : ℕ) (text o
   pub count : written_new ≡ written_old + length out
   pub small : length text ≤ 2 ^ 80
 
--- why a source wasn't sealed to its end
-abbrev pub SealingFails : ℕ → Ports → Ports → List ℕ → FileFault → Type 0
-SealingFails n old new text (Stream fault) = (chunk_limit * n < length text)
-    × (fault ≡ too_many (chunk_limit - 1))
-SealingFails n old new text Read = HasFailed old.source.failed new.source.failed new.source.failing
-SealingFails n old new text Write = HasFailed old.sink.failed new.sink.failed new.sink.failing
-SealingFails n old new text ReadNeverEnds = 2 ^ 63 ≤ length text
-SealingFails n old new text other = ⊥
-
 module _ (sealing : List ℕ → List ℕ → List ℕ) (n : ℕ) where
+  -- why a source wasn't sealed to its end; where no more came of it, the blocks before the last of
+  -- what did were written
+  abbrev pub SealingFails : Ports → Ports → (text out : List ℕ) → FileFault → Type 0
+  SealingFails old new text out (Stream fault) = (chunk_limit * n < length text)
+      × (fault ≡ too_many (chunk_limit - 1)) × NoneFailed old new
+  SealingFails old new text out Read = (out ≡ front_of sealing n text) × ReadFailed old new
+  SealingFails old new text out Write = WriteFailed old new
+  SealingFails old new text out ReadNeverEnds = (out ≡ front_of sealing n text)
+      × IsByAllPulls (length text) × NoneFailed old new
+  SealingFails old new text out other = ⊥
+
   -- a source was read to its end, and its text was sealed and written
   pub record SealsAll (old new : Ports) (written_old written_new plain : ℕ) : Type 0 where
     pub text : List ℕ
@@ -138,4 +141,4 @@ module _ (sealing : List ℕ → List ℕ → List ℕ) (n : ℕ) where
     pub out : List ℕ
     pub moved : ReadsWrites old new written_old written_new text out
     pub prefix : IsPrefixOf out (payload sealing n text)
-    pub fails : SealingFails n old new text fault
+    pub fails : SealingFails old new text out fault

@@ -1,5 +1,5 @@
 -- What was read up to a payload.
-use Rattle.std.specs.Prelude.{◌≡◌, ℕ, ◌^◌, ◌<◌, List, [], ◌++◌, length, Option, Result}
+use Rattle.std.specs.Prelude.{◌≡◌, ℕ, ◌^◌, ◌<◌, ◌≤◌, List, [], ◌++◌, length, Option, Result}
 use Rattle.std.specs.Prelude.{Bool, Ok}
 use Rattle.std.specs.Prelude.{Err, true, false}
 use Rattle.std.specs.Io.KnownBytes.{IsAtEnd}
@@ -26,7 +26,7 @@ Uses old new bytes = (start : Option (List ℕ)) (used : List ℕ)
 -- some byte is there, or the source is at its end
 abbrev pub SomeAnswers : ReaderView → ReaderView → Result Bool FileFault → Type 0
 SomeAnswers old new (Ok true) = (0 < length new.unread.bytes)
-    × (new.source.failed ≡ old.source.failed)
+    × (new.source.failed ≡ old.source.failed) × (length new.unread.bytes ≤ 65536)
 SomeAnswers old new (Ok false) = (new.unread.bytes ≡ []) × IsAtEnd new.source.remaining
     × (new.source.failed ≡ old.source.failed)
 SomeAnswers old new (Err fault) = (new.unread.bytes ≡ []) × PullFails old new fault
@@ -49,6 +49,7 @@ pub record ReadsNonce (key : List ℕ) (digest : Sha256) (old new : ReaderView) 
   pub size : length unlocked.nonce ≡ 16
   pub uses : Uses old new unlocked.nonce
   pub id : (front : List ℕ) → Holds256 digest front → unlocked.id ≡ file_id front unlocked.nonce
+  pub few : length new.unread.bytes ≤ 65536
 
 -- a header was read and opened, and the nonce after it was read
 pub record StartsAt (Allows : Header → List ℕ → Type 0) (old : SourceView) (new : ReaderView)
@@ -59,5 +60,6 @@ pub record StartsAt (Allows : Header → List ℕ → Type 0) (old : SourceView)
   pub opens : Opens Allows header unlocked.key
   pub size : length unlocked.nonce ≡ 16
   pub id : unlocked.id ≡ file_id front unlocked.nonce
+  pub few : length new.unread.bytes ≤ 65536
   pub pulled : Pulled old.remaining new.source.remaining new.unread.pulls
       ((front ++ unlocked.nonce) ++ new.unread.bytes)

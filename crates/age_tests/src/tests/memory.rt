@@ -148,7 +148,7 @@ fn writes_third(alloc: Global, files: &mut MemFiles) -> bool {
 fn discards(alloc: Global, files: &mut MemFiles, name: &str) -> bool {
     match files.create(alloc, name) {
         Ok(out) => {
-            files.discard(out);
+            files.discard(out, Durability::Synced);
             true
         }
         Err(_) => false,
@@ -163,6 +163,7 @@ fn files_by_their_names(rt: HostRuntime) {
     assert!(rt; files.refuse(rt.alloc(), "B").is_ok());
     assert!(rt; holds(&files, "A", b"second"));
     assert!(rt; is_missing(rt.alloc(), &mut files, "C"));
+    assert!(rt; opens_empty(rt.alloc(), &mut files));
     assert!(rt; is_unwritable(rt.alloc(), &mut files, "B"));
     assert!(rt; writes_third(rt.alloc(), &mut files) && holds(&files, "A", b"thir"));
     assert!(rt; discards_two(rt.alloc(), &mut files));
@@ -177,9 +178,18 @@ fn discards_two(alloc: Global, files: &mut MemFiles) -> bool {
         && files.get("D").is_none()
 }
 
-/// Whether a file is replaced by four bytes, and not by five.
+/// Whether a file that isn't there can be read as an empty one.
+fn opens_empty(alloc: Global, files: &mut MemFiles) -> bool {
+    match files.open_or_empty(alloc, "C") {
+        Ok(source) => source.remaining() == 0,
+        Err(_) => false,
+    }
+}
+
+/// Whether a file that was prepared is replaced by four bytes, and not by five.
 fn replaces(alloc: Global, files: &mut MemFiles) -> bool {
-    files.replace(alloc, "D", b"four", Durability::Buffered) == Ok(())
+    files.prepare(alloc, "D", None).is_ok()
+        && files.replace(alloc, "D", b"four", Durability::Buffered) == Ok(())
         && files.replace(alloc, "D", b"fifth", Durability::Buffered) == Err(FileFault::Write)
         && holds(files, "D", b"four")
 }

@@ -1,7 +1,8 @@
-use Rattle.std.proofs.Common.{◌≡◌, ◌∙◌, inl, inr, refl, ap, sym, subst, Some, None, []}
+use Rattle.std.proofs.Common.{◌≡◌, ◌∙◌, ⊎_elim, inl, inr, refl, ap, sym, subst, Some, None, []}
 use Rattle.age_file.specs.Ports.{ports}
 use Rattle.age_file.specs.Decrypts.{DecryptFails}
 use Rattle.age_cli_args.specs.Requests.{text_of}
+use Rattle.age_cli.specs.Decryptions.{DecryptsOut}
 use Rattle.age_cli.specs.CommandStops.{DecryptionStop, Leaves, OutStops, PortsOf, kept_for}
 use Rattle.age_cli_common.specs.Identities.{allows_by, refuses_by}
 use Rattle.age_cli.specs.declared.stop.Stop.{Stop}
@@ -27,6 +28,7 @@ returns-in-Err-clause-stops g c = λ told empty.
     let wrote = stop_wrote keep (allows_by identity) (refuses_by identity) before after stopped.written stopped.position stopped.fault fails in
     let none : stopped.written ≡ 0 → new ≡ Some [] = λ zero. holds_nothing (Out.view c.args.out).taken new stopped.written wrote.0 empty wrote.1 zero in
     subst (λ (s : Stop). OutStops (DecryptionStop (PortsOf In.view Out.view) keep identity (In.view c.args.source.now).remaining s.position s.fault)
+    (DecryptsOut identity (In.view c.args.source.now).remaining)
     (entry c.args.files.now label) (entry c.leave.new.files label) s.position s.fault) (sym c.from.ensures)
     (inl (
       stopped.written,
@@ -80,6 +82,11 @@ returns-in_ok-close-in-Ok g c =
 
 pub returns-in_err-close-in-Ok : goal.returns-in_err-close-in-Ok
 returns-in_err-close-in-Ok g c =
+    let writer = c.decrypt_with.new.writer in
+    let Read = g.S.Source in
+    let Out = g.F.Out.Sink in
+    let new = g.F.FileSet.entry c.close.new.self in
+    let label = (Out.view c.args.out).label in
     let r = c.from_residual.result in
     let e : Stop = record { fault = c.in_err-close-in-Ok.field-0.0; position = None } in
     let is = c.from_residual.ensures in
@@ -88,7 +95,19 @@ returns-in_err-close-in-Ok g c =
       told = c.in_err-close-in-Ok.ensures.told;
       done = not_well r e is _;
       stops = this_error r e is _ (λ told empty.
-          inr (ap (λ f. f (g.F.Out.Sink.view c.args.out).label) kept, refl, c.in_err-close-in-Ok.ensures.faults));
-      others = λ q other. ap (λ f. f q) kept;
+          inr (
+            ⊎_elim (λ same. inl (ap (λ f. f label) same)) (λ put. inr (record {
+              before = ports (Read.view c.args.source.now) (Out.view c.args.out);
+              after = ports (Read.view c.decrypt_with.new.reader) (Out.view writer);
+              done = c.in-Ok.field-0;
+              coming = refl;
+              empty = empty;
+              ends = c.in-Ok.ensures.done;
+              taken = subst (λ l. new l ≡ (Out.view writer).taken) c.in-Ok.ensures.named (put told);
+            })) kept,
+            refl,
+            c.in_err-close-in-Ok.ensures.faults,
+          ));
+      others = λ q other. c.in_err-close-in-Ok.ensures.others q (λ e. other (e ∙ c.in-Ok.ensures.named));
       noted = c.in_err-close-in-Ok.ensures.noted;
     }

@@ -17,8 +17,8 @@ returns-in-Shown-clause-stops g c =
     let keep = kept_for (text_of c.args.asked.now.save) in
     let identity = c.args.identity.now in
     IfErr-weaker c.write_from-written.result _ _ (λ stop stops told empty.
-    subst (λ s. OutStops (DecryptionStop (PortsOf In.view Out.view) keep identity (In.view s).remaining stop.position stop.fault) old new stop.position
-    stop.fault) c.new-metered.ensures.source
+    subst (λ s. OutStops (DecryptionStop (PortsOf In.view Out.view) keep identity (In.view s).remaining stop.position stop.fault)
+    (DecryptsOut identity (In.view s).remaining) old new stop.position stop.fault) c.new-metered.ensures.source
     (opening_stops _ _ (inner_ports _ In.view Out.view (λ m. m.source) (λ m. refl)) keep identity _ old new stop (stops told empty)))
     c.write_from-written.ensures.stops
 

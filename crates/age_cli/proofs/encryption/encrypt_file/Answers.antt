@@ -1,7 +1,7 @@
-use Rattle.std.proofs.Common.{◌∙◌, ◌∷◌, [], inl, inr, refl, ap, sym, true≢false, Some}
+use Rattle.std.proofs.Common.{◌∙◌, ◌∷◌, [], inl, inr, refl, ap, sym, true≢false, Some, None}
 use Rattle.age_cli_args.specs.Requests.{text_of}
 use Rattle.age_cli_args.specs.declared.request.Request.TheVariants.{Encrypt}
-use Rattle.age_fileset.specs.Events.{Opened, Created, Closed}
+use Rattle.age_fileset.specs.Events.{Opened}
 use Rattle.age_cli_common.specs.EventOrders.{Follows, making}
 use Rattle.age_cli_common.specs.Orders.{order_asked, random_name}
 use Rattle.age_cli_common.specs.declared.ending.Ending.{Ending}
@@ -9,7 +9,7 @@ use Rattle.age_cli_common.specs.declared.ending.Ending.TheVariants.{Usage}
 use Rattle.age_cli.specs.CommandStops.{PortsOf}
 use Rattle.age_cli.proofs.CommandSteps.{not_well, this_error}
 use Rattle.age_cli.proofs.EncryptionSteps.{encrypted, encryption_stopped}
-use Rattle.age_cli.proofs.EventSteps.{followed, longer, then_did, then_follows}
+use Rattle.age_cli.proofs.EventSteps.{followed, longer, then_closed, then_did, then_follows}
 use Rattle.age_cli.proofs.encryption.encrypt_file.Goals as goal
 
 pub returns-in_err-material : goal.returns-in_err-material
@@ -21,7 +21,7 @@ returns-in_err-material g c =
     let is = c.from_residual.ensures in
     let kept = c.in_err-material.ensures.kept in
     let follows : Follows (order_asked (Encrypt a)).done (events c.args.files.now) (events c.read_material.new.files) =
-    longer _ (Opened a.from.now ∷ making (Some a.to.now)) _ _ c.in_err-material.ensures.follows in
+    longer _ (Opened a.from.now ∷ making (Some a.to.now) a.durability) _ _ c.in_err-material.ensures.follows in
     record {
       done = not_well ending e is _;
       stops = this_error ending e is _ (λ told. inl (kept, c.in_err-material.ensures.early));
@@ -43,7 +43,7 @@ returns-in_err-secret g c =
     let is = c.from_residual-in_err-secret.ensures in
     let kept = c.in_ok-material.ensures.kept in
     let follows : Follows (order_asked (Encrypt a)).done (events c.args.files.now) (events c.read_material.new.files) =
-    longer _ (Opened a.from.now ∷ making (Some a.to.now)) _ _ c.in_ok-material.ensures.follows in
+    longer _ (Opened a.from.now ∷ making (Some a.to.now) a.durability) _ _ c.in_ok-material.ensures.follows in
     record {
       done = not_well ending e is _;
       stops = this_error ending e is _ (λ told. inl (kept, tt));
@@ -66,7 +66,7 @@ returns-in_err-source g c =
     let kept = c.in_err-source.ensures.kept ∙ c.in_ok-material.ensures.kept in
     let follows : Follows (order_asked (Encrypt a)).done (events c.args.files.now) (events c.open_both.new.files) =
     then_follows _ _ _ (Opened a.pass.now ∷ Opened (random_name (text_of a.random)) ∷ [])
-    (Opened a.from.now ∷ making (Some a.to.now)) c.in_ok-material.ensures.noted c.in_err-source.ensures.noted_err in
+    (Opened a.from.now ∷ making (Some a.to.now) a.durability) c.in_ok-material.ensures.noted c.in_err-source.ensures.noted_err in
     record {
       done = not_well ending e is _;
       stops = this_error ending e is _ (λ told. inl (kept, c.in_err-source.ensures.early));
@@ -86,8 +86,8 @@ returns-in-Ok g c =
     let entry = g.F.FileSet.entry in
     let material = c.in_ok-material.ensures in
     let both = c.in_ok-source.ensures in
-    let done = then_did _ _ _ (Opened a.pass.now ∷ Opened (random_name (text_of a.random)) ∷ []) (Opened a.from.now ∷ making (Some a.to.now)) material.noted
-    (then_did _ _ _ (Opened a.from.now ∷ Created a.to.now ∷ []) (Closed ∷ []) both.noted c.in-Ok.ensures.noted) in
+    let done = then_did _ _ _ (Opened a.pass.now ∷ Opened (random_name (text_of a.random)) ∷ []) (Opened a.from.now ∷ making (Some a.to.now) a.durability) material.noted
+    (then_closed _ _ _ a.from.now None a.to.now a.durability both.noted c.in-Ok.ensures.noted) in
     record {
       done = λ told.
           let t1 = material.told ∙ told in
@@ -112,8 +112,8 @@ returns g c =
     let entry = g.F.FileSet.entry in
     let material = c.in_ok-material.ensures in
     let both = c.in_ok-source.ensures in
-    let done = then_did _ _ _ (Opened a.pass.now ∷ Opened (random_name (text_of a.random)) ∷ []) (Opened a.from.now ∷ making (Some a.to.now)) material.noted
-    (then_did _ _ _ (Opened a.from.now ∷ Created a.to.now ∷ []) (Closed ∷ []) both.noted c.in-Err.ensures.noted) in
+    let done = then_did _ _ _ (Opened a.pass.now ∷ Opened (random_name (text_of a.random)) ∷ []) (Opened a.from.now ∷ making (Some a.to.now) a.durability) material.noted
+    (then_closed _ _ _ a.from.now None a.to.now a.durability both.noted c.in-Err.ensures.noted) in
     record {
       done = tt;
       stops = λ told.

@@ -1,9 +1,10 @@
-use Rattle.std.proofs.Common.{◌≡◌, ◌∙◌, inl, inr, refl, ap, subst, Some, [], Result, Ok, Err, IfErr}
+use Rattle.std.proofs.Common.{◌≡◌, ◌∙◌, ◌⊎◌, ⊎_elim, inl, inr, refl, ap, subst, Some, [], Result, Ok, Err, IfErr}
 use Rattle.std.specs.Prelude.{OnErr, IsOkUnless}
 use Rattle.std.proofs.lemmas.Result.{on_ok_weaker}
 use Rattle.age_fault.specs.declared.fault.FileFault.{FileFault}
 use Rattle.age_file.specs.Ports.{ports}
 use Rattle.age_fault.specs.declared.fault.FileFault.TheVariants.{Memory, Write}
+use Rattle.age_cli.specs.Encryptions.{EncryptsOut}
 use Rattle.age_cli.specs.CommandStops.{Leaves}
 use Rattle.age_cli.proofs.CommandStopSteps.{sealed_nothing}
 use Rattle.age_cli.proofs.encryption.write_from.Goals as goal
@@ -54,18 +55,22 @@ returns-in-Ok g c =
     let writer = c.encrypt.new.writer in
     let In = g.S.Source in
     let Out = g.F.Out.Sink in
+    let new = g.F.FileSet.entry c.close.new.self in
+    let whole : (Out.view c.args.out).taken ≡ Some [] → new (Out.view writer).label ≡ (Out.view writer).taken
+    → EncryptsOut c.args.secret.now (In.view c.args.source.now).remaining (new (Out.view c.args.out).label) =
+    λ empty put. record {
+      before = ports (In.view c.args.source.now) (Out.view c.args.out);
+      after = ports (In.view c.encrypt.new.reader) (Out.view writer);
+      written = c.in-Ok.field-0;
+      coming = refl;
+      empty = empty;
+      done = c.in-Ok.ensures.done;
+      taken = subst (λ l. new l ≡ (Out.view writer).taken) c.in-Ok.ensures.named put;
+    } in
     record {
-      done = on_ok_weaker c.close.result (λ put told empty. record {
-        before = ports (In.view c.args.source.now) (Out.view c.args.out);
-        after = ports (In.view c.encrypt.new.reader) (Out.view writer);
-        written = c.in-Ok.field-0;
-        coming = refl;
-        empty = empty;
-        done = c.in-Ok.ensures.done;
-        taken = subst (λ l. g.F.FileSet.entry c.close.new.self l ≡ (Out.view writer).taken) c.in-Ok.ensures.named (put told);
-      }) c.close.ensures.put;
+      done = on_ok_weaker c.close.result (λ put told empty. whole empty (put told)) c.close.ensures.put;
       stops = unclosed c.close.result _ _ c.close.ensures.err c.close.ensures.faults (λ fault kept is told empty.
-          inr (ap (λ f. f (Out.view c.args.out).label) kept, is));
+          inr (⊎_elim (λ same. inl (ap (λ f. f (Out.view c.args.out).label) same)) (λ put. inr (whole empty (put told))) kept, is));
       others = λ q other. c.close.ensures.others q (λ e. other (e ∙ c.in-Ok.ensures.named));
       noted = c.close.ensures.noted;
     }

@@ -15,7 +15,8 @@ returns-in-Shown-clause-stops g c =
     let new = entry c.write_from-written.new.files label in
     let secret = c.args.secret.now in
     IfErr-weaker c.write_from-written.result _ _ (λ fault stops told empty.
-    subst (λ s. SealedOutStops (EncryptionStop (PortsOf In.view Out.view) secret (In.view s).remaining fault) old new fault)
+    subst (λ s. SealedOutStops (EncryptionStop (PortsOf In.view Out.view) secret (In.view s).remaining fault)
+    (EncryptsOut secret (In.view s).remaining) old new fault)
     c.new-metered.ensures.source
     (sealing_stops _ _ (inner_ports _ In.view Out.view (λ m. m.source) (λ m. refl)) secret _ old new fault (stops told empty)))
     c.write_from-written.ensures.stops

@@ -1,4 +1,4 @@
-use Rattle.std.proofs.Common.{inl, inr, ap}
+use Rattle.std.proofs.Common.{⊎_elim, inl, inr, ap}
 use Rattle.age_cli_common.specs.Files.{Files}
 use Rattle.age_cli.proofs.CommandSteps.{either_way}
 use Rattle.age_cli.proofs.output.leave.Goals as goal
@@ -23,7 +23,8 @@ returns-else-wrote_nothing g c =
     record {
       told = closed.told;
       held = λ told empty. record {
-        held = either_way c.close.result _ _ _ closed.put closed.err (λ put. inl (put told)) (λ kept. inr (ap (λ (f : Files). f label) kept));
+        held = either_way c.close.result _ _ _ closed.put closed.err (λ put. inl (put told))
+            (λ left. ⊎_elim (λ kept. inr (ap (λ (f : Files). f label) kept)) (λ put. inl (put told)) left);
         spared = λ nothing. absurd (c.if-wrote_nothing.false nothing);
       };
       others = closed.others;

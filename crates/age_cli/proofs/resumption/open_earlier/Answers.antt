@@ -1,6 +1,7 @@
 use Rattle.std.proofs.Common.{◌∙◌, ◌∷◌, [], inl, refl, ap, sym}
 use Rattle.std.specs.Prelude.{is_some}
 use Rattle.age_fileset.specs.Events.{Opened}
+use Rattle.age_cli.specs.Resumptions.{old_for}
 use Rattle.age_cli.proofs.CommandSteps.{no_value, not_well, this_error}
 use Rattle.age_cli.proofs.EventSteps.{followed, then_did}
 use Rattle.age_cli.proofs.resumption.open_earlier.Goals as goal
@@ -46,6 +47,7 @@ pub returns : goal.returns
 returns g c =
     let a = c.args.asked.now in
     let position = c.in_ok-position.ensures in
+    let p = c.in_ok-position.position in
     let events = then_did _ _ _ (Opened a.position.now ∷ []) (Opened a.old.now ∷ []) position.noted c.in_ok-old.ensures.noted in
     record {
       told = c.in_ok-old.ensures.told ∙ position.told;
@@ -53,7 +55,7 @@ returns g c =
       read = position.read;
       found = λ told.
           let found = c.in_ok-old.ensures.found (position.told ∙ told) in
-          (ap (λ f. is_some (f a.old.now)) (sym position.kept) ∙ found.0, found.1 ∙ ap (λ f. f a.old.now) position.kept);
+          (ap (λ f. is_some (old_for p (f a.old.now))) (sym position.kept) ∙ found.0, found.1 ∙ ap (λ f. old_for p (f a.old.now)) position.kept);
       noted = events;
       follows = followed _ _ _ events;
       faults = tt;

@@ -1,8 +1,8 @@
-use Rattle.std.proofs.Common.{◌≡◌, ◌∙◌, ◌∷◌, [], inl, inr, refl, ap, sym, true≢false, Some}
+use Rattle.std.proofs.Common.{◌≡◌, ◌∙◌, ◌++◌, ◌∷◌, [], inl, inr, refl, ap, sym, true≢false, Some}
 use Rattle.age_cli_args.specs.Requests.{text_of}
 use Rattle.age_cli_args.specs.declared.request.Request.TheVariants.{Resume}
-use Rattle.age_fileset.specs.Events.{Opened, Created, Closed}
-use Rattle.age_cli_common.specs.EventOrders.{Follows, identity_order, making, replacing}
+use Rattle.age_fileset.specs.Events.{Opened}
+use Rattle.age_cli_common.specs.EventOrders.{Follows, identity_order, preparing, making, replacing}
 use Rattle.age_cli_common.specs.Identities.{options_asked}
 use Rattle.age_cli_common.specs.Orders.{order_asked}
 use Rattle.age_cli_common.specs.declared.ending.Ending.{Ending}
@@ -10,7 +10,7 @@ use Rattle.age_cli_common.specs.declared.ending.Ending.TheVariants.{Fault, Usage
 use Rattle.age_cli.specs.CommandStops.{PortsOf}
 use Rattle.age_cli.proofs.CommandSteps.{not_well, this_error}
 use Rattle.age_cli.proofs.ResumptionSteps.{bad_position, resumed, resumption_stopped}
-use Rattle.age_cli.proofs.EventSteps.{followed, longer, then_did, then_follows}
+use Rattle.age_cli.proofs.EventSteps.{followed, longer, then_closed, then_did, then_follows}
 use Rattle.age_cli.proofs.resumption.resume_file.Goals as goal
 
 pub returns-in_err-secret : goal.returns-in_err-secret
@@ -23,13 +23,13 @@ returns-in_err-secret g c =
     let is = c.from_residual.ensures in
     let kept = c.in_err-secret.ensures.kept in
     let follows : Follows (order_asked (Resume r)).done (events c.args.files.now) (events c.read_unlocking.new.files) =
-    longer _ (Opened r.position.now ∷ Opened r.old.now ∷ Opened d.from.now ∷ making (Some d.to.now)) _ _ c.in_err-secret.ensures.follows in
+    longer _ (Opened r.position.now ∷ Opened r.old.now ∷ Opened d.from.now ∷ (preparing (text_of d.save) ++ making (Some d.to.now) d.durability)) _ _ c.in_err-secret.ensures.follows in
     record {
       done = not_well ending e is _;
       stops = this_error ending e is _ (λ told. inl (kept, inl c.in_err-secret.ensures.early));
       usage = this_error ending e is _ (λ usage. kept);
       spares = λ told q other unsaved. ap (λ f. f q) kept;
-      order = longer _ (replacing (text_of d.save)) _ _ follows;
+      order = longer _ (replacing (text_of d.save) d.durability) _ _ follows;
       order_done = not_well ending e is _;
       order_usage = this_error ending e is _ (λ usage. follows);
       order_told = λ told. this_error ending e is _ (λ usage. c.in_err-secret.ensures.follows);
@@ -46,13 +46,13 @@ returns-in_err-identity g c =
     let is = c.from_residual-in_err-identity.ensures in
     let kept = c.in_ok-secret.ensures.kept in
     let follows : Follows (order_asked (Resume r)).done (events c.args.files.now) (events c.read_unlocking.new.files) =
-    longer _ (Opened r.position.now ∷ Opened r.old.now ∷ Opened d.from.now ∷ making (Some d.to.now)) _ _ c.in_ok-secret.ensures.follows in
+    longer _ (Opened r.position.now ∷ Opened r.old.now ∷ Opened d.from.now ∷ (preparing (text_of d.save) ++ making (Some d.to.now) d.durability)) _ _ c.in_ok-secret.ensures.follows in
     record {
       done = not_well ending e is _;
       stops = this_error ending e is _ (λ told. inl (kept, inl tt));
       usage = this_error ending e is _ (λ usage. kept);
       spares = λ told q other unsaved. ap (λ f. f q) kept;
-      order = longer _ (replacing (text_of d.save)) _ _ follows;
+      order = longer _ (replacing (text_of d.save) d.durability) _ _ follows;
       order_done = not_well ending e is _;
       order_usage = this_error ending e is _ (λ usage. follows);
       order_told = λ told. this_error ending e is _ (λ usage. c.in_ok-secret.ensures.follows);
@@ -70,14 +70,14 @@ returns-in_err-position g c =
     let kept = c.in_err-position.ensures.kept ∙ c.in_ok-secret.ensures.kept in
     let follows : Follows (order_asked (Resume r)).done (events c.args.files.now) (events c.open_earlier.new.files) =
     then_follows _ _ _ (identity_order (text_of d.unlocking.pass) (text_of d.unlocking.shared))
-    (Opened r.position.now ∷ Opened r.old.now ∷ Opened d.from.now ∷ making (Some d.to.now)) c.in_ok-secret.ensures.noted
-    (longer (Opened r.position.now ∷ Opened r.old.now ∷ []) (Opened d.from.now ∷ making (Some d.to.now)) _ _ c.in_err-position.ensures.follows) in
+    (Opened r.position.now ∷ Opened r.old.now ∷ Opened d.from.now ∷ (preparing (text_of d.save) ++ making (Some d.to.now) d.durability)) c.in_ok-secret.ensures.noted
+    (longer (Opened r.position.now ∷ Opened r.old.now ∷ []) (Opened d.from.now ∷ (preparing (text_of d.save) ++ making (Some d.to.now) d.durability)) _ _ c.in_err-position.ensures.follows) in
     record {
       done = not_well ending e is _;
       stops = this_error ending e is _ (λ told. inl (kept, bad_position _ c.in_err-position.ensures.faults));
       usage = this_error ending e is _ (λ usage. kept);
       spares = λ told q other unsaved. ap (λ f. f q) kept;
-      order = longer _ (replacing (text_of d.save)) _ _ follows;
+      order = longer _ (replacing (text_of d.save) d.durability) _ _ follows;
       order_done = not_well ending e is _;
       order_usage = this_error ending e is _ (λ usage. follows);
       order_told = λ told. this_error ending e is _ (λ usage. absurd (true≢false (sym usage)));
@@ -95,15 +95,15 @@ returns-in_err-source g c =
     let kept = c.in_err-source.ensures.kept ∙ (c.in_ok-position.ensures.kept ∙ c.in_ok-secret.ensures.kept) in
     let follows : Follows (order_asked (Resume r)).done (events c.args.files.now) (events c.open_both.new.files) =
     then_follows _ _ _ (identity_order (text_of d.unlocking.pass) (text_of d.unlocking.shared))
-    (Opened r.position.now ∷ Opened r.old.now ∷ Opened d.from.now ∷ making (Some d.to.now)) c.in_ok-secret.ensures.noted
-    (then_follows _ _ _ (Opened r.position.now ∷ Opened r.old.now ∷ []) (Opened d.from.now ∷ making (Some d.to.now)) c.in_ok-position.ensures.noted
+    (Opened r.position.now ∷ Opened r.old.now ∷ Opened d.from.now ∷ (preparing (text_of d.save) ++ making (Some d.to.now) d.durability)) c.in_ok-secret.ensures.noted
+    (then_follows _ _ _ (Opened r.position.now ∷ Opened r.old.now ∷ []) (Opened d.from.now ∷ (preparing (text_of d.save) ++ making (Some d.to.now) d.durability)) c.in_ok-position.ensures.noted
     c.in_err-source.ensures.noted_err) in
     record {
       done = not_well ending e is _;
       stops = this_error ending e is _ (λ told. inl (kept, inl c.in_err-source.ensures.early));
       usage = this_error ending e is _ (λ usage. kept);
       spares = λ told q other unsaved. ap (λ f. f q) kept;
-      order = longer _ (replacing (text_of d.save)) _ _ follows;
+      order = longer _ (replacing (text_of d.save) d.durability) _ _ follows;
       order_done = not_well ending e is _;
       order_usage = this_error ending e is _ (λ usage. follows);
       order_told = λ told. this_error ending e is _ (λ usage. absurd (true≢false (sym usage
@@ -120,9 +120,9 @@ returns-in-Ok g c =
     let earlier = c.in_ok-position.ensures in
     let both = c.in_ok-source.ensures in
     let done = then_did _ _ _ (identity_order (text_of d.unlocking.pass) (text_of d.unlocking.shared))
-    (Opened r.position.now ∷ Opened r.old.now ∷ Opened d.from.now ∷ making (Some d.to.now)) secret.noted
-    (then_did _ _ _ (Opened r.position.now ∷ Opened r.old.now ∷ []) (Opened d.from.now ∷ making (Some d.to.now)) earlier.noted
-    (then_did _ _ _ (Opened d.from.now ∷ Created d.to.now ∷ []) (Closed ∷ []) both.noted c.in-Ok.ensures.noted)) in
+    (Opened r.position.now ∷ Opened r.old.now ∷ Opened d.from.now ∷ (preparing (text_of d.save) ++ making (Some d.to.now) d.durability)) secret.noted
+    (then_did _ _ _ (Opened r.position.now ∷ Opened r.old.now ∷ []) (Opened d.from.now ∷ (preparing (text_of d.save) ++ making (Some d.to.now) d.durability)) earlier.noted
+    (then_closed _ _ _ d.from.now (text_of d.save) d.to.now d.durability both.noted c.in-Ok.ensures.noted)) in
     record {
       done = λ told.
           let t1 = secret.told ∙ told in
@@ -139,7 +139,7 @@ returns-in-Ok g c =
       spares = λ told q other unsaved.
           c.in-Ok.ensures.others q (λ e. other (ap Some (sym (e ∙ (both.made (earlier.told ∙ (secret.told ∙ told))).1))))
           ∙ ap (λ f. f q) (both.kept ∙ (earlier.kept ∙ secret.kept));
-      order = longer _ (replacing (text_of d.save)) _ _ (followed _ _ _ done);
+      order = longer _ (replacing (text_of d.save) d.durability) _ _ (followed _ _ _ done);
       order_done = done;
       order_usage = tt;
       order_told = λ told. tt;
@@ -158,9 +158,9 @@ returns g c =
     let ended = c.end_of.ensures in
     let apart : text_of d.save ≡ Some d.to.now → ⊥ = λ e. true≢false (sym (c.names_one_twice-is_file_named_twice.ensures.saved_to e) ∙ secret.apart) in
     let done = then_did _ _ _ (identity_order (text_of d.unlocking.pass) (text_of d.unlocking.shared))
-    (Opened r.position.now ∷ Opened r.old.now ∷ Opened d.from.now ∷ making (Some d.to.now)) secret.noted
-    (then_did _ _ _ (Opened r.position.now ∷ Opened r.old.now ∷ []) (Opened d.from.now ∷ making (Some d.to.now)) earlier.noted
-    (then_did _ _ _ (Opened d.from.now ∷ Created d.to.now ∷ []) (Closed ∷ []) both.noted c.in-Err.ensures.noted)) in
+    (Opened r.position.now ∷ Opened r.old.now ∷ Opened d.from.now ∷ (preparing (text_of d.save) ++ making (Some d.to.now) d.durability)) secret.noted
+    (then_did _ _ _ (Opened r.position.now ∷ Opened r.old.now ∷ []) (Opened d.from.now ∷ (preparing (text_of d.save) ++ making (Some d.to.now) d.durability)) earlier.noted
+    (then_closed _ _ _ d.from.now (text_of d.save) d.to.now d.durability both.noted c.in-Err.ensures.noted)) in
     record {
       done = tt;
       stops = λ told.
@@ -181,7 +181,7 @@ returns g c =
           let t2 = earlier.told ∙ (secret.told ∙ told) in
           ended.others (c.in-Err.ensures.told ∙ (both.told ∙ t2)) q (λ e. cc) unsaved
           ∙ (c.in-Err.ensures.others q (λ e. other (ap Some (sym (e ∙ (both.made t2).1)))) ∙ ap (λ f. f q) (both.kept ∙ (earlier.kept ∙ secret.kept)));
-      order = then_follows _ _ _ (order_asked (Resume r)).done (replacing (text_of d.save)) done ended.noted;
+      order = then_follows _ _ _ (order_asked (Resume r)).done (replacing (text_of d.save) d.durability) done ended.noted;
       order_done = tt;
       order_usage = λ usage. absurd (true≢false (sym usage ∙ ended.fault));
       order_told = λ told usage. absurd (true≢false (sym usage ∙ ended.fault));

@@ -1,8 +1,9 @@
-use Rattle.std.proofs.Common.{◌≡◌, ◌∙◌, inl, inr, refl, ap, sym, subst, Some, None, []}
+use Rattle.std.proofs.Common.{◌≡◌, ◌∙◌, ⊎_elim, inl, inr, refl, ap, sym, subst, Some, None, []}
 use Rattle.age_file.specs.Ports.{ports}
 use Rattle.age_file.specs.Resumes.{resume_ports}
 use Rattle.age_file.specs.ResumeFaults.{ResumeFails}
 use Rattle.age_cli_args.specs.Requests.{text_of}
+use Rattle.age_cli.specs.Resumptions.{ResumesOut}
 use Rattle.age_cli.specs.CommandStops.{ResumptionStop, Leaves, OutStops, kept_for}
 use Rattle.age_cli.specs.inner.Ports.{PortsOfEither}
 use Rattle.age_cli_common.specs.Identities.{allows_by, refuses_by}
@@ -37,7 +38,7 @@ returns-in-Err-clause-stops g c = λ told empty.
     stopped.written wrote.0 empty wrote.1 zero in
     subst (λ (s : Stop). OutStops
     (ResumptionStop (PortsOfEither Read.view In.view Out.view) keep identity from (Read.view source).remaining
-    (In.view old).remaining s.position s.fault)
+    (In.view old).remaining s.position s.fault) (ResumesOut identity from (Read.view source).remaining (In.view old).remaining)
     (entry c.args.files.now label) (entry c.leave.new.files label) s.position s.fault) (sym c.from.ensures)
     (inl (
       stopped.written,
@@ -95,6 +96,11 @@ returns-in_ok-close-in-Ok g c =
 
 pub returns-in_err-close-in-Ok : goal.returns-in_err-close-in-Ok
 returns-in_err-close-in-Ok g c =
+    let writer = c.resume_with.new.writer in
+    let Read = g.S.Source in
+    let Out = g.F.Out.Sink in
+    let new = g.F.FileSet.entry c.close.new.self in
+    let label = (Out.view c.args.out).label in
     let r = c.from_residual.result in
     let e : Stop = record { fault = c.in_err-close-in-Ok.field-0.0; position = None } in
     let is = c.from_residual.ensures in
@@ -103,7 +109,20 @@ returns-in_err-close-in-Ok g c =
       told = c.in_err-close-in-Ok.ensures.told;
       done = not_well r e is _;
       stops = this_error r e is _ (λ told empty.
-          inr (ap (λ f. f (g.F.Out.Sink.view c.args.out).label) kept, refl, c.in_err-close-in-Ok.ensures.faults));
-      others = λ q other. ap (λ f. f q) kept;
+          inr (
+            ⊎_elim (λ same. inl (ap (λ f. f label) same)) (λ put. inr (record {
+              before = resume_ports (ports (Read.view c.args.source.now) (Out.view c.args.out)) (g.F.In.Source.view c.args.old.now);
+              after = resume_ports (ports (Read.view c.resume_with.new.reader) (Out.view writer)) (g.F.In.Source.view c.resume_with.new.old_reader);
+              done = c.in-Ok.field-0;
+              coming = refl;
+              old_coming = refl;
+              empty = empty;
+              ends = c.in-Ok.ensures.done;
+              taken = subst (λ l. new l ≡ (Out.view writer).taken) c.in-Ok.ensures.named (put told);
+            })) kept,
+            refl,
+            c.in_err-close-in-Ok.ensures.faults,
+          ));
+      others = λ q other. c.in_err-close-in-Ok.ensures.others q (λ e. other (e ∙ c.in-Ok.ensures.named));
       noted = c.in_err-close-in-Ok.ensures.noted;
     }

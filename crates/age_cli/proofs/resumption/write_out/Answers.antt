@@ -32,8 +32,8 @@ returns-in-Shown-clause-stops g c =
     let from = c.args.position.now in
     let old_text = (In.view c.args.old.now).remaining in
     IfErr-weaker c.write_from-written.result _ _ (λ stop stops told empty.
-    subst (λ s. OutStops (ResumptionStop (PortsOf In.view Out.view) keep identity from (In.view s).remaining old_text stop.position stop.fault) old new
-    stop.position stop.fault) c.new-metered.ensures.source
+    subst (λ s. OutStops (ResumptionStop (PortsOf In.view Out.view) keep identity from (In.view s).remaining old_text stop.position stop.fault)
+    (ResumesOut identity from (In.view s).remaining old_text) old new stop.position stop.fault) c.new-metered.ensures.source
     (resuming_stops _ _ (either_ports _ In.view Out.view (λ m. m.source) (λ m. refl)) keep identity from _ old_text old new stop (stops told empty)))
     c.write_from-written.ensures.stops
 

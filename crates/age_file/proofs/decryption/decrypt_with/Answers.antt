@@ -24,7 +24,7 @@ returns-in-Err g c =
     let old = ports (g.S.Source.view c.args.reader.now) (g.O.Sink.view c.args.writer.now) in
     let new = ports (g.S.Source.view c.start.new.reader.source.now) (g.O.Sink.view c.args.writer.now) in
     let fails = start_fails c.args.positions (g.U.Unlock.allows c.args.unlock.now) (g.U.Unlock.refuses c.args.unlock.now) old new c.in-Err.fault
-    (Appends-nil _) c.in-Err.ensures.fails in
+    (Appends-nil _) refl c.in-Err.ensures.fails in
     read_last g.S.Source.view (λ v. Decrypts c.args.positions (g.U.Unlock.allows c.args.unlock.now) (g.U.Unlock.refuses c.args.unlock.now) old
     (ports v (g.O.Sink.view c.args.writer.now)) (Err c.early-in-Err.result)) _ c.start.new.reader.source.now (search rules)
     (record {

@@ -1,5 +1,6 @@
 use Rattle.std.proofs.Common.{◌<◌, ◌∙◌, ap, refl, length, arith}
 use Rattle.std.proofs.lemmas.Result.{err_from_is_err_and}
+use Rattle.age_stream.specs.Opening.{has_failed}
 use Rattle.age_file.specs.inner.Boxes.{opens, seals}
 use Rattle.age_keys.specs.inner.PayloadBox.{box_valid}
 use Rattle.age_file.specs.inner.Readers.{reader_view, stage, view_of_writer, stage_of}
@@ -13,7 +14,8 @@ turns-init g c =
     record {
       same_reader = (refl, refl);
       same_writer = refl;
-      goes = begins opens 65536 c.at-opener.result old (omega (arith, ap (λ o. length o.held) c.at-opener.ensures.view, c.requires.room.0)) c.requires.room.1;
+      goes = begins opens 65536 c.at-opener.result old (omega (arith, ap (λ o. length o.held) c.at-opener.ensures.view, c.requires.room.0)) c.requires.room.1
+          (ap (λ o. has_failed o.status) c.at-opener.ensures.view);
     }
 
 pub returns-in_err-feed_piece-clause-decrypts : goal.returns-in_err-feed_piece-clause-decrypts

@@ -1,4 +1,4 @@
-use Rattle.std.proofs.Common.{◌∙◌, ◌++◌, Some, None, List, ℕ, ap, ◌≡◌, take, drop, sym, arith, [], append-nil, refl}
+use Rattle.std.proofs.Common.{◌∙◌, ◌++◌, Some, None, List, ℕ, ap, ◌≡◌, take, drop, sym, arith, [], append-nil, refl, inl}
 use Rattle.std.proofs.lemmas.Result.{err_from_is_err_and}
 use Rattle.std.proofs.lemmas.List.{take-append-drop}
 use Rattle.std.proofs.KnownBytes.{Appends-nil}
@@ -55,7 +55,8 @@ returns-in_default-clause-fed g c =
       releases = fed_front opens 65536 c.args.opener.now new was was piece step.taken None [] [] after.key after.stands texts refl (Appends-nil _) refl
           (omega arith)
           (counts_refused opens 65536 (seals key) c.args.opener.now new c.args.writer.now.progress (take step.taken piece) (box_valid key) after.stands texts);
-      answered = goes_front opens 65536 c.args.opener.now new was was piece step.taken None [] [] (omega (arith, ok.taken)) room refl (omega arith) refl refl;
+      answered = goes_front opens 65536 c.args.opener.now new was was piece step.taken None [] [] (omega (arith, ok.taken)) room refl (omega arith) refl refl
+          after.unfailed;
     }
 
 -- the sink failed
@@ -80,7 +81,7 @@ returns-in_err-write_all-clause-fed g c =
           after.stands texts put.parts put.wrote c.in_err-write_all.ensures.named put.count
           (counts_cut opens 65536 (seals key) c.args.opener.now c.feed.follows.lender-at-none c.args.writer.now.progress _ (take step.taken piece) chunk
           put.out put.unwritten (box_valid key) after.stands texts put.parts put.stopped refl refl);
-      answered = rw (p.1, p.2, c.in_err-write_all.ensures.fault) put.answered;
+      answered = rw (p.1, p.2, c.in_err-write_all.ensures.fault) (put.answered, inl put.stopped);
     }
 
 pub returns-clause-fed : goal.returns-clause-fed
@@ -109,5 +110,5 @@ returns-clause-fed g c =
           (counts_whole opens 65536 (seals key) c.args.opener.now c.feed.follows.lender-at-none c.args.writer.now.progress c.count.new.self
           (take step.taken piece) chunk step.index (box_valid key) after.key after.index after.stands texts c.count.ensures.counted);
       answered = goes_front opens 65536 c.args.opener.now c.feed.follows.lender-at-none was now piece step.taken chunk put.out [] (omega (arith, ok.taken))
-          room whole count none put.answered.1;
+          room whole count none put.answered.1 after.unfailed;
     }

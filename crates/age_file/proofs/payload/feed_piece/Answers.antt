@@ -24,7 +24,7 @@ loop-at-init g c =
       same = refl;
       within = omega arith;
       releases = releases_none opens 65536 c.args.opener.now was;
-      goes = (omega arith, refl, refl);
+      goes = (omega arith, refl, refl, c.requires.sound);
     }
 
 pub loop-at-preserved : goal.loop-at-preserved

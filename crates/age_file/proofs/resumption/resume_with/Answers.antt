@@ -25,7 +25,7 @@ returns-in-Err g c =
     let new = resume_ports (ports (g.S.Source.view c.start.new.reader.source.now) (g.O.Sink.view c.args.writer.now)) (g.L.Source.view c.args.old_reader.now) in
     let Allows = g.U.Unlock.allows c.args.unlock.now in
     let Refused = g.U.Unlock.refuses c.args.unlock.now in
-    let fails = start_fails c.args.positions Allows Refused c.args.position.now old new c.in-Err.fault (Consumes-nil _) (Appends-nil _)
+    let fails = start_fails c.args.positions Allows Refused c.args.position.now old new c.in-Err.fault (Consumes-nil _) (Appends-nil _) refl refl
     c.in-Err.ensures.fails in
     read_last g.S.Source.view (λ v. ResumesText c.args.positions (g.U.Unlock.allows c.args.unlock.now) (g.U.Unlock.refuses c.args.unlock.now)
     c.args.position.now old (resume_ports (ports v (g.O.Sink.view c.args.writer.now)) (g.L.Source.view c.args.old_reader.now)) (Err c.early-in-Err.result))

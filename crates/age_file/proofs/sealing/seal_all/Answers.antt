@@ -57,10 +57,11 @@ returns-in_err-refill-clause-fails g c =
       out = front_of (seals c.new-sealer.result.key) n kept.text;
       moved = record { read = all.consumed; wrote = kept.wrote.bytes; count = kept.wrote.count; small = omega (arith, all.small, all.most) };
       prefix = front_begins (seals c.new-sealer.result.key) n kept.text;
-      fails = pull_fails n old new kept.text
+      fails = pull_fails (seals c.new-sealer.result.key) n old new kept.text
           (reader_view (g.S.Source.view c.pulls.reader.source.now) c.pulls.reader.intake.now)
           (reader_view (g.S.Source.view c.refill.new.source) c.refill.new.self)
-          c.in_err-refill.field-0.0 kept.read_failed refl all.each_gave r.answered.2;
+          c.in_err-refill.field-0.0 kept.read_failed refl kept.write_failed all.each_gave all.small
+          r.answered.2;
     }))
 
 pub seal_piece-requires : goal.seal_piece-requires
@@ -105,8 +106,8 @@ returns-in_err-seal_piece-clause-fails g c =
       out = unwritten.0;
       moved = record { read = all.consumed; wrote = unwritten.1.bytes; count = unwritten.1.count; small = omega (arith, all.small, all.most) };
       prefix = unwritten.2;
-      fails = seal_fails seals n c.new-sealer.result c.pulls.sealer old new mid now kept.text piece c.in_err-seal_piece.field-0.0 kept.write_failed refl
-          kept.goes kept.fresh s.answered;
+      fails = seal_fails seals n c.new-sealer.result c.pulls.sealer old new mid now kept.text piece unwritten.0 c.in_err-seal_piece.field-0.0
+          kept.write_failed refl (r.answered.4 ∙ kept.read_failed) kept.goes kept.fresh s.answered;
     }))
 
 pub pulls-preserved : goal.pulls-preserved
@@ -180,8 +181,11 @@ returns-in_err-finish-clause-fails g c =
       out = front_of (seals a.key) n kept.text ++ l.out;
       moved = record { read = all.consumed; wrote = out.bytes; count = out.count; small = small };
       prefix = last_begins seals n a b was mid now kept.text kept.goes.key (kept.goes.holds [] kept.fresh) kept.wrote l.out l.unwritten l.wrote l.blocks;
-      fails = subst (λ (f : FileFault). SealingFails n old new kept.text f) (sym l.answered.0) (subst (λ (k : ℕ). HasFailed k new.sink.failed new.sink.failing) kept.write_failed
-          l.answered.1);
+      fails = subst (λ (f : FileFault). SealingFails (seals a.key) n old new kept.text (front_of (seals a.key) n kept.text ++ l.out) f)
+          (sym l.answered.0) (
+            subst (λ (k : ℕ). HasFailed k new.sink.failed new.sink.failing) kept.write_failed l.answered.1,
+            r.answered.3 ∙ kept.read_failed,
+          );
     }))
 
 pub returns-clause-sealed : goal.returns-clause-sealed

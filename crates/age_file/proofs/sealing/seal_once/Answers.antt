@@ -26,7 +26,7 @@ returns-in_err-step-clause-sealed g c =
         wrote = record { bytes = Appends-nil _; count = omega arith };
         blocks = λ text h. ap (front_of (seals key) n) (append-nil text) ∙ sym (append-nil (front_of (seals key) n text));
       };
-      answered = rw (p.1, p.2) (too_long n c.args.sealer.now c.args.piece.now (omega arith) limit, refused.1 ∙ ap too_many limit.index);
+      answered = rw (p.1, p.2) (too_long n c.args.sealer.now c.args.piece.now (omega arith) limit, refused.1 ∙ ap too_many limit.index, refl);
     }
 
 pub returns-in_ok-write_all-clause-sealed : goal.returns-in_ok-write_all-clause-sealed

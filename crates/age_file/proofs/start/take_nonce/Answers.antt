@@ -1,6 +1,6 @@
-use Rattle.std.proofs.Common.{◌≡◌, ◌+◌, take, [], List, ℕ, sym, subst, arith, append-nil, ◌∙◌}
+use Rattle.std.proofs.Common.{◌≡◌, ◌+◌, take, [], List, ℕ, sym, subst, arith, append-nil, ◌∙◌, ap, length}
 use Rattle.std.proofs.lemmas.Result.{err_from_is_err_and}
-use Rattle.std.proofs.lemmas.List.{length-take, take_all}
+use Rattle.std.proofs.lemmas.List.{length-take, length-drop, take_all}
 use Rattle.age_file.specs.inner.Readers.{reader_view, view_of_reader}
 use Rattle.age_file.specs.inner.Starts.{Uses}
 use Rattle.age_file.proofs.StartSteps.{uses_then, uses_front, nonce_fails}
@@ -52,6 +52,7 @@ parts-preserved g c =
     record {
       same = (c.in_ok-some_bytes.ensures.same.0 ∙ kept.same.0, c.in_ok-some_bytes.ensures.same.1 ∙ kept.same.1);
       most = omega (arith, kept.most, c.copy_some-n.ensures.count);
+      few = omega (arith, r.2, ap length c.use_front.ensures.bytes, length-drop n c.some_bytes.new.reader.intake.now.bytes);
       room = c.copy_some-n.array_long;
       uses = uses_then old there new short (take n piece) (take (c.parts.have + n) c.copy_some-n.new.into) (sym c.copy_some-n.ensures.bytes)
           (uses_then old mid there short [] short (append-nil short) kept.uses c.some_bytes.ensures.uses) front;

@@ -7,6 +7,7 @@ abbrev pub invariant-parts : goal.invariant-parts
 invariant-parts g l = record {
   same : SameReader l.fn.reader l.reader;
   most : l.have ≤ 16;
+  few : length l.reader.intake.now.bytes ≤ 65536;
   room : length l.nonce ≡ 16;
   uses : Uses (view_of_reader g.S.Source.view l.fn.reader) (view_of_reader g.S.Source.view l.reader) (take l.have l.nonce);
   unfailed : (g.S.Source.view l.reader.source.now).failed ≡ (g.S.Source.view l.fn.reader.source.now).failed;

@@ -1,6 +1,7 @@
-use Rattle.std.proofs.Common.{◌++◌, ◌∙◌, refl, take}
+use Rattle.std.proofs.Common.{◌++◌, ◌∙◌, refl, take, ap, length, arith}
+use Rattle.std.proofs.lemmas.List.{length-drop}
 use Rattle.std.proofs.lemmas.Result.{err_from_is_err_and}
-use Rattle.age_file.proofs.Bytes.{pull_fails, piece_fails, piece_early, end_fails, stops_at, stops_at_held, cut_pulled, head_pulled}
+use Rattle.age_file.proofs.Bytes.{pull_fails, pull_early, piece_fails, told_early, end_fails, stops_at, stops_at_held, cut_pulled, head_pulled}
 use Rattle.age_file.proofs.head.Front.read.Goals as goal
 
 pub returns-clause-fails : goal.returns-clause-fails
@@ -18,13 +19,9 @@ returns-clause-fails g c =
 
 pub returns-clause-early : goal.returns-clause-early
 returns-clause-early g c =
-    let kept = c.pieces.invariant in
     let old = g.S.Source.view c.args.reader.now.source.now in
     let new = g.S.Source.view c.refill.new.source in
-    let r = rw c.if-branch.false at c.in_ok-refill.ensures.answered in
-    let all = cut_pulled old.remaining new.remaining c.refill.new.self.pulls kept.held c.refill.new.self.bytes r.0
-    (c.refill.ensures.pulled old.remaining kept.held kept.pulled) in
-    λ not. (kept.held, all.consumed, kept.front.none)
+    rw c.from.ensures (told_early old.remaining new.remaining c.end.result)
 
 pub returns-in_err-refill-clause-fails : goal.returns-in_err-refill-clause-fails
 returns-in_err-refill-clause-fails g c =
@@ -46,7 +43,7 @@ returns-in_err-refill-clause-early g c =
     let new = g.S.Source.view c.refill.new.source in
     let all = cut_pulled old.remaining new.remaining c.refill.new.self.pulls kept.held c.refill.new.self.bytes c.in_err-refill.ensures.answered.0
     (c.refill.ensures.pulled old.remaining kept.held kept.pulled) in
-    rw p.1 (λ not. (kept.held, all.consumed, kept.front.none))
+    rw (p.1, p.2) (pull_early old.remaining new.remaining c.in_err-refill.field-0.0 (kept.held, all.consumed, kept.front.none, kept.front.sound))
 
 pub take-requires : goal.take-requires
 take-requires g c = (c.pieces.invariant.held, c.pieces.invariant.front)
@@ -65,12 +62,9 @@ returns-in_err-header-clause-fails g c =
 pub returns-in_err-header-clause-early : goal.returns-in_err-header-clause-early
 returns-in_err-header-clause-early g c =
     let p = err_from_is_err_and c.from_residual-in_err-header.result c.from_residual-in_err-header.ensures.1 in
-    let kept = c.pieces.invariant in
     let old = g.S.Source.view c.args.reader.now.source.now in
     let new = g.S.Source.view c.refill.new.source in
-    let all = c.refill.ensures.pulled old.remaining kept.held kept.pulled in
-    rw p.1 (piece_early old.remaining new.remaining kept.held c.refill.new.self.bytes c.in_err-header.field-0.0 p.0 p.2
-    all.consumed (c.in_err-header.ensures kept.held kept.front))
+    rw (p.1, p.2) (told_early old.remaining new.remaining c.in_err-header.field-0.0)
 
 pub returns-in-Some-clause-found : goal.returns-in-Some-clause-found
 returns-in-Some-clause-found g c =
@@ -79,12 +73,14 @@ returns-in-Some-clause-found g c =
     let new = g.S.Source.view c.refill.new.source in
     let all = c.refill.ensures.pulled old.remaining kept.held kept.pulled in
     let ends = rw c.in-Some.is at (c.in_ok-header.ensures kept.held kept.front) in
+    let r = rw c.if-branch.true at c.in_ok-refill.ensures.answered in
     let bytes = c.refill.new.self.bytes in
     record {
       front = kept.held ++ take ends.taken bytes;
       text = ends.text;
       len_is = ends.len_is;
       hashed = ends.hashed;
+      few = omega (arith, r.1, ap length ends.rest, length-drop ends.taken c.refill.new.self.bytes);
       pulled = head_pulled old.remaining new.remaining c.refill.new.self c.take.new.intake kept.held bytes ends.taken ends.pulls refl ends.rest all;
     }
 

@@ -1,6 +1,6 @@
 use Rattle.std.proofs.Common.{◌≡◌, ◌≢◌, ◌∙◌, ◌<◌, ℕ, length, refl, arith, below_more, get_or-set_other, get_or-set_same}
 use Rattle.age_cipher.proofs.KeystreamLemmas.{generator_on, word_on, generator_on-none, word_drawn}
-use Rattle.age_cipher.proofs.keystream.draw_words.Goals as goal
+use Rattle.age_cipher.proofs.keystream.draw.Goals as goal
 
 pub loop-k-init : goal.loop-k-init
 loop-k-init c = record { drawn = λ j h. absurd (omega arith); generator = generator_on-none c.args.generator.now c.requires }
