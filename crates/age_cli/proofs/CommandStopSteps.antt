@@ -99,8 +99,8 @@ module _ (keep : Positions) (A : Header → List ℕ → Type 0) (p : Position) 
   resume_wrote fault.OldTextDiffers h = old_new h.4 h.5
   resume_wrote (fault.Stream f) (inl h, rest) = old_new h.stops.copied h.stops.writes
   resume_wrote (fault.Stream f) (inr h, rest) = (held h.0, (h.2.0.is.wrote, h.2.0.is.count), (λ text begins auth. h.2.0.of text (auth h.0 h.1 h.2.0.is)))
-  resume_wrote fault.Write (inl h, rest) = old_new h.copied h.writes
-  resume_wrote fault.Write (inr h, rest) = (held h.0, (h.2.0.wrote, h.2.0.count), (λ text begins auth. h.2.1 text (auth h.0 h.1 h.2.0)))
+  resume_wrote fault.Write (inl h, why, same) = old_new h.copied h.writes
+  resume_wrote fault.Write (inr h, why, same) = (held h.0, (h.2.0.wrote, h.2.0.count), (λ text begins auth. h.2.1 text (auth h.0 h.1 h.2.0)))
   resume_wrote fault.Read h = at_new _ _ h
   resume_wrote fault.ReadNeverEnds h = at_new _ _ h
   resume_wrote (fault.Head f) h = none_new h.0

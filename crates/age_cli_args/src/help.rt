@@ -97,17 +97,21 @@ pub(crate) const MAX_LOG: &str = "Refuse work factors above N, 1 to 22 [default:
 A file with work factor 22 takes 4 GiB of memory";
 
 pub(crate) const SAVE: &str = "If decryption stops, save its position here, so that
-`resume` can continue. Makes decryption slower. Best on
-a disk that OUT can't fill";
+`resume` can continue; not the same file as one that is
+read or written, except that of --position. Makes
+decryption slower. Best on a disk that OUT can't fill";
 
-pub(crate) const NO_SYNC: &str = "Don't wait until OUT has reached the disk";
+pub(crate) const NO_SYNC: &str = "Don't wait until OUT, a regular file or a block device,
+has reached the disk";
 
-pub(crate) const PROGRESS: &str = "Show on standard error how much of IN was read";
+pub(crate) const PROGRESS: &str = "Show on standard error, which must not go to OUT, how
+much of IN was read";
 
 pub(crate) const POSITION: &str = "File with the position that the stopped run saved";
 
 pub(crate) const OLD: &str = "The output of the stopped run; not the same file as IN,
-OUT or that of --save";
+OUT or that of --save. If the run stopped at chunk 0,
+it needn't be there";
 
 pub(crate) const PLAIN_IN: &str = "The file to encrypt";
 

@@ -90,8 +90,8 @@ place_of (Head fault) = head.place_of fault
 place_of (Stream fault) = Some fault.chunk
 place_of other = None
 
--- a count of failures rose by one, or stayed at its greatest value, and the last call is the one that
--- failed: no call came after it
+-- a count of failures rose by one, or stayed at its greatest value, and the last call is the one
+-- that failed: no call came after it
 abbrev pub HasFailed : ℕ → ℕ → Bool → Type 0
 HasFailed old new failing = (new ≡ one_more old) × (failing ≡ true)
 

@@ -39,7 +39,8 @@ pub fn flush_all<O: Sink>(sink: &mut O) -> Result<(), FileFault>
     ensures named { (O.view sink.new).label ≡ (O.view sink.old).label }
     ensures fault { IfErr result (λ fault. fault ≡ Write) }
     ensures counted { MatchResult result (λ _. (O.view sink.new).failed ≡ (O.view sink.old).failed)
-        (λ _. HasFailed (O.view sink.old).failed (O.view sink.new).failed (O.view sink.new).failing) }
+        (λ _. HasFailed (O.view sink.old).failed (O.view sink.new).failed
+        (O.view sink.new).failing) }
 {
     match sink.flush() {
         Ok(()) => Ok(()),

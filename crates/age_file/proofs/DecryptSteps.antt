@@ -179,7 +179,8 @@ module _ (keep : Positions) (Allows : Header → List ℕ → Type 0) (Refused :
       })
 
   -- no payload came to be opened
-  pub start_fails : (old new : Ports) (fault : FileFault) → Appends old.sink.taken new.sink.taken [] → new.sink.failed ≡ old.sink.failed → StartFails Allows Refused old.source new.source fault
+  pub start_fails : (old new : Ports) (fault : FileFault) → Appends old.sink.taken new.sink.taken [] → new.sink.failed ≡ old.sink.failed
+      → StartFails Allows Refused old.source new.source fault
       → DecryptFails keep Allows Refused old new 0 None fault
   start_fails old new Read none same f = (inl ((none, refl, refl), f.0), (f.1, same))
   start_fails old new ReadNeverEnds none same f = (inl ((none, refl, refl), f.0), f.1)

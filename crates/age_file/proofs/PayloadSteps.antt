@@ -1,5 +1,6 @@
 -- From what an opener did to the segment that it was given.
-use Rattle.std.proofs.Common.{◌<◌, ◌*◌, length, ◌≡◌, ℕ, List, [], ◌++◌, Option, refl, sym, ap, subst, ◌∙◌, append-nil, append_assoc, true, false, inl, inr, arith, ◌+◌}
+use Rattle.std.proofs.Common.{◌<◌, ◌*◌, length, ◌≡◌, ℕ, List, [], ◌++◌, Option, refl, sym, ap, subst, ◌∙◌, append-nil, append_assoc}
+use Rattle.std.proofs.Common.{true, false, inl, inr, arith, ◌+◌}
 use Rattle.std.proofs.lemmas.List.{length-append}
 use Rattle.std.specs.Prelude.{Result, MatchResult, Ok, Err}
 use Rattle.std.specs.List.{flat_map}

@@ -125,7 +125,9 @@ module _ {B : Type 0} (sealing : B → List ℕ → List ℕ → List ℕ) (n : 
       → GoesOn sealing n a b front
       → SealFails sealing n b mid now rest fault → SealFails sealing n a was now (front ++ rest) fault
   fails_then a b was mid now front rest (Stream fault) same goes f =
-      (λ text h. subst (λ (t : List ℕ). 281474976710656 * n < length t) (append_assoc text front rest) (f.0 (text ++ front) (goes.holds text h)), f.1, f.2 ∙ same)
+      let more : IsTooLong n a (front ++ rest) =
+      λ text h. subst (λ (t : List ℕ). 281474976710656 * n < length t) (append_assoc text front rest) (f.0 (text ++ front) (goes.holds text h)) in
+      (more, f.1, f.2 ∙ same)
   fails_then a b was mid now front rest Write same goes f = subst (λ (k : ℕ). HasFailed k now.sink.failed now.sink.failing) same f
   fails_then a b was mid now front rest (Head fault) same goes f = absurd f
   fails_then a b was mid now front rest (Key fault) same goes f = absurd f

@@ -43,7 +43,10 @@ uses_front v x y piece n pulls is rest = λ start used h.
 -- no byte came for the rest of a nonce
 pub nonce_fails : (x y z : ReaderView) (p : List ℕ) (fault : FileFault) → length p < 16 → y.source.failed ≡ x.source.failed → Uses x y p → Uses y z []
     → z.unread.bytes ≡ [] → PullFails y z fault → NonceFails x z fault
-nonce_fails x y z p Read lt e f g none h = ((p, lt, uses_then x y z p [] p (append-nil p) f g, none), subst (λ (m : ℕ). HasFailed m z.source.failed z.source.failing) e h)
+nonce_fails x y z p Read lt e f g none h = (
+  (p, lt, uses_then x y z p [] p (append-nil p) f g, none),
+  subst (λ (m : ℕ). HasFailed m z.source.failed z.source.failing) e h,
+)
 nonce_fails x y z p ReadNeverEnds lt e f g none h = ((p, lt, uses_then x y z p [] p (append-nil p) f g, none), h.0)
 nonce_fails x y z p other lt e f g none h = absurd h
 

@@ -39,9 +39,10 @@ abbrev pub without_last : SecretView → (front text : List ℕ) → List ℕ
 without_last s front text = (front ++ s.nonce)
     ++ block_bytes (sealed_before_last (box s.key s.nonce) chunk_length text)
 
--- why it stopped, after this text was read and these bytes were written. Where a pull failed, or the
--- source never ended, the last block is missing: they are no whole file
-abbrev pub WhyStopped : SecretView → Ports → Ports → (front text out : List ℕ) → FileFault → Type 0
+-- why it stopped, after this text was read and these bytes were written. Where a pull failed, or
+-- the source never ended, the last block is missing: they are no whole file
+abbrev pub WhyStopped : SecretView → Ports → Ports → (front text out : List ℕ) → FileFault
+    → Type 0
 WhyStopped s old new front text out (Stream fault) = (2 ^ 64 < length text)
     × (fault ≡ too_many (chunk_limit - 1)) × NoneFailed old new
 WhyStopped s old new front text out Read = (out ≡ without_last s front text) × ReadFailed old new

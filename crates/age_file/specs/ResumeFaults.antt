@@ -78,9 +78,9 @@ module _ (keep : Positions) (Allows : Header → List ℕ → Type 0) (p : Posit
     pub at_end : IsAtEnd new.main.source.remaining
 
   -- no more came, at each stage. Before the payload, nothing is written. While the old text is
-  -- copied, all that it gave is written, and there is no position. While blocks are skipped, the old
-  -- text is written, and the position is the one that the run began from. After them, all text of
-  -- the bytes that came is written, and they have no fault
+  -- copied, all that it gave is written, and there is no position. While blocks are skipped, the
+  -- old text is written, and the position is the one that the run began from. After them, all text
+  -- of the bytes that came is written, and they have no fault
   abbrev pub FailsAt : (Main Old : Type 0) → ResumePorts → ResumePorts → ℕ → Option Position
       → Type 0
   FailsAt Main Old old new written position =

@@ -142,8 +142,8 @@ pub fn decrypt<U: Unlock, S: Source, O: Sink>(
 /// It stops with the header's fault (1 to 8), the unlocker's or a wrong header MAC (9 to 15),
 /// `NonceCut` (16), a fault of the payload (17 to 22), `Read` (26), `Write` (27), `Memory` (28) and
 /// `ReadNeverEnds` (29). If the bytes that it read have a fault of 1 to 22, it stops with that, not
-/// with 26 or 29. All memory is taken before the payload nonce is read, so if it is refused, nothing
-/// was written.
+/// with 26 or 29. All memory is taken before the payload nonce is read, so if it is refused,
+/// nothing was written.
 pub fn decrypt_with<U: Unlock, S: Source, O: Sink>(
     alloc: Global,
     positions: Positions,

@@ -62,9 +62,9 @@ fn write_front<O: Sink>(
 /// Flushes at the end.
 ///
 /// It refuses with [`FileFault::Memory`] (28) before it reads or writes anything, with `Read` (26),
-/// `Write` (27) and `ReadNeverEnds` (29), and with `TooManyChunks` (22) if the source gave more than
-/// 2^64 bytes. What was written by then is a prefix of the age file of what was read. After 26 and
-/// 29 its last block is missing, so it is never a whole file of a shorter text.
+/// `Write` (27) and `ReadNeverEnds` (29), and with `TooManyChunks` (22) if the source gave more
+/// than 2^64 bytes. What was written by then is a prefix of the age file of what was read. After 26
+/// and 29 its last block is missing, so it is never a whole file of a shorter text.
 pub fn encrypt<S: Source, O: Sink>(
     alloc: Global,
     secret: &Secret<'_>,

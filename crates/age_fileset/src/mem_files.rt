@@ -3,7 +3,8 @@
 ghost use Rattle.std.specs.Prelude.{◌≡◌, ◌≢◌, ◌↔◌, ◌⊎◌, ◌++◌, ◌∷◌, ◌<◌};
 ghost use Rattle.std.specs.Prelude.{◌≤◌, IsTrue, ℕ, List, []};
 ghost use Rattle.std.specs.Prelude.{true, Some, None, OnOk, OnErr, IfOk, IsErrOf, IsOk, IfErr};
-ghost use Rattle.std.specs.Prelude.{IsOkUnless, Contains, is_some, option_map, length, MatchResult, is_err};
+ghost use Rattle.std.specs.Prelude.{IsOkUnless, Contains, is_some, option_map, length, MatchResult};
+ghost use Rattle.std.specs.Prelude.{is_err};
 ghost use Rattle.std.specs.Io.KnownBytes.{WriteAppends, Keeps};
 ghost use Rattle.age_io.specs.Memory.{one_more, Puts, Flushes};
 ghost use Rattle.age_fileset.specs.Entries.{entry_of, empty_with};

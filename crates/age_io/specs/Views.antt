@@ -10,8 +10,8 @@ pub record SourceView : Type 0 where
   pub failing : Bool
 
 -- the bytes that were taken, where they are shown, how many puts and flushes have failed, whether
--- the last of them did, the name that the sink goes by, and whether what was taken was sent on; true
--- of a sink that doesn't say
+-- the last of them did, the name that the sink goes by, and whether what was taken was sent on;
+-- true of a sink that doesn't say
 pub record SinkView : Type 0 where
   pub taken : Option (List ℕ)
   pub failed : ℕ

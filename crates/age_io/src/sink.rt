@@ -46,8 +46,8 @@ pub trait Sink {
 
 /// A sink over one of the machine's writers. It shows contracts the bytes that the writer shows,
 /// which for a file, a pipe or a terminal are none. A writer that takes none of the bytes that it
-/// is given counts as failed. A contract sees the writer, how many puts and flushes have failed, and
-/// whether the last of them did.
+/// is given counts as failed. A contract sees the writer, how many puts and flushes have failed,
+/// and whether the last of them did.
 #[derive(Debug, Drop)]
 pub struct Writing<W: Write> {
     inner: W,

@@ -12,8 +12,9 @@ pub record Opens (Allows : Header → List ℕ → Type 0) (h : Header) (key : L
   pub mac : IsMacOf h key
   pub size : length key ≡ 16
 
--- the fault may be answered for it; want of memory, where the unlocker may answer that, or some key
--- whose MAC was to be computed
+-- A scrypt stanza beside another is refused as ScryptNotAlone. Any other header is refused with the
+-- unlocker's fault; with MacMismatch, if it allows a key whose MAC isn't the header's; or with
+-- Memory, if it allows some key
 abbrev pub Refuses : (Header → List ℕ → Type 0) → (Header → KeyFault → Type 0) → Header
     → KeyFault → Type 0
 Refuses Allows Refused h fault =

@@ -26,7 +26,8 @@ abbrev pub CopyFails : ReaderView → ReaderView → WriterView → WriterView �
 CopyFails old new was now out ShortText = Passes old new out × (new.unread.bytes ≡ [])
     × IsAtEnd new.source.remaining × (now.sink.failed ≡ was.sink.failed)
 CopyFails old new was now out Write = (used : List ℕ) × Passes old new used
-    × IsPrefixOf out (used ++ new.unread.bytes) × HasFailed was.sink.failed now.sink.failed now.sink.failing
+    × IsPrefixOf out (used ++ new.unread.bytes)
+    × HasFailed was.sink.failed now.sink.failed now.sink.failing
 CopyFails old new was now out Read = Dries old new out Read × (now.sink.failed ≡ was.sink.failed)
 CopyFails old new was now out ReadNeverEnds = Dries old new out ReadNeverEnds
     × (now.sink.failed ≡ was.sink.failed)

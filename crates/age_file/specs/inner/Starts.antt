@@ -38,7 +38,8 @@ UsesShort old new = (short : List ℕ) × (length short < 16) × Uses old new sh
 
 abbrev pub NonceFails : ReaderView → ReaderView → FileFault → Type 0
 NonceFails old new NonceCut = UsesShort old new × IsAtEnd new.source.remaining
-NonceFails old new Read = UsesShort old new × HasFailed old.source.failed new.source.failed new.source.failing
+NonceFails old new Read = UsesShort old new
+    × HasFailed old.source.failed new.source.failed new.source.failing
 NonceFails old new ReadNeverEnds = UsesShort old new × (new.unread.pulls ≡ 2 ^ 63)
 NonceFails old new other = ⊥
 

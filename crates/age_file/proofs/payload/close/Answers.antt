@@ -47,5 +47,6 @@ returns-clause-closed g c =
             mark_end (seals c.args.opener.now.key) (opens c.args.opener.now.key) (box_valid c.args.opener.now.key) 65536 positive keep base s put.out
             put.unwritten _ _ len more refl refl m;
       };
-      answered = answer_as c.write_all.result put.answered c.write_all.ensures.fault (λ _ all. (after.done, all.0, all.1)) (λ _ is failed. rw is (failed, inr (refl, after.done)));
+      answered = answer_as c.write_all.result put.answered c.write_all.ensures.fault (λ _ all. (after.done, all.0, all.1))
+          (λ _ is failed. rw is (failed, inr (refl, after.done)));
     }

@@ -1,0 +1,132 @@
+/* Calls with readers and writers of random numbers, and with lengths that don't fit, in memory of just the length that is told. No
+ * call may touch anything else (valgrind sees to that), write a byte of text, or change what it misuses.
+ *
+ * usage: misuse TURNS
+ */
+#include "age_c.h"
+
+#include <stdio.h>
+#include <stdlib.h>
+#include <string.h>
+
+static uint64_t seed = 1;
+
+static uint64_t next(void) {
+    seed = seed * 6364136223846793005u + 1442695040888963407u;
+    return seed >> 33;
+}
+
+static uint8_t *some(size_t len) {
+    uint8_t *at = malloc(len ? len : 1);
+    if (at == NULL) exit(2);
+    memset(at, 9, len);
+    return at;
+}
+
+static size_t one_of(const size_t *lengths, size_t count) {
+    return lengths[next() % count];
+}
+
+static int is_untouched(const uint8_t *at, size_t len) {
+    while (len > 0 && *at == 9) at++, len--;
+    return len == 0;
+}
+
+/* a reader or writer: random numbers, or a state that could be one */
+static void scramble(void *at, size_t size, uint64_t *chunk, uint32_t *state) {
+    for (size_t i = 0; i < size; i++) ((uint8_t *)at)[i] = (uint8_t)next();
+    if (next() % 4) *state = (uint32_t)(next() % 24);
+    if (next() % 4) *chunk = next() % 3 ? next() % 9 : (UINT64_C(1) << 48) - next() % 3;
+}
+
+static int reads(void) {
+    static const size_t lens[] = {0, 1, 15, 16, 17, 65535, 65551, 65552, 65553}, rooms[] = {0, 65535, 65536, 65537};
+    size_t len = one_of(lens, 9), room = one_of(rooms, 4), written = 77;
+    uint8_t *given = some(len), *out = some(room);
+    age_c_reader reader, before;
+    scramble(&reader, sizeof reader, &reader.chunk, &reader.state);
+    before = reader;
+    int is_end = (int)(next() % 2);
+    uint32_t answer = is_end ? age_c_end(&reader, given, len, out, room, &written) : age_c_block(&reader, given, len, out, room, &written);
+    int state_fits = (reader.state >= 1 && reader.state <= 3) || (reader.state >= 17 && reader.state <= 22);
+    int right = written == 0 && is_untouched(out, room);
+    if (answer == AGE_C_MISUSED) right = right && memcmp(&reader, &before, sizeof reader) == 0;
+    else
+        right = right && state_fits && before.chunk < UINT64_C(1) << 48 && room >= 65536 && (is_end ? len < 65552 : len == 65552)
+            && (answer == 0 ? reader.state < 4 : answer == reader.state);
+    free(given);
+    free(out);
+    return right;
+}
+
+static int writes(void) {
+    static const size_t lens[] = {0, 1, 65535, 65536, 65537}, rooms[] = {0, 15, 16, 17, 65551, 65552, 65553};
+    size_t len = one_of(lens, 5), room = one_of(rooms, 7), written = 77;
+    uint8_t *given = some(len), *out = some(room);
+    age_c_writer writer, before;
+    scramble(&writer, sizeof writer, &writer.chunk, &writer.state);
+    before = writer;
+    int is_end = (int)(next() % 2);
+    uint32_t answer = is_end ? age_c_seal_end(&writer, given, len, out, room, &written)
+                             : age_c_seal_block(&writer, given, len, out, room, &written);
+    int fits = before.state == 1 && before.chunk < UINT64_C(1) << 48
+        && (is_end ? len <= 65536 && room >= len + 16 && (len > 0 || before.chunk == 0) : len == 65536 && room >= 65552);
+    int is_too_many = fits && !is_end && before.chunk == (UINT64_C(1) << 48) - 1;
+    int right = answer == (is_too_many ? 22u : fits ? 0u : AGE_C_MISUSED);
+    if (answer != 0) right = right && written == 0 && is_untouched(out, room) && memcmp(&writer, &before, sizeof writer) == 0;
+    else right = right && written == len + 16 && is_untouched(out + written, room - written);
+    free(given);
+    free(out);
+    return right;
+}
+
+static int opens(void) {
+    static const size_t lens[] = {0, 1, 15, 16, 17, 31, 32, 33, 47, 48, 49, 65536, 65537};
+    size_t front_len = next() % 300, a_len = one_of(lens, 13), b_len = one_of(lens, 13), room = next() % 300, written = 77;
+    uint8_t *front = some(front_len), *a = some(a_len), *b = some(b_len), *out = some(room);
+    uint32_t number = (uint32_t)(next() % 3 ? next() % 3 : next()), answer;
+    age_c_reader reader;
+    age_c_writer writer;
+    memset(&reader, 9, sizeof reader);
+    memset(&writer, 9, sizeof writer);
+    int right = 0;
+    switch (next() % 4) {
+    case 0:
+        answer = age_c_open_passphrase(front, front_len, a, a_len, number, &reader);
+        right = answer == (a_len < 1 || a_len > 65536 || number < 1 || number > 22 ? AGE_C_MISUSED : AGE_C_MORE);
+        break;
+    case 1:
+        answer = age_c_open_key(front, front_len, a, a_len, &reader);
+        right = answer == (a_len != 16 ? AGE_C_MISUSED : AGE_C_MORE);
+        break;
+    case 2:
+        answer = age_c_open_shared(front, front_len, a, a_len, b, b_len, &reader);
+        right = answer == (a_len != 32 || b_len != 32 ? AGE_C_MISUSED : AGE_C_MORE);
+        break;
+    default:
+        if (number > 2) number = 23;
+        answer = age_c_seal_passphrase(a, a_len, number, b, b_len, out, room, &written, &writer);
+        right = answer == (a_len < 1 || a_len > 65536 || number < 1 || number > 22 || b_len != 48 || room < 256 ? AGE_C_MISUSED : 0u);
+        if (answer == 0) right = right && written > 100 && is_untouched(out + written, room - written), memset(&writer, 9, sizeof writer);
+        else right = right && written == 0 && is_untouched(out, room);
+    }
+    right = right && is_untouched((const uint8_t *)&reader, sizeof reader) && is_untouched((const uint8_t *)&writer, sizeof writer);
+    free(front);
+    free(a);
+    free(b);
+    free(out);
+    return right;
+}
+
+int main(int argc, char **argv) {
+    long turns = argc == 2 ? atol(argv[1]) : 1000, wrong[3] = {0, 0, 0};
+    for (long turn = 0; turn < turns; turn++) {
+        wrong[0] += !reads();
+        wrong[1] += !writes();
+        wrong[2] += !opens();
+    }
+    int failed = (wrong[0] != 0) + (wrong[1] != 0) + (wrong[2] != 0);
+    if (failed) printf("wrong: %ld readers, %ld writers, %ld openings\n", wrong[0], wrong[1], wrong[2]);
+    printf("%d passed, %d failed\n", 3 - failed, failed);
+    return failed != 0;
+}

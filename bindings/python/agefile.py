@@ -1,0 +1,353 @@
+"""Reads and writes age files (https://c2sp.org/age) by proved code, in the manner of gzip:
+
+    import agefile, tarfile
+    with agefile.open("backup.tar.age", "rb", passphrase="correct horse") as file:
+        with tarfile.open(fileobj=file, mode="r|") as tar:
+            tar.extractall("restored", filter="data")
+
+    with agefile.open("notes.age", "wb", passphrase="correct horse") as file:
+        file.write(b"text")
+
+It needs libage_c.so, made by `bindings/build`: the file that the environment variable AGE_C_LIBRARY
+names, else the one beside this module, else one that the loader finds.
+
+Reading: no byte of a block is returned before the block was checked, and the end of the file (b"")
+only once it was checked that nothing is missing. What is wrong raises AgeError. So a loop that
+reads to the end without an exception has seen the whole text; one that stops earlier may have seen
+the beginning of a file that was cut.
+
+Writing: the file is whole once close() returned. A `with` block that is left by an exception
+abandons it: it then ends in a way that every reader reports.
+"""
+import builtins
+import ctypes
+import ctypes.util
+import io
+import os
+import pathlib
+
+CHUNK = 65_536
+BLOCK = 65_552
+FRONT_MAX = 1_048_592
+SEAL_FRONT = 256
+MORE = 254
+MISUSED = 255
+PLACED = (17, 18, 19, 20, 22)  # the faults that have a chunk
+NAMES = {
+    1: "NotAge", 2: "Armored", 3: "BadStanzaLine", 4: "BadBody", 5: "BadEndLine", 6: "NoStanza", 7: "HeadTooLong", 8: "HeadCut",
+    9: "ScryptNotAlone", 10: "BadScrypt", 11: "WorkTooHigh", 12: "NoMatch", 13: "WrongKey", 14: "MacMismatch", 15: "BadX25519",
+    16: "NonceCut", 17: "ChunkDamaged", 18: "ChunkCut", 19: "EmptyLast", 20: "Truncated", 21: "Trailing", 22: "TooManyChunks",
+    28: "Memory", MORE: "HeaderOrNonceCut", MISUSED: "Misused",
+}
+
+
+class AgeError(Exception):
+    """A fault: `number` and `name` as docs/FAULTS.md lists them, and `place`, the number of the chunk, where there is one. 254 says
+    that the file ends in its header or in the 16 bytes after it."""
+
+    def __init__(self, number, place=None):
+        self.number = number
+        self.name = NAMES.get(number, "Unknown")
+        self.place = place
+        super().__init__(f"{number} {self.name}" + ("" if place is None else f" chunk {place}"))
+
+
+class _ReaderState(ctypes.Structure):
+    _fields_ = [
+        ("file_key", ctypes.c_uint8 * 16), ("nonce", ctypes.c_uint8 * 16), ("payload_at", ctypes.c_uint64),
+        ("chunk", ctypes.c_uint64), ("fault_chunk", ctypes.c_uint64), ("state", ctypes.c_uint32), ("unused", ctypes.c_uint32),
+    ]
+
+
+class _WriterState(ctypes.Structure):
+    _fields_ = [
+        ("file_key", ctypes.c_uint8 * 16), ("nonce", ctypes.c_uint8 * 16), ("chunk", ctypes.c_uint64),
+        ("state", ctypes.c_uint32), ("unused", ctypes.c_uint32 * 5),
+    ]
+
+
+def _library():
+    beside = pathlib.Path(__file__).resolve().with_name("libage_c.so")
+    name = os.environ.get("AGE_C_LIBRARY") or (str(beside) if beside.exists() else ctypes.util.find_library("age_c"))
+    if name is None:
+        raise ImportError("no libage_c.so: make it by bindings/build, or let AGE_C_LIBRARY name it")
+    library = ctypes.CDLL(name)
+    bytes_, size, number = ctypes.c_void_p, ctypes.c_size_t, ctypes.c_uint32
+    given, count = [bytes_, size], ctypes.POINTER(size)
+    reader, writer = ctypes.POINTER(_ReaderState), ctypes.POINTER(_WriterState)
+    for function, arguments in {
+        "age_c_version": [],
+        "age_c_open_passphrase": given + given + [number, reader],
+        "age_c_open_key": given + given + [reader],
+        "age_c_open_shared": given + given + given + [reader],
+        "age_c_block": [reader] + given + given + [count],
+        "age_c_end": [reader] + given + given + [count],
+        "age_c_seal_passphrase": given + [number] + given + given + [count, writer],
+        "age_c_seal_block": [writer] + given + given + [count],
+        "age_c_seal_end": [writer] + given + given + [count],
+    }.items():
+        getattr(library, function).argtypes = arguments
+        getattr(library, function).restype = number
+    if library.age_c_version() != 100:
+        raise ImportError(f"{name}: version {library.age_c_version()}, not 100")
+    return library
+
+
+_C = _library()
+
+
+class _Bytes:
+    """Bytes that C reads or writes. Their place is never null, and lives as long as what it is passed to."""
+
+    def __init__(self, given):
+        self.held = bytearray(given)
+        self.view = memoryview(self.held)
+        self.place = (ctypes.c_uint8 * max(len(self.held), 1)).from_buffer(self.held or bytearray(1))
+
+
+def _given(it):
+    return it.place, len(it.held)
+
+
+def _secret(text):
+    return text.encode() if isinstance(text, str) else bytes(text)
+
+
+class AgeReader(io.RawIOBase):
+    """The text of an age file, raw: `open` puts a buffer around it. One thread at a time may use it."""
+
+    def __init__(self, file, passphrase=None, file_key=None, shared=None, max_work=22, owned=False):
+        super().__init__()
+        self._file, self._owned = file, owned
+        self._state = _ReaderState()
+        self._block, self._text, self._written = _Bytes(BLOCK), _Bytes(CHUNK), ctypes.c_size_t()
+        self._at = self._len = self._before = 0
+        self._fault = None
+        self._ended = False
+        self._rest = self._begin(passphrase, file_key, shared, max_work)
+        self._payload_at = self._begun = None
+        if file.seekable():
+            self._payload_at, self._begun = file.tell() - len(self._rest), bytes(self._state)
+
+    def _begin(self, passphrase, file_key, shared, max_work):
+        """Opens the header, and returns what was read behind it."""
+        front = bytearray()
+        while True:
+            piece = self._file.read(min(CHUNK, FRONT_MAX - len(front)))
+            front += piece or b""
+            given = _Bytes(front)
+            if passphrase is not None:
+                answer = _C.age_c_open_passphrase(*_given(given), *_given(_Bytes(_secret(passphrase))), max_work, self._state)
+            elif file_key is not None:
+                answer = _C.age_c_open_key(*_given(given), *_given(_Bytes(file_key)), self._state)
+            elif shared is not None:
+                answer = _C.age_c_open_shared(*_given(given), *_given(_Bytes(shared[0])), *_given(_Bytes(shared[1])), self._state)
+            else:
+                raise ValueError("a passphrase, a file_key or shared (secret, recipient) is needed")
+            if answer == 0:
+                return bytes(front[self._state.payload_at:])
+            if answer != MORE or not piece:
+                raise AgeError(answer)
+
+    def _fill(self):
+        """Reads a block, or what is left of the file, and returns how many bytes that is."""
+        have = min(len(self._rest), BLOCK)
+        self._block.view[:have] = self._rest[:have]
+        self._rest = self._rest[have:]
+        while have < BLOCK:
+            piece = self._file.read(BLOCK - have)
+            if not piece:
+                break
+            self._block.view[have:have + len(piece)] = piece
+            have += len(piece)
+        return have
+
+    def _next(self):
+        """Opens the next block. False once the end was checked."""
+        if self._fault is not None:
+            raise AgeError(*self._fault)
+        if self._ended:
+            return False
+        self._before += self._len
+        self._at = self._len = 0
+        have = self._fill()
+        call = _C.age_c_block if have == BLOCK else _C.age_c_end
+        answer = call(self._state, self._block.place, have, *_given(self._text), self._written)
+        if answer != 0:
+            self._fault = (answer, self._state.fault_chunk if answer in PLACED else None)
+            raise AgeError(*self._fault)
+        self._ended = have < BLOCK
+        self._len = self._written.value
+        return True
+
+    def readable(self):
+        return True
+
+    def readinto(self, room):
+        self._checkClosed()
+        room = memoryview(room).cast("B")
+        if len(room) == 0:
+            return 0
+        while self._at == self._len:
+            if not self._next():
+                return 0
+        n = min(len(room), self._len - self._at)
+        room[:n] = self._text.view[self._at:self._at + n]
+        self._at += n
+        return n
+
+    def tell(self):
+        return self._before + self._at
+
+    def seekable(self):
+        return self._begun is not None
+
+    def seek(self, offset, whence=io.SEEK_SET):
+        """Reads on up to there; what lies before is read again from the beginning. Nothing is skipped unchecked."""
+        self._checkClosed()
+        if not self.seekable():
+            raise io.UnsupportedOperation("seek")
+        if whence == io.SEEK_END:
+            while self._pass(CHUNK):
+                pass
+        target = max(0, offset + (0 if whence == io.SEEK_SET else self.tell()))
+        if target < self._before:
+            self._rewind()
+        if target < self.tell():
+            self._at = target - self._before
+        while self.tell() < target and self._pass(target - self.tell()):
+            pass
+        return self.tell()
+
+    def _pass(self, most):
+        """Passes over at most so many bytes. False at the end."""
+        if self._at == self._len and not self._next():
+            return False
+        self._at += min(most, self._len - self._at)
+        return True
+
+    def _rewind(self):
+        self._file.seek(self._payload_at)
+        ctypes.memmove(ctypes.byref(self._state), self._begun, len(self._begun))
+        self._rest = b""
+        self._at = self._len = self._before = 0
+        self._fault, self._ended = None, False
+
+    def _checkClosed(self):
+        if self.closed:
+            raise ValueError("the file is closed")
+
+    def close(self):
+        if not self.closed:
+            if self._owned:
+                self._file.close()
+        super().close()
+
+
+class AgeWriter(io.BufferedIOBase):
+    """An age file that is being written. It is whole once close() returned; abandon() leaves one that every reader refuses."""
+
+    def __init__(self, file, passphrase, work=18, owned=False):
+        super().__init__()
+        self._file, self._owned = file, owned
+        self._state = _WriterState()
+        self._text, self._count = bytearray(), 0
+        self._out, self._written = _Bytes(BLOCK), ctypes.c_size_t()
+        secret, random = _Bytes(_secret(passphrase)), _Bytes(os.urandom(48))
+        self._put(_C.age_c_seal_passphrase(*_given(secret), work, *_given(random), *_given(self._out), self._written, self._state))
+
+    def _put(self, answer):
+        if answer != 0:
+            raise AgeError(answer)
+        out = self._out.view[:self._written.value]
+        while out:
+            out = out[self._file.write(out) or 0:]
+
+    def _seal(self, call, text):
+        given = _Bytes(text)
+        self._put(call(self._state, *_given(given), *_given(self._out), self._written))
+
+    def writable(self):
+        return True
+
+    def write(self, data):
+        if self.closed:
+            raise ValueError("the file is closed")
+        data = memoryview(data).cast("B")
+        self._text += data
+        self._count += len(data)
+        at = 0
+        while len(self._text) - at > CHUNK:  # a byte more than a chunk: that one isn't the last
+            self._seal(_C.age_c_seal_block, self._text[at:at + CHUNK])
+            at += CHUNK
+        del self._text[:at]
+        return len(data)
+
+    def tell(self):
+        return self._count
+
+    def flush(self):
+        if not self.closed:
+            self._file.flush()
+
+    def close(self):
+        """Seals the last chunk, so that the file is whole."""
+        if self.closed:
+            return
+        try:
+            self._seal(_C.age_c_seal_end, self._text)
+            self._file.flush()
+        finally:
+            self.abandon()
+
+    def abandon(self):
+        """Closes without the last chunk."""
+        if not self.closed:
+            try:
+                super().close()
+            finally:
+                if self._owned:
+                    self._file.close()
+
+    def __exit__(self, kind, value, trace):
+        if kind is None:
+            self.close()
+        else:
+            self.abandon()
+
+    def __del__(self):
+        # a writer that was never closed, so perhaps after an exception, isn't finished
+        if hasattr(self, "_owned"):
+            self.abandon()
+
+
+class _Text(io.TextIOWrapper):
+    """Text that an exception abandons, too."""
+
+    def __exit__(self, kind, value, trace):
+        if kind is not None and isinstance(self.buffer, AgeWriter):
+            self.buffer.abandon()
+        else:
+            self.close()
+
+
+def open(file, mode="rb", *, passphrase=None, file_key=None, shared=None, work=18, max_work=22, encoding=None, errors=None, newline=None):
+    """Opens an age file, which is a path or a binary file object: "rb" to read it, "wb" (or "xb", which refuses a file that is there)
+    to write it under a passphrase; "rt", "wt" and "xt" the same as text. It is read by a passphrase, by a file_key of 16 bytes, or by
+    shared, a pair of an X25519 shared secret and the recipient that it was computed for. A file object isn't closed."""
+    if mode not in ("r", "w", "x", "rb", "wb", "xb", "rt", "wt", "xt"):
+        raise ValueError(f"bad mode {mode!r}")
+    if mode[0] != "r" and passphrase is None:
+        raise ValueError("a passphrase is needed")
+    owned = isinstance(file, (str, bytes, os.PathLike))
+    under = builtins.open(file, mode[0] + "b") if owned else file
+    try:
+        if mode[0] == "r":
+            made = io.BufferedReader(AgeReader(under, passphrase, file_key, shared, max_work, owned), CHUNK)
+        else:
+            made = AgeWriter(under, passphrase, work, owned)
+    except BaseException:
+        if owned:
+            under.close()
+        raise
+    return _Text(made, encoding, errors, newline) if mode.endswith("t") else made

@@ -1,0 +1,4 @@
+pub mod ReaderSteps
+pub mod CallSteps
+pub mod WriterSteps
+pub mod FrontSize

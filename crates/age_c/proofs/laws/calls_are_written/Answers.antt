@@ -1,0 +1,5 @@
+use Rattle.age_c.proofs.CallSteps.{calls_are_written}
+use Rattle.age_c.proofs.laws.calls_are_written.Goals as goal
+
+pub returns : goal.returns
+returns c = calls_are_written

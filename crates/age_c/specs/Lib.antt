@@ -1,0 +1,6 @@
+pub mod Numbers
+pub mod Readers
+pub mod Starts
+pub mod ReaderCalls
+pub mod Writers
+pub mod WriterCalls

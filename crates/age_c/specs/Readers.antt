@@ -1,0 +1,40 @@
+-- What a reader's numbers stand for.
+use Rattle.std.specs.Prelude.{◌≡◌, ℕ, ◌<◌, IsSome, false, List, [], Some, Option}
+use Rattle.age_cipher.specs.Opening.{opening as opening_with}
+use Rattle.age_keys.specs.Keys.{payload_key}
+use Rattle.age_stream.specs.declared.step.Status.TheVariants.{Open}
+use Rattle.age_stream.specs.Segment.{Segment, outcome, released, rest_bytes}
+use Rattle.age_chunk.specs.Nonce.{chunk_limit}
+use Rattle.age_c.specs.declared.reader.Reader.{Reader}
+use Rattle.age_c.specs.Numbers.{status_of}
+
+-- how the payload's key opens a block at a nonce
+abbrev pub opens : List ℕ → List ℕ → List ℕ → Option (List ℕ)
+opens key nonce block = opening_with key nonce [] block
+
+-- the payload's key
+abbrev pub key_of : Reader → List ℕ
+key_of r = payload_key r.file_key r.nonce
+
+-- the reader was given this segment: it stands where the outcome says, and was given whole blocks
+-- while it is open
+pub record IsAt (r : Reader) (s : Segment) : Type 0 where
+  pub status : status_of r.state r.fault_chunk ≡ Some (outcome (opens (key_of r)) 65536 s).status
+  pub index : r.chunk ≡ (outcome (opens (key_of r)) 65536 s).index
+  pub whole : (outcome (opens (key_of r)) 65536 s).status ≡ Open → rest_bytes 65536 s.bytes ≡ []
+  pub timely : s.ended ≡ false → s.late ≡ false
+
+-- the text that a reader of a segment releases
+abbrev pub text_of : Reader → Segment → List ℕ
+text_of r s = released (opens (key_of r)) 65536 s
+
+-- the file and its keys are the same
+pub record SameFile (was now : Reader) : Type 0 where
+  pub file_key : now.file_key ≡ was.file_key
+  pub nonce : now.nonce ≡ was.nonce
+  pub payload_at : now.payload_at ≡ was.payload_at
+
+-- the numbers are those of a status, at a chunk that a payload may have
+pub record CanBeUsed (r : Reader) : Type 0 where
+  pub status : IsSome (status_of r.state r.fault_chunk)
+  pub chunk : r.chunk < chunk_limit

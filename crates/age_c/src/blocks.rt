@@ -1,0 +1,189 @@
+//! Opens the blocks of a payload.
+
+ghost use Rattle.std.specs.Prelude.{◌≡◌, ◌≢◌, ◌+◌, ◌<◌, ◌≤◌, ◌++◌, [], length, take, drop};
+ghost use Rattle.std.specs.Prelude.{IfSome, IfNone, Some, true, false};
+ghost use Rattle.age_chunk.specs.Nonce.{chunk_limit};
+ghost use Rattle.age_stream.specs.Deliveries.{with_piece, with_end};
+ghost use Rattle.age_stream.specs.Lent.{chunk_bytes};
+ghost use Rattle.age_stream.specs.Opening.{Stands, has_failed};
+ghost use Rattle.age_stream.specs.Segment.{Segment, released};
+ghost use Rattle.age_c.specs.Numbers.{answer_of, status_of};
+ghost use Rattle.age_c.specs.ReaderCalls.{Takes, TakesEnd, after_block};
+ghost use Rattle.age_c.specs.Readers.{CanBeUsed, SameFile, opens};
+ghost use Rattle.age_c.specs.Readers.{key_of as key_in};
+
+use crate::numbers::{numbers_of, status_of};
+use crate::reader::Reader;
+use age_chunk::CHUNK_LIMIT;
+use age_keys::{FileKey, PayloadKey, payload_key};
+use age_stream::{Opener, Status};
+
+/// The length of a whole block.
+pub(crate) const BLOCK: usize = 65_552;
+
+/// The length of a whole chunk.
+pub(crate) const CHUNK: usize = 65_536;
+
+/// What opens the blocks of a payload.
+type PayloadOpener<'a> = Opener<'a, PayloadKey, 65552>;
+
+/// The status of a reader, if it is at a chunk that a payload may have.
+pub(crate) fn status_at(reader: &Reader) -> Option<Status>
+    ensures status { IfSome result
+        (λ status. status_of reader.now.state reader.now.fault_chunk ≡ Some status) }
+    ensures usable { IfSome result (λ _. CanBeUsed reader.now) }
+    ensures none { IfNone result (¬ CanBeUsed reader.now) }
+{
+    if reader.chunk >= CHUNK_LIMIT {
+        return None;
+    }
+    status_of(reader.state, reader.fault_chunk)
+}
+
+/// The payload key of a reader.
+fn key_of(reader: &Reader) -> PayloadKey
+    ensures { result ≡ key_in reader.now }
+{
+    payload_key(&FileKey::new(reader.file_key), &reader.nonce)
+}
+
+/// Copies bytes to the beginning of `out`, and returns how many.
+pub(crate) fn put(bytes: &[u8], out: &mut [u8]) -> usize
+    requires { length bytes.now ≤ length out.old }
+    ensures bytes { take result out.new ≡ bytes.now }
+    ensures behind { drop result out.new ≡ drop result out.old }
+    ensures most { result ≤ length out.new }
+    ensures len { result ≡ length bytes.now }
+{
+    out[..bytes.len()].copy_from_slice(bytes);
+    bytes.len()
+}
+
+/// The same of a text that may be lent.
+fn put_chunk(chunk: Option<&[u8]>, out: &mut [u8]) -> usize
+    requires { length (chunk_bytes chunk) ≤ length out.old }
+    ensures text { take result out.new ≡ chunk_bytes chunk.entry }
+    ensures behind { drop result out.new ≡ drop result out.old }
+    ensures most { result ≤ length out.new }
+{
+    match chunk {
+        Some(text) => put(text, out),
+        None => 0,
+    }
+}
+
+/// Keeps where an opener stands.
+fn keep(reader: &mut Reader, index: u64, status: Status)
+    ensures status { status_of reader.new.state reader.new.fault_chunk ≡ Some status }
+    ensures index { reader.new.chunk ≡ index }
+    ensures unfailed { has_failed status ≡ false → answer_of reader.new.state ≡ 0 }
+    ensures done { status ≡ Status.Done → reader.new.state ≡ 3 }
+    ensures failed { has_failed status ≡ true → answer_of reader.new.state ≢ 0 }
+    ensures same { SameFile reader.old reader.new }
+{
+    let (state, fault_chunk) = numbers_of(status);
+    reader.chunk = index;
+    reader.state = state;
+    reader.fault_chunk = fault_chunk;
+}
+
+/// Feeds a whole block, and returns how many bytes of text it put into `out`.
+fn feed_block(opener: &mut PayloadOpener<'_>, block: &[u8], out: &mut [u8]) -> usize
+    requires held { opener.old.held ≡ [] }
+    requires block { length block.now ≡ 65552 }
+    requires room { 65536 ≤ length out.old }
+    ensures key { opener.new.key ≡ opener.old.key }
+    ensures stands { (s : Segment) → Stands opens 65536 opener.old s
+        → Stands opens 65536 opener.new (with_piece s block.now) }
+    ensures text { (s : Segment) → Stands opens 65536 opener.old s
+        → released (opens opener.old.key) 65536 (with_piece s block.now)
+        ≡ released (opens opener.old.key) 65536 s ++ take result out.new }
+    ensures nothing { has_failed opener.new.status ≡ true → result ≡ 0 }
+    ensures was_open { opener.new.status ≡ Status.Open → opener.old.status ≡ Status.Open }
+    ensures behind { drop result out.new ≡ drop result out.old }
+    ensures most { result ≤ length out.new }
+{
+    match opener.feed(block) {
+        Ok(step) => put_chunk(step.chunk, out),
+        Err(_) => 0,
+    }
+}
+
+/// Feeds what is left before the end, which is shorter than a block, so that no text comes.
+fn feed_rest(opener: &mut PayloadOpener<'_>, rest: &[u8])
+    requires held { opener.old.held ≡ [] }
+    requires rest { length rest.now < 65552 }
+    ensures key { opener.new.key ≡ opener.old.key }
+    ensures stands { (s : Segment) → Stands opens 65536 opener.old s
+        → Stands opens 65536 opener.new (with_piece s rest.now) }
+    ensures text { (s : Segment) → Stands opens 65536 opener.old s
+        → released (opens opener.old.key) 65536 (with_piece s rest.now)
+        ≡ released (opens opener.old.key) 65536 s }
+    ensures room { has_failed opener.new.status ≡ false
+        → length opener.new.held ≤ length rest.now }
+{
+    match opener.feed(rest) {
+        Ok(_) => {}
+        Err(_) => {}
+    }
+}
+
+/// Ends, and returns how many bytes of text it put into `out`.
+fn end_opener(opener: &mut PayloadOpener<'_>, out: &mut [u8]) -> usize
+    requires room { has_failed opener.old.status ≡ false
+        → length opener.old.held ≤ length out.old + 16 }
+    ensures key { opener.new.key ≡ opener.old.key }
+    ensures stands { (s : Segment) → Stands opens 65536 opener.old s
+        → Stands opens 65536 opener.new (with_end s) }
+    ensures text { (s : Segment) → Stands opens 65536 opener.old s
+        → released (opens opener.old.key) 65536 (with_end s)
+        ≡ released (opens opener.old.key) 65536 s ++ take result out.new }
+    ensures nothing { has_failed opener.new.status ≡ true → result ≡ 0 }
+    ensures closed { opener.new.status ≢ Status.Open }
+    ensures done { has_failed opener.new.status ≡ false → opener.new.status ≡ Status.Done }
+    ensures behind { drop result out.new ≡ drop result out.old }
+    ensures most { result ≤ length out.new }
+{
+    match opener.end() {
+        Ok(text) => put(text, out),
+        Err(_) => 0,
+    }
+}
+
+/// Opens a whole block, and returns how many bytes of text it put into `out`.
+pub(crate) fn open_block(reader: &mut Reader, status: Status, block: &[u8], out: &mut [u8]) -> usize
+    requires status { status_of reader.old.state reader.old.fault_chunk ≡ Some status }
+    requires limit { reader.old.chunk < chunk_limit }
+    requires block { length block.now ≡ 65552 }
+    requires room { 65536 ≤ length out.old }
+    ensures takes { Takes (after_block block.now) reader.old (answer_of reader.new.state)
+        (take result out.new) reader.new }
+    ensures behind { drop result out.new ≡ drop result out.old }
+    ensures most { result ≤ length out.new }
+{
+    let key = key_of(reader);
+    let mut opener = PayloadOpener::between(&key, reader.chunk, status);
+    let written = feed_block(&mut opener, block, out);
+    keep(reader, opener.index(), opener.status());
+    written
+}
+
+/// Opens what is left before the end, which is shorter than a block, and returns how many bytes of
+/// text it put into `out`.
+pub(crate) fn open_last(reader: &mut Reader, status: Status, rest: &[u8], out: &mut [u8]) -> usize
+    requires status { status_of reader.old.state reader.old.fault_chunk ≡ Some status }
+    requires limit { reader.old.chunk < chunk_limit }
+    requires rest { length rest.now < 65552 }
+    requires room { 65536 ≤ length out.old }
+    ensures takes { TakesEnd rest.now reader.old (answer_of reader.new.state)
+        (take result out.new) reader.new }
+    ensures behind { drop result out.new ≡ drop result out.old }
+    ensures most { result ≤ length out.new }
+{
+    let key = key_of(reader);
+    let mut opener = PayloadOpener::between(&key, reader.chunk, status);
+    feed_rest(&mut opener, rest);
+    let written = end_opener(&mut opener, out);
+    keep(reader, opener.index(), opener.status());
+    written
+}

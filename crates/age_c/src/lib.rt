@@ -1,0 +1,37 @@
+//! Age files (<https://c2sp.org/age>) for callers in C: a reader and a writer that are plain
+//! numbers in the caller's memory, so that nothing has to be freed.
+//!
+//! A header is opened by a passphrase, a file key or a shared secret, and then a [`Reader`] takes
+//! the blocks of the payload one after the other. A [`Writer`] begins with the header of
+//! a passphrase, and then seals chunk after chunk.
+//!
+//! Each function may be called with any numbers in a reader or writer, and with slices of any
+//! length. What doesn't fit is answered with [`MISUSED`], and then nothing is changed.
+//! `include/age_c.h` says the same to a C programmer.
+#![tactic(auto)]
+
+mod blocks;
+mod laws;
+mod numbers;
+mod open;
+mod read;
+mod reader;
+mod seal;
+mod sealing;
+mod start;
+mod writer;
+
+pub use laws::{calls_are_payload, calls_are_written};
+pub use open::{age_c_open_key, age_c_open_passphrase, age_c_open_shared, age_c_version};
+pub use read::{age_c_block, age_c_end};
+pub use reader::Reader;
+pub use seal::{age_c_seal_block, age_c_seal_end, age_c_seal_passphrase};
+pub use writer::Writer;
+
+/// The bytes end inside the header or the payload's nonce: more of the file is needed.
+pub const MORE: u32 = 254;
+
+/// The call doesn't fit: a reader or writer that no call of this library made or that is finished,
+/// a block or chunk of another length, too little room, or a passphrase, work factor or key out of
+/// range. Nothing is changed.
+pub const MISUSED: u32 = 255;

@@ -1,0 +1,55 @@
+//! The numbers that stand for a status.
+
+ghost use Rattle.std.specs.Prelude.{◌≡◌, ◌≢◌, Some, true, false};
+ghost use Rattle.age_stream.specs.Opening.{has_failed};
+ghost use Rattle.age_c.specs.Numbers.{answer_of, failed_at, status_of};
+
+use age_chunk::{StreamFault, StreamKind};
+use age_stream::Status;
+
+/// A refusal of this kind, at this chunk.
+fn failed_at(kind: StreamKind, chunk: u64) -> Option<Status>
+    ensures { result ≡ failed_at kind chunk }
+{
+    Some(Status::Failed(StreamFault { kind, chunk }))
+}
+
+/// The status of these numbers; `None` where they are those of no status.
+pub(crate) fn status_of(state: u32, fault_chunk: u64) -> Option<Status>
+    ensures { result ≡ status_of state fault_chunk }
+{
+    match state {
+        1 => Some(Status::Open),
+        2 => Some(Status::LastSeen),
+        3 => Some(Status::Done),
+        17 => failed_at(StreamKind::ChunkDamaged, fault_chunk),
+        18 => failed_at(StreamKind::ChunkCut, fault_chunk),
+        19 => failed_at(StreamKind::EmptyLast, fault_chunk),
+        20 => failed_at(StreamKind::Truncated, fault_chunk),
+        21 => failed_at(StreamKind::Trailing, fault_chunk),
+        22 => failed_at(StreamKind::TooManyChunks, fault_chunk),
+        _ => None,
+    }
+}
+
+/// The numbers of a status.
+pub(crate) fn numbers_of(status: Status) -> (u32, u64)
+    ensures status { status_of result.0 result.1 ≡ Some status }
+    ensures unfailed { has_failed status ≡ false → answer_of result.0 ≡ 0 }
+    ensures failed { has_failed status ≡ true → answer_of result.0 ≢ 0 }
+    ensures done { status ≡ Status.Done → result.0 ≡ 3 }
+{
+    match status {
+        Status::Open => (1, 0),
+        Status::LastSeen => (2, 0),
+        Status::Done => (3, 0),
+        Status::Failed(fault) => (u32::from(fault.number()), fault.chunk),
+    }
+}
+
+/// The number of a reader's state as an answer: 0 where it wasn't refused.
+pub(crate) fn answer_of(state: u32) -> u32
+    ensures { result ≡ answer_of state }
+{
+    if (17..=22).contains(&state) { state } else { 0 }
+}

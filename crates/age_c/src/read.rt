@@ -1,0 +1,67 @@
+//! The functions by which C reads a payload.
+
+ghost use Rattle.std.specs.Prelude.{◌≡◌, ◌≢◌, ◌≤◌, length, take, drop};
+ghost use Rattle.age_c.specs.ReaderCalls.{IsBlockCall, IsEndCall, Takes, TakesEnd, after_block};
+
+use crate::MISUSED;
+use crate::blocks::{BLOCK, CHUNK, open_block, open_last, status_at};
+use crate::numbers::answer_of;
+use crate::reader::Reader;
+
+/// Opens a whole block of 65,552 bytes, and puts its text into `out`, which has room for 65,536 or
+/// more. The answer is 0 or the number of a fault, 17 to 22, with which the reader refuses each
+/// further call. A block after the last is refused with 21.
+#[unsafe(no_mangle)]
+pub extern "C" fn age_c_block(
+    reader: &mut Reader,
+    block: &[u8],
+    out: &mut [u8],
+    written: &mut usize,
+) -> u32
+    ensures taken { result ≢ 255 → Takes (after_block block.now) reader.old result
+        (take written.new out.new) reader.new }
+    ensures behind { drop written.new out.new ≡ drop written.new out.old }
+    ensures most { written.new ≤ length out.new }
+    ensures fits { IsBlockCall reader.old block.now out.old → result ≢ 255 }
+    ensures meant { result ≢ 255 → IsBlockCall reader.old block.now out.old }
+    ensures misused { result ≡ 255 → (reader.new ≡ reader.old) × (written.new ≡ 0) }
+{
+    *written = 0;
+    let Some(status) = status_at(reader) else {
+        return MISUSED;
+    };
+    if block.len() != BLOCK || out.len() < CHUNK {
+        return MISUSED;
+    }
+    *written = open_block(reader, status, block, out);
+    answer_of(reader.state)
+}
+
+/// The payload ended after `rest`, which is shorter than a block and may be empty: what is left of
+/// its text is put into `out`, which has room for 65,536 bytes or more. The text is whole only if
+/// the answer is 0.
+#[unsafe(no_mangle)]
+pub extern "C" fn age_c_end(
+    reader: &mut Reader,
+    rest: &[u8],
+    out: &mut [u8],
+    written: &mut usize,
+) -> u32
+    ensures taken { result ≢ 255
+        → TakesEnd rest.now reader.old result (take written.new out.new) reader.new }
+    ensures behind { drop written.new out.new ≡ drop written.new out.old }
+    ensures most { written.new ≤ length out.new }
+    ensures fits { IsEndCall reader.old rest.now out.old → result ≢ 255 }
+    ensures meant { result ≢ 255 → IsEndCall reader.old rest.now out.old }
+    ensures misused { result ≡ 255 → (reader.new ≡ reader.old) × (written.new ≡ 0) }
+{
+    *written = 0;
+    let Some(status) = status_at(reader) else {
+        return MISUSED;
+    };
+    if rest.len() >= BLOCK || out.len() < CHUNK {
+        return MISUSED;
+    }
+    *written = open_last(reader, status, rest, out);
+    answer_of(reader.state)
+}

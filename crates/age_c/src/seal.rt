@@ -1,0 +1,127 @@
+//! The functions by which C writes a file.
+
+ghost use Rattle.std.specs.Prelude.{◌≡◌, ◌≢◌, ◌+◌, ◌≤◌, ◌↔◌, IsTrue, length, take, drop};
+ghost use Rattle.age_chunk.specs.Nonce.{chunk_limit};
+ghost use Rattle.age_c.specs.Writers.{BeginsFile, CanBeUsed, IsChunkCall, IsLastCall, IsStartCall};
+ghost use Rattle.age_c.specs.Writers.{SealsChunk, SealsLast};
+
+use crate::MISUSED;
+use crate::blocks::{BLOCK, CHUNK, put};
+use crate::sealing::{Random, seal_last, seal_next};
+use crate::writer::Writer;
+use age_chunk::CHUNK_LIMIT;
+use age_keys::Passphrase;
+use std::alloc::Global;
+
+/// How much room a call asks for what stands before the payload.
+const FRONT: usize = 256;
+
+/// The number of a file that would have more chunks than a payload.
+const TOO_MANY_CHUNKS: u32 = 22;
+
+/// Whether a writer can be used.
+fn can_be_used(writer: &Writer) -> bool
+    ensures { IsTrue result ↔ CanBeUsed writer.now }
+{
+    writer.state == 1 && writer.chunk < CHUNK_LIMIT
+}
+
+/// Begins a file under a passphrase of 1 to 65,536 bytes, with a work factor of 1 to 22, and puts
+/// its header and the payload's nonce into `out`, which has room for 256 bytes or more. `random` is
+/// 48 new random bytes: the file key, the stanza's salt and the payload's nonce.
+#[unsafe(no_mangle)]
+pub extern "C" fn age_c_seal_passphrase(
+    alloc: Global,
+    pass: &[u8],
+    work: u32,
+    random: &[u8],
+    out: &mut [u8],
+    written: &mut usize,
+    writer: &mut Writer,
+) -> u32
+    ensures begun { result ≡ 0
+        → BeginsFile pass.now work random.now (take written.new out.new) writer.new }
+    ensures behind { drop written.new out.new ≡ drop written.new out.old }
+    ensures most { written.new ≤ length out.new }
+    ensures memory { result ≢ 0 → result ≢ 255 → result ≡ 28 }
+    ensures fits { IsStartCall pass.now work random.now out.old → result ≢ 255 }
+    ensures meant { result ≢ 255 → IsStartCall pass.now work random.now out.old }
+    ensures same { result ≢ 0 → (writer.new ≡ writer.old) × (written.new ≡ 0) }
+{
+    *written = 0;
+    let Some(random) = random.as_array::<48>() else {
+        return MISUSED;
+    };
+    if Passphrase::new(pass, work).is_none() || out.len() < FRONT {
+        return MISUSED;
+    }
+    let random = Random::new(random);
+    match random.front(alloc, pass, work) {
+        Ok(front) => {
+            *written = put(front.as_slice(), out);
+            *writer = random.writer();
+            0
+        }
+        Err(fault) => fault.number(),
+    }
+}
+
+/// Seals a whole chunk of 65,536 bytes that isn't the last into `out`, which has room for 65,552 or
+/// more. A chunk that can only be the last, since a payload has at most 2^48, is refused with 22,
+/// and nothing is changed.
+#[unsafe(no_mangle)]
+pub extern "C" fn age_c_seal_block(
+    writer: &mut Writer,
+    text: &[u8],
+    out: &mut [u8],
+    written: &mut usize,
+) -> u32
+    ensures sealed { result ≡ 0
+        → SealsChunk text.now writer.old (take written.new out.new) writer.new }
+    ensures behind { drop written.new out.new ≡ drop written.new out.old }
+    ensures most { written.new ≤ length out.new }
+    ensures too_many { result ≢ 0 → result ≢ 255
+        → (result ≡ 22) × (writer.old.chunk + 1 ≡ chunk_limit) }
+    ensures fits { IsChunkCall writer.old text.now out.old → result ≢ 255 }
+    ensures meant { result ≢ 255 → IsChunkCall writer.old text.now out.old }
+    ensures same { result ≢ 0 → (writer.new ≡ writer.old) × (written.new ≡ 0) }
+{
+    *written = 0;
+    if !can_be_used(writer) || text.len() != CHUNK || out.len() < BLOCK {
+        return MISUSED;
+    }
+    if writer.chunk == CHUNK_LIMIT - 1 {
+        return TOO_MANY_CHUNKS;
+    }
+    *written = seal_next(writer, text, out);
+    0
+}
+
+/// Seals what is left of the text, 0 to 65,536 bytes, as the last chunk into `out`, which has room
+/// for 16 bytes more. It has no byte only where the whole text has none.
+#[unsafe(no_mangle)]
+pub extern "C" fn age_c_seal_end(
+    writer: &mut Writer,
+    rest: &[u8],
+    out: &mut [u8],
+    written: &mut usize,
+) -> u32
+    ensures sealed { result ≡ 0
+        → SealsLast rest.now writer.old (take written.new out.new) writer.new }
+    ensures behind { drop written.new out.new ≡ drop written.new out.old }
+    ensures most { written.new ≤ length out.new }
+    ensures answers { result ≢ 0 → result ≡ 255 }
+    ensures fits { IsLastCall writer.old rest.now out.old → result ≢ 255 }
+    ensures meant { result ≢ 255 → IsLastCall writer.old rest.now out.old }
+    ensures same { result ≢ 0 → (writer.new ≡ writer.old) × (written.new ≡ 0) }
+{
+    *written = 0;
+    if !can_be_used(writer) || rest.len() > CHUNK || (rest.is_empty() && writer.chunk > 0) {
+        return MISUSED;
+    }
+    if out.len() < rest.len() + 16 {
+        return MISUSED;
+    }
+    *written = seal_last(writer, rest, out);
+    0
+}

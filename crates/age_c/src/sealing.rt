@@ -1,0 +1,136 @@
+//! Seals the chunks of a payload.
+
+ghost use Rattle.std.specs.Prelude.{◌≡◌, ◌+◌, ◌<◌, ◌≤◌, [], ◌++◌, length, take, drop, IfOk, IfErr};
+ghost use Rattle.age_cipher.specs.Aead.{sealing as sealing_with};
+ghost use Rattle.age_chunk.specs.Nonce.{chunk_limit, nonce_bytes};
+ghost use Rattle.age_keys.specs.Passphrase.{IsAllowed};
+ghost use Rattle.age_c.specs.Starts.{number_of};
+ghost use Rattle.age_c.specs.Writers.{CanBeUsed, IsFront, SealsChunk, SealsLast};
+ghost use Rattle.age_c.specs.Writers.{key_in, nonce_in, salt_in};
+ghost use Rattle.age_c.specs.Writers.{key_of as key_of_writer};
+
+use crate::start::StartFault;
+use crate::writer::Writer;
+use age_chunk::{ChunkBox, nonce_of};
+use age_keys::{FileKey, KeyFault, PayloadKey, payload_key, scrypt_header};
+use age_stanza::encode_head;
+use std::alloc::Global;
+
+/// The random bytes that a file is made of.
+#[derive(Drop)]
+pub(crate) struct Random {
+    pub(crate) file_key: [u8; 16],
+    pub(crate) salt: [u8; 16],
+    pub(crate) nonce: [u8; 16],
+}
+
+impl Random {
+    /// The parts of 48 random bytes: the file key, the salt and the payload's nonce.
+    pub(crate) fn new(bytes: &[u8; 48]) -> Random
+        ensures key { result.file_key ≡ key_in bytes.now }
+        ensures salt { result.salt ≡ salt_in bytes.now }
+        ensures nonce { result.nonce ≡ nonce_in bytes.now }
+    {
+        let mut random = Random {
+            file_key: [0; 16],
+            salt: [0; 16],
+            nonce: [0; 16],
+        };
+        random.file_key.copy_from_slice(&bytes[..16]);
+        random.salt.copy_from_slice(&bytes[16..32]);
+        random.nonce.copy_from_slice(&bytes[32..48]);
+        random
+    }
+
+    /// A writer that was given no text.
+    pub(crate) fn writer(&self) -> Writer
+        ensures key { result.file_key ≡ self.now.file_key }
+        ensures nonce { result.nonce ≡ self.now.nonce }
+        ensures start { (result.chunk ≡ 0) × (result.state ≡ 1) }
+    {
+        Writer {
+            file_key: self.file_key,
+            nonce: self.nonce,
+            chunk: 0,
+            state: 1,
+            unused: [0; 5],
+        }
+    }
+
+    /// What stands before the payload: the header's text and the payload's nonce. It fails only if
+    /// memory is refused.
+    pub(crate) fn front(&self, alloc: Global, pass: &[u8], work: u32) -> Result<Vec<u8>, StartFault>
+        requires { IsAllowed pass.now work }
+        ensures front { IfOk result (λ front. IsFront pass.now work self.now.file_key
+            self.now.salt self.now.nonce front.items) }
+        ensures size { IfOk result (λ front. length front.items ≤ 256) }
+        ensures memory { IfErr result (λ fault. number_of fault ≡ 28) }
+    {
+        let key = FileKey::new(self.file_key);
+        let header = match scrypt_header(alloc, pass, work, &self.salt, &key) {
+            Ok(header) => header,
+            Err(fault) => return Err(StartFault::Key(fault)),
+        };
+        let mut front = match encode_head(alloc, &header) {
+            Ok(front) => front,
+            Err(fault) => return Err(StartFault::Head(fault)),
+        };
+        match front.extend_from_slice(&self.nonce) {
+            Ok(()) => Ok(front),
+            Err(_) => Err(StartFault::Key(KeyFault::Memory)),
+        }
+    }
+}
+
+/// The payload key of a writer.
+fn key_of(writer: &Writer) -> PayloadKey
+    ensures { result ≡ key_of_writer writer.now }
+{
+    payload_key(&FileKey::new(writer.file_key), &writer.nonce)
+}
+
+/// Seals a text as one chunk into `out`, and returns the length of its block.
+fn seal_chunk(writer: &Writer, last: bool, text: &[u8], out: &mut [u8]) -> usize
+    requires text { length text.now ≤ 65536 }
+    requires room { length text.now + 16 ≤ length out.old }
+    ensures block { take result out.new ≡ sealing_with (key_of_writer writer.now)
+        (nonce_bytes writer.now.chunk last) [] text.now }
+    ensures behind { drop result out.new ≡ drop result out.old }
+    ensures most { result ≤ length out.new }
+{
+    let len = text.len() + 16;
+    let block = &mut out[..len];
+    block[..text.len()].copy_from_slice(text);
+    key_of(writer).seal_at(&nonce_of(writer.chunk, last), block);
+    len
+}
+
+/// Seals a whole chunk that isn't the last into `out`, and returns the length of its block.
+pub(crate) fn seal_next(writer: &mut Writer, chunk: &[u8], out: &mut [u8]) -> usize
+    requires usable { CanBeUsed writer.old }
+    requires limit { writer.old.chunk + 1 < chunk_limit }
+    requires chunk { length chunk.now ≡ 65536 }
+    requires room { 65552 ≤ length out.old }
+    ensures sealed { SealsChunk chunk.now writer.old (take result out.new) writer.new }
+    ensures behind { drop result out.new ≡ drop result out.old }
+    ensures most { result ≤ length out.new }
+{
+    let len = seal_chunk(writer, false, chunk, out);
+    writer.chunk += 1;
+    len
+}
+
+/// Seals what is left as the last chunk into `out`, and returns the length of its block.
+pub(crate) fn seal_last(writer: &mut Writer, rest: &[u8], out: &mut [u8]) -> usize
+    requires usable { CanBeUsed writer.old }
+    requires rest { length rest.now ≤ 65536 }
+    requires some { length rest.now ≡ 0 → writer.old.chunk ≡ 0 }
+    requires room { length rest.now + 16 ≤ length out.old }
+    ensures sealed { SealsLast rest.now writer.old (take result out.new) writer.new }
+    ensures behind { drop result out.new ≡ drop result out.old }
+    ensures most { result ≤ length out.new }
+{
+    let len = seal_chunk(writer, true, rest, out);
+    writer.state = 2;
+    len
+}

@@ -1,0 +1,121 @@
+//! Opens the header at the beginning of a file, and reads the nonce after it.
+
+ghost use Rattle.std.specs.Prelude.{◌≡◌, ◌≢◌, ◌+◌, ◌≤◌, length, take, drop, IfOk, IfErr};
+ghost use Rattle.age_stream.specs.Deliveries.{fresh};
+ghost use Rattle.age_c.specs.Readers.{IsAt};
+ghost use Rattle.age_c.specs.Starts.{HasFront, HeadRefuses, IsStarted, StartRefuses, number_of};
+
+use crate::MORE;
+use crate::reader::Reader;
+use age_keys::{FileKey, KeyFault, Unlock, open_header};
+use age_stanza::{HeadFault, HeadParser, HeadStep, Header};
+use std::alloc::Global;
+
+/// Why a file wasn't begun.
+#[derive(Drop)]
+pub(crate) enum StartFault {
+    /// The bytes end inside the header or the nonce.
+    More,
+    /// The header is faulty.
+    Head(HeadFault),
+    /// The header wasn't opened.
+    Key(KeyFault),
+}
+
+impl StartFault {
+    /// The number that is answered: [`MORE`](crate::MORE), or the fault's own.
+    pub(crate) fn number(&self) -> u32
+        ensures number { result ≡ number_of self.now }
+        ensures some { result ≢ 0 }
+        ensures meant { result ≢ 255 }
+    {
+        match self {
+            StartFault::More => MORE,
+            StartFault::Head(fault) => u32::from(fault.number()),
+            StartFault::Key(fault) => u32::from(fault.number()),
+        }
+    }
+}
+
+/// A header, and how many bytes its text has.
+#[derive(Drop)]
+struct Head {
+    header: Header,
+    len: usize,
+}
+
+/// Reads the header that the bytes begin with, before the payload's nonce.
+fn read_head(alloc: Global, front: &[u8]) -> Result<Head, StartFault>
+    ensures head { IfOk result (λ head. HasFront front.now head.header head.len) }
+    ensures refused { IfErr result (HeadRefuses front.now) }
+{
+    let mut parser = HeadParser::new(alloc);
+    match parser.feed(front) {
+        Ok(HeadStep::More) => Err(StartFault::More),
+        Ok(HeadStep::Ready { taken, header }) => {
+            if front.len() - taken < 16 {
+                return Err(StartFault::More);
+            }
+            Ok(Head { header, len: taken })
+        }
+        Err(fault) => Err(StartFault::Head(fault)),
+    }
+}
+
+/// A reader of the payload that follows a header of `len` bytes and its nonce.
+fn reader_after(key: &FileKey, front: &[u8], len: usize) -> Reader
+    requires { len + 16 ≤ length front.now }
+    ensures key { result.file_key ≡ key.now }
+    ensures nonce { result.nonce ≡ take 16 (drop len front.now) }
+    ensures payload_at { result.payload_at ≡ len + 16 }
+    ensures start { IsAt result (fresh 0) }
+{
+    let mut nonce = [0; 16];
+    nonce.copy_from_slice(&front[len..len + 16]);
+    Reader {
+        file_key: *key.bytes(),
+        nonce,
+        payload_at: len as u64 + 16,
+        chunk: 0,
+        fault_chunk: 0,
+        state: 1,
+        unused: 0,
+    }
+}
+
+/// Opens the header that the bytes begin with, and reads the nonce after it.
+pub(crate) fn start<U: Unlock>(
+    alloc: Global,
+    unlock: &U,
+    front: &[u8],
+) -> Result<Reader, StartFault>
+    ensures started { IfOk result (IsStarted (U.allows unlock.now) front.now) }
+    ensures refused { IfErr result
+        (StartRefuses (U.allows unlock.now) (U.refuses unlock.now) front.now) }
+{
+    let head = match read_head(alloc, front) {
+        Ok(head) => head,
+        Err(fault) => return Err(fault),
+    };
+    match open_header(alloc, &head.header, unlock) {
+        Ok(key) => Ok(reader_after(&key, front, head.len)),
+        Err(fault) => Err(StartFault::Key(fault)),
+    }
+}
+
+/// Keeps a reader that was begun, and answers 0; else the fault's number.
+pub(crate) fn settle(started: Result<Reader, StartFault>, reader: &mut Reader) -> u32
+    ensures kept { IfOk started (λ it. (result ≡ 0) × (reader.new ≡ it)) }
+    ensures refused { IfErr started
+        (λ fault. (result ≡ number_of fault) × (reader.new ≡ reader.old)) }
+    ensures some { IfErr started (λ _. result ≢ 0) }
+    ensures meant { result ≢ 255 }
+{
+    match started {
+        Ok(it) => {
+            *reader = it;
+            0
+        }
+        Err(fault) => fault.number(),
+    }
+}

@@ -1,0 +1,176 @@
+/* age_c.h: age files (https://c2sp.org/age), version 1, read and written by proved code.
+ *
+ * A reader of a file on standard input (without error checks of its own):
+ *
+ *     static uint8_t front[AGE_C_FRONT_MAX], out[AGE_C_CHUNK];
+ *     size_t have = fread(front, 1, sizeof front, stdin), at, len, written;
+ *     age_c_reader reader;
+ *     uint32_t answer = age_c_open_passphrase(front, have, pass, pass_len, 22, &reader);
+ *     if (answer == 0) {
+ *         at = reader.payload_at;
+ *         for (;;) {
+ *             if (have - at < AGE_C_BLOCK) {            // the rest, and what still comes
+ *                 memmove(front, front + at, have -= at), at = 0;
+ *                 have += fread(front + have, 1, sizeof front - have, stdin);
+ *             }
+ *             len = have - at < AGE_C_BLOCK ? have - at : AGE_C_BLOCK;
+ *             answer = len == AGE_C_BLOCK
+ *                 ? age_c_block(&reader, front + at, len, out, sizeof out, &written)
+ *                 : age_c_end(&reader, front + at, len, out, sizeof out, &written);
+ *             fwrite(out, 1, written, stdout);
+ *             if (answer != 0 || len < AGE_C_BLOCK) break;
+ *             at += len;
+ *         }
+ *     }
+ *     if (answer != 0) fprintf(stderr, "%u %s\n", answer, age_c_fault_name(answer));
+ *
+ * bindings/c/decrypt.c is a whole program.
+ *
+ * WHAT HOLDS. Each text that a call writes was checked: while nobody forges a tag, the texts of
+ * one reader, joined, are a prefix of what the file's writer wrote, and once age_c_end answered 0
+ * they are all of it. Before that the text may be cut short: don't act on it as if it were whole.
+ *
+ * OWNERSHIP. A reader or writer is 64 bytes of plain numbers in the caller's memory: there is
+ * nothing to free, and it may be copied (a copy of a reader goes on from the same place; never go
+ * on from a copy of a writer, which would seal two texts under one nonce). It holds the file key:
+ * overwrite it when you are done, if that matters to you. The library keeps no pointer and no
+ * state. Only age_c_open_.. and age_c_seal_passphrase allocate, by malloc, and free all of it
+ * before they return: with a passphrase of work factor N, 2^N KiB. A call uses less than 100 KiB of
+ * stack.
+ *
+ * POINTERS. No pointer may be null, not even with a length of 0. Each points to at least as many
+ * bytes as the length after it says, and what a call writes to overlaps nothing else that the call
+ * is given. The library can't check this. Everything else that is out of range, a reader or writer
+ * of other numbers too, is answered with AGE_C_MISUSED.
+ *
+ * THREADS. Any number of calls may run at the same time, on different readers and writers.
+ *
+ * ERRORS. A call answers 0, the number of a fault (age_c_fault_name; docs/FAULTS.md says what each
+ * means), AGE_C_MORE or AGE_C_MISUSED. A call that doesn't answer 0 has written no byte of `out`
+ * and left *written at 0. It has changed nothing else, but for a reader that was refused with 17
+ * to 22: it is refused with the same fault for good.
+ *
+ * The library is for x86-64 Linux: glibc 2.34 or later, and a processor with the instructions of
+ * x86-64-v2. Link libage_c.a, which holds all that it needs but the C library; or libage_c.so.
+ */
+#ifndef AGE_C_H
+#define AGE_C_H
+
+#include <stddef.h>
+#include <stdint.h>
+
+#ifdef __cplusplus
+extern "C" {
+#endif
+
+#define AGE_C_VERSION 100u /* 10,000 * major + 100 * minor + patch */
+
+/* The bytes end inside the header or the payload's nonce: call again with more of the file. At the
+ * end of a file it means that the file was cut there. */
+#define AGE_C_MORE 254u
+/* An argument is out of range, or the reader or writer can't be used. Nothing was changed. */
+#define AGE_C_MISUSED 255u
+
+#define AGE_C_CHUNK 65536u /* bytes of text in a whole chunk */
+#define AGE_C_BLOCK 65552u /* bytes of its block */
+/* With so many bytes of a file, or all of it, an age_c_open_.. doesn't answer AGE_C_MORE because
+ * a header is long: it has at most 1,048,576 bytes, and the nonce 16. */
+#define AGE_C_FRONT_MAX 1048592u
+#define AGE_C_SEAL_FRONT 256u /* room that age_c_seal_passphrase asks for */
+#define AGE_C_PASS_MAX 65536u /* bytes of a passphrase; at least 1 */
+#define AGE_C_WORK_MAX 22u    /* the greatest work factor; at least 1 */
+
+/* Where a file is being read. Only the library writes to it. */
+typedef struct age_c_reader {
+    uint8_t file_key[16];
+    uint8_t nonce[16];
+    uint64_t payload_at;  /* offset of the first block in the file */
+    uint64_t chunk;       /* number of the next chunk, from 0 */
+    uint64_t fault_chunk; /* after a fault 17 to 22, the number of its chunk */
+    uint32_t state;       /* 1 blocks are to come, 2 the last came whole, 3 ended, 17 to 22 a fault */
+    uint32_t unused;
+} age_c_reader;
+
+/* How far a file was written. Only the library writes to it. */
+typedef struct age_c_writer {
+    uint8_t file_key[16];
+    uint8_t nonce[16];
+    uint64_t chunk; /* number of the next chunk, from 0 */
+    uint32_t state; /* 1 chunks are to come, 2 ended */
+    uint32_t unused[5];
+} age_c_writer;
+
+#ifdef __cplusplus
+static_assert(sizeof(age_c_reader) == 64 && sizeof(age_c_writer) == 64, "64 bytes each");
+#elif defined __STDC_VERSION__ && __STDC_VERSION__ >= 201112L
+_Static_assert(sizeof(age_c_reader) == 64 && sizeof(age_c_writer) == 64, "64 bytes each");
+#endif
+
+/* AGE_C_VERSION of the library that is linked. */
+uint32_t age_c_version(void);
+
+/* ---- reading ---- */
+
+/* Opens the header that `front` begins with by a passphrase. Work factors above max_work are
+ * refused with 11: an untrusted file may demand 4 GiB. `front` is the beginning of the file, of
+ * any length. On 0 the reader is at the payload, which begins at reader->payload_at. */
+uint32_t age_c_open_passphrase(const uint8_t *front, size_t front_len, const uint8_t *pass,
+                               size_t pass_len, uint32_t max_work, age_c_reader *reader);
+
+/* The same by the file key, 16 bytes. */
+uint32_t age_c_open_key(const uint8_t *front, size_t front_len, const uint8_t *file_key,
+                        size_t file_key_len, age_c_reader *reader);
+
+/* The same by an X25519 shared secret and the recipient that it was computed for, 32 bytes each. */
+uint32_t age_c_open_shared(const uint8_t *front, size_t front_len, const uint8_t *secret,
+                           size_t secret_len, const uint8_t *recipient, size_t recipient_len,
+                           age_c_reader *reader);
+
+/* Opens the next block: block_len is AGE_C_BLOCK. `out` has room for AGE_C_CHUNK bytes or more;
+ * *written of them are the text. */
+uint32_t age_c_block(age_c_reader *reader, const uint8_t *block, size_t block_len, uint8_t *out,
+                     size_t out_len, size_t *written);
+
+/* The file ended after these bytes, fewer than AGE_C_BLOCK and maybe none. `out` as above. Only
+ * the answer 0 says that the text is whole. */
+uint32_t age_c_end(age_c_reader *reader, const uint8_t *rest, size_t rest_len, uint8_t *out,
+                   size_t out_len, size_t *written);
+
+/* ---- writing ---- */
+
+/* Begins a file under a passphrase. `random` is 48 bytes, new ones for each file, as getrandom
+ * gives them: the file key, the salt and the payload's nonce. `out` has room for AGE_C_SEAL_FRONT
+ * bytes or more; *written of them begin the file. */
+uint32_t age_c_seal_passphrase(const uint8_t *pass, size_t pass_len, uint32_t work,
+                               const uint8_t *random, size_t random_len, uint8_t *out,
+                               size_t out_len, size_t *written, age_c_writer *writer);
+
+/* Seals the next chunk, which isn't the last: text_len is AGE_C_CHUNK, and more text has to
+ * follow. `out` has room for AGE_C_BLOCK bytes or more, and all of the block is written. */
+uint32_t age_c_seal_block(age_c_writer *writer, const uint8_t *text, size_t text_len, uint8_t *out,
+                          size_t out_len, size_t *written);
+
+/* Seals the last chunk: 1 to AGE_C_CHUNK bytes, or none if the whole text has none. `out` has room
+ * for 16 bytes more than it. What was written since age_c_seal_passphrase is then the file. */
+uint32_t age_c_seal_end(age_c_writer *writer, const uint8_t *rest, size_t rest_len, uint8_t *out,
+                        size_t out_len, size_t *written);
+
+/* ---- faults ---- */
+
+/* The name of an answer, as age_tool prints it. */
+static inline const char *age_c_fault_name(uint32_t answer) {
+    static const char *const names[29] = {
+        "Ok", "NotAge", "Armored", "BadStanzaLine", "BadBody", "BadEndLine", "NoStanza",
+        "HeadTooLong", "HeadCut", "ScryptNotAlone", "BadScrypt", "WorkTooHigh", "NoMatch",
+        "WrongKey", "MacMismatch", "BadX25519", "NonceCut", "ChunkDamaged", "ChunkCut",
+        "EmptyLast", "Truncated", "Trailing", "TooManyChunks", 0, 0, 0, 0, 0, "Memory"};
+    if (answer == AGE_C_MORE) return "More";
+    if (answer == AGE_C_MISUSED) return "Misused";
+    return answer < 29 && names[answer] ? names[answer] : "Unknown";
+}
+
+#ifdef __cplusplus
+}
+#endif
+
+#endif
