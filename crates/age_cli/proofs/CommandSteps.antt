@@ -22,6 +22,10 @@ pub this_error : {T E : Type 0} (r : Result T E) (e : E) → IsErr r × IsErrAnd
 this_error (Ok x) e is P h = tt
 this_error (Err x) e is P h = subst P (sym is.1) h
 
+pub just_error : {T E : Type 0} (r : Result T E) (e : E) → IsErr r × IsErrAnd r (λ x. x ≡ e) → (P : E → Type 0) → P e → IsErrAnd r P
+just_error (Ok x) e is P h = absurd is.1
+just_error (Err x) e is P h = subst P (sym is.1) h
+
 pub an_error : {T E : Type 0} (r : Result T E) (P : Type 0) → P → OnErr r P
 an_error (Ok x) P h = tt
 an_error (Err x) P h = h

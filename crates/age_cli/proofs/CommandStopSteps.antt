@@ -115,7 +115,7 @@ pub ends_from : (f : FileFault) (name : Option Text) (p : Option Position) (old 
 ends_from f (Some n) (Some p) old mid new (Fault x) same h = h
 ends_from f (Some n) None old mid new (Fault x) same h = (h.0, h.1 ∙ same n refl)
 ends_from f None p old mid new (Fault x) same h = h
-ends_from f (Some n) (Some p) old mid new (Unsaved x s) same h = (h.0, h.1 ∙ same n refl)
+ends_from f (Some n) (Some p) old mid new (Unsaved x s) same h = (h.0, (h.1.0 ∙ same n refl, h.1.1))
 ends_from f (Some n) None old mid new (Unsaved x s) same h = h
 ends_from f None p old mid new (Unsaved x s) same h = h
 ends_from f name p old mid new (Words t) same h = absurd h

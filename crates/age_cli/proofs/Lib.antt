@@ -11,3 +11,4 @@ pub mod StopSteps
 pub mod OrderSteps
 pub mod HeadlineSteps
 pub mod ObeySteps
+pub mod RunSteps

@@ -2,7 +2,7 @@
 use Rattle.std.proofs.Common.{◌≡◌, ◌∙◌, ◌⊎◌, ℕ, ◌++◌, ap, sym, subst, refl, inl, inr, codes, List, [], ◌∷◌, Bool, true, false, true≢false, Option, Some}
 use Rattle.std.proofs.Common.{Result, Ok, Err, length, rules}
 use Rattle.std.specs.Borrow.{Bor}
-use Rattle.std.specs.Prelude.{OnOk, IfErr, IsOk, ◌==◌}
+use Rattle.std.specs.Prelude.{OnOk, IfErr, IsOk, is_some, ◌==◌}
 use Rattle.std.specs.Option.{option_map_or}
 use Rattle.std.specs.Str.{bytes_eq}
 use Rattle.std.proofs.lemmas.List.{nil_from_length}
@@ -13,8 +13,7 @@ use Rattle.clap.specs.Kinds.{IsAmong, HasKind, Kinds}
 use Rattle.clap.specs.Values.{kind_of}
 use Rattle.clap.specs.declared.error.Error.{Error}
 use Rattle.clap.specs.declared.error.kind.ErrorKind.{ErrorKind}
-use Rattle.clap.specs.declared.error.kind.ErrorKind.TheVariants as kind
-use Rattle.age_cli_args.specs.Asked.{Asks, IsServed, refusals}
+use Rattle.age_cli_args.specs.Asked.{Asks, IsServed, is_given, refusals}
 use Rattle.age_cli_args.specs.Requests.{Requests, IsRequest, text_of}
 use Rattle.age_cli_args.specs.declared.request.Request.{Request}
 use Rattle.age_cli_args.specs.declared.request.Request.TheVariants.{Inspect, Encrypt, Decrypt, Resume, Drill}
@@ -34,14 +33,16 @@ use Rattle.age_cli.specs.Encryptions.{EncryptsFile}
 use Rattle.age_cli.specs.Decryptions.{DecryptsFile}
 use Rattle.age_cli.specs.Resumptions.{ResumesFile}
 use Rattle.age_cli.specs.CommandStops.{EncryptsStop, DecryptsStop, ResumesStop}
-use Rattle.age_cli_common.specs.Endings.{EndsEarly, is_usage}
+use Rattle.age_cli_common.specs.Endings.{EndsEarly, RefusesAtOnce, is_usage}
+use Rattle.age_cli_common.specs.Names.{NamesTwice}
 use Rattle.age_cli_common.specs.EventOrders.{Follows}
 use Rattle.age_cli_common.specs.Orders.{Order, order_asked}
 use Rattle.age_cli_common.specs.declared.ending.Ending.{Ending}
 use Rattle.age_cli.proofs.EventSteps.{none_done, followed}
-use Rattle.age_cli.specs.Runs.{Reports, Inspects}
-use Rattle.age_cli.specs.Promises.{Touching, Finishing, Judging, JudgingTold}
-use Rattle.age_cli.specs.inner.Obeying.{Obeys}
+use Rattle.age_cli.specs.Inspections.{Reports, Inspects}
+use Rattle.age_cli.specs.Obeying.{Obeys, around, AsksOutput, IsRefusal}
+use Rattle.age_cli.specs.Orders.{order_of}
+use Rattle.age_cli.specs.inner.Endings.{IsForOutput, Obeyed}
 use Rattle.age_cli.proofs.OrderSteps.{asked_order, every_fault}
 use Rattle.age_cli.proofs.RowSteps.{one_command, stays_silent, encrypts_rows, decrypts_rows, resumes_rows}
 use Rattle.age_cli.proofs.RowSteps.{encrypt_spares, decrypt_spares, resume_spares, spares_kept}
@@ -82,7 +83,7 @@ file_of : (words : List Text) (rows : List Row) (file : Option (Bor Text)) → R
 file_of words rows file (name, given, asked, request) asks =
     request.1 ∙ ap (λ (t : List Row). first_of (codes "FILE") t) (one_command words name (codes "inspect") given rows asked asks)
 
-help_of : (words : List Text) (e : Error) → HasKind (refusals words) e → (kind_of e ≡ kind.DisplayHelp) ⊎ (kind_of e ≡ kind.DisplayVersion)
+pub help_of : (words : List Text) (e : Error) → HasKind (refusals words) e → IsForOutput (kind_of e)
     → IsServed words × (refusals words ≡ [] → ⊥)
 help_of words e (inl memory) (inl help) = let no = sym memory ∙ help in cc
 help_of words e (inl memory) (inr version) = let no = sym memory ∙ version in cc
@@ -90,6 +91,13 @@ help_of words e (inr among) (inl help) =
     (inr (inl (subst (λ (k : ErrorKind). IsAmong k (refusals words)) help among)), λ taken. subst (λ (ks : Kinds). IsAmong (kind_of e) ks) taken among)
 help_of words e (inr among) (inr version) =
     (inr (inr (inl (subst (λ (k : ErrorKind). IsAmong k (refusals words)) version among))), λ taken. subst (λ (ks : Kinds). IsAmong (kind_of e) ks) taken among)
+
+-- what is asked for is written to the output
+pub help_output : (words : List Text) (e : Error) → HasKind (refusals words) e → IsForOutput (kind_of e) → AsksOutput words
+help_output words e (inl memory) (inl help) = let no = sym memory ∙ help in cc
+help_output words e (inl memory) (inr version) = let no = sym memory ∙ version in cc
+help_output words e (inr among) (inl help) = inr (inl (subst (λ (k : ErrorKind). IsAmong k (refusals words)) help among))
+help_output words e (inr among) (inr version) = inr (inr (inl (subst (λ (k : ErrorKind). IsAmong k (refusals words)) version among)))
 
 module _ (words : List Text) where
   -- the words ask for no command but this
@@ -114,31 +122,60 @@ module _ (words : List Text) where
   always (Ok x) P p = p
   always (Err e) P p = tt
 
+  -- what is refused before a file is opened
+  refusal : {A : Type 0} (r : Result A Ending) (before after : List Event) → RefusesAtOnce before after r
+      → (after ≡ before) × OnOk r ⊥ × IfErr r IsRefusal
+  refusal (Err e) before after h = (h.0, tt, inl h.1)
+  refusal (Ok x) before after h = absurd h.1
+
+  asks_drill : (d : Drilling) → Requests words (Drill d) → AsksOutput words
+  asks_drill d (name, rows, asked, request) = inr (inr (inr (rows, inr (subst (λ (n : Text). Asks words n rows) request.0 asked))))
+
+  asks_inspect : (file : Option (Bor Text)) → Requests words (Inspect file) → AsksOutput words
+  asks_inspect file (name, rows, asked, request) = inr (inr (inr (rows, inl (subst (λ (n : Text). Asks words n rows) request.0 asked))))
+
+  -- both or neither of the options of a drill is given, of what is asked
+  drill_keys : (d : Drilling) (rows : List Row) → Requests words (Drill d) → Asks words (codes "drill") rows
+      → is_given (codes "clear") rows ≡ is_some (first_of (codes "pass") rows) → d.clear ≡ is_some (text_of d.pass)
+  drill_keys d rows (name, given, asked, request) asks both =
+      let is = request.1 in
+      let same = one_command words name (codes "drill") given rows asked asks in
+      is.clear ∙ (ap (λ (t : List Row). is_given (codes "clear") t) same ∙ (both ∙ (ap (λ (t : List Row). is_some (first_of (codes "pass") t)) (sym same)
+      ∙ ap (λ (o : Option Text). is_some o) (sym is.pass))))
+
   -- what was opened and made, of the order of what is asked
   module _ {A : Type 0} (q : Request) (before after : List Event) (r : Result A Ending) (request : Requests words q) where
-    touches_asked : Follows (order_asked q).whole before after → Touching words before after
+    touches_asked : Follows (order_asked q).whole before after
+        → (name : Text) (rows : List Row) → Asks words name rows → Follows (order_of name rows).whole before after
     touches_asked did name rows asks = subst (λ (o : Order). Follows o.whole before after) (sym (asked_order words name rows q request asks)) did
 
-    finished_asked : OnOk r (after ≡ before ++ (order_asked q).done) → Finishing words before after (OnOk r)
+    finished_asked : OnOk r (after ≡ before ++ (order_asked q).done)
+        → (name : Text) (rows : List Row) → Asks words name rows → OnOk r (after ≡ before ++ (order_of name rows).done)
     finished_asked did name rows asks =
         on_ok_weaker r (λ d. d ∙ ap (λ (o : Order). before ++ o.done) (sym (asked_order words name rows q request asks))) did
 
     judged_asked : IfErr r (λ e. is_usage e ≡ true → Follows (order_asked q).done before after)
-        → Judging words before after (λ P. IfErr r (λ e. is_usage e ≡ true → P))
+        → (name : Text) (rows : List Row) → Asks words name rows → IfErr r (λ e. is_usage e ≡ true → Follows (order_of name rows).done before after)
     judged_asked did name rows asks =
         let same = sym (asked_order words name rows q request asks) in
         IfErr-weaker r _ _ (λ e d usage. subst (λ (o : Order). Follows o.done before after) same (d usage)) did
 
+    apart_asked : (NamesTwice (order_asked q).apart → RefusesAtOnce before after r) → (name : Text) (rows : List Row) → Asks words name rows
+        → NamesTwice (order_of name rows).apart → (after ≡ before) × OnOk r ⊥ × IfErr r IsRefusal
+    apart_asked did name rows asks twice =
+        refusal r before after (did (subst (λ (o : Order). NamesTwice o.apart) (asked_order words name rows q request asks) twice))
+
     told_asked : (tells : Bool) → (tells ≡ true → IfErr r (λ e. is_usage e ≡ true → Follows (order_asked q).judged before after))
-        → JudgingTold words before after tells (λ P. IfErr r (λ e. is_usage e ≡ true → P))
+        → (name : Text) (rows : List Row) → Asks words name rows → tells ≡ true
+        → IfErr r (λ e. is_usage e ≡ true → Follows (order_of name rows).judged before after)
     told_asked tells did name rows asks told =
         let same = sym (asked_order words name rows q request asks) in
         IfErr-weaker r _ _ (λ e d usage. subst (λ (o : Order). Follows o.judged before after) same (d usage)) (did told)
 
   module _ {A : Type 0} (tells : Bool) (before after : List Event) (input_old input_new output_old output_new : Option (List ℕ)) (IsPorts : Ports → Type 0)
-      (Silent : Type 0) (r : Result A Ending) where
+      (Unprinted Silent : Type 0) (r : Result A Ending) where
     abbrev Here : Files → Files → Type 0
-    Here old new = Obeys words tells old new before after input_old input_new output_old output_new IsPorts Silent r
+    Here old new = Obeyed words tells IsPorts (around old before input_old output_old) (around new after input_new output_new) Unprinted Silent r
 
     pub obeys_encrypting : (e : Encrypting) (old new : Files) → Requests words (Encrypt e)
         → OnOk r (tells ≡ true → EncryptsFile e.pass.now e.log (text_of e.random) e.from.now e.to.now old new)
@@ -150,9 +187,11 @@ module _ (words : List Text) where
         → OnOk r (after ≡ before ++ (order_asked (Encrypt e)).done)
         → IfErr r (λ s. is_usage s ≡ true → Follows (order_asked (Encrypt e)).done before after)
         → (tells ≡ true → IfErr r (λ s. is_usage s ≡ true → Follows (order_asked (Encrypt e)).judged before after))
+        → (NamesTwice (order_asked (Encrypt e)).apart → RefusesAtOnce before after r)
         → (e.progress ≡ Unshown → Silent)
+        → Unprinted
         → Here old new
-    obeys_encrypting e old new request done stops usage spares whole finished judged told silent =
+    obeys_encrypting e old new request done stops usage spares whole finished judged told apart silent unprinted =
         let q = Encrypt e in
         record {
           served = always r _ (asked_something q request);
@@ -167,11 +206,14 @@ module _ (words : List Text) where
           encrypts_stop = λ rows asks now. IfErr-weaker r _ _ (λ s did. sealing_stop_rows IsPorts words rows e old new s request asks (did now)) stops;
           decrypts_stop = λ rows asks. absurd (no_other q _ rows refl request asks);
           resumes_stop = λ rows asks. absurd (no_other q _ rows refl request asks);
+          apart = apart_asked q before after r request apart;
+          drills = λ rows asks. absurd (no_other q _ rows refl request asks);
           touches = touches_asked q before after r request whole;
           finished = finished_asked q before after r request finished;
           judged = judged_asked q before after r request judged;
-          judged_told = told_asked q before after r request tells told;
+          judged_shown = told_asked q before after r request tells told;
           untouched = λ refused. absurd (not_refused q request refused);
+          unprinted = λ unasked. unprinted;
           silent = λ unasked. silent (stays_silent words e.progress request.0 request.1 request.2 request.3.1.progress unasked);
         }
 
@@ -185,9 +227,11 @@ module _ (words : List Text) where
         → OnOk r (after ≡ before ++ (order_asked (Decrypt d)).done)
         → IfErr r (λ s. is_usage s ≡ true → Follows (order_asked (Decrypt d)).done before after)
         → (tells ≡ true → IfErr r (λ s. is_usage s ≡ true → Follows (order_asked (Decrypt d)).judged before after))
+        → (NamesTwice (order_asked (Decrypt d)).apart → RefusesAtOnce before after r)
         → (d.progress ≡ Unshown → Silent)
+        → Unprinted
         → Here old new
-    obeys_decrypting d old new request done stops usage spares whole finished judged told silent =
+    obeys_decrypting d old new request done stops usage spares whole finished judged told apart silent unprinted =
         let q = Decrypt d in
         record {
           served = always r _ (asked_something q request);
@@ -202,11 +246,14 @@ module _ (words : List Text) where
           encrypts_stop = λ rows asks. absurd (no_other q _ rows refl request asks);
           decrypts_stop = λ rows asks now. IfErr-weaker r _ _ (λ s did. stops_rows IsPorts words rows d old new s request asks (did now)) stops;
           resumes_stop = λ rows asks. absurd (no_other q _ rows refl request asks);
+          apart = apart_asked q before after r request apart;
+          drills = λ rows asks. absurd (no_other q _ rows refl request asks);
           touches = touches_asked q before after r request whole;
           finished = finished_asked q before after r request finished;
           judged = judged_asked q before after r request judged;
-          judged_told = told_asked q before after r request tells told;
+          judged_shown = told_asked q before after r request tells told;
           untouched = λ refused. absurd (not_refused q request refused);
+          unprinted = λ unasked. unprinted;
           silent = λ unasked. silent (stays_silent words d.progress request.0 request.1 request.2 request.3.1.progress unasked);
         }
 
@@ -221,9 +268,11 @@ module _ (words : List Text) where
         → OnOk r (after ≡ before ++ (order_asked (Resume d)).done)
         → IfErr r (λ s. is_usage s ≡ true → Follows (order_asked (Resume d)).done before after)
         → (tells ≡ true → IfErr r (λ s. is_usage s ≡ true → Follows (order_asked (Resume d)).judged before after))
+        → (NamesTwice (order_asked (Resume d)).apart → RefusesAtOnce before after r)
         → (d.decrypting.progress ≡ Unshown → Silent)
+        → Unprinted
         → Here old new
-    obeys_resuming d old new request done stops usage spares whole finished judged told silent =
+    obeys_resuming d old new request done stops usage spares whole finished judged told apart silent unprinted =
         let q = Resume d in
         record {
           served = always r _ (asked_something q request);
@@ -238,20 +287,24 @@ module _ (words : List Text) where
           encrypts_stop = λ rows asks. absurd (no_other q _ rows refl request asks);
           decrypts_stop = λ rows asks. absurd (no_other q _ rows refl request asks);
           resumes_stop = λ rows asks now. IfErr-weaker r _ _ (λ s did. resumes_stop_rows IsPorts words rows d old new s request asks (did now)) stops;
+          apart = apart_asked q before after r request apart;
+          drills = λ rows asks. absurd (no_other q _ rows refl request asks);
           touches = touches_asked q before after r request whole;
           finished = finished_asked q before after r request finished;
           judged = judged_asked q before after r request judged;
-          judged_told = told_asked q before after r request tells told;
+          judged_shown = told_asked q before after r request tells told;
           untouched = λ refused. absurd (not_refused q request refused);
+          unprinted = λ unasked. unprinted;
           silent = λ unasked. silent (stays_silent words d.decrypting.progress request.0 request.1 request.2 request.3.1.decrypting.progress unasked);
         }
 
     pub obeys_drilling : (d : Drilling) (old new : Files) → Requests words (Drill d) → new ≡ old
         → Follows (order_asked (Drill d)).whole before after
         → OnOk r (after ≡ before ++ (order_asked (Drill d)).done)
+        → (d.clear ≡ is_some (text_of d.pass) → RefusesAtOnce before after r)
         → Silent
         → Here old new
-    obeys_drilling d old new request kept whole finished silent =
+    obeys_drilling d old new request kept whole finished one silent =
         let q = Drill d in
         record {
           served = always r _ (asked_something q request);
@@ -266,11 +319,14 @@ module _ (words : List Text) where
           encrypts_stop = λ rows asks. absurd (no_other q _ rows refl request asks);
           decrypts_stop = λ rows asks. absurd (no_other q _ rows refl request asks);
           resumes_stop = λ rows asks. absurd (no_other q _ rows refl request asks);
+          apart = apart_asked q before after r request (λ twice. absurd twice);
+          drills = λ rows asks both. refusal r before after (one (drill_keys d rows request asks both));
           touches = touches_asked q before after r request whole;
           finished = finished_asked q before after r request finished;
           judged = judged_asked q before after r request (every_fault r _ (λ e usage. whole));
-          judged_told = told_asked q before after r request tells (λ now. every_fault r _ (λ e usage. whole));
+          judged_shown = told_asked q before after r request tells (λ now. every_fault r _ (λ e usage. whole));
           untouched = λ refused. absurd (not_refused q request refused);
+          unprinted = λ unasked. absurd (unasked (asks_drill d request));
           silent = λ unasked. silent;
         }
 
@@ -299,20 +355,23 @@ module _ (words : List Text) where
           encrypts_stop = λ rows asks. absurd (no_other q _ rows refl request asks);
           decrypts_stop = λ rows asks. absurd (no_other q _ rows refl request asks);
           resumes_stop = λ rows asks. absurd (no_other q _ rows refl request asks);
+          apart = apart_asked q before after r request (λ twice. absurd twice);
+          drills = λ rows asks. absurd (no_other q _ rows refl request asks);
           touches = touches_asked q before after r request (followed before after _ noted);
           finished = finished_asked q before after r request (always r _ noted);
           judged = λ name rows asks. impossible _;
-          judged_told = λ name rows asks now. impossible _;
+          judged_shown = λ name rows asks now. impossible _;
           untouched = λ refused. absurd (not_refused q request refused);
+          unprinted = λ unasked. absurd (unasked (asks_inspect file request));
           silent = λ unasked. silent;
         }
 
   -- where no file is opened
   module _ {A : Type 0} (tells : Bool) (events : List Event) (input_old input_new output_old output_new : Option (List ℕ)) (IsPorts : Ports → Type 0)
-      (Silent : Type 0) (r : Result A Ending) where
+      (Unprinted Silent : Type 0) (r : Result A Ending) where
     -- without words, the report of the input
     pub obeys_nothing : (files : Files) → words ≡ [] → OnOk r (Reports input_old input_new output_old output_new) → Silent
-        → Obeys words tells files files events events input_old input_new output_old output_new IsPorts Silent r
+        → Obeyed words tells IsPorts (around files events input_old output_old) (around files events input_new output_new) Unprinted Silent r
     obeys_nothing files none done silent =
         let no : (name : Text) (rows : List Row) → Asks words name rows → ⊥ = λ name rows. no_command words name rows none in
         record {
@@ -328,18 +387,22 @@ module _ (words : List Text) where
           encrypts_stop = λ rows asks. absurd (no _ rows asks);
           decrypts_stop = λ rows asks. absurd (no _ rows asks);
           resumes_stop = λ rows asks. absurd (no _ rows asks);
+          apart = λ name rows asks. absurd (no name rows asks);
+          drills = λ rows asks. absurd (no _ rows asks);
           touches = λ name rows asks. absurd (no name rows asks);
           finished = λ name rows asks. absurd (no name rows asks);
           judged = λ name rows asks. absurd (no name rows asks);
-          judged_told = λ name rows asks. absurd (no name rows asks);
+          judged_shown = λ name rows asks. absurd (no name rows asks);
           untouched = λ refused. refl;
+          unprinted = λ unasked. absurd (unasked (inl none));
           silent = λ unasked. silent;
         }
 
     -- where no command is obeyed, it ends early, or well if help or the version is asked for
-    pub obeys_no_command : (files : Files) → (words ≡ [] → ⊥) → OnOk r (IsServed words × (refusals words ≡ [] → ⊥)) → IfErr r EndsEarly → Silent
-        → Obeys words tells files files events events input_old input_new output_old output_new IsPorts Silent r
-    obeys_no_command files some served early silent =
+    pub obeys_no_command : (files : Files) → (words ≡ [] → ⊥) → OnOk r (IsServed words × (refusals words ≡ [] → ⊥)) → IfErr r EndsEarly
+        → (refusals words ≡ [] → IfErr r IsRefusal) → ((AsksOutput words → ⊥) → Unprinted) → Silent
+        → Obeyed words tells IsPorts (around files events input_old output_old) (around files events input_new output_new) Unprinted Silent r
+    obeys_no_command files some served early refused kept silent =
         let no : (P : Type 0) (name : Text) (rows : List Row) → Asks words name rows → OnOk r P =
         λ P name rows asks. on_ok_weaker r (λ s. absurd (s.1 asks.taken)) served in
         record {
@@ -351,20 +414,23 @@ module _ (words : List Text) where
           resumes = λ rows asks. no _ _ rows asks;
           spares = λ rows name asks now. spares_kept rows files files refl;
           usage = every_fault r _ (λ e usage. refl);
-          refused = λ refused. refl;
+          refused = λ no. refl;
           encrypts_stop = λ rows asks now. IfErr-weaker r _ _ (λ e ends. inl (refl, ends)) early;
           decrypts_stop = λ rows asks now. IfErr-weaker r _ _ (λ e ends. inl (refl, ends)) early;
           resumes_stop = λ rows asks now. IfErr-weaker r _ _ (λ e ends. inl (refl, inl ends)) early;
+          apart = λ name rows asks twice. (refl, no ⊥ name rows asks, refused asks.taken);
+          drills = λ rows asks both. (refl, no ⊥ _ rows asks, refused asks.taken);
           touches = λ name rows asks. none_done _ _;
           finished = λ name rows asks. no _ name rows asks;
           judged = λ name rows asks. every_fault r _ (λ e usage. none_done _ _);
-          judged_told = λ name rows asks now. every_fault r _ (λ e usage. none_done _ _);
+          judged_shown = λ name rows asks now. every_fault r _ (λ e usage. none_done _ _);
           untouched = λ refused. refl;
+          unprinted = kept;
           silent = λ unasked. silent;
         }
 
 -- a refusal of a kind that is asked for is no command
 pub help_served : {A : Type 0} (words : List Text) (r : Result A Ending) (e : Error) → HasKind (refusals words) e
-    → (IsOk r → (kind_of e ≡ kind.DisplayHelp) ⊎ (kind_of e ≡ kind.DisplayVersion)) → OnOk r (IsServed words × (refusals words ≡ [] → ⊥))
+    → (IsOk r → IsForOutput (kind_of e)) → OnOk r (IsServed words × (refusals words ≡ [] → ⊥))
 help_served words (Err x) e has asked = tt
 help_served words (Ok x) e has asked = help_of words e has (asked refl)

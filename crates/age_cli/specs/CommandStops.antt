@@ -14,6 +14,7 @@ use Rattle.age_file.specs.declared.position.Positions.{Positions}
 use Rattle.age_file.specs.declared.position.Positions.TheVariants.{Kept, Dropped}
 use Rattle.age_fault.specs.declared.fault.FileFault.{FileFault}
 use Rattle.age_fault.specs.declared.fault.FileFault.TheVariants.{Write, Memory}
+use Rattle.age_fileset.specs.FileSet.{IsMemoryOr}
 use Rattle.age_cli.specs.Encryptions.{MakesSecret, EncryptsOut}
 use Rattle.age_cli.specs.Decryptions.{DecryptsOut}
 use Rattle.age_cli_common.specs.Files.{Files}
@@ -40,17 +41,19 @@ IsSaved (Some name) (Some position) old new = new name ≡ Some (position_text p
 IsSaved (Some name) None old new = new name ≡ old name
 IsSaved None position old new = Unit {0}
 
--- there is a position to save, and the file of `--save` is as it was
-abbrev pub SaveFails : Option Text → Option Position → Files → Files → Type 0
-SaveFails (Some name) (Some position) old new = new name ≡ old name
-SaveFails name position old new = ⊥
+-- there is a position to save, and the file of `--save` is as it was, since it can't be written or
+-- memory was refused
+abbrev pub SaveFails : Option Text → Option Position → Files → Files → FileFault → Type 0
+SaveFails (Some name) (Some position) old new fault = (new name ≡ old name)
+    × IsMemoryOr Write fault
+SaveFails name position old new fault = ⊥
 
 -- the fault is reported, and the position is saved; or it is reported with that of a save that
 -- failed
 abbrev pub EndsOf : FileFault → Option Text → Option Position → Files → Files → Ending → Type 0
 EndsOf fault name position old new (Fault f) = (f ≡ fault) × IsSaved name position old new
 EndsOf fault name position old new (Unsaved f second) = (f ≡ fault)
-    × SaveFails name position old new
+    × SaveFails name position old new second
 EndsOf fault name position old new e = ⊥
 
 -- an engine stopped with this position and fault, and the output was left as its promise says of

@@ -4,10 +4,11 @@ pub mod Resumptions
 pub mod CommandStops
 pub mod Endings
 pub mod ReportTexts
-pub mod Runs
+pub mod Inspections
 pub mod Rows
 pub mod Orders
 pub mod Stops
 pub mod Headline
-pub mod Promises
+pub mod Obeying
+pub mod Runs
 pub mod inner

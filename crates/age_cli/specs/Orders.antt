@@ -28,4 +28,4 @@ order_of name rows =
     (first (codes "IN")) (first (codes "OUT")) (first (codes "save")) (durability_given rows)
     else (if bytes_eq name (codes "drill") then drilling_order (first (codes "pass"))
     (first (codes "SCRIPT")) (first (codes "IN"))
-    else record { judged = []; done = []; whole = [] }))))
+    else record { apart = []; judged = []; done = []; whole = [] }))))

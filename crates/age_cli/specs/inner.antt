@@ -1,4 +1,4 @@
 pub mod Files
 pub mod Ports
 pub mod Randoms
-pub mod Obeying
+pub mod Endings

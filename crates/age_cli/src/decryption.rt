@@ -8,12 +8,12 @@ ghost use Rattle.age_fileset.specs.Events.{Closed};
 ghost use Rattle.age_cli_common.specs.EventOrders.{Follows, identity_order};
 ghost use Rattle.age_cli_common.specs.Orders.{order_asked};
 ghost use Rattle.age_cli_args.specs.declared.request.Request.TheVariants.{Decrypt};
-ghost use Rattle.clap.specs.Words.{Text};
 ghost use Rattle.age_cli_args.specs.Requests.{text_of};
 ghost use Rattle.age_cli_args.specs.declared.request.Progress.TheVariants.{Silent};
 ghost use Rattle.age_cli_common.specs.Identities.{options_asked, IsSecretIn, bytes_of, secret_name};
 ghost use Rattle.age_cli.specs.Decryptions.{DecryptsOut, DecryptsFile};
-ghost use Rattle.age_cli_common.specs.Endings.{EndsEarly, is_usage};
+ghost use Rattle.age_cli_common.specs.Endings.{EndsEarly, RefusesAtOnce, is_usage};
+ghost use Rattle.age_cli_common.specs.Names.{NamesTwice};
 ghost use Rattle.age_cli_common.specs.Files.{SparesBut, SparesBoth};
 
 use crate::output::{Outputs, leave, open_both};
@@ -128,16 +128,7 @@ fn is_read<F: FileSet>(files: &F, asked: &Decrypting<'_>, name: &str) -> bool
 /// Whether two files that have to differ are one: OUT must differ from each file that is read, and
 /// the file of `--save` from all of these and from OUT.
 pub(crate) fn names_a_file_twice<F: FileSet>(files: &F, asked: &Decrypting<'_>) -> bool
-    ensures both { asked.now.from.now ≡ asked.now.to.now → result ≡ true }
-    ensures pass_to { text_of asked.now.unlocking.pass ≡ Some asked.now.to.now → result ≡ true }
-    ensures shared_to { text_of asked.now.unlocking.shared ≡ Some asked.now.to.now
-        → result ≡ true }
-    ensures saved_to { text_of asked.now.save ≡ Some asked.now.to.now → result ≡ true }
-    ensures saved_from { text_of asked.now.save ≡ Some asked.now.from.now → result ≡ true }
-    ensures saved_pass { (name : Text) → text_of asked.now.save ≡ Some name
-        → text_of asked.now.unlocking.pass ≡ Some name → result ≡ true }
-    ensures saved_shared { (name : Text) → text_of asked.now.save ≡ Some name
-        → text_of asked.now.unlocking.shared ≡ Some name → result ≡ true }
+    ensures { NamesTwice (order_asked (Decrypt asked.now)).apart → result ≡ true }
 {
     if is_read(files, asked, asked.to) {
         return true;
@@ -174,6 +165,8 @@ pub(crate) fn read_unlocking<F: FileSet>(
     ensures read { IfOk result (λ secret. F.tells files.old ≡ true → IsSecretIn
         (F.entry files.old) (secret_name asked.now.unlocking) (bytes_of secret)) }
     ensures apart { OnOk result (is_file_named_twice ≡ false) }
+    ensures twice { is_file_named_twice ≡ true
+        → RefusesAtOnce (F.events files.old) (F.events files.new) result }
     ensures noted { OnOk result (F.events files.new ≡ F.events files.old
         ++ identity_order (text_of asked.now.unlocking.pass) (text_of asked.now.unlocking.shared)) }
     ensures follows { Follows
@@ -215,6 +208,8 @@ pub fn decrypt_file<F: FileSet, P: Meter>(
         (order_asked (Decrypt asked.now)).done (F.events files.old) (F.events files.new)) }
     ensures order_told { F.tells files.old ≡ true → IfErr result (λ e. is_usage e ≡ true → Follows
         (order_asked (Decrypt asked.now)).judged (F.events files.old) (F.events files.new)) }
+    ensures apart { NamesTwice (order_asked (Decrypt asked.now)).apart
+        → RefusesAtOnce (F.events files.old) (F.events files.new) result }
     ensures silent { asked.now.progress ≡ Silent → progress.new ≡ progress.old }
 {
     let is_file_named_twice = names_a_file_twice(files, asked);

@@ -12,7 +12,8 @@ ghost use Rattle.age_cli_args.specs.declared.request.Request.TheVariants.{Encryp
 ghost use Rattle.age_cli.specs.Encryptions.{EncryptsOut, EncryptsFile, MakesSecret};
 ghost use Rattle.age_cli_common.specs.Orders.{random_name};
 ghost use Rattle.age_cli.specs.inner.Randoms.{IsRandom, IsMaterialIn};
-ghost use Rattle.age_cli_common.specs.Endings.{EndsEarly, is_usage};
+ghost use Rattle.age_cli_common.specs.Endings.{EndsEarly, RefusesAtOnce, is_usage};
+ghost use Rattle.age_cli_common.specs.Names.{NamesTwice};
 ghost use Rattle.age_cli.specs.CommandStops.{EncryptionStop, EncryptsStop, Leaves, PortsOf};
 ghost use Rattle.age_cli.specs.CommandStops.{SealedOutStops};
 ghost use Rattle.age_cli_common.specs.Files.{Files, SparesBut};
@@ -182,10 +183,7 @@ fn random_name<'a>(asked: &Encrypting<'a>) -> &'a str
 
 /// Whether the output is one of the files that are read.
 fn names_out_twice<F: FileSet>(files: &F, asked: &Encrypting<'_>) -> bool
-    ensures both { asked.now.from.now ≡ asked.now.to.now → result ≡ true }
-    ensures pass_to { asked.now.pass.now ≡ asked.now.to.now → result ≡ true }
-    ensures random_to { random_name (text_of asked.now.random) ≡ asked.now.to.now
-        → result ≡ true }
+    ensures { NamesTwice (order_asked (Encrypt asked.now)).apart → result ≡ true }
 {
     files.is_same(asked.from, asked.to)
         || files.is_same(asked.pass, asked.to)
@@ -208,6 +206,8 @@ fn read_material<F: FileSet>(
     ensures follows { Follows
         (Opened asked.now.pass.now ∷ Opened (random_name (text_of asked.now.random)) ∷ [])
         (F.events files.old) (F.events files.new) }
+    ensures apart { NamesTwice (order_asked (Encrypt asked.now)).apart
+        → RefusesAtOnce (F.events files.old) (F.events files.new) result }
     ensures early { IfErr result EndsEarly }
 {
     if names_out_twice(files, asked) {
@@ -262,6 +262,8 @@ pub fn encrypt_file<F: FileSet, P: Meter>(
         (order_asked (Encrypt asked.now)).done (F.events files.old) (F.events files.new)) }
     ensures order_told { F.tells files.old ≡ true → IfErr result (λ e. is_usage e ≡ true → Follows
         (order_asked (Encrypt asked.now)).judged (F.events files.old) (F.events files.new)) }
+    ensures apart { NamesTwice (order_asked (Encrypt asked.now)).apart
+        → RefusesAtOnce (F.events files.old) (F.events files.new) result }
     ensures silent { asked.now.progress ≡ Silent → progress.new ≡ progress.old }
 {
     let material = read_material(alloc, files, asked)?;

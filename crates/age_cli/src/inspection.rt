@@ -3,7 +3,7 @@
 ghost use Rattle.std.specs.Prelude.{◌≡◌, [], ◌∷◌, ◌++◌, true, false, OnOk, IfErr};
 ghost use Rattle.age_cli_common.specs.Endings.{is_usage};
 ghost use Rattle.age_fileset.specs.Events.{Opened};
-ghost use Rattle.age_cli.specs.Runs.{Reports, ReportsFile};
+ghost use Rattle.age_cli.specs.Inspections.{Reports, ReportsFile};
 
 use crate::print::text_of;
 use age_cli_common::{Ending, put_bytes};

@@ -1,23 +1,15 @@
 //! The program, over arguments, files, a source and sinks.
 
-ghost use Rattle.std.specs.Prelude.{◌≡◌, ◌⊎◌, ◌≤◌, ℕ, List, [], true, OnOk, IfErr, IsOk};
-ghost use Rattle.std.specs.Prelude.{codes};
-ghost use Rattle.clap.specs.Words.{Row, Text, kind_of};
+ghost use Rattle.std.specs.Prelude.{◌≡◌, List, IfErr, IsOk};
+ghost use Rattle.clap.specs.Words.{Text, kind_of};
 ghost use Rattle.clap.specs.Walk.{texts};
-ghost use Rattle.clap.specs.declared.error.kind.ErrorKind.TheVariants.{DisplayHelp, DisplayVersion};
-ghost use Rattle.age_cli_args.specs.Asked.{Asks, AsksProgress, IsServed, refusals};
 ghost use Rattle.age_cli_args.specs.Requests.{Requests};
-ghost use Rattle.age_cli.specs.Promises.{Inspecting, Encrypting, Decrypting, Resuming};
-ghost use Rattle.age_cli.specs.Promises.{SparingOthers, EncryptingStops, DecryptingStops};
-ghost use Rattle.age_cli.specs.Promises.{ResumingStops, Touching, Finishing, Judging, JudgingTold};
-ghost use Rattle.age_cli_common.specs.Endings.{EndsEarly, is_usage};
+ghost use Rattle.age_cli_common.specs.Endings.{EndsEarly};
 ghost use Rattle.age_cli.specs.CommandStops.{PortsOf};
 ghost use Rattle.age_cli.specs.Endings.{status_of};
-ghost use Rattle.age_cli.specs.Stops.{StopsTold};
-ghost use Rattle.age_cli.specs.Headline.{IsWritersInput, IsWritersResumption, KeepsOut};
-ghost use Rattle.age_cli_common.specs.FaultLines.{TellsFault};
-ghost use Rattle.age_cli.specs.Runs.{Reports};
-ghost use Rattle.age_cli.specs.inner.Obeying.{Obeys};
+ghost use Rattle.age_cli.specs.Obeying.{around, IsRefusal};
+ghost use Rattle.age_cli.specs.Runs.{Runs};
+ghost use Rattle.age_cli.specs.inner.Endings.{IsForOutput, Obeyed};
 
 use crate::decryption::decrypt_file;
 use crate::encryption::encrypt_file;
@@ -35,7 +27,9 @@ use std::alloc::Global;
 
 /// Help and the version go to the output where they are asked for; other arguments are refused.
 fn answer_refusal<O: Sink>(alloc: Global, error: Error, output: &mut O) -> Result<(), Ending>
-    ensures asked { IsOk result → (kind_of error ≡ DisplayHelp) ⊎ (kind_of error ≡ DisplayVersion) }
+    ensures asked { IsOk result → IsForOutput (kind_of error) }
+    ensures kept { (IsForOutput (kind_of error) → ⊥) → output.new ≡ output.old }
+    ensures refusal { (IsForOutput (kind_of error) → ⊥) → IfErr result IsRefusal }
     ensures early { IfErr result EndsEarly }
 {
     if error.kind() == ErrorKind::OutOfMemory {
@@ -63,10 +57,11 @@ fn carry_out<F: FileSet, I: Source, O: Sink, P: Meter>(
     progress: &mut P,
 ) -> Result<(), Ending>
     ensures { (words : List Text) → Requests words request.now
-        → Obeys words (F.tells files.old) (F.entry files.old) (F.entry files.new)
-        (F.events files.old) (F.events files.new) (I.view input.old).remaining
-        (I.view input.new).remaining (O.view output.old).taken (O.view output.new).taken
-        (PortsOf F.In.view F.Out.view) (progress.new ≡ progress.old) result }
+        → Obeyed words (F.tells files.old) (PortsOf F.In.view F.Out.view)
+        (around (F.entry files.old) (F.events files.old) (I.view input.old).remaining
+        (O.view output.old).taken)
+        (around (F.entry files.new) (F.events files.new) (I.view input.new).remaining
+        (O.view output.new).taken) (output.new ≡ output.old) (progress.new ≡ progress.old) result }
 {
     match request {
         Request::Inspect(Some(name)) => report_file(alloc, files, name, output),
@@ -87,10 +82,11 @@ fn obey<F: FileSet, I: Source, O: Sink, P: Meter>(
     output: &mut O,
     progress: &mut P,
 ) -> Result<(), Ending>
-    ensures { Obeys (texts words.now) (F.tells files.old) (F.entry files.old) (F.entry files.new)
-        (F.events files.old) (F.events files.new) (I.view input.old).remaining
-        (I.view input.new).remaining (O.view output.old).taken (O.view output.new).taken
-        (PortsOf F.In.view F.Out.view) (progress.new ≡ progress.old) result }
+    ensures { Obeyed (texts words.now) (F.tells files.old) (PortsOf F.In.view F.Out.view)
+        (around (F.entry files.old) (F.events files.old) (I.view input.old).remaining
+        (O.view output.old).taken)
+        (around (F.entry files.new) (F.events files.new) (I.view input.new).remaining
+        (O.view output.new).taken) (output.new ≡ output.old) (progress.new ≡ progress.old) result }
 {
     if words.is_empty() {
         return report(alloc, input, output);
@@ -133,79 +129,12 @@ pub fn run<F: FileSet, I: Source, O: Sink, E: Sink, P: Meter>(
     faults: &mut E,
     progress: &mut P,
 ) -> u8
-    ensures status { result ≤ 2 }
-    // What goes to `faults`: nothing with 0; with 1 the line of a fault, or those of two, unless
-    // the sink fails.
-    ensures quiet { result ≡ 0 → faults.new ≡ faults.old }
-    ensures told { result ≡ 1
-        → TellsFault (E.view faults.old).taken (E.view faults.new).taken (E.view faults.old).failed
-        (E.view faults.new).failed }
-    // 0 comes only without arguments, for a command, and if help or the version is asked for; never
-    // for arguments that are refused.
-    ensures served { result ≡ 0 → IsServed (texts words.now) }
-    // 0 means that the input was read to its end, and that its report and nothing else was written.
-    ensures report { words.now ≡ [] → result ≡ 0
-        → Reports (I.view input.old).remaining (I.view input.new).remaining
-        (O.view output.old).taken (O.view output.new).taken }
-    ensures inspects { Inspecting (texts words.now) (F.tells files.old) (F.entry files.old)
-        (I.view input.old).remaining (I.view input.new).remaining (O.view output.old).taken
-        (O.view output.new).taken (λ P. result ≡ 0 → P) }
-    // 0 means that OUT holds what the engine promises for what the names stood for at the call.
-    ensures encrypts { Encrypting (texts words.now) (F.tells files.old) (F.entry files.old)
-        (F.entry files.new) (λ P. result ≡ 0 → P) }
-    ensures decrypts { Decrypting (texts words.now) (F.tells files.old) (F.entry files.old)
-        (F.entry files.new) (λ P. result ≡ 0 → P) }
-    ensures resumes { Resuming (texts words.now) (F.tells files.old) (F.entry files.old)
-        (F.entry files.new) (λ P. result ≡ 0 → P) }
-    // Whatever the status, no file but OUT and that of --save differs.
-    ensures spares { SparingOthers (texts words.now) (F.tells files.old) (F.entry files.old)
-        (F.entry files.new) }
-    // A bad command line, and a request for help, change no file.
-    ensures usage { result ≡ 2 → F.entry files.new ≡ F.entry files.old }
-    ensures refused { (refusals (texts words.now) ≡ [] → ⊥)
-        → F.entry files.new ≡ F.entry files.old }
-    // 1 means that nothing differs, or that OUT holds what the engine promises for a stop, the file
-    // of --save its position, and that the line that is reported is that stop's.
-    ensures encrypts_stop { EncryptingStops (texts words.now) (F.tells files.old)
-        (F.entry files.old) (F.entry files.new) (PortsOf F.In.view F.Out.view)
-        (λ Ends. result ≡ 1 → StopsTold Ends (E.view faults.old).taken (E.view faults.new).taken
-        (E.view faults.old).failed (E.view faults.new).failed) }
-    ensures decrypts_stop { DecryptingStops (texts words.now) (F.tells files.old)
-        (F.entry files.old) (F.entry files.new) (PortsOf F.In.view F.Out.view)
-        (λ Ends. result ≡ 1 → StopsTold Ends (E.view faults.old).taken (E.view faults.new).taken
-        (E.view faults.old).failed (E.view faults.new).failed) }
-    ensures resumes_stop { ResumingStops (texts words.now) (F.tells files.old) (F.entry files.old)
-        (F.entry files.new)
-        (PortsOf F.In.view F.Out.view)
-        (λ Ends. result ≡ 1 → StopsTold Ends (E.view faults.old).taken (E.view faults.new).taken
-        (E.view faults.old).failed (E.view faults.new).failed) }
-    // The headline: whatever the status, OUT is as it was or holds a beginning of the plaintext,
-    // while no block of IN opens except as its writer sealed it; and 0 means all of the plaintext.
-    ensures headline { (rows : List Row) (text : List ℕ)
-        → Asks (texts words.now) (codes "decrypt") rows → F.tells files.old ≡ true
-        → IsWritersInput rows (F.entry files.old) text
-        → KeepsOut rows (F.entry files.old) (F.entry files.new) result text }
-    // The same of `resume`, while the old text begins with the chunks of the plaintext before the
-    // position.
-    ensures headline_resumed { (rows : List Row) (text : List ℕ)
-        → Asks (texts words.now) (codes "resume") rows → F.tells files.old ≡ true
-        → IsWritersResumption rows (F.entry files.old) text
-        → KeepsOut rows (F.entry files.old) (F.entry files.new) result text }
-    // What is opened and made, also of the machine's files: the beginning of the command's order;
-    // with 0 all of it but what a stop adds; with 2 a beginning of that, and where a contract can
-    // see the files only what the arguments are judged by, since a name may turn out to be another
-    // file's only once the output is opened; and nothing for a command line that is refused.
-    ensures touches { Touching (texts words.now) (F.events files.old) (F.events files.new) }
-    ensures finished { Finishing (texts words.now) (F.events files.old) (F.events files.new)
-        (λ P. result ≡ 0 → P) }
-    ensures judged { Judging (texts words.now) (F.events files.old) (F.events files.new)
-        (λ P. result ≡ 2 → P) }
-    ensures judged_told { JudgingTold (texts words.now) (F.events files.old) (F.events files.new)
-        (F.tells files.old) (λ P. result ≡ 2 → P) }
-    ensures untouched { (refusals (texts words.now) ≡ [] → ⊥)
-        → F.events files.new ≡ F.events files.old }
-    // Unless a command is given with --progress, the meter is told nothing.
-    ensures silent { (AsksProgress (texts words.now) → ⊥) → progress.new ≡ progress.old }
+    ensures { Runs (texts words.now) (F.tells files.old) (PortsOf F.In.view F.Out.view)
+        (around (F.entry files.old) (F.events files.old) (I.view input.old).remaining
+        (O.view output.old).taken)
+        (around (F.entry files.new) (F.events files.new) (I.view input.new).remaining
+        (O.view output.new).taken) (E.view faults.old) (E.view faults.new)
+        (faults.new ≡ faults.old) (output.new ≡ output.old) (progress.new ≡ progress.old) result }
 {
     match obey(alloc, words, files, input, output, progress) {
         Ok(()) => 0,

@@ -18,7 +18,8 @@ ghost use Rattle.age_cli_args.specs.declared.request.Progress.TheVariants.{Silen
 ghost use Rattle.age_cli_common.specs.Identities.{options_asked};
 ghost use Rattle.age_file.specs.PositionTexts.{position_text};
 ghost use Rattle.age_cli.specs.Resumptions.{IsPositionIn, ResumesOut, ResumesFile, old_for};
-ghost use Rattle.age_cli_common.specs.Endings.{EndsEarly, is_usage};
+ghost use Rattle.age_cli_common.specs.Endings.{EndsEarly, RefusesAtOnce, is_usage};
+ghost use Rattle.age_cli_common.specs.Names.{NamesTwice};
 ghost use Rattle.age_cli_common.specs.Files.{SparesBut, SparesBoth};
 
 use crate::decryption::{is_given_as, names_a_file_twice, positions_for, read_unlocking};
@@ -170,13 +171,7 @@ fn write_out<F: FileSet, P: Meter>(
 /// Whether two files that have to differ are one: those of a decryption; the earlier output must
 /// differ from IN, OUT and the file of `--save`, and OUT from the position.
 fn names_one_twice<F: FileSet>(files: &F, asked: &Resuming<'_>) -> bool
-    ensures position_to { asked.now.position.now ≡ asked.now.decrypting.to.now → result ≡ true }
-    ensures old_from { asked.now.old.now ≡ asked.now.decrypting.from.now → result ≡ true }
-    ensures old_to { asked.now.old.now ≡ asked.now.decrypting.to.now → result ≡ true }
-    ensures saved_old { text_of asked.now.decrypting.save ≡ Some asked.now.old.now
-        → result ≡ true }
-    ensures saved_to { text_of asked.now.decrypting.save ≡ Some asked.now.decrypting.to.now
-        → result ≡ true }
+    ensures { NamesTwice (order_asked (Resume asked.now)).apart → result ≡ true }
 {
     let others = &asked.decrypting;
     names_a_file_twice(files, others)
@@ -262,6 +257,8 @@ pub fn resume_file<F: FileSet, P: Meter>(
         (order_asked (Resume asked.now)).done (F.events files.old) (F.events files.new)) }
     ensures order_told { F.tells files.old ≡ true → IfErr result (λ e. is_usage e ≡ true → Follows
         (order_asked (Resume asked.now)).judged (F.events files.old) (F.events files.new)) }
+    ensures apart { NamesTwice (order_asked (Resume asked.now)).apart
+        → RefusesAtOnce (F.events files.old) (F.events files.new) result }
     ensures silent { asked.now.decrypting.progress ≡ Silent → progress.new ≡ progress.old }
 {
     let wanted = &asked.decrypting;

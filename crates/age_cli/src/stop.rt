@@ -1,6 +1,6 @@
 //! How a command that writes a text stops, and where its position goes.
 
-ghost use Rattle.std.specs.Prelude.{◌≡◌, true, false, None, OnOk, OnErr};
+ghost use Rattle.std.specs.Prelude.{◌≡◌, true, false, None, OnOk, IfErr};
 ghost use Rattle.age_cli_args.specs.Requests.{text_of};
 ghost use Rattle.age_cli_common.specs.Endings.{is_usage};
 ghost use Rattle.age_cli.specs.CommandStops.{SaveFails, EndsOf};
@@ -53,8 +53,8 @@ fn save<F: FileSet>(
 ) -> Result<(), FileFault>
     ensures saved { OnOk result (F.tells files.old ≡ true
         → Saves (text_of name.entry) position (F.entry files.old) (F.entry files.new)) }
-    ensures unsaved { OnErr result
-        (SaveFails (text_of name.entry) position (F.entry files.old) (F.entry files.new)) }
+    ensures unsaved { IfErr result (λ second. SaveFails (text_of name.entry) position
+        (F.entry files.old) (F.entry files.new) second) }
     ensures alone { position ≡ None → F.entry files.new ≡ F.entry files.old }
     ensures noted { Follows (replacing (text_of name.entry) durability)
         (F.events files.old) (F.events files.new) }

@@ -4,5 +4,6 @@ pub mod Identities
 pub mod Endings
 pub mod FaultLines
 pub mod EventOrders
+pub mod Names
 pub mod Orders
 pub mod inner

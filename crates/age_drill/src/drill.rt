@@ -1,9 +1,11 @@
 //! The command that delivers a payload by a script.
 
-ghost use Rattle.std.specs.Prelude.{◌≡◌, ◌≤◌, ◌++◌, ◌∷◌, [], Some, IfOk, OnOk, length};
+ghost use Rattle.std.specs.Prelude.{◌≡◌, ◌≤◌, ◌++◌, ◌∷◌, [], Some, IfOk, OnOk, length, is_some};
 ghost use Rattle.age_fileset.specs.Events.{Opened};
+ghost use Rattle.age_cli_common.specs.Endings.{RefusesAtOnce};
 ghost use Rattle.age_cli_common.specs.EventOrders.{Follows};
 ghost use Rattle.age_cli_common.specs.Orders.{order_asked};
+ghost use Rattle.age_cli_args.specs.Requests.{text_of};
 ghost use Rattle.age_cli_args.specs.declared.request.Request.TheVariants.{Drill};
 ghost use Rattle.age_stanza.specs.Grammar.{HasText};
 ghost use Rattle.age_stanza.specs.Parsing.{reading};
@@ -322,6 +324,9 @@ pub fn drill_file<F: FileSet, O: Sink>(
         (F.events files.new) }
     ensures order_done { OnOk result
         (F.events files.new ≡ F.events files.old ++ (order_asked (Drill asked.now)).done) }
+    // Both or neither of `--clear` and `--pass`.
+    ensures one { asked.now.clear ≡ is_some (text_of asked.now.pass)
+        → RefusesAtOnce (F.events files.old) (F.events files.new) result }
 {
     match (asked.clear, asked.pass) {
         (true, None) => drill(alloc, files, asked, None, output),

@@ -30,6 +30,11 @@ const AT_TEN: &[u8; 150] = b"age-encryption.org/v1\n-> scrypt EBESExQVFhcYGRobHB
         Qh59WLlLxJRIkowFnzt99qkc7x6EgdHELDUQmvHY874\n\
         --- 2qY5AgJS48JZMvxeEOs4EKHsGHn1+dq7Rvg3gLXzgBM\n";
 
+/// A header whose work factor is one more than the greatest limit.
+const AT_23: &[u8; 150] = b"age-encryption.org/v1\n-> scrypt AAAAAAAAAAAAAAAAAAAAAA 23\n\
+        AAAAAAAAAAAAAAAAAAAAAAAAAAAAAAAAAAAAAAAAAAA\n\
+        --- AAAAAAAAAAAAAAAAAAAAAAAAAAAAAAAAAAAAAAAAAAA\n";
+
 /// The number of the fault with which a header is refused, or the file key.
 fn answer<U: Unlock>(alloc: Global, header: &Header, unlock: &U) -> Result<[u8; 16], u8>
     ensures { IfOk result (Opens (U.allows unlock.now) header.now) }
@@ -92,6 +97,7 @@ fn passphrase_rows(alloc: Global) -> bool {
         && by_passphrase(alloc, &WRITTEN, b"Kudebafon", 1) == Err(13)
         && by_passphrase(alloc, AT_TEN, b"kudebafon", 10) == Ok(FILE_KEY)
         && by_passphrase(alloc, AT_TEN, b"kudebafon", 9) == Err(11)
+        && by_passphrase(alloc, AT_23, b"kudebafon", 22) == Err(11)
         && Passphrase::new(b"", 1).is_none()
         && Passphrase::new(b"x", 0).is_none()
         && Passphrase::new(b"x", 23).is_none()

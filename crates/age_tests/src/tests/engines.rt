@@ -2,6 +2,7 @@
 
 ghost use Rattle.std.specs.Prelude.{◌<◌};
 
+mod full_sink;
 mod machine;
 mod resumption;
 

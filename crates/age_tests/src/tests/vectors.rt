@@ -1,17 +1,9 @@
 //! Each function of the vectors once, and the worked examples that no contract speaks of.
 
-mod delivery;
-mod hostile;
-mod resumptions;
-mod stops;
-
 use age_vectors::{
-    header_rows, key_rows, rfc_aead, rfc_chacha, rfc_hkdf, rfc_hmac, rfc_pbkdf2, rfc_poly1305,
-    rfc_scrypt, shared_rows,
+    delivery_rows, header_rows, hostile_rows, key_rows, rfc_aead, rfc_chacha, rfc_hkdf, rfc_hmac,
+    rfc_pbkdf2, rfc_poly1305, rfc_scrypt, shared_rows, stop_rows,
 };
-use delivery::delivery_rows;
-use hostile::hostile_rows;
-use stops::stop_rows;
 
 #[test]
 fn rfc_8439(rt: HostRuntime) {

@@ -1,9 +1,9 @@
-use Rattle.std.proofs.Common.{◌∙◌, ◌++◌, refl, ap, subst}
-use Rattle.age_cli_common.specs.Endings.{EndsEarly}
+use Rattle.std.proofs.Common.{◌≡◌, ◌∙◌, ◌++◌, refl, ap, sym, subst, true, true≢false}
+use Rattle.age_cli_common.specs.Endings.{EndsEarly, is_usage}
 use Rattle.age_cli_common.specs.Identities.{IsSecretIn, bytes_of}
 use Rattle.age_cli_common.specs.declared.ending.Ending.{Ending}
 use Rattle.age_cli_common.specs.declared.ending.Ending.TheVariants.{Fault, Usage}
-use Rattle.age_cli.proofs.CommandSteps.{no_value, not_well, this_error, early_fault}
+use Rattle.age_cli.proofs.CommandSteps.{no_value, not_well, this_error, just_error, early_fault}
 use Rattle.age_cli.proofs.EventSteps.{followed, none_done}
 use Rattle.age_cli.proofs.decryption.read_unlocking.Goals as goal
 
@@ -17,6 +17,7 @@ returns-in_err-name g c =
       kept = refl;
       read = no_value r e is _;
       apart = not_well r e is _;
+      twice = λ twice. (refl, just_error r e is (λ x. is_usage x ≡ true) refl);
       noted = not_well r e is _;
       follows = none_done _ _;
       early = this_error r e is EndsEarly tt;
@@ -28,6 +29,7 @@ returns-then-is_file_named_twice g c = record {
   kept = refl;
   read = tt;
   apart = tt;
+  twice = λ twice. (refl, refl);
   noted = tt;
   follows = none_done _ _;
   early = tt;
@@ -43,6 +45,7 @@ returns-in_err-read_secret g c =
       kept = c.in_err-read_secret.ensures.kept;
       read = no_value r e is _;
       apart = not_well r e is _;
+      twice = λ twice. absurd (true≢false (sym twice ∙ c.if-is_file_named_twice.false));
       noted = not_well r e is _;
       follows = followed _ _ _ (c.in_err-read_secret.ensures.noted ∙ ap (λ o. g.F.FileSet.events c.args.files.now ++ o) c.in_ok-name.ensures.one);
       early = this_error r e is EndsEarly (early_fault _ c.in_err-read_secret.ensures.faults);
@@ -58,6 +61,7 @@ returns g c =
       read = λ told. subst (λ name. IsSecretIn (g.F.FileSet.entry c.args.files.now) name (bytes_of c.in_ok-read_secret.field-0)) c.in_ok-name.ensures.name
           (read.read told);
       apart = c.if-is_file_named_twice.false;
+      twice = λ twice. absurd (true≢false (sym twice ∙ c.if-is_file_named_twice.false));
       noted = noted;
       follows = followed _ _ _ noted;
       early = tt;

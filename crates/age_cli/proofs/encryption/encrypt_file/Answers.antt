@@ -1,13 +1,14 @@
-use Rattle.std.proofs.Common.{◌∙◌, ◌∷◌, [], inl, inr, refl, ap, sym, true≢false, Some, None}
+use Rattle.std.proofs.Common.{◌≡◌, ◌∙◌, ◌∷◌, [], inl, inr, refl, ap, sym, true, true≢false, Some, None}
 use Rattle.age_cli_args.specs.Requests.{text_of}
 use Rattle.age_cli_args.specs.declared.request.Request.TheVariants.{Encrypt}
 use Rattle.age_fileset.specs.Events.{Opened}
 use Rattle.age_cli_common.specs.EventOrders.{Follows, making}
+use Rattle.age_cli_common.specs.Endings.{is_usage}
 use Rattle.age_cli_common.specs.Orders.{order_asked, random_name}
 use Rattle.age_cli_common.specs.declared.ending.Ending.{Ending}
 use Rattle.age_cli_common.specs.declared.ending.Ending.TheVariants.{Usage}
 use Rattle.age_cli.specs.CommandStops.{PortsOf}
-use Rattle.age_cli.proofs.CommandSteps.{not_well, this_error}
+use Rattle.age_cli.proofs.CommandSteps.{not_well, this_error, just_error}
 use Rattle.age_cli.proofs.EncryptionSteps.{encrypted, encryption_stopped}
 use Rattle.age_cli.proofs.EventSteps.{followed, longer, then_closed, then_did, then_follows}
 use Rattle.age_cli.proofs.encryption.encrypt_file.Goals as goal
@@ -31,6 +32,9 @@ returns-in_err-material g c =
       order_done = not_well ending e is _;
       order_usage = this_error ending e is _ (λ usage. follows);
       order_told = λ told. this_error ending e is _ (λ usage. c.in_err-material.ensures.follows);
+      apart = λ twice.
+          let refused = c.in_err-material.ensures.apart twice in
+          (refused.0, just_error ending e is (λ x. is_usage x ≡ true) refused.1);
       silent = λ silent. refl;
     }
 
@@ -53,6 +57,7 @@ returns-in_err-secret g c =
       order_done = not_well ending e is _;
       order_usage = this_error ending e is _ (λ usage. follows);
       order_told = λ told. this_error ending e is _ (λ usage. c.in_ok-material.ensures.follows);
+      apart = λ twice. absurd (c.in_ok-material.ensures.apart twice).1;
       silent = λ silent. refl;
     }
 
@@ -77,6 +82,7 @@ returns-in_err-source g c =
       order_usage = this_error ending e is _ (λ usage. follows);
       order_told = λ told. this_error ending e is _ (λ usage. absurd (true≢false (sym usage
           ∙ c.in_err-source.ensures.usage (c.in_ok-material.ensures.told ∙ told))));
+      apart = λ twice. absurd (c.in_ok-material.ensures.apart twice).1;
       silent = λ silent. refl;
     }
 
@@ -103,6 +109,7 @@ returns-in-Ok g c =
       order_done = done;
       order_usage = tt;
       order_told = λ told. tt;
+      apart = λ twice. absurd (c.in_ok-material.ensures.apart twice).1;
       silent = c.in-Ok.ensures.silent;
     }
 
@@ -129,5 +136,6 @@ returns g c =
       order_done = tt;
       order_usage = λ usage. followed _ _ _ done;
       order_told = λ told usage. absurd (true≢false (sym usage));
+      apart = λ twice. absurd (c.in_ok-material.ensures.apart twice).1;
       silent = c.in-Err.ensures.silent;
     }

@@ -1,4 +1,4 @@
-use Rattle.std.proofs.Common.{◌∙◌, ◌++◌, ◌∷◌, [], refl, ap, sym}
+use Rattle.std.proofs.Common.{◌∙◌, ◌++◌, ◌∷◌, [], refl, ap, sym, true≢false}
 use Rattle.age_cli_args.specs.Requests.{text_of}
 use Rattle.age_fileset.specs.Events.{Opened}
 use Rattle.age_cli_common.specs.Endings.{EndsEarly}
@@ -14,6 +14,7 @@ returns-then-names_out_twice g c = record {
   read = tt;
   noted = tt;
   follows = none_done _ _;
+  apart = λ twice. (refl, refl);
   early = tt;
 }
 
@@ -34,6 +35,7 @@ returns-in_err-pass g c =
         did = c.in_err-pass.ensures.noted;
         front = refl;
       };
+      apart = λ twice. absurd (true≢false (sym (c.names_out_twice.ensures twice) ∙ c.if-names_out_twice.false));
       early = this_error r e is EndsEarly c.in_err-pass.ensures.early;
     }
 
@@ -50,6 +52,7 @@ returns-in_err-random g c =
       noted = not_well r e is _;
       follows = followed _ _ _ (then_did _ _ _ (Opened a.pass.now ∷ []) (Opened c.random_name.result.now ∷ []) c.in_ok-pass.ensures.noted
           c.in_err-random.ensures.noted ∙ ap (λ n. g.F.FileSet.events c.args.files.now ++ Opened a.pass.now ∷ Opened n ∷ []) c.random_name.ensures);
+      apart = λ twice. absurd (true≢false (sym (c.names_out_twice.ensures twice) ∙ c.if-names_out_twice.false));
       early = this_error r e is EndsEarly c.in_err-random.ensures.early;
     }
 
@@ -74,5 +77,6 @@ returns g c =
           };
       noted = events;
       follows = followed _ _ _ events;
+      apart = λ twice. absurd (true≢false (sym (c.names_out_twice.ensures twice) ∙ c.if-names_out_twice.false));
       early = tt;
     }

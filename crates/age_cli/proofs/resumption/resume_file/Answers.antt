@@ -1,14 +1,15 @@
-use Rattle.std.proofs.Common.{◌≡◌, ◌∙◌, ◌++◌, ◌∷◌, [], inl, inr, refl, ap, sym, true≢false, Some}
+use Rattle.std.proofs.Common.{◌≡◌, ◌∙◌, ◌++◌, ◌∷◌, [], inl, inr, refl, ap, sym, true, true≢false, Some}
 use Rattle.age_cli_args.specs.Requests.{text_of}
 use Rattle.age_cli_args.specs.declared.request.Request.TheVariants.{Resume}
 use Rattle.age_fileset.specs.Events.{Opened}
 use Rattle.age_cli_common.specs.EventOrders.{Follows, identity_order, preparing, making, replacing}
 use Rattle.age_cli_common.specs.Identities.{options_asked}
+use Rattle.age_cli_common.specs.Endings.{is_usage}
 use Rattle.age_cli_common.specs.Orders.{order_asked}
 use Rattle.age_cli_common.specs.declared.ending.Ending.{Ending}
 use Rattle.age_cli_common.specs.declared.ending.Ending.TheVariants.{Fault, Usage}
 use Rattle.age_cli.specs.CommandStops.{PortsOf}
-use Rattle.age_cli.proofs.CommandSteps.{not_well, this_error}
+use Rattle.age_cli.proofs.CommandSteps.{not_well, this_error, just_error}
 use Rattle.age_cli.proofs.ResumptionSteps.{bad_position, resumed, resumption_stopped}
 use Rattle.age_cli.proofs.EventSteps.{followed, longer, then_closed, then_did, then_follows}
 use Rattle.age_cli.proofs.resumption.resume_file.Goals as goal
@@ -33,6 +34,9 @@ returns-in_err-secret g c =
       order_done = not_well ending e is _;
       order_usage = this_error ending e is _ (λ usage. follows);
       order_told = λ told. this_error ending e is _ (λ usage. c.in_err-secret.ensures.follows);
+      apart = λ twice.
+          let refused = c.in_err-secret.ensures.twice (c.names_one_twice-is_file_named_twice.ensures twice) in
+          (refused.0, just_error ending e is (λ x. is_usage x ≡ true) refused.1);
       silent = λ silent. refl;
     }
 
@@ -56,6 +60,7 @@ returns-in_err-identity g c =
       order_done = not_well ending e is _;
       order_usage = this_error ending e is _ (λ usage. follows);
       order_told = λ told. this_error ending e is _ (λ usage. c.in_ok-secret.ensures.follows);
+      apart = λ twice. absurd (true≢false (sym (c.names_one_twice-is_file_named_twice.ensures twice) ∙ c.in_ok-secret.ensures.apart));
       silent = λ silent. refl;
     }
 
@@ -81,6 +86,7 @@ returns-in_err-position g c =
       order_done = not_well ending e is _;
       order_usage = this_error ending e is _ (λ usage. follows);
       order_told = λ told. this_error ending e is _ (λ usage. absurd (true≢false (sym usage)));
+      apart = λ twice. absurd (true≢false (sym (c.names_one_twice-is_file_named_twice.ensures twice) ∙ c.in_ok-secret.ensures.apart));
       silent = λ silent. refl;
     }
 
@@ -108,6 +114,7 @@ returns-in_err-source g c =
       order_usage = this_error ending e is _ (λ usage. follows);
       order_told = λ told. this_error ending e is _ (λ usage. absurd (true≢false (sym usage
           ∙ c.in_err-source.ensures.usage (c.in_ok-position.ensures.told ∙ (c.in_ok-secret.ensures.told ∙ told)))));
+      apart = λ twice. absurd (true≢false (sym (c.names_one_twice-is_file_named_twice.ensures twice) ∙ c.in_ok-secret.ensures.apart));
       silent = λ silent. refl;
     }
 
@@ -143,6 +150,7 @@ returns-in-Ok g c =
       order_done = done;
       order_usage = tt;
       order_told = λ told. tt;
+      apart = λ twice. absurd (true≢false (sym (c.names_one_twice-is_file_named_twice.ensures twice) ∙ c.in_ok-secret.ensures.apart));
       silent = c.in-Ok.ensures.silent;
     }
 
@@ -156,7 +164,8 @@ returns g c =
     let both = c.in_ok-source.ensures in
     let stop = c.in-Err.stop in
     let ended = c.end_of.ensures in
-    let apart : text_of d.save ≡ Some d.to.now → ⊥ = λ e. true≢false (sym (c.names_one_twice-is_file_named_twice.ensures.saved_to e) ∙ secret.apart) in
+    let apart : text_of d.save ≡ Some d.to.now → ⊥ =
+    λ e. true≢false (sym (c.names_one_twice-is_file_named_twice.ensures (inr (inl (inl (d.to.now, e, refl))))) ∙ secret.apart) in
     let done = then_did _ _ _ (identity_order (text_of d.unlocking.pass) (text_of d.unlocking.shared))
     (Opened r.position.now ∷ Opened r.old.now ∷ Opened d.from.now ∷ (preparing (text_of d.save) ++ making (Some d.to.now) d.durability)) secret.noted
     (then_did _ _ _ (Opened r.position.now ∷ Opened r.old.now ∷ []) (Opened d.from.now ∷ (preparing (text_of d.save) ++ making (Some d.to.now) d.durability)) earlier.noted
@@ -185,5 +194,6 @@ returns g c =
       order_done = tt;
       order_usage = λ usage. absurd (true≢false (sym usage ∙ ended.fault));
       order_told = λ told usage. absurd (true≢false (sym usage ∙ ended.fault));
+      apart = λ twice. absurd (true≢false (sym (c.names_one_twice-is_file_named_twice.ensures twice) ∙ c.in_ok-secret.ensures.apart));
       silent = c.in-Err.ensures.silent;
     }

@@ -1,13 +1,15 @@
 // Hostile bytes: a payload of three blocks, sealed by a box that hides nothing, cut at every byte,
 // with its blocks in wrong orders, and started again at every chunk; and sealed under a real key,
 // with each of its bits inverted. Each with its pieces whole and byte by byte.
-use super::delivery::{TEN, failed};
+use crate::delivery::{TEN, failed};
 use age_keys::{FileKey, PayloadKey, payload_key};
 use age_stream::{ChunkBox, ClearBox, Delivery, Status, StreamKind, drill, seal_all};
 use std::alloc::Global;
 
-/// What a drill leaves of hostile bytes.
-pub(super) fn hostile_rows(alloc: Global) -> bool {
+/// What a drill leaves of hostile bytes: a payload cut at every byte, with its blocks in every
+/// order, started again at every chunk, and with each of its bits inverted. False too where memory
+/// is refused.
+pub fn hostile_rows(alloc: Global) -> bool {
     are_cuts_right(alloc)
         && are_orders_right(alloc)
         && are_restarts_right(alloc)

@@ -9,7 +9,7 @@ use std::alloc::Global;
 const EIGHT: &[u8; 40] =
     b"abcd\0\0\0\0\0\0\0\0\0\0\0\0\0\0\0\0efgh\0\0\0\0\0\0\0\0\0\0\x01\x01\0\0\0\0";
 
-pub(super) const TEN: &[u8; 58] =
+pub(crate) const TEN: &[u8; 58] =
     b"abcd\0\0\0\0\0\0\0\0\0\0\0\0\0\0\0\0efgh\0\0\0\0\0\0\0\0\0\0\x01\0\0\0\0\0\
         ij\0\0\0\0\0\0\0\0\0\0\x02\x01\0\0\0\0";
 
@@ -27,8 +27,9 @@ const LAST_OF_ALL: &[u8; 20] = b"XXXX\0\0\0\0\0\xff\xff\xff\xff\xff\xff\x01\0\0\
 
 const ONE_TOO_MANY: &[u8; 20] = b"XXXX\0\0\0\0\0\xff\xff\xff\xff\xff\xff\0\0\0\0\0";
 
-/// The worked rows of sealing and of delivery.
-pub(super) fn delivery_rows(alloc: Global) -> bool {
+/// The worked rows of a payload: whole texts, and what is held under cuts, swaps, repeats, restarts
+/// and bytes after the end. False too where memory is refused.
+pub fn delivery_rows(alloc: Global) -> bool {
     sealing_rows(alloc)
         && two_letters_in_two_pieces()
         && damage_rows(alloc)
@@ -102,7 +103,7 @@ fn are_taken(replay: &mut Replay<'_, ClearBox, 20>, deliveries: &[Delivery<'_>])
     true
 }
 
-pub(super) fn failed(kind: StreamKind, chunk: u64) -> Status {
+pub(crate) fn failed(kind: StreamKind, chunk: u64) -> Status {
     Status::Failed(StreamFault { kind, chunk })
 }
 

@@ -1,15 +1,15 @@
 // Every failure in turn: a text of 200,000 bytes is encrypted, and its file decrypted, while one
 // pull, one put or the flush fails. The front of the file and the positions are Python's.
-use super::resumptions::resume_rows;
+use crate::resumptions::resume_rows;
 use age_file::{
     Done, FileFault, MemSink, MemSource, Position, Secret, Stopped, Written, decrypt, encrypt,
 };
 use age_keys::Passphrase;
 use std::alloc::Global;
 
-pub(super) const PASS: &[u8] = b"correct horse";
+pub(crate) const PASS: &[u8] = b"correct horse";
 
-pub(super) const LOG: u32 = 4;
+pub(crate) const LOG: u32 = 4;
 
 const SALT: [u8; 16] = [0, 1, 2, 3, 4, 5, 6, 7, 8, 9, 10, 11, 12, 13, 14, 15];
 
@@ -25,7 +25,7 @@ const FRONT: &[u8; 165] = b"age-encryption.org/v1\n-> scrypt AAECAwQFBgcICQoLDA0
         --- c34TNMAElKy8BwnAZQWhcQSSe6oKpsIv3iN8xQDb1Zg\ndefghijklmnopqrs";
 
 /// The texts of the positions after none to three chunks.
-pub(super) const POSITIONS: [&[u8; 150]; 4] = [
+pub(crate) const POSITIONS: [&[u8; 150]; 4] = [
     b"age-position/v2 0 HLJ5VW0R+ctHBkO1vllJE7zhq612YmrsO1dfz7Mjb10 \
         AAAAAAAAAAAAAAAAAAAAAAAAAAAAAAAAAAAAAAAAAAA 5f3t+V831zJzjwYI17EewiHJNC7iGXKl6rgAwQZuiCw\n",
     b"age-position/v2 1 HLJ5VW0R+ctHBkO1vllJE7zhq612YmrsO1dfz7Mjb10 \
@@ -41,18 +41,18 @@ const PLAIN_LEN: usize = 200_000;
 const FILE_LEN: usize = 200_229;
 
 /// How many bytes a pull gives and a put takes at most.
-pub(super) const STEP: usize = 10_000;
+pub(crate) const STEP: usize = 10_000;
 
 /// A text and its file.
 #[derive(Drop)]
-pub(super) struct Example {
-    pub(super) text: Vec<u8>,
-    pub(super) file: Vec<u8>,
+pub(crate) struct Example {
+    pub(crate) text: Vec<u8>,
+    pub(crate) file: Vec<u8>,
 }
 
 /// Which call of a run fails.
 #[derive(Clone, Copy)]
-pub(super) enum Failure {
+pub(crate) enum Failure {
     None,
     /// This pull.
     Pull(u64),
@@ -61,14 +61,14 @@ pub(super) enum Failure {
 }
 
 impl Failure {
-    pub(super) fn pull(&self) -> Option<u64> {
+    pub(crate) fn pull(&self) -> Option<u64> {
         match self {
             Failure::Pull(call) => Some(*call),
             _ => None,
         }
     }
 
-    pub(super) fn put(&self) -> Option<u64> {
+    pub(crate) fn put(&self) -> Option<u64> {
         match self {
             Failure::Put(call) => Some(*call),
             _ => None,
@@ -76,7 +76,7 @@ impl Failure {
     }
 
     // The number of the fault that it makes.
-    pub(super) fn number(&self) -> u8 {
+    pub(crate) fn number(&self) -> u8 {
         match self {
             Failure::None => 0,
             Failure::Pull(_) => 26,
@@ -90,7 +90,7 @@ impl Failure {
 /// source or of the sink, after as many bytes of the whole output as could be written by then, and
 /// a decryption with the position there, from which another run makes the whole text. The same of a
 /// run that goes on from a position. False too where memory is refused.
-pub(super) fn stop_rows(alloc: Global) -> bool {
+pub fn stop_rows(alloc: Global) -> bool {
     let Some(example) = make_example(alloc) else {
         return false;
     };
@@ -123,7 +123,7 @@ fn encrypted(
 }
 
 // What a decryption answers, and what it writes.
-pub(super) fn decrypted(
+pub(crate) fn decrypted(
     alloc: Global,
     file: &[u8],
     failure: Failure,
@@ -196,7 +196,7 @@ fn text_after(puts: u64) -> usize {
 }
 
 // Whether these are so many bytes from the front of others.
-pub(super) fn is_front(bytes: &[u8], len: usize, whole: &[u8]) -> bool {
+pub(crate) fn is_front(bytes: &[u8], len: usize, whole: &[u8]) -> bool {
     bytes.len() == len && whole.starts_with(bytes)
 }
 
@@ -247,7 +247,7 @@ fn is_position_right(
     }
 }
 
-pub(super) fn has_text(alloc: Global, position: &Position, expected: Option<&&[u8; 150]>) -> bool {
+pub(crate) fn has_text(alloc: Global, position: &Position, expected: Option<&&[u8; 150]>) -> bool {
     match (position.text(alloc), expected) {
         (Ok(text), Some(expected)) => text.as_slice() == expected.as_slice(),
         _ => false,

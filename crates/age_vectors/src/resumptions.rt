@@ -1,6 +1,6 @@
 // Decryptions that go on: from each stop of a decryption, and from the position after two chunks
 // while one pull, one put or the flush fails. The positions are Python's.
-use super::stops::{Example, Failure, LOG, PASS, POSITIONS, STEP, decrypted, has_text, is_front};
+use crate::stops::{Example, Failure, LOG, PASS, POSITIONS, STEP, decrypted, has_text, is_front};
 use age_file::{Done, MemSink, MemSource, Position, Stopped, resume};
 use age_keys::Passphrase;
 use std::alloc::Global;
@@ -44,7 +44,7 @@ fn resumed(alloc: Global, rest: &Rest<'_>) -> Option<(Result<Done, Stopped>, Vec
 /// Whether each stop of a decryption with a position can be gone on from; whether positions and old
 /// texts of other kinds are refused; and whether a resumed run stops as it has to where one call
 /// fails, and can be gone on from in its turn.
-pub(super) fn resume_rows(alloc: Global, example: &Example) -> bool {
+pub(crate) fn resume_rows(alloc: Global, example: &Example) -> bool {
     let Some(text) = POSITIONS.get(2) else {
         return false;
     };
