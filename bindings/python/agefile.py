@@ -126,7 +126,7 @@ class AgeReader(io.RawIOBase):
         self._ended = False
         self._rest = self._begin(passphrase, file_key, shared, max_work)
         self._payload_at = self._begun = None
-        if file.seekable():
+        if hasattr(file, "seekable") and file.seekable():
             self._payload_at, self._begun = file.tell() - len(self._rest), bytes(self._state)
 
     def _begin(self, passphrase, file_key, shared, max_work):
@@ -244,28 +244,36 @@ class AgeReader(io.RawIOBase):
         super().close()
 
 
+def _begun(passphrase, work):
+    """A writer's state, and what stands before the payload."""
+    state, out, written = _WriterState(), _Bytes(SEAL_FRONT), ctypes.c_size_t()
+    secret, random = _Bytes(_secret(passphrase)), _Bytes(os.urandom(48))
+    answer = _C.age_c_seal_passphrase(*_given(secret), work, *_given(random), *_given(out), written, state)
+    if answer != 0:
+        raise AgeError(answer)
+    return state, out.view[:written.value]
+
+
 class AgeWriter(io.BufferedIOBase):
     """An age file that is being written. It is whole once close() returned; abandon() leaves one that every reader refuses."""
 
-    def __init__(self, file, passphrase, work=18, owned=False):
+    def __init__(self, file, begun, owned=False):
         super().__init__()
         self._file, self._owned = file, owned
-        self._state = _WriterState()
+        self._state, front = begun
         self._text, self._count = bytearray(), 0
         self._out, self._written = _Bytes(BLOCK), ctypes.c_size_t()
-        secret, random = _Bytes(_secret(passphrase)), _Bytes(os.urandom(48))
-        self._put(_C.age_c_seal_passphrase(*_given(secret), work, *_given(random), *_given(self._out), self._written, self._state))
+        self._write(front)
 
-    def _put(self, answer):
-        if answer != 0:
-            raise AgeError(answer)
-        out = self._out.view[:self._written.value]
+    def _write(self, out):
         while out:
             out = out[self._file.write(out) or 0:]
 
     def _seal(self, call, text):
-        given = _Bytes(text)
-        self._put(call(self._state, *_given(given), *_given(self._out), self._written))
+        answer = call(self._state, *_given(_Bytes(text)), *_given(self._out), self._written)
+        if answer != 0:
+            raise AgeError(answer)
+        self._write(self._out.view[:self._written.value])
 
     def writable(self):
         return True
@@ -287,7 +295,8 @@ class AgeWriter(io.BufferedIOBase):
         return self._count
 
     def flush(self):
-        if not self.closed:
+        """Passes on what is sealed; a chunk that isn't full stays."""
+        if not self.closed and not getattr(self._file, "closed", False):
             self._file.flush()
 
     def close(self):
@@ -296,7 +305,7 @@ class AgeWriter(io.BufferedIOBase):
             return
         try:
             self._seal(_C.age_c_seal_end, self._text)
-            self._file.flush()
+            self.flush()
         finally:
             self.abandon()
 
@@ -339,13 +348,15 @@ def open(file, mode="rb", *, passphrase=None, file_key=None, shared=None, work=1
         raise ValueError(f"bad mode {mode!r}")
     if mode[0] != "r" and passphrase is None:
         raise ValueError("a passphrase is needed")
+    # what can't be begun leaves the file as it is
+    begun = None if mode[0] == "r" else _begun(passphrase, work)
     owned = isinstance(file, (str, bytes, os.PathLike))
     under = builtins.open(file, mode[0] + "b") if owned else file
     try:
         if mode[0] == "r":
             made = io.BufferedReader(AgeReader(under, passphrase, file_key, shared, max_work, owned), CHUNK)
         else:
-            made = AgeWriter(under, passphrase, work, owned)
+            made = AgeWriter(under, begun, owned)
     except BaseException:
         if owned:
             under.close()

@@ -1,2 +1,3 @@
+mod commands;
 mod output;
 mod progress_line;
