@@ -7,7 +7,6 @@
 use age_stanza::{HeadParser, HeadStep, Header};
 use std::io;
 use std::io::Read;
-use std::rt::{Alloc, Stdio};
 
 const MOST_PIECES: u32 = 512;
 
