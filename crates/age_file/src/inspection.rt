@@ -14,8 +14,11 @@ use crate::reader::Reader;
 use crate::report::{Report, StanzaReport, StanzaReports};
 use age_fault::FileFault;
 use age_io::Source;
-use age_stanza::{Bytes, Stanza};
+use age_stanza::{Bytes, Stanza, Stanzas};
 use std::alloc::{AllocError, Global};
+
+/// How many stanzas give their memory back at once.
+const STANZAS_AT_ONCE: usize = 4_096;
 
 /// Counts the bytes that are left, to the end of the source.
 fn count_rest<S: Source>(reader: &mut Reader<'_, S>) -> Result<u128, FileFault>
@@ -55,12 +58,19 @@ fn stanza_report_of(alloc: Global, stanza: &Stanza) -> Result<StanzaReport, Allo
     })
 }
 
-fn reports_of(alloc: Global, stanzas: &[Stanza]) -> Result<StanzaReports, AllocError>
-    ensures { IfOk result (λ r. r ≡ map stanza_report stanzas.now) }
+/// The reports on stanzas. They give their memory back on the way, so that the two lists take hardly
+/// more than the stanzas did.
+fn reports_of(alloc: Global, stanzas: Stanzas) -> Result<StanzaReports, AllocError>
+    ensures { IfOk result (λ r. r ≡ map stanza_report stanzas) }
 {
     let mut reports = StanzaReports::new(alloc);
-    for stanza in stanzas {
-        reports.push(stanza_report_of(alloc, stanza)?)?;
+    let mut left = stanzas.into_vec();
+    left.reverse();
+    'stanzas: while let Some(stanza) = left.pop() {
+        reports.push(stanza_report_of(alloc, &stanza)?)?;
+        if left.len() % STANZAS_AT_ONCE == 0 {
+            left.shrink_to_fit();
+        }
     }
     Ok(reports)
 }
@@ -103,7 +113,7 @@ pub fn inspect<S: Source>(alloc: Global, source: &mut S) -> Result<Report, FileF
     };
     let head = read_head(alloc, &mut reader)?;
     // all memory is taken before the rest is read
-    let stanzas = reports_of(alloc, head.header.stanzas.as_slice())?;
+    let stanzas = reports_of(alloc, head.header.stanzas)?;
     let rest = count_rest(&mut reader)?;
     Ok(Report {
         header: head.len,

@@ -75,7 +75,8 @@ impl<'r> HostFiles<'r> {
         }
     }
 
-    /// Replaces a file that was prepared, unless it is open now, or standard error.
+    /// Replaces a file that was prepared, unless it is open now, or standard error, or in another
+    /// folder.
     fn replace_prepared(
         &self,
         alloc: Global,
@@ -84,7 +85,7 @@ impl<'r> HostFiles<'r> {
         durability: Durability,
     ) -> io::Result<()> {
         let identity = prepared.identity(self.rt);
-        if is_for_faults(self.rt, identity) {
+        if !prepared.is_in_place(self.rt)? || is_for_faults(self.rt, identity) {
             return Err(io::Error::from(io::ErrorKind::AlreadyExists));
         }
         let opened = self.open.as_slice();
@@ -192,7 +193,7 @@ fn replace_apart(
     if is_known(opened, identity) {
         return Err(io::Error::from(io::ErrorKind::AlreadyExists));
     }
-    replace(alloc, rt, prepared.place(), bytes, durability)
+    replace(alloc, rt, prepared, bytes, durability)
 }
 
 /// Running out of memory is reported as such, and anything else as `other`.

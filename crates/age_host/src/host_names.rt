@@ -146,6 +146,22 @@ impl Identity {
     }
 }
 
+/// Which file one is, of whatever kind, while it is there.
+#[derive(Clone, Copy, PartialEq, Eq)]
+pub(crate) struct Node {
+    device: u64,
+    inode: u64,
+}
+
+impl Node {
+    pub(crate) fn of(metadata: &Metadata) -> Node {
+        Node {
+            device: metadata.dev(),
+            inode: metadata.ino(),
+        }
+    }
+}
+
 /// Whether a file holds bytes that can reach a disk.
 pub(crate) fn is_on_disk(metadata: &Metadata) -> bool {
     let kind = metadata.file_type();

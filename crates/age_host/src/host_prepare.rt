@@ -1,6 +1,6 @@
 //! A file of the machine that is to be replaced later.
 
-use crate::host_names::{Identity, Place, Stream, found_at, is_on_disk, place_of};
+use crate::host_names::{Identity, Node, Place, Stream, found_at, is_on_disk, place_of};
 use crate::host_paths::open_to_write;
 use crate::host_sync::folder_of;
 use std::alloc::Global;
@@ -14,6 +14,10 @@ use std::rt::HostRuntime;
 pub(crate) struct Prepared {
     name: String,
     place: Place,
+    // The folder of its path, without links; `None` where that can't be told.
+    folder: Option<PathBuf>,
+    // The pipe or the device to which the name led, where it was one.
+    device: Option<Node>,
     // A file that it may be although that is open.
     spared: Option<Identity>,
 }
@@ -29,20 +33,41 @@ impl Prepared {
         spared: Option<Identity>,
     ) -> io::Result<Prepared> {
         let place = place_of(alloc, rt, name)?;
-        match &place {
+        let device = match &place {
             Place::Stream(stream) => check_stream(rt, *stream)?,
             Place::Path(path) => check_path(rt, name, path)?,
-        }
+        };
+        let folder = folder_in(rt, &place)?;
         Ok(Prepared {
             name: String::from_str(alloc, name)?,
             place,
+            folder,
+            device,
             spared,
         })
+    }
+
+    /// Whether its path still leads to the same folder, so that no new link is followed.
+    pub(crate) fn is_in_place(&self, rt: &HostRuntime) -> io::Result<bool> {
+        match (&self.folder, folder_in(rt, &self.place)?) {
+            (Some(before), Some(now)) => Ok(before.as_str() == now.as_str()),
+            (None, None) => Ok(true),
+            _ => Ok(false),
+        }
     }
 
     /// Whether it was prepared under this name.
     pub(crate) fn is_named(&self, name: &str) -> bool {
         self.name.as_str() == name
+    }
+
+    /// The pipe or the device to which the name led, where it was one, with that name: no path may
+    /// lead to it, as where the name is that of a descriptor.
+    pub(crate) fn device(&self) -> Option<(&str, Node)> {
+        match self.device {
+            Some(node) => Some((self.name.as_str(), node)),
+            None => None,
+        }
     }
 
     /// Where its name led.
@@ -52,8 +77,23 @@ impl Prepared {
 
     /// Which file is there now, where that can be told, unless it may be open.
     pub(crate) fn identity(&self, rt: &HostRuntime) -> Option<Identity> {
-        let found = identity_in(rt, &self.place);
+        let found = match self.device {
+            Some(_) => Identity::at(rt, self.name.as_str()),
+            None => identity_in(rt, &self.place),
+        };
         if found == self.spared { None } else { found }
+    }
+}
+
+/// The folder of the path of a place, without links, where that can be told.
+fn folder_in(rt: &HostRuntime, place: &Place) -> io::Result<Option<PathBuf>> {
+    let Place::Path(path) = place else {
+        return Ok(None);
+    };
+    match fs::canonicalize(rt, folder_of(path)) {
+        Ok(folder) => Ok(Some(folder)),
+        Err(error) if error.kind() == io::ErrorKind::OutOfMemory => Err(error),
+        Err(_) => Ok(None),
     }
 }
 
@@ -69,36 +109,46 @@ fn identity_in(rt: &HostRuntime, place: &Place) -> Option<Identity> {
 }
 
 /// Fails where a stream can't be written.
-fn check_stream(rt: &HostRuntime, stream: Stream) -> io::Result<()> {
-    match stream {
-        Stream::Input => Err(io::Error::from(io::ErrorKind::Unsupported)),
-        _ => stream.check(rt),
+fn check_stream(rt: &HostRuntime, stream: Stream) -> io::Result<Option<Node>> {
+    if let Stream::Input = stream {
+        return Err(io::Error::from(io::ErrorKind::Unsupported));
     }
+    stream.check(rt)?;
+    Ok(None)
 }
 
-/// Fails where a file can't be written, by the name that leads to it and by its path.
-fn check_path(rt: &HostRuntime, name: &str, path: &PathBuf) -> io::Result<()> {
+/// Fails where a file can't be written, by the name that leads to it and by its path; says which
+/// pipe or device it is, if it is one.
+fn check_path(rt: &HostRuntime, name: &str, path: &PathBuf) -> io::Result<Option<Node>> {
     match fs::metadata(rt, name) {
         Ok(found) => check_found(rt, name, path, &found),
-        Err(error) if error.kind() == io::ErrorKind::NotFound => check_folder(rt, path),
+        Err(error) if error.kind() == io::ErrorKind::NotFound => {
+            check_folder(rt, path)?;
+            Ok(None)
+        }
         Err(error) => Err(error),
     }
 }
 
 /// Fails where the file to which a name leads can't be written, or isn't the one at the path.
-fn check_found(rt: &HostRuntime, name: &str, path: &PathBuf, found: &Metadata) -> io::Result<()> {
+fn check_found(
+    rt: &HostRuntime,
+    name: &str,
+    path: &PathBuf,
+    found: &Metadata,
+) -> io::Result<Option<Node>> {
     if found.is_dir() {
         return Err(io::Error::from(io::ErrorKind::IsADirectory));
     }
     if !is_on_disk(found) {
-        return Ok(());
+        return Ok(Some(Node::of(found)));
     }
     match found_at(rt, path.as_str())? {
         Some(there) if Identity::of(&there) == Identity::of(found) => {}
         _ => return Err(io::Error::from(io::ErrorKind::NotFound)),
     }
     open_to_write(rt, name)?;
-    Ok(())
+    Ok(None)
 }
 
 /// Fails where no file can be made at a path, since it has no name or its folder isn't there.

@@ -1,15 +1,15 @@
 //! Replaces a file of the machine as a whole.
 
-use crate::host_names::{Place, found_at};
+use crate::host_names::{Node, Place, found_at};
 use crate::host_out::HostOut;
 use crate::host_paths::{POSITION_MODE, make_file, open_to_write, remove};
+use crate::host_prepare::Prepared;
 use crate::host_sync::{sync, sync_folder};
 use age_fault::write_all;
 use age_io::Durability;
 use std::alloc::Global;
 use std::fs::{self, File, Metadata, Permissions};
 use std::io::{self, Write};
-use std::os::unix::fs::MetadataExt;
 use std::path::PathBuf;
 use std::rt::HostRuntime;
 
@@ -149,16 +149,13 @@ fn make_directly(
     }
 }
 
-/// The file that was found at a path, open to be written. Fails where another is opened there, so
-/// that no link is followed.
-fn open_found(rt: &HostRuntime, path: &PathBuf, found: &Metadata) -> io::Result<File> {
-    if let Some(file) = open_to_write(rt, path.as_str())? {
-        let opened = file.metadata()?;
-        if opened.dev() == found.dev() && opened.ino() == found.ino() {
-            return Ok(file);
-        }
+/// The file that was found at a name, open to be written. Fails where another is opened there, so
+/// that no new link is followed.
+fn open_found(rt: &HostRuntime, name: &str, found: Node) -> io::Result<File> {
+    match open_to_write(rt, name)? {
+        Some(file) if Node::of(&file.metadata()?) == found => Ok(file),
+        _ => Err(io::Error::from(io::ErrorKind::NotFound)),
     }
-    Err(io::Error::from(io::ErrorKind::NotFound))
 }
 
 /// Makes a file of these bytes at a path where there is none, or a link, which it replaces.
@@ -186,7 +183,7 @@ fn replace_found(
     bytes: &[u8],
     durability: Durability,
 ) -> io::Result<()> {
-    let file = open_found(rt, path, found)?;
+    let file = open_found(rt, path.as_str(), Node::of(found))?;
     if found.is_file() {
         match replace_beside(
             alloc,
@@ -204,16 +201,20 @@ fn replace_found(
     fill_directly(rt, HostOut::over(file)?, bytes, durability)
 }
 
-/// Puts a file of these bytes in a place, without following a link that has come there. A regular
-/// file stays as it is until the new one is whole, where its folder allows that.
+/// Puts a file of these bytes where a name led, without following a link that has come there. A
+/// regular file stays as it is until the new one is whole, where its folder allows that.
 pub(crate) fn replace(
     alloc: Global,
     rt: &HostRuntime,
-    place: &Place,
+    prepared: &Prepared,
     bytes: &[u8],
     durability: Durability,
 ) -> io::Result<()> {
-    match place {
+    if let Some((name, device)) = prepared.device() {
+        let file = open_found(rt, name, device)?;
+        return fill_directly(rt, HostOut::over(file)?, bytes, durability);
+    }
+    match prepared.place() {
         Place::Stream(stream) => {
             fill_directly(rt, HostOut::of_stream(rt, *stream)?, bytes, durability)
         }

@@ -1,8 +1,8 @@
 //! Each command, over files in memory.
 
 use age_cli::{MemFiles, run};
+use age_host::ProgressLine;
 use age_io::{MemSink, MemSource};
-use age_io::ProgressLine;
 use std::alloc::Global;
 
 /// The room of a file that is written, where it isn't to be full.

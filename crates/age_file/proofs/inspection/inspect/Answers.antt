@@ -52,7 +52,7 @@ returns-clause-ok g c =
         text = head.text;
         parts = refl;
         header_is = head.len_is;
-        stanzas_are = rw (← c.as_slice.ensures) reports;
+        stanzas_are = reports;
         rest_is = counted.1;
         plain_is = rw (← counted.1) c.plain_of.ensures;
       },
