@@ -15,9 +15,9 @@ use Rattle.age_keys.specs.Keys.{wrapped_key}
 use Rattle.age_keys.specs.Scrypt.{wrap_key, scrypt_stanza, scrypt_head}
 
 three_arguments : (a b c body : List ℕ) → length (stanza_text (record { args = a ∷ b ∷ c ∷ []; body = body }))
-    ≡ length a + length b + length c + length (in_lines 0 (base64_text body)) + 6
+    ≡ length a + length b + length c + length (in_lines (base64_text body)) + 6
 three_arguments a b c body =
-    let lines : List ℕ = in_lines 0 (base64_text body) in
+    let lines : List ℕ = in_lines (base64_text body) in
     let args : List ℕ = flat_map (λ x. 32 ∷ x) (a ∷ b ∷ c ∷ []) in
     let whole = length-append (line (codes "->" ++ args)) lines in
     let ended = length-append (codes "->" ++ args) (10 ∷ []) in

@@ -5,8 +5,10 @@ use Rattle.std.specs.Prelude.{Option, IfSome}
 use Rattle.std.specs.List.{flat_map}
 use Rattle.std.specs.Borrow.{Bor}
 use Rattle.std.proofs.lemmas.List.{length-append, length-drop, nil_from_length}
+use Rattle.std.proofs.lemmas.Grind.{flat_map-append}
 use Rattle.age_stream.specs.Segment.{Segment, outcome, released, rest_bytes}
 use Rattle.age_stream.specs.Deliveries.{with_piece, with_end}
+use Rattle.age_stream.specs.Lent.{chunk_bytes}
 use Rattle.age_stream.specs.Opening.{OpenerView, Stands, chunk_texts}
 use Rattle.age_stream.specs.declared.step.Status.{Status}
 use Rattle.age_stream.specs.declared.step.Status.TheVariants.{Open}
@@ -93,6 +95,19 @@ pub rest_text : (op : List ℕ → List ℕ → Option (List ℕ)) (s next : Seg
 rest_text op s next chunk held new taken e lent none lt =
     let no = no_text chunk held new taken lent none lt in
     ap (flat_map (λ (t : List ℕ). t)) (e ∙ (ap (λ (ts : List (List ℕ)). (outcome op 65536 s).texts ++ ts) no ∙ append-nil (outcome op 65536 s).texts))
+
+-- what a block released is what was lent of it
+bytes_of_texts : (chunk : Option (Bor (List ℕ))) → flat_map (λ (t : List ℕ). t) (chunk_texts chunk) ≡ chunk_bytes chunk
+bytes_of_texts None = refl
+bytes_of_texts (Some c) = append-nil c.now
+
+pub block_text : (op : List ℕ → List ℕ → Option (List ℕ)) (s next : Segment) (chunk : Option (Bor (List ℕ))) (text : List ℕ)
+    → (outcome op 65536 next).texts ≡ (outcome op 65536 s).texts ++ chunk_texts chunk → text ≡ chunk_bytes chunk
+    → released op 65536 next ≡ released op 65536 s ++ text
+block_text op s next chunk text e is =
+    ap (flat_map (λ (t : List ℕ). t)) e
+    ∙ (flat_map-append (λ (t : List ℕ). t) (outcome op 65536 s).texts (chunk_texts chunk)
+    ∙ ap (λ (x : List ℕ). released op 65536 s ++ x) (bytes_of_texts chunk ∙ sym is))
 
 -- what an opener released, of its reader
 pub text_at : (r : Reader) (status : Status) (o : OpenerView (List ℕ)) (s next : Segment) (text : List ℕ) → o ≡ opener_of r status
