@@ -1,2 +1,3 @@
 pub mod Nonces
 pub mod BytesLaw
+pub mod FirstChunks

@@ -1,6 +1,6 @@
 -- What a block opens to, computed. The definition of opening is the sealing alone: a block opens to
 -- a text where it is that text's sealing. The law `OpensSealings` says that this computes it. It is
--- for crates above, whose boxes may mean it.
+-- for crates above, whose boxes may use it.
 use Rattle.std.specs.Prelude.{ℕ, ◌-◌, List, length, take, Option, Some, None, if◌then◌else◌}
 use Rattle.std.specs.Str.{bytes_eq}
 use Rattle.age_cipher.specs.Keystream.{ciphertext}

@@ -48,9 +48,9 @@ fn draw(generator: &mut ChaCha20Rng, words: &mut [u32])
 
 /// Draws four blocks, from the one of this number on.
 ///
-/// The generator holds four blocks, and asks at each word whether they are used up. Here the
-/// compiler knows the answers: at a block's first word the generator holds none, and eight words at
-/// a time are few enough for it to unroll each loop.
+/// The generator holds four blocks, and checks at each word whether they are used up. Here the
+/// compiler knows whether they are: at a block's first word the generator holds none, and eight
+/// words at a time are few enough for it to unroll each loop.
 fn draw_blocks(generator: &mut ChaCha20Rng, number: u64, words: &mut [u32; 64])
     ensures words { (k : ℕ) → k < 64
         → slice_index words.new k
@@ -72,7 +72,7 @@ fn draw_blocks(generator: &mut ChaCha20Rng, number: u64, words: &mut [u32; 64])
 /// Changes each byte of a text by the keystream's byte at its place, from block `counter` on
 /// (RFC 8439, 2.4). The same call again gives the text back.
 ///
-/// It asks that the keystream reaches: with 64 bytes a block, `64 * counter` and the text's length
+/// The keystream must be long enough: with 64 bytes a block, `64 * counter` and the text's length
 /// are together at most 2^38.
 pub fn xor_stream(key: &[u8; 32], nonce: &[u8; 12], counter: u32, text: &mut [u8])
     requires { 64 * counter + length text.old ≤ 2 ^ 38 }

@@ -3,7 +3,7 @@ use Rattle.std.proofs.Common.{inl, ◌≡◌, ℕ, ◌<◌, ◌≤◌, ◌+◌, 
 use Rattle.std.specs.Prelude.{Option, Some, None, map}
 use Rattle.std.specs.List.{AllByRecursion}
 use Rattle.std.proofs.lemmas.List.{take_at, drop_at}
-use Rattle.age_chunk.specs.ChunkBoxes.{IsChunkBox}
+use Rattle.age_chunk.specs.ChunkBoxes.{IsChunkBox, tag_length}
 use Rattle.age_chunk.specs.Nonce.{nonce_bytes, chunk_limit}
 use Rattle.age_chunk.specs.Payload.{payload, chunk_count, last_index, last_chunk}
 use Rattle.age_stream.specs.Segment.{Segment}
@@ -58,7 +58,7 @@ module _ (sealing : List ℕ → List ℕ → List ℕ) (opening : List ℕ → 
       → AreAuthentic sealing opening n text deliveries
   whole_right closed deliveries w =
       let is = whole_standing deliveries w in
-      let z : 0 * (n + 16) ≡ 0 = omega arith in
+      let z : 0 * (n + tag_length) ≡ 0 = omega arith in
       let last : Segment = record { start = 0; bytes = payload sealing n text; ended = true; late = false } in
       let rest : IsRest sealing opening n text last =
       record { below = omega arith; bytes = ap (λ (k : ℕ). drop k (payload sealing n text)) (sym z); ended = refl; timely = refl } in
@@ -73,7 +73,7 @@ module _ (sealing : List ℕ → List ℕ → List ℕ) (opening : List ℕ → 
       let s = standing opening n u.front in
       let F : Segment → Standing = λ x. record { given_up = s.given_up; base = s.base; segment = x; refused = s.refused } in
       let G : List ℕ → Segment = λ bs. record { start = k; bytes = bs; ended = true; late = false } in
-      let last = G (drop (k * (n + 16)) (payload sealing n text)) in
+      let last = G (drop (k * (n + tag_length)) (payload sealing n text)) in
       let is : standing opening n deliveries ≡ F last =
       ap (standing opening n) u.is
       ∙ (on_from opening n u.front (map Piece u.pieces ++ End ∷ []) begin
@@ -89,7 +89,7 @@ module _ (sealing : List ℕ → List ℕ → List ℕ) (opening : List ℕ → 
 
   pub comes_back : IsClosed sealing opening n text → GivesBack opening n (payload sealing n text) text
   comes_back closed deliveries w =
-      let z : 0 * (n + 16) ≡ 0 = omega arith in
+      let z : 0 * (n + tag_length) ≡ 0 = omega arith in
       let u : IsUndamaged sealing opening n text 0 deliveries =
       record {
         front = [];

@@ -1,5 +1,5 @@
 -- What one block gives, by what it opens to.
-use Rattle.std.proofs.Common.{◌≡◌, ℕ, ◌+◌, ◌-◌, ◌<◌, ap, sym, ◌∙◌, List, [], ◌∷◌, length, take, Bool, true, false, arith}
+use Rattle.std.proofs.Common.{◌≡◌, ℕ, ◌+◌, ◌<◌, ap, sym, ◌∙◌, List, [], ◌∷◌, length, take, Bool, true, false, arith}
 use Rattle.std.specs.Prelude.{Option, Some, None, Ok, Err, if◌then◌else◌}
 use Rattle.std.proofs.lemmas.Bool.{lt-ltb, le-ltb}
 use Rattle.age_chunk.specs.Nonce.{nonce_bytes, chunk_limit}
@@ -12,6 +12,7 @@ use Rattle.age_stream.specs.inner.OpenerSteps.{IsTried}
 use Rattle.age_chunk.specs.declared.fault.StreamFault.{StreamFault}
 use Rattle.age_chunk.specs.declared.fault.StreamKind.{StreamKind}
 use Rattle.age_chunk.specs.declared.fault.StreamKind.TheVariants.{ChunkDamaged, TooManyChunks}
+use Rattle.age_chunk.specs.ChunkBoxes.{text_length}
 
 module _ (opening : List ℕ → List ℕ → Option (List ℕ)) (i : ℕ) (block : List ℕ) (closed : opening (nonce_bytes i false) block ≡ None) where
   skips : one_block opening i block ≡ after_last opening [] i (opening (nonce_bytes i true) block) false false
@@ -42,23 +43,23 @@ module _ (opening : List ℕ → List ℕ → Option (List ℕ)) (i : ℕ) (bloc
 
 -- the same where the block is in a buffer of n bytes, whose front is the text once it was opened
 module _ (opening : List ℕ → List ℕ → Option (List ℕ)) (i n : ℕ) (block new : List ℕ) (len : length block ≡ n) where
-  pub before_in : opening (nonce_bytes i false) block ≡ Some (take (length block - 16) new) → i + 1 < chunk_limit
-      → one_block opening i block ≡ record { texts = take (n - 16) new ∷ []; index = i + 1; status = Open }
-  before_in opens lt = one_block-before opening i block (take (n - 16) new) (opens ∙ ap (λ (k : ℕ). Some (take (k - 16) new)) len) lt
+  pub before_in : opening (nonce_bytes i false) block ≡ Some (take (text_length (length block)) new) → i + 1 < chunk_limit
+      → one_block opening i block ≡ record { texts = take (text_length n) new ∷ []; index = i + 1; status = Open }
+  before_in opens lt = one_block-before opening i block (take (text_length n) new) (opens ∙ ap (λ (k : ℕ). Some (take (text_length k) new)) len) lt
 
   pub last_in : (tried : List ℕ) → opening (nonce_bytes i false) block ≡ None → tried ≡ block
-      → opening (nonce_bytes i true) tried ≡ Some (take (length tried - 16) new)
-      → one_block opening i block ≡ record { texts = take (n - 16) new ∷ []; index = i; status = LastSeen }
+      → opening (nonce_bytes i true) tried ≡ Some (take (text_length (length tried)) new)
+      → one_block opening i block ≡ record { texts = take (text_length n) new ∷ []; index = i; status = LastSeen }
   last_in tried closed same opens =
-      one_block-last opening i block closed (take (n - 16) new) (ap (opening (nonce_bytes i true)) (sym same)
-      ∙ (opens ∙ ap (λ (k : ℕ). Some (take (k - 16) new)) (ap length same ∙ len)))
+      one_block-last opening i block closed (take (text_length n) new) (ap (opening (nonce_bytes i true)) (sym same)
+      ∙ (opens ∙ ap (λ (k : ℕ). Some (take (text_length k) new)) (ap length same ∙ len)))
 
   pub neither_in : (tried : List ℕ) → opening (nonce_bytes i false) block ≡ None → tried ≡ block → opening (nonce_bytes i true) tried ≡ None
       → one_block opening i block ≡ record { texts = []; index = i; status = failed ChunkDamaged i }
   neither_in tried closed same none = one_block-neither opening i block closed (ap (opening (nonce_bytes i true)) (sym same) ∙ none)
 
 module _ {B : Type 0} {n : ℕ} {g : _} (old new : OpenerState B n g) (outcome : Outcome) (key : new.key ≡ old.key) where
-  pub tried_text : (i : ℕ) (status : Status) → outcome ≡ record { texts = take (n - 16) new.buffer.items ∷ []; index = i; status = status }
+  pub tried_text : (i : ℕ) (status : Status) → outcome ≡ record { texts = take (text_length n) new.buffer.items ∷ []; index = i; status = status }
       → new.index ≡ i → new.status ≡ status → new.lent ≡ true → length new.buffer.items ≡ n → IsTried outcome old (Ok tt) new
   tried_text i status is at stands lent len = record {
     key = key;

@@ -1,22 +1,11 @@
 -- Facts about the chunks of a text.
-use Rattle.std.proofs.Common.{inl, inr, ◌≡◌, ℕ, zero, suc, ◌<◌, ◌≤◌, ◌+◌, ◌*◌, ◌-◌, ◌/◌, refl, ap, ◌∙◌, List, [], ◌∷◌, ◌++◌, length, take, drop, get_or, arith}
-use Rattle.std.specs.Simd.{first_chunks}
+use Rattle.std.proofs.Common.{inl, inr, ◌≡◌, ℕ, zero, suc, ◌<◌, ◌≤◌, ◌+◌, ◌*◌, ◌-◌, ◌/◌, refl, ap, ◌∙◌, List, [], ◌∷◌, ◌++◌, length, get_or, arith}
 use Rattle.std.specs.Prelude.{slice_get, Some, None}
-use Rattle.std.proofs.lemmas.List.{drop-drop, length-drop, drop-append-le, take-append-le}
+use Rattle.std.proofs.lemmas.List.{length-drop}
 use Rattle.std.specs.List.{enumerate_from}
 use Rattle.std.proofs.lemmas.Bool.{cases_lt}
 use Rattle.std.proofs.Math.Nat.{le-div_iff_mul-le}
 use Rattle.age_chunk.specs.Payload.{last_index, last_chunk}
-
-pub length-first_chunks : (n c : ℕ) (xs : List ℕ) → length (first_chunks n c xs) ≡ c
-length-first_chunks n zero xs = refl
-length-first_chunks n (suc c) xs = ap (λ (k : ℕ). suc k) (length-first_chunks n c (drop n xs))
-
-pub get_or-first_chunks : (n c : ℕ) (xs : List ℕ) (j : ℕ) (d : List ℕ) → j < c → get_or (first_chunks n c xs) j d ≡ take n (drop (j * n) xs)
-get_or-first_chunks n zero xs j d h = absurd (omega arith)
-get_or-first_chunks n (suc c) xs zero d h = let z : 0 ≡ 0 * n = omega arith in ap (λ (k : ℕ). take n (drop k xs)) z
-get_or-first_chunks n (suc c) xs (suc j) d h =
-    get_or-first_chunks n c (drop n xs) j d (omega arith) ∙ ap (take n) (drop-drop (j * n) n xs ∙ ap (λ (k : ℕ). drop k xs) (omega arith))
 
 -- the last index is the one whose chunk the text ends in
 pub text_le : (n : ℕ) (text : List ℕ) → 0 < n → length text ≤ (last_index n text + 1) * n
@@ -29,23 +18,6 @@ text_le n text positive =
 
 pub last_chunk_le : (n : ℕ) (text : List ℕ) → 0 < n → length (last_chunk n text) ≤ n
 last_chunk_le n text positive = omega (arith, length-drop (last_index n text * n) text, text_le n text positive)
-
-pub first_chunks_more : (n c : ℕ) (xs : List ℕ) → first_chunks n (suc c) xs ≡ first_chunks n c xs ++ take n (drop (c * n) xs) ∷ []
-first_chunks_more n zero xs = let z : 0 ≡ 0 * n = omega arith in ap (λ (k : ℕ). take n (drop k xs) ∷ []) z
-first_chunks_more n (suc c) xs =
-    let e : n + c * n ≡ suc c * n = omega arith in
-    ap (λ (rest : List (List ℕ)). take n xs ∷ rest)
-    (first_chunks_more n c (drop n xs) ∙ ap (λ (ys : List ℕ). first_chunks n c (drop n xs) ++ take n ys ∷ []) (drop-drop (c * n) n xs
-    ∙ ap (λ (k : ℕ). drop k xs) e))
-
-pub first_chunks-append : (n c : ℕ) (xs ys : List ℕ) → c * n ≤ length xs → first_chunks n c (xs ++ ys) ≡ first_chunks n c xs
-first_chunks-append n zero xs ys h = refl
-first_chunks-append n (suc c) xs ys h =
-    let e : suc c * n ≡ c * n + n = omega arith in
-    let one : n ≤ length xs = omega (arith, h, e) in
-    let rest : c * n ≤ length (drop n xs) = omega (arith, h, e, length-drop n xs) in
-    ap (λ (x : List ℕ). x ∷ first_chunks n c (drop n (xs ++ ys))) (take-append-le n xs ys one)
-    ∙ ap (λ (cs : List (List ℕ)). take n xs ∷ cs) (ap (first_chunks n c) (drop-append-le n xs ys one) ∙ first_chunks-append n c (drop n xs) ys rest)
 
 pub enumerate_from_more : {X : Type 0} (k : ℕ) (xs : List X) (x : X) → enumerate_from k (xs ++ x ∷ []) ≡ enumerate_from k xs ++ (k + length xs, x) ∷ []
 enumerate_from_more k [] x = let z : k ≡ k + 0 = omega arith in ap (λ (i : ℕ). (i, x) ∷ []) z

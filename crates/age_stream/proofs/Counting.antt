@@ -7,14 +7,14 @@ use Rattle.std.proofs.lemmas.List.{length-append, append_assoc, take_at, drop_at
 use Rattle.std.proofs.lemmas.Grind.{flat_map-append}
 use Rattle.std.proofs.Math.Nat.{le-div_iff_mul-le}
 use Rattle.age_chunk.specs.Nonce.{nonce_bytes, chunk_limit}
-use Rattle.age_chunk.specs.ChunkBoxes.{IsChunkBox}
+use Rattle.age_chunk.specs.ChunkBoxes.{IsChunkBox, tag_length}
 use Rattle.age_stream.specs.Segment.{Segment, Outcome, outcome, front_texts, text_then, text_before_last, unless_greatest, whole_blocks, rest_bytes, released}
 use Rattle.age_stream.specs.Laws.{IsCounted, counted}
 use Rattle.age_chunk.proofs.Nonces.{nonce_bytes-length}
 use Rattle.age_stream.proofs.Undamaged.{all_full}
 use Rattle.age_stream.proofs.Going.{going, going_outcome, first_chunks-add}
 use Rattle.age_stream.proofs.Growing.{begins_stop, index_stop}
-use Rattle.age_stream.proofs.Chunks.{first_chunks-append, length-first_chunks}
+use Rattle.age_chunk.proofs.FirstChunks.{first_chunks-append, length-first_chunks}
 use Rattle.age_stream.proofs.Table.{by_blocks}
 
 first_chunks-take : (n i d : ℕ) (xs : List ℕ) → take i (first_chunks n (i + d) xs) ≡ first_chunks n i xs
@@ -39,7 +39,7 @@ flat_full n (t ∷ ts) h =
     omega (arith, length-append t (flat_map (λ (t : List ℕ). t) ts), h.0, flat_full n ts h.1, e)
 
 module _ (sealing : List ℕ → List ℕ → List ℕ) (opening : List ℕ → List ℕ → Option (List ℕ)) (valid : IsChunkBox sealing opening) (n : ℕ) where
-  opened_len : (nonce block text : List ℕ) → length nonce ≡ 12 → length block ≡ n + 16 → opening nonce block ≡ Some text → length text ≡ n
+  opened_len : (nonce block text : List ℕ) → length nonce ≡ 12 → length block ≡ n + tag_length → opening nonce block ≡ Some text → length text ≡ n
   opened_len nonce block text h len e = omega (arith, valid.longer nonce text h, ap length (valid.only nonce text block h e), len)
 
   unless : (i : ℕ) (o : Option (List ℕ)) (t : List ℕ) (b : Bool) → cond b o None ≡ Some t → o ≡ Some t
@@ -55,7 +55,7 @@ module _ (sealing : List ℕ → List ℕ → List ℕ) (opening : List ℕ → 
   full_then None rest f h = tt
   full_then (Some t) rest f h = (f t refl, h)
 
-  front_full : (blocks : List (List ℕ)) (i : ℕ) → AllByRecursion (λ (b : List ℕ). length b ≡ n + 16) blocks
+  front_full : (blocks : List (List ℕ)) (i : ℕ) → AllByRecursion (λ (b : List ℕ). length b ≡ n + tag_length) blocks
       → AllByRecursion (λ (t : List ℕ). length t ≡ n) (front_texts opening i blocks)
   front_full [] i h = tt
   front_full (b ∷ bs) i h =
@@ -69,10 +69,10 @@ module _ (sealing : List ℕ → List ℕ → List ℕ) (opening : List ℕ → 
       let texts = front_texts opening s.start blocks in
       let m = length texts in
       let i = (outcome opening n s).index in
-      let behind = nat_lt ((m + 1) * (n + 16)) (length s.bytes) in
-      let pos : 0 < n + 16 = omega arith in
-      let fits : length s.bytes / (n + 16) * (n + 16) ≤ length s.bytes = (le-div_iff_mul-le pos).0 (omega arith) in
-      let full = front_full blocks s.start (all_full (n + 16) (length s.bytes / (n + 16)) s.bytes fits) in
+      let behind = nat_lt ((m + 1) * (n + tag_length)) (length s.bytes) in
+      let pos : 0 < n + tag_length = omega arith in
+      let fits : length s.bytes / (n + tag_length) * (n + tag_length) ≤ length s.bytes = (le-div_iff_mul-le pos).0 (omega arith) in
+      let full = front_full blocks s.start (all_full (n + tag_length) (length s.bytes / (n + tag_length)) s.bytes fits) in
       let same = by_blocks opening n s in
       let at : i ≡ s.start + m = ap (λ (o : Outcome). o.index) same ∙ index_stop opening n texts (s.start + m) (slice_get blocks m) behind
       (rest_bytes n s.bytes) s.late s.ended in

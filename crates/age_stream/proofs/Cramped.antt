@@ -1,5 +1,5 @@
 -- Where more room is asked for, more bytes than a tag has came.
-use Rattle.std.proofs.Common.{inl, inr, ◌≡◌, ℕ, ◌<◌, ◌≤◌, ◌+◌, ◌*◌, ◌-◌, ◌/◌, refl, ap, sym, ◌∙◌, List, [], ◌∷◌, ◌++◌, length, take, drop, get_or, arith}
+use Rattle.std.proofs.Common.{inl, inr, ◌≡◌, ℕ, ◌<◌, ◌≤◌, ◌+◌, ◌*◌, ◌/◌, refl, ap, sym, ◌∙◌, List, [], ◌∷◌, ◌++◌, length, take, drop, get_or, arith}
 use Rattle.std.specs.Prelude.{Option, Result, Ok, Err, OnErr}
 use Rattle.std.specs.List.{flat_map}
 use Rattle.std.proofs.lemmas.Grind.{flat_map-append}
@@ -15,6 +15,7 @@ use Rattle.age_stream.specs.Deliveries.{Standing, standing, standing_from, begin
 use Rattle.age_stream.specs.Opening.{OpenerView, Stands, while_open, whole_text}
 use Rattle.age_stream.specs.Replaying.{ReplayView, IsCramped, Replays, could_release, bytes_in}
 use Rattle.age_stream.proofs.Segments.{by_test}
+use Rattle.age_chunk.specs.ChunkBoxes.{tag_length, text_length}
 
 piece_len : (s : Segment) (p : List ℕ) → length (with_piece s p).bytes ≤ length s.bytes + length p
 piece_len s p =
@@ -40,11 +41,11 @@ open_only LastSeen k h = absurd (omega arith)
 open_only Done k h = absurd (omega arith)
 open_only (Failed f) k h = absurd (omega arith)
 
-whole_long : (n x : ℕ) → 0 < whole_text n x → 16 < x
+whole_long : (n x : ℕ) → 0 < whole_text n x → tag_length < x
 whole_long n x h =
-    let q = x / (n + 16) in
-    let le : q * (n + 16) ≤ x = div-mul-le_self x (n + 16) in
-    let e : q * (n + 16) ≡ q * n + q * 16 = omega arith in
+    let q = x / (n + tag_length) in
+    let le : q * (n + tag_length) ≤ x = div-mul-le_self x (n + tag_length) in
+    let e : q * (n + tag_length) ≡ q * n + q * tag_length = omega arith in
     elim (cases_lt 0 q) [
       | inl lt ↦ omega (arith, lt, le, e, h)
       | inr z ↦ (let q0 : q ≡ 0 = omega (arith, z) in let no : q * n ≡ 0 * n = ap (λ (k : ℕ). k * n) q0 in absurd (omega (arith, no, h)))
@@ -52,14 +53,14 @@ whole_long n x h =
 
 -- what could release text came after more bytes than a tag has
 pub tag_came : {B : Type 0} (opening : B → List ℕ → List ℕ → Option (List ℕ)) (n : ℕ) (o : OpenerView B) (s : Segment) (d : Delivery) → Stands opening n o s
-    → 0 < could_release n o d → 16 < length s.bytes + length (bytes_in d)
+    → 0 < could_release n o d → tag_length < length s.bytes + length (bytes_in d)
 tag_came opening n o s (Piece p) h some =
     let c = open_only o.status (whole_text n (length o.held + length p.now)) some in
     let long = whole_long n (length o.held + length p.now) c.1 in
-    omega (arith, long, ap length (h.held c.0), length-drop (length s.bytes / (n + 16) * (n + 16)) s.bytes)
+    omega (arith, long, ap length (h.held c.0), length-drop (length s.bytes / (n + tag_length) * (n + tag_length)) s.bytes)
 tag_came opening n o s End h some =
-    let c = open_only o.status (length o.held - 16) some in
-    omega (arith, c.1, ap length (h.held c.0), length-drop (length s.bytes / (n + 16) * (n + 16)) s.bytes)
+    let c = open_only o.status (text_length (length o.held)) some in
+    omega (arith, c.1, ap length (h.held c.0), length-drop (length s.bytes / (n + tag_length) * (n + tag_length)) s.bytes)
 tag_came opening n o s (Restart k) h some = absurd (omega arith)
 
 pub came : (ds : List Delivery) (i : ℕ) (d : Delivery) → take (i + 1) ds ≡ take i ds ++ d ∷ []
@@ -80,12 +81,12 @@ came ds i d more =
 
 pub cramped_at : {B : Type 0} (opening : B → List ℕ → List ℕ → Option (List ℕ)) (n : ℕ) (r : ReplayView B) (ds : List Delivery) (i : ℕ) (d : Delivery)
     → i < length ds
-    → Replays opening n r (take i ds) → IsCramped n r (get_or ds i d) → 16 < length (flat_map bytes_in ds)
+    → Replays opening n r (take i ds) → IsCramped n r (get_or ds i d) → tag_length < length (flat_map bytes_in ds)
 cramped_at opening n r ds i d lt at c =
     let op = opening r.key in
     let m = n in
     let x = get_or ds i d in
-    let here : 16 < length (standing op m (take i ds)).segment.bytes + length (bytes_in x) = tag_came opening m r.opener (standing op m (take i ds)).segment
+    let here : tag_length < length (standing op m (take i ds)).segment.bytes + length (bytes_in x) = tag_came opening m r.opener (standing op m (take i ds)).segment
     x at.segment c.some in
     let bytes : length (standing op m (take i ds)).segment.bytes ≤ length begin.segment.bytes + length (flat_map bytes_in (take i ds)) = segment_len op
     m (take i ds) begin in

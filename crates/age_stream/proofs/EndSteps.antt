@@ -1,5 +1,5 @@
 -- The end of an opener's segment.
-use Rattle.std.proofs.Common.{◌≡◌, ℕ, ◌≤◌, ◌+◌, ◌-◌, ap, sym, ◌∙◌, List, [], ◌++◌, length, take, Bool, true, false}
+use Rattle.std.proofs.Common.{◌≡◌, ℕ, ◌≤◌, ◌+◌, ap, sym, ◌∙◌, List, [], ◌++◌, length, take, Bool, true, false}
 use Rattle.std.specs.Prelude.{Option, Result, Ok, Err, MatchResult}
 use Rattle.std.specs.List.{flat_map}
 use Rattle.std.proofs.lemmas.List.{append-nil}
@@ -11,13 +11,14 @@ use Rattle.age_stream.specs.declared.opener.OpenerState.{OpenerState}
 use Rattle.age_chunk.specs.declared.fault.StreamFault.{StreamFault}
 use Rattle.age_stream.specs.declared.step.Status.TheVariants.{Open, Failed}
 use Rattle.age_stream.specs.Opening.{Stands, held_bytes, opener_view}
-use Rattle.age_stream.specs.inner.OpenerSteps.{Ends, front_bytes}
+use Rattle.age_stream.specs.inner.OpenerSteps.{EndsAs, front_bytes}
 use Rattle.age_stream.proofs.Going.{going, going_outcome, past_place, prepend_rest, after_end}
+use Rattle.age_chunk.specs.ChunkBoxes.{text_length}
 
 module _ {B : Type 0} {n : ℕ} {g : _} (opening : B → List ℕ → List ℕ → Option (List ℕ)) (old new : OpenerState B n g) where
   pub record Finishes (s : Segment) (bytes : List ℕ) : Type 0 where
-    pub stands : Stands opening (n - 16) (opener_view new) (with_end s)
-    pub text : released (opening old.key.now) (n - 16) (with_end s) ≡ released (opening old.key.now) (n - 16) s ++ bytes
+    pub stands : Stands opening (text_length n) (opener_view new) (with_end s)
+    pub text : released (opening old.key.now) (text_length n) (with_end s) ≡ released (opening old.key.now) (text_length n) s ++ bytes
 
   by_answer : (o : Outcome) (answer : Result ℕ StreamFault)
       → MatchResult answer (λ len. (len ≤ length new.buffer.items) × (len ≤ length (held_bytes old))
@@ -27,13 +28,13 @@ module _ {B : Type 0} {n : ℕ} {g : _} (opening : B → List ℕ → List ℕ �
   by_answer o (Err f) t = ap (flat_map (λ (t : List ℕ). t)) t.1
 
   -- the outcome of the whole segment is that of the end, after the texts so far
-  finishes : (s : Segment) (o : Outcome) (answer : Result ℕ StreamFault) → Ends o old answer new
-      → (outcome (opening old.key.now) (n - 16) (with_end s)).texts ≡ (outcome (opening old.key.now) (n - 16) s).texts ++ o.texts
-      → (outcome (opening old.key.now) (n - 16) (with_end s)).index ≡ o.index → (outcome (opening old.key.now) (n - 16) (with_end s)).status ≡ o.status
+  finishes : (s : Segment) (o : Outcome) (answer : Result ℕ StreamFault) → EndsAs o old answer new
+      → (outcome (opening old.key.now) (text_length n) (with_end s)).texts ≡ (outcome (opening old.key.now) (text_length n) s).texts ++ o.texts
+      → (outcome (opening old.key.now) (text_length n) (with_end s)).index ≡ o.index → (outcome (opening old.key.now) (text_length n) (with_end s)).status ≡ o.status
       → Finishes s (front_bytes answer new.buffer.items)
   finishes s o answer e texts index status =
       let op = opening old.key.now in
-      let m = n - 16 in
+      let m = text_length n in
       let gained : flat_map (λ (t : List ℕ). t) o.texts ≡ front_bytes answer new.buffer.items = by_answer o answer e.answered in
       record {
         stands = record {
@@ -46,11 +47,11 @@ module _ {B : Type 0} {n : ℕ} {g : _} (opening : B → List ℕ → List ℕ �
             ∙ (flat_map-append (λ (t : List ℕ). t) (outcome op m s).texts o.texts ∙ ap (λ (bs : List ℕ). released op m s ++ bs) gained);
       }
 
-  pub end_open : (s : Segment) (answer : Result ℕ StreamFault) → Stands opening (n - 16) (opener_view old) s → old.status ≡ Open
-      → Ends (final_block (opening old.key.now) [] old.index (held_bytes old) false true) old answer new → Finishes s (front_bytes answer new.buffer.items)
+  pub end_open : (s : Segment) (answer : Result ℕ StreamFault) → Stands opening (text_length n) (opener_view old) s → old.status ≡ Open
+      → EndsAs (final_block (opening old.key.now) [] old.index (held_bytes old) false true) old answer new → Finishes s (front_bytes answer new.buffer.items)
   end_open s answer h open_ e =
       let op = opening old.key.now in
-      let m = n - 16 in
+      let m = text_length n in
       let g = going op m s (sym h.status ∙ open_) in
       let texts = front_texts op s.start (whole_blocks m s.bytes) in
       let here = going_outcome op m s g in
@@ -69,11 +70,11 @@ module _ {B : Type 0} {n : ℕ} {g : _} (opening : B → List ℕ → List ℕ �
       (ap (λ (o : Outcome). o.index) all ∙ ap (λ (o : Outcome). o.index) same)
       (ap (λ (o : Outcome). o.status) all ∙ ap (λ (o : Outcome). o.status) same)
 
-  pub end_none : (s : Segment) (answer : Result ℕ StreamFault) → Stands opening (n - 16) (opener_view old) s → (old.status ≡ Open → ⊥)
-      → Ends (record { texts = []; index = old.index; status = status_ended old.status }) old answer new → Finishes s (front_bytes answer new.buffer.items)
+  pub end_none : (s : Segment) (answer : Result ℕ StreamFault) → Stands opening (text_length n) (opener_view old) s → (old.status ≡ Open → ⊥)
+      → EndsAs (record { texts = []; index = old.index; status = status_ended old.status }) old answer new → Finishes s (front_bytes answer new.buffer.items)
   end_none s answer h shut e =
       let op = opening old.key.now in
-      let m = n - 16 in
+      let m = text_length n in
       let more = after_end op m s (λ o. shut (h.status ∙ o)) in
       finishes s (record { texts = []; index = old.index; status = status_ended old.status }) answer e
       (more.texts ∙ sym (append-nil (outcome op m s).texts)) (more.index ∙ sym h.index) (more.status ∙ ap status_ended (sym h.status))

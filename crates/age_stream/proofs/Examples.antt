@@ -1,8 +1,8 @@
 -- Worked examples of the definitions, by computation.
-use Rattle.std.proofs.Common.{◌≡◌, refl, ℕ, List, [], ◌∷◌, ◌++◌, Bool, true, false, take, drop, map}
+use Rattle.std.proofs.Common.{◌≡◌, ◌-◌, refl, ℕ, List, [], ◌∷◌, ◌++◌, Bool, true, false, take, drop, map}
 use Rattle.std.specs.Prelude.{codes}
 use Rattle.age_chunk.specs.Clear.{clear_sealing, clear_opening, clear_mark}
-use Rattle.age_chunk.specs.Nonce.{nonce_bytes}
+use Rattle.age_chunk.specs.Nonce.{nonce_bytes, chunk_limit}
 use Rattle.age_stream.specs.Deliveries.{standing, text_held}
 use Rattle.age_stream.specs.declared.step.Status.{Status}
 use Rattle.age_stream.specs.declared.delivery.Delivery.{Delivery}
@@ -70,13 +70,16 @@ empty_last_block : given 0 (first ++ drop 4 second) true false ≡ out (codes "a
 unfolding outcome
 empty_last_block = refl
 
-greatest_chunk_not_last : given 281474976710655 (codes "XXXX" ++ clear_mark (nonce_bytes 281474976710655 false)) false false
-    ≡ out [] 281474976710655 (failed TooManyChunks 281474976710655)
+abbrev greatest : ℕ
+greatest = chunk_limit - 1
+
+greatest_chunk_not_last : given greatest (codes "XXXX" ++ clear_mark (nonce_bytes greatest false)) false false
+    ≡ out [] greatest (failed TooManyChunks greatest)
 unfolding outcome
 greatest_chunk_not_last = refl
 
-greatest_chunk_last : given 281474976710655 (codes "XXXX" ++ clear_mark (nonce_bytes 281474976710655 true)) false false
-    ≡ out (codes "XXXX" ∷ []) 281474976710655 LastSeen
+greatest_chunk_last : given greatest (codes "XXXX" ++ clear_mark (nonce_bytes greatest true)) false false
+    ≡ out (codes "XXXX" ∷ []) greatest LastSeen
 unfolding outcome
 greatest_chunk_last = refl
 

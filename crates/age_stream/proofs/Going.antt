@@ -15,9 +15,11 @@ use Rattle.age_stream.specs.Deliveries.{with_piece, with_end}
 use Rattle.age_stream.specs.declared.step.Status.{Status}
 use Rattle.age_stream.specs.declared.step.Status.TheVariants.{Open}
 use Rattle.age_chunk.specs.declared.fault.StreamKind.TheVariants.{ChunkDamaged, ChunkCut, EmptyLast, Truncated, TooManyChunks}
-use Rattle.age_stream.proofs.Chunks.{length-first_chunks, first_chunks_more, first_chunks-append, slice_get-within, slice_get-past}
+use Rattle.age_chunk.proofs.FirstChunks.{length-first_chunks, first_chunks_more, first_chunks-append}
+use Rattle.age_stream.proofs.Chunks.{slice_get-within, slice_get-past}
 use Rattle.age_stream.proofs.Segments.{by_test}
 use Rattle.age_stream.proofs.Table.{outcome_of, verdict_at, by_blocks, length-front_texts}
+use Rattle.age_chunk.specs.ChunkBoxes.{tag_length}
 
 pub first_chunks-add : (z q d : ℕ) (xs : List ℕ) → first_chunks z (q + d) xs ≡ first_chunks z q xs ++ first_chunks z d (drop (q * z) xs)
 first_chunks-add z zero d xs =
@@ -35,7 +37,7 @@ first_chunks-add z (suc q) d xs =
 -- whole blocks stay when bytes are added
 pub more_blocks : (n : ℕ) (bytes more : List ℕ) → (added : List (List ℕ)) × (whole_blocks n (bytes ++ more) ≡ whole_blocks n bytes ++ added)
 more_blocks n bytes more =
-    let z = n + 16 in
+    let z = n + tag_length in
     let q = length bytes / z in
     let r = length (bytes ++ more) / z in
     let pos : 0 < z = omega arith in
@@ -52,46 +54,46 @@ more_blocks n bytes more =
 
 -- bytes that make no whole block
 module _ (n : ℕ) (bytes more : List ℕ) where
-  part_count : length (rest_bytes n bytes) + length more < n + 16 → length (bytes ++ more) / (n + 16) ≡ length bytes / (n + 16)
+  part_count : length (rest_bytes n bytes) + length more < n + tag_length → length (bytes ++ more) / (n + tag_length) ≡ length bytes / (n + tag_length)
   part_count h =
-      let z = n + 16 in
+      let z = n + tag_length in
       let q = length bytes / z in
       let fits : q * z ≤ length bytes = div-mul-le_self (length bytes) z in
       let r = length (rest_bytes n bytes) + length more in
       let e : length (bytes ++ more) ≡ q * z + r = omega (arith, length-append bytes more, length-drop (q * z) bytes, fits) in
       ap (λ (k : ℕ). k / z) e ∙ div-mul-add q z r h
 
-  pub part_blocks : length (rest_bytes n bytes) + length more < n + 16 → whole_blocks n (bytes ++ more) ≡ whole_blocks n bytes
+  pub part_blocks : length (rest_bytes n bytes) + length more < n + tag_length → whole_blocks n (bytes ++ more) ≡ whole_blocks n bytes
   part_blocks h =
-      ap (λ (k : ℕ). first_chunks (n + 16) k (bytes ++ more)) (part_count h)
-      ∙ first_chunks-append (n + 16) (length bytes / (n + 16)) bytes more (div-mul-le_self (length bytes) (n + 16))
+      ap (λ (k : ℕ). first_chunks (n + tag_length) k (bytes ++ more)) (part_count h)
+      ∙ first_chunks-append (n + tag_length) (length bytes / (n + tag_length)) bytes more (div-mul-le_self (length bytes) (n + tag_length))
 
-  pub part_rest : length (rest_bytes n bytes) + length more < n + 16 → rest_bytes n (bytes ++ more) ≡ rest_bytes n bytes ++ more
+  pub part_rest : length (rest_bytes n bytes) + length more < n + tag_length → rest_bytes n (bytes ++ more) ≡ rest_bytes n bytes ++ more
   part_rest h =
-      ap (λ (k : ℕ). drop (k * (n + 16)) (bytes ++ more)) (part_count h)
-      ∙ drop-append-le (length bytes / (n + 16) * (n + 16)) bytes more (div-mul-le_self (length bytes) (n + 16))
+      ap (λ (k : ℕ). drop (k * (n + tag_length)) (bytes ++ more)) (part_count h)
+      ∙ drop-append-le (length bytes / (n + tag_length) * (n + tag_length)) bytes more (div-mul-le_self (length bytes) (n + tag_length))
 
   -- bytes that make just one
-  whole_count : length (rest_bytes n bytes) + length more ≡ n + 16 → length (bytes ++ more) / (n + 16) ≡ suc (length bytes / (n + 16))
+  whole_count : length (rest_bytes n bytes) + length more ≡ n + tag_length → length (bytes ++ more) / (n + tag_length) ≡ suc (length bytes / (n + tag_length))
   whole_count h =
-      let z = n + 16 in
+      let z = n + tag_length in
       let q = length bytes / z in
       let fits : q * z ≤ length bytes = div-mul-le_self (length bytes) z in
       let e : length (bytes ++ more) ≡ suc q * z + 0 = omega (arith, length-append bytes more, length-drop (q * z) bytes, fits, h) in
       let pos : 0 < z = omega arith in
       ap (λ (k : ℕ). k / z) e ∙ div-mul-add (suc q) z 0 pos
 
-  pub whole_len : length (rest_bytes n bytes) + length more ≡ n + 16 → length (bytes ++ more) ≡ (length bytes / (n + 16) + 1) * (n + 16)
+  pub whole_len : length (rest_bytes n bytes) + length more ≡ n + tag_length → length (bytes ++ more) ≡ (length bytes / (n + tag_length) + 1) * (n + tag_length)
   whole_len h =
-      let z = n + 16 in
+      let z = n + tag_length in
       let q = length bytes / z in
       let fits : q * z ≤ length bytes = div-mul-le_self (length bytes) z in
       omega (arith, length-append bytes more, length-drop (q * z) bytes, fits, h)
 
-  pub whole_more : length (rest_bytes n bytes) + length more ≡ n + 16 → whole_blocks n (bytes ++ more)
+  pub whole_more : length (rest_bytes n bytes) + length more ≡ n + tag_length → whole_blocks n (bytes ++ more)
       ≡ whole_blocks n bytes ++ (rest_bytes n bytes ++ more) ∷ []
   whole_more h =
-      let z = n + 16 in
+      let z = n + tag_length in
       let q = length bytes / z in
       let fits : q * z ≤ length bytes = div-mul-le_self (length bytes) z in
       let tail : take z (drop (q * z) (bytes ++ more)) ≡ rest_bytes n bytes ++ more =
@@ -102,9 +104,9 @@ module _ (n : ℕ) (bytes more : List ℕ) where
       ∙ (ap (λ (c : List ℕ). first_chunks z q (bytes ++ more) ++ c ∷ []) tail
       ∙ ap (λ (cs : List (List ℕ)). cs ++ (rest_bytes n bytes ++ more) ∷ []) (first_chunks-append z q bytes more fits)))
 
-  pub whole_rest : length (rest_bytes n bytes) + length more ≡ n + 16 → rest_bytes n (bytes ++ more) ≡ []
+  pub whole_rest : length (rest_bytes n bytes) + length more ≡ n + tag_length → rest_bytes n (bytes ++ more) ≡ []
   whole_rest h =
-      let z = n + 16 in
+      let z = n + tag_length in
       let q = length bytes / z in
       let s : suc q ≡ q + 1 = omega arith in
       ap (λ (k : ℕ). drop (k * z) (bytes ++ more)) (whole_count h)
@@ -206,8 +208,8 @@ module _ (opening : List ℕ → List ℕ → Option (List ℕ)) (n : ℕ) where
   rest_bytes_after texts i rest late some =
       let R : Outcome → Outcome → Type 0 = IsAfterBytes some in
       let last = last_bytes texts i (opening (nonce_bytes i true) rest) late (late || some) some true refl in
-      by_test2 R (nat_lt 0 (length rest) && nat_lt (length rest) 16) _ _ _ _ (same_failed texts i some (failed ChunkCut i) refl)
-      (by_test2 R (length rest == 16 && nat_lt 0 i) _ _ _ _ (same_failed texts i some (failed EmptyLast i) refl)
+      by_test2 R (nat_lt 0 (length rest) && nat_lt (length rest) tag_length) _ _ _ _ (same_failed texts i some (failed ChunkCut i) refl)
+      (by_test2 R (length rest == tag_length && nat_lt 0 i) _ _ _ _ (same_failed texts i some (failed EmptyLast i) refl)
       (by_test2 R (length rest == 0) _ _ _ _ (same_failed texts i some (failed Truncated i) refl) last))
 
   last_end : (texts : List (List ℕ)) (i : ℕ) (o : Option (List ℕ)) (x ended : Bool)
@@ -237,8 +239,8 @@ module _ (opening : List ℕ → List ℕ → Option (List ℕ)) (n : ℕ) where
       let P : Outcome → Type 0 = λ o. o.status ≡ Open → ⊥ in
       let last : P (after_last opening texts i (opening (nonce_bytes i true) rest) late true) = λ e. last_closed texts i (opening (nonce_bytes i true) rest)
       late true e in
-      by_test P (nat_lt 0 (length rest) && nat_lt (length rest) 16) _ _ (λ _ e. cc)
-      (λ _. by_test P (length rest == 16 && nat_lt 0 i) _ _ (λ _ e. cc) (λ _. by_test P (length rest == 0) _ _ (λ _ e. cc) (λ _. last)))
+      by_test P (nat_lt 0 (length rest) && nat_lt (length rest) tag_length) _ _ (λ _ e. cc)
+      (λ _. by_test P (length rest == tag_length && nat_lt 0 i) _ _ (λ _ e. cc) (λ _. by_test P (length rest == 0) _ _ (λ _ e. cc) (λ _. last)))
 
   -- the segment is open: it had no end, and each whole block opened as one before the last
   pub record IsGoing (s : Segment) : Type 0 where
@@ -257,13 +259,13 @@ module _ (opening : List ℕ → List ℕ → Option (List ℕ)) (n : ℕ) where
       → let texts = front_texts opening s.start (whole_blocks n s.bytes) in
       let i = s.start + length texts in
       let b = get_or (whole_blocks n s.bytes) (length texts) [] in
-      outcome opening n s ≡ at_block opening texts i b (nat_lt ((length texts + 1) * (n + 16)) (length s.bytes) || s.late) s.ended
+      outcome opening n s ≡ at_block opening texts i b (nat_lt ((length texts + 1) * (n + tag_length)) (length s.bytes) || s.late) s.ended
       (opening (nonce_bytes i false) b)
   at_place s lt =
       let blocks = whole_blocks n s.bytes in
       let texts = front_texts opening s.start blocks in
       by_blocks opening n s
-      ∙ ap (λ (o : Option (List ℕ)). verdict_at opening texts (s.start + length texts) o (nat_lt ((length texts + 1) * (n + 16)) (length s.bytes))
+      ∙ ap (λ (o : Option (List ℕ)). verdict_at opening texts (s.start + length texts) o (nat_lt ((length texts + 1) * (n + tag_length)) (length s.bytes))
       (rest_bytes n s.bytes) s.late s.ended)
       (slice_get-within blocks (length texts) [] lt)
 
@@ -275,7 +277,7 @@ module _ (opening : List ℕ → List ℕ → Option (List ℕ)) (n : ℕ) where
       let blocks = whole_blocks n s.bytes in
       let texts = front_texts opening s.start blocks in
       by_blocks opening n s
-      ∙ ap (λ (o : Option (List ℕ)). verdict_at opening texts (s.start + length texts) o (nat_lt ((length texts + 1) * (n + 16)) (length s.bytes))
+      ∙ ap (λ (o : Option (List ℕ)). verdict_at opening texts (s.start + length texts) o (nat_lt ((length texts + 1) * (n + tag_length)) (length s.bytes))
       (rest_bytes n s.bytes) s.late s.ended)
       (slice_get-past blocks (length texts) (omega (arith, e)))
 
@@ -294,7 +296,7 @@ module _ (opening : List ℕ → List ℕ → Option (List ℕ)) (n : ℕ) where
             (let texts = front_texts opening s.start (whole_blocks n s.bytes) in
             let i = s.start + length texts in
             let b = get_or (whole_blocks n s.bytes) (length texts) [] in
-            absurd (block_closed texts i b (opening (nonce_bytes i false) b) (nat_lt ((length texts + 1) * (n + 16)) (length s.bytes) || s.late) s.ended
+            absurd (block_closed texts i b (opening (nonce_bytes i false) b) (nat_lt ((length texts + 1) * (n + tag_length)) (length s.bytes) || s.late) s.ended
             (sym (ap (λ (o : Outcome). o.status) (at_place s lt)) ∙ h)))
         | inr e ↦ ended_closed s s.ended refl e h
       ]
@@ -328,14 +330,14 @@ module _ (opening : List ℕ → List ℕ → Option (List ℕ)) (n : ℕ) where
       let i = s.start + length texts in
       let b = get_or blocks (length texts) [] in
       let some = nat_lt 0 (length p) in
-      let a = (length texts + 1) * (n + 16) in
+      let a = (length texts + 1) * (n + tag_length) in
       let bytes = s.bytes ++ p in
       let more = more_blocks n s.bytes p in
       let rest = rest_bytes n bytes in
       let late = s.late in
       let o = opening (nonce_bytes i false) b in
       let F : List (List ℕ) → Outcome = λ ts. verdict_at opening ts (s.start + length ts) (slice_get (blocks ++ more.0) (length ts))
-      (nat_lt ((length ts + 1) * (n + 16)) (length bytes)) rest late false in
+      (nat_lt ((length ts + 1) * (n + tag_length)) (length bytes)) rest late false in
       let e0 : outcome opening n (with_piece s p) ≡ outcome opening n (record { start = s.start; bytes = bytes; ended = false; late = late }) =
       ap (λ (t : Bool). outcome opening n (cond t (record { start = s.start; bytes = s.bytes; ended = true; late = s.late || nat_lt 0 (length p) })
       (record { start = s.start; bytes = s.bytes ++ p; ended = false; late = s.late }))) is in
@@ -347,8 +349,8 @@ module _ (opening : List ℕ → List ℕ → Option (List ℕ)) (n : ℕ) where
       ∙ slice_get-within blocks (length texts) [] lt in
       let e3 : F texts ≡ at_block opening texts i b (nat_lt a (length bytes) || late) false o =
       ap (λ (x : Option (List ℕ)). verdict_at opening texts i x (nat_lt a (length bytes)) rest late false) g in
-      let count = length-first_chunks (n + 16) (length s.bytes / (n + 16)) s.bytes in
-      let pos : 0 < n + 16 = omega arith in
+      let count = length-first_chunks (n + tag_length) (length s.bytes / (n + tag_length)) s.bytes in
+      let pos : 0 < n + tag_length = omega arith in
       let low : a ≤ length s.bytes = (le-div_iff_mul-le pos).0 (omega (arith, lt, count)) in
       let len : length bytes ≡ length s.bytes + length p = length-append s.bytes p in
       let flag : (nat_lt a (length bytes) || late) ≡ ((nat_lt a (length s.bytes) || late) || some) = ap (λ (k : ℕ). nat_lt a k || late) len
@@ -361,7 +363,7 @@ module _ (opening : List ℕ → List ℕ → Option (List ℕ)) (n : ℕ) where
       let i = s.start + length texts in
       let b = get_or blocks (length texts) [] in
       let some = nat_lt 0 (length p) in
-      let a = (length texts + 1) * (n + 16) in
+      let a = (length texts + 1) * (n + tag_length) in
       let o = opening (nonce_bytes i false) b in
       let next : Segment = record { start = s.start; bytes = s.bytes; ended = true; late = s.late || some } in
       let e0 : outcome opening n (with_piece s p) ≡ outcome opening n next =
@@ -410,8 +412,8 @@ module _ (opening : List ℕ → List ℕ → Option (List ℕ)) (n : ℕ) where
       let last = last_end texts i (opening (nonce_bytes i true) (rest_bytes n s.bytes)) s.late true in
       let rest = rest_bytes n s.bytes in
       let core : P (final_block opening texts i rest s.late true) =
-      by_test P (nat_lt 0 (length rest) && nat_lt (length rest) 16) _ _ (λ _. same (record { texts = texts; index = i; status = failed ChunkCut i }) refl)
-      (λ _. by_test P (length rest == 16 && nat_lt 0 i) _ _ (λ _. same (record { texts = texts; index = i; status = failed EmptyLast i }) refl)
+      by_test P (nat_lt 0 (length rest) && nat_lt (length rest) tag_length) _ _ (λ _. same (record { texts = texts; index = i; status = failed ChunkCut i }) refl)
+      (λ _. by_test P (length rest == tag_length && nat_lt 0 i) _ _ (λ _. same (record { texts = texts; index = i; status = failed EmptyLast i }) refl)
       (λ _. by_test P (length rest == 0) _ _ (λ _. same (record { texts = texts; index = i; status = failed Truncated i }) refl) (λ _. last))) in
       carry_end here (past_place (with_end s) e) core
 
@@ -424,7 +426,7 @@ module _ (opening : List ℕ → List ℕ → Option (List ℕ)) (n : ℕ) where
             let i = s.start + length texts in
             let b = get_or (whole_blocks n s.bytes) (length texts) [] in
             carry_end (at_place s lt) (at_place (with_end s) lt) (block_end texts i b (opening (nonce_bytes i false) b)
-            (nat_lt ((length texts + 1) * (n + 16)) (length s.bytes) || s.late) s.ended))
+            (nat_lt ((length texts + 1) * (n + tag_length)) (length s.bytes) || s.late) s.ended))
         | inr e ↦ end_past_place s s.ended refl shut e
       ]
 
@@ -444,7 +446,7 @@ module _ (opening : List ℕ → List ℕ → Option (List ℕ)) (n : ℕ) where
     pub same : outcome opening n (with_piece s p) ≡ outcome opening n s
     pub rest : rest_bytes n (with_piece s p).bytes ≡ rest_bytes n s.bytes ++ p
 
-  pub going_part : (s : Segment) (p : List ℕ) → IsGoing s → length (rest_bytes n s.bytes) + length p < n + 16 → IsPart s p
+  pub going_part : (s : Segment) (p : List ℕ) → IsGoing s → length (rest_bytes n s.bytes) + length p < n + tag_length → IsPart s p
   going_part s p g h =
       let next : Segment = record { start = s.start; bytes = s.bytes ++ p; ended = false; late = s.late } in
       let e = unended_piece s p g.unended in
@@ -484,9 +486,9 @@ module _ (opening : List ℕ → List ℕ → Option (List ℕ)) (n : ℕ) where
 
   -- one more block after blocks that all opened
   one_more : (o : Option (List ℕ)) (blocks : List (List ℕ)) (b : List ℕ) (start len : ℕ) (rest : List ℕ) → length (front_texts opening start blocks)
-      ≡ length blocks → len ≡ (length blocks + 1) * (n + 16)
+      ≡ length blocks → len ≡ (length blocks + 1) * (n + tag_length)
       → let texts = front_texts opening start blocks in let ts = texts ++ text_then opening o [] in
-      verdict_at opening ts (start + length ts) (slice_get (blocks ++ b ∷ []) (length ts)) (nat_lt ((length ts + 1) * (n + 16)) len) rest false false
+      verdict_at opening ts (start + length ts) (slice_get (blocks ++ b ∷ []) (length ts)) (nat_lt ((length ts + 1) * (n + tag_length)) len) rest false false
       ≡ prepend opening texts (after_front opening o (start + length texts) b)
   one_more (Some t) blocks b start len rest all is =
       let texts = front_texts opening start blocks in
@@ -494,23 +496,23 @@ module _ (opening : List ℕ → List ℕ → Option (List ℕ)) (n : ℕ) where
       let past : length (blocks ++ b ∷ []) ≤ length (texts ++ t ∷ []) = omega (arith, count, all, length-append blocks (b ∷ [])) in
       let i : start + length (texts ++ t ∷ []) ≡ start + length texts + 1 = omega (arith, count) in
       ap (λ (o : Option (List ℕ)). verdict_at opening (texts ++ t ∷ []) (start + length (texts ++ t ∷ [])) o
-      (nat_lt ((length (texts ++ t ∷ []) + 1) * (n + 16)) len) rest false false)
+      (nat_lt ((length (texts ++ t ∷ []) + 1) * (n + tag_length)) len) rest false false)
       (slice_get-past (blocks ++ b ∷ []) (length (texts ++ t ∷ [])) past)
       ∙ ap (λ (k : ℕ). record { texts = texts ++ t ∷ []; index = k; status = Open }) i
   one_more None blocks b start len rest all is =
       let texts = front_texts opening start blocks in
       let i = start + length texts in
       let F : List (List ℕ) → Outcome = λ ts. verdict_at opening ts (start + length ts) (slice_get (blocks ++ b ∷ []) (length ts))
-      (nat_lt ((length ts + 1) * (n + 16)) len) rest false false in
-      let no : nat_lt ((length texts + 1) * (n + 16)) len
-      ≡ false = le-ltb ((length texts + 1) * (n + 16)) len (omega (arith, is, ap (λ (k : ℕ). (k + 1) * (n + 16)) all)) in
+      (nat_lt ((length ts + 1) * (n + tag_length)) len) rest false false in
+      let no : nat_lt ((length texts + 1) * (n + tag_length)) len
+      ≡ false = le-ltb ((length texts + 1) * (n + tag_length)) len (omega (arith, is, ap (λ (k : ℕ). (k + 1) * (n + tag_length)) all)) in
       ap F (append-nil texts)
-      ∙ (ap (λ (o : Option (List ℕ)). verdict_at opening texts i o (nat_lt ((length texts + 1) * (n + 16)) len) rest false false)
+      ∙ (ap (λ (o : Option (List ℕ)). verdict_at opening texts i o (nat_lt ((length texts + 1) * (n + tag_length)) len) rest false false)
       (slice_get_end blocks b (length texts) all)
       ∙ (ap (λ (x : Bool). at_block opening texts i b (x || false) false (opening (nonce_bytes i false) b)) no
       ∙ prepend_block texts i b (opening (nonce_bytes i false) b)))
 
-  pub going_whole : (s : Segment) (p : List ℕ) → IsGoing s → s.late ≡ false → length (rest_bytes n s.bytes) + length p ≡ n + 16 → IsWhole s p
+  pub going_whole : (s : Segment) (p : List ℕ) → IsGoing s → s.late ≡ false → length (rest_bytes n s.bytes) + length p ≡ n + tag_length → IsWhole s p
   going_whole s p g timely h =
       let start = s.start in
       let blocks = whole_blocks n s.bytes in
@@ -520,10 +522,10 @@ module _ (opening : List ℕ → List ℕ → Option (List ℕ)) (n : ℕ) where
       let e = unended_piece s p g.unended in
       let i = start + length texts in
       let F : List (List ℕ) → Bool → Outcome = λ bs late. outcome_of opening n start bs (length bytes) (rest_bytes n bytes) late false in
-      let count : length bytes ≡ (length blocks + 1) * (n + 16) = whole_len n s.bytes p h
-      ∙ ap (λ (k : ℕ). (k + 1) * (n + 16)) (sym (length-first_chunks (n + 16) (length s.bytes / (n + 16)) s.bytes)) in
+      let count : length bytes ≡ (length blocks + 1) * (n + tag_length) = whole_len n s.bytes p h
+      ∙ ap (λ (k : ℕ). (k + 1) * (n + tag_length)) (sym (length-first_chunks (n + tag_length) (length s.bytes / (n + tag_length)) s.bytes)) in
       let G : List (List ℕ) → Outcome = λ ts. verdict_at opening ts (start + length ts) (slice_get (blocks ++ b ∷ []) (length ts))
-      (nat_lt ((length ts + 1) * (n + 16)) (length bytes)) (rest_bytes n bytes) false false in
+      (nat_lt ((length ts + 1) * (n + tag_length)) (length bytes)) (rest_bytes n bytes) false false in
       let front : front_texts opening start (blocks ++ b ∷ []) ≡ texts ++ text_then opening (text_before_last opening i b) [] =
       front_on opening blocks (b ∷ []) start g.all ∙ ap (λ (k : ℕ). texts ++ front_texts opening (start + k) (b ∷ [])) (sym g.all) in
       let all : outcome opening n (with_piece s p) ≡ prepend opening texts (one_block opening i b) =
@@ -555,6 +557,6 @@ module _ (opening : List ℕ → List ℕ → Option (List ℕ)) (n : ℕ) where
       let fault : (s : Status) → R (record { texts = texts; index = i; status = s }) (record { texts = []; index = i; status = s }) =
       λ s. ap (λ (ts : List (List ℕ)). record { texts = ts; index = i; status = s }) (sym (append-nil texts)) in
       let last = end_last texts i (opening (nonce_bytes i true) rest) in
-      by_test2 R (nat_lt 0 (length rest) && nat_lt (length rest) 16) _ _ _ _ (fault (failed ChunkCut i))
-      (by_test2 R (length rest == 16 && nat_lt 0 i) _ _ _ _ (fault (failed EmptyLast i)) (by_test2 R (length rest == 0) _ _ _ _ (fault (failed Truncated i))
+      by_test2 R (nat_lt 0 (length rest) && nat_lt (length rest) tag_length) _ _ _ _ (fault (failed ChunkCut i))
+      (by_test2 R (length rest == tag_length && nat_lt 0 i) _ _ _ _ (fault (failed EmptyLast i)) (by_test2 R (length rest == 0) _ _ _ _ (fault (failed Truncated i))
       last))

@@ -14,6 +14,7 @@ use Rattle.age_stream.specs.declared.step.Status.TheVariants.{Open}
 use Rattle.age_stream.proofs.Segments.{by_test}
 use Rattle.age_stream.proofs.Going.{going, going_outcome, IsGoing, unended_piece, more_blocks, front_on, after_piece}
 use Rattle.age_stream.proofs.Table.{verdict_at, by_blocks}
+use Rattle.age_chunk.specs.ChunkBoxes.{tag_length}
 
 module _ (opening : List ℕ → List ℕ → Option (List ℕ)) (n : ℕ) where
   -- the texts of an outcome begin with these
@@ -31,8 +32,8 @@ module _ (opening : List ℕ → List ℕ → Option (List ℕ)) (n : ℕ) where
       let none : texts ≡ texts ++ [] = sym (append-nil texts) in
       let last : P (after_last opening texts i (opening (nonce_bytes i true) rest) late true) = begins_last texts i (opening (nonce_bytes i true) rest)
       late true in
-      by_test P (nat_lt 0 (length rest) && nat_lt (length rest) 16) _ _ (λ _. ([], none))
-      (λ _. by_test P (length rest == 16 && nat_lt 0 i) _ _ (λ _. ([], none)) (λ _. by_test P (length rest == 0) _ _ (λ _. ([], none)) (λ _. last)))
+      by_test P (nat_lt 0 (length rest) && nat_lt (length rest) tag_length) _ _ (λ _. ([], none))
+      (λ _. by_test P (length rest == tag_length && nat_lt 0 i) _ _ (λ _. ([], none)) (λ _. by_test P (length rest == 0) _ _ (λ _. ([], none)) (λ _. last)))
 
   begins_block : (texts : List (List ℕ)) (i : ℕ) (b : List ℕ) (o : Option (List ℕ)) (x ended : Bool) → Begins texts (at_block opening texts i b x ended o)
   begins_block texts i b (Some t) x ended = ([], sym (append-nil texts))
@@ -51,7 +52,7 @@ module _ (opening : List ℕ → List ℕ → Option (List ℕ)) (n : ℕ) where
       let texts = front_texts opening s.start (whole_blocks n s.bytes) in
       let next : Segment = record { start = s.start; bytes = bytes; ended = false; late = s.late } in
       let all = front_texts opening s.start (whole_blocks n bytes) in
-      let b = begins_stop all (s.start + length all) (slice_get (whole_blocks n bytes) (length all)) (nat_lt ((length all + 1) * (n + 16)) (length bytes))
+      let b = begins_stop all (s.start + length all) (slice_get (whole_blocks n bytes) (length all)) (nat_lt ((length all + 1) * (n + tag_length)) (length bytes))
       (rest_bytes n bytes) s.late false in
       let on : all ≡ texts ++ front_texts opening (s.start + length (whole_blocks n s.bytes)) more.0 =
       ap (front_texts opening s.start) more.1 ∙ front_on opening (whole_blocks n s.bytes) more.0 s.start g.all in
@@ -87,8 +88,8 @@ module _ (opening : List ℕ → List ℕ → Option (List ℕ)) (n : ℕ) where
       let P : Outcome → Type 0 = λ o. o.index ≡ i in
       let last : P (after_last opening texts i (opening (nonce_bytes i true) rest) late true) = index_last texts i (opening (nonce_bytes i true) rest)
       late true in
-      by_test P (nat_lt 0 (length rest) && nat_lt (length rest) 16) _ _ (λ _. refl)
-      (λ _. by_test P (length rest == 16 && nat_lt 0 i) _ _ (λ _. refl) (λ _. by_test P (length rest == 0) _ _ (λ _. refl) (λ _. last)))
+      by_test P (nat_lt 0 (length rest) && nat_lt (length rest) tag_length) _ _ (λ _. refl)
+      (λ _. by_test P (length rest == tag_length && nat_lt 0 i) _ _ (λ _. refl) (λ _. by_test P (length rest == 0) _ _ (λ _. refl) (λ _. last)))
 
   index_block : (texts : List (List ℕ)) (i : ℕ) (b : List ℕ) (o : Option (List ℕ)) (x ended : Bool) → (at_block opening texts i b x ended o).index ≡ i
   index_block texts i b (Some t) x ended = refl
@@ -108,7 +109,7 @@ module _ (opening : List ℕ → List ℕ → Option (List ℕ)) (n : ℕ) where
       let all = front_texts opening s.start (whole_blocks n bytes) in
       let there = ap (λ (t : Segment). (outcome opening n t).index) (unended_piece s p g.unended)
       ∙ (ap (λ (o : Outcome). o.index) (by_blocks opening n (record { start = s.start; bytes = bytes; ended = false; late = s.late }))
-      ∙ index_stop all (s.start + length all) (slice_get (whole_blocks n bytes) (length all)) (nat_lt ((length all + 1) * (n + 16)) (length bytes))
+      ∙ index_stop all (s.start + length all) (slice_get (whole_blocks n bytes) (length all)) (nat_lt ((length all + 1) * (n + tag_length)) (length bytes))
       (rest_bytes n bytes) s.late false) in
       let on : all ≡ texts ++ front_texts opening (s.start + length (whole_blocks n s.bytes)) more.0 =
       ap (front_texts opening s.start) more.1 ∙ front_on opening (whole_blocks n s.bytes) more.0 s.start g.all in

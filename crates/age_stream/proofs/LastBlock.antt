@@ -11,9 +11,10 @@ use Rattle.age_chunk.specs.declared.fault.StreamKind.TheVariants.{ChunkDamaged, 
 use Rattle.age_stream.specs.Segment.{Outcome, failed}
 use Rattle.age_stream.specs.Opening.{held_bytes}
 use Rattle.age_stream.specs.inner.SegmentSteps.{final_block, after_last}
-use Rattle.age_stream.specs.inner.OpenerSteps.{Ends}
+use Rattle.age_stream.specs.inner.OpenerSteps.{EndsAs}
 use Rattle.age_stream.specs.declared.opener.OpenerState.{OpenerState}
 use Rattle.age_stream.specs.declared.step.Status.TheVariants.{Done, Failed}
+use Rattle.age_chunk.specs.ChunkBoxes.{tag_length}
 
 abbrev pub refused : StreamKind → ℕ → Outcome
 refused kind i = record { texts = []; index = i; status = failed kind i }
@@ -22,28 +23,28 @@ module _ (opening : List ℕ → List ℕ → Option (List ℕ)) (i : ℕ) (held
   pub is_missing : length held ≡ 0 → final_block opening [] i held false true ≡ refused Truncated i
   is_missing none = grind (arith, nat_tests)
 
-  pub is_cut : 0 < length held → length held < 16 → final_block opening [] i held false true ≡ refused ChunkCut i
+  pub is_cut : 0 < length held → length held < tag_length → final_block opening [] i held false true ≡ refused ChunkCut i
   is_cut some short = grind (arith, nat_tests)
 
-  pub is_empty_last : length held ≡ 16 → 0 < i → final_block opening [] i held false true ≡ refused EmptyLast i
+  pub is_empty_last : length held ≡ tag_length → 0 < i → final_block opening [] i held false true ≡ refused EmptyLast i
   is_empty_last tag later = grind (arith, nat_tests)
 
-  is_tried : 16 ≤ length held → (length held ≡ 16 → i ≡ 0) → final_block opening [] i held false true
+  is_tried : tag_length ≤ length held → (length held ≡ tag_length → i ≡ 0) → final_block opening [] i held false true
       ≡ after_last opening [] i (opening (nonce_bytes i true) held) false true
   is_tried long first = grind (arith, nat_tests)
 
-  pub is_damaged : 16 ≤ length held → (length held ≡ 16 → i ≡ 0) → opening (nonce_bytes i true) held ≡ None → final_block opening [] i held false true
+  pub is_damaged : tag_length ≤ length held → (length held ≡ tag_length → i ≡ 0) → opening (nonce_bytes i true) held ≡ None → final_block opening [] i held false true
       ≡ refused ChunkDamaged i
   is_damaged long first closed = is_tried long first ∙ ap (λ (o : Option (List ℕ)). after_last opening [] i o false true) closed
 
-  pub is_opened : 16 ≤ length held → (length held ≡ 16 → i ≡ 0) → (text : List ℕ) → opening (nonce_bytes i true) held ≡ Some text
+  pub is_opened : tag_length ≤ length held → (length held ≡ tag_length → i ≡ 0) → (text : List ℕ) → opening (nonce_bytes i true) held ≡ Some text
       → final_block opening [] i held false true ≡ record { texts = text ∷ []; index = i; status = Done }
   is_opened long first text opens = is_tried long first ∙ ap (λ (o : Option (List ℕ)). after_last opening [] i o false true) opens
 
 module _ {B : Type 0} {n : ℕ} {g : _} (old new : OpenerState B n g) (outcome : Outcome) (key : new.key ≡ old.key) (index : new.index ≡ old.index) where
   -- an end that was refused
   pub ends_refused : (kind : StreamKind) (fault : StreamFault) → outcome ≡ refused kind old.index → new.status ≡ failed kind old.index
-      → Failed fault ≡ failed kind old.index → Ends outcome old (Err fault) new
+      → Failed fault ≡ failed kind old.index → EndsAs outcome old (Err fault) new
   ends_refused kind fault is status same = record {
     key = key;
     index = index ∙ ap (λ (o : Outcome). o.index) (sym is);
@@ -54,7 +55,7 @@ module _ {B : Type 0} {n : ℕ} {g : _} (old new : OpenerState B n g) (outcome :
 
   -- an end whose block opened
   pub ends_opened : (len : ℕ) (text : List ℕ) → outcome ≡ record { texts = text ∷ []; index = old.index; status = Done } → new.status ≡ Done
-      → text ≡ take len new.buffer.items → len ≤ length new.buffer.items → len ≤ length (held_bytes old) → Ends outcome old (Ok len) new
+      → text ≡ take len new.buffer.items → len ≤ length new.buffer.items → len ≤ length (held_bytes old) → EndsAs outcome old (Ok len) new
   ends_opened len text is status front within short = record {
     key = key;
     index = index ∙ ap (λ (o : Outcome). o.index) (sym is);
@@ -68,8 +69,8 @@ pub moved : {K R : Type 0} (F : K → ℕ → List ℕ → R) {k l : K} {i j : �
 moved F ek ei eb h = cc
 
 -- what the test for an empty chunk after others says
-pub is_empty : (b : Bool) (len i : ℕ) → b ≡ (len == 16 && nat_lt 0 i) → b ≡ true → (len ≡ 16) × (0 < i)
+pub is_empty : (b : Bool) (len i : ℕ) → b ≡ (len == tag_length && nat_lt 0 i) → b ≡ true → (len ≡ tag_length) × (0 < i)
 is_empty b len i is positive = (grind (arith, nat_tests), grind (arith, nat_tests))
 
-pub is_first : (b : Bool) (len i : ℕ) → b ≡ (len == 16 && nat_lt 0 i) → b ≡ false → len ≡ 16 → i ≡ 0
+pub is_first : (b : Bool) (len i : ℕ) → b ≡ (len == tag_length && nat_lt 0 i) → b ≡ false → len ≡ tag_length → i ≡ 0
 is_first b len i is negative tag = grind (arith, nat_tests)

@@ -1,8 +1,8 @@
 -- A step of an opener, for each segment that it was given.
 use Rattle.std.proofs.Common.{inl, inr, ◌≡◌, ℕ, ◌<◌, ◌≤◌, ◌+◌, ◌-◌, refl, ap, sym, subst, ◌∙◌, List, [], ◌∷◌, ◌++◌, length, take, drop, Bool, true, false}
 use Rattle.std.proofs.Common.{arith}
-use Rattle.std.specs.Prelude.{Option, Result, Ok, Err, MatchResult, nat_lt, cond, ◌||◌, if◌then◌else◌}
-use Rattle.std.proofs.lemmas.List.{append-nil, append_assoc, length-take, take-append-drop, take_all}
+use Rattle.std.specs.Prelude.{Option, Result, Ok, Err, IfOk, MatchResult, nat_lt, cond, ◌||◌, if◌then◌else◌}
+use Rattle.std.proofs.lemmas.List.{append-nil, append_assoc, length-append, length-take, nil_from_length, take-append-drop, take_all}
 use Rattle.std.proofs.lemmas.Bool.{cases_lt}
 use Rattle.age_stream.specs.Segment.{Segment, Outcome, outcome, rest_bytes}
 use Rattle.age_stream.specs.inner.SegmentSteps.{one_block, status_after}
@@ -14,6 +14,10 @@ use Rattle.age_stream.specs.declared.step.Status.TheVariants.{Open, LastSeen, Do
 use Rattle.age_stream.specs.Opening.{Stands, given, handed, held_bytes, opener_view}
 use Rattle.age_stream.specs.inner.OpenerSteps.{IsTried, TakesPart, TakesWhole, TakesNone}
 use Rattle.age_stream.proofs.Going.{going, going_part, going_whole, after_piece, unended_piece, IsGoing, IsWhole}
+use Rattle.age_chunk.specs.ChunkBoxes.{tag_length, text_length}
+
+never : true ≡ false → ⊥
+never e = cc
 
 piece_timely : (s : Segment) (ended : Bool) (p : List ℕ) → s.ended ≡ ended → (s.ended ≡ false → s.late ≡ false) → (with_piece s p).ended ≡ false
     → (with_piece s p).late ≡ false
@@ -39,36 +43,36 @@ never_open false i LastSeen h e = cc
 never_open false i Done h e = cc
 never_open false i Open h e = h e
 
-module _ {B : Type 0} {n : ℕ} {g : _} (opening : B → List ℕ → List ℕ → Option (List ℕ)) (old new : OpenerState B n g) (big : 16 ≤ n) where
+module _ {B : Type 0} {n : ℕ} {g : _} (opening : B → List ℕ → List ℕ → Option (List ℕ)) (old new : OpenerState B n g) (big : tag_length ≤ n) where
   -- what a step leaves, for a segment that the opener was given
-  pub record Advances (s next : Segment) (texts : List (List ℕ)) : Type 0 where
-    pub stands : Stands opening (n - 16) (opener_view new) next
-    pub texts_are : (outcome (opening old.key.now) (n - 16) next).texts ≡ (outcome (opening old.key.now) (n - 16) s).texts ++ texts
+  pub record Follows (s next : Segment) (texts : List (List ℕ)) : Type 0 where
+    pub stands : Stands opening (text_length n) (opener_view new) next
+    pub texts_are : (outcome (opening old.key.now) (text_length n) next).texts ≡ (outcome (opening old.key.now) (text_length n) s).texts ++ texts
 
-  back : n - 16 + 16 ≡ n
+  back : text_length n + tag_length ≡ n
   back = omega (arith, big)
 
-  to_new : (next : Segment) → new.key ≡ old.key → new.index ≡ (outcome (opening old.key.now) (n - 16) next).index → new.status
-      ≡ (outcome (opening old.key.now) (n - 16) next).status
-      → (new.status ≡ Open → held_bytes new ≡ rest_bytes (n - 16) next.bytes) → (next.ended ≡ false → next.late ≡ false)
-      → Stands opening (n - 16) (opener_view new) next
+  to_new : (next : Segment) → new.key ≡ old.key → new.index ≡ (outcome (opening old.key.now) (text_length n) next).index → new.status
+      ≡ (outcome (opening old.key.now) (text_length n) next).status
+      → (new.status ≡ Open → held_bytes new ≡ rest_bytes (text_length n) next.bytes) → (next.ended ≡ false → next.late ≡ false)
+      → Stands opening (text_length n) (opener_view new) next
   to_new next key index status held timely =
       record {
-        index = index ∙ ap (λ k. (outcome (opening k.now) (n - 16) next).index) (sym key);
-        status = status ∙ ap (λ k. (outcome (opening k.now) (n - 16) next).status) (sym key);
+        index = index ∙ ap (λ k. (outcome (opening k.now) (text_length n) next).index) (sym key);
+        status = status ∙ ap (λ k. (outcome (opening k.now) (text_length n) next).status) (sym key);
         held = held;
         timely = timely;
       }
 
-  pub part : (s : Segment) (piece : List ℕ) (answer : Result (ℕ × Bool) StreamFault) → Stands opening (n - 16) (opener_view old) s → old.status ≡ Open
+  pub part : (s : Segment) (piece : List ℕ) (answer : Result (ℕ × Bool) StreamFault) → Stands opening (text_length n) (opener_view old) s → old.status ≡ Open
       → length (held_bytes old) + length piece < n → TakesPart old piece answer new
-      → Advances s (with_piece s piece) []
+      → Follows s (with_piece s piece) []
   part s piece answer h open_ short t =
       let op = opening old.key.now in
-      let m = n - 16 in
+      let m = text_length n in
       let goes = going op m s (sym h.status ∙ open_) in
       let held = h.held open_ in
-      let small : length (rest_bytes m s.bytes) + length piece < m + 16 = omega (arith, short, ap length held, back) in
+      let small : length (rest_bytes m s.bytes) + length piece < m + tag_length = omega (arith, short, ap length held, back) in
       let p = going_part op m s piece goes small in
       record {
         stands = to_new (with_piece s piece) t.key (t.index ∙ (h.index ∙ ap (λ (o : Outcome). o.index) (sym p.same))) (t.status
@@ -78,7 +82,7 @@ module _ {B : Type 0} {n : ℕ} {g : _} (opening : B → List ℕ → List ℕ �
       }
 
   -- the front of the piece made a whole block
-  module _ (s : Segment) (piece : List ℕ) (h : Stands opening (n - 16) (opener_view old) s) (open_ : old.status ≡ Open) (long : n
+  module _ (s : Segment) (piece : List ℕ) (h : Stands opening (text_length n) (opener_view old) s) (open_ : old.status ≡ Open) (long : n
       ≤ length (held_bytes old) + length piece) (short : length (held_bytes old) < n) where
     abbrev front : List ℕ
     front = take (n - length (held_bytes old)) piece
@@ -86,42 +90,42 @@ module _ {B : Type 0} {n : ℕ} {g : _} (opening : B → List ℕ → List ℕ �
     front_len : length (held_bytes old) + length front ≡ n
     front_len = omega (arith, length-take (n - length (held_bytes old)) piece, long, short)
 
-    goes : IsGoing (opening old.key.now) (n - 16) s
-    goes = going (opening old.key.now) (n - 16) s (sym h.status ∙ open_)
+    goes : IsGoing (opening old.key.now) (text_length n) s
+    goes = going (opening old.key.now) (text_length n) s (sym h.status ∙ open_)
 
-    whole_front : IsWhole (opening old.key.now) (n - 16) s front
+    whole_front : IsWhole (opening old.key.now) (text_length n) s front
     whole_front =
-        going_whole (opening old.key.now) (n - 16) s front goes (h.timely goes.unended) (omega (arith, front_len, ap length (h.held open_), back))
+        going_whole (opening old.key.now) (text_length n) s front goes (h.timely goes.unended) (omega (arith, front_len, ap length (h.held open_), back))
 
     abbrev trial : Outcome
     trial = one_block (opening old.key.now) old.index (held_bytes old ++ front)
 
-    tried : one_block (opening old.key.now) (outcome (opening old.key.now) (n - 16) s).index (rest_bytes (n - 16) s.bytes ++ front) ≡ trial
+    tried : one_block (opening old.key.now) (outcome (opening old.key.now) (text_length n) s).index (rest_bytes (text_length n) s.bytes ++ front) ≡ trial
     tried =
-        ap (λ (i : ℕ). one_block (opening old.key.now) i (rest_bytes (n - 16) s.bytes ++ front)) (sym h.index)
+        ap (λ (i : ℕ). one_block (opening old.key.now) i (rest_bytes (text_length n) s.bytes ++ front)) (sym h.index)
         ∙ ap (λ (bs : List ℕ). one_block (opening old.key.now) old.index (bs ++ front)) (sym (h.held open_))
 
     pub whole : (answer : Result (ℕ × Bool) StreamFault) → TakesWhole trial old answer new
-        → Advances s (with_piece s (given (λ (a : ℕ × Bool). a.0) answer piece))
-        (handed (λ (a : ℕ × Bool). if a.1 then take (n - 16) new.buffer.items ∷ [] else []) answer)
+        → Follows s (with_piece s (given (λ (a : ℕ × Bool). a.0) answer piece))
+        (handed (λ (a : ℕ × Bool). if a.1 then take (text_length n) new.buffer.items ∷ [] else []) answer)
     whole (Ok a) t =
         let w = whole_front in
         let op = opening old.key.now in
-        let m = n - 16 in
+        let m = text_length n in
         let at : a.0 ≡ n - length (held_bytes old) = omega (arith, t.answered.0, short) in
-        let P : List ℕ → Type 0 = λ p. Advances s (with_piece s p) (take m new.buffer.items ∷ []) in
+        let P : List ℕ → Type 0 = λ p. Follows s (with_piece s p) (take m new.buffer.items ∷ []) in
         let here : P front = record {
           stands = to_new (with_piece s front) t.key (t.index ∙ (ap (λ (o : Outcome). o.index) (sym tried) ∙ sym w.index)) (t.status
               ∙ (ap (λ (o : Outcome). o.status) (sym tried) ∙ sym w.status))
               (λ _. t.answered.2 ∙ sym w.rest) (piece_timely s s.ended front refl h.timely);
           texts_are = w.texts ∙ ap (λ (ts : List (List ℕ)). (outcome op m s).texts ++ ts) (ap (λ (o : Outcome). o.texts) tried ∙ t.answered.3);
         } in
-        let Q : Bool → Type 0 = λ f. Advances s (with_piece s (take a.0 piece)) (if f then take m new.buffer.items ∷ [] else []) in
+        let Q : Bool → Type 0 = λ f. Follows s (with_piece s (take a.0 piece)) (if f then take m new.buffer.items ∷ [] else []) in
         subst Q (sym t.answered.1) (subst P (ap (λ (k : ℕ). take k piece) (sym at)) here)
     whole (Err f) t =
         let w = whole_front in
         let op = opening old.key.now in
-        let m = n - 16 in
+        let m = text_length n in
         let behind = drop (n - length (held_bytes old)) piece in
         let mid = with_piece s front in
         let failed_mid : (outcome op m mid).status ≡ Failed f = w.status ∙ (ap (λ (o : Outcome). o.status) tried ∙ (sym t.status ∙ t.answered.0)) in
@@ -132,7 +136,7 @@ module _ {B : Type 0} {n : ℕ} {g : _} (opening : B → List ℕ → List ℕ �
         failed_mid in
         let join : with_piece mid behind ≡ with_piece s piece = two_pieces s front behind goes.unended
         ∙ ap (with_piece s) (take-append-drop (n - length (held_bytes old)) piece) in
-        let P : Segment → Type 0 = λ x. Advances s x [] in
+        let P : Segment → Type 0 = λ x. Follows s x [] in
         let status : new.status ≡ (outcome op m (with_piece mid behind)).status = t.answered.0 ∙ sym (more.status ∙ stays) in
         subst P join (record {
           stands = to_new (with_piece mid behind) t.key (t.index ∙ (ap (λ (o : Outcome). o.index) (sym tried) ∙ (sym w.index ∙ sym more.index))) status
@@ -141,26 +145,26 @@ module _ {B : Type 0} {n : ℕ} {g : _} (opening : B → List ℕ → List ℕ �
         })
 
   by_answer : (s : Segment) (piece : List ℕ) (answer : Result (ℕ × Bool) StreamFault) → ((p : List ℕ) → nat_lt 0 (length p) ≡ nat_lt 0 (length piece)
-      → Advances s (with_piece s p) [])
+      → Follows s (with_piece s p) [])
       → MatchResult answer (λ a. (a.0 ≡ 0) × (a.1 ≡ false) × (length piece ≡ 0)) (λ fault. new.status ≡ Failed fault)
-      → Advances s (with_piece s (given (λ (a : ℕ × Bool). a.0) answer piece))
-      (handed (λ (a : ℕ × Bool). if a.1 then take (n - 16) new.buffer.items ∷ [] else []) answer)
+      → Follows s (with_piece s (given (λ (a : ℕ × Bool). a.0) answer piece))
+      (handed (λ (a : ℕ × Bool). if a.1 then take (text_length n) new.buffer.items ∷ [] else []) answer)
   by_answer s piece (Ok a) core t =
       let e : length (take a.0 piece) ≡ length piece = omega (arith, length-take a.0 piece, t.0, t.2) in
-      let Q : Bool → Type 0 = λ f. Advances s (with_piece s (take a.0 piece)) (if f then take (n - 16) new.buffer.items ∷ [] else []) in
+      let Q : Bool → Type 0 = λ f. Follows s (with_piece s (take a.0 piece)) (if f then take (text_length n) new.buffer.items ∷ [] else []) in
       subst Q (sym t.1) (core (take a.0 piece) (ap (λ (k : ℕ). nat_lt 0 k) e))
   by_answer s piece (Err f) core t = core piece refl
 
   -- the opener was open no more
-  pub none : (s : Segment) (piece : List ℕ) → Stands opening (n - 16) (opener_view old) s → (old.status ≡ Open → ⊥) → (answer : Result (ℕ × Bool) StreamFault)
+  pub none : (s : Segment) (piece : List ℕ) → Stands opening (text_length n) (opener_view old) s → (old.status ≡ Open → ⊥) → (answer : Result (ℕ × Bool) StreamFault)
       → TakesNone old piece answer new
-      → Advances s (with_piece s (given (λ (a : ℕ × Bool). a.0) answer piece))
-      (handed (λ (a : ℕ × Bool). if a.1 then take (n - 16) new.buffer.items ∷ [] else []) answer)
+      → Follows s (with_piece s (given (λ (a : ℕ × Bool). a.0) answer piece))
+      (handed (λ (a : ℕ × Bool). if a.1 then take (text_length n) new.buffer.items ∷ [] else []) answer)
   none s piece h shut answer t =
       let op = opening old.key.now in
-      let m = n - 16 in
+      let m = text_length n in
       let closed : (outcome op m s).status ≡ Open → ⊥ = λ o. shut (h.status ∙ o) in
-      let core : (p : List ℕ) → nat_lt 0 (length p) ≡ nat_lt 0 (length piece) → Advances s (with_piece s p) [] =
+      let core : (p : List ℕ) → nat_lt 0 (length p) ≡ nat_lt 0 (length piece) → Follows s (with_piece s p) [] =
       λ p e.
       let more = after_piece op m s p h.timely closed in
       let flag : status_after (nat_lt 0 (length piece)) old.index old.status
@@ -175,29 +179,71 @@ module _ {B : Type 0} {n : ℕ} {g : _} (opening : B → List ℕ → List ℕ �
       } in
       by_answer s piece answer core t.answered
 
-  part_answer : (s : Segment) (piece : List ℕ) (answer : Result (ℕ × Bool) StreamFault) → Advances s (with_piece s piece) []
+  part_answer : (s : Segment) (piece : List ℕ) (answer : Result (ℕ × Bool) StreamFault) → Follows s (with_piece s piece) []
       → MatchResult answer (λ a. (a.0 ≡ length piece) × (a.1 ≡ false)) (λ fault. ⊥)
-      → Advances s (with_piece s (given (λ (a : ℕ × Bool). a.0) answer piece))
-      (handed (λ (a : ℕ × Bool). if a.1 then take (n - 16) new.buffer.items ∷ [] else []) answer)
+      → Follows s (with_piece s (given (λ (a : ℕ × Bool). a.0) answer piece))
+      (handed (λ (a : ℕ × Bool). if a.1 then take (text_length n) new.buffer.items ∷ [] else []) answer)
   part_answer s piece (Ok a) h t =
       let e : take a.0 piece ≡ piece = take_all a.0 piece (omega (arith, t.0)) in
-      let Q : Bool → Type 0 = λ f. Advances s (with_piece s (take a.0 piece)) (if f then take (n - 16) new.buffer.items ∷ [] else []) in
-      let P : List ℕ → Type 0 = λ p. Advances s (with_piece s p) [] in
+      let Q : Bool → Type 0 = λ f. Follows s (with_piece s (take a.0 piece)) (if f then take (text_length n) new.buffer.items ∷ [] else []) in
+      let P : List ℕ → Type 0 = λ p. Follows s (with_piece s p) [] in
       subst Q (sym t.1) (subst P (sym e) h)
   part_answer s piece (Err f) h t = absurd t
 
   -- the opener was open
-  pub open_step : (s : Segment) (piece : List ℕ) (answer : Result (ℕ × Bool) StreamFault) → Stands opening (n - 16) (opener_view old) s → old.status
+  pub open_step : (s : Segment) (piece : List ℕ) (answer : Result (ℕ × Bool) StreamFault) → Stands opening (text_length n) (opener_view old) s → old.status
       ≡ Open → length (held_bytes old) < n
       → (length (held_bytes old) + length piece < n → TakesPart old piece answer new)
       → (n ≤ length (held_bytes old) + length piece
       → TakesWhole (one_block (opening old.key.now) old.index (held_bytes old ++ take (n - length (held_bytes old)) piece)) old answer new)
-      → Advances s (with_piece s (given (λ (a : ℕ × Bool). a.0) answer piece))
-      (handed (λ (a : ℕ × Bool). if a.1 then take (n - 16) new.buffer.items ∷ [] else []) answer)
+      → Follows s (with_piece s (given (λ (a : ℕ × Bool). a.0) answer piece))
+      (handed (λ (a : ℕ × Bool). if a.1 then take (text_length n) new.buffer.items ∷ [] else []) answer)
   open_step s piece answer h open_ short f w =
       elim (cases_lt (length (held_bytes old) + length piece) n) [
         | inl lt ↦ (let t = f lt in part_answer s piece answer (part s piece answer h open_ lt t) t.answered)
         | inr le ↦ whole s piece h open_ le short answer (w le)
+      ]
+
+-- what is held after a piece, whether it made a whole block or not
+module _ {B : Type 0} {n : ℕ} {g : _} (old new : OpenerState B n g) (piece : List ℕ) (short : length (held_bytes old) < n) where
+  abbrev Whole : Outcome → Result (ℕ × Bool) StreamFault → Type 0
+  Whole outcome answer = n ≤ length (held_bytes old) + length piece → TakesWhole outcome old answer new
+
+  abbrev Part : Result (ℕ × Bool) StreamFault → Type 0
+  Part answer = length (held_bytes old) + length piece < n → TakesPart old piece answer new
+
+  pub open_still : (answer : Result (ℕ × Bool) StreamFault) → Part answer → length piece ≡ 0 → opener_view new ≡ opener_view old
+  open_still answer part none =
+      let t = part (omega (arith, none, short)) in
+      let held : held_bytes new ≡ held_bytes old = t.held ∙ (ap (λ (p : List ℕ). held_bytes old ++ p) (nil_from_length piece none)
+      ∙ append-nil (held_bytes old)) in
+      cc (held, t.key, t.index, t.status)
+
+  pub open_unlent : (outcome : Outcome) (answer : Result (ℕ × Bool) StreamFault) → Part answer → Whole outcome answer
+      → IfOk answer (λ a. a.1 ≡ false → length (held_bytes new) ≡ length (held_bytes old) + a.0)
+  open_unlent outcome (Err f) part whole = tt
+  open_unlent outcome (Ok a) part whole = λ unlent.
+      elim (cases_lt (length (held_bytes old) + length piece) n) [
+        | inl lt ↦ (let t = part lt in omega (arith, ap length t.held, length-append (held_bytes old) piece, t.answered.0))
+        | inr le ↦ (let t = whole le in absurd (never (sym t.answered.1 ∙ unlent)))
+      ]
+
+  pub open_room : (outcome : Outcome) (answer : Result (ℕ × Bool) StreamFault) → Part answer → Whole outcome answer
+      → IfOk answer (λ a. length (held_bytes new) + length (if a.1 then take (text_length n) new.buffer.items else []) ≤ length (held_bytes old) + a.0)
+  open_room outcome (Err f) part whole = tt
+  open_room outcome (Ok a) part whole =
+      let P : Bool → Type 0 = λ b. length (held_bytes new) + length (if b then take (text_length n) new.buffer.items else []) ≤ length (held_bytes old) + a.0 in
+      elim (cases_lt (length (held_bytes old) + length piece) n) [
+        | inl lt ↦ (
+            let t = part lt in
+            let at : P false = omega (arith, ap length t.held, length-append (held_bytes old) piece, t.answered.0) in
+            subst P (sym t.answered.1) at
+            )
+        | inr le ↦ (
+            let t = whole le in
+            let at : P true = omega (arith, t.answered.0, ap length t.answered.2, length-take (text_length n) new.buffer.items) in
+            subst P (sym t.answered.1) at
+            )
       ]
 
 -- a block that is full was tried: what was taken of the piece, for what was held

@@ -14,7 +14,8 @@ use Rattle.std.proofs.Math.Seq.{drop-nil}
 use Rattle.age_chunk.specs.Nonce.{nonce_bytes}
 use Rattle.age_chunk.specs.Payload.{last_index, last_chunk, chunks, pair, sealed_before_last, sealed}
 use Rattle.age_stream.specs.Parts.{AreChunks}
-use Rattle.age_stream.proofs.Chunks.{length-first_chunks, last_chunk_le}
+use Rattle.age_chunk.proofs.FirstChunks.{length-first_chunks}
+use Rattle.age_stream.proofs.Chunks.{last_chunk_le}
 use Rattle.age_stream.proofs.Sealings.{last_index_is, last_index_le}
 use Rattle.age_stream.proofs.Undamaged.{all_full}
 use Rattle.age_stream.proofs.Counting.{flat_full, first_chunks-full}

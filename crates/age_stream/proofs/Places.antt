@@ -10,7 +10,7 @@ use Rattle.std.proofs.lemmas.List.{length-take, length-drop, take_all}
 use Rattle.std.proofs.lemmas.List.Folds.{list_any_at, Any-from_list_any}
 use Rattle.std.proofs.lemmas.Bool.{cases_lt, lt-ltb, and_parts}
 use Rattle.std.proofs.lemmas.Bool.Decides.{nat_tests}
-use Rattle.age_chunk.specs.ChunkBoxes.{IsChunkBox}
+use Rattle.age_chunk.specs.ChunkBoxes.{IsChunkBox, tag_length}
 use Rattle.age_chunk.specs.Nonce.{nonce_bytes, chunk_limit}
 use Rattle.age_chunk.specs.Payload.{chunks, chunk_count, last_index, last_chunk, pair, sealed}
 use Rattle.age_stream.specs.Segment.{Segment, Outcome, outcome, block_at, text_before_last, unless_greatest, text_then, front_texts, whole_blocks, rest_bytes}
@@ -23,7 +23,7 @@ use Rattle.age_chunk.specs.declared.fault.StreamKind.TheVariants.{ChunkDamaged, 
 use Rattle.age_stream.specs.Headline.{IsWriters, IsAuthentic, IsReached}
 use Rattle.age_stream.specs.Places.{sealed_as, compared, IsFirstWrong, IsInPlace}
 use Rattle.age_chunk.proofs.Nonces.{nonce_bytes-length, nonce_bytes-flag}
-use Rattle.age_stream.proofs.Chunks.{length-first_chunks, get_or-first_chunks}
+use Rattle.age_chunk.proofs.FirstChunks.{length-first_chunks, get_or-first_chunks}
 use Rattle.age_stream.proofs.Segments.{by_test, tag_left, empty_first, writer_text, next_within, opens_before, front_carries, IsPair-from_Contains}
 use Rattle.age_stream.proofs.Going.{place, at_place, past_place}
 use Rattle.age_stream.proofs.Table.{rest_short}
@@ -163,7 +163,7 @@ module _ (sealing : List ℕ → List ℕ → List ℕ) (opening : List ℕ → 
   unsure i last block none = unsure_by (nonce_bytes i last) block (sure (nonce_bytes i last) block) (nonce_bytes-length i last) refl none
 
   -- a block of fewer bytes is none before the last
-  unsure_short_by : (i : ℕ) (block : List ℕ) (b : Bool) → length block < n + 16 → sure (nonce_bytes i false) block ≡ b → sure (nonce_bytes i false) block
+  unsure_short_by : (i : ℕ) (block : List ℕ) (b : Bool) → length block < n + tag_length → sure (nonce_bytes i false) block ≡ b → sure (nonce_bytes i false) block
       ≡ false
   unsure_short_by i block false short e = e
   unsure_short_by i block true short e =
@@ -175,7 +175,7 @@ module _ (sealing : List ℕ → List ℕ → List ℕ) (opening : List ℕ → 
       let len : length x ≡ n = omega (arith, length-take n (drop (p.at * n) text), length-drop (p.at * n) text, fits, m) in
       absurd (omega (arith, short, ap length p.block_is, valid.longer (nonce_bytes i false) x (nonce_bytes-length i false), len))
 
-  unsure_short : (i : ℕ) (block : List ℕ) → length block < n + 16 → sure (nonce_bytes i false) block ≡ false
+  unsure_short : (i : ℕ) (block : List ℕ) → length block < n + tag_length → sure (nonce_bytes i false) block ≡ false
   unsure_short i block short = unsure_short_by i block (sure (nonce_bytes i false) block) short refl
 
   -- the block after those in front doesn't open as one before the last, unless its number is the greatest
@@ -255,11 +255,11 @@ module _ (sealing : List ℕ → List ℕ → List ℕ) (opening : List ℕ → 
   block_same texts i block behind ended None e = last_both texts i block behind ended e
 
   rest_same : (texts : List (List ℕ)) (i : ℕ) (rest : List ℕ) (late ended : Bool)
-      → (ended ≡ true → 16 ≤ length rest → (length rest ≡ 16 → i ≡ 0) → Same (nonce_bytes i true) rest)
+      → (ended ≡ true → tag_length ≤ length rest → (length rest ≡ tag_length → i ≡ 0) → Same (nonce_bytes i true) rest)
       → final_block opening texts i rest late ended ≡ final_block other texts i rest late ended
   rest_same texts i rest late false f = refl
   rest_same texts i rest late true f =
-      four (nat_lt 0 (length rest) && nat_lt (length rest) 16) (length rest == 16 && nat_lt 0 i) (length rest == 0) _ _ _ _ _
+      four (nat_lt 0 (length rest) && nat_lt (length rest) tag_length) (length rest == tag_length && nat_lt 0 i) (length rest == 0) _ _ _ _ _
       (λ uncut first some. last_both texts i rest late true (f refl (tag_left (length rest) uncut some) (empty_first (length rest) i first)))
 
   module _ (s : Segment) (given : IsAuthentic sealing opening n text s) where
@@ -275,8 +275,8 @@ module _ (sealing : List ℕ → List ℕ → List ℕ) (opening : List ℕ → 
     abbrev at : ℕ
     at = s.start + length texts
 
-    count : length blocks ≡ length s.bytes / (n + 16)
-    count = length-first_chunks (n + 16) (length s.bytes / (n + 16)) s.bytes
+    count : length blocks ≡ length s.bytes / (n + tag_length)
+    count = length-first_chunks (n + tag_length) (length s.bytes / (n + tag_length)) s.bytes
 
     front_is : texts ≡ front_texts other s.start blocks
     front_is =
@@ -285,30 +285,30 @@ module _ (sealing : List ℕ → List ℕ → List ℕ) (opening : List ℕ → 
           | inl lt ↦ same (nonce_bytes (s.start + j) false) (get_or blocks j []) (auth.front j lt)
           | inr le ↦
               (let e : length texts ≡ j = omega (arith, le, m) in
-              let lt : length texts < length s.bytes / (n + 16) = omega (arith, e, l, count) in
+              let lt : length texts < length s.bytes / (n + tag_length) = omega (arith, e, l, count) in
               subst (λ (k : ℕ). Same (nonce_bytes (s.start + k) false) (get_or blocks k [])) e
               (same (nonce_bytes at false) (get_or blocks (length texts) []) (auth.next lt false)))
         ])
 
     compares : outcome opening n s ≡ outcome other n s
     compares =
-        let behind = nat_lt ((length texts + 1) * (n + 16)) (length s.bytes) in
+        let behind = nat_lt ((length texts + 1) * (n + tag_length)) (length s.bytes) in
         let rest = rest_bytes n s.bytes in
         elim (place opening n s) [
           | inl lt ↦
               (let b = get_or blocks (length texts) [] in
-              let lt' : length texts < length s.bytes / (n + 16) = omega (arith, lt, count) in
+              let lt' : length texts < length s.bytes / (n + tag_length) = omega (arith, lt, count) in
               let lt2 : length (front_texts other s.start blocks) < length blocks = subst (λ (ts : List (List ℕ)). length ts < length blocks) front_is lt in
               let o = opening (nonce_bytes at false) b in
               at_place opening n s lt
               ∙ (block_same texts at b (behind || s.late) s.ended o (same (nonce_bytes at true) b (auth.next lt' true))
               ∙ (ap (λ (x : Option (List ℕ)). at_block other texts at b (behind || s.late) s.ended x) (same (nonce_bytes at false) b (auth.next lt' false))
               ∙ (ap (λ (ts : List (List ℕ)). at_block other ts (s.start + length ts) (get_or blocks (length ts) [])
-              (nat_lt ((length ts + 1) * (n + 16)) (length s.bytes) || s.late) s.ended
+              (nat_lt ((length ts + 1) * (n + tag_length)) (length s.bytes) || s.late) s.ended
               (other (nonce_bytes (s.start + length ts) false) (get_or blocks (length ts) []))) front_is
               ∙ sym (at_place other n s lt2)))))
           | inr eq ↦
-              (let eq' : length texts ≡ length s.bytes / (n + 16) = eq ∙ count in
+              (let eq' : length texts ≡ length s.bytes / (n + tag_length) = eq ∙ count in
               let eq2 : length (front_texts other s.start blocks) ≡ length blocks = subst (λ (ts : List (List ℕ)). length ts ≡ length blocks) front_is eq in
               past_place opening n s eq
               ∙ (rest_same texts at rest s.late s.ended
@@ -319,7 +319,7 @@ module _ (sealing : List ℕ → List ℕ → List ℕ) (opening : List ℕ → 
         ]
 
     block_is : (j : ℕ) → j < length blocks → block_at n s.bytes j ≡ get_or blocks j []
-    block_is j lt = sym (get_or-first_chunks (n + 16) (length s.bytes / (n + 16)) s.bytes j [] (omega (arith, lt, count)))
+    block_is j lt = sym (get_or-first_chunks (n + tag_length) (length s.bytes / (n + tag_length)) s.bytes j [] (omega (arith, lt, count)))
 
     first_wrong : ((last : Bool) → sure (nonce_bytes at last) (block_at n s.bytes (length texts)) ≡ false) → length texts ≤ length blocks
         → IsFirstWrong sealing n text s at
@@ -362,8 +362,8 @@ module _ (sealing : List ℕ → List ℕ → List ℕ) (opening : List ℕ → 
     right_rest rest late true f =
         let last : Right (after_last opening texts at (opening (nonce_bytes at true) rest) late true) = right_last (opening (nonce_bytes at true) rest)
         late true f in
-        by_test Right (nat_lt 0 (length rest) && nat_lt (length rest) 16) _ _ (λ _. right_kind texts ChunkCut at (λ e. cc) (λ e. cc))
-        (λ _. by_test Right (length rest == 16 && nat_lt 0 at) _ _ (λ _. right_kind texts EmptyLast at (λ e. cc) (λ e. cc))
+        by_test Right (nat_lt 0 (length rest) && nat_lt (length rest) tag_length) _ _ (λ _. right_kind texts ChunkCut at (λ e. cc) (λ e. cc))
+        (λ _. by_test Right (length rest == tag_length && nat_lt 0 at) _ _ (λ _. right_kind texts EmptyLast at (λ e. cc) (λ e. cc))
         (λ _. by_test Right (length rest == 0) _ _ (λ _. right_kind texts Truncated at (λ e. cc) (λ e. cc)) (λ _. last)))
 
     module _ (reached : IsReached sealing opening n text s) where
@@ -376,7 +376,7 @@ module _ (sealing : List ℕ → List ℕ → List ℕ) (opening : List ℕ → 
       not_before None lt e = e
       not_before (Some x) lt e =
           let b = get_or blocks (length texts) [] in
-          let lt' : length texts < length s.bytes / (n + 16) = omega (arith, lt, count) in
+          let lt' : length texts < length s.bytes / (n + tag_length) = omega (arith, lt, count) in
           let c = writer_text sealing opening valid n text few positive at false b x low e (auth.next lt' false) in
           let below = c.below in
           let flag = c.flag in
@@ -404,12 +404,12 @@ module _ (sealing : List ℕ → List ℕ → List ℕ) (opening : List ℕ → 
       right_left : length texts ≡ length blocks → Right (final_block opening texts at (rest_bytes n s.bytes) s.late s.ended)
       right_left eq =
           let rest = rest_bytes n s.bytes in
-          let short : length rest < n + 16 = rest_short n s.bytes in
+          let short : length rest < n + tag_length = rest_short n s.bytes in
           let is : block_at n s.bytes (length texts) ≡ rest =
-          ap (block_at n s.bytes) (eq ∙ count) ∙ take_all (n + 16) rest (omega (arith, short)) in
+          ap (block_at n s.bytes) (eq ∙ count) ∙ take_all (n + tag_length) rest (omega (arith, short)) in
           right_rest rest s.late s.ended (λ shut. first_wrong (λ last. ap (sure (nonce_bytes at last)) is ∙ neither last rest short shut) (omega (arith, eq)))
         where
-          neither : (last : Bool) (b : List ℕ) → length b < n + 16 → opening (nonce_bytes at true) b ≡ None → sure (nonce_bytes at last) b ≡ false
+          neither : (last : Bool) (b : List ℕ) → length b < n + tag_length → opening (nonce_bytes at true) b ≡ None → sure (nonce_bytes at last) b ≡ false
           neither true b short shut = unsure at true b shut
           neither false b short shut = unsure_short at b short
 
@@ -417,7 +417,7 @@ module _ (sealing : List ℕ → List ℕ → List ℕ) (opening : List ℕ → 
       in_place =
           let right : Right (outcome opening n s) =
           elim (place opening n s) [
-            | inl lt ↦ subst Right (sym (at_place opening n s lt)) (right_block lt (nat_lt ((length texts + 1) * (n + 16)) (length s.bytes) || s.late) s.ended)
+            | inl lt ↦ subst Right (sym (at_place opening n s lt)) (right_block lt (nat_lt ((length texts + 1) * (n + tag_length)) (length s.bytes) || s.late) s.ended)
             | inr eq ↦ subst Right (sym (past_place opening n s eq)) (right_left eq)
           ] in
           record { compares = compares; damaged = right.0; few = right.1 }

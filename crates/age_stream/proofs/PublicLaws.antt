@@ -5,7 +5,7 @@ use Rattle.std.specs.List.{enumerate_from, AllByRecursion}
 use Rattle.std.specs.Simd.{first_chunks}
 use Rattle.std.proofs.lemmas.List.{length-append, length-drop, append-nil}
 use Rattle.std.proofs.lemmas.Grind.{flat_map-append}
-use Rattle.age_chunk.specs.ChunkBoxes.{IsChunkBox}
+use Rattle.age_chunk.specs.ChunkBoxes.{IsChunkBox, tag_length}
 use Rattle.age_chunk.specs.Nonce.{nonce_bytes}
 use Rattle.age_chunk.specs.Payload.{last_index, last_chunk, pair, sealed_before_last, block_bytes, payload}
 use Rattle.age_stream.specs.Segment.{Segment, Outcome, outcome, front_texts, whole_blocks, rest_bytes}
@@ -17,7 +17,7 @@ use Rattle.age_stream.specs.Authentic.{RestIsAuthentic}
 use Rattle.age_stream.specs.Laws.{PiecesJoin, ReleasedGrows, ChunksAreCounted, SealedGrows, FreshIsOpen, IsSettled, ClosedStays, EndCloses, ReleasedIsWritten}
 use Rattle.age_stream.specs.Laws.{PayloadIsLonger}
 use Rattle.age_chunk.proofs.Nonces.{nonce_bytes-length}
-use Rattle.age_stream.proofs.Chunks.{length-first_chunks}
+use Rattle.age_chunk.proofs.FirstChunks.{length-first_chunks}
 use Rattle.age_stream.proofs.Table.{by_blocks}
 use Rattle.age_stream.proofs.Going.{going, after_piece, after_end, IsAfterBytes, IsAfterEnd}
 use Rattle.age_stream.proofs.Growing.{index_stop}
@@ -82,7 +82,7 @@ index_of opening n s =
     let texts = front_texts opening s.start (whole_blocks n s.bytes) in
     let m = length texts in
     ap (λ (o : Outcome). o.index) (by_blocks opening n s)
-    ∙ index_stop opening n texts (s.start + m) (slice_get (whole_blocks n s.bytes) m) (nat_lt ((m + 1) * (n + 16)) (length s.bytes)) (rest_bytes n s.bytes)
+    ∙ index_stop opening n texts (s.start + m) (slice_get (whole_blocks n s.bytes) m) (nat_lt ((m + 1) * (n + tag_length)) (length s.bytes)) (rest_bytes n s.bytes)
     s.late s.ended
 
 pub end_closes : EndCloses
@@ -95,20 +95,20 @@ end_closes opening n s = (
 
 module _ (sealing : List ℕ → List ℕ → List ℕ) (opening : List ℕ → List ℕ → Option (List ℕ)) (valid : IsChunkBox sealing opening) (n : ℕ) where
   blocks_length : (i : ℕ) (chunks : List (List ℕ)) → AllByRecursion (λ (x : List ℕ). length x ≡ n) chunks
-      → length (block_bytes (map (pair sealing false) (enumerate_from i chunks))) ≡ length chunks * (n + 16)
+      → length (block_bytes (map (pair sealing false) (enumerate_from i chunks))) ≡ length chunks * (n + tag_length)
   blocks_length i [] all = omega arith
   blocks_length i (x ∷ xs) all =
       let block = sealing (nonce_bytes i false) x in
-      let one : length block ≡ n + 16 = valid.longer (nonce_bytes i false) x (nonce_bytes-length i false) ∙ ap (λ (k : ℕ). k + 16) all.0 in
+      let one : length block ≡ n + tag_length = valid.longer (nonce_bytes i false) x (nonce_bytes-length i false) ∙ ap (λ (k : ℕ). k + tag_length) all.0 in
       let rest = blocks_length (i + 1) xs all.1 in
-      let more : suc (length xs) * (n + 16) ≡ (n + 16) + length xs * (n + 16) = omega arith in
+      let more : suc (length xs) * (n + tag_length) ≡ (n + tag_length) + length xs * (n + tag_length) = omega arith in
       length-append block (block_bytes (map (pair sealing false) (enumerate_from (i + 1) xs))) ∙ omega (arith, one, rest, more)
 
-  front_length : (text : List ℕ) → length (block_bytes (sealed_before_last sealing n text)) ≡ last_index n text * (n + 16)
+  front_length : (text : List ℕ) → length (block_bytes (sealed_before_last sealing n text)) ≡ last_index n text * (n + tag_length)
   front_length text =
       let q = last_index n text in
       blocks_length 0 (first_chunks n q text) (all_full n q text (omega (arith, last_index_le n text)))
-      ∙ ap (λ (k : ℕ). k * (n + 16)) (length-first_chunks n q text)
+      ∙ ap (λ (k : ℕ). k * (n + tag_length)) (length-first_chunks n q text)
 
 pub payload_is_longer : PayloadIsLonger
 payload_is_longer sealing opening valid n text =
@@ -119,7 +119,7 @@ payload_is_longer sealing opening valid n text =
     flat_map-append (λ (p : List ℕ × List ℕ). p.1) (sealed_before_last sealing n text) (pair sealing true (q, last_chunk n text) ∷ [])
     ∙ ap (λ (x : List ℕ). front ++ x) (append-nil last) in
     let size = front_length sealing opening valid n text in
-    let block : length last ≡ length (last_chunk n text) + 16 = valid.longer (nonce_bytes q true) (last_chunk n text) (nonce_bytes-length q true) in
-    let e : q * (n + 16) ≡ q * n + q * 16 = omega arith in
-    let f : (q + 1) * 16 ≡ q * 16 + 16 = omega arith in
+    let block : length last ≡ length (last_chunk n text) + tag_length = valid.longer (nonce_bytes q true) (last_chunk n text) (nonce_bytes-length q true) in
+    let e : q * (n + tag_length) ≡ q * n + q * tag_length = omega arith in
+    let f : (q + 1) * tag_length ≡ q * tag_length + tag_length = omega arith in
     (omega (arith, ap length is, length-append front last, size, block, length-drop (q * n) text, last_index_le n text, e, f), size)

@@ -9,6 +9,7 @@ use Rattle.age_stream.specs.declared.step.Status.TheVariants.{Open, LastSeen, Do
 use Rattle.age_chunk.specs.Nonce.{chunk_limit}
 use Rattle.age_stream.specs.Lent.{chunk_bytes}
 use Rattle.age_stream.specs.Opening.{while_open, whole_text}
+use Rattle.age_chunk.specs.ChunkBoxes.{tag_length, text_length}
 
 pub open_number : (s : Status) (k : ℕ) → s ≡ Open → while_open s k ≡ k
 open_number s k e = ap (λ (x : Status). while_open x k) e
@@ -21,14 +22,14 @@ shut_number (Failed f) k h = refl
 
 -- what is left to come needs the room that is left
 pub room_left : (n h t p : ℕ) (held : List ℕ) (chunk : Option (Bor (List ℕ)))
-    → IfSome chunk (λ chunk. (length chunk.now ≡ n) × (h + t ≡ n + 16) × (held ≡ []))
+    → IfSome chunk (λ chunk. (length chunk.now ≡ n) × (h + t ≡ n + tag_length) × (held ≡ []))
     → IfNone chunk (length held ≡ h + t) → t ≤ p
     → length (chunk_bytes chunk) + whole_text n (length held + (p - t)) ≤ whole_text n (h + p)
 room_left n h t p held None some none le =
     let e : length held + (p - t) ≡ h + p = omega (arith, none, le) in
-    omega (arith, ap (λ (k : ℕ). k / (n + 16) * n) e)
+    omega (arith, ap (λ (k : ℕ). k / (n + tag_length) * n) e)
 room_left n h t p held (Some chunk) some none le =
-    let z = n + 16 in
+    let z = n + tag_length in
     let pos : 0 < z = omega arith in
     let k = length held + (p - t) in
     let none : length held ≡ 0 = ap length some.2 in
@@ -38,11 +39,11 @@ room_left n h t p held (Some chunk) some none le =
     omega (arith, some.0, ap (λ (x : ℕ). x * n) d, m)
 
 -- the text of whole blocks is no longer than they are
-pub text_below : (z k : ℕ) → 16 ≤ z → k / z * (z - 16) ≤ k
+pub text_below : (z k : ℕ) → tag_length ≤ z → k / z * text_length z ≤ k
 text_below z k le =
     let q = k / z in
-    let e : z ≡ z - 16 + 16 = omega (arith, le) in
-    let m : q * (z - 16 + 16) ≡ q * (z - 16) + q * 16 = omega arith in
+    let e : z ≡ text_length z + tag_length = omega (arith, le) in
+    let m : q * (text_length z + tag_length) ≡ q * text_length z + q * tag_length = omega arith in
     omega (arith, div-mul-le_self k z, ap (λ (x : ℕ). q * x) e, m)
 
 first_true : (a b : Bool) → (a && b) ≡ true → a ≡ true

@@ -9,7 +9,8 @@ use Rattle.std.proofs.lemmas.Bool.{cases_lt}
 use Rattle.std.proofs.lemmas.Nat.{div-mul-add}
 use Rattle.std.proofs.Math.Nat.{div-mul-le_self}
 use Rattle.age_chunk.specs.Payload.{last_index, last_chunk, sealed_before_last, block_bytes, pair}
-use Rattle.age_stream.proofs.Chunks.{last_chunk_le, first_chunks_more, first_chunks-append, enumerate_from_more, length-first_chunks}
+use Rattle.age_chunk.proofs.FirstChunks.{first_chunks_more, first_chunks-append, length-first_chunks}
+use Rattle.age_stream.proofs.Chunks.{last_chunk_le, enumerate_from_more}
 
 -- the last index, by its bounds
 pub last_index_is : (m : ℕ) (text : List ℕ) (i : ℕ) → i * m ≤ length text - 1 → length text - 1 < (i + 1) * m → last_index m text ≡ i

@@ -11,7 +11,7 @@ use Rattle.std.proofs.lemmas.Bool.Decides.{nat_tests}
 use Rattle.std.proofs.Math.Nat.{le-div_iff_mul-le}
 use Rattle.std.proofs.lemmas.List.FromFn.{length-enumerate_from, get_or-enumerate_from}
 use Rattle.std.proofs.lemmas.Option.{cond_some}
-use Rattle.age_chunk.specs.ChunkBoxes.{IsChunkBox}
+use Rattle.age_chunk.specs.ChunkBoxes.{IsChunkBox, tag_length}
 use Rattle.age_chunk.specs.Nonce.{nonce_bytes, chunk_limit}
 use Rattle.age_chunk.specs.Payload.{chunk_count, last_index, last_chunk, pair, sealed_before_last, sealed}
 use Rattle.age_stream.specs.Segment.{Segment, Outcome, outcome, text_before_last, unless_greatest, text_then, front_texts, whole_blocks, rest_bytes, failed}
@@ -22,7 +22,8 @@ use Rattle.age_chunk.specs.declared.fault.StreamKind.TheVariants.{ChunkDamaged, 
 use Rattle.age_stream.specs.Headline.{IsWriters, IsAuthentic, IsPrefixOf}
 use Rattle.age_stream.specs.Deliveries.{with_piece}
 use Rattle.age_chunk.proofs.Nonces.{nonce_bytes-length, nonce_bytes-number, nonce_bytes-flag}
-use Rattle.age_stream.proofs.Chunks.{length-first_chunks, get_or-first_chunks, last_chunk_le, slice_get-within, slice_get-past}
+use Rattle.age_chunk.proofs.FirstChunks.{length-first_chunks, get_or-first_chunks}
+use Rattle.age_stream.proofs.Chunks.{last_chunk_le, slice_get-within, slice_get-past}
 use Rattle.age_stream.proofs.Table.{verdict_at, by_blocks, length-front_texts}
 use Rattle.age_stream.proofs.Tried.{tried}
 
@@ -84,22 +85,22 @@ by_test P true x y f g = f refl
 by_test P false x y f g = g refl
 
 -- what is left at the end has a tag, and is only a tag at number 0
-pub tag_left : (len : ℕ) → (nat_lt 0 len && nat_lt len 16) ≡ false → (len == 0) ≡ false → 16 ≤ len
+pub tag_left : (len : ℕ) → (nat_lt 0 len && nat_lt len tag_length) ≡ false → (len == 0) ≡ false → tag_length ≤ len
 tag_left len uncut some =
-    elim (cases_lt len 16) [
+    elim (cases_lt len tag_length) [
       | inl lt ↦
           (let pos : 0 < len = grind (arith, nat_tests) in
-          let cut : (nat_lt 0 len && nat_lt len 16) ≡ true = ap (λ (b : Bool). b && nat_lt len 16) (lt-ltb 0 len pos) ∙ lt-ltb len 16 lt in
+          let cut : (nat_lt 0 len && nat_lt len tag_length) ≡ true = ap (λ (b : Bool). b && nat_lt len tag_length) (lt-ltb 0 len pos) ∙ lt-ltb len tag_length lt in
           let no : true ≡ false = sym cut ∙ uncut in
           cc)
       | inr le ↦ le
     ]
 
-pub empty_first : (len i : ℕ) → (len == 16 && nat_lt 0 i) ≡ false → len ≡ 16 → i ≡ 0
+pub empty_first : (len i : ℕ) → (len == tag_length && nat_lt 0 i) ≡ false → len ≡ tag_length → i ≡ 0
 empty_first len i first is =
     elim (cases_lt 0 i) [
       | inl lt ↦
-          (let later : (len == 16 && nat_lt 0 i) ≡ true = ap (λ (b : Bool). b && nat_lt 0 i) (eq-eqb len 16 is) ∙ lt-ltb 0 i lt in
+          (let later : (len == tag_length && nat_lt 0 i) ≡ true = ap (λ (b : Bool). b && nat_lt 0 i) (eq-eqb len tag_length is) ∙ lt-ltb 0 i lt in
           let no : true ≡ false = sym later ∙ first in
           cc)
       | inr le ↦ omega (arith, le)
@@ -251,15 +252,15 @@ module _ (sealing : List ℕ → List ℕ → List ℕ) (opening : List ℕ → 
       small refl w e
 
   released_rest : (i : ℕ) (start : List ℕ) (texts : List (List ℕ)) (rest : List ℕ) (late ended : Bool) → i < chunk_limit
-      → (ended ≡ true → 16 ≤ length rest → (length rest ≡ 16 → i ≡ 0) → IsWriters sealing opening n text (nonce_bytes i true) rest)
+      → (ended ≡ true → tag_length ≤ length rest → (length rest ≡ tag_length → i ≡ 0) → IsWriters sealing opening n text (nonce_bytes i true) rest)
       → start ++ flat_map (λ (t : List ℕ). t) texts ≡ take (i * n) text → IsReleased i start (final_block opening texts i rest late ended)
   released_rest i start texts rest late false small w e = at_carried i start texts Open e (λ d. cc)
   released_rest i start texts rest late true small w e =
       let P : Outcome → Type 0 = IsReleased i start in
-      let last = λ (h : 16 ≤ length rest) (z : length rest ≡ 16 → i ≡ 0). released_last i start texts rest late true (opening (nonce_bytes i true) rest)
+      let last = λ (h : tag_length ≤ length rest) (z : length rest ≡ tag_length → i ≡ 0). released_last i start texts rest late true (opening (nonce_bytes i true) rest)
       small refl (w refl h z) e in
-      by_test P (nat_lt 0 (length rest) && nat_lt (length rest) 16) _ _ (λ t. at_carried i start texts (failed ChunkCut i) e (λ d. cc))
-      (λ uncut. by_test P (length rest == 16 && nat_lt 0 i) _ _ (λ t. at_carried i start texts (failed EmptyLast i) e (λ d. cc))
+      by_test P (nat_lt 0 (length rest) && nat_lt (length rest) tag_length) _ _ (λ t. at_carried i start texts (failed ChunkCut i) e (λ d. cc))
+      (λ uncut. by_test P (length rest == tag_length && nat_lt 0 i) _ _ (λ t. at_carried i start texts (failed EmptyLast i) e (λ d. cc))
       (λ first. by_test P (length rest == 0) _ _ (λ t. at_carried i start texts (failed Truncated i) e (λ d. cc))
       (λ some. last (tag_left (length rest) uncut some) (empty_first (length rest) i first))))
 
@@ -267,7 +268,7 @@ module _ (sealing : List ℕ → List ℕ → List ℕ) (opening : List ℕ → 
       → IsAuthentic sealing opening n text s → IsReleased (s.start + length (front_texts opening s.start (whole_blocks n s.bytes))) base (outcome opening n s)
   released_segment s base small fits e given =
       let auth = tried sealing opening n text s given in
-      let size = n + 16 in
+      let size = n + tag_length in
       let blocks = whole_blocks n s.bytes in
       let texts = front_texts opening s.start blocks in
       let m = length texts in

@@ -11,7 +11,9 @@ use Rattle.age_stream.specs.Segment.{Segment, Outcome, outcome, verdict, block_a
 use Rattle.age_stream.specs.inner.SegmentSteps.{after_last, at_block, final_block}
 use Rattle.age_stream.specs.declared.step.Status.TheVariants.{LastSeen, Done}
 use Rattle.age_chunk.specs.declared.fault.StreamKind.TheVariants.{ChunkDamaged, ChunkCut, EmptyLast, Truncated, Trailing, TooManyChunks}
-use Rattle.age_stream.proofs.Chunks.{length-first_chunks, get_or-first_chunks, slice_get-within, slice_get-past}
+use Rattle.age_chunk.proofs.FirstChunks.{length-first_chunks, get_or-first_chunks}
+use Rattle.age_stream.proofs.Chunks.{slice_get-within, slice_get-past}
+use Rattle.age_chunk.specs.ChunkBoxes.{tag_length}
 
 -- a line that doesn't hold
 skip : {A : Type 0} (b : Bool) (x y : A) → b ≡ false → cond b x y ≡ y
@@ -20,20 +22,20 @@ skip false x y e = refl
 
 -- the lines on how many bytes are left, in another order
 sizes : {A : Type 0} (len : ℕ) (empty : Bool) (none cut tag more : A)
-    → cond (len == 0) none (cond (nat_lt len 16) cut (cond (len == 16 && empty) tag more))
-    ≡ cond (nat_lt 0 len && nat_lt len 16) cut (cond (len == 16 && empty) tag (cond (len == 0) none more))
+    → cond (len == 0) none (cond (nat_lt len tag_length) cut (cond (len == tag_length && empty) tag more))
+    ≡ cond (nat_lt 0 len && nat_lt len tag_length) cut (cond (len == tag_length && empty) tag (cond (len == 0) none more))
 sizes {A} zero empty none cut tag more = refl
 sizes {A} (suc len) empty none cut tag more =
     let some : (suc len == 0) ≡ false = grind (arith, nat_tests) in
     let pos : nat_lt 0 (suc len) ≡ true = lt-ltb 0 (suc len) (omega arith) in
-    let rest = cond (suc len == 16 && empty) tag more in
-    skip (suc len == 0) none (cond (nat_lt (suc len) 16) cut rest) some
-    ∙ sym (ap (λ (b : Bool). cond (b && nat_lt (suc len) 16) cut (cond (suc len == 16 && empty) tag (cond (suc len == 0) none more))) pos
-    ∙ ap (λ (x : A). cond (nat_lt (suc len) 16) cut (cond (suc len == 16 && empty) tag x)) (skip (suc len == 0) none more some))
+    let rest = cond (suc len == tag_length && empty) tag more in
+    skip (suc len == 0) none (cond (nat_lt (suc len) tag_length) cut rest) some
+    ∙ sym (ap (λ (b : Bool). cond (b && nat_lt (suc len) tag_length) cut (cond (suc len == tag_length && empty) tag (cond (suc len == 0) none more))) pos
+    ∙ ap (λ (x : A). cond (nat_lt (suc len) tag_length) cut (cond (suc len == tag_length && empty) tag x)) (skip (suc len == 0) none more some))
 
-pub rest_short : (n : ℕ) (bytes : List ℕ) → length (rest_bytes n bytes) < n + 16
+pub rest_short : (n : ℕ) (bytes : List ℕ) → length (rest_bytes n bytes) < n + tag_length
 rest_short n bytes =
-    let z = n + 16 in
+    let z = n + tag_length in
     let q = length bytes / z in
     elim (cases_lt (length bytes) ((q + 1) * z)) [
       | inl lt ↦ omega (arith, length-drop (q * z) bytes)
@@ -61,7 +63,7 @@ module _ (opening : List ℕ → List ℕ → Option (List ℕ)) where
   outcome_of n start blocks len rest late ended =
       let texts = front_texts opening start blocks in
       let m = length texts in
-      verdict_at texts (start + m) (slice_get blocks m) (nat_lt ((m + 1) * (n + 16)) len) rest late ended
+      verdict_at texts (start + m) (slice_get blocks m) (nat_lt ((m + 1) * (n + tag_length)) len) rest late ended
 
   -- the lines on the last block
   last_lines : (texts : List (List ℕ)) (i : ℕ) (o : Option (List ℕ)) (followed ended : Bool)
@@ -82,14 +84,14 @@ module _ (opening : List ℕ → List ℕ → Option (List ℕ)) where
   whole_lines texts i block None followed ended more e = e
   whole_lines texts i block (Some t) followed ended more e = refl
 
-  whole_verdict : (texts : List (List ℕ)) (i : ℕ) (block : List ℕ) (followed ended : Bool) → 16 ≤ length block
+  whole_verdict : (texts : List (List ℕ)) (i : ℕ) (block : List ℕ) (followed ended : Bool) → tag_length ≤ length block
       → verdict opening (record { texts = texts; index = i; block = block; whole = true; followed = followed; ended = ended })
       ≡ at_block opening texts i block followed ended (opening (nonce_bytes i false) block)
   whole_verdict texts i block followed ended long =
       let some : (length block == 0) ≡ false = grind (arith, nat_tests) in
-      let uncut : nat_lt (length block) 16 ≡ false = le-ltb (length block) 16 long in
+      let uncut : nat_lt (length block) tag_length ≡ false = le-ltb (length block) tag_length long in
       skip (length block == 0) _ _ some
-      ∙ (skip (nat_lt (length block) 16) _ _ uncut
+      ∙ (skip (nat_lt (length block) tag_length) _ _ uncut
       ∙ whole_lines texts i block (opening (nonce_bytes i false) block) followed ended _ (last_lines texts i (opening (nonce_bytes i true) block) followed
       ended))
 
@@ -99,8 +101,8 @@ module _ (opening : List ℕ → List ℕ → Option (List ℕ)) where
   short_verdict texts i rest late false = refl
   short_verdict texts i rest late true =
       sizes (length rest) (nat_lt 0 i) _ _ _ _
-      ∙ ap (λ (o : Outcome). cond (nat_lt 0 (length rest) && nat_lt (length rest) 16) (record { texts = texts; index = i; status = failed ChunkCut i })
-      (cond (length rest == 16 && nat_lt 0 i) (record { texts = texts; index = i; status = failed EmptyLast i })
+      ∙ ap (λ (o : Outcome). cond (nat_lt 0 (length rest) && nat_lt (length rest) tag_length) (record { texts = texts; index = i; status = failed ChunkCut i })
+      (cond (length rest == tag_length && nat_lt 0 i) (record { texts = texts; index = i; status = failed EmptyLast i })
       (cond (length rest == 0) (record { texts = texts; index = i; status = failed Truncated i }) o)))
       (last_lines texts i (opening (nonce_bytes i true) rest) late true)
 
@@ -113,7 +115,7 @@ module _ (opening : List ℕ → List ℕ → Option (List ℕ)) where
     texts = front_texts opening s.start blocks
 
     abbrev followed : Bool
-    followed = nat_lt ((length texts + 1) * (n + 16)) (length s.bytes)
+    followed = nat_lt ((length texts + 1) * (n + tag_length)) (length s.bytes)
 
     abbrev read : List ℕ → Bool → Bool → Outcome
     read block whole followed = verdict opening (record {
@@ -125,8 +127,8 @@ module _ (opening : List ℕ → List ℕ → Option (List ℕ)) where
       ended = s.ended;
     })
 
-    count : length blocks ≡ length s.bytes / (n + 16)
-    count = length-first_chunks (n + 16) (length s.bytes / (n + 16)) s.bytes
+    count : length blocks ≡ length s.bytes / (n + tag_length)
+    count = length-first_chunks (n + tag_length) (length s.bytes / (n + tag_length)) s.bytes
 
     at_whole : length texts < length blocks → outcome opening n s ≡ outcome_of n s.start blocks (length s.bytes) (rest_bytes n s.bytes) s.late s.ended
     unfolding outcome
@@ -134,19 +136,19 @@ module _ (opening : List ℕ → List ℕ → Option (List ℕ)) where
         let j = length texts in
         let i = s.start + j in
         let b = get_or blocks j [] in
-        let block : block_at n s.bytes j ≡ b = sym (get_or-first_chunks (n + 16) (length s.bytes / (n + 16)) s.bytes j [] (omega (arith, lt, count))) in
-        let pos : 0 < n + 16 = omega arith in
-        let fits : (j + 1) * (n + 16) ≤ length s.bytes = (le-div_iff_mul-le pos).0 (omega (arith, lt, count)) in
-        let e : (j + 1) * (n + 16) ≡ j * (n + 16) + (n + 16) = omega arith in
-        let len : length (block_at n s.bytes j) ≡ n + 16 = omega (
+        let block : block_at n s.bytes j ≡ b = sym (get_or-first_chunks (n + tag_length) (length s.bytes / (n + tag_length)) s.bytes j [] (omega (arith, lt, count))) in
+        let pos : 0 < n + tag_length = omega arith in
+        let fits : (j + 1) * (n + tag_length) ≤ length s.bytes = (le-div_iff_mul-le pos).0 (omega (arith, lt, count)) in
+        let e : (j + 1) * (n + tag_length) ≡ j * (n + tag_length) + (n + tag_length) = omega arith in
+        let len : length (block_at n s.bytes j) ≡ n + tag_length = omega (
           arith,
-          length-take (n + 16) (drop (j * (n + 16)) s.bytes),
-          length-drop (j * (n + 16)) s.bytes,
+          length-take (n + tag_length) (drop (j * (n + tag_length)) s.bytes),
+          length-drop (j * (n + tag_length)) s.bytes,
           fits,
           e,
         ) in
-        let long : 16 ≤ length b = omega (arith, len, ap length block) in
-        ap (λ (w : Bool). read (block_at n s.bytes j) w (followed || s.late)) (eq-eqb (length (block_at n s.bytes j)) (n + 16) len)
+        let long : tag_length ≤ length b = omega (arith, len, ap length block) in
+        ap (λ (w : Bool). read (block_at n s.bytes j) w (followed || s.late)) (eq-eqb (length (block_at n s.bytes j)) (n + tag_length) len)
         ∙ (ap (λ (c : List ℕ). read c true (followed || s.late)) block
         ∙ (whole_verdict texts i b (followed || s.late) s.ended long
         ∙ sym (ap (λ (o : Option (List ℕ)). verdict_at texts i o followed (rest_bytes n s.bytes) s.late s.ended) (slice_get-within blocks j [] lt))))
@@ -158,14 +160,14 @@ module _ (opening : List ℕ → List ℕ → Option (List ℕ)) where
         let j = length texts in
         let i = s.start + j in
         let rest = rest_bytes n s.bytes in
-        let eq : j ≡ length s.bytes / (n + 16) = omega (arith, ge, le, count) in
-        let short : length rest < n + 16 = rest_short n s.bytes in
-        let block : block_at n s.bytes j ≡ rest = ap (block_at n s.bytes) eq ∙ take_all (n + 16) rest (omega (arith, short)) in
-        let part : (length rest == n + 16) ≡ false = grind (arith, nat_tests) in
-        let q = length s.bytes / (n + 16) in
-        let over : length s.bytes ≤ (q + 1) * (n + 16) = omega (arith, short, length-drop (q * (n + 16)) s.bytes) in
-        let none : followed ≡ false = le-ltb ((j + 1) * (n + 16)) (length s.bytes) (omega (arith, over, ap (λ (k : ℕ). (k + 1) * (n + 16)) eq)) in
-        ap (λ (c : List ℕ). read c (length c == n + 16) (followed || s.late)) block
+        let eq : j ≡ length s.bytes / (n + tag_length) = omega (arith, ge, le, count) in
+        let short : length rest < n + tag_length = rest_short n s.bytes in
+        let block : block_at n s.bytes j ≡ rest = ap (block_at n s.bytes) eq ∙ take_all (n + tag_length) rest (omega (arith, short)) in
+        let part : (length rest == n + tag_length) ≡ false = grind (arith, nat_tests) in
+        let q = length s.bytes / (n + tag_length) in
+        let over : length s.bytes ≤ (q + 1) * (n + tag_length) = omega (arith, short, length-drop (q * (n + tag_length)) s.bytes) in
+        let none : followed ≡ false = le-ltb ((j + 1) * (n + tag_length)) (length s.bytes) (omega (arith, over, ap (λ (k : ℕ). (k + 1) * (n + tag_length)) eq)) in
+        ap (λ (c : List ℕ). read c (length c == n + tag_length) (followed || s.late)) block
         ∙ (ap (λ (w : Bool). read rest w (followed || s.late)) part
         ∙ (ap (λ (f : Bool). read rest false (f || s.late)) none
         ∙ (short_verdict texts i rest s.late s.ended

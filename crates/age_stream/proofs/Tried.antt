@@ -1,38 +1,38 @@
 -- What a segment tries, by its whole blocks and what is left after them.
-use Rattle.std.proofs.Common.{inl, inr, ◌≡◌, ℕ, ◌<◌, ◌≤◌, ◌+◌, ◌*◌, ◌/◌, refl, ap, sym, subst, ◌∙◌, List, [], length, take, drop, get_or, Bool, true, false, arith}
+use Rattle.std.proofs.Common.{inl, inr, ◌≡◌, ℕ, ◌<◌, ◌≤◌, ◌+◌, ◌*◌, ◌/◌, refl, ap, sym, subst, ◌∙◌, List, [], length, drop, get_or, Bool, true, false, arith}
 use Rattle.std.specs.Prelude.{nat_lt, not, ◌||◌, ◌&&◌, ◌==◌}
 use Rattle.std.proofs.lemmas.List.{length-drop, length-take, take_all}
-use Rattle.std.proofs.lemmas.Bool.{cases_lt, le-ltb, lt-ltb, eq-eqb, ne_eqb}
+use Rattle.std.proofs.lemmas.Bool.{cases_lt, le-ltb, eq-eqb, ne_eqb}
 use Rattle.std.proofs.lemmas.Bool.Decides.{nat_tests}
 use Rattle.std.proofs.Math.Nat.{le-div_iff_mul-le}
-use Rattle.age_chunk.specs.ChunkBoxes.{Seals, Opens}
+use Rattle.age_chunk.specs.ChunkBoxes.{Seals, Opens, tag_length}
 use Rattle.age_chunk.specs.Nonce.{nonce_bytes}
 use Rattle.age_stream.specs.Segment.{Segment, block_at, front_texts, whole_blocks, rest_bytes}
 use Rattle.age_stream.specs.Headline.{IsWriters, IsAuthentic}
-use Rattle.age_stream.proofs.Chunks.{length-first_chunks, get_or-first_chunks}
+use Rattle.age_chunk.proofs.FirstChunks.{length-first_chunks, get_or-first_chunks}
 use Rattle.age_stream.proofs.Table.{rest_short, length-front_texts}
 
 -- the test for a block that is tried as the last, by whether it is whole, whether the input ended, its length and its number
 abbrev tried_by : Bool → Bool → ℕ → ℕ → Bool
-tried_by whole ended len i = not ((not whole && not ended) || (nat_lt len 16 || (not whole && (len == 16 && nat_lt 0 i))))
+tried_by whole ended len i = not ((not whole && not ended) || (nat_lt len tag_length || (not whole && (len == tag_length && nat_lt 0 i))))
 
-tried_whole : (whole ended : Bool) (len i : ℕ) → whole ≡ true → 16 ≤ len → tried_by whole ended len i ≡ true
+tried_whole : (whole ended : Bool) (len i : ℕ) → whole ≡ true → tag_length ≤ len → tried_by whole ended len i ≡ true
 tried_whole false ended len i e long = cc
 tried_whole true ended len i e long =
-    let uncut : nat_lt len 16 ≡ false = le-ltb len 16 long in
+    let uncut : nat_lt len tag_length ≡ false = le-ltb len tag_length long in
     rw uncut refl
 
-tried_end : (whole ended : Bool) (len i : ℕ) → ended ≡ true → 16 ≤ len → (len ≡ 16 → i ≡ 0) → tried_by whole ended len i ≡ true
+tried_end : (whole ended : Bool) (len i : ℕ) → ended ≡ true → tag_length ≤ len → (len ≡ tag_length → i ≡ 0) → tried_by whole ended len i ≡ true
 tried_end whole false len i e long first = cc
 tried_end true true len i e long first =
-    let uncut : nat_lt len 16 ≡ false = le-ltb len 16 long in
+    let uncut : nat_lt len tag_length ≡ false = le-ltb len tag_length long in
     rw uncut refl
 tried_end false true len i e long first =
-    let uncut : nat_lt len 16 ≡ false = le-ltb len 16 long in
-    let some : (len == 16 && nat_lt 0 i) ≡ false = grind (arith, nat_tests) in
+    let uncut : nat_lt len tag_length ≡ false = le-ltb len tag_length long in
+    let some : (len == tag_length && nat_lt 0 i) ≡ false = grind (arith, nat_tests) in
     rw (uncut, some) refl
 
-when_tried : (whole ended : Bool) (len i : ℕ) → whole ≡ false → tried_by whole ended len i ≡ true → (ended ≡ true) × (16 ≤ len) × (len ≡ 16 → i ≡ 0)
+when_tried : (whole ended : Bool) (len i : ℕ) → whole ≡ false → tried_by whole ended len i ≡ true → (ended ≡ true) × (tag_length ≤ len) × (len ≡ tag_length → i ≡ 0)
 when_tried true ended len i w e = cc
 when_tried false false len i w e = cc
 when_tried false true len i w e = (refl, grind (arith, nat_tests), λ tag. grind (arith, nat_tests))
@@ -46,12 +46,12 @@ module _ (sealing : Seals) (opening : Opens) (n : ℕ) (text : List ℕ) where
   pub record AreTried (s : Segment) : Type 0 where
     pub front : (j : ℕ) → j < length (front_texts opening s.start (whole_blocks n s.bytes))
         → IsWriters sealing opening n text (nonce_bytes (s.start + j) false) (get_or (whole_blocks n s.bytes) j [])
-    pub next : length (front_texts opening s.start (whole_blocks n s.bytes)) < length s.bytes / (n + 16) → (last : Bool)
+    pub next : length (front_texts opening s.start (whole_blocks n s.bytes)) < length s.bytes / (n + tag_length) → (last : Bool)
         → IsWriters sealing opening n text (nonce_bytes (s.start + length (front_texts opening s.start (whole_blocks n s.bytes))) last)
         (get_or (whole_blocks n s.bytes) (length (front_texts opening s.start (whole_blocks n s.bytes))) [])
-    pub rest : length (front_texts opening s.start (whole_blocks n s.bytes)) ≡ length s.bytes / (n + 16) → s.ended ≡ true
-        → 16 ≤ length (rest_bytes n s.bytes) → (length (rest_bytes n s.bytes) ≡ 16 → s.start + length s.bytes / (n + 16) ≡ 0)
-        → IsWriters sealing opening n text (nonce_bytes (s.start + length s.bytes / (n + 16)) true) (rest_bytes n s.bytes)
+    pub rest : length (front_texts opening s.start (whole_blocks n s.bytes)) ≡ length s.bytes / (n + tag_length) → s.ended ≡ true
+        → tag_length ≤ length (rest_bytes n s.bytes) → (length (rest_bytes n s.bytes) ≡ tag_length → s.start + length s.bytes / (n + tag_length) ≡ 0)
+        → IsWriters sealing opening n text (nonce_bytes (s.start + length s.bytes / (n + tag_length)) true) (rest_bytes n s.bytes)
 
   module _ (s : Segment) where
     abbrev blocks : List (List ℕ)
@@ -61,7 +61,7 @@ module _ (sealing : Seals) (opening : Opens) (n : ℕ) (text : List ℕ) where
     m = length (front_texts opening s.start blocks)
 
     abbrev q : ℕ
-    q = length s.bytes / (n + 16)
+    q = length s.bytes / (n + tag_length)
 
     abbrev next_block : List ℕ
     next_block = block_at n s.bytes m
@@ -70,17 +70,17 @@ module _ (sealing : Seals) (opening : Opens) (n : ℕ) (text : List ℕ) where
     W i last block = IsWriters sealing opening n text (nonce_bytes i last) block
 
     count : length blocks ≡ q
-    count = length-first_chunks (n + 16) q s.bytes
+    count = length-first_chunks (n + tag_length) q s.bytes
 
     fits : m ≤ q
     fits = omega (arith, count, length-front_texts opening blocks s.start)
 
     block_is : (j : ℕ) → j < q → block_at n s.bytes j ≡ get_or blocks j []
-    block_is j lt = sym (get_or-first_chunks (n + 16) q s.bytes j [] lt)
+    block_is j lt = sym (get_or-first_chunks (n + tag_length) q s.bytes j [] lt)
 
-    block_full : (j : ℕ) → j < q → length (block_at n s.bytes j) ≡ n + 16
+    block_full : (j : ℕ) → j < q → length (block_at n s.bytes j) ≡ n + tag_length
     block_full j lt =
-        let z = n + 16 in
+        let z = n + tag_length in
         let pos : 0 < z = omega arith in
         let within : (j + 1) * z ≤ length s.bytes = (le-div_iff_mul-le pos).0 (omega (arith, lt)) in
         omega (arith, within, length-take z (drop (j * z) s.bytes), length-drop (j * z) s.bytes)
@@ -88,43 +88,49 @@ module _ (sealing : Seals) (opening : Opens) (n : ℕ) (text : List ℕ) where
     rest_is : m ≡ q → next_block ≡ rest_bytes n s.bytes
     rest_is eq =
         let short = rest_short n s.bytes in
-        ap (block_at n s.bytes) eq ∙ take_all (n + 16) (rest_bytes n s.bytes) (omega (arith, short))
+        ap (block_at n s.bytes) eq ∙ take_all (n + tag_length) (rest_bytes n s.bytes) (omega (arith, short))
 
-    not_whole : m ≡ q → (length next_block == n + 16) ≡ false
-    not_whole eq = ne_eqb (length next_block) (n + 16) (λ e. omega (arith, e, ap length (rest_is eq), rest_short n s.bytes))
+    not_whole : m ≡ q → (length next_block == n + tag_length) ≡ false
+    not_whole eq = ne_eqb (length next_block) (n + tag_length) (λ e. omega (arith, e, ap length (rest_is eq), rest_short n s.bytes))
 
     pub tried : IsAuthentic sealing opening n text s → AreTried s
     tried a = record {
-      front = λ j lt. subst (W (s.start + j) false) (block_is j (omega (arith, lt, fits))) (a.front j lt);
+      front = λ j lt. subst (W (s.start + j) false) (block_is j (omega (arith, lt, fits))) (a.not_last j (omega (arith, lt)) (block_full j (omega (arith, lt, fits))));
       next = λ lt last.
           let full = block_full m lt in
-          let whole : (length next_block == n + 16) ≡ true = eq-eqb (length next_block) (n + 16) full in
-          let long : 16 ≤ length next_block = omega (arith, full) in
+          let whole : (length next_block == n + tag_length) ≡ true = eq-eqb (length next_block) (n + tag_length) full in
+          let long : tag_length ≤ length next_block = omega (arith, full) in
           subst (W (s.start + m) last) (block_is m lt)
-          (by_flag (λ (b : Bool). W (s.start + m) b next_block) last (a.next whole)
-          (a.last (tried_whole (length next_block == n + 16) s.ended (length next_block) (s.start + m) whole long)));
+          (by_flag (λ (b : Bool). W (s.start + m) b next_block) last (a.not_last m (omega arith) full)
+          (a.last (tried_whole (length next_block == n + tag_length) s.ended (length next_block) (s.start + m) whole long)));
       rest = λ eq ended long first.
           let is = rest_is eq in
           let size = ap length is in
-          let long' : 16 ≤ length next_block = omega (arith, size, long) in
-          let first' : length next_block ≡ 16 → s.start + m ≡ 0 = λ tag. (let zero = first (sym size ∙ tag) in omega (arith, zero, eq)) in
+          let long' : tag_length ≤ length next_block = omega (arith, size, long) in
+          let first' : length next_block ≡ tag_length → s.start + m ≡ 0 = λ tag. (let zero = first (sym size ∙ tag) in omega (arith, zero, eq)) in
           subst (λ (k : ℕ). W (s.start + k) true (rest_bytes n s.bytes)) eq
           (subst (W (s.start + m) true) is
-          (a.last (tried_end (length next_block == n + 16) s.ended (length next_block) (s.start + m) ended long' first')));
+          (a.last (tried_end (length next_block == n + tag_length) s.ended (length next_block) (s.start + m) ended long' first')));
     }
 
     pub authentic : AreTried s → IsAuthentic sealing opening n text s
     authentic t = record {
-      front = λ j lt. subst (W (s.start + j) false) (sym (block_is j (omega (arith, lt, fits)))) (t.front j lt);
-      next = λ whole. elim (cases_lt m q) [
-        | inl lt ↦ subst (W (s.start + m) false) (sym (block_is m lt)) (t.next lt false)
-        | inr le ↦ (let no = not_whole (omega (arith, le, fits)) in let clash : false ≡ true = sym no ∙ whole in cc)
+      not_last = λ j within full. elim (cases_lt j m) [
+        | inl lt ↦ subst (W (s.start + j) false) (sym (block_is j (omega (arith, lt, fits)))) (t.front j lt)
+        | inr ge ↦
+            (let at : m ≡ j = omega (arith, ge, within) in
+            let whole : (length next_block == n + tag_length) ≡ true = eq-eqb (length next_block) (n + tag_length)
+            (ap (λ (k : ℕ). length (block_at n s.bytes k)) at ∙ full) in
+            subst (λ (k : ℕ). W (s.start + k) false (block_at n s.bytes k)) at (elim (cases_lt m q) [
+              | inl lt ↦ subst (W (s.start + m) false) (sym (block_is m lt)) (t.next lt false)
+              | inr le ↦ (let no = not_whole (omega (arith, le, fits)) in let clash : false ≡ true = sym no ∙ whole in cc)
+            ]))
       ];
       last = λ is_tried. elim (cases_lt m q) [
         | inl lt ↦ subst (W (s.start + m) true) (sym (block_is m lt)) (t.next lt true)
         | inr le ↦
             (let eq : m ≡ q = omega (arith, le, fits) in
-            let known = when_tried (length next_block == n + 16) s.ended (length next_block) (s.start + m) (not_whole eq) is_tried in
+            let known = when_tried (length next_block == n + tag_length) s.ended (length next_block) (s.start + m) (not_whole eq) is_tried in
             let is = rest_is eq in
             let size = ap length is in
             subst (W (s.start + m) true) (sym is)

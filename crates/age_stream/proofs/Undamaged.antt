@@ -11,7 +11,7 @@ use Rattle.std.proofs.lemmas.List.FromFn.{length-enumerate_from, get_or-enumerat
 use Rattle.std.proofs.lemmas.Bool.{cases_lt, lt-ltb, le-ltb, eq-eqb, eqb-true, ltb-true, and_parts}
 use Rattle.std.proofs.lemmas.Nat.{div-mul-add, mul-le}
 use Rattle.std.proofs.Math.Nat.{add-mul-div_left}
-use Rattle.age_chunk.specs.ChunkBoxes.{IsChunkBox}
+use Rattle.age_chunk.specs.ChunkBoxes.{IsChunkBox, tag_length}
 use Rattle.age_chunk.specs.Nonce.{nonce_bytes, chunk_limit}
 use Rattle.age_chunk.specs.Payload.{last_index, last_chunk, chunk_count, pair, sealed_before_last, sealed, block_bytes, payload}
 use Rattle.age_stream.specs.Segment.{Segment, Outcome, outcome, front_texts, text_then, unless_greatest, whole_blocks, rest_bytes}
@@ -19,7 +19,8 @@ use Rattle.age_stream.specs.inner.SegmentSteps.{at_block, final_block, after_las
 use Rattle.age_stream.specs.Headline.{IsAuthentic, IsWriters}
 use Rattle.age_stream.specs.declared.step.Status.TheVariants.{Done}
 use Rattle.age_chunk.proofs.Nonces.{nonce_bytes-length}
-use Rattle.age_stream.proofs.Chunks.{length-first_chunks, last_chunk_le, slice_get-past}
+use Rattle.age_chunk.proofs.FirstChunks.{length-first_chunks}
+use Rattle.age_stream.proofs.Chunks.{last_chunk_le, slice_get-past}
 use Rattle.age_stream.proofs.Sealings.{last_index_le}
 use Rattle.age_stream.proofs.Segments.{by_test, writer_text}
 use Rattle.age_stream.proofs.Going.{front_on, slice_get_end}
@@ -53,11 +54,11 @@ module _ (sealing : List ℕ → List ℕ → List ℕ) (opening : List ℕ → 
   abbrev Full : List (List ℕ) → Type 0
   Full ds = AllByRecursion (λ (x : List ℕ). length x ≡ n) ds
 
-  block_len : (i : ℕ) (last : Bool) (d : List ℕ) → length (sealing (nonce_bytes i last) d) ≡ length d + 16
+  block_len : (i : ℕ) (last : Bool) (d : List ℕ) → length (sealing (nonce_bytes i last) d) ≡ length d + tag_length
   block_len i last d = valid.longer (nonce_bytes i last) d (nonce_bytes-length i last)
 
-  full_len : (i : ℕ) (d : List ℕ) → length d ≡ n → length (sealing (nonce_bytes i false) d) ≡ n + 16
-  full_len i d h = block_len i false d ∙ ap (λ (k : ℕ). k + 16) h
+  full_len : (i : ℕ) (d : List ℕ) → length d ≡ n → length (sealing (nonce_bytes i false) d) ≡ n + tag_length
+  full_len i d h = block_len i false d ∙ ap (λ (k : ℕ). k + tag_length) h
 
   length-blocks_of : (i : ℕ) (ds : List (List ℕ)) → length (blocks_of i ds) ≡ length ds
   length-blocks_of i [] = refl
@@ -70,17 +71,17 @@ module _ (sealing : List ℕ → List ℕ → List ℕ) (opening : List ℕ → 
       let e : i + 1 + j ≡ i + suc j = omega arith in
       get_or-blocks_of (i + 1) ds j (omega arith) ∙ ap (λ (x : ℕ). sealing (nonce_bytes x false) (get_or ds j [])) e
 
-  length-bytes_of : (i : ℕ) (ds : List (List ℕ)) → Full ds → length (bytes_of i ds) ≡ (n + 16) * length ds
+  length-bytes_of : (i : ℕ) (ds : List (List ℕ)) → Full ds → length (bytes_of i ds) ≡ (n + tag_length) * length ds
   length-bytes_of i [] h = omega arith
   length-bytes_of i (d ∷ ds) h =
-      let e : (n + 16) * suc (length ds) ≡ (n + 16) * length ds + (n + 16) = omega arith in
+      let e : (n + tag_length) * suc (length ds) ≡ (n + tag_length) * length ds + (n + tag_length) = omega arith in
       omega (arith, length-append (sealing (nonce_bytes i false) d) (bytes_of (i + 1) ds), full_len i d h.0, length-bytes_of (i + 1) ds h.1, e)
 
-  chunks_of : (i c : ℕ) (ds : List (List ℕ)) (l : List ℕ) → Full ds → first_chunks (n + 16) (length ds + c) (bytes_of i ds ++ l)
-      ≡ blocks_of i ds ++ first_chunks (n + 16) c l
-  chunks_of i c [] l h = let z : 0 + c ≡ c = omega arith in ap (λ (k : ℕ). first_chunks (n + 16) k l) z
+  chunks_of : (i c : ℕ) (ds : List (List ℕ)) (l : List ℕ) → Full ds → first_chunks (n + tag_length) (length ds + c) (bytes_of i ds ++ l)
+      ≡ blocks_of i ds ++ first_chunks (n + tag_length) c l
+  chunks_of i c [] l h = let z : 0 + c ≡ c = omega arith in ap (λ (k : ℕ). first_chunks (n + tag_length) k l) z
   chunks_of i c (d ∷ ds) l h =
-      let z = n + 16 in
+      let z = n + tag_length in
       let b = sealing (nonce_bytes i false) d in
       let s : suc (length ds) + c ≡ suc (length ds + c) = omega arith in
       let a = append_assoc b (bytes_of (i + 1) ds) l in
@@ -92,10 +93,10 @@ module _ (sealing : List ℕ → List ℕ → List ℕ) (opening : List ℕ → 
       ∙ (ap (λ (x : List ℕ). b ∷ first_chunks z (length ds + c) x) (drop_at b rest z len)
       ∙ ap (λ (cs : List (List ℕ)). b ∷ cs) (chunks_of (i + 1) c ds l h.1))))
 
-  rest_of : (i c : ℕ) (ds : List (List ℕ)) (l : List ℕ) → Full ds → drop ((length ds + c) * (n + 16)) (bytes_of i ds ++ l) ≡ drop (c * (n + 16)) l
-  rest_of i c [] l h = let z : 0 + c ≡ c = omega arith in ap (λ (k : ℕ). drop (k * (n + 16)) l) z
+  rest_of : (i c : ℕ) (ds : List (List ℕ)) (l : List ℕ) → Full ds → drop ((length ds + c) * (n + tag_length)) (bytes_of i ds ++ l) ≡ drop (c * (n + tag_length)) l
+  rest_of i c [] l h = let z : 0 + c ≡ c = omega arith in ap (λ (k : ℕ). drop (k * (n + tag_length)) l) z
   rest_of i c (d ∷ ds) l h =
-      let z = n + 16 in
+      let z = n + tag_length in
       let b = sealing (nonce_bytes i false) d in
       let s : (suc (length ds) + c) * z ≡ z + (length ds + c) * z = omega arith in
       let rest = bytes_of (i + 1) ds ++ l in
@@ -105,19 +106,19 @@ module _ (sealing : List ℕ → List ℕ → List ℕ) (opening : List ℕ → 
       ∙ (ap (drop ((length ds + c) * z)) (drop_at b rest z (full_len i d h.0)) ∙ rest_of (i + 1) c ds l h.1)))
 
   -- the whole blocks and the rest of these chunks' blocks with more after them
-  count_of : (i : ℕ) (ds : List (List ℕ)) (l : List ℕ) → Full ds → length (bytes_of i ds ++ l) / (n + 16) ≡ length ds + length l / (n + 16)
+  count_of : (i : ℕ) (ds : List (List ℕ)) (l : List ℕ) → Full ds → length (bytes_of i ds ++ l) / (n + tag_length) ≡ length ds + length l / (n + tag_length)
   count_of i ds l h =
-      let z = n + 16 in
+      let z = n + tag_length in
       let pos : 0 < z = omega arith in
       let e : length (bytes_of i ds ++ l) ≡ length l + z * length ds = omega (arith, length-append (bytes_of i ds) l, length-bytes_of i ds h) in
       let f : length l / z + length ds ≡ length ds + length l / z = omega arith in
       ap (λ (k : ℕ). k / z) e ∙ (add-mul-div_left (length l) (length ds) pos ∙ f)
 
   whole_of : (i : ℕ) (ds : List (List ℕ)) (l : List ℕ) → Full ds → whole_blocks n (bytes_of i ds ++ l) ≡ blocks_of i ds ++ whole_blocks n l
-  whole_of i ds l h = ap (λ (k : ℕ). first_chunks (n + 16) k (bytes_of i ds ++ l)) (count_of i ds l h) ∙ chunks_of i (length l / (n + 16)) ds l h
+  whole_of i ds l h = ap (λ (k : ℕ). first_chunks (n + tag_length) k (bytes_of i ds ++ l)) (count_of i ds l h) ∙ chunks_of i (length l / (n + tag_length)) ds l h
 
   left_of : (i : ℕ) (ds : List (List ℕ)) (l : List ℕ) → Full ds → rest_bytes n (bytes_of i ds ++ l) ≡ rest_bytes n l
-  left_of i ds l h = ap (λ (k : ℕ). drop (k * (n + 16)) (bytes_of i ds ++ l)) (count_of i ds l h) ∙ rest_of i (length l / (n + 16)) ds l h
+  left_of i ds l h = ap (λ (k : ℕ). drop (k * (n + tag_length)) (bytes_of i ds ++ l)) (count_of i ds l h) ∙ rest_of i (length l / (n + tag_length)) ds l h
 
   front_opens : (i : ℕ) (ds : List (List ℕ)) → i + length ds < chunk_limit → front_texts opening i (blocks_of i ds) ≡ ds
   front_opens i [] h = refl
@@ -129,14 +130,14 @@ module _ (sealing : List ℕ → List ℕ → List ℕ) (opening : List ℕ → 
       ∙ ap (λ (ts : List (List ℕ)). d ∷ ts) (front_opens (i + 1) ds (omega (arith, h))))
 
   -- the payload from a block on
-  drop_of : (i k : ℕ) (ds : List (List ℕ)) (l : List ℕ) → Full ds → k ≤ length ds → drop (k * (n + 16)) (bytes_of i ds ++ l) ≡ bytes_of (i + k) (drop k ds) ++ l
+  drop_of : (i k : ℕ) (ds : List (List ℕ)) (l : List ℕ) → Full ds → k ≤ length ds → drop (k * (n + tag_length)) (bytes_of i ds ++ l) ≡ bytes_of (i + k) (drop k ds) ++ l
   drop_of i zero ds l h le =
-      let z : 0 * (n + 16) ≡ 0 = omega arith in
+      let z : 0 * (n + tag_length) ≡ 0 = omega arith in
       let e : i ≡ i + 0 = omega arith in
       ap (λ (k : ℕ). drop k (bytes_of i ds ++ l)) z ∙ ap (λ (k : ℕ). bytes_of k ds ++ l) e
   drop_of i (suc k) [] l h le = absurd (omega arith)
   drop_of i (suc k) (d ∷ ds) l h le =
-      let z = n + 16 in
+      let z = n + tag_length in
       let b = sealing (nonce_bytes i false) d in
       let s : suc k * z ≡ z + k * z = omega arith in
       let rest = bytes_of (i + 1) ds ++ l in
@@ -179,20 +180,20 @@ module _ (sealing : List ℕ → List ℕ → List ℕ) (opening : List ℕ → 
     ds_len : k + length ds ≡ q
     ds_len = omega (arith, length-drop k cs, length-first_chunks n q text, below)
 
-    tail_len : length tail ≡ length (last_chunk n text) + 16
+    tail_len : length tail ≡ length (last_chunk n text) + tag_length
     tail_len = block_len q true (last_chunk n text)
 
     tail_opens : opening (nonce_bytes q true) tail ≡ Some (last_chunk n text)
     tail_opens = valid.opens (nonce_bytes q true) (last_chunk n text) (nonce_bytes-length q true)
 
-    pub rest_payload : drop (k * (n + 16)) (payload sealing n text) ≡ bytes
+    pub rest_payload : drop (k * (n + tag_length)) (payload sealing n text) ≡ bytes
     rest_payload =
         let all : payload sealing n text ≡ bytes_of 0 cs ++ tail =
         flat_map-append (λ (p : List ℕ × List ℕ). p.1) (sealed_before_last sealing n text) (pair sealing true (q, last_chunk n text) ∷ [])
         ∙ ap (λ (x : List ℕ). bytes_of 0 cs ++ x) (append-nil tail) in
         let z : 0 + k ≡ k = omega arith in
         let le : k ≤ length cs = omega (arith, length-first_chunks n q text, below) in
-        ap (drop (k * (n + 16))) all ∙ (drop_of 0 k cs tail cs_full le ∙ ap (λ (j : ℕ). bytes_of j ds ++ tail) z)
+        ap (drop (k * (n + tag_length))) all ∙ (drop_of 0 k cs tail cs_full le ∙ ap (λ (j : ℕ). bytes_of j ds ++ tail) z)
 
     outcome_is : outcome opening n rest_segment ≡ outcome_of opening n k (blocks_of k ds ++ whole_blocks n tail) (length bytes) (rest_bytes n tail) false true
     outcome_is =
@@ -212,17 +213,17 @@ module _ (sealing : List ℕ → List ℕ → List ℕ) (opening : List ℕ → 
         ∙ ap (λ (j : ℕ). ds ++ front_texts opening j ys) e)
 
     -- the last chunk is short: its block is what is left after the whole ones
-    module _ (short : length tail < n + 16) where
+    module _ (short : length tail < n + tag_length) where
       none_whole : whole_blocks n tail ≡ []
       none_whole =
-          let e : length tail ≡ 0 * (n + 16) + length tail = omega arith in
-          ap (λ (c : ℕ). first_chunks (n + 16) c tail) (ap (λ (x : ℕ). x / (n + 16)) e ∙ div-mul-add 0 (n + 16) (length tail) short)
+          let e : length tail ≡ 0 * (n + tag_length) + length tail = omega arith in
+          ap (λ (c : ℕ). first_chunks (n + tag_length) c tail) (ap (λ (x : ℕ). x / (n + tag_length)) e ∙ div-mul-add 0 (n + tag_length) (length tail) short)
 
       all_left : rest_bytes n tail ≡ tail
       all_left =
-          let e : length tail ≡ 0 * (n + 16) + length tail = omega arith in
-          let z : 0 * (n + 16) ≡ 0 = omega arith in
-          ap (λ (c : ℕ). drop (c * (n + 16)) tail) (ap (λ (x : ℕ). x / (n + 16)) e ∙ div-mul-add 0 (n + 16) (length tail) short) ∙ ap (λ (c : ℕ). drop c tail) z
+          let e : length tail ≡ 0 * (n + tag_length) + length tail = omega arith in
+          let z : 0 * (n + tag_length) ≡ 0 = omega arith in
+          ap (λ (c : ℕ). drop (c * (n + tag_length)) tail) (ap (λ (x : ℕ). x / (n + tag_length)) e ∙ div-mul-add 0 (n + tag_length) (length tail) short) ∙ ap (λ (c : ℕ). drop c tail) z
 
       rest_done : (final_block opening ds (k + length ds) tail false true).status ≡ Done
       rest_done =
@@ -230,7 +231,7 @@ module _ (sealing : List ℕ → List ℕ → List ℕ) (opening : List ℕ → 
           let P : Outcome → Type 0 = λ o. o.status ≡ Done in
           let last : P (after_last opening ds i (opening (nonce_bytes i true) tail) false true) =
           ap (λ (o : Option (List ℕ)). (after_last opening ds i o false true).status) (ap (λ (j : ℕ). opening (nonce_bytes j true) tail) ds_len ∙ tail_opens) in
-          let empty : length tail ≡ 16 → i ≡ 0 =
+          let empty : length tail ≡ tag_length → i ≡ 0 =
           λ h.
           let zero_len : length text ≡ 0 = omega (arith, tail_len, h, length-drop (q * n) text, last_index_le n text) in
           elim (cases_lt 0 q) [
@@ -238,14 +239,14 @@ module _ (sealing : List ℕ → List ℕ → List ℕ) (opening : List ℕ → 
                 (omega (arith, m, last_index_le n text, zero_len, positive)))
             | inr le ↦ omega (arith, le, ds_len)
           ] in
-          by_test P (nat_lt 0 (length tail) && nat_lt (length tail) 16) _ _
-          (λ t. let h : length tail < 16 = ltb-true (length tail) 16 (and_parts (nat_lt 0 (length tail)) (nat_lt (length tail) 16) t).1 in absurd
+          by_test P (nat_lt 0 (length tail) && nat_lt (length tail) tag_length) _ _
+          (λ t. let h : length tail < tag_length = ltb-true (length tail) tag_length (and_parts (nat_lt 0 (length tail)) (nat_lt (length tail) tag_length) t).1 in absurd
           (omega (arith, h, tail_len)))
-          (λ _. by_test P (length tail == 16 && nat_lt 0 i) _ _
+          (λ _. by_test P (length tail == tag_length && nat_lt 0 i) _ _
           (λ t.
-          let both = and_parts (length tail == 16) (nat_lt 0 i) t in
+          let both = and_parts (length tail == tag_length) (nat_lt 0 i) t in
           let h : 0 < i = ltb-true 0 i both.1 in
-          let g : i ≡ 0 = empty (eqb-true (length tail) 16 both.0) in
+          let g : i ≡ 0 = empty (eqb-true (length tail) tag_length both.0) in
           absurd (omega (arith, h, g)))
           (λ _. by_test P (length tail == 0) _ _ (λ t. let h : length tail ≡ 0 = eqb-true (length tail) 0 t in absurd (omega (arith, h, tail_len)))
           (λ _. last)))
@@ -254,30 +255,30 @@ module _ (sealing : List ℕ → List ℕ → List ℕ) (opening : List ℕ → 
       short_done =
           let blocks = blocks_of k ds in
           let G : List (List ℕ) → Outcome = λ ts. verdict_at opening ts (k + length ts) (slice_get (blocks ++ []) (length ts))
-          (nat_lt ((length ts + 1) * (n + 16)) (length bytes)) tail false true in
+          (nat_lt ((length ts + 1) * (n + tag_length)) (length bytes)) tail false true in
           let e1 = outcome_is
           ∙ (ap (λ (ys : List (List ℕ)). outcome_of opening n k (blocks ++ ys) (length bytes) (rest_bytes n tail) false true) none_whole
           ∙ (ap (λ (r : List ℕ). outcome_of opening n k (blocks ++ []) (length bytes) r false true) all_left
           ∙ ap G (front_after [] ∙ append-nil ds))) in
           let past : slice_get (blocks ++ []) (length ds)
           ≡ None = slice_get-past (blocks ++ []) (length ds) (omega (arith, ap length (append-nil blocks), length-blocks_of k ds)) in
-          let e2 = e1 ∙ ap (λ (o : Option (List ℕ)). verdict_at opening ds (k + length ds) o (nat_lt ((length ds + 1) * (n + 16)) (length bytes)) tail
+          let e2 = e1 ∙ ap (λ (o : Option (List ℕ)). verdict_at opening ds (k + length ds) o (nat_lt ((length ds + 1) * (n + tag_length)) (length bytes)) tail
           false true) past in
           ap (λ (o : Outcome). o.status) e2 ∙ rest_done
 
     -- the last chunk is full: its block is the last whole one
-    module _ (full : length tail ≡ n + 16) where
-      one_count : length tail / (n + 16) ≡ 1
+    module _ (full : length tail ≡ n + tag_length) where
+      one_count : length tail / (n + tag_length) ≡ 1
       one_count =
-          let e : length tail ≡ 1 * (n + 16) + 0 = omega (arith, full) in
-          let pos : 0 < n + 16 = omega arith in
-          ap (λ (x : ℕ). x / (n + 16)) e ∙ div-mul-add 1 (n + 16) 0 pos
+          let e : length tail ≡ 1 * (n + tag_length) + 0 = omega (arith, full) in
+          let pos : 0 < n + tag_length = omega arith in
+          ap (λ (x : ℕ). x / (n + tag_length)) e ∙ div-mul-add 1 (n + tag_length) 0 pos
 
       one_whole : whole_blocks n tail ≡ tail ∷ []
-      one_whole = ap (λ (c : ℕ). first_chunks (n + 16) c tail) one_count ∙ ap (λ (x : List ℕ). x ∷ []) (take_all (n + 16) tail (omega (arith, full)))
+      one_whole = ap (λ (c : ℕ). first_chunks (n + tag_length) c tail) one_count ∙ ap (λ (x : List ℕ). x ∷ []) (take_all (n + tag_length) tail (omega (arith, full)))
 
       none_left : rest_bytes n tail ≡ []
-      none_left = ap (λ (c : ℕ). drop (c * (n + 16)) tail) one_count ∙ drop_all (1 * (n + 16)) tail (omega (arith, full))
+      none_left = ap (λ (c : ℕ). drop (c * (n + tag_length)) tail) one_count ∙ drop_all (1 * (n + tag_length)) tail (omega (arith, full))
 
       blocks_are : whole_blocks n bytes ≡ blocks_of k ds ++ tail ∷ []
       blocks_are = whole_of k ds tail ds_full ∙ ap (λ (ys : List (List ℕ)). blocks_of k ds ++ ys) one_whole
@@ -296,13 +297,13 @@ module _ (sealing : List ℕ → List ℕ → List ℕ) (opening : List ℕ → 
           let here : length front ≡ length ds + length (text_then opening (unless_greatest q (opening (nonce_bytes q false) tail)) []) =
           ap (λ (bs : List (List ℕ)). length (front_texts opening k bs)) blocks_are
           ∙ (ap length (front_after (tail ∷ [])) ∙ length-append ds (front_texts opening q (tail ∷ []))) in
-          let count : length bytes / (n + 16) ≡ length ds + 1 = count_of k ds tail ds_full ∙ ap (λ (c : ℕ). length ds + c) one_count in
+          let count : length bytes / (n + tag_length) ≡ length ds + 1 = count_of k ds tail ds_full ∙ ap (λ (c : ℕ). length ds + c) one_count in
           let w : W q tail =
           elim (cases_lt (length ds) (length front)) [
             | inl lt ↦ subst (λ (i : ℕ). W i tail) ds_len (subst (W (k + length ds)) there (auth.front (length ds) lt))
             | inr le ↦
                 (let m : length front ≡ length ds = omega (arith, le, here) in
-                let lt : length front < length bytes / (n + 16) = omega (arith, m, count) in
+                let lt : length front < length bytes / (n + tag_length) = omega (arith, m, count) in
                 let at : k + length front ≡ q = omega (arith, m, ds_len) in
                 let b : get_or blocks (length front) [] ≡ tail = ap (λ (j : ℕ). get_or blocks j []) m ∙ there in
                 subst (λ (i : ℕ). W i tail) at (subst (W (k + length front)) b (auth.next lt false)))
@@ -317,14 +318,14 @@ module _ (sealing : List ℕ → List ℕ → List ℕ) (opening : List ℕ → 
           let shut = not_before_last auth (opening (nonce_bytes q false) tail) refl in
           let blocks = blocks_of k ds in
           let G : List (List ℕ) → Outcome = λ ts. verdict_at opening ts (k + length ts) (slice_get (blocks ++ tail ∷ []) (length ts))
-          (nat_lt ((length ts + 1) * (n + 16)) (length bytes)) (rest_bytes n tail) false true in
+          (nat_lt ((length ts + 1) * (n + tag_length)) (length bytes)) (rest_bytes n tail) false true in
           let front : front_texts opening k (blocks ++ tail ∷ []) ≡ ds =
           front_after (tail ∷ []) ∙ (ap (λ (o : Option (List ℕ)). ds ++ text_then opening (unless_greatest q o) []) shut ∙ append-nil ds) in
           let at : slice_get (blocks ++ tail ∷ []) (length ds) ≡ Some tail = slice_get_end blocks tail (length ds) (sym (length-blocks_of k ds)) in
-          let low : length bytes ≡ (length ds + 1) * (n + 16) =
+          let low : length bytes ≡ (length ds + 1) * (n + tag_length) =
           omega (arith, length-append (bytes_of k ds) tail, length-bytes_of k ds ds_full, full) in
-          let behind = nat_lt ((length ds + 1) * (n + 16)) (length bytes) in
-          let no : behind ≡ false = le-ltb ((length ds + 1) * (n + 16)) (length bytes) (omega (arith, low)) in
+          let behind = nat_lt ((length ds + 1) * (n + tag_length)) (length bytes) in
+          let no : behind ≡ false = le-ltb ((length ds + 1) * (n + tag_length)) (length bytes) (omega (arith, low)) in
           let i = k + length ds in
           let e = outcome_is
           ∙ (ap (λ (ys : List (List ℕ)). outcome_of opening n k (blocks ++ ys) (length bytes) (rest_bytes n tail) false true) one_whole
@@ -337,7 +338,7 @@ module _ (sealing : List ℕ → List ℕ → List ℕ) (opening : List ℕ → 
 
     pub rest_is_done : IsAuthentic sealing opening n text rest_segment → (outcome opening n rest_segment).status ≡ Done
     rest_is_done auth =
-        elim (cases_lt (length tail) (n + 16)) [
+        elim (cases_lt (length tail) (n + tag_length)) [
           | inl lt ↦ short_done lt
           | inr le ↦ full_done (omega (arith, le, tail_len, last_chunk_le n text positive)) auth
         ]
@@ -376,14 +377,14 @@ module _ (sealing : List ℕ → List ℕ → List ℕ) (opening : List ℕ → 
         ∙ (get_or-blocks_of k ds j lt ∙ ap (sealing (nonce_bytes (k + j) false)) (get_or-drop k cs j [])) in
         subst (λ (b : List ℕ). Contains (sealed sealing n text) (nonce_bytes (k + j) false, b)) (sym is) (writers_front (k + j) (omega (arith, lt, ds_len)))
 
-    short_authentic : length tail < n + 16 → IsAuthentic sealing opening n text rest_segment
+    short_authentic : length tail < n + tag_length → IsAuthentic sealing opening n text rest_segment
     short_authentic short =
         let whole : whole_blocks n bytes ≡ blocks_of k ds ++ [] = whole_of k ds tail ds_full
         ∙ ap (λ (ys : List (List ℕ)). blocks_of k ds ++ ys) (none_whole short) in
         let front : front_texts opening k (whole_blocks n bytes) ≡ ds = ap (front_texts opening k) whole ∙ (front_after [] ∙ append-nil ds) in
-        let e : length tail ≡ 0 * (n + 16) + length tail = omega arith in
-        let none : length tail / (n + 16) ≡ 0 = ap (λ (x : ℕ). x / (n + 16)) e ∙ div-mul-add 0 (n + 16) (length tail) short in
-        let count : length bytes / (n + 16) ≡ length ds = omega (arith, count_of k ds tail ds_full, none) in
+        let e : length tail ≡ 0 * (n + tag_length) + length tail = omega arith in
+        let none : length tail / (n + tag_length) ≡ 0 = ap (λ (x : ℕ). x / (n + tag_length)) e ∙ div-mul-add 0 (n + tag_length) (length tail) short in
+        let count : length bytes / (n + tag_length) ≡ length ds = omega (arith, count_of k ds tail ds_full, none) in
         let len : length (front_texts opening k (whole_blocks n bytes)) ≡ length ds = ap length front in
         authentic sealing opening n text rest_segment (record {
           front = λ j lt. subst (λ (bs : List (List ℕ)). IsWriters sealing opening n text (nonce_bytes (k + j) false) (get_or bs j [])) (sym whole)
@@ -391,8 +392,8 @@ module _ (sealing : List ℕ → List ℕ → List ℕ) (opening : List ℕ → 
           next = λ lt last. absurd (omega (arith, lt, len, count));
           rest = λ eq ended long empty some.
               let left : rest_bytes n bytes ≡ tail = left_of k ds tail ds_full ∙ all_left short in
-              let at : k + length bytes / (n + 16) ≡ q = omega (arith, count, ds_len) in
-              subst (λ (b : List ℕ). Contains (sealed sealing n text) (nonce_bytes (k + length bytes / (n + 16)) true, b)) (sym left)
+              let at : k + length bytes / (n + tag_length) ≡ q = omega (arith, count, ds_len) in
+              subst (λ (b : List ℕ). Contains (sealed sealing n text) (nonce_bytes (k + length bytes / (n + tag_length)) true, b)) (sym left)
               (subst (λ (i : ℕ). Contains (sealed sealing n text) (nonce_bytes i true, tail)) (sym at) writers_last);
         })
 
@@ -400,13 +401,13 @@ module _ (sealing : List ℕ → List ℕ → List ℕ) (opening : List ℕ → 
     last_writers shut true some = writers_last
     last_writers shut false some = absurd (none_is (opening (nonce_bytes q false) tail) shut some)
 
-    full_authentic : length tail ≡ n + 16 → opening (nonce_bytes q false) tail ≡ None → IsAuthentic sealing opening n text rest_segment
+    full_authentic : length tail ≡ n + tag_length → opening (nonce_bytes q false) tail ≡ None → IsAuthentic sealing opening n text rest_segment
     full_authentic full shut =
         let whole : whole_blocks n bytes ≡ blocks_of k ds ++ tail ∷ [] = blocks_are full in
         let front : front_texts opening k (whole_blocks n bytes) ≡ ds =
         ap (front_texts opening k) whole ∙ (front_after (tail ∷ []) ∙ (ap (λ (o : Option (List ℕ)). ds ++ text_then opening (unless_greatest q o) []) shut
         ∙ append-nil ds)) in
-        let count : length bytes / (n + 16) ≡ length ds + 1 = omega (arith, count_of k ds tail ds_full, one_count full) in
+        let count : length bytes / (n + tag_length) ≡ length ds + 1 = omega (arith, count_of k ds tail ds_full, one_count full) in
         let len : length (front_texts opening k (whole_blocks n bytes)) ≡ length ds = ap length front in
         let there : get_or (whole_blocks n bytes) (length ds) [] ≡ tail =
         ap (λ (bs : List (List ℕ)). get_or bs (length ds) []) whole ∙ get_or_at (blocks_of k ds) tail [] [] (length ds) (length-blocks_of k ds) in
@@ -426,7 +427,7 @@ module _ (sealing : List ℕ → List ℕ → List ℕ) (opening : List ℕ → 
     -- all that is tried is the writer's, unless the last block is full and opens as one before the last
     pub rest_authentic : (length (last_chunk n text) ≡ n → opening (nonce_bytes q false) tail ≡ None) → IsAuthentic sealing opening n text rest_segment
     rest_authentic shut =
-        elim (cases_lt (length tail) (n + 16)) [
+        elim (cases_lt (length tail) (n + tag_length)) [
           | inl lt ↦ short_authentic lt
           | inr le ↦ full_authentic (omega (arith, le, tail_len, last_chunk_le n text positive))
               (shut (omega (arith, le, tail_len, last_chunk_le n text positive)))

@@ -30,10 +30,6 @@ with_piece s piece =
 abbrev pub with_end : Segment → Segment
 with_end s = record s { ended = true }
 
--- the same, with another segment in place of the current one
-abbrev pub with_segment : Standing → Segment → Standing
-with_segment s segment = record s { segment = segment }
-
 module _ (opening : Opens) (n : ℕ) where
   -- the text before the current segment, and what that released
   abbrev pub text_held : Standing → List ℕ
@@ -43,8 +39,8 @@ module _ (opening : Opens) (n : ℕ) where
   accepts s k = nat_lt k chunk_limit && nat_le (k * n) (length (text_held s))
 
   abbrev pub after_delivery : Standing → Delivery → Standing
-  after_delivery s (Piece piece) = with_segment s (with_piece s.segment piece.now)
-  after_delivery s End = with_segment s (with_end s.segment)
+  after_delivery s (Piece piece) = record s { segment = with_piece s.segment piece.now }
+  after_delivery s End = record s { segment = with_end s.segment }
   after_delivery s (Restart k) =
       if accepts s k
       then record s {

@@ -1,68 +1,117 @@
--- What an opener is once a call returned and what was lent is back. A chunk has n bytes.
-use Rattle.std.specs.Prelude.{◌≡◌, ℕ, ◌+◌, ◌≤◌, List, [], ◌++◌, length, false, Result}
+-- What an opener's calls answer, and what it is once a call returned and what was lent is back. A
+-- chunk has n bytes.
+use Rattle.std.specs.Prelude.{◌≡◌, ℕ, ◌+◌, ◌-◌, ◌<◌, ◌≤◌, List, [], ◌++◌, length, min}
+use Rattle.std.specs.Prelude.{false, Result}
 use Rattle.std.specs.Prelude.{IfOk, IfErr, OnOk, OnErr, IfSome, IfNone}
 use Rattle.std.specs.List.{flat_map}
 use Rattle.std.specs.Borrow.{Bor}
-use Rattle.age_stream.specs.declared.step.Status.TheVariants.{Done, Failed}
+use Rattle.age_stream.specs.declared.step.Status.TheVariants.{Open, Done, Failed}
 use Rattle.age_stream.specs.declared.step.Step.{Step}
 use Rattle.age_chunk.specs.declared.fault.StreamFault.{StreamFault}
-use Rattle.age_chunk.specs.ChunkBoxes.{Seals, Opens}
+use Rattle.age_chunk.specs.ChunkBoxes.{Seals, Opens, tag_length, text_length}
+use Rattle.age_chunk.specs.Nonce.{chunk_limit}
 use Rattle.age_stream.specs.Segment.{Segment, outcome, released}
 use Rattle.age_stream.specs.Deliveries.{with_piece, with_end}
 use Rattle.age_stream.specs.Opening.{OpenerView, Stands, given, handed, handed_bytes, chunk_texts}
-use Rattle.age_stream.specs.Opening.{has_failed}
+use Rattle.age_stream.specs.Opening.{has_failed, text_at_end}
 use Rattle.age_stream.specs.Lent.{chunk_bytes}
 use Rattle.age_stream.specs.Headline.{ReleasesWritten}
 
+-- the segment with what a call took of the piece added, or all of it if the call refused
+abbrev pub fed : Segment → List ℕ → Result Step StreamFault → Segment
+fed s piece answer = with_piece s (given (λ (step : Step). step.taken) answer piece)
+
 module _ {B : Type 0} (sealing : B → Seals) (opening : B → Opens) (n : ℕ) (old : OpenerView B) where
-  -- the segment with what was taken of the piece added
-  abbrev pub fed : Segment → List ℕ → Result Step StreamFault → Segment
-  fed s piece answer = with_piece s (given (λ (step : Step). step.taken) answer piece)
-
-  -- what a call lends is what the outcome gains
-  abbrev pub Lends : List ℕ → Result Step StreamFault → Type 0
-  Lends piece answer = (s : Segment) → Stands opening n old s
-      → (outcome (opening old.key) n (fed s piece answer)).texts
-      ≡ (outcome (opening old.key) n s).texts
-      ++ handed (λ (step : Step). chunk_texts step.chunk) answer
-
-  -- after a call that took so many bytes of the piece, or refused all of it, the opener stands for
-  -- the segment with those bytes added
+  -- what an opener is after `feed`
   pub record IsFed (piece : List ℕ) (answer : Result Step StreamFault)
       (new : OpenerView B) : Type 0 where
+    -- its key stays
     pub key : new.key ≡ old.key
+    -- it stands for each segment that it stood for, with what was taken added
     pub stands : (s : Segment) → Stands opening n old s
         → Stands opening n new (fed s piece answer)
+    -- the answer says at which chunk it stands
     pub index : IfOk answer (λ step. step.index ≡ new.index)
+    -- a refusal is its status
     pub fault : IfErr answer (λ fault. new.status ≡ Failed fault)
+    -- after Ok it isn't refused
     pub unfailed : OnOk answer (has_failed new.status ≡ false)
-    -- a text that is lent is a whole chunk, and nothing is held; else all that was taken is held; a
-    -- refusal leaves nothing held
+    -- a text that is lent is a whole chunk, which ended the block that was open, and nothing is held
     pub lent : IfOk answer (λ step. IfSome step.chunk (λ chunk. (length chunk.now ≡ n)
-        × (length old.held + step.taken ≡ n + 16) × (new.held ≡ [])))
+        × (length old.held + step.taken ≡ n + tag_length) × (new.held ≡ [])))
+    -- if nothing is lent, all that was taken is held
     pub unlent : IfOk answer (λ step. IfNone step.chunk
         (length new.held ≡ length old.held + step.taken))
+    -- a refusal leaves nothing held
     pub refused : OnErr answer (new.held ≡ [])
+    -- what is held or lent was held or taken
     pub fits : IfOk answer (λ step. length new.held + length (chunk_bytes step.chunk)
         ≤ length old.held + step.taken)
+    -- an empty piece changes nothing
     pub unchanged : length piece ≡ 0 → new ≡ old
-    -- at last the headline: while what opens is the writer's, what was released is the beginning of
-    -- the text
+    -- the headline: while what opens is the writer's, what was released begins the text
     pub written : (s : Segment) → Stands opening n old s
         → ReleasesWritten (sealing old.key) (opening old.key) n (fed s piece answer)
         (released (opening old.key) n s
         ++ flat_map (λ (text : List ℕ). text)
         (handed (λ (step : Step). chunk_texts step.chunk) answer)) new.status
 
-  -- the input ended
+  -- what an opener is after `end`
   pub record IsEnded (answer : Result (Bor (List ℕ)) StreamFault)
       (new : OpenerView B) : Type 0 where
+    -- its key stays
     pub key : new.key ≡ old.key
+    -- it stands for each segment that it stood for, ended
     pub stands : (s : Segment) → Stands opening n old s → Stands opening n new (with_end s)
+    -- a refusal is its status
     pub fault : IfErr answer (λ fault. new.status ≡ Failed fault)
+    -- after Ok it is done
     pub done : OnOk answer (new.status ≡ Done)
+    -- it holds nothing
     pub nothing_held : new.held ≡ []
-    -- at last the headline: while what opens is the writer's, Ok comes only with all of the text
+    -- the headline: while what opens is the writer's, Ok comes only with all of the text
     pub written : (s : Segment) → Stands opening n old s
         → ReleasesWritten (sealing old.key) (opening old.key) n (with_end s)
         (released (opening old.key) n s ++ handed_bytes answer) new.status
+
+-- what `feed` and `end` answer, for blocks of `size` bytes
+module _ {B : Type 0} (opening : B → Opens) (size : ℕ) (old : OpenerView B) where
+  pub record Feeds (piece : List ℕ) (answer : Result Step StreamFault) : Type 0 where
+    -- what is lent is what the outcome gains
+    pub texts : (s : Segment) → Stands opening (text_length size) old s
+        → (outcome (opening old.key) (text_length size) (fed s piece answer)).texts
+        ≡ (outcome (opening old.key) (text_length size) s).texts
+        ++ handed (λ (step : Step). chunk_texts step.chunk) answer
+    -- bytes are taken up to the end of the block that is open
+    pub taken : IfOk answer (λ step. step.taken ≡ min (size - length old.held) (length piece))
+    -- some are taken of a piece that isn't empty
+    pub some : IfOk answer (λ step. 0 < length piece → 0 < step.taken)
+    -- the opener then stands at a chunk that a payload may have
+    pub limit : IfOk answer (λ step. step.index < chunk_limit)
+    -- the text that is lent is that of a whole block
+    pub whole : IfOk answer
+        (λ step. IfSome step.chunk (λ text. length text.now ≡ text_length size))
+    -- nothing is lent for an empty piece
+    pub nothing : length piece ≡ 0 → IfOk answer (λ step. chunk_texts step.chunk ≡ [])
+    -- a fault that came before comes again
+    pub again : IfErr answer
+        (λ fault. (earlier : StreamFault) → old.status ≡ Failed earlier → fault ≡ earlier)
+    -- Ok comes only if no call before was refused
+    pub unfailed : OnOk answer (has_failed old.status ≡ false)
+    -- bytes are taken only while a block is open
+    pub was_open : OnOk answer (0 < length piece → old.status ≡ Open)
+
+  pub record Ends (answer : Result (Bor (List ℕ)) StreamFault) : Type 0 where
+    -- the text that is lent is what the segment releases at its end
+    pub text : (s : Segment) → Stands opening (text_length size) old s
+        → released (opening old.key) (text_length size) (with_end s)
+        ≡ released (opening old.key) (text_length size) s ++ handed_bytes answer
+    -- it is as long as what was held without a tag, or empty where no block was open
+    pub len : IfOk answer (λ text. length text.now ≡ text_at_end old)
+    -- it is no longer than what was held
+    pub fits : IfOk answer (λ text. length text.now ≤ length old.held)
+    -- a fault that came before comes again
+    pub again : IfErr answer
+        (λ fault. (earlier : StreamFault) → old.status ≡ Failed earlier → fault ≡ earlier)
+    -- Ok comes only if no call before was refused
+    pub unfailed : OnOk answer (has_failed old.status ≡ false)

@@ -5,7 +5,7 @@ use Rattle.std.specs.List.{AllByRecursion, flat_map}
 use Rattle.age_stream.specs.declared.step.Status.{Status}
 use Rattle.age_stream.specs.declared.step.Status.TheVariants.{Done}
 use Rattle.std.specs.Borrow.{Bor}
-use Rattle.age_chunk.specs.ChunkBoxes.{Seals, Opens}
+use Rattle.age_chunk.specs.ChunkBoxes.{Seals, Opens, tag_length}
 use Rattle.age_chunk.specs.Nonce.{nonce_bytes, chunk_limit}
 use Rattle.age_chunk.specs.Payload.{sealed, payload, chunk_count}
 use Rattle.age_stream.specs.Segment.{Segment, stop, block_at, is_tried}
@@ -23,13 +23,12 @@ module _ (sealing : Seals) (opening : Opens) (n : ℕ) (text : List ℕ) where
   IsWriters nonce block = IsSome (opening nonce block)
       → Contains (sealed sealing n text) (nonce, block)
 
-  -- each block that the segment tries is the writer's, if it opens: as not the last, those in front,
-  -- and the next one if it is whole; as the last, the next one
+  -- each block that the segment tries is the writer's, if it opens: as not the last, those in front
+  -- and the next one, each if it is whole; as the last, the next one
   pub record IsAuthentic (s : Segment) : Type 0 where
-    pub front : (j : ℕ) → j < length (stop opening n s).texts
+    pub not_last : (j : ℕ) → j ≤ length (stop opening n s).texts
+        → length (block_at n s.bytes j) ≡ n + tag_length
         → IsWriters (nonce_bytes (s.start + j) false) (block_at n s.bytes j)
-    pub next : (stop opening n s).whole ≡ true
-        → IsWriters (nonce_bytes (stop opening n s).index false) (stop opening n s).block
     pub last : is_tried (stop opening n s) ≡ true
         → IsWriters (nonce_bytes (stop opening n s).index true) (stop opening n s).block
 
@@ -53,7 +52,7 @@ module _ (sealing : Seals) (opening : Opens) (n : ℕ) (text : List ℕ) where
     pub is : deliveries ≡ front ++ (map Piece pieces ++ End ∷ [])
     pub starts : IsStart k front
     pub rest : flat_map (λ (piece : Bor (List ℕ)). piece.now) pieces
-        ≡ drop (k * (n + 16)) (payload sealing n text)
+        ≡ drop (k * (n + tag_length)) (payload sealing n text)
     pub below : k < chunk_count n text
 
   -- what is held is the beginning of the text, its end is reported only with all of it, an
@@ -74,7 +73,7 @@ module _ (sealing : Seals) (opening : Opens) (n : ℕ) (text : List ℕ) where
   -- the segment is the payload from its start on, and an end
   pub record IsRest (s : Segment) : Type 0 where
     pub below : s.start < chunk_count n text
-    pub bytes : s.bytes ≡ drop (s.start * (n + 16)) (payload sealing n text)
+    pub bytes : s.bytes ≡ drop (s.start * (n + tag_length)) (payload sealing n text)
     pub ended : s.ended ≡ true
     pub timely : s.late ≡ false
 

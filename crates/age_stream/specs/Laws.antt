@@ -3,7 +3,7 @@ use Rattle.std.specs.Prelude.{◌≡◌, ◌≢◌, ℕ, ◌+◌, ◌-◌, ◌*�
 use Rattle.std.specs.Prelude.{false, List, [], ◌++◌, length, take}
 use Rattle.std.specs.List.{flat_map}
 use Rattle.std.specs.Simd.{first_chunks}
-use Rattle.age_chunk.specs.ChunkBoxes.{Opens, Seals, OfAllBoxes}
+use Rattle.age_chunk.specs.ChunkBoxes.{Opens, Seals, OfAllBoxes, tag_length}
 use Rattle.age_chunk.specs.Nonce.{nonce_bytes, chunk_limit}
 use Rattle.age_chunk.specs.Payload.{last_index, chunk_count, sealed_before_last, block_bytes}
 use Rattle.age_chunk.specs.Payload.{payload}
@@ -67,8 +67,9 @@ ReleasedIsWritten = OfAllBoxes (λ sealing opening. (n : ℕ) → 0 < n → (s :
 -- how long a payload is: each chunk is sealed with 16 bytes more
 abbrev pub PayloadIsLonger : Type 0
 PayloadIsLonger = OfAllBoxes (λ sealing opening. (n : ℕ) (text : List ℕ)
-    → (length (payload sealing n text) ≡ length text + chunk_count n text * 16)
-    × (length (block_bytes (sealed_before_last sealing n text)) ≡ last_index n text * (n + 16)))
+    → (length (payload sealing n text) ≡ length text + chunk_count n text * tag_length)
+    × (length (block_bytes (sealed_before_last sealing n text))
+    ≡ last_index n text * (n + tag_length)))
 
 -- the payload without its last block of a text begins that of the text and more
 abbrev pub SealedGrows : Type 0

@@ -1,5 +1,5 @@
 -- What an opener stands for, and what its calls answer. A chunk has n bytes.
-use Rattle.std.specs.Prelude.{◌≡◌, ℕ, ◌+◌, ◌-◌, ◌*◌, ◌/◌, List, [], ◌∷◌, length}
+use Rattle.std.specs.Prelude.{◌≡◌, ℕ, ◌+◌, ◌*◌, ◌/◌, List, [], ◌∷◌, length}
 use Rattle.std.specs.Prelude.{take, Bool, true, false, Option, Some, None, Result, Ok, Err}
 use Rattle.std.specs.Prelude.{if◌then◌else◌}
 use Rattle.std.specs.Borrow.{Bor}
@@ -7,7 +7,7 @@ use Rattle.age_stream.specs.declared.step.Status.{Status}
 use Rattle.age_stream.specs.declared.step.Status.TheVariants.{Open, Failed}
 use Rattle.age_chunk.specs.declared.fault.StreamFault.{StreamFault}
 use Rattle.age_stream.specs.declared.opener.OpenerState.{OpenerState}
-use Rattle.age_chunk.specs.ChunkBoxes.{Opens}
+use Rattle.age_chunk.specs.ChunkBoxes.{Opens, tag_length, text_length}
 use Rattle.age_stream.specs.Segment.{Segment, outcome, rest_bytes}
 
 -- its key, the bytes of the block that is open, the chunk at which it stands, and its status
@@ -67,11 +67,11 @@ while_open other len = 0
 
 -- how much text so many bytes hold: of each whole block what isn't its tag
 abbrev pub whole_text : ℕ → ℕ → ℕ
-whole_text n len = len / (n + 16) * n
+whole_text n len = len / (n + tag_length) * n
 
 -- how much text an end releases, if it releases any: what is held, without the tag
 abbrev pub text_at_end : {B : Type 0} → OpenerView B → ℕ
-text_at_end o = while_open o.status (length o.held - 16)
+text_at_end o = while_open o.status (text_length (length o.held))
 
 -- how much text a piece releases at most
 abbrev pub text_of_piece : {B : Type 0} → ℕ → OpenerView B → ℕ → ℕ

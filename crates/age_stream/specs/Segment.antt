@@ -1,11 +1,11 @@
 -- What an opener makes of a segment: the bytes that came from one start up to the next. A chunk has
--- n bytes, its block n + 16.
+-- n bytes, its block n + tag_length.
 use Rattle.std.specs.Prelude.{ℕ, ◌+◌, ◌*◌, ◌/◌, Bool, true, false, not, ◌||◌, ◌&&◌}
 use Rattle.std.specs.Prelude.{◌==◌, nat_lt, List, [], ◌∷◌, ◌++◌, length, take, drop, Option}
 use Rattle.std.specs.Prelude.{Some, None, is_some, is_none, if◌then◌else◌}
 use Rattle.std.specs.List.{flat_map}
 use Rattle.std.specs.Simd.{first_chunks}
-use Rattle.age_chunk.specs.ChunkBoxes.{Opens}
+use Rattle.age_chunk.specs.ChunkBoxes.{Opens, tag_length}
 use Rattle.age_chunk.specs.Nonce.{nonce_bytes, chunk_limit}
 use Rattle.age_stream.specs.declared.step.Status.{Status}
 use Rattle.age_stream.specs.declared.step.Status.TheVariants.{Open, LastSeen, Done, Failed}
@@ -32,14 +32,14 @@ abbrev pub failed : StreamKind → ℕ → Status
 failed kind i = Failed (record { kind = kind; chunk = i })
 
 abbrev pub whole_blocks : ℕ → List ℕ → List (List ℕ)
-whole_blocks n bytes = first_chunks (n + 16) (length bytes / (n + 16)) bytes
+whole_blocks n bytes = first_chunks (n + tag_length) (length bytes / (n + tag_length)) bytes
 
 abbrev pub rest_bytes : ℕ → List ℕ → List ℕ
-rest_bytes n bytes = drop (length bytes / (n + 16) * (n + 16)) bytes
+rest_bytes n bytes = drop (length bytes / (n + tag_length) * (n + tag_length)) bytes
 
 -- block j of these bytes, or what is left of them there
 abbrev pub block_at : ℕ → List ℕ → ℕ → List ℕ
-block_at n bytes j = take (n + 16) (drop (j * (n + 16)) bytes)
+block_at n bytes j = take (n + tag_length) (drop (j * (n + tag_length)) bytes)
 
 -- where a segment stands: the texts of the blocks in front, the number of the next block, what came
 -- of it, whether that is all of it, whether bytes came after it, and whether the input ended
@@ -61,11 +61,11 @@ is_missing b = length b.block == 0
 
 -- it ended before a block had as many bytes as a tag
 abbrev pub is_cut : Stop → Bool
-is_cut b = nat_lt (length b.block) 16
+is_cut b = nat_lt (length b.block) tag_length
 
 -- the last block is a tag alone, though other chunks came before it
 abbrev pub is_empty_last : Stop → Bool
-is_empty_last b = not b.whole && (length b.block == 16 && nat_lt 0 b.index)
+is_empty_last b = not b.whole && (length b.block == tag_length && nat_lt 0 b.index)
 
 -- it is none of these, but is tried as the last
 abbrev pub is_tried : Stop → Bool
@@ -108,8 +108,8 @@ module _ (opening : Opens) where
         texts = texts;
         index = s.start + j;
         block = block_at n s.bytes j;
-        whole = length (block_at n s.bytes j) == n + 16;
-        followed = nat_lt ((j + 1) * (n + 16)) (length s.bytes) || s.late;
+        whole = length (block_at n s.bytes j) == n + tag_length;
+        followed = nat_lt ((j + 1) * (n + tag_length)) (length s.bytes) || s.late;
         ended = s.ended;
       }
 

@@ -5,6 +5,7 @@ ghost use Rattle.age_stream.specs.Drills.{IsHeldAfter};
 ghost use Rattle.age_stream.specs.Headline.{HoldsWritten};
 ghost use Rattle.age_chunk.specs.Payload.{block_length};
 ghost use Rattle.age_stream.specs.Replaying.{bytes_in};
+ghost use Rattle.age_chunk.specs.ChunkBoxes.{tag_length, text_length};
 
 use crate::delivery::Delivery;
 use crate::replay::{Drill, Replay};
@@ -17,19 +18,19 @@ pub fn drill<B: ChunkBox, const SEALED: usize>(
     key: &B,
     events: &[Delivery<'_>],
 ) -> Result<Drill, Memory>
-    requires least { 17 ≤ SEALED }
+    requires least { tag_length < SEALED }
     requires most { SEALED ≤ block_length }
     ensures held { IfOk result
-        (λ drill. IsHeldAfter (B.opening key.now) (SEALED - 16) events.now drill) }
+        (λ drill. IsHeldAfter (B.opening key.now) (text_length SEALED) events.now drill) }
 
     // While no block opens except as the writer of a text sealed it, what is held is the beginning
     // of that text, the end is reported only with all of it, an undamaged payload, or its rest,
     // gives all of it, and each block stands in its place.
     ensures written { IfOk result (λ drill. HoldsWritten (B.sealing key.now) (B.opening key.now)
-        (SEALED - 16) events.now drill.text.items drill.status) }
+        (text_length SEALED) events.now drill.text.items drill.status) }
 
     // Memory is refused only where more bytes are delivered than a tag has.
-    ensures memory { OnErr result (16 < length (flat_map bytes_in events.now)) }
+    ensures memory { OnErr result (tag_length < length (flat_map bytes_in events.now)) }
 {
     let mut replay = Replay::<B, SEALED>::new(alloc, key);
     for event in events {

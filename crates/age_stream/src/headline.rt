@@ -1,9 +1,10 @@
 //! What is held under any deliveries.
-ghost use Rattle.std.specs.Prelude.{◌-◌, ◌≤◌, List};
+ghost use Rattle.std.specs.Prelude.{◌<◌, List};
 ghost use Rattle.age_stream.specs.Segment.{Segment, outcome, released};
 ghost use Rattle.age_stream.specs.Deliveries.{standing, text_held};
 ghost use Rattle.age_stream.specs.Headline.{HoldsWritten, ReleasesWritten};
 ghost use Rattle.age_stream.specs.declared.delivery.Delivery.{Delivery};
+ghost use Rattle.age_chunk.specs.ChunkBoxes.{tag_length, text_length};
 
 use age_chunk::ChunkBox;
 
@@ -16,15 +17,15 @@ use age_chunk::ChunkBox;
 /// is none, and [`TooManyChunks`](crate::StreamKind::TooManyChunks) never
 /// comes. The same of one segment, after the text before its start.
 pub fn held_is_written<B: ChunkBox, const SEALED: usize>()
-    requires least { 17 ≤ SEALED }
+    requires least { tag_length < SEALED }
     ensures held { (key : B) (deliveries : List Delivery)
-        → HoldsWritten (B.sealing key) (B.opening key) (SEALED - 16) deliveries
-        (text_held (B.opening key) (SEALED - 16)
-        (standing (B.opening key) (SEALED - 16) deliveries))
-        (outcome (B.opening key) (SEALED - 16)
-        (standing (B.opening key) (SEALED - 16) deliveries).segment).status }
+        → HoldsWritten (B.sealing key) (B.opening key) (text_length SEALED) deliveries
+        (text_held (B.opening key) (text_length SEALED)
+        (standing (B.opening key) (text_length SEALED) deliveries))
+        (outcome (B.opening key) (text_length SEALED)
+        (standing (B.opening key) (text_length SEALED) deliveries).segment).status }
     ensures segment { (key : B) (s : Segment)
-        → ReleasesWritten (B.sealing key) (B.opening key) (SEALED - 16) s
-        (released (B.opening key) (SEALED - 16) s)
-        (outcome (B.opening key) (SEALED - 16) s).status }
+        → ReleasesWritten (B.sealing key) (B.opening key) (text_length SEALED) s
+        (released (B.opening key) (text_length SEALED) s)
+        (outcome (B.opening key) (text_length SEALED) s).status }
 {}

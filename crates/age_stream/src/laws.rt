@@ -41,7 +41,7 @@ pub fn released_is_written()
     ensures { ReleasedIsWritten }
 {}
 
-/// A payload has 16 bytes more than its text for each chunk, and the blocks
+/// A payload is longer than its text by a tag for each chunk, and the blocks
 /// before the last are whole.
 pub fn payload_is_longer()
     ensures { PayloadIsLonger }
@@ -67,7 +67,7 @@ pub fn chunks_are_counted()
 pub fn undamaged_is_authentic()
     ensures whole { WholeIsAuthentic }
     ensures rest { RestIsAuthentic }
-    ensures behind { UndamagedIsAuthentic }
+    ensures after { UndamagedIsAuthentic }
 {}
 
 /// The payload of a text, delivered in any pieces and then an end, is held as

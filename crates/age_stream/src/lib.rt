@@ -1,14 +1,16 @@
 //! The payload of an age file (<https://c2sp.org/age#payload>).
 //!
-//! A text is cut into chunks of 65,536 bytes; the last has 1 to 65,536, or
-//! none where the whole text is empty. Each chunk is sealed with 16 bytes more
-//! at a nonce of its own: eleven bytes of its number from 0, the highest
-//! first, and one byte that is 1 for the last chunk and 0 for the others. The
-//! blocks follow one another, and nothing comes after the last.
+//! A text is cut into chunks of [`CHUNK_LEN`] bytes; the last has fewer or as
+//! many, but none only where the whole text is empty. Each chunk is sealed with
+//! a tag of [`TAG_LEN`] bytes at a nonce of its own: eleven bytes of its number
+//! from 0, the highest first, and one byte that is 1 for the last chunk and
+//! 0 for the others. The blocks follow one another, and nothing comes after
+//! the last.
 //!
 //! A [`Sealer`] takes a text in pieces and lends the blocks, and an [`Opener`]
 //! takes the blocks in pieces and lends the text, each out of one buffer of
-//! `SEALED` bytes, the length of a whole block. Neither takes memory. A
+//! `SEALED` bytes, the length of a whole block; for age files that is
+//! [`BLOCK_LEN`]. Neither takes memory. A
 //! [`ChunkBox`] is what seals and opens a chunk. [`Replay`] and [`drill`] hold
 //! the text that came of any list of pieces, ends and restarts.
 #![tactic(auto)]
@@ -24,7 +26,10 @@ mod sealer;
 mod step;
 mod whole_text;
 
-pub use age_chunk::{CHUNK_LIMIT, ChunkBox, ClearBox, Memory, StreamFault, StreamKind, nonce_of};
+pub use age_chunk::{
+    BLOCK_LEN, CHUNK_LEN, CHUNK_LIMIT, ChunkBox, ClearBox, Memory, StreamFault, StreamKind,
+    TAG_LEN, nonce_of,
+};
 pub use delivery::Delivery;
 pub use drilling::drill;
 pub use headline::held_is_written;

@@ -1,20 +1,19 @@
 //! The reader's side: sealed chunks in, text out.
-ghost use Rattle.std.specs.Prelude.{◌≡◌, ◌≢◌, ◌+◌, ◌-◌, ◌<◌, ◌≤◌, []};
-ghost use Rattle.std.specs.Prelude.{◌∷◌, ◌++◌, length, take, min, IfOk, OnOk, IfErr, IfSome, None};
-ghost use Rattle.std.specs.Prelude.{Some, true, false, if◌then◌else◌, nat_lt, ◌==◌, ◌&&◌};
+ghost use Rattle.std.specs.Prelude.{◌≡◌, ◌≢◌, ◌+◌, ◌-◌, ◌<◌, ◌≤◌, [], ◌++◌, length, take};
+ghost use Rattle.std.specs.Prelude.{IfOk, OnOk, IfErr, Some, None, true, false, if◌then◌else◌};
+ghost use Rattle.std.specs.Prelude.{nat_lt, ◌==◌, ◌&&◌};
 ghost use Rattle.std.specs.Bool.{OnTrue, OnFalse};
-ghost use Rattle.std.specs.List.{flat_map};
 ghost use Rattle.std.specs.Borrow.{sem};
 ghost use Rattle.std.specs.Io.BufRead.{Rests};
-ghost use Rattle.age_stream.specs.Headline.{ReleasesWritten};
+ghost use Rattle.age_chunk.specs.ChunkBoxes.{tag_length, text_length};
 ghost use Rattle.age_chunk.specs.Nonce.{nonce_bytes, chunk_limit};
 ghost use Rattle.age_chunk.specs.Payload.{chunk_length, block_length};
-ghost use Rattle.age_stream.specs.declared.step.Status.TheVariants.{Open};
 ghost use Rattle.age_chunk.specs.declared.fault.StreamFault.{StreamFault as StreamFaultValue};
+ghost use Rattle.age_stream.specs.declared.step.Status.TheVariants.{Open};
 
 use crate::buffer::push_bytes;
 use crate::step::{Status, Step};
-use age_chunk::{CHUNK_LIMIT, ChunkBox, StreamFault, StreamKind, nonce_of};
+use age_chunk::{CHUNK_LIMIT, ChunkBox, StreamFault, StreamKind, TAG_LEN, nonce_of};
 use arrayvec::ArrayVec;
 use std::marker::Model;
 
@@ -22,13 +21,13 @@ use std::marker::Model;
 #[derive(Drop)]
 struct OpenerState<'k, B: ChunkBox, const SEALED: usize> {
     key: &'k B,
-    // the bytes of the block that is open; or, if lent, the text and the tag of one that was opened,
-    // until the next call
+    // the bytes of the block that is open; or, if lent, the text and the tag of one that was
+    // opened, until the next call
     buffer: ArrayVec<u8, SEALED>,
     lent: bool,
     index: u64,
     status: Status,
-    ghost sizes: { (17 ≤ SEALED) × (SEALED ≤ block_length) },
+    ghost sizes: { (tag_length < SEALED) × (SEALED ≤ block_length) },
     ghost limit: { index < chunk_limit },
     ghost room: { status ≡ Open → lent ≡ false → length buffer.items < SEALED },
     // only an open block is held
@@ -36,13 +35,11 @@ struct OpenerState<'k, B: ChunkBox, const SEALED: usize> {
 }
 
 impl<'k, B: ChunkBox, const SEALED: usize> OpenerState<'k, B, SEALED> {
-    ghost use Rattle.age_stream.specs.Segment.{Segment, outcome, released, failed};
+    ghost use Rattle.age_stream.specs.Segment.{failed};
     ghost use Rattle.age_stream.specs.inner.SegmentSteps.{final_block, one_block, status_ended};
-    ghost use Rattle.age_stream.specs.Deliveries.{with_piece, with_end};
-    ghost use Rattle.age_stream.specs.Opening.{Stands, given, handed, has_failed, text_at_end};
-    ghost use Rattle.age_stream.specs.Opening.{held_bytes, opener_view};
+    ghost use Rattle.age_stream.specs.Opening.{has_failed, held_bytes, opener_view};
     ghost use Rattle.age_stream.specs.inner.OpenerSteps.{IsTried, TakesPart, TakesWhole, TakesNone};
-    ghost use Rattle.age_stream.specs.inner.OpenerSteps.{Ends, front_bytes};
+    ghost use Rattle.age_stream.specs.inner.OpenerSteps.{Advances, Closes, EndsAs};
 
     // Empties the buffer of a text that was lent.
     fn settle(&mut self)
@@ -128,42 +125,7 @@ impl<'k, B: ChunkBox, const SEALED: usize> OpenerState<'k, B, SEALED> {
 
     // Takes what it takes of a piece, and says whether a text then stands in the buffer.
     fn advance(&mut self, piece: &[u8]) -> Result<(usize, bool), StreamFault>
-        ensures stands { (s : Segment) → Stands B.opening (SEALED - 16) (opener_view self.old) s
-            → Stands B.opening (SEALED - 16) (opener_view self.new)
-            (with_piece s (given (λ a. a.0) result piece.now)) }
-        ensures texts { (s : Segment) → Stands B.opening (SEALED - 16) (opener_view self.old) s
-            → (outcome (B.opening self.old.key.now) (SEALED - 16)
-            (with_piece s (given (λ a. a.0) result piece.now))).texts
-            ≡ (outcome (B.opening self.old.key.now) (SEALED - 16) s).texts
-            ++ handed
-            (λ a. if a.1 then take (SEALED - 16) self.new.buffer.items ∷ [] else []) result }
-        ensures written { (s : Segment) → Stands B.opening (SEALED - 16) (opener_view self.old) s
-            → ReleasesWritten (B.sealing self.old.key.now) (B.opening self.old.key.now)
-            (SEALED - 16) (with_piece s (given (λ a. a.0) result piece.now))
-            (released (B.opening self.old.key.now) (SEALED - 16) s
-            ++ flat_map (λ text. text) (handed
-            (λ a. if a.1 then take (SEALED - 16) self.new.buffer.items ∷ [] else []) result))
-            self.new.status }
-        ensures fault { IfErr result (λ fault. self.new.status ≡ Status.Failed fault) }
-        ensures key { self.new.key ≡ self.old.key }
-        ensures full { IfOk result (λ a. a.1 ≡ true → length self.new.buffer.items ≡ SEALED) }
-        ensures taken { IfOk result
-            (λ a. a.0 ≡ min (SEALED - length (held_bytes self.old)) (length piece.now)) }
-        ensures some { IfOk result (λ a. 0 < length piece.now → 0 < a.0) }
-        ensures sound { IfOk result (λ _. has_failed self.new.status ≡ false) }
-        ensures again { IfErr result (λ fault. (earlier : StreamFaultValue)
-            → self.old.status ≡ Status.Failed earlier → fault ≡ earlier) }
-        ensures unfailed { OnOk result (has_failed self.old.status ≡ false) }
-        ensures still { length piece.now ≡ 0 → opener_view self.new ≡ opener_view self.old }
-        ensures nothing { length piece.now ≡ 0 → IfOk result (λ a. a.1 ≡ false) }
-        ensures was_open { OnOk result (0 < length piece.now → self.old.status ≡ Status.Open) }
-        ensures lent { IfOk result (λ a. a.1 ≡ true
-            → (length (held_bytes self.old) + a.0 ≡ SEALED) × (held_bytes self.new ≡ [])) }
-        ensures unlent { IfOk result (λ a. a.1 ≡ false
-            → length (held_bytes self.new) ≡ length (held_bytes self.old) + a.0) }
-        ensures room { IfOk result (λ a. length (held_bytes self.new)
-            + length (if a.1 then take (SEALED - 16) self.new.buffer.items else [])
-            ≤ length (held_bytes self.old) + a.0) }
+        ensures { Advances B.sealing B.opening self.old piece.now result self.new }
     {
         match self.status {
             Status::Open => self.take_open(piece),
@@ -174,18 +136,18 @@ impl<'k, B: ChunkBox, const SEALED: usize> OpenerState<'k, B, SEALED> {
     // Tries what is held as the last block.
     fn end_open(&mut self) -> Result<usize, StreamFault>
         requires { self.old.status ≡ Status.Open }
-        ensures ends { Ends (final_block (B.opening self.old.key.now) [] self.old.index
+        ensures ends { EndsAs (final_block (B.opening self.old.key.now) [] self.old.index
             (held_bytes self.old) false true) self.old result self.new }
         ensures done { OnOk result (self.new.status ≡ Status.Done) }
         ensures none { OnOk result (held_bytes self.new ≡ []) }
-        ensures len { IfOk result (λ len. len ≡ length (held_bytes self.old) - 16) }
+        ensures len { IfOk result (λ len. len ≡ text_length (length (held_bytes self.old))) }
     {
         self.settle();
         let len = self.buffer.len();
         if len == 0 {
             return Err(self.fail(StreamKind::Truncated));
         }
-        if len < 16 {
+        if len < TAG_LEN {
             return Err(self.fail(StreamKind::ChunkCut));
         }
         if is_empty_last(len, self.index) {
@@ -194,7 +156,7 @@ impl<'k, B: ChunkBox, const SEALED: usize> OpenerState<'k, B, SEALED> {
         if open_in(self.key, self.index, true, &mut self.buffer) {
             self.status = Status::Done;
             self.lent = true;
-            return Ok(len - 16);
+            return Ok(len - TAG_LEN);
         }
         Err(self.fail(StreamKind::ChunkDamaged))
     }
@@ -202,7 +164,7 @@ impl<'k, B: ChunkBox, const SEALED: usize> OpenerState<'k, B, SEALED> {
     // An end where no block is open.
     fn end_none(&mut self) -> Result<usize, StreamFault>
         requires { self.old.status ≢ Status.Open }
-        ensures ends { Ends
+        ensures ends { EndsAs
             (record { texts = []; index = self.old.index; status = status_ended self.old.status })
             self.old result self.new }
         ensures again { IfErr result (λ fault. (earlier : StreamFaultValue)
@@ -221,27 +183,7 @@ impl<'k, B: ChunkBox, const SEALED: usize> OpenerState<'k, B, SEALED> {
 
     // Ends, and says how many bytes at the beginning of the buffer are the last text.
     fn close(&mut self) -> Result<usize, StreamFault>
-        ensures stands { (s : Segment) → Stands B.opening (SEALED - 16) (opener_view self.old) s
-            → Stands B.opening (SEALED - 16) (opener_view self.new) (with_end s) }
-        ensures text { (s : Segment) → Stands B.opening (SEALED - 16) (opener_view self.old) s
-            → released (B.opening self.old.key.now) (SEALED - 16) (with_end s)
-            ≡ released (B.opening self.old.key.now) (SEALED - 16) s
-            ++ front_bytes result self.new.buffer.items }
-        ensures written { (s : Segment) → Stands B.opening (SEALED - 16) (opener_view self.old) s
-            → ReleasesWritten (B.sealing self.old.key.now) (B.opening self.old.key.now)
-            (SEALED - 16) (with_end s)
-            (released (B.opening self.old.key.now) (SEALED - 16) s
-            ++ front_bytes result self.new.buffer.items) self.new.status }
-        ensures fault { IfErr result (λ fault. self.new.status ≡ Status.Failed fault) }
-        ensures done { OnOk result (self.new.status ≡ Status.Done) }
-        ensures none { OnOk result (held_bytes self.new ≡ []) }
-        ensures again { IfErr result (λ fault. (earlier : StreamFaultValue)
-            → self.old.status ≡ Status.Failed earlier → fault ≡ earlier) }
-        ensures unfailed { OnOk result (has_failed self.old.status ≡ false) }
-        ensures key { self.new.key ≡ self.old.key }
-        ensures len { IfOk result (λ len. len ≡ text_at_end (opener_view self.old)) }
-        ensures fits { IfOk result (λ len. (len ≤ length self.new.buffer.items)
-            × (len ≤ length (held_bytes self.old))) }
+        ensures { Closes B.sealing B.opening self.old result self.new }
     {
         match self.status {
             Status::Open => self.end_open(),
@@ -288,20 +230,18 @@ impl<'k, B: ChunkBox, const SEALED: usize> Model for Opener<'k, B, SEALED> {
 }
 
 impl<'k, B: ChunkBox, const SEALED: usize> Opener<'k, B, SEALED> {
-    ghost use Rattle.age_stream.specs.Segment.{Segment, released};
-    ghost use Rattle.age_stream.specs.Deliveries.{with_end, fresh};
-    ghost use Rattle.age_stream.specs.Opening.{Stands, handed_bytes, chunk_texts};
-    ghost use Rattle.age_stream.specs.Opening.{has_failed, text_at_end};
-    ghost use Rattle.age_stream.specs.Feeding.{IsFed, IsEnded, Lends};
+    ghost use Rattle.age_stream.specs.Deliveries.{fresh};
+    ghost use Rattle.age_stream.specs.Opening.{Stands, has_failed};
+    ghost use Rattle.age_stream.specs.Feeding.{Feeds, IsFed, Ends, IsEnded};
     ghost use Rattle.age_stream.specs.OpenerRow.{opener_row};
 
     /// An opener of a whole payload. Takes no memory.
     pub fn new(key: &'k B) -> Self
-        requires least { 17 ≤ SEALED }
+        requires least { tag_length < SEALED }
         requires most { SEALED ≤ block_length }
         ensures view { result
             ≡ record { key = key.now; held = []; index = 0; status = Status.Open } }
-        ensures stands { Stands B.opening (SEALED - 16) result (fresh 0) }
+        ensures stands { Stands B.opening (text_length SEALED) result (fresh 0) }
     {
         Opener::at(key, 0)
     }
@@ -309,12 +249,12 @@ impl<'k, B: ChunkBox, const SEALED: usize> Opener<'k, B, SEALED> {
     /// An opener of a payload from a chunk on, by the chunk's number, which is
     /// below [`CHUNK_LIMIT`]. Takes no memory.
     pub fn at(key: &'k B, index: u64) -> Self
-        requires least { 17 ≤ SEALED }
+        requires least { tag_length < SEALED }
         requires most { SEALED ≤ block_length }
         requires limit { index < chunk_limit }
         ensures view { result
             ≡ record { key = key.now; held = []; index = index; status = Status.Open } }
-        ensures stands { Stands B.opening (SEALED - 16) result (fresh index) }
+        ensures stands { Stands B.opening (text_length SEALED) result (fresh index) }
     {
         Opener::between(key, index, Status::Open)
     }
@@ -323,7 +263,7 @@ impl<'k, B: ChunkBox, const SEALED: usize> Opener<'k, B, SEALED> {
     /// of its chunk, which is below [`CHUNK_LIMIT`], and its status: for
     /// a caller that keeps both itself between two calls. Takes no memory.
     pub fn between(key: &'k B, index: u64, status: Status) -> Self
-        requires least { 17 ≤ SEALED }
+        requires least { tag_length < SEALED }
         requires most { SEALED ≤ block_length }
         requires limit { index < chunk_limit }
         ensures view { result
@@ -381,13 +321,13 @@ impl<'k, B: ChunkBox, const SEALED: usize> Opener<'k, B, SEALED> {
 
     // How many bytes a chunk has.
     pub(crate) fn chunk_len(&self) -> u64
-        ensures len { result ≡ SEALED - 16 }
+        ensures len { result ≡ text_length SEALED }
         ensures most { result ≤ chunk_length }
-        ensures sizes { (17 ≤ SEALED) × (SEALED ≤ block_length) }
+        ensures sizes { (tag_length < SEALED) × (SEALED ≤ block_length) }
     {
         // names the state, so that the proof knows its bounds on SEALED
         let _ = &self.state.lent;
-        (SEALED - 16) as u64
+        (SEALED - TAG_LEN) as u64
     }
 
     /// Takes bytes of the payload, up to the end of the block that is open,
@@ -399,20 +339,10 @@ impl<'k, B: ChunkBox, const SEALED: usize> Opener<'k, B, SEALED> {
     /// chunk are [`Trailing`](StreamKind::Trailing). After a refusal each call
     /// is refused with the same fault.
     pub fn feed(&mut self, piece: &[u8]) -> Result<Step<'_>, StreamFault>
+        // The opener, once the loan has ended.
         ensures* after { sem 𝓛 (Rests (opener_row B.row SEALED.row B.ChunkBox) self.entry
-            (IsFed B.sealing B.opening (SEALED - 16) self.old piece.now result)) }
-        ensures texts { Lends B.sealing B.opening (SEALED - 16) self.old piece.now result }
-        ensures taken { IfOk result
-            (λ step. step.taken ≡ min (SEALED - length self.old.held) (length piece.now)) }
-        ensures some { IfOk result (λ step. 0 < length piece.now → 0 < step.taken) }
-        ensures limit { IfOk result (λ step. step.index < chunk_limit) }
-        ensures whole { IfOk result
-            (λ step. IfSome step.chunk (λ text. length text.now ≡ SEALED - 16)) }
-        ensures nothing { length piece.now ≡ 0 → IfOk result (λ step. chunk_texts step.chunk ≡ []) }
-        ensures again { IfErr result (λ fault. (earlier : StreamFaultValue)
-            → self.old.status ≡ Status.Failed earlier → fault ≡ earlier) }
-        ensures unfailed { OnOk result (has_failed self.old.status ≡ false) }
-        ensures was_open { OnOk result (0 < length piece.now → self.old.status ≡ Status.Open) }
+            (IsFed B.sealing B.opening (text_length SEALED) self.old piece.now result)) }
+        ensures feeds { Feeds B.opening SEALED self.old piece.now result }
     {
         let (taken, full) = self.state.advance(piece)?;
         let reached = self.state.index;
@@ -423,7 +353,7 @@ impl<'k, B: ChunkBox, const SEALED: usize> Opener<'k, B, SEALED> {
                 chunk: None,
             });
         }
-        let text = &self.state.buffer.as_slice()[..SEALED - 16];
+        let text = &self.state.buffer.as_slice()[..SEALED - TAG_LEN];
         Ok(Step {
             taken,
             index: reached,
@@ -432,24 +362,18 @@ impl<'k, B: ChunkBox, const SEALED: usize> Opener<'k, B, SEALED> {
     }
 
     /// The input ended: what is held is tried as the last chunk, and its text
-    /// is lent. Answers no text where the last chunk came before. Nothing held
-    /// is [`Truncated`](StreamKind::Truncated), fewer than 16 bytes are
-    /// [`ChunkCut`](StreamKind::ChunkCut), and 16 after other chunks are
-    /// [`EmptyLast`](StreamKind::EmptyLast): a writer makes no empty chunk but
-    /// for the empty text. What doesn't open is
+    /// is lent. The text is empty if the last chunk came before. Nothing held
+    /// is [`Truncated`](StreamKind::Truncated), fewer bytes than a tag has
+    /// are [`ChunkCut`](StreamKind::ChunkCut), and a tag alone after other
+    /// chunks is [`EmptyLast`](StreamKind::EmptyLast): a writer makes no empty
+    /// chunk but for the empty text. What doesn't open is
     /// [`ChunkDamaged`](StreamKind::ChunkDamaged). After a refusal each call is
     /// refused with the same fault.
     pub fn end(&mut self) -> Result<&[u8], StreamFault>
+        // The opener, once the loan has ended.
         ensures* after { sem 𝓛 (Rests (opener_row B.row SEALED.row B.ChunkBox) self.entry
-            (IsEnded B.sealing B.opening (SEALED - 16) self.old result)) }
-        ensures text { (s : Segment) → Stands B.opening (SEALED - 16) self.old s
-            → released (B.opening self.old.key) (SEALED - 16) (with_end s)
-            ≡ released (B.opening self.old.key) (SEALED - 16) s ++ handed_bytes result }
-        ensures len { IfOk result (λ text. length text.now ≡ text_at_end self.old) }
-        ensures fits { IfOk result (λ text. length text.now ≤ length self.old.held) }
-        ensures again { IfErr result (λ fault. (earlier : StreamFaultValue)
-            → self.old.status ≡ Status.Failed earlier → fault ≡ earlier) }
-        ensures unfailed { OnOk result (has_failed self.old.status ≡ false) }
+            (IsEnded B.sealing B.opening (text_length SEALED) self.old result)) }
+        ensures ends { Ends B.opening SEALED self.old result }
     {
         let len = self.state.close()?;
         Ok(&self.state.buffer.as_slice()[..len])
@@ -463,10 +387,10 @@ fn open_in<B: ChunkBox, const SEALED: usize>(
     last: bool,
     buffer: &mut ArrayVec<u8, SEALED>,
 ) -> bool
-    requires tag { 16 ≤ length buffer.old.items }
+    requires tag { tag_length ≤ length buffer.old.items }
     requires limit { SEALED ≤ block_length }
     ensures opened { OnTrue result (B.opening key.now (nonce_bytes index last) buffer.old.items
-        ≡ Some (take (length buffer.old.items - 16) buffer.new.items)) }
+        ≡ Some (take (text_length (length buffer.old.items)) buffer.new.items)) }
     ensures closed { OnFalse result
         ((B.opening key.now (nonce_bytes index last) buffer.old.items ≡ None)
         × (buffer.new.items ≡ buffer.old.items)) }
@@ -477,7 +401,7 @@ fn open_in<B: ChunkBox, const SEALED: usize>(
 
 // Whether so many bytes, at an end, are a chunk without text after others, which no writer makes.
 fn is_empty_last(len: usize, index: u64) -> bool
-    ensures { result ≡ (len == 16 && nat_lt 0 index) }
+    ensures { result ≡ (len == tag_length && nat_lt 0 index) }
 {
-    len == 16 && index > 0
+    len == TAG_LEN && index > 0
 }

@@ -8,11 +8,12 @@ ghost use Rattle.age_stream.specs.Lent.{chunk_bytes};
 ghost use Rattle.age_chunk.specs.Nonce.{chunk_limit};
 ghost use Rattle.age_chunk.specs.Payload.{block_length};
 ghost use Rattle.age_stream.specs.Headline.{HoldsWritten};
+ghost use Rattle.age_chunk.specs.ChunkBoxes.{tag_length, text_length};
 
 use crate::delivery::Delivery;
 use crate::opener::Opener;
 use crate::step::Status;
-use age_chunk::{CHUNK_LIMIT, ChunkBox, Memory};
+use age_chunk::{CHUNK_LIMIT, ChunkBox, Memory, TAG_LEN};
 use std::alloc::Global;
 use std::marker::Model;
 
@@ -36,33 +37,30 @@ struct ReplayState<'k, B: ChunkBox, const SEALED: usize> {
     opener: Opener<'k, B, SEALED>,
     text: Vec<u8>,
     refused: u64,
-    ghost sizes: { (17 ≤ SEALED) × (SEALED ≤ block_length) },
+    ghost sizes: { (tag_length < SEALED) × (SEALED ≤ block_length) },
 }
 
 impl<'k, B: ChunkBox, const SEALED: usize> ReplayState<'k, B, SEALED> {
-    ghost use Rattle.age_stream.specs.Replaying.{IsAt, IsCramped, Replays, replay_view};
-    ghost use Rattle.age_stream.specs.inner.ReplaySteps.{with_bytes};
+    ghost use Rattle.age_stream.specs.Replaying.{IsCramped, Replays, replay_view};
+    ghost use Rattle.age_stream.specs.inner.ReplaySteps.{Goes, with_bytes};
     ghost use Rattle.age_stream.specs.Opening.{text_at_end, text_of_piece, whole_text};
-    ghost use Rattle.age_stream.specs.Deliveries.{Standing, after_delivery};
+    ghost use Rattle.age_stream.specs.Deliveries.{after_delivery};
     ghost use Rattle.age_stream.specs.declared.delivery.Delivery.TheVariants.{End, Restart};
 
     // Feeds the beginning of a piece, and returns how much was taken, unless the opener refused it.
     fn feed_once(&mut self, piece: &[u8]) -> Option<usize>
         requires some { 0 < length piece.now }
         requires room { self.old.opener.status ≡ Status.Open → vec_len self.old.text
-            + whole_text (SEALED - 16) (length self.old.opener.held + length piece.now)
+            + whole_text (text_length SEALED) (length self.old.opener.held + length piece.now)
             ≤ vec_capacity self.old.text }
         ensures taken { IfSome result (λ t. (0 < t) × (t ≤ length piece.now)
             × (vec_len self.new.text
-            + whole_text (SEALED - 16) (length self.new.opener.held + (length piece.now - t))
+            + whole_text (text_length SEALED) (length self.new.opener.held + (length piece.now - t))
             ≤ vec_capacity self.new.text)
-            × ((s : Standing) → IsAt B.opening (SEALED - 16) (replay_view self.old) s
-            → IsAt B.opening (SEALED - 16) (replay_view self.new)
-            (with_bytes s (take t piece.now)))) }
+            × Goes B.opening self.old self.new (λ s. with_bytes s (take t piece.now))) }
         ensures capacity { vec_capacity self.old.text ≤ vec_capacity self.new.text }
-        ensures refused { IfNone result ((s : Standing)
-            → IsAt B.opening (SEALED - 16) (replay_view self.old) s
-            → IsAt B.opening (SEALED - 16) (replay_view self.new) (with_bytes s piece.now)) }
+        ensures refused { IfNone result
+            (Goes B.opening self.old self.new (λ s. with_bytes s piece.now)) }
         ensures key { self.new.key ≡ self.old.key }
     {
         match self.opener.feed(piece) {
@@ -78,11 +76,10 @@ impl<'k, B: ChunkBox, const SEALED: usize> ReplayState<'k, B, SEALED> {
     // Feeds a whole piece, for whose text there is room.
     fn feed_all(&mut self, piece: &[u8])
         requires { self.old.opener.status ≡ Status.Open → vec_len self.old.text
-            + whole_text (SEALED - 16) (length self.old.opener.held + length piece.now)
+            + whole_text (text_length SEALED) (length self.old.opener.held + length piece.now)
             ≤ vec_capacity self.old.text }
         ensures capacity { vec_capacity self.old.text ≤ vec_capacity self.new.text }
-        ensures fed { (s : Standing) → IsAt B.opening (SEALED - 16) (replay_view self.old) s
-            → IsAt B.opening (SEALED - 16) (replay_view self.new) (with_bytes s piece.now) }
+        ensures fed { Goes B.opening self.old self.new (λ s. with_bytes s piece.now) }
         ensures key { self.new.key ≡ self.old.key }
     {
         let mut at = 0;
@@ -96,10 +93,10 @@ impl<'k, B: ChunkBox, const SEALED: usize> ReplayState<'k, B, SEALED> {
 
     // How much text a piece releases at most.
     fn piece_room(&self, piece: &[u8]) -> usize
-        ensures { result ≡ text_of_piece (SEALED - 16) self.now.opener (length piece.now) }
+        ensures { result ≡ text_of_piece (text_length SEALED) self.now.opener (length piece.now) }
     {
         match self.opener.status() {
-            Status::Open => (self.opener.held_len() + piece.len()) / SEALED * (SEALED - 16),
+            Status::Open => (self.opener.held_len() + piece.len()) / SEALED * (SEALED - TAG_LEN),
             _ => 0,
         }
     }
@@ -109,19 +106,18 @@ impl<'k, B: ChunkBox, const SEALED: usize> ReplayState<'k, B, SEALED> {
         ensures { result ≡ text_at_end self.now.opener }
     {
         match self.opener.status() {
-            Status::Open => self.opener.held_len().saturating_sub(16),
+            Status::Open => self.opener.held_len().saturating_sub(TAG_LEN),
             _ => 0,
         }
     }
 
     // Takes a piece. Its text is made room for first.
     fn take_piece(&mut self, piece: &[u8]) -> Result<(), Memory>
-        ensures fed { OnOk result ((s : Standing)
-            → IsAt B.opening (SEALED - 16) (replay_view self.old) s
-            → IsAt B.opening (SEALED - 16) (replay_view self.new) (with_bytes s piece.now)) }
+        ensures fed { OnOk result
+            (Goes B.opening self.old self.new (λ s. with_bytes s piece.now)) }
         ensures err { OnErr result (replay_view self.new ≡ replay_view self.old) }
         ensures cramped { OnErr result (vec_capacity self.old.text < vec_len self.old.text
-            + text_of_piece (SEALED - 16) self.old.opener (length piece.now)) }
+            + text_of_piece (text_length SEALED) self.old.opener (length piece.now)) }
         ensures capacity { vec_capacity self.old.text ≤ vec_capacity self.new.text }
         ensures key { self.new.key ≡ self.old.key }
     {
@@ -137,9 +133,8 @@ impl<'k, B: ChunkBox, const SEALED: usize> ReplayState<'k, B, SEALED> {
     fn end_opener(&mut self)
         requires { vec_len self.old.text + text_at_end self.old.opener
             ≤ vec_capacity self.old.text }
-        ensures ended { (s : Standing) → IsAt B.opening (SEALED - 16) (replay_view self.old) s
-            → IsAt B.opening (SEALED - 16) (replay_view self.new)
-            (after_delivery (B.opening self.old.key.now) (SEALED - 16) s End) }
+        ensures ended { Goes B.opening self.old self.new
+            (λ s. after_delivery (B.opening self.old.key.now) (text_length SEALED) s End) }
         ensures capacity { vec_capacity self.old.text ≤ vec_capacity self.new.text }
         ensures key { self.new.key ≡ self.old.key }
     {
@@ -150,10 +145,8 @@ impl<'k, B: ChunkBox, const SEALED: usize> ReplayState<'k, B, SEALED> {
 
     // Takes an end. Its text is made room for first.
     fn take_end(&mut self) -> Result<(), Memory>
-        ensures ended { OnOk result ((s : Standing)
-            → IsAt B.opening (SEALED - 16) (replay_view self.old) s
-            → IsAt B.opening (SEALED - 16) (replay_view self.new)
-            (after_delivery (B.opening self.old.key.now) (SEALED - 16) s End)) }
+        ensures ended { OnOk result (Goes B.opening self.old self.new
+            (λ s. after_delivery (B.opening self.old.key.now) (text_length SEALED) s End)) }
         ensures err { OnErr result (replay_view self.new ≡ replay_view self.old) }
         ensures cramped { OnErr result (vec_capacity self.old.text
             < vec_len self.old.text + text_at_end self.old.opener) }
@@ -171,17 +164,16 @@ impl<'k, B: ChunkBox, const SEALED: usize> ReplayState<'k, B, SEALED> {
     // Whether so many chunks are held.
     fn reaches(&self, k: u64) -> bool
         ensures answer { result ≡ (nat_lt k chunk_limit
-            && nat_le (k * (SEALED - 16)) (length self.now.text.items)) }
-        ensures fits { OnTrue result (k * (SEALED - 16) < 2 ^ 64) }
+            && nat_le (k * text_length SEALED) (length self.now.text.items)) }
+        ensures fits { OnTrue result (k * text_length SEALED < 2 ^ 64) }
     {
         k < CHUNK_LIMIT && k * self.opener.chunk_len() <= self.text.len() as u64
     }
 
     // Starts again at a chunk, where the text reaches it.
     fn restart(&mut self, k: u64)
-        ensures restarted { (s : Standing) → IsAt B.opening (SEALED - 16) (replay_view self.old) s
-            → IsAt B.opening (SEALED - 16) (replay_view self.new)
-            (after_delivery (B.opening self.old.key.now) (SEALED - 16) s (Restart k)) }
+        ensures restarted { Goes B.opening self.old self.new
+            (λ s. after_delivery (B.opening self.old.key.now) (text_length SEALED) s (Restart k)) }
         ensures capacity { vec_capacity self.old.text ≤ vec_capacity self.new.text }
         ensures key { self.new.key ≡ self.old.key }
     {
@@ -195,13 +187,11 @@ impl<'k, B: ChunkBox, const SEALED: usize> ReplayState<'k, B, SEALED> {
 
     // One delivery, for what it was given before.
     fn deliver(&mut self, delivery: &Delivery<'_>) -> Result<(), Memory>
-        ensures stands { OnOk result ((s : Standing)
-            → IsAt B.opening (SEALED - 16) (replay_view self.old) s
-            → IsAt B.opening (SEALED - 16) (replay_view self.new)
-            (after_delivery (B.opening self.old.key.now) (SEALED - 16) s delivery.now)) }
+        ensures stands { OnOk result (Goes B.opening self.old self.new
+            (λ s. after_delivery (B.opening self.old.key.now) (text_length SEALED) s delivery.now)) }
         ensures err { OnErr result (replay_view self.new ≡ replay_view self.old) }
         ensures memory { OnErr result
-            (IsCramped (SEALED - 16) (replay_view self.old) delivery.now) }
+            (IsCramped (text_length SEALED) (replay_view self.old) delivery.now) }
         ensures capacity { vec_capacity self.old.text ≤ vec_capacity self.new.text }
         ensures key { self.new.key ≡ self.old.key }
     {
@@ -218,17 +208,17 @@ impl<'k, B: ChunkBox, const SEALED: usize> ReplayState<'k, B, SEALED> {
     // The same, for each list of deliveries that it was given.
     fn take(&mut self, delivery: &Delivery<'_>) -> Result<(), Memory>
         ensures held { OnOk result ((deliveries : List DeliveryValue)
-            → Replays B.opening (SEALED - 16) (replay_view self.old) deliveries
-            → Replays B.opening (SEALED - 16) (replay_view self.new)
+            → Replays B.opening (text_length SEALED) (replay_view self.old) deliveries
+            → Replays B.opening (text_length SEALED) (replay_view self.new)
             (deliveries ++ delivery.now ∷ [])) }
         ensures err { OnErr result (replay_view self.new ≡ replay_view self.old) }
         ensures memory { OnErr result
-            (IsCramped (SEALED - 16) (replay_view self.old) delivery.now) }
+            (IsCramped (text_length SEALED) (replay_view self.old) delivery.now) }
         ensures capacity { vec_capacity self.old.text ≤ vec_capacity self.new.text }
         ensures written { OnOk result ((deliveries : List DeliveryValue)
-            → Replays B.opening (SEALED - 16) (replay_view self.old) deliveries
-            → HoldsWritten (B.sealing self.old.key.now) (B.opening self.old.key.now) (SEALED - 16)
-            (deliveries ++ delivery.now ∷ []) self.new.text.items self.new.opener.status) }
+            → Replays B.opening (text_length SEALED) (replay_view self.old) deliveries
+            → HoldsWritten (B.sealing self.old.key.now) (B.opening self.old.key.now)
+            (text_length SEALED) (deliveries ++ delivery.now ∷ []) self.new.text.items self.new.opener.status) }
         ensures key { self.new.key ≡ self.old.key }
     {
         self.deliver(delivery)
@@ -258,10 +248,10 @@ impl<'k, B: ChunkBox, const SEALED: usize> Replay<'k, B, SEALED> {
 
     /// A replay that was given nothing yet. Takes no memory.
     pub fn new(alloc: Global, key: &'k B) -> Self
-        requires least { 17 ≤ SEALED }
+        requires least { tag_length < SEALED }
         requires most { SEALED ≤ block_length }
         ensures key { result.key ≡ key.now }
-        ensures nothing { Replays B.opening (SEALED - 16) result [] }
+        ensures nothing { Replays B.opening (text_length SEALED) result [] }
         ensures room { result.capacity ≡ 0 }
     {
         Replay {
@@ -326,21 +316,21 @@ impl<'k, B: ChunkBox, const SEALED: usize> Replay<'k, B, SEALED> {
     /// Where memory is refused nothing changes.
     pub fn take(&mut self, delivery: &Delivery<'_>) -> Result<(), Memory>
         ensures held { OnOk result ((deliveries : List DeliveryValue)
-            → Replays B.opening (SEALED - 16) self.old deliveries
-            → Replays B.opening (SEALED - 16) self.new (deliveries ++ delivery.now ∷ [])) }
+            → Replays B.opening (text_length SEALED) self.old deliveries
+            → Replays B.opening (text_length SEALED) self.new (deliveries ++ delivery.now ∷ [])) }
         ensures err { OnErr result (self.new ≡ self.old) }
 
         // Memory is refused only where the delivery could release more text than there is room for:
         // never at a restart, nor after the last chunk or a fault. What room there is stays.
-        ensures memory { OnErr result (IsCramped (SEALED - 16) self.old delivery.now) }
+        ensures memory { OnErr result (IsCramped (text_length SEALED) self.old delivery.now) }
         ensures capacity { self.old.capacity ≤ self.new.capacity }
 
         // While no block opens except as the writer of a text sealed it, what is held is the
         // beginning of that text, the end is reported only with all of it, an undamaged payload, or
         // its rest, gives all of it, and each block stands in its place.
         ensures written { OnOk result ((deliveries : List DeliveryValue)
-            → Replays B.opening (SEALED - 16) self.old deliveries
-            → HoldsWritten (B.sealing self.old.key) (B.opening self.old.key) (SEALED - 16)
+            → Replays B.opening (text_length SEALED) self.old deliveries
+            → HoldsWritten (B.sealing self.old.key) (B.opening self.old.key) (text_length SEALED)
             (deliveries ++ delivery.now ∷ []) self.new.text self.new.opener.status) }
         ensures key { self.new.key ≡ self.old.key }
     {

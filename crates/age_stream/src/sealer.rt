@@ -1,15 +1,15 @@
 //! The writer's side: text in, sealed chunks out.
-ghost use Rattle.std.specs.Prelude.{◌≡◌, ℕ, ◌+◌, ◌-◌, ◌<◌, ◌≤◌, List, [], ◌++◌};
-ghost use Rattle.std.specs.Prelude.{length, take, IfOk, OnOk, OnErr, IfErr, IfSome, Some, None};
-ghost use Rattle.std.specs.Prelude.{IsNone, true, false, if◌then◌else◌};
+ghost use Rattle.std.specs.Prelude.{◌≡◌, ℕ, ◌+◌, ◌<◌, ◌≤◌, List, [], ◌++◌, length};
+ghost use Rattle.std.specs.Prelude.{IfOk, OnOk, OnErr, IfErr, None, IsNone, true, false};
 ghost use Rattle.std.specs.Borrow.{sem};
 ghost use Rattle.std.specs.Io.BufRead.{Rests};
+ghost use Rattle.age_chunk.specs.ChunkBoxes.{tag_length, text_length};
 ghost use Rattle.age_chunk.specs.Nonce.{nonce_bytes, chunk_limit};
 ghost use Rattle.age_chunk.specs.Payload.{block_length};
 
 use crate::buffer::push_bytes;
 use crate::step::Step;
-use age_chunk::{CHUNK_LIMIT, ChunkBox, StreamFault, StreamKind, nonce_of};
+use age_chunk::{CHUNK_LIMIT, ChunkBox, StreamFault, StreamKind, TAG_LEN, nonce_of};
 use arrayvec::ArrayVec;
 use std::marker::Model;
 
@@ -24,16 +24,16 @@ struct SealerState<'k, B: ChunkBox, const SEALED: usize> {
     index: u64,
     failed: bool,
     finished: bool,
-    ghost sizes: { (17 ≤ SEALED) × (SEALED ≤ block_length) },
-    ghost room: { finished ≡ false → IsNone beside → length buffer.items ≤ SEALED - 16 },
+    ghost sizes: { (tag_length < SEALED) × (SEALED ≤ block_length) },
+    ghost room: { finished ≡ false → IsNone beside → length buffer.items ≤ text_length SEALED },
     ghost limit: { index < chunk_limit },
 }
 
 impl<'k, B: ChunkBox, const SEALED: usize> SealerState<'k, B, SEALED> {
-    ghost use Rattle.age_stream.specs.Sealing.{held_text, sealer_view, Holds, step_len};
-    ghost use Rattle.age_stream.specs.Sealing.{needs_too_many, too_many};
-    ghost use Rattle.age_stream.specs.inner.SealerSteps.{bytes_of, IsStep};
+    ghost use Rattle.age_stream.specs.Sealing.{held_text, sealer_view, Holds, needs_too_many};
+    ghost use Rattle.age_stream.specs.Sealing.{too_many};
     ghost use Rattle.age_stream.specs.SealerCalls.{IsRefused};
+    ghost use Rattle.age_stream.specs.inner.SealerSteps.{Advances, IsStep, SealsLast, block_lent};
     ghost use Rattle.age_chunk.specs.Payload.{sealed_before_last, block_bytes, payload};
 
     // Empties the buffer of a block that was lent, and puts the byte beside it first.
@@ -65,13 +65,13 @@ impl<'k, B: ChunkBox, const SEALED: usize> SealerState<'k, B, SEALED> {
     fn step(&mut self, piece: &[u8]) -> Result<(usize, bool), StreamFault>
         requires { self.old.finished ≡ false }
         ensures ok { IfOk result (λ s.
-            IsStep B.sealing (SEALED - 16) (sealer_view self.old) piece.now s.0
-            (if s.1 then Some self.new.buffer.items else None) (sealer_view self.new)) }
+            IsStep B.sealing (text_length SEALED) (sealer_view self.old) piece.now s.0
+            (block_lent self.new.buffer.items s) (sealer_view self.new)) }
         ensures whole { IfOk result (λ s. s.1 ≡ true → length self.new.buffer.items ≡ SEALED) }
         ensures fits { IfOk result
-            (λ _. needs_too_many (SEALED - 16) (sealer_view self.old) piece.now ≡ false) }
+            (λ _. needs_too_many (text_length SEALED) (sealer_view self.old) piece.now ≡ false) }
         ensures refused { OnErr result
-            (needs_too_many (SEALED - 16) (sealer_view self.old) piece.now ≡ true) }
+            (needs_too_many (text_length SEALED) (sealer_view self.old) piece.now ≡ true) }
         ensures fault { IfErr result (λ fault. fault ≡ too_many self.old.index) }
         ensures err { OnErr result (IsRefused (sealer_view self.old) (sealer_view self.new)) }
         ensures still { length piece.now ≡ 0 → sealer_view self.new ≡ sealer_view self.old }
@@ -83,7 +83,7 @@ impl<'k, B: ChunkBox, const SEALED: usize> SealerState<'k, B, SEALED> {
             return Ok((0, false));
         }
         self.settle();
-        let room = SEALED - 16 - self.buffer.len();
+        let room = SEALED - TAG_LEN - self.buffer.len();
         if room > 0 {
             let taken = room.min(piece.len());
             push_bytes(&mut self.buffer, &piece[..taken]);
@@ -102,28 +102,7 @@ impl<'k, B: ChunkBox, const SEALED: usize> SealerState<'k, B, SEALED> {
     // The same, for each text that the sealer may have been given.
     fn advance(&mut self, piece: &[u8]) -> Result<(usize, bool), StreamFault>
         requires { self.old.finished ≡ false }
-        ensures taken { IfOk result
-            (λ s. s.0 ≡ step_len (SEALED - 16) (held_text self.old) piece.now) }
-        ensures holds { IfOk result (λ s. (text : List ℕ)
-            → Holds (SEALED - 16) (sealer_view self.old) text
-            → Holds (SEALED - 16) (sealer_view self.new) (text ++ take s.0 piece.now)) }
-        ensures blocks { IfOk result (λ s. (text : List ℕ)
-            → Holds (SEALED - 16) (sealer_view self.old) text
-            → block_bytes (sealed_before_last (B.sealing self.old.key.now) (SEALED - 16)
-            (text ++ take s.0 piece.now))
-            ≡ block_bytes (sealed_before_last (B.sealing self.old.key.now) (SEALED - 16) text)
-            ++ bytes_of (if s.1 then Some self.new.buffer.items else None)) }
-        ensures whole { IfOk result (λ s. s.1 ≡ true → length self.new.buffer.items ≡ SEALED) }
-        ensures fits { IfOk result
-            (λ _. needs_too_many (SEALED - 16) (sealer_view self.old) piece.now ≡ false) }
-        ensures open { OnOk result (self.new.failed ≡ false) }
-        ensures refused { OnErr result
-            (needs_too_many (SEALED - 16) (sealer_view self.old) piece.now ≡ true) }
-        ensures fault { IfErr result (λ fault. fault ≡ too_many self.old.index) }
-        ensures err { OnErr result (IsRefused (sealer_view self.old) (sealer_view self.new)) }
-        ensures same { (self.new.key.now ≡ self.old.key.now)
-            × (self.new.finished ≡ self.old.finished) }
-        ensures still { length piece.now ≡ 0 → sealer_view self.new ≡ sealer_view self.old }
+        ensures { Advances B.sealing self.old piece.now result self.new }
     {
         self.step(piece)
     }
@@ -131,15 +110,9 @@ impl<'k, B: ChunkBox, const SEALED: usize> SealerState<'k, B, SEALED> {
     // Seals what is held as the last chunk, in place.
     fn close(&mut self) -> Result<(), StreamFault>
         requires { self.old.finished ≡ false }
-        ensures ok { OnOk result ((self.new.finished ≡ true) × (self.old.failed ≡ false)) }
-        ensures after { OnOk result ((self.new.failed ≡ false) × (self.new.index ≡ self.old.index)
-            × (held_text self.new ≡ self.new.buffer.items)) }
-        ensures fault { IfErr result (λ fault. (self.old.failed ≡ true)
-            × (fault ≡ too_many self.old.index)) }
-        ensures err { OnErr result (IsRefused (sealer_view self.old) (sealer_view self.new)) }
+        ensures last { SealsLast self.old result self.new }
         ensures block { OnOk result (self.new.buffer.items
             ≡ B.sealing self.old.key.now (nonce_bytes self.old.index true) (held_text self.old)) }
-        ensures key { self.new.key ≡ self.old.key }
     {
         if self.failed {
             return Err(self.refusal());
@@ -153,18 +126,12 @@ impl<'k, B: ChunkBox, const SEALED: usize> SealerState<'k, B, SEALED> {
     // The same, for each text that the sealer may have been given.
     fn close_text(&mut self) -> Result<(), StreamFault>
         requires { self.old.finished ≡ false }
-        ensures ok { OnOk result ((self.new.finished ≡ true) × (self.old.failed ≡ false)) }
-        ensures after { OnOk result ((self.new.failed ≡ false) × (self.new.index ≡ self.old.index)
-            × (held_text self.new ≡ self.new.buffer.items)) }
-        ensures fault { IfErr result (λ fault. (self.old.failed ≡ true)
-            × (fault ≡ too_many self.old.index)) }
-        ensures err { OnErr result (IsRefused (sealer_view self.old) (sealer_view self.new)) }
+        ensures last { SealsLast self.old result self.new }
         ensures blocks { OnOk result ((text : List ℕ)
-            → Holds (SEALED - 16) (sealer_view self.old) text
-            → payload (B.sealing self.old.key.now) (SEALED - 16) text
-            ≡ block_bytes (sealed_before_last (B.sealing self.old.key.now) (SEALED - 16) text)
-            ++ self.new.buffer.items) }
-        ensures key { self.new.key ≡ self.old.key }
+            → Holds (text_length SEALED) (sealer_view self.old) text
+            → payload (B.sealing self.old.key.now) (text_length SEALED) text
+            ≡ block_bytes (sealed_before_last (B.sealing self.old.key.now)
+            (text_length SEALED) text) ++ self.new.buffer.items) }
     {
         self.close()
     }
@@ -189,15 +156,12 @@ impl<'k, B: ChunkBox, const SEALED: usize> Model for Sealer<'k, B, SEALED> {
 }
 
 impl<'k, B: ChunkBox, const SEALED: usize> Sealer<'k, B, SEALED> {
-    ghost use Rattle.age_stream.specs.Sealing.{Holds, step_len, needs_too_many, too_many};
-    ghost use Rattle.age_stream.specs.SealerCalls.{IsTaken, IsFinished};
-    ghost use Rattle.age_stream.specs.Lent.{chunk_bytes};
+    ghost use Rattle.age_stream.specs.SealerCalls.{Takes, IsTaken, Finishes, IsFinished};
     ghost use Rattle.age_stream.specs.SealerRow.{sealer_row};
-    ghost use Rattle.age_chunk.specs.Payload.{sealed_before_last, block_bytes, payload};
 
     /// A sealer that was given nothing yet. Takes no memory.
     pub fn new(key: &'k B) -> Self
-        requires least { 17 ≤ SEALED }
+        requires least { tag_length < SEALED }
         requires most { SEALED ≤ block_length }
         ensures { result
             ≡ record { key = key.now; held = []; index = 0; failed = false; finished = false } }
@@ -258,20 +222,10 @@ impl<'k, B: ChunkBox, const SEALED: usize> Sealer<'k, B, SEALED> {
     /// need chunk number [`CHUNK_LIMIT`]; then each call is refused so.
     pub fn feed(&mut self, piece: &[u8]) -> Result<Step<'_>, StreamFault>
         requires { self.old.finished ≡ false }
+        // The sealer, once the loan has ended.
         ensures* after { sem 𝓛 (Rests (sealer_row B.row SEALED.row B.ChunkBox) self.entry
-            (IsTaken (SEALED - 16) self.old piece.now result)) }
-        ensures taken { IfOk result
-            (λ s. s.taken ≡ step_len (SEALED - 16) self.old.held piece.now) }
-        ensures chunk { IfOk result (λ s. (text : List ℕ) → Holds (SEALED - 16) self.old text
-            → block_bytes (sealed_before_last (B.sealing self.old.key) (SEALED - 16)
-            (text ++ take s.taken piece.now))
-            ≡ block_bytes (sealed_before_last (B.sealing self.old.key) (SEALED - 16) text)
-            ++ chunk_bytes s.chunk) }
-        ensures whole { IfOk result (λ s. IfSome s.chunk (λ block. length block.now ≡ SEALED)) }
-        ensures fits { IfOk result (λ _. needs_too_many (SEALED - 16) self.old piece.now ≡ false) }
-        ensures refused { IfErr result
-            (λ fault. (needs_too_many (SEALED - 16) self.old piece.now ≡ true)
-            × (fault ≡ too_many self.old.index)) }
+            (IsTaken (text_length SEALED) self.old piece.now result)) }
+        ensures takes { Takes B.sealing SEALED self.old piece.now result }
     {
         let (taken, full) = self.state.advance(piece)?;
         let reached = self.state.index;
@@ -293,16 +247,10 @@ impl<'k, B: ChunkBox, const SEALED: usize> Sealer<'k, B, SEALED> {
     /// only where a feed was, with the same fault.
     pub fn finish(&mut self) -> Result<&[u8], StreamFault>
         requires { self.old.finished ≡ false }
+        // The sealer, once the loan has ended.
         ensures* after { sem 𝓛 (Rests (sealer_row B.row SEALED.row B.ChunkBox) self.entry
-            (IsFinished (SEALED - 16) self.old result)) }
-        ensures chunk { IfOk result (λ block. (text : List ℕ) → Holds (SEALED - 16) self.old text
-            → payload (B.sealing self.old.key) (SEALED - 16) text
-            ≡ block_bytes (sealed_before_last (B.sealing self.old.key) (SEALED - 16) text)
-            ++ block.now) }
-        ensures fits { OnOk result (self.old.failed ≡ false) }
-        ensures limit { self.old.index < chunk_limit }
-        ensures refused { IfErr result (λ fault. (self.old.failed ≡ true)
-            × (fault ≡ too_many self.old.index)) }
+            (IsFinished (text_length SEALED) self.old result)) }
+        ensures finishes { Finishes B.sealing SEALED self.old result }
     {
         self.state.close_text()?;
         Ok(self.state.buffer.as_slice())
@@ -316,10 +264,10 @@ fn seal_in<B: ChunkBox, const SEALED: usize>(
     last: bool,
     buffer: &mut ArrayVec<u8, SEALED>,
 )
-    requires room { length buffer.old.items + 16 ≤ SEALED }
+    requires room { length buffer.old.items + tag_length ≤ SEALED }
     requires limit { SEALED ≤ block_length }
     ensures { buffer.new.items ≡ B.sealing key.now (nonce_bytes index last) buffer.old.items }
 {
-    push_bytes(buffer, &[0; 16]);
+    push_bytes(buffer, &[0; TAG_LEN]);
     key.seal_at(&nonce_of(index, last), buffer.as_mut_slice());
 }

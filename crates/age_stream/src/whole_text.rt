@@ -8,10 +8,11 @@ ghost use Rattle.age_chunk.specs.Nonce.{chunk_limit};
 ghost use Rattle.age_stream.specs.Authentic.{GivesBack, IsClosed};
 ghost use Rattle.age_stream.specs.WholeText.{SealRefuses, number_of, place_of};
 ghost use Rattle.age_stream.specs.declared.whole_text.SealFault.TheVariants as refusals;
+ghost use Rattle.age_chunk.specs.ChunkBoxes.{tag_length, text_length};
 
 use crate::replay::push_lent;
 use crate::sealer::Sealer;
-use age_chunk::{ChunkBox, StreamFault};
+use age_chunk::{ChunkBox, StreamFault, TAG_LEN};
 use std::alloc::{AllocError, Global};
 use thiserror::Error;
 
@@ -67,30 +68,31 @@ impl From<StreamFault> for SealFault {
 }
 
 /// The payload of a text: its chunks, each sealed at its nonce, one after the other
-/// (<https://c2sp.org/age#payload>), in chunks of `SEALED - 16` bytes. Refused as by [`seal_into`].
+/// (<https://c2sp.org/age#payload>), in chunks of `SEALED - TAG_LEN` bytes. Refused as by
+/// [`seal_into`].
 pub fn seal_all<B: ChunkBox, const SEALED: usize>(
     alloc: Global,
     key: &B,
     text: &[u8],
 ) -> Result<Vec<u8>, SealFault>
-    requires least { 17 ≤ SEALED }
+    requires least { tag_length < SEALED }
     requires most { SEALED ≤ block_length }
     ensures sealed { IfOk result
-        (λ v. v.items ≡ payload (B.sealing key.now) (SEALED - 16) text.now) }
-    ensures few { OnOk result (chunk_count (SEALED - 16) text.now ≤ chunk_limit) }
+        (λ v. v.items ≡ payload (B.sealing key.now) (text_length SEALED) text.now) }
+    ensures few { OnOk result (chunk_count (text_length SEALED) text.now ≤ chunk_limit) }
 
     // Delivered in any pieces and then an end, it is held as the text again, with the status Done.
     ensures gives_back { IfOk result
-        (λ v. IsClosed (B.sealing key.now) (B.opening key.now) (SEALED - 16) text.now
-        → GivesBack (B.opening key.now) (SEALED - 16) v.items text.now) }
-    ensures refused { IfErr result (SealRefuses (SEALED - 16) text.now 0) }
+        (λ v. IsClosed (B.sealing key.now) (B.opening key.now) (text_length SEALED) text.now
+        → GivesBack (B.opening key.now) (text_length SEALED) v.items text.now) }
+    ensures refused { IfErr result (SealRefuses (text_length SEALED) text.now 0) }
 {
     let mut out = Vec::new(alloc);
     seal_into::<B, SEALED>(key, text, &mut out)?;
     Ok(out)
 }
 
-/// Appends the payload of a text, in chunks of `SEALED - 16` bytes. Memory is
+/// Appends the payload of a text, in chunks of `SEALED - TAG_LEN` bytes. Memory is
 /// asked for once, before anything is sealed, and only where there is no room
 /// for the payload. That aside, only a text of more than 2^48 chunks is
 /// refused. A refusal adds nothing.
@@ -99,16 +101,16 @@ pub fn seal_into<B: ChunkBox, const SEALED: usize>(
     text: &[u8],
     out: &mut Vec<u8>,
 ) -> Result<(), SealFault>
-    requires least { 17 ≤ SEALED }
+    requires least { tag_length < SEALED }
     requires most { SEALED ≤ block_length }
     ensures sealed { OnOk result (out.new.items
-        ≡ out.old.items ++ payload (B.sealing key.now) (SEALED - 16) text.now) }
-    ensures few { OnOk result (chunk_count (SEALED - 16) text.now ≤ chunk_limit) }
+        ≡ out.old.items ++ payload (B.sealing key.now) (text_length SEALED) text.now) }
+    ensures few { OnOk result (chunk_count (text_length SEALED) text.now ≤ chunk_limit) }
     ensures refused { IfErr result
-        (SealRefuses (SEALED - 16) text.now (vec_capacity out.old - length out.old.items)) }
+        (SealRefuses (text_length SEALED) text.now (vec_capacity out.old - length out.old.items)) }
     ensures unchanged { OnErr result (out.new.items ≡ out.old.items) }
 {
-    let Some(len) = payload_len(text.len(), SEALED - 16) else {
+    let Some(len) = payload_len(text.len(), SEALED - TAG_LEN) else {
         return Err(SealFault::Memory);
     };
     out.reserve(len)?;
@@ -126,14 +128,15 @@ fn seal_within<B: ChunkBox, const SEALED: usize>(
     text: &[u8],
     out: &mut Vec<u8>,
 ) -> Result<(), StreamFault>
-    requires least { 17 ≤ SEALED }
+    requires least { tag_length < SEALED }
     requires most { SEALED ≤ block_length }
     requires room { length out.old.items
-        + (length text.now + chunk_count (SEALED - 16) text.now * 16) ≤ vec_capacity out.old }
+        + (length text.now + chunk_count (text_length SEALED) text.now * tag_length)
+        ≤ vec_capacity out.old }
     ensures sealed { OnOk result (out.new.items
-        ≡ out.old.items ++ payload (B.sealing key.now) (SEALED - 16) text.now) }
-    ensures few { OnOk result (chunk_count (SEALED - 16) text.now ≤ chunk_limit) }
-    ensures refused { IfErr result (λ fault. SealRefuses (SEALED - 16) text.now 0
+        ≡ out.old.items ++ payload (B.sealing key.now) (text_length SEALED) text.now) }
+    ensures few { OnOk result (chunk_count (text_length SEALED) text.now ≤ chunk_limit) }
+    ensures refused { IfErr result (λ fault. SealRefuses (text_length SEALED) text.now 0
         (refusals.Stream fault)) }
     ensures begun { OnErr result
         (take (length out.old.items) out.new.items ≡ out.old.items) }
@@ -153,10 +156,14 @@ fn seal_within<B: ChunkBox, const SEALED: usize>(
 // any memory.
 fn payload_len(text_len: usize, chunk_len: usize) -> Option<usize>
     requires { 0 < chunk_len }
-    ensures len { IfSome result (λ len. len ≡ text_len + ((text_len - 1) / chunk_len + 1) * 16) }
+    ensures len { IfSome result
+        (λ len. len ≡ text_len + ((text_len - 1) / chunk_len + 1) * tag_length) }
     ensures long { IfNone result
-        (2 ^ 64 ≤ text_len + ((text_len - 1) / chunk_len + 1) * 16) }
+        (2 ^ 64 ≤ text_len + ((text_len - 1) / chunk_len + 1) * tag_length) }
 {
     let count = text_len.saturating_sub(1) / chunk_len;
-    count.checked_add(1)?.checked_mul(16)?.checked_add(text_len)
+    count
+        .checked_add(1)?
+        .checked_mul(TAG_LEN)?
+        .checked_add(text_len)
 }

@@ -1,18 +1,17 @@
 -- How a box that meets its law only on bytes, as one made of tables does, is continued to all lists
 -- of numbers. `proofs/BytesLaw.antt` proves that it then meets the law of `ChunkBox`. No code cites
 -- this: it shows that the law asks no more of a box than what it does with bytes.
-use Rattle.std.specs.Prelude.{◌≡◌, ℕ, ◌+◌, ◌-◌, List, ◌++◌, length, take, replicate, Some}
+use Rattle.std.specs.Prelude.{◌≡◌, ℕ, ◌+◌, List, ◌++◌, length, take, replicate, Some}
 use Rattle.std.specs.Prelude.{None, nat_lt, nat_le, ◌&&◌, Bool, true, not, if◌then◌else◌}
 use Rattle.std.specs.List.{list_all}
 use Rattle.std.specs.Str.{bytes_eq}
-use Rattle.age_chunk.specs.ChunkBoxes.{Seals, Opens}
+use Rattle.age_chunk.specs.ChunkBoxes.{Seals, Opens, tag_length, text_length}
 use Rattle.age_chunk.specs.Payload.{chunk_length, block_length}
 
 abbrev pub are_bytes : List ℕ → Bool
 are_bytes = list_all (λ (b : ℕ). nat_lt b 256)
 
--- what a box is ever given: a nonce of bytes, with a text of at most 65,536 bytes or a block of 16
--- bytes more
+-- what a box is ever given: a nonce of bytes, with the text of a chunk or with a block
 abbrev pub is_text : List ℕ → List ℕ → Bool
 is_text nonce text =
     are_bytes nonce && (are_bytes text && nat_le (length text) chunk_length)
@@ -20,23 +19,23 @@ is_text nonce text =
 abbrev pub is_block : List ℕ → List ℕ → Bool
 is_block nonce block =
     are_bytes nonce
-    && (are_bytes block && (nat_le 16 (length block) && nat_le (length block) block_length))
+    && (are_bytes block && (nat_le tag_length (length block) && nat_le (length block) block_length))
 
 -- the law of a box, of these alone
 pub record IsChunkBoxOnBytes (sealing : Seals) (opening : Opens) : Type 0 where
   pub bytes : (nonce text : List ℕ) → length nonce ≡ 12 → is_text nonce text ≡ true
       → are_bytes (sealing nonce text) ≡ true
   pub longer : (nonce text : List ℕ) → length nonce ≡ 12 → is_text nonce text ≡ true
-      → length (sealing nonce text) ≡ length text + 16
+      → length (sealing nonce text) ≡ length text + tag_length
   pub opens : (nonce text : List ℕ) → length nonce ≡ 12 → is_text nonce text ≡ true
       → opening nonce (sealing nonce text) ≡ Some text
   pub only : (nonce text block : List ℕ) → length nonce ≡ 12 → is_block nonce block ≡ true
       → opening nonce block ≡ Some text
       → (is_text nonce text ≡ true) × (sealing nonce text ≡ block)
 
--- 16 numbers that are no bytes
+-- as many numbers as a tag has, which are no bytes
 abbrev pub no_tag : List ℕ
-no_tag = replicate 16 256
+no_tag = replicate tag_length 256
 
 -- a list that is no text, or any at a nonce that isn't bytes, is sealed with them in place of a tag
 abbrev pub sealing_beyond : Seals → Seals
@@ -45,6 +44,6 @@ sealing_beyond sealing nonce text =
 
 abbrev pub opening_beyond : Opens → Opens
 opening_beyond opening nonce block =
-    let front = take (length block - 16) block in
+    let front = take (text_length (length block)) block in
     if is_block nonce block then opening nonce block
     else (if not (is_text nonce front) && bytes_eq (front ++ no_tag) block then Some front else None)

@@ -1,5 +1,5 @@
 -- The box that hides nothing is valid. The code cites this proof, so it can't stand in `proofs/`.
-use Rattle.std.specs.Prelude.{◌≡◌, ◌≤◌, ℕ, ◌+◌, ◌-◌, List, [], ◌∷◌, ◌++◌}
+use Rattle.std.specs.Prelude.{◌≡◌, ◌≤◌, ℕ, ◌+◌, List, [], ◌∷◌, ◌++◌}
 use Rattle.std.specs.Prelude.{length, take, drop, Some, None, nat_le, ◌&&◌, Bool, true, cond}
 use Rattle.std.specs.Str.{bytes_eq}
 use Rattle.std.proofs.Common.{sym, ap, subst, ◌∙◌}
@@ -8,10 +8,10 @@ use Rattle.std.proofs.lemmas.Slice.Eq.{bytes_eq-Decides}
 use Rattle.std.proofs.lemmas.List.{length-append, drop_at, take_at, take-append-drop}
 use Rattle.std.proofs.lemmas.Bool.{le-leb, and_parts}
 use Rattle.std.proofs.lemmas.Option.{cond_some}
-use Rattle.age_chunk.specs.ChunkBoxes.{IsChunkBox}
+use Rattle.age_chunk.specs.ChunkBoxes.{IsChunkBox, tag_length, text_length}
 use Rattle.age_chunk.specs.Clear.{clear_mark, clear_sealing, clear_opening}
 
-mark_length : (nonce : List ℕ) → length nonce ≡ 12 → length (clear_mark nonce) ≡ 16
+mark_length : (nonce : List ℕ) → length nonce ≡ 12 → length (clear_mark nonce) ≡ tag_length
 mark_length nonce h =
     length-append nonce (0 ∷ 0 ∷ 0 ∷ 0 ∷ []) ∙ ap (λ (k : ℕ). k + 4) h
 
@@ -24,34 +24,34 @@ clear_valid =
       opens =
           λ nonce text h.
           let block = text ++ clear_mark nonce in
-          let len : length block ≡ length text + 16 =
+          let len : length block ≡ length text + tag_length =
           length-append text (clear_mark nonce)
           ∙ ap (λ (k : ℕ). length text + k) (mark_length nonce h) in
-          let here : length text ≡ length block - 16 =
-          eq-sub_of_add-eq (length text) 16 (sym len) in
-          let long : nat_le 16 (length block) ≡ true =
-          le-leb 16 (length block)
-          (subst (λ (k : ℕ). 16 ≤ k) (sym len) (le-add_left 16 (length text))) in
-          let tail : drop (length block - 16) block ≡ clear_mark nonce =
-          drop_at text (clear_mark nonce) (length block - 16) here in
-          let front : take (length block - 16) block ≡ text =
-          take_at text (clear_mark nonce) (length block - 16) here in
-          let same : bytes_eq (drop (length block - 16) block) (clear_mark nonce) ≡ true =
-          (bytes_eq-Decides (drop (length block - 16) block) (clear_mark nonce)).1 tail in
-          ap (λ (b : Bool). cond (b && bytes_eq (drop (length block - 16) block) (clear_mark nonce))
-          (Some (take (length block - 16) block)) None) long
-          ∙ (ap (λ (b : Bool). cond b (Some (take (length block - 16) block)) None) same
+          let here : length text ≡ text_length (length block) =
+          eq-sub_of_add-eq (length text) tag_length (sym len) in
+          let long : nat_le tag_length (length block) ≡ true =
+          le-leb tag_length (length block)
+          (subst (λ (k : ℕ). tag_length ≤ k) (sym len) (le-add_left tag_length (length text))) in
+          let tail : drop (text_length (length block)) block ≡ clear_mark nonce =
+          drop_at text (clear_mark nonce) (text_length (length block)) here in
+          let front : take (text_length (length block)) block ≡ text =
+          take_at text (clear_mark nonce) (text_length (length block)) here in
+          let same : bytes_eq (drop (text_length (length block)) block) (clear_mark nonce) ≡ true =
+          (bytes_eq-Decides (drop (text_length (length block)) block) (clear_mark nonce)).1 tail in
+          ap (λ (b : Bool). cond (b && bytes_eq (drop (text_length (length block)) block) (clear_mark nonce))
+          (Some (take (text_length (length block)) block)) None) long
+          ∙ (ap (λ (b : Bool). cond b (Some (take (text_length (length block)) block)) None) same
           ∙ ap (λ (t : List ℕ). Some t) front);
       only =
           λ nonce text block h e.
-          let t = cond_some (nat_le 16 (length block) && bytes_eq (drop (length block - 16) block)
-          (clear_mark nonce)) (take (length block - 16) block) text e in
+          let t = cond_some (nat_le tag_length (length block) && bytes_eq (drop (text_length (length block)) block)
+          (clear_mark nonce)) (take (text_length (length block)) block) text e in
           let p =
-          and_parts (nat_le 16 (length block))
-          (bytes_eq (drop (length block - 16) block) (clear_mark nonce)) t.0 in
-          let tail : drop (length block - 16) block ≡ clear_mark nonce =
-          (bytes_eq-Decides (drop (length block - 16) block) (clear_mark nonce)).0 p.1 in
+          and_parts (nat_le tag_length (length block))
+          (bytes_eq (drop (text_length (length block)) block) (clear_mark nonce)) t.0 in
+          let tail : drop (text_length (length block)) block ≡ clear_mark nonce =
+          (bytes_eq-Decides (drop (text_length (length block)) block) (clear_mark nonce)).0 p.1 in
           ap (λ (x : List ℕ). x ++ clear_mark nonce) (sym t.1)
-          ∙ (ap (λ (x : List ℕ). take (length block - 16) block ++ x) (sym tail)
-          ∙ take-append-drop (length block - 16) block);
+          ∙ (ap (λ (x : List ℕ). take (text_length (length block)) block ++ x) (sym tail)
+          ∙ take-append-drop (text_length (length block)) block);
     }

@@ -1,14 +1,18 @@
 -- The steps of an opener on its buffer. Only private functions cite this.
 use Rattle.std.specs.List.{flat_map}
-use Rattle.std.specs.Prelude.{◌≢◌, ◌≡◌, ℕ, ◌+◌, ◌-◌, ◌≤◌, List, [], ◌∷◌}
+use Rattle.std.specs.Prelude.{◌≢◌, ◌≡◌, ℕ, ◌+◌, ◌-◌, ◌≤◌, ◌<◌, List, [], ◌∷◌, min}
 use Rattle.std.specs.Prelude.{◌++◌, length, take, Bool, true, false, ⊤, Result, Ok, Err}
-use Rattle.std.specs.Prelude.{MatchResult, nat_lt}
-use Rattle.age_stream.specs.declared.step.Status.TheVariants.{Open, Failed}
+use Rattle.std.specs.Prelude.{MatchResult, IfOk, IfErr, OnOk, nat_lt, if◌then◌else◌}
+use Rattle.age_chunk.specs.ChunkBoxes.{Seals, Opens, text_length}
+use Rattle.age_stream.specs.declared.step.Status.TheVariants.{Open, Done, Failed}
 use Rattle.age_chunk.specs.declared.fault.StreamFault.{StreamFault}
 use Rattle.age_stream.specs.declared.opener.OpenerState.{OpenerState}
-use Rattle.age_stream.specs.Segment.{Outcome}
+use Rattle.age_stream.specs.Segment.{Segment, Outcome, outcome, released}
 use Rattle.age_stream.specs.inner.SegmentSteps.{status_after}
-use Rattle.age_stream.specs.Opening.{held_bytes}
+use Rattle.age_stream.specs.Deliveries.{with_piece, with_end}
+use Rattle.age_stream.specs.Headline.{ReleasesWritten}
+use Rattle.age_stream.specs.Opening.{Stands, given, handed, has_failed, text_at_end}
+use Rattle.age_stream.specs.Opening.{held_bytes, opener_view}
 
 -- so many bytes in front of the buffer
 abbrev pub front_bytes : Result ℕ StreamFault → List ℕ → List ℕ
@@ -25,7 +29,7 @@ module _ {B : Type 0} {n : ℕ} {g : _} where
     pub status : new.status ≡ outcome.status
     pub answered : MatchResult answer
         (λ _. (new.lent ≡ true) × (length new.buffer.items ≡ n)
-        × (outcome.texts ≡ take (n - 16) new.buffer.items ∷ []))
+        × (outcome.texts ≡ take (text_length n) new.buffer.items ∷ []))
         (λ fault. (new.status ≡ Failed fault) × (outcome.texts ≡ []))
 
   -- the piece made no whole block
@@ -45,7 +49,8 @@ module _ {B : Type 0} {n : ℕ} {g : _} where
     pub status : new.status ≡ outcome.status
     pub answered : MatchResult answer
         (λ s. (s.0 + length (held_bytes old) ≡ n) × (s.1 ≡ true) × (held_bytes new ≡ [])
-        × (outcome.texts ≡ take (n - 16) new.buffer.items ∷ []) × (length new.buffer.items ≡ n))
+        × (outcome.texts ≡ take (text_length n) new.buffer.items ∷ [])
+        × (length new.buffer.items ≡ n))
         (λ fault. (new.status ≡ Failed fault) × (outcome.texts ≡ []))
 
   -- the opener is open no more
@@ -59,7 +64,7 @@ module _ {B : Type 0} {n : ℕ} {g : _} where
         × (length piece ≡ 0)) (λ fault. new.status ≡ Failed fault)
 
   -- an end came; so many bytes in front of the buffer are the text that it gave
-  pub record Ends (outcome : Outcome) (old : OpenerState B n g) (answer : Result ℕ StreamFault)
+  pub record EndsAs (outcome : Outcome) (old : OpenerState B n g) (answer : Result ℕ StreamFault)
       (new : OpenerState B n g) : Type 0 where
     pub key : new.key ≡ old.key
     pub index : new.index ≡ outcome.index
@@ -69,3 +74,98 @@ module _ {B : Type 0} {n : ℕ} {g : _} where
         (λ len. (len ≤ length new.buffer.items) × (len ≤ length (held_bytes old))
         × (flat_map (λ (text : List ℕ). text) outcome.texts ≡ take len new.buffer.items))
         (λ fault. (new.status ≡ Failed fault) × (outcome.texts ≡ []))
+
+-- the text in the buffer, if there is one, of an answer: what was taken, and whether there is
+abbrev pub text_lent : ℕ → List ℕ → ℕ × Bool → List (List ℕ)
+text_lent n buffer answer = if answer.1 then take (text_length n) buffer ∷ [] else []
+
+-- the segment with what an answer says was taken of the piece, or with all of it after a refusal
+abbrev pub advanced : Segment → List ℕ → Result (ℕ × Bool) StreamFault → Segment
+advanced s piece answer = with_piece s (given (λ (a : ℕ × Bool). a.0) answer piece)
+
+module _ {B : Type 0} {n : ℕ} {g : _} (sealing : B → Seals) (opening : B → Opens)
+    (old : OpenerState B n g) where
+  -- what `advance` does with a piece
+  pub record Advances (piece : List ℕ) (answer : Result (ℕ × Bool) StreamFault)
+      (new : OpenerState B n g) : Type 0 where
+    -- the opener stands for each segment that it stood for, with what was taken added
+    pub stands : (s : Segment) → Stands opening (text_length n) (opener_view old) s
+        → Stands opening (text_length n) (opener_view new) (advanced s piece answer)
+    -- the text in the buffer is what the outcome gains
+    pub texts : (s : Segment) → Stands opening (text_length n) (opener_view old) s
+        → (outcome (opening old.key.now) (text_length n) (advanced s piece answer)).texts
+        ≡ (outcome (opening old.key.now) (text_length n) s).texts
+        ++ handed (text_lent n new.buffer.items) answer
+    -- the headline holds of what was released with it
+    pub written : (s : Segment) → Stands opening (text_length n) (opener_view old) s
+        → ReleasesWritten (sealing old.key.now) (opening old.key.now) (text_length n)
+        (advanced s piece answer)
+        (released (opening old.key.now) (text_length n) s
+        ++ flat_map (λ (text : List ℕ). text) (handed (text_lent n new.buffer.items) answer))
+        new.status
+    -- a refusal is the status
+    pub fault : IfErr answer (λ fault. new.status ≡ Failed fault)
+    -- the key stays
+    pub key : new.key ≡ old.key
+    -- a text in the buffer is that of a whole block
+    pub full : IfOk answer (λ a. a.1 ≡ true → length new.buffer.items ≡ n)
+    -- bytes are taken up to the end of the block that is open
+    pub taken : IfOk answer (λ a. a.0 ≡ min (n - length (held_bytes old)) (length piece))
+    -- some are taken of a piece that isn't empty
+    pub some : IfOk answer (λ a. 0 < length piece → 0 < a.0)
+    -- after Ok the status is no refusal
+    pub sound : IfOk answer (λ _. has_failed new.status ≡ false)
+    -- a fault that came before comes again
+    pub again : IfErr answer
+        (λ fault. (earlier : StreamFault) → old.status ≡ Failed earlier → fault ≡ earlier)
+    -- Ok comes only if no call before was refused
+    pub unfailed : OnOk answer (has_failed old.status ≡ false)
+    -- an empty piece changes nothing
+    pub still : length piece ≡ 0 → opener_view new ≡ opener_view old
+    -- no text comes of an empty piece
+    pub nothing : length piece ≡ 0 → IfOk answer (λ a. a.1 ≡ false)
+    -- bytes are taken only while a block is open
+    pub was_open : OnOk answer (0 < length piece → old.status ≡ Open)
+    -- a text ends the block that was open, and nothing is held
+    pub lent : IfOk answer (λ a. a.1 ≡ true
+        → (length (held_bytes old) + a.0 ≡ n) × (held_bytes new ≡ []))
+    -- without a text, all that was taken is held
+    pub unlent : IfOk answer (λ a. a.1 ≡ false
+        → length (held_bytes new) ≡ length (held_bytes old) + a.0)
+    -- what is held or lent was held or taken
+    pub room : IfOk answer (λ a. length (held_bytes new)
+        + length (if a.1 then take (text_length n) new.buffer.items else [])
+        ≤ length (held_bytes old) + a.0)
+
+  -- what `close` does
+  pub record Closes (answer : Result ℕ StreamFault) (new : OpenerState B n g) : Type 0 where
+    -- the opener stands for each segment that it stood for, ended
+    pub stands : (s : Segment) → Stands opening (text_length n) (opener_view old) s
+        → Stands opening (text_length n) (opener_view new) (with_end s)
+    -- the bytes in front of the buffer are what the end releases
+    pub text : (s : Segment) → Stands opening (text_length n) (opener_view old) s
+        → released (opening old.key.now) (text_length n) (with_end s)
+        ≡ released (opening old.key.now) (text_length n) s ++ front_bytes answer new.buffer.items
+    -- the headline holds of what was released with them
+    pub written : (s : Segment) → Stands opening (text_length n) (opener_view old) s
+        → ReleasesWritten (sealing old.key.now) (opening old.key.now) (text_length n) (with_end s)
+        (released (opening old.key.now) (text_length n) s
+        ++ front_bytes answer new.buffer.items) new.status
+    -- a refusal is the status
+    pub fault : IfErr answer (λ fault. new.status ≡ Failed fault)
+    -- after Ok the opener is done
+    pub done : OnOk answer (new.status ≡ Done)
+    -- and holds nothing
+    pub none : OnOk answer (held_bytes new ≡ [])
+    -- a fault that came before comes again
+    pub again : IfErr answer
+        (λ fault. (earlier : StreamFault) → old.status ≡ Failed earlier → fault ≡ earlier)
+    -- Ok comes only if no call before was refused
+    pub unfailed : OnOk answer (has_failed old.status ≡ false)
+    -- the key stays
+    pub key : new.key ≡ old.key
+    -- the text is as long as what was held without a tag, or empty where no block was open
+    pub len : IfOk answer (λ len. len ≡ text_at_end (opener_view old))
+    -- it is in the buffer, and no longer than what was held
+    pub fits : IfOk answer
+        (λ len. (len ≤ length new.buffer.items) × (len ≤ length (held_bytes old)))

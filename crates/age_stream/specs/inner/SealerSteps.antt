@@ -1,8 +1,15 @@
 -- The steps of a sealer on its buffer. Only private functions cite this.
-use Rattle.std.specs.Prelude.{◌≡◌, ℕ, ◌+◌, ◌≤◌, ◌<◌, List, [], ◌++◌, length, take}
-use Rattle.std.specs.Prelude.{false, Option, Some, None, MatchOption}
+use Rattle.std.specs.Prelude.{◌≡◌, ℕ, ◌+◌, ◌≤◌, ◌<◌, List, [], ◌++◌, length, take, Bool}
+use Rattle.std.specs.Prelude.{true, false, Option, Some, None, MatchOption, if◌then◌else◌}
+use Rattle.std.specs.Prelude.{Result, IfOk, OnOk, IfErr, OnErr}
+use Rattle.age_chunk.specs.ChunkBoxes.{Seals, text_length}
 use Rattle.age_chunk.specs.Nonce.{nonce_bytes}
-use Rattle.age_stream.specs.Sealing.{SealerView, step_len}
+use Rattle.age_chunk.specs.Payload.{sealed_before_last, block_bytes}
+use Rattle.age_chunk.specs.declared.fault.StreamFault.{StreamFault}
+use Rattle.age_stream.specs.Sealing.{SealerView, Holds, held_text, sealer_view, step_len}
+use Rattle.age_stream.specs.Sealing.{needs_too_many, too_many}
+use Rattle.age_stream.specs.SealerCalls.{IsRefused}
+use Rattle.age_stream.specs.declared.sealer.SealerState.{SealerState}
 
 -- the bytes of a block, or none
 abbrev pub bytes_of : Option (List ℕ) → List ℕ
@@ -36,3 +43,58 @@ module _ {B : Type 0} (sealing : B → List ℕ → List ℕ → List ℕ) (n : 
     pub count : taken ≡ step_len n old.held piece
     pub cases : MatchOption block (Grows old piece taken new)
         (λ block. Closes old piece taken block new)
+
+-- the block in the buffer, if there is one, of an answer: what was taken, and whether there is
+abbrev pub block_lent : List ℕ → ℕ × Bool → Option (List ℕ)
+block_lent buffer answer = if answer.1 then Some buffer else None
+
+module _ {B : Type 0} {n : ℕ} {g : _} (sealing : B → Seals) (old : SealerState B n g) where
+  -- what `advance` does with a piece, for each text that the sealer may have been given
+  pub record Advances (piece : List ℕ) (answer : Result (ℕ × Bool) StreamFault)
+      (new : SealerState B n g) : Type 0 where
+    -- bytes are taken as far as there is room, or one after a full chunk
+    pub taken : IfOk answer (λ s. s.0 ≡ step_len (text_length n) (held_text old) piece)
+    -- the sealer was then given the text with them
+    pub holds : IfOk answer (λ s. (text : List ℕ)
+        → Holds (text_length n) (sealer_view old) text
+        → Holds (text_length n) (sealer_view new) (text ++ take s.0 piece))
+    -- the block in the buffer is what they add to the blocks before the last
+    pub blocks : IfOk answer (λ s. (text : List ℕ)
+        → Holds (text_length n) (sealer_view old) text
+        → block_bytes (sealed_before_last (sealing old.key.now) (text_length n)
+        (text ++ take s.0 piece))
+        ≡ block_bytes (sealed_before_last (sealing old.key.now) (text_length n) text)
+        ++ bytes_of (block_lent new.buffer.items s))
+    -- the block is a whole one
+    pub whole : IfOk answer (λ s. s.1 ≡ true → length new.buffer.items ≡ n)
+    -- no byte that is taken needs a chunk too many
+    pub fits : IfOk answer
+        (λ _. needs_too_many (text_length n) (sealer_view old) piece ≡ false)
+    -- after Ok the sealer isn't refused
+    pub unfailed : OnOk answer (new.failed ≡ false)
+    -- a byte that is refused needs a chunk too many
+    pub refused : OnErr answer (needs_too_many (text_length n) (sealer_view old) piece ≡ true)
+    -- the fault names the chunk that is open
+    pub fault : IfErr answer (λ fault. fault ≡ too_many old.index)
+    -- and all else stays
+    pub err : OnErr answer (IsRefused (sealer_view old) (sealer_view new))
+    -- the key stays, and it isn't finished by a piece
+    pub same : (new.key.now ≡ old.key.now) × (new.finished ≡ old.finished)
+    -- an empty piece changes nothing
+    pub still : length piece ≡ 0 → sealer_view new ≡ sealer_view old
+
+-- what sealing the last chunk leaves, whichever text it is of
+module _ {B : Type 0} {n : ℕ} {g : _} (old : SealerState B n g) where
+  pub record SealsLast (answer : Result (Unit {0}) StreamFault)
+      (new : SealerState B n g) : Type 0 where
+    -- it finishes a sealer that wasn't refused
+    pub ok : OnOk answer ((new.finished ≡ true) × (old.failed ≡ false))
+    -- which holds the block
+    pub after : OnOk answer ((new.failed ≡ false) × (new.index ≡ old.index)
+        × (held_text new ≡ new.buffer.items))
+    -- it is refused where a feed was, with the same fault
+    pub fault : IfErr answer (λ fault. (old.failed ≡ true) × (fault ≡ too_many old.index))
+    -- and all else stays
+    pub err : OnErr answer (IsRefused (sealer_view old) (sealer_view new))
+    -- the key stays
+    pub key : new.key ≡ old.key

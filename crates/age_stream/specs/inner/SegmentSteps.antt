@@ -9,6 +9,7 @@ use Rattle.age_chunk.specs.declared.fault.StreamKind.TheVariants.{ChunkDamaged, 
 use Rattle.age_chunk.specs.declared.fault.StreamKind.TheVariants.{EmptyLast, Truncated, Trailing}
 use Rattle.age_chunk.specs.declared.fault.StreamKind.TheVariants.{TooManyChunks}
 use Rattle.age_stream.specs.Segment.{Outcome, failed, first_line, text_before_last}
+use Rattle.age_chunk.specs.ChunkBoxes.{tag_length}
 
 -- the status once bytes came, or none
 abbrev pub status_after : Bool → ℕ → Status → Status
@@ -57,8 +58,8 @@ module _ (opening : List ℕ → List ℕ → Option (List ℕ)) where
       record { texts = texts; index = i; status = failed kind i } in
       let len = length rest in
       first_line (
-      (nat_lt 0 len && nat_lt len 16, refused ChunkCut)
-      ∷ (len == 16 && nat_lt 0 i, refused EmptyLast)
+      (nat_lt 0 len && nat_lt len tag_length, refused ChunkCut)
+      ∷ (len == tag_length && nat_lt 0 i, refused EmptyLast)
       ∷ (len == 0, refused Truncated) ∷ [])
       (after_last texts i (opening (nonce_bytes i true) rest) late true)
 

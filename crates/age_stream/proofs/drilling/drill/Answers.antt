@@ -1,4 +1,4 @@
-use Rattle.std.proofs.Common.{◌≡◌, ◌-◌, ◌<◌, ℕ, List, take, Result, Ok, Err, OnErr, arith, refl, subst, sym, ◌∙◌, rules}
+use Rattle.std.proofs.Common.{◌≡◌, ◌<◌, ℕ, List, take, Result, Ok, Err, OnErr, arith, refl, subst, sym, ◌∙◌, rules}
 use Rattle.std.proofs.lemmas.List.{take_all, take_more}
 use Rattle.age_stream.specs.declared.delivery.Delivery.{Delivery}
 use Rattle.age_stream.specs.Replaying.{Replays}
@@ -8,6 +8,7 @@ use Rattle.age_stream.proofs.Cramped.{cramped_at}
 use Rattle.age_stream.proofs.ReplaySteps.{written}
 use Rattle.age_stream.proofs.Sizes.{replay_fits}
 use Rattle.age_stream.proofs.drilling.drill.Goals as goal
+use Rattle.age_chunk.specs.ChunkBoxes.{text_length}
 
 on_err : {A E : Type 0} {P : Type 0} (r : Result A E) → P → OnErr r P
 on_err (Ok a) p = tt
@@ -16,7 +17,7 @@ on_err (Err e) p = p
 pub returns-in_err-take-clause-memory : goal.returns-in_err-take-clause-memory
 returns-in_err-take-clause-memory g c =
     on_err c.from_residual.result
-    (cramped_at g.B.ChunkBox.opening (g.row.SEALED - 16) c.loop-event.replay c.args.events.now c.loop-event.event-index _ c.loop-event-test.true
+    (cramped_at g.B.ChunkBox.opening (text_length g.row.SEALED) c.loop-event.replay c.args.events.now c.loop-event.event-index _ c.loop-event-test.true
     c.loop-event.invariant.1 c.in_err-take.ensures.memory)
 
 pub loop-event-preserved : goal.loop-event-preserved
@@ -25,13 +26,13 @@ loop-event-preserved g c =
     let now = c.in_ok-take.ensures.held before c.loop-event.invariant.1 in
     let more = take_more c.args.events.now c.loop-event.event-index _ c.loop-event-test.true in (
       c.in_ok-take.ensures.key ∙ c.loop-event.invariant.0,
-      subst (λ (ds : List Delivery). Replays g.B.ChunkBox.opening (g.row.SEALED - 16) c.take.new.self ds)
+      subst (λ (ds : List Delivery). Replays g.B.ChunkBox.opening (text_length g.row.SEALED) c.take.new.self ds)
           (sym more) now,
     )
 
 pub returns-clause-written : goal.returns-clause-written
 returns-clause-written g c =
-    let m = g.row.SEALED - 16 in
+    let m = text_length g.row.SEALED in
     let positive : 0 < m = omega (arith, c.requires) in
     let r = c.loop-event.replay in
     let here = take c.loop-event.event-index c.args.events.now in

@@ -1,7 +1,8 @@
-use Rattle.std.proofs.Common.{◌≡◌, ◌-◌, take}
+use Rattle.std.proofs.Common.{◌≡◌, take}
 use Rattle.age_stream.specs.Replaying.{Replays}
 use Rattle.age_stream.proofs.drilling.drill.Given as goal
+use Rattle.age_chunk.specs.ChunkBoxes.{text_length}
 
 abbrev pub invariant-loop-event : goal.invariant-loop-event
 invariant-loop-event g l =
-    (l.replay.key ≡ l.key) × Replays g.B.ChunkBox.opening (g.row.SEALED - 16) l.replay (take l.event-index l.events)
+    (l.replay.key ≡ l.key) × Replays g.B.ChunkBox.opening (text_length g.row.SEALED) l.replay (take l.event-index l.events)

@@ -7,5 +7,5 @@ returns-clause-whole c = λ sealing opening n text so. whole_right sealing openi
 pub returns-clause-rest : goal.returns-clause-rest
 returns-clause-rest c = λ sealing opening n text so. rest_right sealing opening so.valid n so.some text so.few so.closed
 
-pub returns-clause-behind : goal.returns-clause-behind
-returns-clause-behind c = λ sealing opening n text so. undamaged_right sealing opening so.valid n so.some text so.few so.closed
+pub returns-clause-after : goal.returns-clause-after
+returns-clause-after c = λ sealing opening n text so. undamaged_right sealing opening so.valid n so.some text so.few so.closed

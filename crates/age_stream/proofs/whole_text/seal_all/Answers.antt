@@ -1,12 +1,13 @@
-use Rattle.std.proofs.Common.{◌<◌, ◌-◌, ◌++◌, List, ℕ, ap, sym, subst, ◌∙◌, arith}
+use Rattle.std.proofs.Common.{◌<◌, ◌++◌, List, ℕ, ap, sym, subst, ◌∙◌, arith}
 use Rattle.age_stream.specs.Authentic.{GivesBack}
 use Rattle.age_chunk.specs.Payload.{payload}
 use Rattle.age_stream.proofs.Authentic.{comes_back}
 use Rattle.age_stream.proofs.whole_text.seal_all.Goals as goal
+use Rattle.age_chunk.specs.ChunkBoxes.{text_length}
 
 pub returns-clause-gives_back : goal.returns-clause-gives_back
 returns-clause-gives_back g c = λ closed.
-    let m = g.row.SEALED - 16 in
+    let m = text_length g.row.SEALED in
     let key = c.args.key.now in
     let positive : 0 < m = omega (arith, c.requires.least) in
     let bytes = payload (g.B.ChunkBox.sealing key) m c.args.text.now in

@@ -8,6 +8,7 @@ use Rattle.age_stream.proofs.PublicLaws.{payload_is_longer}
 use Rattle.age_stream.proofs.WholeTexts.{take_on, front_fits}
 use Rattle.age_stream.proofs.Sizes.{sealer_fits}
 use Rattle.age_stream.proofs.whole_text.seal_within.Goals as goal
+use Rattle.age_chunk.specs.ChunkBoxes.{text_length}
 
 pub loop-at-preserved : goal.loop-at-preserved
 loop-at-preserved g c =
@@ -16,16 +17,16 @@ loop-at-preserved g c =
     let taken = c.in_ok-step.step.taken in
     let piece = take (length text - c.loop-at.at) (drop c.loop-at.at text) in
     let on : take c.loop-at.at text ++ take taken piece ≡ take (c.loop-at.at + taken) text = take_on c.loop-at.at taken text in
-    let short : taken ≤ length piece = omega (arith, c.in_ok-step.ensures.taken, step_len_le (g.row.SEALED - 16) c.loop-at.sealer.held piece) in
+    let short : taken ≤ length piece = omega (arith, c.in_ok-step.ensures.takes.taken, step_len_le (text_length g.row.SEALED) c.loop-at.sealer.held piece) in
     let len : length piece ≡ min (length text - c.loop-at.at) (length (drop c.loop-at.at text)) = length-take (length text - c.loop-at.at)
     (drop c.loop-at.at text) in
     let len2 : length (drop c.loop-at.at text) ≡ length text - c.loop-at.at = length-drop c.loop-at.at text in
     let inv = c.loop-at.invariant in
     let key = g.B.ChunkBox.sealing in
-    let m = g.row.SEALED - 16 in
+    let m = text_length g.row.SEALED in
     let ekey : c.loop-at.sealer.key ≡ c.args.key.now = inv.key in
     let front : List ℕ → List ℕ = λ t. block_bytes (sealed_before_last (key c.args.key.now) m t) in
-    let chunk0 = c.in_ok-step.ensures.chunk (take c.loop-at.at text) inv.holds in
+    let chunk0 = c.in_ok-step.ensures.takes.chunk (take c.loop-at.at text) inv.holds in
     let chunk : front (take c.loop-at.at text ++ take taken piece) ≡ front (take c.loop-at.at text) ++ chunk_bytes c.in_ok-step.step.chunk =
     rw ekey at chunk0 in
     let now : front (take (c.loop-at.at + taken) text) ≡ front (take c.loop-at.at text) ++ chunk_bytes c.in_ok-step.step.chunk = sym (ap front on) ∙ chunk in
@@ -48,11 +49,11 @@ push_lent-requires g c =
     let at = c.loop-at.at in
     let taken = c.in_ok-step.step.taken in
     let inv = c.loop-at.invariant in
-    let m = g.row.SEALED - 16 in
+    let m = text_length g.row.SEALED in
     let sealing = g.B.ChunkBox.sealing c.args.key.now in
     let front : List ℕ → List ℕ = λ t. block_bytes (sealed_before_last sealing m t) in
     let on : take at text ++ take taken (take (length text - at) (drop at text)) ≡ take (at + taken) text = take_on at taken text in
-    let chunk0 = c.in_ok-step.ensures.chunk (take at text) inv.holds in
+    let chunk0 = c.in_ok-step.ensures.takes.chunk (take at text) inv.holds in
     let chunk : front (take at text ++ take taken (take (length text - at) (drop at text)))
     ≡ front (take at text) ++ chunk_bytes c.in_ok-step.step.chunk = rw inv.key at chunk0 in
     let positive : 0 < m = omega (arith, c.requires.least) in
@@ -65,12 +66,12 @@ pub push_lent-requires-2 : goal.push_lent-requires-2
 push_lent-requires-2 g c =
     let text = c.args.text.now in
     let inv = c.loop-at.invariant in
-    let m = g.row.SEALED - 16 in
+    let m = text_length g.row.SEALED in
     let sealing = g.B.ChunkBox.sealing c.args.key.now in
     let here : List ℕ = take c.loop-at.at text in
     let all : here ≡ text = take_all c.loop-at.at text (omega (arith, c.loop-at-test.false)) in
     let front : List ℕ → List ℕ = λ t. block_bytes (sealed_before_last sealing m t) in
-    let last0 = c.in_ok-finish.ensures.chunk here inv.holds in
+    let last0 = c.in_ok-finish.ensures.finishes.chunk here inv.holds in
     let last : payload sealing m here ≡ front here ++ c.in_ok-finish.field-0.now = rw inv.key at last0 in
     let size = (payload_is_longer sealing (g.B.ChunkBox.opening c.args.key.now) (g.met.B.ChunkBox.valid c.args.key.now) m text).0 in
     let sum : length (front here) + length c.in_ok-finish.field-0.now ≡ length (payload sealing m text) =
@@ -81,11 +82,11 @@ pub returns-clause-sealed : goal.returns-clause-sealed
 returns-clause-sealed g c =
     let text = c.args.text.now in
     let inv = c.loop-at.invariant in
-    let m = g.row.SEALED - 16 in
+    let m = text_length g.row.SEALED in
     let here : List ℕ = take c.loop-at.at text in
     let all : here ≡ text = take_all c.loop-at.at text (omega (arith, c.loop-at-test.false)) in
     let front : List ℕ → List ℕ = λ t. block_bytes (sealed_before_last (g.B.ChunkBox.sealing c.args.key.now) m t) in
-    let last0 = c.in_ok-finish.ensures.chunk here inv.holds in
+    let last0 = c.in_ok-finish.ensures.finishes.chunk here inv.holds in
     let last = rw inv.key at last0 in
     c.push_lent-2.ensures.items
     ∙ (ap (λ (t : List ℕ). t ++ c.in_ok-finish.field-0.now) inv.blocks
@@ -94,11 +95,11 @@ returns-clause-sealed g c =
 
 pub returns-clause-few : goal.returns-clause-few
 returns-clause-few g c =
-    let m = g.row.SEALED - 16 in
+    let m = text_length g.row.SEALED in
     let text = c.args.text.now in
     let here : List ℕ = take c.loop-at.at text in
     let all : here ≡ text = take_all c.loop-at.at text (omega (arith, c.loop-at-test.false)) in
-    omega (arith, c.in_ok-finish.ensures.limit, c.loop-at.invariant.holds.index, ap (last_index m) all)
+    omega (arith, c.in_ok-finish.ensures.finishes.limit, c.loop-at.invariant.holds.index, ap (last_index m) all)
 
 pub new-sealer-requires : goal.new-sealer-requires
 new-sealer-requires g c = (sealer_fits c.requires.most, search rules)

@@ -21,7 +21,7 @@ returns-in_err-len g c =
           written = e.written;
         },
       ),
-      record { after = tt; text = e.text; len = tt; fits = tt; again = e.again; unfailed = tt },
+      record { after = tt; ends = record { text = e.text; len = tt; fits = tt; again = e.again; unfailed = tt } },
     )
 
 pub returns : goal.returns
@@ -32,7 +32,10 @@ returns g c =
     let size : length (take len buffer) ≡ len = omega (arith, length-take len buffer, e.fits.0) in
     rw (← c.self.view_is, c.as_slice.ensures.value) (
       (refl, λ _. tt, record { key = ap (λ k. k.now) e.key; stands = e.stands; fault = tt; done = e.done; nothing_held = e.none; written = e.written }),
-      record { after = tt; text = e.text; len = size ∙ e.len; fits = omega (arith, size, e.fits.1); again = tt; unfailed = e.unfailed },
+      record {
+        after = tt;
+        ends = record { text = e.text; len = size ∙ e.len; fits = omega (arith, size, e.fits.1); again = tt; unfailed = e.unfailed };
+      },
     )
 
 pub close-requires : goal.close-requires

@@ -1,9 +1,10 @@
-use Rattle.std.proofs.Common.{refl, ap, ◌≡◌, ◌+◌, ◌-◌, length, take, arith, true, false}
+use Rattle.std.proofs.Common.{refl, ap, ◌≡◌, ◌+◌, length, take, arith, true, false}
 use Rattle.std.proofs.lemmas.List.{length-take}
 use Rattle.std.proofs.lemmas.Result.{err_from_is_err_and}
 use Rattle.age_stream.specs.Opening.{held_bytes}
 use Rattle.age_stream.proofs.Sizes.{list_fits, opener_state_fits}
 use Rattle.age_stream.proofs.opener.Opener.feed.Goals as goal
+use Rattle.age_chunk.specs.ChunkBoxes.{tag_length, text_length}
 
 never : {A : Type 0} → true ≡ false → A
 never e = cc
@@ -30,7 +31,20 @@ returns-in_err-taken g c =
           written = e.written;
         },
       ),
-      record { after = tt; texts = e.texts; taken = tt; some = tt; limit = tt; whole = tt; nothing = λ _. tt; again = e.again; unfailed = tt; was_open = tt },
+      record {
+        after = tt;
+        feeds = record {
+          texts = e.texts;
+          taken = tt;
+          some = tt;
+          limit = tt;
+          whole = tt;
+          nothing = λ _. tt;
+          again = e.again;
+          unfailed = tt;
+          was_open = tt;
+        };
+      },
     )
 
 pub returns-then-not-full : goal.returns-then-not-full
@@ -56,15 +70,17 @@ returns-then-not-full g c =
       ),
       record {
         after = tt;
-        texts = e.texts;
-        taken = e.taken;
-        some = e.some;
-        limit = c.advance.new.self.limit;
-        whole = tt;
-        nothing = λ _. refl;
-        again = tt;
-        unfailed = e.unfailed;
-        was_open = e.was_open;
+        feeds = record {
+          texts = e.texts;
+          taken = e.taken;
+          some = e.some;
+          limit = c.advance.new.self.limit;
+          whole = tt;
+          nothing = λ _. refl;
+          again = tt;
+          unfailed = e.unfailed;
+          was_open = e.was_open;
+        };
       },
     )
 
@@ -75,8 +91,8 @@ returns g c =
     let sizes = state.sizes in
     let buffer = c.advance.new.self.buffer.items in
     let whole = e.lent refl in
-    let size : length (take (g.row.SEALED - 16) buffer) ≡ g.row.SEALED - 16 = omega (arith, length-take (g.row.SEALED - 16) buffer, e.full refl) in
-    let was : length (held_bytes state) + c.in_ok-taken.taken ≡ g.row.SEALED - 16 + 16 = omega (arith, whole.0, sizes) in
+    let size : length (take (text_length g.row.SEALED) buffer) ≡ text_length g.row.SEALED = omega (arith, length-take (text_length g.row.SEALED) buffer, e.full refl) in
+    let was : length (held_bytes state) + c.in_ok-taken.taken ≡ text_length g.row.SEALED + tag_length = omega (arith, whole.0, sizes) in
     rw (← c.self.view_is, c.as_slice.ensures.value) (
       (
         refl,
@@ -97,15 +113,17 @@ returns g c =
       ),
       record {
         after = tt;
-        texts = e.texts;
-        taken = e.taken;
-        some = e.some;
-        limit = c.advance.new.self.limit;
-        whole = size;
-        nothing = λ h. never (e.nothing h);
-        again = tt;
-        unfailed = e.unfailed;
-        was_open = e.was_open;
+        feeds = record {
+          texts = e.texts;
+          taken = e.taken;
+          some = e.some;
+          limit = c.advance.new.self.limit;
+          whole = size;
+          nothing = λ h. never (e.nothing h);
+          again = tt;
+          unfailed = e.unfailed;
+          was_open = e.was_open;
+        };
       },
     )
 

@@ -1,4 +1,4 @@
-use Rattle.std.proofs.Common.{◌≡◌, ◌≤◌, ◌-◌, refl, ap, ◌∙◌, length, take, true, arith}
+use Rattle.std.proofs.Common.{◌≡◌, ◌≤◌, refl, ap, ◌∙◌, length, take, true, arith}
 use Rattle.age_chunk.specs.Nonce.{nonce_bytes}
 use Rattle.age_chunk.specs.declared.fault.StreamKind.TheVariants.{ChunkDamaged, ChunkCut, EmptyLast, Truncated}
 use Rattle.age_stream.specs.Segment.{failed}
@@ -7,6 +7,7 @@ use Rattle.age_stream.specs.declared.step.Status.TheVariants.{Open}
 use Rattle.age_stream.proofs.LastBlock.{is_missing, is_cut, is_empty_last, is_damaged, is_opened, ends_refused, ends_opened, moved, is_empty, is_first}
 use Rattle.age_stream.proofs.Sizes.{list_fits, opener_state_fits}
 use Rattle.age_stream.proofs.opener.OpenerState.end_open.Goals as goal
+use Rattle.age_chunk.specs.ChunkBoxes.{tag_length, text_length}
 
 pub settle-requires : goal.settle-requires
 settle-requires g c = opener_state_fits c.args.self.now.sizes.1
@@ -14,8 +15,8 @@ settle-requires g c = opener_state_fits c.args.self.now.sizes.1
 pub fail-requires : goal.fail-requires
 fail-requires g c = opener_state_fits c.args.self.now.sizes.1
 
-pub fail-requires-then-len-lt16 : goal.fail-requires-then-len-lt16
-fail-requires-then-len-lt16 g c = opener_state_fits c.args.self.now.sizes.1
+pub fail-requires-then-len-lt-TAG_LEN : goal.fail-requires-then-len-lt-TAG_LEN
+fail-requires-then-len-lt-TAG_LEN g c = opener_state_fits c.args.self.now.sizes.1
 
 pub fail-requires-then-is_empty_last : goal.fail-requires-then-is_empty_last
 fail-requires-then-is_empty_last g c = opener_state_fits c.args.self.now.sizes.1
@@ -38,11 +39,11 @@ returns-then-len-eq0-clause-ends g c =
     (is_missing (g.B.ChunkBox.opening old.key.now) old.index (held_bytes old) (omega (arith, len))) (c.fail.ensures.status ∙ ap (failed Truncated) settled.same.0)
     (c.fail.ensures.fault ∙ ap (failed Truncated) settled.same.0)
 
-pub returns-then-len-lt16-clause-ends : goal.returns-then-len-lt16-clause-ends
-returns-then-len-lt16-clause-ends g c =
+pub returns-then-len-lt-TAG_LEN-clause-ends : goal.returns-then-len-lt-TAG_LEN-clause-ends
+returns-then-len-lt-TAG_LEN-clause-ends g c =
     let old = c.args.self.now in
     let settled = c.settle.ensures in
-    let failing = c.fail-then-len-lt16 in
+    let failing = c.fail-then-len-lt-TAG_LEN in
     let len = ap length settled.buffer in
     ends_refused old failing.new.self _ (failing.ensures.same.1 ∙ settled.same.1) (failing.ensures.same.0 ∙ settled.same.0) ChunkCut failing.result
     (is_cut (g.B.ChunkBox.opening old.key.now) old.index (held_bytes old) (omega (arith, len)) (omega (arith, len)))
@@ -73,16 +74,16 @@ returns-then-open_in-clause-ends g c =
     let opening = g.B.ChunkBox.opening old.key.now in
     let settled = c.settle.ensures in
     let len = ap length settled.buffer in
-    let long : 16 ≤ length (held_bytes old) = omega (arith, len) in
-    let first : length (held_bytes old) ≡ 16 → old.index ≡ 0 = λ tag.
+    let long : tag_length ≤ length (held_bytes old) = omega (arith, len) in
+    let first : length (held_bytes old) ≡ tag_length → old.index ≡ 0 = λ tag.
     let zero = is_first c.is_empty_last.result c.len-len.result c.settle.new.self.index c.is_empty_last.ensures c.if-is_empty_last.false
     (omega (arith, tag, len)) in
     omega (arith, zero, settled.same.0) in
     let block = c.settle.new.self.buffer.items in
-    let text = take (length block - 16) c.open_in.new.buffer.items in
+    let text = take (text_length (length block)) c.open_in.new.buffer.items in
     let opens = moved (λ k i b. g.B.ChunkBox.opening k.now (nonce_bytes i true) b) settled.same.1 settled.same.0 settled.buffer c.if-open_in.ensures.opened in
     ends_opened old _ _ settled.same.1 settled.same.0 _ text (is_opened opening old.index (held_bytes old) long first text opens) refl
-    (ap (λ k. take (k - 16) c.open_in.new.buffer.items) (omega arith)) (omega (arith, c.open_in.ensures.len)) (omega (arith, len))
+    (ap (λ k. take (text_length k) c.open_in.new.buffer.items) (omega arith)) (omega (arith, c.open_in.ensures.len)) (omega (arith, len))
 
 pub returns-then-open_in-clause-done : goal.returns-then-open_in-clause-done
 returns-then-open_in-clause-done g c = refl
@@ -109,8 +110,8 @@ returns-clause-ends g c =
     let opening = g.B.ChunkBox.opening old.key.now in
     let settled = c.settle.ensures in
     let len = ap length settled.buffer in
-    let long : 16 ≤ length (held_bytes old) = omega (arith, len) in
-    let first : length (held_bytes old) ≡ 16 → old.index ≡ 0 = λ tag.
+    let long : tag_length ≤ length (held_bytes old) = omega (arith, len) in
+    let first : length (held_bytes old) ≡ tag_length → old.index ≡ 0 = λ tag.
     let zero = is_first c.is_empty_last.result c.len-len.result c.settle.new.self.index c.is_empty_last.ensures c.if-is_empty_last.false
     (omega (arith, tag, len)) in
     omega (arith, zero, settled.same.0) in

@@ -1,9 +1,10 @@
-use Rattle.std.proofs.Common.{◌-◌, vec_len, arith}
+use Rattle.std.proofs.Common.{vec_len, arith}
 use Rattle.age_stream.specs.declared.delivery.Delivery.TheVariants.{Piece, End}
 use Rattle.age_stream.specs.Replaying.{replay_view}
 use Rattle.age_stream.proofs.Cramped.{cramped_by}
 use Rattle.age_stream.proofs.Sizes.{replay_state_fits}
 use Rattle.age_stream.proofs.replay.ReplayState.deliver.Goals as goal
+use Rattle.age_chunk.specs.ChunkBoxes.{text_length}
 
 pub take_piece-requires : goal.take_piece-requires
 take_piece-requires g c = replay_state_fits c.args.self.now.sizes.1
@@ -18,7 +19,7 @@ pub returns-in-Piece : goal.returns-in-Piece
 returns-in-Piece g c =
     let e = c.take_piece.ensures in
     let text = c.args.self.now.text in
-    let memory = cramped_by (g.row.SEALED - 16) (replay_view c.args.self.now) (Piece c.in-Piece.piece) c.take_piece.result (vec_len text)
+    let memory = cramped_by (text_length g.row.SEALED) (replay_view c.args.self.now) (Piece c.in-Piece.piece) c.take_piece.result (vec_len text)
     (omega (arith, text.ok)) (omega (arith, text.ok)) e.cramped in
     rw (c.in-Piece.is) (record { stands = e.fed; err = e.err; memory = memory; capacity = e.capacity; key = e.key })
 
@@ -26,7 +27,7 @@ pub returns-in-End : goal.returns-in-End
 returns-in-End g c =
     let e = c.take_end.ensures in
     let text = c.args.self.now.text in
-    let memory = cramped_by (g.row.SEALED - 16) (replay_view c.args.self.now) End c.take_end.result (vec_len text) (omega (arith, text.ok))
+    let memory = cramped_by (text_length g.row.SEALED) (replay_view c.args.self.now) End c.take_end.result (vec_len text) (omega (arith, text.ok))
     (omega (arith, text.ok)) e.cramped in
     rw (c.in-End.is) (record { stands = e.ended; err = e.err; memory = memory; capacity = e.capacity; key = e.key })
 

@@ -1,23 +1,24 @@
-use Rattle.std.proofs.Common.{◌-◌, refl, sym, [], append-nil, arith}
+use Rattle.std.proofs.Common.{refl, sym, [], append-nil, arith}
 use Rattle.age_stream.specs.Replaying.{replay_view}
 use Rattle.age_stream.proofs.ReplaySteps.{end_step}
 use Rattle.age_stream.proofs.Sizes.{opener_fits}
 use Rattle.age_stream.proofs.replay.ReplayState.end_opener.Goals as goal
+use Rattle.age_chunk.specs.ChunkBoxes.{text_length}
 
 pub end-requires : goal.end-requires
 end-requires g c = opener_fits c.args.self.now.sizes.1
 
 pub push_text-requires : goal.push_text-requires
-push_text-requires g c = omega (arith, c.requires, c.in-Ok.ensures.len)
+push_text-requires g c = omega (arith, c.requires, c.in-Ok.ensures.ends.len)
 
 pub returns-in-Ok-clause-ended : goal.returns-in-Ok-clause-ended
 returns-in-Ok-clause-ended g c =
     let after = rw c.in-Ok.is at c.end.follows.holds-at-none in
-    λ s h. end_step g.B.ChunkBox.opening (g.row.SEALED - 16) (replay_view c.args.self.now) _ s _ h refl after.key refl (after.stands s.segment h.segment)
-    (c.in-Ok.ensures.text s.segment h.segment) c.push_text.ensures.items
+    λ s h. end_step g.B.ChunkBox.opening (text_length g.row.SEALED) (replay_view c.args.self.now) _ s _ h refl after.key refl (after.stands s.segment h.segment)
+    (c.in-Ok.ensures.ends.text s.segment h.segment) c.push_text.ensures.items
 
 pub returns-in_default-clause-ended : goal.returns-in_default-clause-ended
 returns-in_default-clause-ended g c =
     let after = rw c.in_default.is at c.end.follows.holds-at-none in
-    λ s h. end_step g.B.ChunkBox.opening (g.row.SEALED - 16) (replay_view c.args.self.now) _ s [] h refl after.key refl (after.stands s.segment h.segment)
-    (c.in_default.ensures.text s.segment h.segment) (sym (append-nil c.args.self.now.text.items))
+    λ s h. end_step g.B.ChunkBox.opening (text_length g.row.SEALED) (replay_view c.args.self.now) _ s [] h refl after.key refl (after.stands s.segment h.segment)
+    (c.in_default.ensures.ends.text s.segment h.segment) (sym (append-nil c.args.self.now.text.items))

@@ -1,7 +1,8 @@
-use Rattle.std.proofs.Common.{ℕ, ◌-◌, ap, sym, ◌∙◌}
+use Rattle.std.proofs.Common.{ℕ, ap, sym, ◌∙◌}
 use Rattle.age_stream.proofs.Room.{open_number, shut_number}
 use Rattle.age_stream.proofs.Sizes.{opener_fits}
 use Rattle.age_stream.proofs.replay.ReplayState.end_room.Goals as goal
+use Rattle.age_chunk.specs.ChunkBoxes.{text_length}
 
 pub status-requires : goal.status-requires
 status-requires g c = opener_fits c.args.self.now.sizes.1
@@ -12,7 +13,7 @@ held_len-requires g c = opener_fits c.args.self.now.sizes.1
 pub returns-in-Open : goal.returns-in-Open
 returns-in-Open g c =
     c.saturating_sub.ensures
-    ∙ (ap (λ (k : ℕ). k - 16) c.held_len.ensures.len ∙ sym (open_number c.args.self.now.opener.status _ (sym c.status.ensures ∙ c.in-Open.is)))
+    ∙ (ap (λ (k : ℕ). text_length k) c.held_len.ensures.len ∙ sym (open_number c.args.self.now.opener.status _ (sym c.status.ensures ∙ c.in-Open.is)))
 
 pub returns-in_default : goal.returns-in_default
 returns-in_default g c = sym (shut_number c.args.self.now.opener.status _ (λ open_. c.in_default.not-Open (c.status.ensures ∙ open_)))

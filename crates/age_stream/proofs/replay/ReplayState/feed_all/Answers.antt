@@ -7,6 +7,7 @@ use Rattle.age_stream.specs.Replaying.{replay_view, IsAt}
 use Rattle.age_stream.specs.inner.ReplaySteps.{with_bytes}
 use Rattle.age_stream.proofs.ReplaySteps.{with_bytes-append, with_bytes-nil}
 use Rattle.age_stream.proofs.replay.ReplayState.feed_all.Goals as goal
+use Rattle.age_chunk.specs.ChunkBoxes.{text_length}
 
 pub loop-at-init : goal.loop-at-init
 loop-at-init g c =
@@ -14,11 +15,11 @@ loop-at-init g c =
     let left : length piece - 0 ≡ length piece = omega arith in
     record {
       within = omega arith;
-      room = λ open_. subst (λ (k : ℕ). vec_len c.args.self.now.text + whole_text (g.row.SEALED - 16) (length c.args.self.now.opener.held + k)
+      room = λ open_. subst (λ (k : ℕ). vec_len c.args.self.now.text + whole_text (text_length g.row.SEALED) (length c.args.self.now.opener.held + k)
           ≤ vec_capacity c.args.self.now.text) (sym left) (c.requires open_);
       capacity = omega arith;
       key = refl;
-      fed = λ s h. subst (IsAt g.B.ChunkBox.opening (g.row.SEALED - 16) (replay_view c.args.self.now)) (sym (with_bytes-nil s)) h;
+      fed = λ s h. subst (IsAt g.B.ChunkBox.opening (text_length g.row.SEALED) (replay_view c.args.self.now)) (sym (with_bytes-nil s)) h;
     }
 
 pub loop-at-preserved : goal.loop-at-preserved
@@ -35,11 +36,11 @@ loop-at-preserved g c =
       within = omega (arith, r.1, left, left2, c.loop-at.invariant.within);
       room = λ _.
           let e : length (take (length piece - at) (drop at piece)) - taken ≡ length piece - (at + taken) = omega (arith, left, left2) in
-          omega (arith, r.2, ap (λ (k : ℕ). whole_text (g.row.SEALED - 16) (length c.feed_once.new.self.opener.held + k)) e);
+          omega (arith, r.2, ap (λ (k : ℕ). whole_text (text_length g.row.SEALED) (length c.feed_once.new.self.opener.held + k)) e);
       capacity = omega (arith, c.feed_once.ensures.capacity, c.loop-at.invariant.capacity);
       key = c.feed_once.ensures.key ∙ c.loop-at.invariant.key;
       fed = λ s h.
-          subst (IsAt g.B.ChunkBox.opening (g.row.SEALED - 16) (replay_view c.feed_once.new.self))
+          subst (IsAt g.B.ChunkBox.opening (text_length g.row.SEALED) (replay_view c.feed_once.new.self))
           (with_bytes-append s (take at piece) (take taken (take (length piece - at) (drop at piece))) ∙ ap (with_bytes s) on)
           (r.3 (with_bytes s (take at piece)) (c.loop-at.invariant.fed s h));
     }
@@ -50,7 +51,7 @@ returns-in-None-clause-fed g c = λ s h.
     let at = c.loop-at.at in
     let all : take at piece ++ take (length piece - at) (drop at piece) ≡ piece = ap (λ (ys : List ℕ). take at piece ++ ys) (take_rest piece at)
     ∙ take-append-drop at piece in
-    subst (IsAt g.B.ChunkBox.opening (g.row.SEALED - 16) (replay_view c.feed_once.new.self))
+    subst (IsAt g.B.ChunkBox.opening (text_length g.row.SEALED) (replay_view c.feed_once.new.self))
     (with_bytes-append s (take at piece) (take (length piece - at) (drop at piece)) ∙ ap (with_bytes s) all)
     (c.in-None.ensures.refused (with_bytes s (take at piece)) (c.loop-at.invariant.fed s h))
 
@@ -63,9 +64,9 @@ feed_once-requires g c =
     let e : length (take (length piece - at) (drop at piece)) ≡ length piece - at = omega (arith, left, left2) in
     let some : 0 < length (take (length piece - at) (drop at piece)) = omega (arith, e, c.loop-at-test.true) in
     let room = λ (o : c.loop-at.self.opener.status ≡ Open).
-    let more : vec_len c.loop-at.self.text + whole_text (g.row.SEALED - 16)
+    let more : vec_len c.loop-at.self.text + whole_text (text_length g.row.SEALED)
     (length c.loop-at.self.opener.held + length (take (length piece - at) (drop at piece))) ≤ vec_capacity c.loop-at.self.text =
-    omega (arith, c.loop-at.invariant.room o, ap (λ (k : ℕ). whole_text (g.row.SEALED - 16) (length c.loop-at.self.opener.held + k)) e) in more in
+    omega (arith, c.loop-at.invariant.room o, ap (λ (k : ℕ). whole_text (text_length g.row.SEALED) (length c.loop-at.self.opener.held + k)) e) in more in
     (search rules, (some, room))
 
 pub loop-at-smaller : goal.loop-at-smaller
@@ -86,7 +87,7 @@ returns-clause-capacity g c = c.loop-at.invariant.capacity
 pub returns-clause-fed : goal.returns-clause-fed
 returns-clause-fed g c = λ s h.
     let piece = c.args.piece.now in
-    subst (λ (ps : List ℕ). IsAt g.B.ChunkBox.opening (g.row.SEALED - 16) (replay_view c.loop-at.self) (with_bytes s ps))
+    subst (λ (ps : List ℕ). IsAt g.B.ChunkBox.opening (text_length g.row.SEALED) (replay_view c.loop-at.self) (with_bytes s ps))
     (take_all c.loop-at.at piece (omega (arith, c.loop-at-test.false))) (c.loop-at.invariant.fed s h)
 
 pub returns-clause-key : goal.returns-clause-key

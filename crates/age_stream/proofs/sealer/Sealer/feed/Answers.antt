@@ -21,7 +21,7 @@ returns-in_err-taken g c =
           unchanged = e.still;
         },
       ),
-      record { after = tt; taken = tt; chunk = tt; whole = tt; fits = tt; refused = (e.refused, e.fault) },
+      record { after = tt; takes = record { taken = tt; chunk = tt; whole = tt; fits = tt; refused = (e.refused, e.fault) } },
     )
 
 pub returns-then-not-full : goal.returns-then-not-full
@@ -35,13 +35,13 @@ returns-then-not-full g c =
           key = e.same.0;
           unfinished = e.same.1 ∙ ap (λ v. v.finished) c.self.view_is ∙ c.requires;
           index = refl;
-          unfailed = e.open;
+          unfailed = e.unfailed;
           holds = e.holds;
           refused = tt;
           unchanged = e.still;
         },
       ),
-      record { after = tt; taken = e.taken; chunk = e.blocks; whole = tt; fits = e.fits; refused = tt },
+      record { after = tt; takes = record { taken = e.taken; chunk = e.blocks; whole = tt; fits = e.fits; refused = tt } },
     )
 
 pub returns : goal.returns
@@ -55,13 +55,13 @@ returns g c =
           key = e.same.0;
           unfinished = e.same.1 ∙ ap (λ v. v.finished) c.self.view_is ∙ c.requires;
           index = refl;
-          unfailed = e.open;
+          unfailed = e.unfailed;
           holds = e.holds;
           refused = tt;
           unchanged = e.still;
         },
       ),
-      record { after = tt; taken = e.taken; chunk = e.blocks; whole = e.whole refl; fits = e.fits; refused = tt },
+      record { after = tt; takes = record { taken = e.taken; chunk = e.blocks; whole = e.whole refl; fits = e.fits; refused = tt } },
     )
 
 pub advance-requires : goal.advance-requires

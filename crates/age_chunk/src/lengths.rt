@@ -1,0 +1,13 @@
+//! How long a chunk is, and how many a payload has.
+
+/// How many bytes of text a whole chunk has: 64 KiB.
+pub const CHUNK_LEN: usize = 65_536;
+
+/// How many bytes a block has beside its text: a Poly1305 tag.
+pub const TAG_LEN: usize = 16;
+
+/// How many bytes the block of a whole chunk has.
+pub const BLOCK_LEN: usize = CHUNK_LEN + TAG_LEN;
+
+/// How many chunks a payload has at most, 2^48.
+pub const CHUNK_LIMIT: u64 = 281_474_976_710_656;
