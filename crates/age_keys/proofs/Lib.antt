@@ -1,4 +1,3 @@
-pub mod Base64Lemmas
 pub mod PartLemmas
 pub mod PassphraseLemmas
 pub mod ScryptLemmas

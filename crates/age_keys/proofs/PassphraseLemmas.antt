@@ -1,7 +1,8 @@
 -- What the passphrase that a header was made for finds in it.
-use Rattle.std.proofs.Common.{◌≡◌, ℕ, ◌+◌, ◌≤◌, true, List, [], ◌∷◌, length, get_or, replicate, refl, sym, ap, ap₂, ◌∙◌, arith}
+use Rattle.std.proofs.Common.{◌≡◌, ◌≢◌, ℕ, ◌+◌, ◌≤◌, true, Option, Some, None, Result, List, [], ◌∷◌, length, get_or, replicate, refl, sym, ap, ap₂, ◌∙◌, arith}
 use Rattle.std.proofs.lemmas.Bool.{false≢true}
-use Rattle.std.specs.Prelude.{codes}
+use Rattle.std.specs.Prelude.{codes, IfSome, IfNone, MatchResult}
+use Rattle.std.specs.Option.{ok_or}
 use Rattle.std.specs.Fmt.{decimal}
 use Rattle.std.specs.Str.Parse.{digits_value}
 use Rattle.std.proofs.lemmas.Fmt.{decimal_is_IsNumeral, first_decimal}
@@ -15,8 +16,8 @@ use Rattle.age_keys.specs.declared.fault.KeyFault.TheVariants.{ScryptNotAlone, B
 use Rattle.age_keys.specs.Keys.{header_mac, wrapped_key, has_scrypt, IsMacOf}
 use Rattle.age_keys.specs.Opened.{AllowsAlone}
 use Rattle.age_keys.specs.Passphrase.{PassphraseIdentity, IsPassphraseKey, PassphraseRefuses}
-use Rattle.age_keys.specs.Scrypt.{wrap_key, IsWorkFactor, IsScryptStanza, HasScryptStanza, scrypt_stanza, scrypt_head}
-use Rattle.age_keys.proofs.Base64Lemmas.{one_text}
+use Rattle.age_keys.specs.Scrypt.{wrap_key, IsWorkFactor, IsScryptStanza, OnlyScrypt, scrypt_stanza, scrypt_head}
+use Rattle.age_stanza.proofs.Base64Lemmas.{one_text}
 use Rattle.age_keys.proofs.StanzaLemmas.{not_beside}
 use Rattle.age_keys.proofs.WorkFactorLemmas.{zero_first}
 
@@ -49,37 +50,64 @@ stanza_is salt body log some few size fits body_size = record {
   body_length = body_size;
 }
 
--- ---- a header has one scrypt stanza's parts
+-- ---- what the code found
+
+abbrev pub only_scrypt : (h : Header) (s : Stanza) (salt : List ℕ) (log : ℕ) (body : List ℕ) → h.stanzas ≡ s ∷ [] → IsScryptStanza s salt log body → OnlyScrypt h
+only_scrypt h s salt log body one valid = record { stanza = s; alone = one; salt = salt; log = log; body = body; valid = valid }
+
+-- the key that the body opens to, or that it opens to none
+pub found_or_wrong : (w : PassphraseIdentity) (h : Header) (only : OnlyScrypt h) (wrap : List ℕ) (found : Option (List ℕ)) (result : Result (List ℕ) KeyFault)
+    → only.log ≤ w.max_log → wrap ≡ wrap_key w.pass only.salt only.log
+    → IfSome found (λ key. only.body ≡ wrapped_key wrap key) → IfNone found ((key : List ℕ) → only.body ≢ wrapped_key wrap key) → result ≡ ok_or found WrongKey
+    → MatchResult result (IsPassphraseKey w h) (PassphraseRefuses w h)
+found_or_wrong w h only wrap (Some key) result within is some none e = rw e (record { only = only; within = within; opens = rw (← is) some })
+found_or_wrong w h only wrap None result within is some none e = rw e (only, within, rw (← is) none)
+
+-- ---- a header has the parts of one scrypt stanza
 
 pub record SameParts (salt other : List ℕ) (log more : ℕ) (body rest : List ℕ) : Type 0 where
   pub salts : salt ≡ other
   pub logs : log ≡ more
   pub bodies : body ≡ rest
 
-same_parts : (h : Header) (salt other : List ℕ) (log more : ℕ) (body rest : List ℕ) → HasScryptStanza h salt log body → HasScryptStanza h other more rest
-    → SameParts salt other log more body rest
-same_parts h salt other log more body rest a b =
+same_parts : (h : Header) (a b : OnlyScrypt h) → SameParts a.salt b.salt a.log b.log a.body b.body
+same_parts h a b =
     let stanzas : a.stanza ≡ b.stanza = cc (a.alone, b.alone) in
-    let args : codes "scrypt" ∷ base64_text salt ∷ a.valid.characters ∷ [] ≡ codes "scrypt" ∷ base64_text other ∷ b.valid.characters ∷ [] =
+    let args : codes "scrypt" ∷ base64_text a.salt ∷ a.valid.characters ∷ [] ≡ codes "scrypt" ∷ base64_text b.salt ∷ b.valid.characters ∷ [] =
     sym a.valid.args ∙ ap (λ (s : Stanza). s.args) stanzas ∙ b.valid.args in
     record {
-      salts = one_text salt other a.valid.salt_bytes b.valid.salt_bytes (ap (λ (xs : List (List ℕ)). get_or xs 1 []) args);
+      salts = one_text a.salt b.salt a.valid.salt_bytes b.valid.salt_bytes (ap (λ (xs : List (List ℕ)). get_or xs 1 []) args);
       logs = sym a.valid.log_is ∙ ap (λ (xs : List (List ℕ)). digits_value 10 (get_or xs 2 [])) args ∙ b.valid.log_is;
       bodies = sym a.valid.body_is ∙ ap (λ (s : Stanza). s.body) stanzas ∙ b.valid.body_is;
     }
 
 -- ---- the law
 
-abbrev has_own : PassphraseIdentity → ℕ → List ℕ → List ℕ → Type 0
-has_own w log salt key = HasScryptStanza (scrypt_head w.pass log salt key) salt log (wrapped_key (wrap_key w.pass salt log) key)
+-- the stanza's body is the wrapped key
+abbrev Wraps : PassphraseIdentity → (h : Header) → OnlyScrypt h → List ℕ → Type 0
+Wraps w h only key = only.body ≡ wrapped_key (wrap_key w.pass only.salt only.log) key
 
-own : (w : PassphraseIdentity) (log : ℕ) (salt key : List ℕ) → 1 ≤ log → log ≤ 22 → length salt ≡ 16 → IsBytes salt → length key ≡ 16 → has_own w log salt key
+abbrev HasOwn : PassphraseIdentity → Header → ℕ → List ℕ → Type 0
+HasOwn w h log key = (only : OnlyScrypt h) × (only.log ≡ log) × Wraps w h only key
+
+own : (w : PassphraseIdentity) (log : ℕ) (salt key : List ℕ) → 1 ≤ log → log ≤ 22 → length salt ≡ 16 → IsBytes salt → length key ≡ 16
+    → HasOwn w (scrypt_head w.pass log salt key) log key
 unfolding scrypt_head
 own w log salt key some few size fits key_size =
     let wrap = wrap_key w.pass salt log in
     let body = wrapped_key wrap key in
-    let long : length body ≡ 32 = omega (arith, length-wrapped wrap key) in
-    record { stanza = scrypt_stanza salt log body; alone = refl; valid = stanza_is salt body log some few size fits long }
+    let long : length body ≡ 32 = omega (arith, length-wrapped wrap key) in (
+      record {
+        stanza = scrypt_stanza salt log body;
+        alone = refl;
+        salt = salt;
+        log = log;
+        body = body;
+        valid = stanza_is salt body log some few size fits long;
+      },
+      refl,
+      refl,
+    )
 
 own_mac : (w : PassphraseIdentity) (log : ℕ) (salt key : List ℕ) → IsMacOf (scrypt_head w.pass log salt key) key
 unfolding scrypt_head header_mac
@@ -90,41 +118,42 @@ unfolding scrypt_head scrypt_stanza
 own_type w log salt key = refl
 
 -- the same parts open to the same key
-other_key : (w : PassphraseIdentity) (h : Header) (log : ℕ) (salt key other : List ℕ) → HasScryptStanza h salt log (wrapped_key (wrap_key w.pass salt log) key)
-    → IsPassphraseKey w h other → other ≡ key
-other_key w h log salt key other has found =
-    let same = same_parts h found.salt salt found.log log found.body (wrapped_key (wrap_key w.pass salt log) key) found.stanza has in
-    let wrap : wrap_key w.pass found.salt found.log ≡ wrap_key w.pass salt log = ap₂ (wrap_key w.pass) same.salts same.logs in
-    one_wrapped (wrap_key w.pass salt log) other key
-    (ap (λ (k : List ℕ). wrapped_key k other) (sym wrap) ∙ sym found.opens ∙ same.bodies)
+other_key : (w : PassphraseIdentity) (h : Header) (key other : List ℕ) (only : OnlyScrypt h) → Wraps w h only key → IsPassphraseKey w h other → other ≡ key
+other_key w h key other only wraps found =
+    let same = same_parts h found.only only in
+    let wrap : wrap_key w.pass found.only.salt found.only.log ≡ wrap_key w.pass only.salt only.log = ap₂ (wrap_key w.pass) same.salts same.logs in
+    one_wrapped (wrap_key w.pass only.salt only.log) other key
+    (ap (λ (k : List ℕ). wrapped_key k other) (sym wrap) ∙ sym found.opens ∙ same.bodies ∙ wraps)
 
-only_memory : (w : PassphraseIdentity) (h : Header) (log : ℕ) (salt key : List ℕ) → log ≤ w.max_log → has_scrypt h ≡ true
-    → HasScryptStanza h salt log (wrapped_key (wrap_key w.pass salt log) key) → (fault : KeyFault) → PassphraseRefuses w h fault → fault ≡ Memory
-only_memory w h log salt key within typed has ScryptNotAlone r = absurd (not_beside h has.stanza has.alone r)
-only_memory w h log salt key within typed has NoMatch r = absurd (false≢true (sym r ∙ typed))
-only_memory w h log salt key within typed has BadScrypt r = absurd (r.2 salt log (wrapped_key (wrap_key w.pass salt log) key) has)
-only_memory w h log salt key within typed has WorkTooHigh r =
-    let same = same_parts h r.0 salt r.1 log r.2 (wrapped_key (wrap_key w.pass salt log) key) r.3 has in
-    let above = r.4 in
+only_memory : (w : PassphraseIdentity) (h : Header) (key : List ℕ) (only : OnlyScrypt h) → Wraps w h only key → only.log ≤ w.max_log → has_scrypt h ≡ true
+    → (fault : KeyFault) → PassphraseRefuses w h fault → fault ≡ Memory
+only_memory w h key only wraps within typed ScryptNotAlone r = absurd (not_beside h only.stanza only.alone r)
+only_memory w h key only wraps within typed NoMatch r = absurd (false≢true (sym r ∙ typed))
+only_memory w h key only wraps within typed BadScrypt r = absurd (r.2 only)
+only_memory w h key only wraps within typed WorkTooHigh r =
+    let same = same_parts h r.0 only in
+    let above = r.1 in
     let logs = same.logs in
     absurd (omega arith)
-only_memory w h log salt key within typed has WrongKey r =
-    let same = same_parts h r.0 salt r.1 log r.2 (wrapped_key (wrap_key w.pass salt log) key) r.3 has in
-    absurd (r.5 key (same.bodies ∙ ap (λ (k : List ℕ). wrapped_key k key) (sym (ap₂ (wrap_key w.pass) same.salts same.logs))))
-only_memory w h log salt key within typed has MacMismatch r = absurd r
-only_memory w h log salt key within typed has BadX25519 r = absurd r
-only_memory w h log salt key within typed has Memory r = refl
+only_memory w h key only wraps within typed WrongKey r =
+    let same = same_parts h r.0 only in
+    absurd (r.2 key (same.bodies ∙ wraps ∙ ap (λ (k : List ℕ). wrapped_key k key) (sym (ap₂ (wrap_key w.pass) same.salts same.logs))))
+only_memory w h key only wraps within typed MacMismatch r = absurd r
+only_memory w h key only wraps within typed BadX25519 r = absurd r
+only_memory w h key only wraps within typed Memory r = refl
 
 pub opens_alone : (w : PassphraseIdentity) (log : ℕ) (salt key : List ℕ) → 1 ≤ log → log ≤ 22 → log ≤ w.max_log → length salt ≡ 16 → IsBytes salt
     → length key ≡ 16
     → AllowsAlone (IsPassphraseKey w) (PassphraseRefuses w) (scrypt_head w.pass log salt key) key
 opens_alone w log salt key some few within size fits key_size =
     let h : Header = scrypt_head w.pass log salt key in
-    let has : has_own w log salt key = own w log salt key some few size fits key_size in
+    let has : HasOwn w h log key = own w log salt key some few size fits key_size in
+    let log_is = has.1 in
+    let within' : has.0.log ≤ w.max_log = omega arith in
     record {
-      alone = not_beside h has.stanza has.alone;
-      allowed = record { salt = salt; log = log; body = wrapped_key (wrap_key w.pass salt log) key; stanza = has; within = within; opens = refl };
-      no_other = λ other found. other_key w h log salt key other has found;
-      never = only_memory w h log salt key within (own_type w log salt key) has;
+      alone = not_beside h has.0.stanza has.0.alone;
+      allowed = record { only = has.0; within = within'; opens = has.2 };
+      no_other = λ other found. other_key w h key other has.0 has.2 found;
+      never = only_memory w h key has.0 has.2 within' (own_type w log salt key);
       mac = own_mac w log salt key;
     }

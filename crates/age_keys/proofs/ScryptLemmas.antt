@@ -13,14 +13,12 @@ use Rattle.age_stanza.specs.declared.header.Header.{Header}
 use Rattle.age_stanza.specs.declared.header.Stanza.{Stanza}
 use Rattle.age_stanza.specs.Text.{base64_text}
 use Rattle.age_stanza.specs.Grammar.{line, in_lines, stanza_text, head_text, IsStanza, HasText}
+use Rattle.age_stanza.proofs.Lines.{IsVisible}
 use Rattle.age_stanza.proofs.Elements.{visible_from_test}
 use Rattle.age_stanza.proofs.TextLengths.{length-body, length-head}
 use Rattle.age_stanza.proofs.Texts.{the_symbols, text-symbols, length-text}
 use Rattle.age_keys.specs.Keys.{header_mac, wrapped_key}
 use Rattle.age_keys.specs.Scrypt.{wrap_key, scrypt_stanza, scrypt_head}
-
-abbrev pub IsVisible : ℕ → Type 0
-IsVisible c = (33 ≤ c) × (c ≤ 126)
 
 visible_at : (xs : List ℕ) (i : ℕ) → AllByRecursion IsVisible xs → i < length xs → IsVisible (get_or xs i 0)
 visible_at [] i h lt = absurd (omega arith)

@@ -8,7 +8,7 @@ use Rattle.age_stanza.proofs.Lines.{All-append}
 use Rattle.age_keys.specs.Keys.{wrapped_key}
 use Rattle.age_keys.specs.X25519.{IsX25519Stanza}
 use Rattle.age_keys.specs.SharedSecret.{Shared, shared_wrap_key, StaysShut}
-use Rattle.age_keys.proofs.Base64Lemmas.{one_text}
+use Rattle.age_stanza.proofs.Base64Lemmas.{one_text}
 
 -- one stanza more
 pub all_more : (P : Stanza → Type 0) (ss : List Stanza) (i : ℕ) (s : Stanza) → i < length ss → s ≡ get_or ss i s → AllByRecursion P (take i ss) → P s

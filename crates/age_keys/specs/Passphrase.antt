@@ -7,7 +7,7 @@ use Rattle.age_keys.specs.declared.fault.KeyFault.TheVariants.{ScryptNotAlone, B
 use Rattle.age_keys.specs.declared.fault.KeyFault.TheVariants.{WorkTooHigh, NoMatch, WrongKey}
 use Rattle.age_keys.specs.declared.fault.KeyFault.TheVariants.{Memory}
 use Rattle.age_keys.specs.Keys.{IsScryptNotAlone, has_scrypt, wrapped_key}
-use Rattle.age_keys.specs.Scrypt.{wrap_key, HasScryptStanza}
+use Rattle.age_keys.specs.Scrypt.{wrap_key, OnlyScrypt}
 
 -- a passphrase, and the greatest work factor that is accepted with it
 pub record PassphraseIdentity : Type 0 where
@@ -18,37 +18,27 @@ pub record PassphraseIdentity : Type 0 where
 abbrev pub passphrase_limit : ℕ
 passphrase_limit = 65536
 
--- a passphrase that is neither empty nor too long, and a work factor that may be allowed
-pub record IsAllowed (pass : List ℕ) (max_log : ℕ) : Type 0 where
+-- a passphrase of 1 to 65,536 bytes, and a work factor of 1 to 22
+pub record IsAllowed (pass : List ℕ) (log : ℕ) : Type 0 where
   pub some : 1 ≤ length pass
   pub most : length pass ≤ passphrase_limit
-  pub least_log : 1 ≤ max_log
-  pub most_log : max_log ≤ work_factor_limit
+  pub least_log : 1 ≤ log
+  pub most_log : log ≤ work_factor_limit
 
--- the key in the body of the header's one scrypt stanza, wrapped under the passphrase
+-- the key that is wrapped under the passphrase in the body of the header's only stanza
 pub record IsPassphraseKey (w : PassphraseIdentity) (h : Header) (key : List ℕ) : Type 0 where
-  pub salt : List ℕ
-  pub log : ℕ
-  pub body : List ℕ
-  pub stanza : HasScryptStanza h salt log body
-  pub within : log ≤ w.max_log
-  pub opens : body ≡ wrapped_key (wrap_key w.pass salt log) key
+  pub only : OnlyScrypt h
+  pub within : only.log ≤ w.max_log
+  pub opens : only.body ≡ wrapped_key (wrap_key w.pass only.salt only.log) key
 
--- the faults that a passphrase may answer for it: the first that applies
+-- the faults that a passphrase may return for it: the first that applies
 abbrev pub PassphraseRefuses : PassphraseIdentity → Header → KeyFault → Type 0
 PassphraseRefuses w h ScryptNotAlone = IsScryptNotAlone h
 PassphraseRefuses w h NoMatch = has_scrypt h ≡ false
 PassphraseRefuses w h BadScrypt =
-    (¬ IsScryptNotAlone h) × (has_scrypt h ≡ true)
-    × ((salt : List ℕ) (log : ℕ) (body : List ℕ) → HasScryptStanza h salt log body → ⊥)
-PassphraseRefuses w h WorkTooHigh =
-    (salt : List ℕ) × (log : ℕ) × (body : List ℕ) × HasScryptStanza h salt log body
-    × (w.max_log < log)
-PassphraseRefuses w h Memory =
-    (salt : List ℕ) × (log : ℕ) × (body : List ℕ) × HasScryptStanza h salt log body
-    × (log ≤ w.max_log)
-PassphraseRefuses w h WrongKey =
-    (salt : List ℕ) × (log : ℕ) × (body : List ℕ) × HasScryptStanza h salt log body
-    × (log ≤ w.max_log)
-    × ((key : List ℕ) → body ≢ wrapped_key (wrap_key w.pass salt log) key)
+    (¬ IsScryptNotAlone h) × (has_scrypt h ≡ true) × (¬ OnlyScrypt h)
+PassphraseRefuses w h WorkTooHigh = (only : OnlyScrypt h) × (w.max_log < only.log)
+PassphraseRefuses w h Memory = (only : OnlyScrypt h) × (only.log ≤ w.max_log)
+PassphraseRefuses w h WrongKey = (only : OnlyScrypt h) × (only.log ≤ w.max_log)
+    × ((key : List ℕ) → only.body ≢ wrapped_key (wrap_key w.pass only.salt only.log) key)
 PassphraseRefuses w h other = ⊥

@@ -31,10 +31,13 @@ pub record IsScryptStanza (s : Stanza) (salt : List ℕ) (log : ℕ) (body : Lis
   pub salt_length : length salt ≡ 16
   pub body_length : length body ≡ 32
 
--- it is the header's only one
-pub record HasScryptStanza (h : Header) (salt : List ℕ) (log : ℕ) (body : List ℕ) : Type 0 where
+-- the header's only stanza, which is a scrypt stanza, and its parts
+pub record OnlyScrypt (h : Header) : Type 0 where
   pub stanza : Stanza
   pub alone : h.stanzas ≡ stanza ∷ []
+  pub salt : List ℕ
+  pub log : ℕ
+  pub body : List ℕ
   pub valid : IsScryptStanza stanza salt log body
 
 -- such a stanza, as it is written

@@ -61,7 +61,7 @@ pub record IsFirstKey (x : Shared) (stanzas : List Stanza) (key : List ℕ) : Ty
 abbrev pub IsSharedKey : Shared → Header → List ℕ → Type 0
 IsSharedKey x h key = IsUsable x h × IsFirstKey x h.stanzas key
 
--- the faults that a shared secret may answer for it: the first that applies
+-- the faults that a shared secret may return for it: the first that applies
 abbrev pub SharedRefuses : Shared → Header → KeyFault → Type 0
 SharedRefuses x h NoMatch = has_x25519 h ≡ false
 SharedRefuses x h BadX25519 = (has_x25519 h ≡ true) × (IsZero x ⊎ Any IsBadStanza h.stanzas)

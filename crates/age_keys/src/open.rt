@@ -4,7 +4,7 @@ ghost use Rattle.std.specs.Prelude.{◌≡◌, IfOk, IfErr};
 ghost use Rattle.std.specs.List.{list_any};
 ghost use Rattle.base64.specs.GeneralPurpose.{IsBytes};
 ghost use Rattle.age_stanza.specs.Grammar.{HasText};
-ghost use Rattle.age_keys.specs.Keys.{is_scrypt, scrypt_not_alone, header_mac};
+ghost use Rattle.age_keys.specs.Keys.{has_type, is_scrypt, scrypt_not_alone, header_mac};
 ghost use Rattle.age_keys.specs.Opened.{Opens, Refuses};
 ghost use Rattle.age_keys.specs.declared.fault.KeyFault.TheVariants.{Memory};
 
@@ -14,14 +14,21 @@ use crate::unlock::Unlock;
 use age_stanza::{Header, Stanza};
 use std::alloc::Global;
 
+/// Whether a stanza is of a type, which is its first argument.
+pub(crate) fn has_type(stanza: &Stanza, kind: &[u8]) -> bool
+    ensures { result ≡ has_type kind.now stanza.now.args }
+{
+    match stanza.args.as_slice() {
+        [first, ..] => first.as_slice() == kind,
+        [] => false,
+    }
+}
+
 /// Whether a stanza is of type `scrypt`.
 pub(crate) fn is_scrypt(stanza: &Stanza) -> bool
     ensures { result ≡ is_scrypt stanza.now }
 {
-    match stanza.args.as_slice() {
-        [kind, ..] => kind.as_slice() == b"scrypt".as_slice(),
-        [] => false,
-    }
+    has_type(stanza, b"scrypt")
 }
 
 /// Whether some stanza is of type `scrypt`.
@@ -31,9 +38,9 @@ pub(crate) fn has_scrypt(stanzas: &[Stanza]) -> bool
     stanzas.iter().any(is_scrypt)
 }
 
-/// Whether a scrypt stanza stands beside another stanza, which is refused: who opens a file by a
-/// passphrase takes it that only those who know the passphrase could have written it, and whoever
-/// can open another stanza could have, too.
+/// Whether a scrypt stanza stands beside another stanza, which is refused: whoever decrypts with a
+/// passphrase assumes that the file's author knew it, but whoever can open another stanza can make
+/// the MAC too.
 pub(crate) fn scrypt_not_alone(header: &Header) -> bool
     ensures { result ≡ scrypt_not_alone header.now }
 {

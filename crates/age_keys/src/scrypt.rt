@@ -1,6 +1,6 @@
 //! The scrypt stanza (<https://c2sp.org/age#scrypt-recipient-stanza>): read and written.
 
-ghost use Rattle.std.specs.Prelude.{◌≡◌, ◌≤◌, ◌↔◌, ℕ, List, [], ◌∷◌, length, min};
+ghost use Rattle.std.specs.Prelude.{◌≡◌, ◌≤◌, ◌↔◌, ℕ, List, [], ◌∷◌, min};
 ghost use Rattle.std.specs.Prelude.{IsTrue, IfSome};
 ghost use Rattle.std.specs.Prelude.{IfNone, IfOk, IfErr, OnOk, ◌++◌, codes};
 ghost use Rattle.std.specs.Char.{is_ascii_digit};
@@ -10,7 +10,7 @@ ghost use Rattle.std.specs.Str.Parse.{digits_value};
 ghost use Rattle.age_stanza.specs.Grammar.{HasText};
 ghost use Rattle.age_stanza.specs.Text.{base64_text};
 ghost use Rattle.age_scrypt.specs.Scrypt.{work_factor_limit};
-ghost use Rattle.age_keys.specs.Passphrase.{passphrase_limit};
+ghost use Rattle.age_keys.specs.Passphrase.{IsAllowed};
 ghost use Rattle.age_keys.specs.Scrypt.{IsWorkFactor, IsScryptStanza, wrap_key, scrypt_stanza};
 ghost use Rattle.age_keys.specs.Scrypt.{scrypt_head};
 ghost use Rattle.age_keys.specs.declared.fault.KeyFault.TheVariants.{Memory};
@@ -185,7 +185,7 @@ fn header_of(
 /// the file key gives it (<https://c2sp.org/age#scrypt-recipient-stanza>,
 /// <https://c2sp.org/age#header-mac>).
 ///
-/// It asks for a passphrase of 1 to [`PASSPHRASE_LIMIT`](crate::PASSPHRASE_LIMIT) bytes and a work
+/// It requires a passphrase of 1 to [`PASSPHRASE_LIMIT`](crate::PASSPHRASE_LIMIT) bytes and a work
 /// factor `log` of 1 to [`WORK_FACTOR_LIMIT`](age_scrypt::WORK_FACTOR_LIMIT). The only fault is a
 /// refusal of memory ([`KeyFault::Memory`]): the passphrase's table takes `1,024 * 2^log` bytes.
 pub fn scrypt_header(
@@ -195,10 +195,7 @@ pub fn scrypt_header(
     salt: &[u8; 16],
     key: &FileKey,
 ) -> Result<Header, KeyFault>
-    requires pass_least { 1 ≤ length pass.now }
-    requires pass_most { length pass.now ≤ passphrase_limit }
-    requires log_least { 1 ≤ log }
-    requires log_most { log ≤ work_factor_limit }
+    requires { IsAllowed pass.now log }
     ensures head { IfOk result (λ header. header ≡ scrypt_head pass.now log salt.now key.now) }
     ensures text { IfOk result HasText }
     ensures memory { IfErr result (λ fault. fault ≡ Memory) }

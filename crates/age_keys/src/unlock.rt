@@ -29,7 +29,7 @@ pub trait Unlock {
             (refuses self.now header.now) };
 }
 
-/// A file key that is known: it is answered for every header. A contract sees the list of its
+/// A file key that is known: it is returned for every header. A contract sees the list of its
 /// bytes.
 #[derive(Drop)]
 pub struct KnownKey(pub [u8; 16]);

@@ -1,6 +1,6 @@
 //! A file key in the body of a stanza: sealed under a wrap key, with a nonce of zeros and no
-//! associated data. Zeros serve, since a wrap key comes of a salt or a share that is the stanza's
-//! own, and so seals one file key.
+//! associated data. A nonce of zeros is safe, since a wrap key comes from a salt or a share of the
+//! stanza's own, and so seals one file key.
 
 ghost use Rattle.std.specs.Prelude.{◌≡◌, ◌≢◌, ℕ, List, IfSome, IfNone};
 ghost use Rattle.age_keys.specs.Keys.{wrapped_key};

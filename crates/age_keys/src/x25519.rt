@@ -4,6 +4,7 @@ ghost use Rattle.std.specs.Prelude.{◌≡◌, IfOk, IfErr};
 ghost use Rattle.age_keys.specs.X25519.{is_x25519, IsX25519Stanza, ReadRefuses};
 
 use crate::fault::KeyFault;
+use crate::open::has_type;
 use age_stanza::{Stanza, read_base64};
 
 /// An X25519 stanza (<https://c2sp.org/age#x25519-recipient-stanza>): `-> X25519 SHARE` and a body.
@@ -19,10 +20,7 @@ pub struct X25519Stanza {
 pub(crate) fn is_x25519(stanza: &Stanza) -> bool
     ensures { result ≡ is_x25519 stanza.now }
 {
-    match stanza.args.as_slice() {
-        [kind, ..] => kind.as_slice() == b"X25519".as_slice(),
-        [] => false,
-    }
+    has_type(stanza, b"X25519")
 }
 
 impl X25519Stanza {

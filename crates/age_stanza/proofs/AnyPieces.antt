@@ -58,8 +58,8 @@ prefix_of a x b y e le =
 none_longer : (bytes piece : List ℕ) → (HasHeader bytes → ⊥)
     → ((h : Header) (front : List ℕ) → HeadText h front → length bytes < length front → front ≡ bytes ++ drop (length bytes) front → ⊥)
     → HasHeader (bytes ++ piece) → ⊥
-none_longer bytes piece inside behind has = elim (cases_lt (length bytes) (length has.1)) [
-  | inl lt ↦ behind has.0 has.1 has.3 lt (prefix_of bytes piece has.1 has.2 has.4 (omega arith))
+none_longer bytes piece inside after has = elim (cases_lt (length bytes) (length has.1)) [
+  | inl lt ↦ after has.0 has.1 has.3 lt (prefix_of bytes piece has.1 has.2 has.4 (omega arith))
   | inr ge ↦ inside (has.0, has.1, drop (length has.1) bytes, has.3, prefix_of has.1 has.2 bytes piece (sym has.4) ge)
 ]
 

@@ -22,9 +22,9 @@ last_line body lt = in_lines-short (base64_text body) (omega (arith, length-text
 pub line_written : (out next all rest : List ℕ) → 48 ≤ length rest → next ≡ out ++ line (base64_text (take 48 rest))
     → out ++ in_lines (base64_text rest) ≡ all → next ++ in_lines (base64_text (drop 48 rest)) ≡ all
 line_written out next all rest le puts same =
-    let behind = in_lines (base64_text (drop 48 rest)) in
-    let grouped : next ++ behind ≡ out ++ (line (base64_text (take 48 rest)) ++ behind) = ap (λ (t : List ℕ). t ++ behind) puts
-    ∙ append_assoc out (line (base64_text (take 48 rest))) behind in
+    let after = in_lines (base64_text (drop 48 rest)) in
+    let grouped : next ++ after ≡ out ++ (line (base64_text (take 48 rest)) ++ after) = ap (λ (t : List ℕ). t ++ after) puts
+    ∙ append_assoc out (line (base64_text (take 48 rest))) after in
     grouped ∙ ap (λ (t : List ℕ). out ++ t) (sym (full_line rest le)) ∙ same
 
 -- the last line is written

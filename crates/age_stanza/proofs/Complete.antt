@@ -13,7 +13,8 @@ use Rattle.age_stanza.specs.declared.place.Next.TheVariants.{Go, Done}
 use Rattle.age_stanza.specs.Text.{base64_text}
 use Rattle.age_stanza.specs.inner.LineMachine.{base64_bytes, ready, walk, after, step}
 use Rattle.age_stanza.specs.Grammar.{line, version, IsArgument, argument_line, in_lines, stanza_text, end_line, head_text, IsStanza, IsHeader}
-use Rattle.age_stanza.proofs.Texts.{text-append, length-text, decoded-text, IsBytes-take, IsBytes-drop, IsLine, IsLine-append, text_line, line_from_test}
+use Rattle.age_stanza.specs.Faults.{IsLine}
+use Rattle.age_stanza.proofs.Texts.{text-append, length-text, decoded-text, IsBytes-take, IsBytes-drop, IsLine-append, text_line, line_from_test}
 use Rattle.age_stanza.proofs.Lines.{IsVisible, in_lines-full, in_lines-short, read_argument_line, read_end_line}
 use Rattle.age_stanza.proofs.Places.{tail_text}
 

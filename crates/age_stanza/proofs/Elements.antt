@@ -39,9 +39,9 @@ on_ok (Err x) new wrote old e = tt
 pub written_next : {X : Type 0} (f : X → List ℕ) (out next all : List ℕ) (xs : List X) (i : ℕ) (x : X) → i < length xs → x ≡ get_or xs i x → next ≡ out ++ f x
     → out ++ flat_map f (drop i xs) ≡ all → next ++ flat_map f (drop (i + 1) xs) ≡ all
 written_next {X} f out next all xs i x lt is puts same =
-    let behind = flat_map f (drop (i + 1) xs) in
+    let after = flat_map f (drop (i + 1) xs) in
     let first : drop i xs ≡ x ∷ drop (i + 1) xs = drop_more xs i x lt ∙ ap (λ (y : X). y ∷ drop (i + 1) xs) (sym is) in
-    ap (λ (t : List ℕ). t ++ behind) puts ∙ append_assoc out (f x) behind ∙ ap (λ (ys : List X). out ++ flat_map f ys) (sym first) ∙ same
+    ap (λ (t : List ℕ). t ++ after) puts ∙ append_assoc out (f x) after ∙ ap (λ (ys : List X). out ++ flat_map f ys) (sym first) ∙ same
 
 pub written_all : {X : Type 0} (f : X → List ℕ) (out all : List ℕ) (xs : List X) (i : ℕ) → length xs ≤ i → out ++ flat_map f (drop i xs) ≡ all → out ≡ all
 written_all {X} f out all xs i le same = sym (append-nil out) ∙ ap (λ (ys : List X). out ++ flat_map f ys) (sym (drop_all i xs le)) ∙ same

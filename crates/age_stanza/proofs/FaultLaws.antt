@@ -23,7 +23,7 @@ use Rattle.age_stanza.specs.Text.{base64_text}
 use Rattle.age_stanza.specs.inner.LineMachine.{base64_bytes, unfinished, ready, faulty, walk, after, step, end_line_result, argument_line_result}
 use Rattle.age_stanza.specs.inner.LineMachine.{body_line_result, arguments_of, mac_of, fault_at}
 use Rattle.age_stanza.specs.Grammar.{line, version, in_lines, stanza_text, end_line, head_text, IsStanza, IsHeader}
-use Rattle.age_stanza.specs.Faults.{armor, Begins, IsLine, AreLines, stanzas_text, IsEndLine, RefusesBetween, Refuses, line_after, NoFault, IsLineFault}
+use Rattle.age_stanza.specs.Faults.{armor, Begins, IsLine, AreLines, stanzas_text, IsEndLine, RefusesBetween, RefusesLine, line_after, NoFault, IsLineFault}
 use Rattle.age_stanza.proofs.Texts.{bytes_from_pass, IsBytes-append, IsBytes-tail, IsLine-append, decoded-text, text-nil, line_from_test}
 use Rattle.age_stanza.proofs.Lines.{chosen, All-append, All-back, starts_from, read_end_line, end_line_read}
 use Rattle.age_stanza.proofs.Places.{tail_text, IsPlace, Follows, leads}
@@ -37,7 +37,7 @@ zeros = 0 ∷ 0 ∷ 0 ∷ 0 ∷ 0 ∷ 0 ∷ 0 ∷ 0 ∷ 0 ∷ 0 ∷ 0 ∷ 0 ∷ 
 zeros_bytes : IsBytes zeros
 zeros_bytes = bytes_from_pass zeros refl
 
-no_bytes : IsBytes []
+pub no_bytes : IsBytes []
 no_bytes = bytes_from_pass [] refl
 
 abbrev letter : Stanza
@@ -225,11 +225,11 @@ passed before l (c ∷ cs) place n at lined fits e =
           rw append_assoc at deeper
     ]
 
--- ---- what is told of a line that is refused
+-- ---- what is reported of a line that is refused
 
-told_first : (l : List ℕ) (kind : HeadKind) → step Start l ≡ Err kind → kind ≡ cond (bytes_eq l armor || bytes_eq l (armor ++ 13 ∷ [])) Armored NotAge
+kind_first : (l : List ℕ) (kind : HeadKind) → step Start l ≡ Err kind → kind ≡ cond (bytes_eq l armor || bytes_eq l (armor ++ 13 ∷ [])) Armored NotAge
 unfolding step
-told_first l kind e = elim (chosen (bytes_eq l version) (Ok (Go (Between []))) _ (Err kind) e) [
+kind_first l kind e = elim (chosen (bytes_eq l version) (Ok (Go (Between []))) _ (Err kind) e) [
   | inl h ↦ absurd (cc (h.1))
   | inr h ↦ elim (chosen (bytes_eq l armor || bytes_eq l (armor ++ 13 ∷ [])) (Err Armored) (Err NotAge) (Err kind) h.1) [
     | inl g ↦ rw (g.0) (cc (g.1))
@@ -237,19 +237,19 @@ told_first l kind e = elim (chosen (bytes_eq l version) (Ok (Go (Between []))) _
   ]
 ]
 
-told_ended : (ss : List Stanza) (l : List ℕ) (kind : HeadKind) (o : Option (List ℕ)) → IsBytes l → mac_of l ≡ o → end_line_result ss o ≡ Err kind
+kind_ended : (ss : List Stanza) (l : List ℕ) (kind : HeadKind) (o : Option (List ℕ)) → IsBytes l → mac_of l ≡ o → end_line_result ss o ≡ Err kind
     → (IsEndLine l → kind ≡ NoStanza) × ((IsEndLine l → ⊥) → kind ≡ BadEndLine)
-told_ended ss l kind None fits is e =
+kind_ended ss l kind None fits is e =
     let not_end : IsEndLine l → ⊥ = λ has. none-some has.0 (sym is ∙ ap mac_of has.3 ∙ read_end_line has.0 has.1 has.2) in
     (λ has. absurd (not_end has), λ _. cc)
-told_ended [] l kind (Some mac) fits is e =
+kind_ended [] l kind (Some mac) fits is e =
     let read = end_line_read l mac fits is in
     (λ _. cc, λ not. absurd (not (mac, read.1, read.2, read.0)))
-told_ended (s ∷ ss) l kind (Some mac) fits is e = absurd cc
+kind_ended (s ∷ ss) l kind (Some mac) fits is e = absurd cc
 
-told_begun : (ss : List Stanza) (kind : HeadKind) (o : Option (List (List ℕ))) → argument_line_result ss o ≡ Err kind → kind ≡ BadStanzaLine
-told_begun ss kind None e = cc
-told_begun ss kind (Some args) e = absurd cc
+kind_begun : (ss : List Stanza) (kind : HeadKind) (o : Option (List (List ℕ))) → argument_line_result ss o ≡ Err kind → kind ≡ BadStanzaLine
+kind_begun ss kind None e = cc
+kind_begun ss kind (Some args) e = absurd cc
 
 end_starts : (l : List ℕ) → IsEndLine l → starts_with nat_eq l (codes "---") ≡ true
 end_starts l has = starts_from l (codes "---") (32 ∷ base64_text has.0) has.3
@@ -257,31 +257,31 @@ end_starts l has = starts_from l (codes "---") (32 ∷ base64_text has.0) has.3
 true_false : (b : Bool) → b ≡ true → b ≡ false → ⊥
 true_false b t f = cc
 
-told_between : (ss : List Stanza) (l : List ℕ) (kind : HeadKind) → IsBytes l → step (Between ss) l ≡ Err kind → RefusesBetween l kind
+kind_between : (ss : List Stanza) (l : List ℕ) (kind : HeadKind) → IsBytes l → step (Between ss) l ≡ Err kind → RefusesBetween l kind
 unfolding step
-told_between ss l kind fits e = elim (chosen (starts_with nat_eq l (codes "---")) (end_line_result ss (mac_of l)) (argument_line_result ss (arguments_of l))
+kind_between ss l kind fits e = elim (chosen (starts_with nat_eq l (codes "---")) (end_line_result ss (mac_of l)) (argument_line_result ss (arguments_of l))
     (Err kind) e) [
       | inl h ↦
-          let told = told_ended ss l kind (mac_of l) fits refl h.1 in
-          record { no_stanza = told.0; bad_end = λ _ not. told.1 not; bad_stanza = λ f. absurd (true_false _ h.0 f) }
+          let kinds = kind_ended ss l kind (mac_of l) fits refl h.1 in
+          record { no_stanza = kinds.0; bad_end = λ _ not. kinds.1 not; bad_stanza = λ f. absurd (true_false _ h.0 f) }
       | inr h ↦
-          let told = told_begun ss kind (arguments_of l) h.1 in
-          record { no_stanza = λ has. absurd (true_false _ (end_starts l has) h.0); bad_end = λ t _. absurd (true_false _ t h.0); bad_stanza = λ _. told }
+          let kinds = kind_begun ss kind (arguments_of l) h.1 in
+          record { no_stanza = λ has. absurd (true_false _ (end_starts l has) h.0); bad_end = λ t _. absurd (true_false _ t h.0); bad_stanza = λ _. kinds }
     ]
 
-told_continued : (ss : List Stanza) (args : List (List ℕ)) (body : List ℕ) (kind : HeadKind) (full : Bool) (o : Option (List ℕ))
+kind_continued : (ss : List Stanza) (args : List (List ℕ)) (body : List ℕ) (kind : HeadKind) (full : Bool) (o : Option (List ℕ))
     → body_line_result ss args body full o ≡ Err kind → kind ≡ BadBody
-told_continued ss args body kind true None e = cc
-told_continued ss args body kind false None e = cc
-told_continued ss args body kind true (Some more) e = absurd cc
-told_continued ss args body kind false (Some more) e = absurd cc
+kind_continued ss args body kind true None e = cc
+kind_continued ss args body kind false None e = cc
+kind_continued ss args body kind true (Some more) e = absurd cc
+kind_continued ss args body kind false (Some more) e = absurd cc
 
-told_body : (ss : List Stanza) (args : List (List ℕ)) (body l : List ℕ) (kind : HeadKind) → step (InBody ss args body) l ≡ Err kind → kind ≡ BadBody
+kind_body : (ss : List Stanza) (args : List (List ℕ)) (body l : List ℕ) (kind : HeadKind) → step (InBody ss args body) l ≡ Err kind → kind ≡ BadBody
 unfolding step
-told_body ss args body l kind e = elim (chosen (ltb 64 (length l)) (Err BadBody) (body_line_result ss args body (eqb (length l) 64) (base64_bytes l))
+kind_body ss args body l kind e = elim (chosen (ltb 64 (length l)) (Err BadBody) (body_line_result ss args body (eqb (length l) 64) (base64_bytes l))
     (Err kind) e) [
       | inl h ↦ cc (h.1)
-      | inr h ↦ told_continued ss args body kind (eqb (length l) 64) (base64_bytes l) h.1
+      | inr h ↦ kind_continued ss args body kind (eqb (length l) 64) (base64_bytes l) h.1
     ]
 
 -- ---- which place it is
@@ -333,11 +333,11 @@ not_between before ss ts args body n at valid e =
     apart (fault_at BadStanzaLine reach.0) (sym (empty_goes ss args body n) ∙ sym there ∙ ap (λ (b : List ℕ). walk Start 1 [] (b ++ (line [] ++ []))) e
     ∙ ap (walk Start 1 []) grouped ∙ start ∙ reach.1 ∙ empty_refused ts reach.0)
 
-pub refuses : (before l : List ℕ) (place : Place) (n : ℕ) (kind : HeadKind) → At before place n → IsBytes l → step place l ≡ Err kind → Refuses before l kind
+pub refuses : (before l : List ℕ) (place : Place) (n : ℕ) (kind : HeadKind) → At before place n → IsBytes l → step place l ≡ Err kind → RefusesLine before l kind
 refuses before l Start n kind at fits e =
     let none = nothing_before before n at in
     record {
-      first = λ _. told_first l kind e;
+      first = λ _. kind_first l kind e;
       between = λ ss valid is. absurd (no_text ss (sym none ∙ is));
       in_body = λ some _. absurd (some none);
     }
@@ -345,14 +345,14 @@ refuses before l (Between ss) n kind at fits e =
     let stanzas = stanzas_before before ss n at in
     record {
       first = λ none. absurd (no_text ss (sym none ∙ stanzas));
-      between = λ ts valid is. told_between ss l kind fits e;
+      between = λ ts valid is. kind_between ss l kind fits e;
       in_body = λ some other. absurd (other ss at.known stanzas);
     }
 refuses before l (InBody ss args body) n kind at fits e =
     record {
       first = λ none. absurd (not_first before ss args body n at none);
       between = λ ts valid is. absurd (not_between before ss ts args body n at valid is);
-      in_body = λ some other. told_body ss args body l kind e;
+      in_body = λ some other. kind_body ss args body l kind e;
     }
 
 -- ---- the two laws
@@ -427,7 +427,7 @@ from_met bytes fault fits m =
         faulty = no_text_goes_on m.before m.l m.place m.n m.kind m.at m.one_line m.leads_to;
       },
       line_is,
-      subst (λ (k : HeadKind). Refuses m.before m.l k) (sym kind_is) (refuses m.before m.l m.place m.n m.kind m.at line_fits m.leads_to),
+      subst (λ (k : HeadKind). RefusesLine m.before m.l k) (sym kind_is) (refuses m.before m.l m.place m.n m.kind m.at line_fits m.leads_to),
     )
 
 pub line_fault : (bytes : List ℕ) (fault : HeadFault) → IsBytes bytes → walk Start 1 [] bytes ≡ faulty fault → IsLineFault bytes fault

@@ -14,12 +14,12 @@ use Rattle.age_stanza.specs.declared.place.Next.TheVariants.{Go, Done}
 use Rattle.age_stanza.specs.Grammar.{line}
 use Rattle.age_stanza.specs.Faults.{IsLine, AreLines, line_after, memory_fault}
 use Rattle.age_stanza.specs.inner.LineMachine.{unfinished, ready, faulty, walk, after, step, fault_at}
-use Rattle.age_stanza.specs.inner.Retelling.{bytes_before, LeadTo, IsPartial, IsUnderWay}
+use Rattle.age_stanza.specs.inner.BytesBefore.{bytes_before, LeadTo, IsPartial, IsUnderWay}
 use Rattle.age_stanza.proofs.Texts.{IsBytes-append, IsLine-append, bytes_from_pass}
 use Rattle.age_stanza.proofs.Lines.{All-front}
 use Rattle.age_stanza.proofs.Complete.{walk_text, walk_go}
-use Rattle.age_stanza.proofs.FaultLaws.{ends_line, count_line, last_of}
-use Rattle.age_stanza.proofs.Retold.{retells}
+use Rattle.age_stanza.proofs.FaultLaws.{no_bytes, ends_line, count_line, last_of}
+use Rattle.age_stanza.proofs.PlaceAfter.{place_after}
 
 -- ---- a begun line
 
@@ -114,7 +114,7 @@ faulty_walk place lines l kind led lined (inr e) =
 pub next_bytes : (place next : Place) (lines : ℕ) (l : List ℕ) → LeadTo place lines → IsBytes l → step place l ≡ Ok (Go next) → bytes_before next ++ []
     ≡ (bytes_before place ++ l) ++ 10 ∷ []
 next_bytes place next lines l led fits e =
-    append-nil (bytes_before next) ∙ (retells place next l led.whole_body fits e).0 ∙ sym (append_assoc (bytes_before place) l (10 ∷ []))
+    append-nil (bytes_before next) ∙ (place_after place next l led.whole_body fits e).0 ∙ sym (append_assoc (bytes_before place) l (10 ∷ []))
 
 lf_bytes : IsBytes (10 ∷ [])
 lf_bytes = bytes_from_pass (10 ∷ []) refl
@@ -122,18 +122,15 @@ lf_bytes = bytes_from_pass (10 ∷ []) refl
 pub next_lead : (place next : Place) (lines : ℕ) (l : List ℕ) → LeadTo place lines → IsLine l → IsBytes l → step place l ≡ Ok (Go next)
     → LeadTo next (lines + 1)
 next_lead place next lines l led lined fits e =
-    let told = retells place next l led.whole_body fits e in
+    let next_is = place_after place next l led.whole_body fits e in
     record {
-      reaches = λ rest. ap (λ (t : List ℕ). walk Start 1 [] (t ++ rest)) told.0 ∙ ap (walk Start 1 []) (append_assoc (bytes_before place) (line l) rest)
+      reaches = λ rest. ap (λ (t : List ℕ). walk Start 1 [] (t ++ rest)) next_is.0 ∙ ap (walk Start 1 []) (append_assoc (bytes_before place) (line l) rest)
           ∙ led.reaches (line l ++ rest) ∙ walk_go place next (lines + 1) l rest lined e;
-      line_count = ap (λ n. n + 1) led.line_count ∙ sym (line_after-line (bytes_before place) l lined) ∙ ap line_after (sym told.0);
-      are_lines = inr (bytes_before place ++ l, told.0 ∙ sym (append_assoc (bytes_before place) l (10 ∷ [])));
-      whole_body = told.1;
-      are_bytes = subst IsBytes (sym told.0) (IsBytes-append (bytes_before place) (line l) led.are_bytes (IsBytes-append l (10 ∷ []) fits lf_bytes));
+      line_count = ap (λ n. n + 1) led.line_count ∙ sym (line_after-line (bytes_before place) l lined) ∙ ap line_after (sym next_is.0);
+      are_lines = inr (bytes_before place ++ l, next_is.0 ∙ sym (append_assoc (bytes_before place) l (10 ∷ [])));
+      whole_body = next_is.1;
+      are_bytes = subst IsBytes (sym next_is.0) (IsBytes-append (bytes_before place) (line l) led.are_bytes (IsBytes-append l (10 ∷ []) fits lf_bytes));
     }
-
-no_bytes : IsBytes []
-no_bytes = bytes_from_pass [] refl
 
 -- what is kept after a finished line
 pub next_partial : (place next : Place) (bytes lines : ℕ) (l : List ℕ) → IsPartial place l bytes lines → bytes < 1048576 → step place l ≡ Ok (Go next)

@@ -67,7 +67,7 @@ regrouped held rest bytes longer i first e is =
     ∙ ap (λ (t : List ℕ). held ++ t) (sym first.parts) ∙ e
 
 pub faulty_at : (held rest bytes longer : List ℕ) (i : ℕ) (fault : HeadFault) → FirstLine rest i → held ++ rest ≡ bytes → longer ≡ held ++ take i rest
-    → (fault ≡ memory_fault) ⊎ ((behind : List ℕ) → walk Start 1 [] (longer ++ 10 ∷ behind) ≡ faulty fault) → (fault ≡ memory_fault)
+    → (fault ≡ memory_fault) ⊎ ((after : List ℕ) → walk Start 1 [] (longer ++ 10 ∷ after) ≡ faulty fault) → (fault ≡ memory_fault)
     ⊎ (walk Start 1 [] bytes ≡ faulty fault)
 faulty_at held rest bytes longer i fault first e is (inl memory) = inl memory
 faulty_at held rest bytes longer i fault first e is (inr fails) =
@@ -81,7 +81,7 @@ after_line rest bytes i within is =
 
 pub ready_at : (held rest bytes joined longer : List ℕ) (i : ℕ) (h : Header) → FirstLine rest i → length rest ≤ length bytes → rest
     ≡ drop (length bytes - length rest) bytes
-    → held ++ rest ≡ joined → longer ≡ held ++ take i rest → ((behind : List ℕ) → walk Start 1 [] (longer ++ 10 ∷ behind) ≡ ready h behind)
+    → held ++ rest ≡ joined → longer ≡ held ++ take i rest → ((after : List ℕ) → walk Start 1 [] (longer ++ 10 ∷ after) ≡ ready h after)
     → (length bytes - length rest + i + 1 ≤ length bytes) × (walk Start 1 [] joined ≡ ready h (drop (length bytes - length rest + i + 1) bytes))
 ready_at held rest bytes joined longer i h first within suffix e is finds =
     let lt = first.within in (
@@ -96,10 +96,10 @@ pub record Left (held rest bytes joined : List ℕ) : Type 0 where
   pub suffix : rest ≡ drop (length bytes - length rest) bytes
   pub same : held ++ rest ≡ joined
 
-pub left_behind : (held rest bytes joined longer next : List ℕ) (i : ℕ) → FirstLine rest i → Left held rest bytes joined → longer ≡ held ++ take i rest
+pub left_after : (held rest bytes joined longer next : List ℕ) (i : ℕ) → FirstLine rest i → Left held rest bytes joined → longer ≡ held ++ take i rest
     → next ≡ longer ++ 10 ∷ []
     → Left next (drop (i + 1) rest) bytes joined
-left_behind held rest bytes joined longer next i first left is next-is =
+left_after held rest bytes joined longer next i first left is next-is =
     let lt = first.within in
     let within = left.within in
     let short : length (drop (i + 1) rest) ≡ length rest - (i + 1) = length-drop (i + 1) rest in

@@ -1,7 +1,7 @@
 -- The lines of a header: a body's, an argument line, an end line.
 use Rattle.std.proofs.Common.{◌≡◌, ℕ, zero, suc, ◌<◌, ◌≤◌, ◌+◌, ◌*◌, ◌/◌, Bool, true, false, cond, leb, eqb, nat_eq, ◌&&◌, List, [], ◌∷◌, ◌++◌, length, take, drop, Option, Some, None}
-use Rattle.std.proofs.Common.{refl, sym, ap, ◌∙◌, arith, inl, inr}
-use Rattle.std.specs.Prelude.{codes, ◌⊎◌, ◌==◌, if◌then◌else◌}
+use Rattle.std.proofs.Common.{refl, sym, ap, subst, ◌∙◌, arith, inl, inr}
+use Rattle.std.specs.Prelude.{codes, ◌⊎◌}
 use Rattle.std.specs.List.{flat_map, AllByRecursion, starts_with}
 use Rattle.std.proofs.lemmas.Bool.{eqb-true, eqb-false, eq-eqb, ne_eqb, leb-true, le-leb, and_parts, and_from}
 use Rattle.std.proofs.lemmas.Bool.Decides.{Decides-eqb}
@@ -11,6 +11,7 @@ use Rattle.std.proofs.lemmas.List.Concat.{flat_map-append}
 use Rattle.std.proofs.lemmas.Slice.Eq.{starts_is}
 use Rattle.std.proofs.lemmas.Option.{cond_some}
 use Rattle.base64.specs.GeneralPurpose.{IsBytes}
+use Rattle.age_stanza.specs.inner.BytesBefore.{whole_lines}
 use Rattle.age_stanza.specs.inner.LineMachine.{base64_bytes, arguments_from, arguments_of, mac_of, whole_mac}
 use Rattle.age_stanza.specs.Text.{base64_text}
 use Rattle.age_stanza.specs.Grammar.{line, IsArgument, argument_line, in_lines, end_line}
@@ -22,9 +23,9 @@ pub chosen : {A : Type 0} (b : Bool) (x y z : A) → cond b x y ≡ z → ((b �
 chosen true x y z e = inl (refl, e)
 chosen false x y z e = inr (refl, e)
 
-known_test : (b : Bool) → cond b true false ≡ b
-known_test true = refl
-known_test false = refl
+pub by_cases : (b : Bool) → cond b true false ≡ b
+by_cases true = refl
+by_cases false = refl
 
 -- ---- what a line starts with
 
@@ -36,72 +37,61 @@ starts_from s p rest e = (starts_is Decides-eqb s p (starts_with nat_eq s p) ref
 
 -- ---- a text in lines
 
--- the same character by character, where k characters of a line stand already
-unfoldable pub lines_from : ℕ → List ℕ → List ℕ
-lines_from k [] = 10 ∷ []
-lines_from k (c ∷ cs) = c ∷ (if k == 63 then 10 ∷ lines_from 0 cs else lines_from (k + 1) cs)
-
-lines_from-full : (k : ℕ) (l rest : List ℕ) → k + length l ≡ 64 → 0 < length l → lines_from k (l ++ rest) ≡ line l ++ lines_from 0 rest
-unfolding lines_from
-lines_from-full k [] rest e some = absurd (omega arith)
-lines_from-full k (c ∷ []) rest e some =
-    let last : k ≡ 63 = omega arith in
-    rw (eq-eqb k 63 last) refl
-lines_from-full k (c ∷ d ∷ ds) rest e some =
-    let before : k ≡ 63 → ⊥ = λ last. omega arith in
-    let next : k + 1 + length (d ∷ ds) ≡ 64 = omega arith in
-    let more : 0 < length (d ∷ ds) = omega arith in
-    rw (ne_eqb k 63 before) (ap (λ (xs : List ℕ). c ∷ xs) (lines_from-full (k + 1) (d ∷ ds) rest next more))
-
-lines_from-short : (k : ℕ) (l : List ℕ) → k + length l < 64 → lines_from k l ≡ line l
-unfolding lines_from
-lines_from-short k [] lt = refl
-lines_from-short k (c ∷ cs) lt =
-    let before : k ≡ 63 → ⊥ = λ last. omega arith in
-    rw (ne_eqb k 63 before) (ap (λ (xs : List ℕ). c ∷ xs) (lines_from-short (k + 1) cs (omega arith)))
-
-abbrev lines_and_last : ℕ → List ℕ → List ℕ
-lines_and_last n cs = flat_map line (first_chunks 64 n cs) ++ line (drop (n * 64) cs)
+pub whole_lines-full : (l rest : List ℕ) → length l ≡ 64 → whole_lines (l ++ rest) ≡ line l ++ whole_lines rest
+unfolding whole_lines
+whole_lines-full l rest len =
+    let n = length rest / 64 in
+    let all = l ++ rest in
+    let count : length all / 64 ≡ suc n = omega (arith, length-append l rest, len) in
+    let front : take 64 all ≡ l = take_at l rest 64 len in
+    let after : drop 64 all ≡ rest = drop_at l rest 64 len in
+    ap (λ (k : ℕ). flat_map line (first_chunks 64 k all)) count
+    ∙ (ap (λ (a : List ℕ). line a ++ flat_map line (first_chunks 64 n (drop 64 all))) front
+    ∙ ap (λ (b : List ℕ). line l ++ flat_map line (first_chunks 64 n b)) after)
 
 pub in_lines-short : (l : List ℕ) → length l < 64 → in_lines l ≡ line l
 unfolding in_lines
 in_lines-short l lt =
     let none : length l / 64 ≡ 0 = omega arith in
-    ap (λ (n : ℕ). lines_and_last n l) none
+    ap (λ (n : ℕ). flat_map line (first_chunks 64 n l) ++ line (drop (n * 64) l)) none
 
 pub in_lines-full : (l rest : List ℕ) → length l ≡ 64 → in_lines (l ++ rest) ≡ line l ++ in_lines rest
-unfolding in_lines
+unfolding in_lines whole_lines
 in_lines-full l rest len =
     let n = length rest / 64 in
     let all = l ++ rest in
-    let count : length all / 64 ≡ suc n = omega (arith, length-append l rest, len) in
-    let front : take 64 all ≡ l = take_at l rest 64 len in
-    let behind : drop 64 all ≡ rest = drop_at l rest 64 len in
-    let size : suc n * 64 ≡ 64 + n * 64 = omega arith in
-    let last : drop (suc n * 64) all ≡ drop (n * 64) rest =
-    ap (λ (k : ℕ). drop k all) size ∙ (sym (drop-drop (n * 64) 64 all) ∙ ap (drop (n * 64)) behind) in
-    ap (λ (k : ℕ). lines_and_last k all) count
-    ∙ (ap (λ (a : List ℕ). (line a ++ flat_map line (first_chunks 64 n (drop 64 all))) ++ line (drop (suc n * 64) all)) front
-    ∙ (ap (λ (b : List ℕ). (line l ++ flat_map line (first_chunks 64 n b)) ++ line (drop (suc n * 64) all)) behind
-    ∙ (ap (λ (d : List ℕ). (line l ++ flat_map line (first_chunks 64 n rest)) ++ line d) last
-    ∙ append_assoc (line l) (flat_map line (first_chunks 64 n rest)) (line (drop (n * 64) rest)))))
+    let count : length all / 64 * 64 ≡ 64 + n * 64 = omega (arith, length-append l rest, len) in
+    let last : drop (length all / 64 * 64) all ≡ drop (n * 64) rest =
+    ap (λ (k : ℕ). drop k all) count ∙ sym (drop-drop (n * 64) 64 all) ∙ ap (drop (n * 64)) (drop_at l rest 64 len) in
+    ap (λ (w : List ℕ). w ++ line (drop (length all / 64 * 64) all)) (whole_lines-full l rest len)
+    ∙ ap (λ (d : List ℕ). (line l ++ whole_lines rest) ++ line d) last
+    ∙ append_assoc (line l) (whole_lines rest) (line (drop (n * 64) rest))
 
-is_by_count : (n : ℕ) (cs : List ℕ) → length cs / 64 ≡ n → in_lines cs ≡ lines_from 0 cs
-is_by_count zero cs e =
-    let short : length cs < 64 = omega (arith, e) in
-    in_lines-short cs short ∙ sym (lines_from-short 0 cs (omega (arith, short)))
-is_by_count (suc n) cs e =
+-- a text is fewer than 64 characters, or a line of 64 before such a text
+pub by_lines : (P : List ℕ → Type 0) → ((cs : List ℕ) → length cs < 64 → P cs) → ((l rest : List ℕ) → length l ≡ 64 → P rest → P (l ++ rest))
+    → (n : ℕ) (cs : List ℕ) → length cs / 64 ≡ n → P cs
+by_lines P short full zero cs e = short cs (omega (arith, e))
+by_lines P short full (suc n) cs e =
     let long : 64 ≤ length cs = omega (arith, e) in
     let len : length (take 64 cs) ≡ 64 = omega (arith, length-take 64 cs, long) in
     let fewer : length (drop 64 cs) / 64 ≡ n = omega (arith, length-drop 64 cs, e) in
-    let parts = take-append-drop 64 cs in
-    ap in_lines (sym parts)
-    ∙ (in_lines-full (take 64 cs) (drop 64 cs) len
-    ∙ (ap (λ (t : List ℕ). line (take 64 cs) ++ t) (is_by_count n (drop 64 cs) fewer)
-    ∙ (sym (lines_from-full 0 (take 64 cs) (drop 64 cs) (omega (arith, len)) (omega (arith, len))) ∙ ap (lines_from 0) parts)))
+    subst P (take-append-drop 64 cs) (full (take 64 cs) (drop 64 cs) len (by_lines P short full n (drop 64 cs) fewer))
 
-pub in_lines-is : (cs : List ℕ) → in_lines cs ≡ lines_from 0 cs
-in_lines-is cs = is_by_count (length cs / 64) cs refl
+-- a text in lines has an LF for each 64 characters, and one more
+pub length-in_lines : (cs : List ℕ) → length (in_lines cs) ≡ length cs + length cs / 64 + 1
+length-in_lines cs =
+    by_lines (λ (t : List ℕ). length (in_lines t) ≡ length t + length t / 64 + 1)
+    (λ t lt. omega (arith, lt, ap length (in_lines-short t lt), length-append t (10 ∷ [])))
+    (λ l rest len more. omega (
+      arith,
+      len,
+      more,
+      ap length (in_lines-full l rest len),
+      length-append (line l) (in_lines rest),
+      length-append l (10 ∷ []),
+      length-append l rest,
+    ))
+    (length cs / 64) cs refl
 
 -- ---- an argument line
 
@@ -223,13 +213,13 @@ bad_word : (done : List (List ℕ)) (word w cs : List ℕ) → EndsWord cs → A
     → (IsArgument (word ++ w) → ⊥)
     → arguments_from done word (w ++ cs) ≡ None
 unfolding arguments_from
-bad_word done word [] cs ends others visible bad = elim (chosen (eqb (length word) 0) true false (eqb (length word) 0) (known_test (eqb (length word) 0))) [
+bad_word done word [] cs ends others visible bad = elim (chosen (eqb (length word) 0) true false (eqb (length word) 0) (by_cases (eqb (length word) 0))) [
   | inl h ↦ no_word done word cs ends h.0
   | inr h ↦ absurd (bad (rw append-nil (some_length word h.0, visible)))
 ]
 bad_word done word (c ∷ w) cs ends others visible bad =
     let space : eqb c 32 ≡ false = ne_eqb c 32 others.0 in
-    elim (chosen (leb 33 c && leb c 126) true false (leb 33 c && leb c 126) (known_test (leb 33 c && leb c 126))) [
+    elim (chosen (leb 33 c && leb c 126) true false (leb 33 c && leb c 126) (by_cases (leb 33 c && leb c 126))) [
       | inl h ↦
           let parts = and_parts (leb 33 c) (leb c 126) h.0 in
           rw (

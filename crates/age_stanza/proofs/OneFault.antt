@@ -15,7 +15,7 @@ use Rattle.age_stanza.specs.declared.fault.HeadFault.{HeadFault}
 use Rattle.age_stanza.specs.declared.place.Place.{Place}
 use Rattle.age_stanza.specs.declared.place.Place.TheVariants.{Start, Between, InBody}
 use Rattle.age_stanza.specs.Grammar.{line, version, stanza_text, IsStanza, Spells}
-use Rattle.age_stanza.specs.Faults.{Begins, IsLine, AreLines, FirstFault, stanzas_text, IsEndLine, RefusesBetween, Refuses, line_after, IsLineFault, IsFault}
+use Rattle.age_stanza.specs.Faults.{Begins, IsLine, AreLines, FirstFault, stanzas_text, IsEndLine, RefusesBetween, RefusesLine, line_after, IsLineFault, IsFault}
 use Rattle.age_stanza.specs.inner.LineMachine.{Outcome, unfinished, ready, faulty, walk, mac_of}
 use Rattle.age_stanza.proofs.Texts.{IsBytes-take, IsBytes-tail, line_from_test}
 use Rattle.age_stanza.proofs.Lines.{All-front, end_line_read, read_end_line}
@@ -26,8 +26,8 @@ use Rattle.age_stanza.proofs.AnyPieces.{prefix_of}
 -- ---- the faulty line
 
 -- more lines after a faulty one begin no text
-never_behind : (before l y : List ℕ) → (Begins (before ++ line l) → ⊥) → Begins ((before ++ line l) ++ y) → ⊥
-never_behind before l y refused has = refused (has.0, y ++ has.1, subst (Spells has.0) (append_assoc (before ++ line l) y has.1) has.2)
+never_later : (before l y : List ℕ) → (Begins (before ++ line l) → ⊥) → Begins ((before ++ line l) ++ y) → ⊥
+never_later before l y refused has = refused (has.0, y ++ has.1, subst (Spells has.0) (append_assoc (before ++ line l) y has.1) has.2)
 
 begun_is_none : (before x : List ℕ) → AreLines (before ++ x) → IsLine x → length x ≡ 0
 begun_is_none before x (inl none) lined =
@@ -42,21 +42,21 @@ not_before bytes before l before' l' f g lt =
     let x = drop (length before) before' in
     let is : before' ≡ before ++ x = prefix_of before (line l ++ f.rest) before' (line l' ++ g.rest) both (omega arith) in
     let size : length before' ≡ length before + length x = ap length is ∙ length-append before x in
-    let behind : line l ++ f.rest ≡ x ++ (line l' ++ g.rest) =
+    let after : line l ++ f.rest ≡ x ++ (line l' ++ g.rest) =
     append_cancel_left before (line l ++ f.rest) (x ++ (line l' ++ g.rest)) (both ∙ ap (λ (t : List ℕ). t ++ (line l' ++ g.rest)) is
     ∙ append_assoc before x (line l' ++ g.rest)) in
     elim (cases_lt (length x) (length (line l))) [
       | inl short ↦
-          let front : l ≡ x ++ drop (length x) l = prefix_of x (line l' ++ g.rest) l (10 ∷ f.rest) (sym behind ∙ append_assoc l (10 ∷ []) f.rest)
+          let front : l ≡ x ++ drop (length x) l = prefix_of x (line l' ++ g.rest) l (10 ∷ f.rest) (sym after ∙ append_assoc l (10 ∷ []) f.rest)
           (omega (arith, length-append l (10 ∷ []))) in
           let lined : IsLine x = All-front (λ c. c ≡ 10 → ⊥) x (drop (length x) l) (subst IsLine front f.one_line) in
           let none = begun_is_none before x (subst AreLines is g.whole) lined in
           omega arith
       | inr long ↦
           let y = drop (length (line l)) x in
-          let on : x ≡ line l ++ y = prefix_of (line l) f.rest x (line l' ++ g.rest) behind long in
+          let on : x ≡ line l ++ y = prefix_of (line l) f.rest x (line l' ++ g.rest) after long in
           let all : before' ≡ (before ++ line l) ++ y = is ∙ ap (λ (t : List ℕ). before ++ t) on ∙ sym (append_assoc before (line l) y) in
-          never_behind before l y f.faulty (subst Begins all g.valid_before)
+          never_later before l y f.faulty (subst Begins all g.valid_before)
     ]
 
 same_front : (a x b y : List ℕ) → a ++ x ≡ b ++ y → length a ≡ length b → a ≡ b
@@ -83,9 +83,9 @@ same_line (x ∷ l) (y ∷ l') r r' p q e =
     let rest = same_line l l' r r' p.1 q.1 parts.1 in
     cc
 
--- ---- what is told of it
+-- ---- what is reported of it
 
-no_length : (l : List ℕ) → length l ≡ 0 → l ≡ []
+pub no_length : (l : List ℕ) → length l ≡ 0 → l ≡ []
 no_length [] e = refl
 no_length (x ∷ l) e = absurd (omega arith)
 
@@ -114,7 +114,7 @@ stanzas_unfinished ss valid =
     walk_go Start (Between []) 1 version (flat_map stanza_text ss) (line_from_test version refl) step_version
     ∙ ap (walk (Between []) 2 []) (sym (append-nil (flat_map stanza_text ss))) ∙ reach.1
 
-same_at : (before l : List ℕ) (k k' : HeadKind) (place : Place) (n : ℕ) → IsBytes l → At before place n → Refuses before l k → Refuses before l k' → k ≡ k'
+same_at : (before l : List ℕ) (k k' : HeadKind) (place : Place) (n : ℕ) → IsBytes l → At before place n → RefusesLine before l k → RefusesLine before l k' → k ≡ k'
 same_at before l k k' Start n fits at r r' =
     let none = nothing_before before n at in
     r.first none ∙ sym (r'.first none)
@@ -138,15 +138,15 @@ unfolding walk
 nothing_walked = refl
 
 -- where a walk over the lines before is over, they end in no place
-same_elsewhere : (before l : List ℕ) (k k' : HeadKind) → (walk Start 1 [] before ≡ unfinished → ⊥) → Refuses before l k → Refuses before l k' → k ≡ k'
+same_elsewhere : (before l : List ℕ) (k k' : HeadKind) → (walk Start 1 [] before ≡ unfinished → ⊥) → RefusesLine before l k → RefusesLine before l k' → k ≡ k'
 same_elsewhere before l k k' over r r' =
     let some : before ≡ [] → ⊥ = λ none. over (ap (walk Start 1 []) none ∙ nothing_walked) in
     let other : (ts : List Stanza) → AllByRecursion IsStanza ts → before ≡ stanzas_text ts → ⊥ = λ ts valid is. over (ap (walk Start 1 []) is
     ∙ stanzas_unfinished ts valid) in
     r.in_body some other ∙ sym (r'.in_body some other)
 
-same_kind : (before l : List ℕ) (k k' : HeadKind) (o : Outcome) → IsBytes before → IsBytes l → AreLines before → walk Start 1 [] before ≡ o → Refuses before l k
-    → Refuses before l k' → k ≡ k'
+same_kind : (before l : List ℕ) (k k' : HeadKind) (o : Outcome) → IsBytes before → IsBytes l → AreLines before → walk Start 1 [] before ≡ o → RefusesLine before l k
+    → RefusesLine before l k' → k ≡ k'
 same_kind before l k k' unfinished fits fits' whole is r r' =
     let p = passed [] [] before Start 1 at_start tt fits is in
     same_at before l k k' p.place p.n fits' (subst (λ (b : List ℕ). At b p.place p.n) (sym (whole_at before p whole)) p.at) r r'
@@ -164,15 +164,15 @@ same_fault f g k l = ap (λ (x : HeadKind). made x f.line) k ∙ ap (λ (n : ℕ
 same_line_fault : (bytes : List ℕ) (f g : HeadFault) → IsBytes bytes → IsLineFault bytes f → IsLineFault bytes g → f ≡ g
 same_line_fault bytes f g fits (before, l, first, line_is, refuses) (before', l', first', line_is', refuses') =
     let front : before ≡ before' = same_before bytes before l before' l' first first' in
-    let behind : line l ++ first.rest ≡ line l' ++ first'.rest =
+    let after : line l ++ first.rest ≡ line l' ++ first'.rest =
     append_cancel_left before (line l ++ first.rest) (line l' ++ first'.rest) (sym first.parts ∙ first'.parts
     ∙ ap (λ (t : List ℕ). t ++ (line l' ++ first'.rest)) (sym front)) in
-    let here : l ≡ l' = same_line l l' first.rest first'.rest first.one_line first'.one_line behind in
+    let here : l ≡ l' = same_line l l' first.rest first'.rest first.one_line first'.one_line after in
     let parts_fit : IsBytes (before ++ (line l ++ first.rest)) = subst IsBytes first.parts fits in
     let line_fits : IsBytes l = front_bytes l (10 ∷ first.rest) (subst IsBytes (append_assoc l (10 ∷ []) first.rest)
     (IsBytes-tail before (line l ++ first.rest) parts_fit)) in
-    let there : Refuses before l g.kind = subst (λ (m : List ℕ). Refuses before m g.kind) (sym here)
-    (subst (λ (b : List ℕ). Refuses b l' g.kind) (sym front) refuses') in
+    let there : RefusesLine before l g.kind = subst (λ (m : List ℕ). RefusesLine before m g.kind) (sym here)
+    (subst (λ (b : List ℕ). RefusesLine b l' g.kind) (sym front) refuses') in
     same_fault f g
     (same_kind before l f.kind g.kind (walk Start 1 [] before) (front_bytes before (line l ++ first.rest) parts_fit) line_fits first.whole refl refuses there)
     (line_is ∙ ap line_after front ∙ sym line_is')

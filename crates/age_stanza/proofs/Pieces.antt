@@ -10,7 +10,7 @@ use Rattle.age_stanza.specs.declared.place.Place.TheVariants.{Start}
 use Rattle.age_stanza.specs.Grammar.{head_text, HeadText}
 use Rattle.age_stanza.specs.inner.LineMachine.{unfinished, ready, faulty, walk}
 use Rattle.age_stanza.specs.Faults.{memory_fault, HasHeader, IsFault, line_after}
-use Rattle.age_stanza.specs.inner.Retelling.{IsUnderWay}
+use Rattle.age_stanza.specs.inner.BytesBefore.{IsUnderWay}
 use Rattle.age_stanza.specs.declared.fault.HeadKind.TheVariants.{HeadTooLong}
 use Rattle.age_stanza.proofs.FaultLaws.{line_fault, no_fault, not_ready}
 use Rattle.age_stanza.proofs.Places.{found}

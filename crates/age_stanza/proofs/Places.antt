@@ -223,7 +223,7 @@ pub record Found (place : Place) (l bs : List ℕ) (h : Header) (rest : List ℕ
   pub split : l ++ bs ≡ t ++ rest
   pub follows : Follows place h t
 
-parts_of_ready : (h k : Header) (x y : List ℕ) → ready h x ≡ ready k y → (h ≡ k) × (x ≡ y)
+pub parts_of_ready : (h k : Header) (x y : List ℕ) → ready h x ≡ ready k y → (h ≡ k) × (x ≡ y)
 parts_of_ready h k x y e = (cc, cc)
 
 ended_line : (l : List ℕ) (c : ℕ) (cs rest : List ℕ) → c ≡ 10 → cs ≡ rest → l ++ c ∷ cs ≡ line l ++ rest

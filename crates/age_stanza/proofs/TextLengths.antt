@@ -1,11 +1,10 @@
 -- How long the texts of a header are.
-use Rattle.std.proofs.Common.{◌≡◌, ℕ, ◌<◌, ◌≤◌, ◌+◌, ◌-◌, ◌*◌, ◌/◌, Bool, true, false, cond, eqb, List, [], ◌∷◌, ◌++◌, length, get_or, drop, is_some, Option}
+use Rattle.std.proofs.Common.{◌≡◌, ℕ, ◌<◌, ◌≤◌, ◌+◌, ◌-◌, ◌*◌, ◌/◌, true, List, [], ◌∷◌, ◌++◌, length, get_or, drop, is_some, Option}
 use Rattle.std.proofs.Common.{Some, None, refl, sym, ap, ◌∙◌, arith, inl, inr}
-use Rattle.std.specs.Prelude.{◌⊎◌}
 use Rattle.std.specs.List.{flat_map, AllByRecursion}
 use Rattle.std.specs.Option.{SomeIff}
 use Rattle.std.specs.Int.{div_ceil}
-use Rattle.std.proofs.lemmas.Bool.{eqb-true, eqb-false, cases_lt}
+use Rattle.std.proofs.lemmas.Bool.{cases_lt}
 use Rattle.std.proofs.lemmas.List.{length-append, drop_more, drop_all}
 use Rattle.base64.specs.GeneralPurpose.{IsBytes}
 use Rattle.age_stanza.specs.declared.header.Stanza.{Stanza}
@@ -13,42 +12,12 @@ use Rattle.age_stanza.specs.declared.header.Header.{Header}
 use Rattle.age_stanza.specs.Text.{base64_text}
 use Rattle.age_stanza.specs.inner.Lengths.{HasArguments, Leaves, IsTextLength}
 use Rattle.age_stanza.specs.Grammar.{line, version, in_lines, stanza_text, end_line, head_text, IsStanza, HasText}
-use Rattle.age_stanza.proofs.Lines.{chosen, lines_from, in_lines-is}
+use Rattle.age_stanza.proofs.Lines.{length-in_lines}
 use Rattle.age_stanza.proofs.Texts.{length-text}
-
-by_cases : (b : Bool) → cond b true false ≡ b
-by_cases true = refl
-by_cases false = refl
-
-lines_from-cases : (k c : ℕ) (cs : List ℕ) → ((k ≡ 63) × (lines_from k (c ∷ cs) ≡ c ∷ 10 ∷ lines_from 0 cs))
-    ⊎ ((k ≡ 63 → ⊥) × (lines_from k (c ∷ cs) ≡ c ∷ lines_from (k + 1) cs))
-unfolding lines_from
-lines_from-cases k c cs = elim (chosen (eqb k 63) true false (eqb k 63) (by_cases (eqb k 63))) [
-  | inl h ↦ inl (eqb-true k 63 h.0, rw (h.0) refl)
-  | inr h ↦ inr (eqb-false k 63 h.0, rw (h.0) refl)
-]
-
--- a text in lines has an LF for each 64 characters, and one more
-length-lines_from : (k : ℕ) (t : List ℕ) → k < 64 → length (lines_from k t) ≡ length t + (k + length t) / 64 + 1
-unfolding lines_from
-length-lines_from k [] lt = omega arith
-length-lines_from k (c ∷ cs) lt = elim (lines_from-cases k c cs) [
-  | inl h ↦
-      let last = h.0 in
-      let size = ap length h.1 in
-      let rest = length-lines_from 0 cs (omega arith) in
-      omega arith
-  | inr h ↦
-      let other = h.0 in
-      let before : k + 1 < 64 = omega arith in
-      let size = ap length h.1 in
-      let rest = length-lines_from (k + 1) cs before in
-      omega arith
-]
 
 pub length-body : (body : List ℕ) → length (in_lines (base64_text body)) ≡ (4 * length body + 2) / 3 + (4 * length body + 2) / 3 / 64 + 1
 length-body body =
-    let lines = ap length (in_lines-is (base64_text body)) ∙ length-lines_from 0 (base64_text body) (omega arith) in
+    let lines = length-in_lines (base64_text body) in
     let size = length-text body in
     omega arith
 

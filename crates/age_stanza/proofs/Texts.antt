@@ -1,7 +1,7 @@
 -- The text of bytes, and the bytes of a text.
 use Rattle.std.proofs.Common.{◌≡◌, ℕ, zero, suc, ◌+◌, ◌≤◌, ◌*◌, ◌/◌, ◌%◌, true, not, ltb, eqb, List, [], ◌∷◌, ◌++◌, length, get_or, take, drop, Option, Some}
 use Rattle.std.proofs.Common.{None, Result, Ok, Err, refl, sym, ap, subst, ◌∙◌, arith}
-use Rattle.std.specs.List.{list_all, AllByRecursion}
+use Rattle.std.specs.List.{list_all}
 use Rattle.std.specs.Prelude.{IfOk, IfErr, IfSome, IfNone}
 use Rattle.std.specs.Result.{result_ok}
 use Rattle.std.proofs.lemmas.Bool.{ltb-true, lt-ltb, and_parts, and_from, eqb-false, not-true}
@@ -14,6 +14,7 @@ use Rattle.base64.specs.declared.decode.DecodeError.{DecodeError}
 use Rattle.base64.proofs.EngineFacts.{decode_of-encode_of, decode_of_strict, encode_of-append, front_bytes}
 use Rattle.base64.proofs.RoundTrip.{length-encode_symbols}
 use Rattle.age_stanza.specs.Text.{base64_text}
+use Rattle.age_stanza.specs.Faults.{IsLine}
 use Rattle.age_stanza.specs.Laws.{character}
 use Rattle.age_stanza.specs.inner.LineMachine.{base64_bytes, only_bytes}
 
@@ -124,9 +125,6 @@ unfolding base64_text
 decoded-text b fits = sym (decoded_is (encode_of standard_no_pad b) b (decode_of-encode_of standard_no_pad b refl fits) fits)
 
 -- ---- no line ends inside a text
-
-abbrev pub IsLine : List ℕ → Type 0
-IsLine l = AllByRecursion (λ c. c ≡ 10 → ⊥) l
 
 pub IsLine-append : (a b : List ℕ) → IsLine a → IsLine b → IsLine (a ++ b)
 IsLine-append [] b f g = g

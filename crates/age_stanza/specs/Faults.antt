@@ -32,11 +32,14 @@ AreLines bytes = (bytes ≡ []) ⊎ ((lines : List ℕ) × (bytes ≡ line lines
 -- l is the first line, after the lines before it, with which no header's text begins
 pub record FirstFault (bytes before l : List ℕ) : Type 0 where
   pub rest : List ℕ
+  -- the bytes are the lines before it, the line and a rest
   pub parts : bytes ≡ before ++ (line l ++ rest)
   pub whole : AreLines before
   pub one_line : IsLine l
+  -- some header's text begins with the lines before it
   pub valid_before : Begins before
-  pub faulty : Begins (before ++ line l) → ⊥
+  -- and none with the line too
+  pub faulty : ¬ Begins (before ++ line l)
 
 -- the version line and whole stanzas
 abbrev pub stanzas_text : List Stanza → List ℕ
@@ -48,8 +51,11 @@ IsEndLine l = (mac : List ℕ) × (length mac ≡ 32) × IsBytes mac × (l ≡ e
 
 -- what is reported of such a line between stanzas
 pub record RefusesBetween (l : List ℕ) (kind : HeadKind) : Type 0 where
+  -- an end line is faulty only before the first stanza
   pub no_stanza : IsEndLine l → kind ≡ NoStanza
-  pub bad_end : starts_with nat_eq l (codes "---") ≡ true → (IsEndLine l → ⊥) → kind ≡ BadEndLine
+  -- a line that begins as one, but isn't one
+  pub bad_end : starts_with nat_eq l (codes "---") ≡ true → ¬ IsEndLine l → kind ≡ BadEndLine
+  -- any other line would have to be an argument line
   pub bad_stanza : starts_with nat_eq l (codes "---") ≡ false → kind ≡ BadStanzaLine
 
 -- the first line of an armored file
@@ -57,11 +63,14 @@ abbrev pub armor : List ℕ
 armor = codes "-----BEGIN AGE ENCRYPTED FILE-----"
 
 -- what is reported of such a line, by its place
-pub record Refuses (before l : List ℕ) (kind : HeadKind) : Type 0 where
+pub record RefusesLine (before l : List ℕ) (kind : HeadKind) : Type 0 where
+  -- the first line is that of an armored file, or of no age file
   pub first : before ≡ []
       → kind ≡ (if bytes_eq l armor || bytes_eq l (armor ++ 13 ∷ []) then Armored else NotAge)
+  -- a line after the version line and whole stanzas
   pub between : (ss : List Stanza) → AllByRecursion IsStanza ss → before ≡ stanzas_text ss
       → RefusesBetween l kind
+  -- any other line is one of a body
   pub in_body : before ≢ []
       → ((ss : List Stanza) → AllByRecursion IsStanza ss → before ≢ stanzas_text ss)
       → kind ≡ BadBody
@@ -82,7 +91,7 @@ NoFault bytes = (before l : List ℕ) → FirstFault bytes before l → ⊥
 -- the fault of the first faulty line
 abbrev pub IsLineFault : List ℕ → HeadFault → Type 0
 IsLineFault bytes fault = (before : List ℕ) × (l : List ℕ) × FirstFault bytes before l
-    × (fault.line ≡ line_after before) × Refuses before l fault.kind
+    × (fault.line ≡ line_after before) × RefusesLine before l fault.kind
 
 -- what is reported of bytes that begin with no header, by the first of them, as many as a header
 -- has at most: the first faulty line; else, where there are so many, that the header is too long,

@@ -1,5 +1,5 @@
 -- Laws over the definitions alone.
-use Rattle.std.specs.Prelude.{◌≡◌, ◌<◌, ◌+◌, ◌*◌, ◌/◌, ◌%◌, ◌++◌, ◌∷◌, []}
+use Rattle.std.specs.Prelude.{◌≡◌, ◌+◌, ◌*◌, ◌/◌, ◌%◌, ◌++◌, ◌∷◌, []}
 use Rattle.std.specs.Prelude.{ℕ, List, length, codes}
 use Rattle.std.specs.Prelude.{slice_index}
 use Rattle.base64.specs.GeneralPurpose.{IsBytes, engine_symbols}
@@ -7,7 +7,7 @@ use Rattle.base64.specs.Engines.{standard_no_pad}
 use Rattle.age_stanza.specs.declared.header.Header.{Header}
 use Rattle.age_stanza.specs.declared.fault.HeadFault.{HeadFault}
 use Rattle.age_stanza.specs.Text.{base64_text}
-use Rattle.age_stanza.specs.Grammar.{line, in_lines, Spells, HeadText}
+use Rattle.age_stanza.specs.Grammar.{Spells, HeadText}
 use Rattle.age_stanza.specs.MacText.{mac_text}
 use Rattle.age_stanza.specs.Faults.{HasHeader, IsFault}
 
@@ -31,21 +31,13 @@ Alphabet =
 -- what is reported of a prefix of some bytes is reported of them all
 abbrev pub FaultsStay : Type 0
 FaultsStay = (prefix rest : List ℕ) (fault : HeadFault)
-    → (HasHeader prefix → ⊥) → IsFault prefix fault
-    → (HasHeader (prefix ++ rest) → ⊥) × IsFault (prefix ++ rest) fault
+    → ¬ HasHeader prefix → IsFault prefix fault
+    → (¬ HasHeader (prefix ++ rest)) × IsFault (prefix ++ rest) fault
 
 -- what the MAC covers is the header's text without its last 45 bytes
 abbrev pub MacTextIsFront : Type 0
 MacTextIsFront = (h : Header) (bytes : List ℕ) → HeadText h bytes
     → (last : List ℕ) × (length last ≡ 45) × (bytes ≡ mac_text h ++ last)
-
--- a text in lines is lines of 64 characters, one for each 64 of the text, and a last one with the
--- fewer than 64 that are left
-abbrev pub LinesOf64 : Type 0
-LinesOf64 =
-    ((characters rest : List ℕ) → length characters ≡ 64
-    → in_lines (characters ++ rest) ≡ line characters ++ in_lines rest)
-    × ((characters : List ℕ) → length characters < 64 → in_lines characters ≡ line characters)
 
 -- the character of six bits; `Alphabet` says which it is
 abbrev pub character : ℕ → ℕ

@@ -26,7 +26,7 @@ IsParsing (refused fault) = Unit {0}
 abbrev pub IsOpen : Parsing → Type 0
 IsOpen parsing = parsing ≢ complete
 
--- what is answered to a piece, and what the parser then is: a header exactly where a prefix of the
+-- what is returned for a piece, and what the parser then is: a header exactly where a prefix of the
 -- joined bytes is its text; else the first fault of the joined bytes; else more is asked for. An
 -- empty piece is refused only after an earlier refusal, which stays
 abbrev pub Feeds : Parsing → List ℕ → Result HeadStep HeadFault → Parsing → Type 0
@@ -41,7 +41,7 @@ Feeds (reading held) piece (Err fault) new = (new ≡ refused fault)
 Feeds complete piece result new = Unit {0}
 Feeds (refused fault) piece result new = (result ≡ Err fault) × (new ≡ refused fault)
 
--- what is answered to the end of the input: that the header is cut, in the line that the end comes
+-- what is returned at the end of the input: that the header is cut, in the line that the end comes
 -- in, or the earlier fault
 abbrev pub Cuts : Parsing → HeadFault → Parsing → Type 0
 Cuts (reading held) fault new = (fault ≡ record { kind = HeadCut; line = line_after held })

@@ -1,5 +1,5 @@
 pub mod Closing
 pub mod Lengths
 pub mod LineMachine
-pub mod Retelling
+pub mod BytesBefore
 pub mod Steps

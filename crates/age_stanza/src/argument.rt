@@ -2,6 +2,7 @@
 
 ghost use Rattle.std.specs.Prelude.{◌≡◌, ◌↔◌, ◌<◌, [], length, IsTrue, IfOk, OnErr};
 
+use crate::list::List;
 use arrayvec::ArrayVec;
 use std::alloc::{AllocError, Global};
 use std::marker::Model;
@@ -84,3 +85,6 @@ impl PartialEq for Argument {
         self.as_slice() == other.as_slice()
     }
 }
+
+/// The arguments of a stanza, the first of which is its type.
+pub type Arguments = List<Argument>;

@@ -47,9 +47,9 @@ fn put_body(out: &mut Vec<u8>, body: &[u8]) -> Result<(), AllocError>
 {
     let mut rest = body;
     while rest.len() >= LINE_BYTES {
-        let (line, behind) = rest.split_at(LINE_BYTES);
+        let (line, after) = rest.split_at(LINE_BYTES);
         put_line(out, line)?;
-        rest = behind;
+        rest = after;
     }
     put_line(out, rest)
 }

@@ -1,8 +1,8 @@
-//! What a step of the parser returns.
+//! What the parser returns for a piece.
 
 use crate::header::Header;
 
-/// What a piece led to.
+/// What a piece led to, beside a fault.
 #[derive(Debug, Drop)]
 pub enum HeadStep {
     /// The bytes so far are the beginning of a header; the whole piece was taken.

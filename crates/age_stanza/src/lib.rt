@@ -9,7 +9,7 @@
 //! payload follows at once.
 //!
 //! A [`Header`] has recipient [`Stanzas`] and a MAC. A [`Stanza`] has [`Arguments`], each an
-//! [`Argument`], and a body, which is [`Bytes`].
+//! [`Argument`], and a body, which is [`Bytes`]. Each of the three is a [`List`].
 //!
 //! [`HeadParser`] takes a file's bytes in pieces, however they are cut, and returns the header as
 //! soon as its last byte came, or the first fault with its line. It accepts exactly the texts of
@@ -19,13 +19,13 @@
 #![tactic(auto)]
 
 mod argument;
-mod arguments;
-mod bytes;
+mod argument_line;
 mod encode;
 mod fault;
 mod head_step;
 mod header;
 mod laws;
+mod list;
 mod parser;
 mod partial;
 mod piece;
@@ -33,16 +33,15 @@ mod place;
 mod text;
 mod valid;
 
-pub use argument::Argument;
-pub use bytes::{Arguments, Bytes};
+pub use argument::{Argument, Arguments};
 pub use encode::{encode_head, mac_text};
 pub use fault::{HeadFault, HeadKind};
 pub use head_step::HeadStep;
 pub use header::{Header, Stanza, Stanzas};
 pub use laws::{
-    alphabet, any_pieces, faults_stay, lines_of_64, mac_text_is_front, one_fault, one_header,
-    text_is_base64,
+    alphabet, any_pieces, faults_stay, mac_text_is_front, one_fault, one_header, text_is_base64,
 };
+pub use list::{Bytes, List};
 pub use parser::HeadParser;
 pub use text::read_base64;
 pub use valid::{is_argument, is_header};

@@ -6,7 +6,7 @@ ghost use Rattle.age_stanza.specs.Grammar.{header_limit};
 ghost use Rattle.age_stanza.specs.Faults.{line_after, memory_fault, IsLine};
 ghost use Rattle.age_stanza.specs.inner.LineMachine.{fault_at as spec_fault_at, Gives};
 ghost use Rattle.age_stanza.specs.inner.LineMachine.{step as step_of};
-ghost use Rattle.age_stanza.specs.inner.Retelling.{IsUnderWay};
+ghost use Rattle.age_stanza.specs.inner.BytesBefore.{IsUnderWay};
 
 use crate::fault::{HeadFault, HeadKind, MEMORY};
 use crate::header::Header;
@@ -15,9 +15,9 @@ use std::alloc::Global;
 use std::marker::Model;
 use std::mem;
 
-/// The part of a header that came so far: what its finished lines hold, and
-/// the line that isn't finished. No finished line is kept as it came. A
-/// contract sees the bytes that came.
+/// What an open parser holds: the place of the line that isn't finished, which has what the finished
+/// lines held, and the characters of that line. No finished line is kept as it came. A contract sees
+/// the bytes that came.
 #[derive(Drop)]
 pub(crate) struct PartialHeader {
     place: Place,
@@ -28,7 +28,7 @@ pub(crate) struct PartialHeader {
 
 impl Model for PartialHeader {
     ghost use Rattle.std.specs.Prelude.{ℕ, List, ◌++◌};
-    ghost use Rattle.age_stanza.specs.inner.Retelling.{bytes_before, IsPartial};
+    ghost use Rattle.age_stanza.specs.inner.BytesBefore.{bytes_before, IsPartial};
 
     ghost Value = { List ℕ };
 

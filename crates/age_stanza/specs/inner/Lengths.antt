@@ -20,7 +20,7 @@ abbrev pub LeavesAfterStanza : ℕ → Stanza → Option ℕ → Type 0
 LeavesAfterStanza room s (Some left) = (left + length (stanza_text s) ≡ room) × IsBytes s.body
 LeavesAfterStanza room s None = room < length (stanza_text s)
 
--- the length of a header's text, where it is within the limit; and what the types tell of the MAC
+-- the length of a header's text, where it is within the limit; and what the types show of the MAC
 -- and of the bytes
 abbrev pub IsTextLength : Header → Option ℕ → Type 0
 IsTextLength h (Some size) = (size ≡ length (head_text h)) × (size ≤ header_limit)

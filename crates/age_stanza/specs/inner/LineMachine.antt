@@ -103,7 +103,7 @@ walk place n l (c ∷ cs) =
     if c == 10 then after n cs (λ next. walk next (n + 1) [] cs) (step place l)
     else walk place n (l ++ c ∷ []) cs
 
--- what the code answers is what a function on lists gives, unless memory ran out
+-- what the code returns is what a function on lists gives, unless memory ran out
 abbrev pub Gives : Result Next HeadKind → Result Next HeadKind → Type 0
 Gives (Ok next) read = read ≡ Ok next
 Gives (Err kind) read = (kind ≡ Memory) ⊎ (read ≡ Err kind)

@@ -11,7 +11,7 @@ use Rattle.age_stanza.specs.declared.place.Place.TheVariants.{Start}
 use Rattle.age_stanza.specs.Grammar.{header_limit, HeadText}
 use Rattle.age_stanza.specs.Faults.{HasHeader, IsFault, memory_fault}
 use Rattle.age_stanza.specs.inner.LineMachine.{walk, ready, faulty}
-use Rattle.age_stanza.specs.inner.Retelling.{IsUnderWay}
+use Rattle.age_stanza.specs.inner.BytesBefore.{IsUnderWay}
 
 -- the LF after some bytes
 abbrev pub EndsLine : List ℕ → Result (Option Header) HeadFault → List ℕ → Type 0
@@ -36,4 +36,4 @@ TakesPiece held piece (Ok More) new = (new ≡ held ++ piece)
 TakesPiece held piece (Ok (Ready taken h)) new = (taken ≤ length piece)
     × HeadText h (held ++ take taken piece)
 TakesPiece held piece (Err fault) new = ((fault ≡ memory_fault)
-    ⊎ ((HasHeader (held ++ piece) → ⊥) × IsFault (held ++ piece) fault)) × (0 < length piece)
+    ⊎ ((¬ HasHeader (held ++ piece)) × IsFault (held ++ piece) fault)) × (0 < length piece)

@@ -6,10 +6,11 @@ ghost use Rattle.age_stanza.specs.inner.LineMachine.{AddsLine};
 ghost use Rattle.age_stanza.specs.inner.LineMachine.{arguments_of as spec_arguments_of};
 
 use super::{ARMOR, ARMOR_CR, Next, Place, VERSION};
-use crate::arguments::arguments_of;
-use crate::bytes::{Arguments, Bytes};
+use crate::argument::Arguments;
+use crate::argument_line::arguments_of;
 use crate::fault::HeadKind;
 use crate::header::{Header, Stanza, Stanzas};
+use crate::list::Bytes;
 use crate::text::{LINE_BYTES, decode_line, mac_of};
 use std::alloc::Global;
 

@@ -1,15 +1,13 @@
 use Rattle.std.proofs.Common.{◌≡◌, ◌++◌, ◌∷◌, ◌∙◌, ℕ, List, [], length, arith}
 use Rattle.std.specs.Prelude.{codes}
 use Rattle.std.specs.List.{flat_map}
-use Rattle.std.proofs.lemmas.List.{append_assoc, length-append}
+use Rattle.std.proofs.lemmas.List.{length-append}
 use Rattle.age_stanza.specs.declared.header.Header.{Header}
 use Rattle.age_stanza.specs.Text.{base64_text}
 use Rattle.age_stanza.specs.Grammar.{line, version, stanza_text, HeadText}
 use Rattle.age_stanza.proofs.Texts.{length-text}
+use Rattle.age_stanza.proofs.PlaceAfter.{regrouped}
 use Rattle.age_stanza.proofs.laws.mac_text_is_front.Goals as goal
-
-regrouped : (a b c d : List ℕ) → a ++ (b ++ (c ++ d)) ≡ (a ++ (b ++ c)) ++ d
-regrouped a b c d = simp append_assoc
 
 front_of : (h : Header) (bytes : List ℕ) → HeadText h bytes → (last : List ℕ) × (length last ≡ 45)
     × (bytes ≡ (line version ++ (flat_map stanza_text h.stanzas ++ codes "---")) ++ last)

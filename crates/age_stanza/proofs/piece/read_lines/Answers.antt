@@ -1,7 +1,7 @@
 use Rattle.std.proofs.Common.{◌+◌, length, ap, sym, arith, refl}
 use Rattle.std.proofs.lemmas.Result.{err_from_is_err_and}
 use Rattle.std.proofs.lemmas.List.{length-append, length-take, take_rest}
-use Rattle.age_stanza.proofs.LineEnds.{first_line, no_line, faulty_at, ready_at, left_behind}
+use Rattle.age_stanza.proofs.LineEnds.{first_line, no_line, faulty_at, ready_at, left_after}
 use Rattle.age_stanza.proofs.piece.read_lines.Goals as goal
 
 pub end_line-requires-clause-one_line : goal.end_line-requires-clause-one_line
@@ -35,7 +35,7 @@ returns-in-Some-2 c =
 pub loop-end-preserved : goal.loop-end-preserved
 loop-end-preserved c =
     let goes = rw (c.in_default-2.is) at c.in_ok-header.ensures in
-    rw (take_rest c.loop-end.rest.now (c.in-Some.end + 1)) (left_behind _ _ _ _ _ _ _ (first_line c.loop-end.rest.now c.in-Some.end (sym c.in-Some.ensures))
+    rw (take_rest c.loop-end.rest.now (c.in-Some.end + 1)) (left_after _ _ _ _ _ _ _ (first_line c.loop-end.rest.now c.in-Some.end (sym c.in-Some.ensures))
     c.loop-end.invariant refl goes)
 
 pub extend-requires-clause-one_line : goal.extend-requires-clause-one_line

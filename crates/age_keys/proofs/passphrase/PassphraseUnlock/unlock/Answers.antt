@@ -1,4 +1,7 @@
-use Rattle.std.proofs.Common.{◌≡◌, ◌∙◌, sym, arith}
+use Rattle.std.proofs.Common.{◌≡◌, ◌∙◌, sym, ap, arith}
+use Rattle.std.proofs.lemmas.Result.{err_from_is_err_and}
+use Rattle.age_keys.specs.Scrypt.{wrap_key}
+use Rattle.age_keys.proofs.PassphraseLemmas.{only_scrypt, found_or_wrong}
 use Rattle.age_keys.proofs.StanzaLemmas.{only_one, not_beside}
 use Rattle.age_keys.proofs.WorkFactorLemmas.{work_factor_some}
 use Rattle.age_keys.proofs.passphrase.PassphraseUnlock.unlock.Goals as goal
@@ -10,9 +13,9 @@ returns-in_default-read c =
     (rw slice at c.stanza-item.is) in (
       not_beside c.args.header.now c.stanza-item.result one,
       rw slice at (sym c.has_scrypt.ensures ∙ c.if-not-has_scrypt.false),
-      λ salt log body has.
-          let same : has.stanza ≡ c.stanza-item.result = cc (has.alone, one) in
-          c.in_default-read.ensures.none salt log body (rw same at has.valid),
+      λ only.
+          let same : only.stanza ≡ c.stanza-item.result = cc (only.alone, one) in
+          c.in_default-read.ensures.none only.salt only.log only.body (rw same at only.valid),
     )
 
 pub wrap_key-requires-clause-least : goal.wrap_key-requires-clause-least
@@ -22,3 +25,42 @@ wrap_key-requires-clause-least c =
     let is = read.2.log_is in
     let log = read.1 in
     omega arith
+
+pub returns-then-read-self : goal.returns-then-read-self
+returns-then-read-self c =
+    let slice = c.as_slice-stanzas.ensures in
+    let one = only_one c.args.header.now.stanzas c.stanza-item.result (rw slice at c.in-len1.len_at_least) (rw slice at c.in-len1.len_below)
+    (rw slice at c.stanza-item.is) in
+    let read = c.in-Some.ensures.read in
+    let least = read.1 in
+    let above = c.if-read-self.true in
+    rw (← c.self.view_is) (only_scrypt c.args.header.now c.stanza-item.result c.in-Some.read.salt read.0 c.in-Some.read.body one read.2, omega arith)
+
+pub returns-in_err-wrap_key : goal.returns-in_err-wrap_key
+returns-in_err-wrap_key c =
+    let slice = c.as_slice-stanzas.ensures in
+    let one = only_one c.args.header.now.stanzas c.stanza-item.result (rw slice at c.in-len1.len_at_least) (rw slice at c.in-len1.len_below)
+    (rw slice at c.stanza-item.is) in
+    let read = c.in-Some.ensures.read in
+    let least = read.1 in
+    let within = c.if-read-self.false in
+    let most = c.self.invariant.most_log in
+    let p = err_from_is_err_and c.from_residual.result c.from_residual.ensures.1 in
+    rw (p.1, p.2, c.in_err-wrap_key.ensures.memory, ← c.self.view_is)
+    (only_scrypt c.args.header.now c.stanza-item.result c.in-Some.read.salt read.0 c.in-Some.read.body one read.2, omega arith)
+
+pub returns : goal.returns
+returns c =
+    let slice = c.as_slice-stanzas.ensures in
+    let one = only_one c.args.header.now.stanzas c.stanza-item.result (rw slice at c.in-len1.len_at_least) (rw slice at c.in-len1.len_below)
+    (rw slice at c.stanza-item.is) in
+    let read = c.in-Some.ensures.read in
+    let least = read.1 in
+    let within = c.if-read-self.false in
+    let most = c.self.invariant.most_log in
+    let log_is : c.in-Some.read.log ≡ read.0 = omega arith in
+    let only = only_scrypt c.args.header.now c.stanza-item.result c.in-Some.read.salt read.0 c.in-Some.read.body one read.2 in
+    rw (← c.self.view_is)
+    (found_or_wrong _ c.args.header.now only c.in_ok-wrap_key.wrap_key c.unwrapped_key.result c.ok_or.result (omega arith)
+    (c.in_ok-wrap_key.ensures.key ∙ ap (wrap_key c.self.inside.bytes.now c.in-Some.read.salt) log_is) c.unwrapped_key.ensures.key c.unwrapped_key.ensures.none
+    c.ok_or.ensures.value)

@@ -7,8 +7,7 @@ ghost use Rattle.age_stanza.specs.Grammar.{IsArgument};
 ghost use Rattle.age_stanza.specs.inner.LineMachine.{arguments_from};
 ghost use Rattle.age_stanza.specs.inner.LineMachine.{arguments_of as spec_arguments_of};
 
-use crate::argument::Argument;
-use crate::bytes::Arguments;
+use crate::argument::{Argument, Arguments};
 use crate::valid::is_argument;
 use std::alloc::{AllocError, Global};
 

@@ -1,6 +1,6 @@
 use Rattle.std.proofs.Common.{◌≡◌, ◌≤◌, [], length}
 use Rattle.age_stanza.specs.inner.LineMachine.{arguments_from}
-use Rattle.age_stanza.proofs.arguments.push_all.Given as goal
+use Rattle.age_stanza.proofs.argument_line.push_all.Given as goal
 
 -- what is left gives the answer
 abbrev pub invariant-loop-end : goal.invariant-loop-end
