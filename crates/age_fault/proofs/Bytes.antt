@@ -1,4 +1,4 @@
--- Bytes that are told, one call after another; results in other words.
+-- Bytes that are shown, one call after another; results in other words.
 use Rattle.std.proofs.Common.{◌≡◌, ℕ, ◌+◌, ◌-◌, ◌^◌, min, List, ◌++◌, Option, Some, None, Result, Ok, Err, sym, ap}
 use Rattle.std.proofs.Common.{◌∙◌, append_assoc, inl, inr, arith}
 use Rattle.std.proofs.lemmas.Bool.{cases_lt}

@@ -1,14 +1,14 @@
--- Bytes that are told, one call after another.
+-- Bytes that are shown, one call after another.
 use Rattle.std.proofs.Common.{◌≡◌, ℕ, ◌≤◌, List, [], ◌++◌, length, take, drop, Option, Some, None, refl, sym, ap, subst}
 use Rattle.std.proofs.Common.{◌∙◌, append_assoc, append-nil, inl, inr, arith}
-use Rattle.std.specs.Prelude.{◌⊎◌}
+use Rattle.std.specs.Prelude.{◌⊎◌, IfSome}
 use Rattle.std.specs.Io.KnownBytes.{Consumes, IsAtEnd}
 use Rattle.std.proofs.lemmas.List.{append_cancel_left, length-append, take-append-drop}
 use Rattle.age_io.specs.Views.{SourceView}
 use Rattle.age_stanza.specs.declared.fault.HeadFault.{HeadFault}
 use Rattle.age_stanza.specs.declared.fault.HeadKind.{HeadKind}
 use Rattle.age_stanza.specs.declared.fault.HeadKind.TheVariants.{NotAge, Armored, BadStanzaLine, BadBody, BadEndLine, NoStanza, HeadTooLong, HeadCut, Memory}
-use Rattle.age_stanza.specs.Faults.{HasHeader, NoFault, IsFault, memory_fault}
+use Rattle.age_stanza.specs.Faults.{HasHeader, IsFault, memory_fault}
 use Rattle.std.proofs.KnownBytes.{Consumes-nil}
 use Rattle.age_stanza.proofs.AnyPieces.{more_fault}
 use Rattle.age_stanza.proofs.FinishedLines.{nothing_under_way}
@@ -16,13 +16,13 @@ use Rattle.age_stanza.proofs.Pieces.{none_held}
 use Rattle.age_stanza.proofs.FaultLaws.{no_fault}
 use Rattle.age_stream.specs.Headline.{IsPrefixOf}
 use Rattle.age_fault.proofs.Bytes.{Consumes-then}
-use Rattle.age_file.specs.Faults.{InHeader, IsCut, IsHeadFault, IsSourcesFault, TellsFault, StopsAtHeader, HeadFails}
-use Rattle.age_file.specs.inner.Faults.{StopsInHeader}
+use Rattle.age_file.specs.Faults.{pull_room, EndsInHeader, InHeader, IsCut, IsHeadFault, ReportsFault, StopsAtHeader, HeadFails}
 use Rattle.age_fault.specs.inner.Faults.{fault_of, fault_by_kind}
 use Rattle.age_fault.specs.declared.fault.FileFault.{FileFault}
-use Rattle.age_fault.specs.declared.fault.FileFault.TheVariants.{Read, ReadNeverEnds}
+use Rattle.age_fault.specs.declared.fault.FileFault.TheVariants.{Head, Read, ReadNeverEnds}
+use Rattle.age_fault.specs.declared.fault.FileFault.TheVariants.{Memory as FileMemory}
 use Rattle.age_file.specs.inner.Intakes.{Pulled, PullFails}
-use Rattle.age_file.specs.inner.Readers.{reader_view}
+use Rattle.age_file.specs.inner.Readers.{ReaderView, reader_view}
 use Rattle.age_fault.specs.Faults.{HasFailed}
 use Rattle.age_file.specs.inner.Unread.{Unread}
 
@@ -32,106 +32,98 @@ prefix_trans x y z p q = (p.0 ++ q.0, sym (append_assoc x p.0 q.0) ∙ (ap (λ (
 
 -- ---- headers
 
-pub stops_at : (old new : Option (List ℕ)) (held piece : List ℕ) → length piece ≤ 65536 → (HasHeader held → ⊥) → NoFault held → Consumes old new (held ++ piece)
+pub stops_at : (old new : Option (List ℕ)) (held piece : List ℕ) → length piece ≤ pull_room → EndsInHeader held → Consumes old new (held ++ piece)
     → StopsAtHeader old new
-stops_at old new held piece most none sound consumed = record {
+stops_at old new held piece most inside consumed = record {
   before = held;
   last = piece;
   read = consumed;
   few = most;
-  no_header = none;
-  no_fault = sound;
+  in_header = inside;
 }
 
 -- the last pull gave nothing
-pub stops_at_held : (old new : Option (List ℕ)) (held : List ℕ) → Consumes old new held → (HasHeader held → ⊥) → NoFault held → StopsAtHeader old new
-stops_at_held old new held consumed none sound =
-    stops_at old new held [] (omega arith) none sound (subst (λ (t : List ℕ). Consumes old new t) (sym (append-nil held)) consumed)
+pub stops_at_held : (old new : Option (List ℕ)) (held : List ℕ) → Consumes old new held → EndsInHeader held → StopsAtHeader old new
+stops_at_held old new held consumed inside =
+    stops_at old new held [] (omega arith) inside (subst (λ (t : List ℕ). Consumes old new t) (sym (append-nil held)) consumed)
 
 -- nothing was pulled
 pub stops_unread : (a : Option (List ℕ)) → StopsAtHeader a a
 stops_unread a =
     let started = nothing_under_way in
-    stops_at_held a a [] (Consumes-nil a) (none_held [] (omega arith) started.goes_on) (no_fault [] started.are_bytes started.goes_on)
+    stops_at_held a a [] (Consumes-nil a) (record {
+      no_header = none_held [] (omega arith) started.goes_on;
+      no_fault = no_fault [] started.are_bytes started.goes_on;
+      short = omega arith;
+    })
 
--- a fault that the bytes have is the fault that is told
+-- a fault that the bytes have is the fault that is reported
 fails_by_kind : (old new : SourceView) (kind : HeadKind) (fault : HeadFault) → StopsAtHeader old.remaining new.remaining
-    → TellsFault old.remaining new.remaining fault → HeadFails old new (fault_by_kind kind fault)
-fails_by_kind old new NotAge fault stops told = told
-fails_by_kind old new Armored fault stops told = told
-fails_by_kind old new BadStanzaLine fault stops told = told
-fails_by_kind old new BadBody fault stops told = told
-fails_by_kind old new BadEndLine fault stops told = told
-fails_by_kind old new NoStanza fault stops told = told
-fails_by_kind old new HeadTooLong fault stops told = told
-fails_by_kind old new HeadCut fault stops told = told
-fails_by_kind old new Memory fault stops told = stops
+    → ReportsFault old.remaining new.remaining fault → HeadFails InHeader old new (fault_by_kind kind fault)
+fails_by_kind old new NotAge fault stops reported = reported
+fails_by_kind old new Armored fault stops reported = reported
+fails_by_kind old new BadStanzaLine fault stops reported = reported
+fails_by_kind old new BadBody fault stops reported = reported
+fails_by_kind old new BadEndLine fault stops reported = reported
+fails_by_kind old new NoStanza fault stops reported = reported
+fails_by_kind old new HeadTooLong fault stops reported = reported
+fails_by_kind old new HeadCut fault stops reported = reported
+fails_by_kind old new Memory fault stops reported = stops
 
--- what is told of the bytes that were read is told of all that the source had
+-- what is reported of the bytes that were read is reported of all that the source had
+abbrev OfAll : Option (List ℕ) → HeadFault → Type 0
+OfAll old fault = IfSome old (λ (all : List ℕ). IsHeadFault all fault)
+
 whole_fault : (old new : Option (List ℕ)) (bytes : List ℕ) (fault : HeadFault) → Consumes old new bytes → (HasHeader bytes → ⊥) → IsFault bytes fault
-    → IsSourcesFault old fault
-whole_fault None new bytes fault consumed none told = tt
-whole_fault (Some all) None bytes fault consumed none told = absurd consumed
-whole_fault (Some all) (Some rest) bytes fault consumed none told =
-    let more = more_fault bytes rest fault none told in
+    → OfAll old fault
+whole_fault None new bytes fault consumed none is = tt
+whole_fault (Some all) None bytes fault consumed none is = absurd consumed
+whole_fault (Some all) (Some rest) bytes fault consumed none is =
+    let more = more_fault bytes rest fault none is in
     subst (λ (t : List ℕ). IsHeadFault t fault) (sym consumed) (more.0, inl more.1)
 
-whole_cut : (old new : Option (List ℕ)) (bytes : List ℕ) (fault : HeadFault) → Consumes old new bytes → IsAtEnd new → (HasHeader bytes → ⊥) → IsCut bytes fault
-    → IsSourcesFault old fault
-whole_cut None new bytes fault consumed ended none unwritten = tt
-whole_cut (Some all) None bytes fault consumed ended none unwritten = absurd consumed
-whole_cut (Some all) (Some rest) bytes fault consumed ended none unwritten =
+whole_cut : (old new : Option (List ℕ)) (bytes : List ℕ) (fault : HeadFault) → Consumes old new bytes → IsAtEnd new → IsCut bytes fault → OfAll old fault
+whole_cut None new bytes fault consumed ended cut = tt
+whole_cut (Some all) None bytes fault consumed ended cut = absurd consumed
+whole_cut (Some all) (Some rest) bytes fault consumed ended cut =
     let same : all ≡ bytes = consumed ∙ ap (λ (t : List ℕ). bytes ++ t) ended ∙ append-nil bytes in
-    subst (λ (t : List ℕ). IsHeadFault t fault) (sym same) (none, inr unwritten)
+    subst (λ (t : List ℕ). IsHeadFault t fault) (sym same) (cut.0.no_header, inr cut)
 
 -- the input ended inside the header
-pub end_fails : (old new : SourceView) (bytes : List ℕ) (fault : HeadFault) → StopsAtHeader old.remaining new.remaining
-    → Consumes old.remaining new.remaining bytes → IsAtEnd new.remaining → (HasHeader bytes → ⊥) → IsCut bytes fault
-    → HeadFails old new (fault_of fault)
-end_fails old new bytes fault stops consumed ended none unwritten =
-    fails_by_kind old new fault.kind fault stops (record {
+pub end_fails : (old new : SourceView) (bytes : List ℕ) (fault : HeadFault) → Consumes old.remaining new.remaining bytes → IsAtEnd new.remaining
+    → IsCut bytes fault → HeadFails InHeader old new (fault_of fault)
+end_fails old new bytes fault consumed ended cut =
+    fails_by_kind old new fault.kind fault (stops_at_held old.remaining new.remaining bytes consumed cut.0) (record {
       bytes = bytes;
       consumed = consumed;
-      no_header = none;
-      told = inr (ended, unwritten);
-      of_all = whole_cut old.remaining new.remaining bytes fault consumed ended none unwritten;
+      no_header = cut.0.no_header;
+      reports = inr (ended, cut);
+      of_all = whole_cut old.remaining new.remaining bytes fault consumed ended cut;
     })
 
 -- a piece that was refused
-pub piece_fails : (old new : SourceView) (held piece : List ℕ) (fault : HeadFault) → length piece ≤ 65536 → (HasHeader held → ⊥) → NoFault held
+pub piece_fails : (old new : SourceView) (held piece : List ℕ) (fault : HeadFault) → StopsAtHeader old.remaining new.remaining
     → Consumes old.remaining new.remaining (held ++ piece)
-    → (fault ≡ memory_fault) ⊎ ((HasHeader (held ++ piece) → ⊥) × IsFault (held ++ piece) fault) → HeadFails old new (fault_of fault)
-piece_fails old new held piece fault most none sound consumed (inl memory) =
-    subst (λ (f : HeadFault). HeadFails old new (fault_of f)) (sym memory) (stops_at old.remaining new.remaining held piece most none sound consumed)
-piece_fails old new held piece fault most none sound consumed (inr told) =
-    fails_by_kind old new fault.kind fault (stops_at old.remaining new.remaining held piece most none sound consumed)
-    (record {
+    → (fault ≡ memory_fault) ⊎ ((HasHeader (held ++ piece) → ⊥) × IsFault (held ++ piece) fault) → HeadFails InHeader old new (fault_of fault)
+piece_fails old new held piece fault stops consumed (inl memory) =
+    subst (λ (f : HeadFault). HeadFails InHeader old new (fault_of f)) (sym memory) stops
+piece_fails old new held piece fault stops consumed (inr is) =
+    fails_by_kind old new fault.kind fault stops (record {
       bytes = held ++ piece;
       consumed = consumed;
-      no_header = told.0;
-      told = inl told.1;
-      of_all = whole_fault old.remaining new.remaining (held ++ piece) fault consumed told.0 told.1;
+      no_header = is.0;
+      reports = inl is.1;
+      of_all = whole_fault old.remaining new.remaining (held ++ piece) fault consumed is.0 is.1;
     })
 
--- a header's fault is neither that of a pull nor that of too many
-told_by_kind : (old new : Option (List ℕ)) (kind : HeadKind) (fault : HeadFault) → StopsInHeader old new (fault_by_kind kind fault)
-told_by_kind old new NotAge fault = tt
-told_by_kind old new Armored fault = tt
-told_by_kind old new BadStanzaLine fault = tt
-told_by_kind old new BadBody fault = tt
-told_by_kind old new BadEndLine fault = tt
-told_by_kind old new NoStanza fault = tt
-told_by_kind old new HeadTooLong fault = tt
-told_by_kind old new HeadCut fault = tt
-told_by_kind old new Memory fault = tt
-
-pub told_early : (old new : Option (List ℕ)) (fault : HeadFault) → StopsInHeader old new (fault_of fault)
-told_early old new fault = told_by_kind old new fault.kind fault
-
-pub pull_early : (old new : Option (List ℕ)) (fault : FileFault) → InHeader old new → StopsInHeader old new fault
-pull_early old new Read h = h
-pull_early old new ReadNeverEnds h = h
-pull_early old new other h = tt
+-- the bytes are sound in another sense too
+pub sound_too : (P Q : Option (List ℕ) → Option (List ℕ) → Type 0) (old new : SourceView) (fault : FileFault)
+    → (P old.remaining new.remaining → Q old.remaining new.remaining) → HeadFails P old new fault → HeadFails Q old new fault
+sound_too P Q old new (Head x) sound f = f
+sound_too P Q old new Read sound f = (sound f.0, f.1)
+sound_too P Q old new FileMemory sound f = f
+sound_too P Q old new ReadNeverEnds sound f = (sound f.0, f.1)
+sound_too P Q old new other sound f = absurd f
 
 -- a refill that gave nothing
 pub cut_pulled : (start now : Option (List ℕ)) (pulls : ℕ) (held bytes : List ℕ) → bytes ≡ [] → Pulled start now pulls (held ++ bytes)
@@ -140,11 +132,20 @@ cut_pulled start now pulls held bytes none h = subst (λ (t : List ℕ). Pulled 
 
 -- a header was not read, since a pull gave nothing
 pub pull_fails : (old mid new : SourceView) (was now : Unread) (held : List ℕ) (fault : FileFault) → mid.failed ≡ old.failed
-    → Pulled old.remaining new.remaining now.pulls held
-    → PullFails (reader_view mid was) (reader_view new now) fault → HeadFails old new fault
-pull_fails old mid new was now held Read same all f = subst (λ (m : ℕ). HasFailed m new.failed new.failing) same f
-pull_fails old mid new was now held ReadNeverEnds same all f = (held, all.consumed, (omega (arith, all.each_gave, f.0), omega (arith, all.small, f.0)))
-pull_fails old mid new was now held other same all f = absurd f
+    → EndsInHeader held → Pulled old.remaining new.remaining now.pulls held
+    → PullFails (reader_view mid was) (reader_view new now) fault → HeadFails InHeader old new fault
+pull_fails old mid new was now held Read same inside all f =
+    ((held, all.consumed, inside), subst (λ (m : ℕ). HasFailed m new.failed new.failing) same f)
+pull_fails old mid new was now held ReadNeverEnds same inside all f =
+    ((held, all.consumed, inside), (held, all.consumed, (omega (arith, all.each_gave, f.0), omega (arith, all.small, f.0))))
+pull_fails old mid new was now held other same inside all f = absurd f
+
+-- no more came, after pulls none of which failed
+pub pull_fails_since : (old mid new : ReaderView) (fault : FileFault) → mid.source.failed ≡ old.source.failed → PullFails mid new fault
+    → PullFails old new fault
+pull_fails_since old mid new Read same f = subst (λ (m : ℕ). HasFailed m new.source.failed new.source.failing) same f
+pull_fails_since old mid new ReadNeverEnds same f = (f.0, f.1 ∙ same)
+pull_fails_since old mid new other same f = absurd f
 
 -- ---- the pulls of a call, over its two sources
 

@@ -4,7 +4,7 @@ use Rattle.std.proofs.lemmas.List.{length-append, take_all, take-append-drop}
 use Rattle.std.proofs.Math.Seq.{drop-append_seam}
 use Rattle.std.specs.Simd.{first_chunks}
 use Rattle.std.specs.Io.KnownBytes.{Appends}
-use Rattle.age_file.proofs.FirstChunks.{first_chunks-append, first_chunks_more}
+use Rattle.age_chunk.proofs.FirstChunks.{first_chunks-append, first_chunks_more}
 use Rattle.age_stream.specs.Headline.{IsPrefixOf}
 use Rattle.age_fault.specs.Faults.{HasFailed}
 use Rattle.age_file.specs.Bindings.{link, chain}
@@ -42,7 +42,7 @@ copy_fails x y z a b c p q other f same g = absurd g
 -- whole chunks, and then one that was not copied
 pub chunk_failed : (n chunks i : ℕ) (x y z : ReaderView) (a b c : WriterView) (p : List ℕ) (fault : FileFault) → length p ≡ i * n → i < chunks → Passes x y p
     → Appends a.sink.taken b.sink.taken p
-    → b.sink.label ≡ a.sink.label → b.sink.failed ≡ a.sink.failed → b.progress.written ≡ a.progress.written + length p → CopiesChunk n y z b c (Err fault)
+    → b.sink.label ≡ a.sink.label → b.sink.failed ≡ a.sink.failed → b.tally.written ≡ a.tally.written + length p → CopiesChunk n y z b c (Err fault)
     → CopiesAll n chunks x z a c (Err fault)
 chunk_failed n chunks i x y z a b c p fault size lt f wrote named same count g = record {
   out = p ++ g.out;

@@ -16,13 +16,13 @@ use Rattle.age_stream.specs.Laws.{counted}
 use Rattle.age_stream.specs.declared.step.Status.{Status}
 use Rattle.age_stream.specs.declared.step.Status.TheVariants.{Open}
 use Rattle.age_stream.proofs.PublicLaws.{chunks_are_counted, closed_stays, end_closes, fresh_is_open, released_grows}
-use Rattle.age_file.proofs.FirstChunks.{first_chunks-append, length-first_chunks}
+use Rattle.age_chunk.proofs.FirstChunks.{first_chunks-append, length-first_chunks}
 use Rattle.age_file.specs.Bindings.{link, chain}
 use Rattle.age_file.specs.inner.Bindings.{link_if, chain_if}
 use Rattle.age_file.specs.declared.position.Positions.{Positions}
 use Rattle.age_file.specs.declared.position.Positions.TheVariants.{Kept, Dropped}
 use Rattle.age_file.specs.inner.Counts.{Advances, CountsChunks, HasCounted}
-use Rattle.age_file.specs.declared.progress.Progress.{Progress}
+use Rattle.age_file.specs.declared.tally.Tally.{Tally}
 
 -- a quotient that is met from below, or is the lesser of the two
 min_is : (x n i j : ℕ) → 0 < n → i * n ≤ x → i ≤ j → (x < (i + 1) * n) ⊎ (j ≡ i) → i ≡ min (x / n) j
@@ -108,7 +108,7 @@ module _ (sealing : List ℕ → List ℕ → List ℕ) (opening : List ℕ → 
     by_status other e = inr (λ more. let after = (closed_stays opening n s timely (λ o. cc)).0 more in (after.index, after.texts))
 
   -- all was written
-  pub mark_all : (base : List ℕ) (s : Segment) (p : Progress) → length base ≡ s.start * n → IsTimely s → p.index ≡ at s → p.chain
+  pub mark_all : (base : List ℕ) (s : Segment) (p : Tally) → length base ≡ s.start * n → IsTimely s → p.index ≡ at s → p.chain
       ≡ chain_if keep (first_chunks n p.index (base ++ released opening n s))
       → CountsChunks keep opening n base s [] p
   mark_all base s p len timely index chain_is =
@@ -128,7 +128,7 @@ module _ (sealing : List ℕ → List ℕ → List ℕ) (opening : List ℕ → 
       }
 
   -- the index is then the segment's
-  pub mark_index : (base : List ℕ) (s : Segment) (p : Progress) → length base ≡ s.start * n → CountsChunks keep opening n base s [] p → p.index ≡ at s
+  pub mark_index : (base : List ℕ) (s : Segment) (p : Tally) → length base ≡ s.start * n → CountsChunks keep opening n base s [] p → p.index ≡ at s
   mark_index base s p len m =
       let text = base ++ released opening n s in
       let c = chunks_are_counted sealing opening valid n base s len in
@@ -217,7 +217,7 @@ module _ (sealing : List ℕ → List ℕ → List ℕ) (opening : List ℕ → 
   one_text (t ∷ u ∷ us) e = absurd (omega (arith, e))
 
   -- a call that took bytes, and what it lent was written whole
-  pub mark_step : (base : List ℕ) (s : Segment) (piece : List ℕ) (ts : List (List ℕ)) (index : ℕ) (was now : Progress) → length base ≡ s.start * n
+  pub mark_step : (base : List ℕ) (s : Segment) (piece : List ℕ) (ts : List (List ℕ)) (index : ℕ) (was now : Tally) → length base ≡ s.start * n
       → IsTimely s → IsTimely (with_piece s piece)
       → (outcome opening n (with_piece s piece)).texts ≡ (outcome opening n s).texts ++ ts → length ts ≤ 1 → index ≡ at (with_piece s piece)
       → Advances was.index was.chain index (link_if was.chain (flat_map (λ (t : List ℕ). t) ts)) now
@@ -250,7 +250,7 @@ module _ (sealing : List ℕ → List ℕ → List ℕ) (opening : List ℕ → 
       ]
 
   -- a call that lent nothing
-  pub mark_none : (base : List ℕ) (s : Segment) (piece : List ℕ) (was : Progress) → length base ≡ s.start * n → IsTimely s → IsTimely (with_piece s piece)
+  pub mark_none : (base : List ℕ) (s : Segment) (piece : List ℕ) (was : Tally) → length base ≡ s.start * n → IsTimely s → IsTimely (with_piece s piece)
       → (outcome opening n (with_piece s piece)).texts ≡ (outcome opening n s).texts ++ [] → CountsChunks keep opening n base s [] was
       → CountsChunks keep opening n base (with_piece s piece) [] was
   mark_none base s piece was len timely timely' texts m =
@@ -284,7 +284,7 @@ module _ (sealing : List ℕ → List ℕ → List ℕ) (opening : List ℕ → 
       )
 
   -- the same, and some of what it lent was not written
-  pub mark_cut : (base : List ℕ) (s : Segment) (piece : List ℕ) (ts : List (List ℕ)) (out unwritten : List ℕ) (was now : Progress) → length base
+  pub mark_cut : (base : List ℕ) (s : Segment) (piece : List ℕ) (ts : List (List ℕ)) (out unwritten : List ℕ) (was now : Tally) → length base
       ≡ s.start * n → IsTimely s → IsTimely (with_piece s piece)
       → (outcome opening n (with_piece s piece)).texts ≡ (outcome opening n s).texts ++ ts → length ts ≤ 1 → flat_map (λ (t : List ℕ). t) ts ≡ out ++ unwritten
       → 0 < length unwritten
@@ -353,7 +353,7 @@ module _ (sealing : List ℕ → List ℕ → List ℕ) (opening : List ℕ → 
       }
 
   -- the end, of whose text so much was written
-  pub mark_end : (base : List ℕ) (s : Segment) (out unwritten : List ℕ) (was now : Progress) → length base ≡ s.start * n → released opening n (with_end s)
+  pub mark_end : (base : List ℕ) (s : Segment) (out unwritten : List ℕ) (was now : Tally) → length base ≡ s.start * n → released opening n (with_end s)
       ≡ released opening n s ++ (out ++ unwritten)
       → now.index ≡ was.index → now.chain ≡ was.chain → CountsChunks keep opening n base s [] was → CountsChunks keep opening n base (with_end s) unwritten now
   mark_end base s out unwritten was now len e index chain_same m =
@@ -376,7 +376,7 @@ module _ (sealing : List ℕ → List ℕ → List ℕ) (opening : List ℕ → 
       }
 
   -- before any byte
-  pub mark_fresh : (base : List ℕ) (k : ℕ) (p : Progress) → length base ≡ k * n → p.index ≡ k → p.chain ≡ chain_if keep (first_chunks n k base)
+  pub mark_fresh : (base : List ℕ) (k : ℕ) (p : Tally) → length base ≡ k * n → p.index ≡ k → p.chain ≡ chain_if keep (first_chunks n k base)
       → CountsChunks keep opening n base (fresh k) [] p
   mark_fresh base k p len index chain_is =
       let none : released opening n (fresh k) ≡ [] = ap (λ (o : Outcome). flat_map (λ (t : List ℕ). t) o.texts) (fresh_is_open opening n k) in
@@ -386,7 +386,7 @@ module _ (sealing : List ℕ → List ℕ → List ℕ) (opening : List ℕ → 
       ∙ ap (λ (i : ℕ). chain_if keep (first_chunks n i (base ++ released opening n (fresh k)))) (sym index)))
 
   -- and at the end of a run, with bytes after it that were not fed
-  pub marked : (base : List ℕ) (s last : Segment) (more out unwritten : List ℕ) (p : Progress) → with_piece s more ≡ last → released opening n s
+  pub marked : (base : List ℕ) (s last : Segment) (more out unwritten : List ℕ) (p : Tally) → with_piece s more ≡ last → released opening n s
       ≡ out ++ unwritten → CountsChunks keep opening n base s unwritten p
       → HasCounted keep opening n (base ++ out) last p
   marked base s last more out unwritten p is parts m =

@@ -1,5 +1,5 @@
 -- From what was read and decrypted to what a decryption did.
-use Rattle.std.proofs.Common.{None, refl, inl, inr, ◌≡◌, ℕ, ◌*◌, ◌<◌, List, [], ◌++◌, length, Option, sym, ap, subst, ◌∙◌, arith}
+use Rattle.std.proofs.Common.{Some, None, refl, ◌≡◌, ℕ, ◌*◌, ◌<◌, List, [], ◌++◌, length, Option, sym, ap, subst, ◌∙◌, arith}
 use Rattle.std.proofs.Common.{append_assoc}
 use Rattle.std.specs.Prelude.{Result, MatchResult, OnOk, Ok, Err, true}
 use Rattle.age_stanza.specs.Laws.{OneHeader}
@@ -11,16 +11,17 @@ use Rattle.age_keys.specs.declared.fault.KeyFault.{KeyFault}
 use Rattle.age_file.specs.inner.Boxes.{opens}
 use Rattle.age_keys.specs.Keys.{payload_key}
 use Rattle.age_fault.specs.Faults.{HasFailed}
-use Rattle.age_io.specs.Views.{SourceView}
+use Rattle.age_io.specs.Views.{SourceView, SinkView}
 use Rattle.age_file.specs.inner.Intakes.{Pulled}
 use Rattle.age_file.specs.AgeFile.{unbox}
-use Rattle.age_file.specs.inner.Payloads.{DecryptsPayload, PayloadFails, PayloadDone}
+use Rattle.age_file.specs.inner.Payloads.{DecryptsPayload, SegmentFails, SegmentDone}
 use Rattle.age_file.specs.inner.Readers.{Stage}
 use Rattle.age_file.specs.Starts.{StartFails}
 use Rattle.age_file.specs.inner.Starts.{StartsAt}
-use Rattle.age_file.specs.Runs.{Run, IsFromStart, segment_of, held, IsRun, IsPositionOf, Told, IsDone}
-use Rattle.age_file.specs.Decrypts.{DecryptFails, Decrypts}
-use Rattle.age_file.proofs.RunSteps.{writes_of, writes_all, told_is}
+use Rattle.age_file.specs.Runs.{Run, IsFromStart, segment_of, held, IsRun, PayloadFails, IsDone}
+use Rattle.age_file.specs.Decrypts.{DecryptStops, Decrypts}
+use Rattle.age_file.specs.Faults.{NeverEnds}
+use Rattle.age_file.proofs.RunSteps.{writes_of, writes_all, position_given}
 use Rattle.age_file.specs.inner.Decrypts.{PositionAt, EndsAs}
 use Rattle.age_file.specs.Ports.{Ports, NoneFailed}
 use Rattle.age_file.specs.Bindings.{file_id, position_tag}
@@ -28,10 +29,11 @@ use Rattle.age_file.specs.inner.Bindings.{chain_if}
 use Rattle.age_file.specs.declared.position.Positions.{Positions}
 use Rattle.age_file.specs.inner.Counts.{HasCounted}
 use Rattle.age_file.specs.declared.position.Position.{Position}
-use Rattle.std.specs.Io.KnownBytes.{Appends}
 use Rattle.age_file.specs.declared.start.Unlocked.{Unlocked}
 use Rattle.age_fault.specs.declared.fault.FileFault.{FileFault}
 use Rattle.age_fault.specs.declared.fault.FileFault.TheVariants.{Stream, Read, Write, ReadNeverEnds}
+use Rattle.age_chunk.specs.Payload.{block_length, chunk_length}
+use Rattle.age_chunk.specs.Nonce.{chunk_limit}
 
 -- the tag of a position, over its own fields
 pub own_tag : (key tag : List ℕ) (index own_index : ℕ) (id own_id links own_links : List ℕ) → own_index ≡ index → own_id ≡ id → own_links ≡ links
@@ -42,7 +44,7 @@ own_tag key tag index own_index id own_id links own_links index_is id_is links_a
     ∙ (ap (λ (k : List ℕ). position_tag key own_index k links) (sym id_is)
     ∙ ap (λ (k : List ℕ). position_tag key own_index own_id k) (sym links_are)))
 
-first_fits : (r : Run) → IsFromStart r → r.first < 281474976710656
+first_fits : (r : Run) → IsFromStart r → r.first < chunk_limit
 first_fits r from = omega (arith, from.zero)
 
 module _ (keep : Positions) (Allows : Header → List ℕ → Type 0) (Refused : Header → KeyFault → Type 0) where
@@ -52,23 +54,17 @@ module _ (keep : Positions) (Allows : Header → List ℕ → Type 0) (Refused :
   abbrev pub after : Stage → Ports
   after new = record { source = new.reader.source; sink = new.writer.sink }
 
-  fails : (a : SourceView) (old new : Stage) (r : Run) (pulled : List ℕ) (p : Option Position) (fault : FileFault) → IsFromStart r
+  fails : (a : SourceView) (old new : Stage) (r : Run) (pulled : List ℕ) (fault : FileFault)
       → old.reader.source.failed ≡ a.failed → Pulled a.remaining new.reader.source.remaining new.reader.unread.pulls pulled
-      → IsRun Allows (before a old) (after new) new.writer.progress.written r → Told keep (IsPositionOf r) p
-      → PayloadFails (unbox r.file.key r.file.nonce) 65536 old new (segment_of r) r.out fault
-      → DecryptFails keep Allows Refused (before a old) (after new) new.writer.progress.written p fault
-  fails a old new r pulled p (Stream x) from same h is at f =
-      (r, from, (record { is = is; whole = f.1; of = writes_of r (first_fits r from) is.prefix }, at), f.0, (f.2.0 ∙ same, f.2.1))
-  fails a old new r pulled p Write from same h is at f = (r, from, (is, writes_of r (first_fits r from) is.prefix, at, f.0), (f.1.0, f.1.1 ∙ same))
-  fails a old new r pulled p Read from same h is at f = (
-    inr (r, from, (record { is = is; whole = f.0; of = writes_of r (first_fits r from) is.prefix }, at), f.1),
-    (subst (λ (m : ℕ). HasFailed m new.reader.source.failed new.reader.source.failing) same f.2.0, f.2.1),
-  )
-  fails a old new r pulled p ReadNeverEnds from same h is at f = (
-    inr (r, from, (record { is = is; whole = f.0; of = writes_of r (first_fits r from) is.prefix }, at), f.1),
-    (pulled, h.consumed, (omega (arith, h.each_gave, f.2), omega (arith, h.small, f.2))),
-  )
-  fails a old new r pulled p other from same h is at f = absurd f
+      → SegmentFails (unbox r.file.key r.file.nonce) chunk_length old new (segment_of r) r.out fault
+      → PayloadFails (NeverEnds a.remaining new.reader.source.remaining) (before a old) (after new) r fault
+  fails a old new r pulled (Stream x) same h f = (f.1, f.0, (f.2.0 ∙ same, f.2.1))
+  fails a old new r pulled Write same h f = (f.0, (f.1.0, f.1.1 ∙ same))
+  fails a old new r pulled Read same h f =
+      (f.0, f.1, (subst (λ (m : ℕ). HasFailed m new.reader.source.failed new.reader.source.failing) same f.2.0, f.2.1))
+  fails a old new r pulled ReadNeverEnds same h f =
+      (f.0, f.1, (pulled, h.consumed, (omega (arith, h.each_gave, f.2), omega (arith, h.small, f.2))))
+  fails a old new r pulled other same h f = absurd f
 
   -- what was read and decrypted
   pub record IsDecrypted (a : SourceView) (unlocked : Unlocked) (old new : Stage) (result : Result (Unit {0}) FileFault) : Type 0 where
@@ -77,15 +73,15 @@ module _ (keep : Positions) (Allows : Header → List ℕ → Type 0) (Refused :
     pub key_is : run.file.key ≡ unlocked.key
     pub nonce_is : run.file.nonce ≡ unlocked.nonce
     pub id : unlocked.id ≡ file_id run.file.header_bytes run.file.nonce
-    pub is : IsRun Allows (before a old) (after new) new.writer.progress.written run
+    pub is : IsRun Allows (before a old) (after new) new.writer.tally.written run
     pub pulled : Pulled a.remaining new.reader.source.remaining new.reader.unread.pulls ((run.file.header_bytes ++ run.file.nonce) ++ run.bytes)
-    pub counts : HasCounted keep (unbox run.file.key run.file.nonce) 65536 (held run) (segment_of run) new.writer.progress
-    pub answered : MatchResult result (λ _. PayloadDone (unbox run.file.key run.file.nonce) 65536 old new (segment_of run) run.out)
-        (PayloadFails (unbox run.file.key run.file.nonce) 65536 old new (segment_of run) run.out)
+    pub counts : HasCounted keep (unbox run.file.key run.file.nonce) chunk_length (held run) (segment_of run) new.writer.tally
+    pub answered : MatchResult result (λ _. SegmentDone (unbox run.file.key run.file.nonce) chunk_length old new (segment_of run) run.out)
+        (SegmentFails (unbox run.file.key run.file.nonce) chunk_length old new (segment_of run) run.out)
 
   pub decrypted : (a : SourceView) (unlocked : Unlocked) (old new : Stage) (result : Result (Unit {0}) FileFault)
-      → old.writer.progress.written ≡ 0 → old.writer.progress.index ≡ 0 → old.writer.progress.chain ≡ chain_if keep []
-      → StartsAt Allows a old.reader unlocked → DecryptsPayload (opens (payload_key unlocked.key unlocked.nonce)) 65536 0 old new result
+      → old.writer.tally.written ≡ 0 → old.writer.tally.index ≡ 0 → old.writer.tally.chain ≡ chain_if keep []
+      → StartsAt Allows a old.reader unlocked → DecryptsPayload (opens (payload_key unlocked.key unlocked.nonce)) chunk_length 0 old new result
       → IsDecrypted a unlocked old new result
   decrypted a unlocked old new result none index chain_none s p =
       let head = s.front ++ unlocked.nonce in
@@ -95,8 +91,8 @@ module _ (keep : Positions) (Allows : Header → List ℕ → Type 0) (Refused :
       append_assoc head old.reader.unread.bytes p.fresh ∙ ap (λ (t : List ℕ). head ++ t) p.parts in
       let pulls : Pulled a.remaining new.reader.source.remaining new.reader.unread.pulls (head ++ p.bytes) =
       subst (λ (t : List ℕ). Pulled a.remaining new.reader.source.remaining new.reader.unread.pulls t) parts all in
-      let zero_len : length {A = ℕ} [] ≡ 0 * 65536 = omega arith in
-      let zero_size : length {A = ℕ} [] ≡ 0 * 65552 = omega arith in
+      let zero_len : length {A = ℕ} [] ≡ 0 * chunk_length = omega arith in
+      let zero_size : length {A = ℕ} [] ≡ 0 * block_length = omega arith in
       record {
         run = record {
           file = record { header = s.header; header_bytes = s.front; key = unlocked.key; nonce = unlocked.nonce };
@@ -127,63 +123,78 @@ module _ (keep : Positions) (Allows : Header → List ℕ → Type 0) (Refused :
 
   decrypt_done : (a : SourceView) (unlocked : Unlocked) (old new : Stage) → old.reader.source.failed ≡ a.failed
       → (p : IsDecrypted a unlocked old new (Ok tt))
-      → IsFromStart p.run × IsDone Allows (before a old) (after new) new.writer.progress.written p.run × NoneFailed (before a old) (after new)
+      → IsFromStart p.run × IsDone Allows (before a old) (after new) new.writer.tally.written p.run × NoneFailed (before a old) (after new)
   decrypt_done a unlocked old new same p =
-      let f = p.answered in
-      let limit = first_fits p.run p.from in (
+      let f = p.answered in (
         p.from,
         record {
-          wrote = record { is = p.is; whole = f.2; of = writes_of p.run limit p.is.prefix };
+          is = p.is;
+          whole = f.2;
           ended = f.0;
           done = f.1;
-          all = writes_all p.run limit f.2 f.1;
+          all = writes_all p.run (first_fits p.run p.from) f.2 f.1;
         },
         (f.3.0 ∙ same, f.3.1),
       )
 
-  decrypt_fails : (a : SourceView) (unlocked : Unlocked) (old new : Stage) (fault : FileFault) (position : Option Position)
-      → old.reader.source.failed ≡ a.failed → IsDecrypted a unlocked old new (Err fault)
-      → PositionAt unlocked new.writer.progress.index new.writer.progress.chain position
-      → DecryptFails keep Allows Refused (before a old) (after new) new.writer.progress.written position fault
-  decrypt_fails a unlocked old new fault position same p at =
-      let told = subst (λ (c : Option (List ℕ)). PositionAt unlocked new.writer.progress.index c position) p.counts.chain_is at in
-      fails a old new p.run ((p.run.file.header_bytes ++ p.run.file.nonce) ++ p.run.bytes) position fault p.from same p.pulled p.is
-      (told_is keep p.run unlocked new.writer.progress.index position (first_fits p.run p.from) p.key_is p.nonce_is p.id p.is.prefix
-      p.counts.index told) p.answered
+  decrypt_stops : (a : SourceView) (unlocked : Unlocked) (old new : Stage) (fault : FileFault) (position : Option Position)
+      → old.reader.source.failed ≡ a.failed → (p : IsDecrypted a unlocked old new (Err fault))
+      → PositionAt unlocked new.writer.tally.index new.writer.tally.chain position
+      → DecryptStops keep Allows Refused (before a old) (after new) (Some p.run)
+      (record { fault = fault; written = new.writer.tally.written; position = position })
+  decrypt_stops a unlocked old new fault position same p at =
+      let kept = subst (λ (c : Option (List ℕ)). PositionAt unlocked new.writer.tally.index c position) p.counts.chain_is at in
+      let limit = first_fits p.run p.from in (
+        p.from,
+        record {
+          is = p.is;
+          begins = writes_of p.run limit p.is.prefix;
+          here = position_given keep p.run unlocked new.writer.tally.index position limit p.key_is p.nonce_is p.id p.is.prefix p.counts.index kept;
+          why = fails a old new p.run ((p.run.file.header_bytes ++ p.run.file.nonce) ++ p.run.bytes) fault same p.pulled p.answered;
+        },
+      )
 
   -- the whole run
   pub run_ended : OneHeader → (a : SourceView) (unlocked : Unlocked) (old new : Stage) (run : Result (Unit {0}) FileFault) (result : Result Done Stopped)
       → old.reader.source.failed ≡ a.failed
       → new.writer.sink.label ≡ old.writer.sink.label → OnOk run (new.writer.sink.settled ≡ true) → IsDecrypted a unlocked old new run
-      → EndsAs unlocked new.writer.progress run result
+      → EndsAs unlocked new.writer.tally run result
       → Decrypts keep Allows Refused (before a old) (after new) result
   run_ended one a unlocked old new (Ok done) result same named settled p is =
       let d = decrypt_done a unlocked old new same p in
       subst (λ (r : Result Done Stopped). Decrypts keep Allows Refused (before a old) (after new) r) (sym is)
       (record {
-        done = (p.run, d.0, d.1, d.2);
+        run = Some p.run;
+        done = d;
         stopped = tt;
-        undamaged = λ text whole. undamaged_done one Allows Refused (before a old) (after new) new.writer.progress.written p.run text whole d.0 d.1;
+        undamaged = λ text whole. undamaged_done one Allows Refused (before a old) (after new) new.writer.tally.written p.run text whole d.0 d.1;
         settled = settled;
         named = named;
       })
   run_ended one a unlocked old new (Err fault) result same named settled p (next, at, is) =
-      let fails = decrypt_fails a unlocked old new fault next same p at in
+      let stops = decrypt_stops a unlocked old new fault next same p at in
+      let stopped : Stopped = record { fault = fault; written = new.writer.tally.written; position = next } in
       subst (λ (r : Result Done Stopped). Decrypts keep Allows Refused (before a old) (after new) r) (sym is)
       (record {
+        run = Some p.run;
         done = tt;
-        stopped = fails;
-        undamaged = λ text whole. undamaged keep one Allows Refused (before a old) (after new) new.writer.progress.written next fault text whole fails;
+        stopped = stops;
+        undamaged = λ text whole. undamaged keep one Allows Refused (before a old) (after new) (Some p.run) stopped text whole stops;
         settled = tt;
         named = named;
       })
 
   -- no payload came to be opened
-  pub start_fails : (old new : Ports) (fault : FileFault) → Appends old.sink.taken new.sink.taken [] → new.sink.failed ≡ old.sink.failed
-      → StartFails Allows Refused old.source new.source fault
-      → DecryptFails keep Allows Refused old new 0 None fault
-  start_fails old new Read none same f = (inl ((none, refl, refl), f.0), (f.1, same))
-  start_fails old new ReadNeverEnds none same f = (inl ((none, refl, refl), f.0), f.1)
-  start_fails old new (Stream x) none same f = absurd f
-  start_fails old new Write none same f = absurd f
-  start_fails old new other none same f = ((none, refl, refl), f)
+  pub stopped_early : OneHeader → (old new : Ports) (fault : FileFault) → new.sink ≡ old.sink → StartFails Allows Refused old.source new.source fault
+      → Decrypts keep Allows Refused old new (Err (record { fault = fault; written = 0; position = None }))
+  stopped_early one old new fault same f =
+      let stopped : Stopped = record { fault = fault; written = 0; position = None } in
+      let stops : DecryptStops keep Allows Refused old new None stopped = (record { sink = same; written = refl; position = refl }, f) in
+      record {
+        run = None;
+        done = tt;
+        stopped = stops;
+        undamaged = λ text whole. undamaged keep one Allows Refused old new None stopped text whole stops;
+        settled = tt;
+        named = ap (λ (s : SinkView). s.label) same;
+      }

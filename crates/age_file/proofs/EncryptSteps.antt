@@ -3,7 +3,7 @@ use Rattle.std.proofs.Common.{◌≡◌, ℕ, refl, sym, ap, subst, ◌∙◌, L
 use Rattle.std.proofs.lemmas.List.{length-append}
 use Rattle.std.specs.Io.KnownBytes.{Consumes, Appends}
 use Rattle.std.proofs.KnownBytes.{Consumes-nil}
-use Rattle.age_chunk.specs.Payload.{payload}
+use Rattle.age_chunk.specs.Payload.{payload, chunk_length}
 use Rattle.age_keys.specs.Keys.{header_mac, IsMacOf}
 use Rattle.age_keys.specs.Scrypt.{scrypt_head}
 use Rattle.age_file.specs.AgeFile.{box}
@@ -27,14 +27,14 @@ unfolding scrypt_head header_mac
 mac_holds pass log salt key = refl
 
 module _ (s : SecretView) (front : List ℕ) (begins : BeginsFile s front) where
-  pub file_of : (text : List ℕ) → AgeFile s text (front ++ payload (box s.key s.nonce) 65536 text)
+  pub file_of : (text : List ℕ) → AgeFile s text (front ++ payload (box s.key s.nonce) chunk_length text)
   file_of text =
       record {
         front = begins.front;
         head = begins.head;
         mac = mac_holds s.pass s.log s.salt s.key;
         size = begins.size;
-        parts = ap (λ (t : List ℕ). t ++ payload (box s.key s.nonce) 65536 text) begins.parts;
+        parts = ap (λ (t : List ℕ). t ++ payload (box s.key s.nonce) chunk_length text) begins.parts;
       }
 
   -- the sink failed in the front
@@ -45,15 +45,15 @@ module _ (s : SecretView) (front : List ℕ) (begins : BeginsFile s front) where
   front_cut old new coming failed out unwritten parts wrote =
       record {
         text = [];
-        file = front ++ payload (box s.key s.nonce) 65536 [];
+        file = front ++ payload (box s.key s.nonce) chunk_length [];
         out = out;
         is = file_of [];
         read = subst (λ t. Consumes old.source.remaining t []) (sym coming) (Consumes-nil old.source.remaining);
         wrote = wrote;
         prefix = (
-          unwritten ++ payload (box s.key s.nonce) 65536 [],
-          sym (append_assoc out unwritten (payload (box s.key s.nonce) 65536 []))
-              ∙ ap (λ (t : List ℕ). t ++ payload (box s.key s.nonce) 65536 []) (sym parts),
+          unwritten ++ payload (box s.key s.nonce) chunk_length [],
+          sym (append_assoc out unwritten (payload (box s.key s.nonce) chunk_length []))
+              ∙ ap (λ (t : List ℕ). t ++ payload (box s.key s.nonce) chunk_length []) (sym parts),
         );
         why = failed;
       }
@@ -62,23 +62,23 @@ module _ (s : SecretView) (front : List ℕ) (begins : BeginsFile s front) where
   module _ (old mid new : Ports) (mid_written new_written : ℕ) (coming : mid.source.remaining ≡ old.source.remaining) (read_failed : mid.source.failed
       ≡ old.source.failed) (write_failed : mid.sink.failed ≡ old.sink.failed)
       (wrote : Appends old.sink.taken mid.sink.taken front) (count : mid_written ≡ length front) where
-    sealed_all : (w : Written) → w.file ≡ new_written → SealsAll (box s.key s.nonce) 65536 mid new mid_written new_written w.plain → Encrypts s old new w
+    sealed_all : (w : Written) → w.file ≡ new_written → SealsAll (box s.key s.nonce) chunk_length mid new mid_written new_written w.plain → Encrypts s old new w
     sealed_all w all a =
         record {
           text = a.text;
-          file = front ++ payload (box s.key s.nonce) 65536 a.text;
+          file = front ++ payload (box s.key s.nonce) chunk_length a.text;
           few = a.few;
           is = file_of a.text;
           read = subst (λ t. Consumes t new.source.remaining a.text) coming a.moved.read;
           at_end = a.at_end;
-          wrote = Appends-then old.sink.taken mid.sink.taken new.sink.taken front (payload (box s.key s.nonce) 65536 a.text) wrote a.moved.wrote;
+          wrote = Appends-then old.sink.taken mid.sink.taken new.sink.taken front (payload (box s.key s.nonce) chunk_length a.text) wrote a.moved.wrote;
           plain_is = a.plain_is;
-          file_is = omega (arith, all, a.moved.count, count, length-append front (payload (box s.key s.nonce) 65536 a.text));
+          file_is = omega (arith, all, a.moved.count, count, length-append front (payload (box s.key s.nonce) chunk_length a.text));
           none_failed = (a.none_failed.0 ∙ read_failed, a.none_failed.1 ∙ write_failed);
         }
 
     pub file_done : (result : Result Written FileFault) → IfOk result (λ w. w.file ≡ new_written)
-        → IfOk result (λ w. SealsAll (box s.key s.nonce) 65536 mid new mid_written new_written w.plain) → IfOk result (Encrypts s old new)
+        → IfOk result (λ w. SealsAll (box s.key s.nonce) chunk_length mid new mid_written new_written w.plain) → IfOk result (Encrypts s old new)
     file_done (Ok w) all a = sealed_all w all a
     file_done (Err fault) all a = tt
 
@@ -86,11 +86,11 @@ module _ (s : SecretView) (front : List ℕ) (begins : BeginsFile s front) where
     none_failed f = (f.0 ∙ read_failed, f.1 ∙ write_failed)
 
     -- the blocks before the last, after what stands before them
-    last_missing : (text out : List ℕ) → out ≡ front_of (box s.key s.nonce) 65536 text → front ++ out ≡ without_last s begins.front text
+    last_missing : (text out : List ℕ) → out ≡ front_of (box s.key s.nonce) chunk_length text → front ++ out ≡ without_last s begins.front text
     last_missing text out e =
-        ap (λ (t : List ℕ). front ++ t) e ∙ ap (λ (t : List ℕ). t ++ front_of (box s.key s.nonce) 65536 text) begins.parts
+        ap (λ (t : List ℕ). front ++ t) e ∙ ap (λ (t : List ℕ). t ++ front_of (box s.key s.nonce) chunk_length text) begins.parts
 
-    why_stopped : (text out : List ℕ) (fault : FileFault) → SealingFails (box s.key s.nonce) 65536 mid new text out fault
+    why_stopped : (text out : List ℕ) (fault : FileFault) → SealingFails (box s.key s.nonce) chunk_length mid new text out fault
         → WhyStopped s old new begins.front text (front ++ out) fault
     why_stopped text out (Stream fault) f = (omega (arith, f.0), f.1, none_failed f.2)
     why_stopped text out Read f = (
@@ -110,12 +110,12 @@ module _ (s : SecretView) (front : List ℕ) (begins : BeginsFile s front) where
     why_stopped text out PositionForged f = absurd f
     why_stopped text out OldTextDiffers f = absurd f
 
-    stopped : (fault : FileFault) → SealsFront (box s.key s.nonce) 65536 mid new mid_written new_written fault → EncryptsFront s old new fault
+    stopped : (fault : FileFault) → SealsFront (box s.key s.nonce) chunk_length mid new mid_written new_written fault → EncryptsFront s old new fault
     unfolding file_of
     stopped fault a =
         record {
           text = a.text;
-          file = front ++ payload (box s.key s.nonce) 65536 a.text;
+          file = front ++ payload (box s.key s.nonce) chunk_length a.text;
           out = front ++ a.out;
           is = file_of a.text;
           read = subst (λ t. Consumes t new.source.remaining a.text) coming a.moved.read;
@@ -124,7 +124,7 @@ module _ (s : SecretView) (front : List ℕ) (begins : BeginsFile s front) where
           why = why_stopped a.text a.out fault a.fails;
         }
 
-    sealing_stopped : (fault : FileFault) → SealsFront (box s.key s.nonce) 65536 mid new mid_written new_written fault → EncryptFails s old new fault
+    sealing_stopped : (fault : FileFault) → SealsFront (box s.key s.nonce) chunk_length mid new mid_written new_written fault → EncryptFails s old new fault
     sealing_stopped Memory a = absurd a.fails
     sealing_stopped (Stream fault) a = stopped (Stream fault) a
     sealing_stopped Read a = stopped Read a
@@ -139,7 +139,7 @@ module _ (s : SecretView) (front : List ℕ) (begins : BeginsFile s front) where
     sealing_stopped PositionForged a = stopped PositionForged a
     sealing_stopped OldTextDiffers a = stopped OldTextDiffers a
 
-    pub file_stopped : (result : Result Written FileFault) → IfErr result (SealsFront (box s.key s.nonce) 65536 mid new mid_written new_written)
+    pub file_stopped : (result : Result Written FileFault) → IfErr result (SealsFront (box s.key s.nonce) chunk_length mid new mid_written new_written)
         → IfErr result (EncryptFails s old new)
     file_stopped (Ok w) a = tt
     file_stopped (Err fault) a = sealing_stopped fault a
@@ -153,8 +153,8 @@ front_fails s source was now Write f =
 front_fails s source was now other f = absurd f
 
 -- all of it was, or a front of it
-pub front_written : (s : SecretView) (was now : WriterView) (bytes : List ℕ) → BeginsFile s bytes → was.progress.written ≡ 0
-    → (result : Result (Unit {0}) FileFault) → Writes was.sink now.sink was.progress.written now.progress.written bytes result
+pub front_written : (s : SecretView) (was now : WriterView) (bytes : List ℕ) → BeginsFile s bytes → was.tally.written ≡ 0
+    → (result : Result (Unit {0}) FileFault) → Writes was.sink now.sink was.tally.written now.tally.written bytes result
     → IfErr result (λ fault. fault ≡ Write) → WritesFront s was now result
 front_written s was now bytes begins zero (Ok done) put is =
     let whole : put.out ≡ bytes = sym (put.parts ∙ ap (λ (t : List ℕ). put.out ++ t) put.answered.0 ∙ append-nil put.out) in

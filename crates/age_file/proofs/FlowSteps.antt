@@ -17,6 +17,7 @@ use Rattle.age_file.specs.inner.Releases.{Releases, FeedsPiece, FeedFails}
 use Rattle.age_fault.specs.declared.fault.FileFault.{FileFault}
 use Rattle.age_fault.specs.declared.fault.FileFault.TheVariants.{Stream, Read, Write, ReadNeverEnds}
 use Rattle.age_file.proofs.ReleaseSteps.{releases_none, releases_then}
+use Rattle.age_file.specs.Faults.{pull_room}
 
 -- why it stopped, with what was left and not written
 abbrev pub FlowFails : {B : Type 0} → OpenerView B → Stage → Stage → List ℕ → List ℕ → FileFault → Type 0
@@ -44,7 +45,7 @@ module _ {B : Type 0} (opening : B → List ℕ → List ℕ → Option (List �
     pub flows : Flows a b old new new.reader.unread.bytes []
     pub sound : has_failed b.status ≡ false
     pub same : NoneFailed (ports_at old) (ports_at new)
-    pub room : length b.held + new.writer.progress.written + length new.reader.unread.bytes ≤ 2 ^ 64 + 65536 * new.reader.unread.pulls
+    pub room : length b.held + new.writer.tally.written + length new.reader.unread.bytes ≤ 2 ^ 64 + pull_room * new.reader.unread.pulls
     pub most : new.reader.unread.pulls ≤ 2 ^ 63
 
   -- all that the source gave was fed, up to its end
@@ -52,7 +53,7 @@ module _ {B : Type 0} (opening : B → List ℕ → List ℕ → Option (List �
     pub flows : Flows a b old new [] []
     pub same : NoneFailed (ports_at old) (ports_at new)
     pub at_end : IsAtEnd new.reader.source.remaining
-    pub room : length b.held + new.writer.progress.written < 2 ^ 128
+    pub room : length b.held + new.writer.tally.written < 2 ^ 128
 
   -- it stopped before
   pub record Stops (a b : OpenerView B) (old new : Stage) (fault : FileFault) : Type 0 where
@@ -61,8 +62,8 @@ module _ {B : Type 0} (opening : B → List ℕ → List ℕ → Option (List �
     pub flows : Flows a b old new left unwritten
     pub why : FlowFails b old new left unwritten fault
 
-  pub begins : (a : OpenerView B) (old : Stage) → length a.held + old.writer.progress.written + length old.reader.unread.bytes
-      ≤ 2 ^ 64 + 65536 * old.reader.unread.pulls
+  pub begins : (a : OpenerView B) (old : Stage) → length a.held + old.writer.tally.written + length old.reader.unread.bytes
+      ≤ 2 ^ 64 + pull_room * old.reader.unread.pulls
       → old.reader.unread.pulls ≤ 2 ^ 63 → has_failed a.status ≡ false → GoesOn a a old old
   begins a old room most sound =
       record {

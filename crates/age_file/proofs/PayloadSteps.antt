@@ -1,6 +1,6 @@
 -- From what an opener did to the segment that it was given.
 use Rattle.std.proofs.Common.{◌<◌, ◌*◌, length, ◌≡◌, ℕ, List, [], ◌++◌, Option, refl, sym, ap, subst, ◌∙◌, append-nil, append_assoc}
-use Rattle.std.proofs.Common.{true, false, inl, inr, arith, ◌+◌}
+use Rattle.std.proofs.Common.{true, false, inl, inr, arith}
 use Rattle.std.proofs.lemmas.List.{length-append}
 use Rattle.std.specs.Prelude.{Result, MatchResult, Ok, Err}
 use Rattle.std.specs.List.{flat_map}
@@ -14,8 +14,7 @@ use Rattle.age_fault.specs.Faults.{HasFailed}
 use Rattle.age_file.specs.Ports.{NoneFailed}
 use Rattle.age_file.specs.inner.Readers.{WriterView, Stage, stage, ports_at}
 use Rattle.age_file.specs.inner.Releases.{Releases, Closes, FeedFails}
-use Rattle.age_file.specs.Runs.{segment}
-use Rattle.age_file.specs.inner.Payloads.{DecryptsPayload, PayloadFails, PayloadDone}
+use Rattle.age_file.specs.inner.Payloads.{segment, DecryptsPayload, SegmentFails, SegmentDone}
 use Rattle.age_fault.specs.declared.fault.FileFault.{FileFault}
 use Rattle.age_fault.specs.declared.fault.FileFault.TheVariants.{Stream, Read, Write, ReadNeverEnds}
 use Rattle.age_chunk.specs.ChunkBoxes.{IsChunkBox}
@@ -72,18 +71,18 @@ module _ {B : Type 0} (sealing : B → List ℕ → List ℕ → List ℕ) (open
     status_of next old new was now unwritten key h o =
         (o.stands (fresh k) h).status ∙ ap (λ c. (outcome (opening c) n (next (fresh k))).status) (o.key ∙ key)
 
-    -- what the progress then counts, after a base
+    -- what the tally then counts, after a base
     counts_of : (next : Segment → Segment) (old new : OpenerView B) (was now : WriterView) (more unwritten : List ℕ) (last : Segment) → old.key ≡ K
         → Stands opening n old (fresh k)
         → with_piece (next (fresh k)) more ≡ last → (o : Releases opening n next old new was now unwritten) → (keep : Positions) (base : List ℕ)
-        → length base ≡ k * n → was.progress.index ≡ k
-        → was.progress.chain ≡ chain_if keep (first_chunks n k base) → HasCounted keep (opening K) n (base ++ o.out) last now.progress
+        → length base ≡ k * n → was.tally.index ≡ k
+        → was.tally.chain ≡ chain_if keep (first_chunks n k base) → HasCounted keep (opening K) n (base ++ o.out) last now.tally
     counts_of next old new was now more unwritten last key h is o keep base len index chain_is =
         let e = from_start next old new was now unwritten key h o in
-        let first = mark_fresh (sealing old.key) (opening old.key) (valid old.key) n positive keep base k was.progress len index chain_is in
-        let m = subst (λ c. CountsChunks keep (opening c) n base (next (fresh k)) unwritten now.progress) key
+        let first = mark_fresh (sealing old.key) (opening old.key) (valid old.key) n positive keep base k was.tally len index chain_is in
+        let m = subst (λ c. CountsChunks keep (opening c) n base (next (fresh k)) unwritten now.tally) key
         (o.counts keep positive (fresh k) base len h first) in
-        marked (sealing K) (opening K) (valid K) n positive keep base (next (fresh k)) last more o.out unwritten now.progress is e m
+        marked (sealing K) (opening K) (valid K) n positive keep base (next (fresh k)) last more o.out unwritten now.tally is e m
 
     -- an opener that has no fault, where all was fed
     sound : (o : OpenerView B) (fed left : List ℕ) → left ≡ [] → o.status ≡ (outcome (opening K) n (segment k fed false)).status
@@ -95,7 +94,7 @@ module _ {B : Type 0} (sealing : B → List ℕ → List ℕ → List ℕ) (open
     stop_fails : (o : OpenerView B) (old new : Stage) (fed left out unwritten : List ℕ) (fault : FileFault) → released (opening K) n (segment k fed false)
         ≡ out ++ unwritten
         → o.status ≡ (outcome (opening K) n (segment k fed false)).status
-        → FlowFails o old new left unwritten fault → PayloadFails (opening K) n old new (segment k (fed ++ left) false) out fault
+        → FlowFails o old new left unwritten fault → SegmentFails (opening K) n old new (segment k (fed ++ left) false) out fault
     stop_fails o old new fed left out unwritten (Stream f) e s h =
         let same : fed ≡ fed ++ left = sym (append-nil fed) ∙ ap (λ (t : List ℕ). fed ++ t) (sym h.1) in (
           ap (λ (t : List ℕ). (outcome (opening K) n (segment k t false)).status) (sym same) ∙ (sym s ∙ h.0),
@@ -140,8 +139,8 @@ module _ {B : Type 0} (sealing : B → List ℕ → List ℕ → List ℕ) (open
         → released (opening K) n (segment k bytes true) ≡ out ++ unwritten → c.status ≡ (outcome (opening K) n (segment k bytes true)).status
         → MatchResult result (λ _. (c.status ≡ Done) × (unwritten ≡ []) × (now.sink.failed ≡ mid.writer.sink.failed))
         (FeedFails opening n c mid.writer now [] unwritten)
-        → MatchResult result (λ _. PayloadDone (opening K) n old (stage mid.reader now) (segment k bytes true) out)
-        (PayloadFails (opening K) n old (stage mid.reader now) (segment k bytes true) out)
+        → MatchResult result (λ _. SegmentDone (opening K) n old (stage mid.reader now) (segment k bytes true) out)
+        (SegmentFails (opening K) n old (stage mid.reader now) (segment k bytes true) out)
     done_or_fails c old mid now bytes out unwritten (Ok u) same e s h =
         (refl, sym s ∙ h.0, sym (append-nil out) ∙ (ap (λ (t : List ℕ). out ++ t) (sym h.1) ∙ sym e), (same.0, h.2 ∙ same.1))
     done_or_fails c old mid now bytes out unwritten (Err (Stream f)) same e s h =

@@ -17,11 +17,12 @@ use Rattle.base64.specs.Engines.{standard_no_pad}
 use Rattle.base64.specs.declared.decode.DecodeError.{DecodeError}
 use Rattle.age_stanza.specs.Text.{base64_text as text}
 use Rattle.age_stanza.proofs.Texts.{length-text, IsBytes-drop}
-use Rattle.age_keys.proofs.Base64Lemmas.{text_of_decoded, decoded_size, never_decodes}
+use Rattle.age_stanza.proofs.Base64Lemmas.{text_of_decoded, decoded_size, never_decodes}
 use Rattle.age_file.specs.declared.position.Position.{Position}
 use Rattle.age_file.specs.Bindings.{position_front}
 use Rattle.age_file.specs.PositionTexts.{position_text, IsDigest}
 use Rattle.age_file.specs.inner.PositionTexts.{index_text, field_text, fields_text}
+use Rattle.age_chunk.specs.Nonce.{chunk_limit}
 
 -- a list that is cut where its second part begins
 front_is : (a b x : List ℕ) (n : ℕ) → length a ≡ n → x ≡ a ++ b → take n x ≡ a
@@ -33,7 +34,7 @@ back_is a b x n size e = rw (e, ← size) (drop-append_seam a b)
 -- ---- the index
 
 -- the digits of an index are text
-pub decimal_reads : (index : ℕ) (digits : List ℕ) → index < 281474976710656 → digits ≡ decimal index → IsUtf8 digits
+pub decimal_reads : (index : ℕ) (digits : List ℕ) → index < chunk_limit → digits ≡ decimal index → IsUtf8 digits
 decimal_reads index digits lt e = rw e (IsUtf8-from_ascii (decimal index) (IsAscii-decimal index (omega arith)))
 
 some_or_none : {T A : Type 0} (x : T) → Some x ≡ None → A
@@ -58,11 +59,11 @@ never_both : {E : Type 0} (r : Result ℕ E) (m : ℕ) (e : E) → r ≡ Ok m �
 never_both r m e a b = absurd cc
 
 -- and are read as it
-pub read_as : {E : Type 0} (index m : ℕ) (digits : List ℕ) (r : Result ℕ E) → r ≡ Ok m → index < 281474976710656 → digits ≡ decimal index
+pub read_as : {E : Type 0} (index m : ℕ) (digits : List ℕ) (r : Result ℕ E) → r ≡ Ok m → index < chunk_limit → digits ≡ decimal index
     → ParsesUnsigned 64 10 digits r → m ≡ index
 read_as index m digits r is lt e h = one_value r m index is (parse-decimal 64 index digits r (omega arith) (omega arith) e h)
 
-pub never_refused : {E : Type 0} (index : ℕ) (digits : List ℕ) (r : Result ℕ E) (error : E) → r ≡ Err error → index < 281474976710656 → digits ≡ decimal index
+pub never_refused : {E : Type 0} (index : ℕ) (digits : List ℕ) (r : Result ℕ E) (error : E) → r ≡ Err error → index < chunk_limit → digits ≡ decimal index
     → ParsesUnsigned 64 10 digits r → ⊥
 never_refused index digits r error is lt e h = never_both r index error (parse-decimal 64 index digits r (omega arith) (omega arith) e h) is
 
@@ -155,7 +156,7 @@ one_element [] size is = absurd (omega (arith, size))
 one_element (x ∷ []) size is = ap (λ (k : ℕ). k ∷ []) is
 one_element (x ∷ y ∷ xs) size is = absurd (omega (arith, size))
 
--- fields that were read are those of what they tell
+-- fields that were read are those of what they say
 pub fields_are : (fields id links tag : List ℕ) → length fields ≡ 133 → take 44 fields ≡ field_text id → take 44 (drop 44 fields) ≡ field_text links
     → take 44 (drop 88 fields) ≡ field_text tag → get_or fields 132 0 ≡ 10 → fields ≡ fields_text id links tag
 fields_are fields id links tag size a b c d =

@@ -19,7 +19,7 @@ use Rattle.age_fault.specs.declared.fault.FileFault.TheVariants.{Stream, Write}
 use Rattle.age_chunk.specs.ChunkBoxes.{IsChunkBox}
 use Rattle.age_file.specs.inner.Bindings.{link_if}
 use Rattle.age_file.specs.declared.position.Positions.{Positions}
-use Rattle.age_file.specs.declared.progress.Progress.{Progress}
+use Rattle.age_file.specs.declared.tally.Tally.{Tally}
 use Rattle.age_file.specs.inner.Counts.{Advances, CountsChunks}
 use Rattle.age_file.proofs.CountSteps.{no_piece, piece_start, mark_step, mark_none, mark_cut}
 use Rattle.age_fault.proofs.Bytes.{Appends-then}
@@ -53,7 +53,7 @@ module _ {B : Type 0} (opening : B → List ℕ → List ℕ → Option (List �
         count = omega arith;
         stands = λ s h. subst (Stands opening n o) (sym (no_piece s)) h;
         text = λ s h. ap (released (opening o.key) n) (no_piece s) ∙ sym (append-nil (released (opening o.key) n s));
-        counts = λ keep positive s base len h m. subst (λ (t : Segment). CountsChunks keep (opening o.key) n base t [] was.progress) (sym (no_piece s)) m;
+        counts = λ keep positive s base len h m. subst (λ (t : Segment). CountsChunks keep (opening o.key) n base t [] was.tally) (sym (no_piece s)) m;
       }
 
   -- a step, and then a step to any next segment
@@ -80,11 +80,11 @@ module _ {B : Type 0} (opening : B → List ℕ → List ℕ → Option (List �
             ∙ (append_assoc r p.out (q.out ++ unwritten) ∙ ap (λ (x : List ℕ). r ++ x) (sym (append_assoc p.out q.out unwritten)))));
         counts = λ keep positive s base len h m.
             let len' : length base ≡ (with_piece s a).start * n = len ∙ ap (λ (k : ℕ). k * n) (sym (piece_start s a)) in
-            let first = subst (λ k. CountsChunks keep (opening k) n base (with_piece s a) [] between.progress) (sym p.key)
+            let first = subst (λ k. CountsChunks keep (opening k) n base (with_piece s a) [] between.tally) (sym p.key)
             (p.counts keep positive s base len h m) in
             let then = q.counts keep positive (with_piece s a) base len' (p.stands s h) first in
-            subst (λ (t : Segment). CountsChunks keep op n base t unwritten now.progress) (same s)
-            (subst (λ k. CountsChunks keep (opening k) n base (next (with_piece s a)) unwritten now.progress) p.key then);
+            subst (λ (t : Segment). CountsChunks keep op n base t unwritten now.tally) (same s)
+            (subst (λ k. CountsChunks keep (opening k) n base (next (with_piece s a)) unwritten now.tally) p.key then);
       }
 
   pub releases_then : (a b : List ℕ) (old mid new : OpenerView B) (was between now : WriterView) (unwritten : List ℕ)
@@ -94,13 +94,13 @@ module _ {B : Type 0} (opening : B → List ℕ → List ℕ → Option (List �
       between now unwritten (λ s. pieces_join s a b) p q
 
   -- what `counts` asks of a piece that was fed
-  abbrev pub IsMarkedOn : OpenerView B → List ℕ → Progress → Progress → List ℕ → Type 0
+  abbrev pub IsMarkedOn : OpenerView B → List ℕ → Tally → Tally → List ℕ → Type 0
   IsMarkedOn old fed was now unwritten =
       (keep : Positions) → 0 < n → (s : Segment) (base : List ℕ) → length base ≡ s.start * n → Stands opening n old s
       → CountsChunks keep (opening old.key) n base s [] was → CountsChunks keep (opening old.key) n base (with_piece s fed) unwritten now
 
   -- what the opener lent of a piece was written whole, and counted
-  pub counts_whole : (sealing : List ℕ → List ℕ → List ℕ) (old new : OpenerView B) (was now : Progress) (fed : List ℕ) (chunk : Option (Bor (List ℕ)))
+  pub counts_whole : (sealing : List ℕ → List ℕ → List ℕ) (old new : OpenerView B) (was now : Tally) (fed : List ℕ) (chunk : Option (Bor (List ℕ)))
       (index : ℕ)
       → IsChunkBox sealing (opening old.key) → new.key ≡ old.key → index ≡ new.index
       → ((s : Segment) → Stands opening n old s → Stands opening n new (with_piece s fed))
@@ -115,7 +115,7 @@ module _ {B : Type 0} (opening : B → List ℕ → List ℕ → Option (List �
       (chunk_few chunk) at a' m
 
   -- the opener refused it, and lent nothing
-  pub counts_refused : (sealing : List ℕ → List ℕ → List ℕ) (old new : OpenerView B) (was : Progress) (fed : List ℕ)
+  pub counts_refused : (sealing : List ℕ → List ℕ → List ℕ) (old new : OpenerView B) (was : Tally) (fed : List ℕ)
       → IsChunkBox sealing (opening old.key)
       → ((s : Segment) → Stands opening n old s → Stands opening n new (with_piece s fed))
       → ((s : Segment) → Stands opening n old s → (outcome (opening old.key) n (with_piece s fed)).texts ≡ (outcome (opening old.key) n s).texts ++ [])
@@ -124,7 +124,7 @@ module _ {B : Type 0} (opening : B → List ℕ → List ℕ → Option (List �
       mark_none sealing (opening old.key) valid n positive keep base s fed was len h.timely (stands s h).timely (texts s h) m
 
   -- some of what it lent was not written
-  pub counts_cut : (sealing : List ℕ → List ℕ → List ℕ) (old new : OpenerView B) (was now : Progress) (fed : List ℕ) (chunk : Option (Bor (List ℕ)))
+  pub counts_cut : (sealing : List ℕ → List ℕ → List ℕ) (old new : OpenerView B) (was now : Tally) (fed : List ℕ) (chunk : Option (Bor (List ℕ)))
       (out unwritten : List ℕ)
       → IsChunkBox sealing (opening old.key)
       → ((s : Segment) → Stands opening n old s → Stands opening n new (with_piece s fed))
@@ -141,9 +141,9 @@ module _ {B : Type 0} (opening : B → List ℕ → List ℕ → Option (List �
       → ((s : Segment) → Stands opening n old s → Stands opening n new (with_piece s (take taken piece)))
       → ((s : Segment) → Stands opening n old s → (outcome (opening old.key) n (with_piece s (take taken piece))).texts
       ≡ (outcome (opening old.key) n s).texts ++ chunk_texts chunk)
-      → chunk_bytes chunk ≡ out ++ unwritten → Appends was.sink.taken now.sink.taken out → now.sink.label ≡ was.sink.label → now.progress.written
-      ≡ was.progress.written + length out
-      → IsMarkedOn old (take taken piece) was.progress now.progress unwritten
+      → chunk_bytes chunk ≡ out ++ unwritten → Appends was.sink.taken now.sink.taken out → now.sink.label ≡ was.sink.label → now.tally.written
+      ≡ was.tally.written + length out
+      → IsMarkedOn old (take taken piece) was.tally now.tally unwritten
       → Releases opening n (λ s. with_piece s (take taken piece)) old new was now unwritten
   fed_front old new was now piece taken chunk out unwritten key stands texts lent wrote named count counts =
       record {
@@ -161,7 +161,7 @@ module _ {B : Type 0} (opening : B → List ℕ → List ℕ → Option (List �
   -- how much it then holds and wrote
   pub goes_front : (old new : OpenerView B) (was now : WriterView) (piece : List ℕ) (taken : ℕ) (chunk : Option (Bor (List ℕ))) (out unwritten : List ℕ)
       → taken ≤ length piece → length new.held + length (chunk_bytes chunk) ≤ length old.held + taken
-      → chunk_bytes chunk ≡ out ++ unwritten → now.progress.written ≡ was.progress.written + length out → unwritten ≡ [] → now.sink.failed ≡ was.sink.failed
+      → chunk_bytes chunk ≡ out ++ unwritten → now.tally.written ≡ was.tally.written + length out → unwritten ≡ [] → now.sink.failed ≡ was.sink.failed
       → has_failed new.status ≡ false → (taken ≡ length (take taken piece)) × FeedGoes opening n old new was now (take taken piece) unwritten
   goes_front old new was now piece taken chunk out unwritten le room lent count whole failed sound =
       let len : length (chunk_bytes chunk) ≡ length out = ap length (lent ∙ (ap (λ (t : List ℕ). out ++ t) whole ∙ append-nil out)) in

@@ -10,7 +10,7 @@ use Rattle.std.proofs.lemmas.Bool.Decides.{nat_tests}
 use Rattle.std.proofs.lemmas.List.{length-take, length-append, length-drop, take_rest, take_at}
 use Rattle.age_chunk.specs.ChunkBoxes.{IsChunkBox}
 use Rattle.age_chunk.specs.Nonce.{chunk_limit}
-use Rattle.age_chunk.specs.Payload.{last_index}
+use Rattle.age_chunk.specs.Payload.{last_index, block_length}
 use Rattle.age_stream.specs.Sealing.{SealerView, Holds, step_len, needs_too_many}
 use Rattle.age_stream.specs.Lent.{chunk_bytes}
 use Rattle.age_stream.proofs.PublicLaws.{payload_is_longer}
@@ -36,17 +36,17 @@ pub record IsAtLimit {B : Type 0} (n : ℕ) (s : SealerView B) (piece : List ℕ
 
 pub at_limit : {B : Type 0} (n : ℕ) (s : SealerView B) (piece : List ℕ) → s.failed ≡ false → needs_too_many n s piece ≡ true → IsAtLimit n s piece
 at_limit n s piece sound refused =
-    let tests = and_parts (nat_lt 0 (length piece)) (length s.held == n && s.index == 281474976710655)
-    (ap (λ (b : Bool). b || (nat_lt 0 (length piece) && (length s.held == n && s.index == 281474976710655))) (sym sound) ∙ refused) in
-    let full = and_parts (length s.held == n) (s.index == 281474976710655) tests.1 in
-    record { more = ltb-true 0 (length piece) tests.0; full = eqb-true (length s.held) n full.0; index = eqb-true s.index 281474976710655 full.1 }
+    let tests = and_parts (nat_lt 0 (length piece)) (length s.held == n && s.index == chunk_limit - 1)
+    (ap (λ (b : Bool). b || (nat_lt 0 (length piece) && (length s.held == n && s.index == chunk_limit - 1))) (sym sound) ∙ refused) in
+    let full = and_parts (length s.held == n) (s.index == chunk_limit - 1) tests.1 in
+    record { more = ltb-true 0 (length piece) tests.0; full = eqb-true (length s.held) n full.0; index = eqb-true s.index (chunk_limit - 1) full.1 }
 
 pub too_long : {B : Type 0} (n : ℕ) (s : SealerView B) (piece : List ℕ) → 0 < n → IsAtLimit n s piece → IsTooLong n s piece
 too_long n s piece positive limit text holds =
-    let index : last_index n text ≡ 281474976710655 = sym holds.index ∙ limit.index in
+    let index : last_index n text ≡ chunk_limit - 1 = sym holds.index ∙ limit.index in
     let tail : length s.held ≡ length text - last_index n text * n = ap length holds.held ∙ length-drop (last_index n text * n) text in
-    let before : 281474976710655 * n ≤ length text - 1 = subst (λ (k : ℕ). k * n ≤ length text - 1) index (div-mul-le_self (length text - 1) n) in
-    let exact : length text - 281474976710655 * n ≡ n = sym (tail ∙ ap (λ (k : ℕ). length text - k * n) index) ∙ limit.full in
+    let before : (chunk_limit - 1) * n ≤ length text - 1 = subst (λ (k : ℕ). k * n ≤ length text - 1) index (div-mul-le_self (length text - 1) n) in
+    let exact : length text - (chunk_limit - 1) * n ≡ n = sym (tail ∙ ap (λ (k : ℕ). length text - k * n) index) ∙ limit.full in
     omega (arith, limit.more, before, exact, positive, length-append text piece)
 
 -- the front of a piece that a sealer took, where what it lent was written but for a part that wasn't
@@ -126,7 +126,7 @@ module _ {B : Type 0} (sealing : B → List ℕ → List ℕ → List ℕ) (n : 
       → SealFails sealing n b mid now rest fault → SealFails sealing n a was now (front ++ rest) fault
   fails_then a b was mid now front rest (Stream fault) same goes f =
       let more : IsTooLong n a (front ++ rest) =
-      λ text h. subst (λ (t : List ℕ). 281474976710656 * n < length t) (append_assoc text front rest) (f.0 (text ++ front) (goes.holds text h)) in
+      λ text h. subst (λ (t : List ℕ). chunk_limit * n < length t) (append_assoc text front rest) (f.0 (text ++ front) (goes.holds text h)) in
       (more, f.1, f.2 ∙ same)
   fails_then a b was mid now front rest Write same goes f = subst (λ (k : ℕ). HasFailed k now.sink.failed now.sink.failing) same f
   fails_then a b was mid now front rest (Head fault) same goes f = absurd f
@@ -145,17 +145,17 @@ module _ {B : Type 0} (sealing : B → List ℕ → List ℕ → List ℕ) (n : 
 
 -- the blocks before the last of a text
 module _ (sealing : List ℕ → List ℕ → List ℕ) (opening : List ℕ → List ℕ → Option (List ℕ)) (valid : IsChunkBox sealing opening) (n : ℕ) where
-  pub front_small : (text : List ℕ) → n + 16 ≤ 65552 → length (front_of sealing n text) ≤ length text * 65552
+  pub front_small : (text : List ℕ) → n + 16 ≤ block_length → length (front_of sealing n text) ≤ length text * block_length
   front_small text most =
       let q = last_index n text in
       let few : q ≤ length text = omega (arith, div-le_self (length text - 1) n) in
-      omega (arith, (payload_is_longer sealing opening valid n text).1, mul-le q (n + 16) (length text) 65552 few most)
+      omega (arith, (payload_is_longer sealing opening valid n text).1, mul-le q (n + 16) (length text) block_length few most)
 
 -- after a piece's front the count of what was written has room for a block
 pub room_left : {B : Type 0} (sealing : B → List ℕ → List ℕ → List ℕ) (opening : List ℕ → List ℕ → Option (List ℕ)) (n : ℕ) (a b : SealerView B)
     (was now : WriterView) (piece : List ℕ) (at : ℕ)
-    → IsChunkBox (sealing a.key) opening → n + 16 ≤ 65552 → HasRoom sealing n a was.progress.written (length piece)
-    → SealsSome sealing n a b was now (take at piece) (take at piece) [] [] → now.progress.written ≤ 2 ^ 127
+    → IsChunkBox (sealing a.key) opening → n + 16 ≤ block_length → HasRoom sealing n a was.tally.written (length piece)
+    → SealsSome sealing n a b was now (take at piece) (take at piece) [] [] → now.tally.written ≤ 2 ^ 127
 room_left sealing opening n a b was now piece at valid most room some =
     let text = room.text in
     let fed = take at piece in
@@ -165,5 +165,5 @@ room_left sealing opening n a b was now piece at valid most room some =
     ap length blocks ∙ (length-append (front_of (sealing a.key) n text) (some.out ++ [])
     ∙ ap (λ (t : List ℕ). length (front_of (sealing a.key) n text) + length t) (append-nil some.out)) in
     let short : length (text ++ fed) ≤ 2 ^ 96 = omega (arith, length-append text fed, length-take at piece, room.small) in
-    let product : length (text ++ fed) * 65552 ≤ 2 ^ 96 * 65552 = mul-le (length (text ++ fed)) 65552 (2 ^ 96) 65552 short (omega arith) in
+    let product : length (text ++ fed) * block_length ≤ 2 ^ 96 * block_length = mul-le (length (text ++ fed)) block_length (2 ^ 96) block_length short (omega arith) in
     omega (arith, some.wrote.count, room.count, len, fits, product)

@@ -21,6 +21,7 @@ use Rattle.age_fault.specs.declared.fault.FileFault.TheVariants.{ReadNeverEnds, 
 use Rattle.age_file.proofs.Bytes.{prefix_trans}
 use Rattle.age_fault.proofs.Bytes.{Appends-then}
 use Rattle.age_file.proofs.SealSteps.{goes_then}
+use Rattle.age_file.specs.Faults.{pull_room}
 
 -- the blocks before the last begin the payload
 pub front_begins : (sealing : List ℕ → List ℕ → List ℕ) (n : ℕ) (text : List ℕ) → IsPrefixOf (front_of sealing n text) (payload sealing n text)
@@ -82,7 +83,7 @@ module _ {B : Type 0} (sealing : B → List ℕ → List ℕ → List ℕ) (n : 
 -- why no more came
 pub pull_fails : (sealing : List ℕ → List ℕ → List ℕ) (n : ℕ) (old new : Ports) (text : List ℕ) (x z : ReaderView) (fault : FileFault)
     → x.source.failed ≡ old.source.failed → new.source ≡ z.source → new.sink.failed ≡ old.sink.failed → z.unread.pulls ≤ length text
-    → length text ≤ 65536 * z.unread.pulls
+    → length text ≤ pull_room * z.unread.pulls
     → PullFails x z fault → SealingFails sealing n old new text (front_of sealing n text) fault
 pull_fails sealing n old new text x z Read same is kept gave small f = (
   refl,

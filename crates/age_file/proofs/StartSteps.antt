@@ -1,7 +1,6 @@
 -- What was read up to a payload, one step after another.
 use Rattle.std.proofs.Common.{◌≡◌, ◌≤◌, inl, inr, ℕ, ◌<◌, List, [], ◌++◌, length, take, drop, Option, sym, ap, subst, ◌∙◌, arith, append-nil, append_assoc}
-use Rattle.std.proofs.lemmas.List.{length-append}
-use Rattle.std.specs.Prelude.{◌≢◌, Result, Ok, Err, IfOk, IfErr}
+use Rattle.std.specs.Prelude.{Result, Ok, Err, IfOk, IfErr}
 use Rattle.sha2.specs.Hashers.{Holds256}
 use Rattle.sha2.specs.declared.Sha256.{Sha256}
 use Rattle.std.specs.Io.KnownBytes.{Consumes}
@@ -15,9 +14,8 @@ use Rattle.age_keys.specs.Opened.{Opens, Refuses}
 use Rattle.age_file.specs.inner.Unread.{Unread}
 use Rattle.age_file.specs.inner.Readers.{ReaderView, reader_view}
 use Rattle.age_file.specs.inner.Intakes.{Pulled, PullFails}
-use Rattle.age_file.specs.Faults.{HeadFails, StopsAtHeader}
+use Rattle.age_file.specs.Faults.{pull_room, InHeader, HeadFails, StopsAtHeader}
 use Rattle.age_fault.specs.Faults.{HasFailed}
-use Rattle.age_file.specs.inner.Faults.{StopsInHeader}
 use Rattle.age_fault.specs.inner.Faults.{fault_of_key}
 use Rattle.age_file.specs.Starts.{StartFails}
 use Rattle.age_file.specs.inner.Starts.{Uses, UsesShort, NonceFails, ReadsNonce, StartsAt}
@@ -51,16 +49,15 @@ nonce_fails x y z p ReadNeverEnds lt e f g none h = ((p, lt, uses_then x y z p [
 nonce_fails x y z p other lt e f g none h = absurd h
 
 module _ (Allows : Header → List ℕ → Type 0) (Refused : Header → KeyFault → Type 0) where
-  pub head_to_start : (a b : SourceView) (fault : FileFault) → HeadFails a b fault → StopsInHeader a.remaining b.remaining fault
-      → StartFails Allows Refused a b fault
-  head_to_start a b (Head f) h early = h
-  head_to_start a b Read h early = (inl early, h)
-  head_to_start a b Memory h early = h
-  head_to_start a b ReadNeverEnds h early = (inl early, h)
-  head_to_start a b other h early = absurd h
+  pub head_to_start : (a b : SourceView) (fault : FileFault) → HeadFails InHeader a b fault → StartFails Allows Refused a b fault
+  head_to_start a b (Head f) h = h
+  head_to_start a b Read h = (inl h.0, h.1)
+  head_to_start a b Memory h = h
+  head_to_start a b ReadNeverEnds h = (inl h.0, h.1)
+  head_to_start a b other h = absurd h
 
   pub key_to_start : (a b : SourceView) (h : Header) (front rest : List ℕ) (fault : KeyFault) → StopsAtHeader a.remaining b.remaining → HeadText h front
-      → Consumes a.remaining b.remaining (front ++ rest) → length rest ≤ 65536
+      → Consumes a.remaining b.remaining (front ++ rest) → length rest ≤ pull_room
       → Refuses Allows Refused h fault → StartFails Allows Refused a b (fault_of_key fault)
   key_to_start a b h front rest KeyMemory stops text consumed few refuses = stops
   key_to_start a b h front rest ScryptNotAlone stops text consumed few refuses = (h, front, rest, text, consumed, λ e. cc, refuses, few)
@@ -81,17 +78,8 @@ module _ (Allows : Header → List ℕ → Type 0) (Refused : Header → KeyFaul
   nonce_to_start : (a : SourceView) (y z : ReaderView) (h : Header) (front key : List ℕ) (fault : FileFault) → y.source.failed ≡ a.failed
       → HeadText h front → Opens Allows h key
       → Pulled a.remaining y.source.remaining y.unread.pulls (front ++ y.unread.bytes) → NonceFails y z fault → StartFails Allows Refused a z.source fault
-  nonce_to_start a y z h front key NonceCut e text opens p f = (
-    h,
-    front,
-    key,
-    f.0.0,
-    text,
-    opens,
-    f.0.1,
-    (short_pulled a.remaining y z front f.0 p).consumed,
-    f.1,
-  )
+  nonce_to_start a y z h front key NonceCut e text opens p f =
+      ((h, front, key, f.0.0, text, opens, f.0.1, (short_pulled a.remaining y z front f.0 p).consumed), f.1)
   nonce_to_start a y z h front key Read e text opens p f = (
     inr (h, front, key, f.0.0, text, opens, f.0.1, (short_pulled a.remaining y z front f.0 p).consumed),
     subst (λ (m : ℕ). HasFailed m z.source.failed z.source.failing) e f.1,
@@ -115,9 +103,10 @@ module _ (Allows : Header → List ℕ → Type 0) (Refused : Header → KeyFaul
       opens = subst (λ (k : List ℕ). Opens Allows h k) (sym r.key_is) opens;
       size = r.size;
       id = r.id front hashed;
-      few = r.few;
+      few = r.takes.few;
       pulled = subst (λ (t : List ℕ). Pulled a.remaining z.source.remaining z.unread.pulls t) (sym (append_assoc front u.nonce z.unread.bytes))
-          (r.uses a.remaining front pulled);
+          (r.takes.uses a.remaining front pulled);
+      unfailed = r.takes.unfailed ∙ same;
     }
     nonce_found (Err fault) r = tt
 

@@ -1,8 +1,10 @@
 -- What binds a position to its file and to the text before it. Not of the age format.
 use Rattle.std.specs.Prelude.{ℕ, List, ◌++◌, codes, replicate, fold}
 use Rattle.std.specs.Fmt.{decimal}
+use Rattle.std.specs.Simd.{first_chunks}
 use Rattle.sha2.specs.Sha256.{sha256}
 use Rattle.age_stanza.specs.Text.{base64_text}
+use Rattle.age_chunk.specs.Payload.{chunk_length}
 use Rattle.age_kdf.specs.Hmac.{hmac}
 
 -- the chain over chunks, one link a chunk: each is the digest of the link before it and the chunk
@@ -12,7 +14,11 @@ link so_far chunk = sha256 (so_far ++ chunk)
 unfoldable pub chain : List (List ℕ) → List ℕ
 chain chunks = fold link (replicate 32 0) chunks
 
--- what tells a file from others: the digest of its header's bytes and its payload nonce
+-- the chain over so many chunks of a text, the first ones
+abbrev pub chain_over : ℕ → List ℕ → List ℕ
+chain_over count text = chain (first_chunks chunk_length count text)
+
+-- what identifies a file: the digest of its header's bytes and its payload nonce
 unfoldable pub file_id : List ℕ → List ℕ → List ℕ
 file_id front nonce = sha256 (front ++ nonce)
 

@@ -1,5 +1,4 @@
--- Bound positions: what a position that carries a text's chain says of a resumed run. A chunk has
--- 65,536 bytes.
+-- Bound positions: what a position that carries a text's chain says of a resumed run.
 use Rattle.std.specs.Prelude.{◌≡◌, ℕ, ◌*◌, ◌≤◌, List, take}
 use Rattle.age_stanza.specs.declared.header.Header.{Header}
 use Rattle.age_chunk.specs.Payload.{chunk_count, chunk_length}

@@ -1,9 +1,8 @@
 -- What a decryption did.
-use Rattle.std.specs.Prelude.{◌≡◌, ◌⊎◌, ℕ, ◌≤◌, List, length, Option, Some, true, Result}
-use Rattle.std.specs.Prelude.{IfOk, IfErr, OnOk, MatchResult}
+use Rattle.std.specs.Prelude.{◌≡◌, ℕ, ◌≤◌, List, length, Option, Some, None, true, Result}
+use Rattle.std.specs.Prelude.{IfOk, IfErr, OnOk, IsSomeAnd, MatchResult}
 use Rattle.std.specs.Io.KnownBytes.{Appends}
 use Rattle.age_stanza.specs.declared.header.Header.{Header}
-use Rattle.age_stream.specs.declared.step.Status.TheVariants.{Failed}
 use Rattle.age_chunk.specs.Payload.{chunk_count, chunk_length}
 use Rattle.age_stream.specs.Authentic.{IsClosed}
 use Rattle.age_chunk.specs.Nonce.{chunk_limit}
@@ -12,54 +11,29 @@ use Rattle.age_keys.specs.declared.fault.KeyFault.TheVariants.{Memory as KeyMemo
 use Rattle.age_keys.specs.Keys.{IsScryptNotAlone}
 use Rattle.age_file.specs.Faults.{NeverEnds}
 use Rattle.age_file.specs.AgeFile.{box, unbox, FileOf}
-use Rattle.age_file.specs.declared.position.Position.{Position}
 use Rattle.age_file.specs.declared.position.Positions.{Positions}
-use Rattle.age_file.specs.Ports.{Ports, NoneFailed, ReadFailed, WriteFailed}
-use Rattle.age_file.specs.Starts.{IsEarly, StartFails}
-use Rattle.age_file.specs.Runs.{Run, IsFromStart, outcome_of, WritesNone, IsDone}
-use Rattle.age_file.specs.Runs.{HasNoFault, StopsInPayload, StopsWriting}
+use Rattle.age_file.specs.Ports.{Ports, NoneFailed}
+use Rattle.age_file.specs.Starts.{StartFails}
+use Rattle.age_file.specs.Runs.{Run, IsFromStart, WritesNone, StopsInPayload, IsDone}
 use Rattle.age_file.specs.declared.decryption.Done.{Done}
 use Rattle.age_file.specs.declared.decryption.Stopped.{Stopped}
 use Rattle.age_fault.specs.declared.fault.FileFault.{FileFault}
-use Rattle.age_fault.specs.declared.fault.FileFault.TheVariants.{Stream, Read, Write, Memory}
+use Rattle.age_fault.specs.declared.fault.FileFault.TheVariants.{Read, Write, Memory}
 use Rattle.age_fault.specs.declared.fault.FileFault.TheVariants.{ReadNeverEnds}
 
-module _ (keep : Positions) (Allows : Header → List ℕ → Type 0) where
-  -- a run of which all text was written, with its position; or none yet: fewer bytes were pulled
-  -- than a header and a nonce. What came has no fault so far
-  abbrev pub WroteSoFar : Ports → Ports → ℕ → Option Position → Type 0
-  WroteSoFar old new written position =
-      (WritesNone old new written position
-      × IsEarly Allows old.source.remaining new.source.remaining)
-      ⊎ ((r : Run) × IsFromStart r × StopsInPayload keep Allows old new written position r
-      × HasNoFault r)
-
-  -- when each fault comes, and what was written then
-  abbrev pub DecryptFails : (Header → KeyFault → Type 0) → Ports → Ports → ℕ → Option Position
-      → FileFault → Type 0
-  DecryptFails Refused old new written position (Stream fault) =
-      (r : Run) × IsFromStart r × StopsInPayload keep Allows old new written position r
-      × ((outcome_of r).status ≡ Failed fault) × NoneFailed old new
-  DecryptFails Refused old new written position Write =
-      (r : Run) × IsFromStart r × StopsWriting keep Allows old new written position r
-      × WriteFailed old new
-  DecryptFails Refused old new written position Read = WroteSoFar old new written position
-      × ReadFailed old new
-  DecryptFails Refused old new written position ReadNeverEnds = WroteSoFar old new written position
-      × NeverEnds old.source.remaining new.source.remaining
-  DecryptFails Refused old new written position fault =
-      WritesNone old new written position
-      × StartFails Allows Refused old.source new.source fault
-
--- what a decryption promises of its answers: how it ended, and how it stopped
-abbrev pub DecryptEnds : (Header → List ℕ → Type 0) → Ports → Ports → Done → Type 0
-DecryptEnds Allows old new done = (r : Run) × IsFromStart r × IsDone Allows old new done.written r
+-- what a decryption promises where it ended
+abbrev pub DecryptEnds : (Header → List ℕ → Type 0) → Ports → Ports → Done → Run → Type 0
+DecryptEnds Allows old new done r = IsFromStart r × IsDone Allows old new done.written r
     × NoneFailed old new
 
+-- what it promises where it stopped: before the payload, nothing was written; or in the payload
 abbrev pub DecryptStops : Positions → (Header → List ℕ → Type 0) → (Header → KeyFault → Type 0)
-    → Ports → Ports → Stopped → Type 0
-DecryptStops keep Allows Refused old new stopped = DecryptFails keep Allows Refused old new
-    stopped.written stopped.position stopped.fault
+    → Ports → Ports → Option Run → Stopped → Type 0
+DecryptStops keep Allows Refused old new None stopped = WritesNone old new stopped
+    × StartFails Allows Refused old.source new.source stopped.fault
+DecryptStops keep Allows Refused old new (Some r) stopped = IsFromStart r
+    × StopsInPayload keep Allows (NeverEnds old.source.remaining new.source.remaining) old new
+    stopped r
 
 -- exactly this text was written, of so many bytes
 abbrev pub WritesText : Option (List ℕ) → Option (List ℕ) → ℕ → List ℕ → Type 0
@@ -94,14 +68,16 @@ StopsOutside Memory = Unit {0}
 StopsOutside ReadNeverEnds = Unit {0}
 StopsOutside other = ⊥
 
--- what a decryption promises, where positions are kept or dropped: how it ended and how it stopped;
--- that the text of an age file that is undamaged is written, unless reading, writing or memory
--- fails; that the sink sent on what it took; and that the sink keeps its label
+-- what a decryption promises, where positions are kept or dropped: its run, if it came to the
+-- payload; how it ended and how it stopped; that the text of an age file that is undamaged is
+-- written, unless reading, writing or memory fails; that the sink sent on what it took; and that
+-- the sink keeps its label
 pub record Decrypts (keep : Positions) (Allows : Header → List ℕ → Type 0)
     (Refused : Header → KeyFault → Type 0) (old new : Ports) (result : Result Done Stopped)
     : Type 0 where
-  pub done : IfOk result (DecryptEnds Allows old new)
-  pub stopped : IfErr result (DecryptStops keep Allows Refused old new)
+  pub run : Option Run
+  pub done : IfOk result (λ done. IsSomeAnd run (DecryptEnds Allows old new done))
+  pub stopped : IfErr result (DecryptStops keep Allows Refused old new run)
   pub undamaged : (text : List ℕ) → IsUndamaged Allows Refused old.source.remaining text
       → MatchResult result (λ done. WritesText old.sink.taken new.sink.taken done.written text)
       (λ stopped. StopsOutside stopped.fault)

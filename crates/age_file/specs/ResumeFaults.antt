@@ -1,21 +1,18 @@
--- Why a resumed decryption stopped, and what it did. A chunk has 65,536 bytes, its block 65,552.
-use Rattle.std.specs.Prelude.{◌≡◌, ◌≢◌, ◌⊎◌, ℕ, ◌*◌, ◌+◌, ◌<◌, ◌≤◌}
-use Rattle.std.specs.Prelude.{List, length, Option, None}
-use Rattle.std.specs.Simd.{first_chunks}
+-- Why a resumed decryption stopped, and what it did: before the old text, in it, in the blocks that
+-- are skipped, or in the payload.
+use Rattle.std.specs.Prelude.{◌≡◌, ◌≢◌, ◌⊎◌, ℕ, ◌*◌, ◌/◌, ◌+◌, ◌<◌, ◌≤◌}
+use Rattle.std.specs.Prelude.{List, length, Option, Some, None}
 use Rattle.std.specs.Io.KnownBytes.{Consumes, IsAtEnd}
 use Rattle.age_stanza.specs.declared.header.Header.{Header}
 use Rattle.age_chunk.specs.declared.fault.StreamKind.TheVariants.{Truncated}
-use Rattle.age_chunk.specs.declared.fault.StreamFault.{StreamFault}
-use Rattle.age_stream.specs.declared.step.Status.TheVariants.{Failed}
 use Rattle.age_chunk.specs.Payload.{chunk_length, block_length}
 use Rattle.age_keys.specs.declared.fault.KeyFault.{KeyFault}
-use Rattle.age_file.specs.Faults.{IsByAllPulls}
+use Rattle.age_file.specs.Faults.{pull_room, IsByAllPulls}
 use Rattle.age_fault.specs.Faults.{HasFailed}
-use Rattle.age_file.specs.Bindings.{chain}
-use Rattle.age_file.specs.Starts.{IsEarly, StartFails}
-use Rattle.age_file.specs.Runs.{Run, outcome_of, Reads, WritesNone, Told, IsDone}
+use Rattle.age_file.specs.Bindings.{chain_over}
+use Rattle.age_file.specs.Starts.{StartFails}
+use Rattle.age_file.specs.Runs.{Run, Reads, GivesPosition, WritesNone, StopsInPayload, IsDone}
 use Rattle.age_file.specs.Ports.{NoneFailed, ReadFailed, WriteFailed}
-use Rattle.age_file.specs.Runs.{HasNoFault, StopsInPayload, StopsWriting}
 use Rattle.age_file.specs.declared.position.Position.{Position}
 use Rattle.age_file.specs.declared.position.Positions.{Positions}
 use Rattle.age_file.specs.declared.decryption.Done.{Done}
@@ -26,115 +23,101 @@ use Rattle.age_fault.specs.declared.fault.FileFault.TheVariants.{Write, ReadNeve
 use Rattle.age_fault.specs.declared.fault.FileFault.TheVariants.{PositionForged, OldTextDiffers}
 use Rattle.age_file.specs.Verdicts.{OpenedFile, HasId, HasTag}
 use Rattle.age_file.specs.OldTexts.{IsOldText}
-use Rattle.age_file.specs.Resumes.{ResumePorts, NoPortFailed, WritesOld, IsFrom, Accepts, IsSame}
+use Rattle.age_file.specs.Resumes.{ResumePorts, WritesOld, IsFrom, IsSame}
+
+-- | A stop                | with the fault              | What was written   | Position             |
+-- |-----------------------|-----------------------------|--------------------|----------------------|
+-- | before the old text   | 1 to 16, 24, 26, 28, 29, 30 | nothing            | none                 |
+-- | in the old text       | 25, 26, 27, 29, 31          | some of it         | none                 |
+-- | in the skipped blocks | 20, 26, 29                  | the old text       | where the run began  |
+-- | in the payload        | 17 to 22, 26, 27, 29        | that and more text | where it stopped     |
 
 -- the file and the old text, together, gave so much that they are taken for ones that never end
-abbrev pub NeverEnd : ResumePorts → ResumePorts → Type 0
-NeverEnd old new = (bytes : List ℕ) × (texts : List ℕ)
+abbrev pub NeverEndTogether : ResumePorts → ResumePorts → Type 0
+NeverEndTogether old new = (bytes : List ℕ) × (texts : List ℕ)
     × Consumes old.main.source.remaining new.main.source.remaining bytes
     × Consumes old.old.remaining new.old.remaining texts
     × IsByAllPulls (length bytes + length texts)
 
-module _ (Allows : Header → List ℕ → Type 0) (p : Position) where
-  -- a run that stopped in the old text, before all that the position needs was written: at most
-  -- 65,536 bytes had been read after the nonce, and it has no position
-  pub record StopsInOld (old new : ResumePorts) (written : ℕ) (position : Option Position)
-      : Type 0 where
-    pub file : OpenedFile
-    pub rest : List ℕ
-    pub accepts : Accepts Allows p old.main.source.remaining new.main.source.remaining file rest
-    pub few : length rest ≤ 65536
-    pub copied : List ℕ
-    pub short : length copied < p.index * chunk_length
-    pub writes : WritesOld p old new written copied
-    pub none : position ≡ None
-
+module _ (Allows : Header → List ℕ → Type 0) (p : Position) (old new : ResumePorts) where
   -- what a resumed decryption promises where it ended
-  abbrev pub ResumeEnds : ResumePorts → ResumePorts → Done → Type 0
-  ResumeEnds old new done = (r : Run) × IsFrom p old.old new.old r
-      × IsDone Allows old.main new.main done.written r × NoPortFailed old new
+  abbrev pub ResumeEnds : Done → Run → Type 0
+  ResumeEnds done r = IsFrom p old.old new.old r × (new.old.failed ≡ old.old.failed)
+      × IsDone Allows old.main new.main done.written r × NoneFailed old.main new.main
 
-module _ (keep : Positions) (Allows : Header → List ℕ → Type 0) (p : Position) where
-  -- a run that stopped in the blocks that are skipped, with the old text written and the
-  -- position that it began from
-  pub record StopsInSkipped (old new : ResumePorts) (written : ℕ) (position : Option Position)
-      (skipped : List ℕ) : Type 0 where
+  -- this file was opened, and no more was read after its nonce than one pull gives
+  abbrev pub HasOpened : OpenedFile → Type 0
+  HasOpened f = (rest : List ℕ) × (length rest ≤ pull_room)
+      × Reads Allows old.main.source.remaining new.main.source.remaining f rest
+
+  -- Before the old text: the position is another file's, or wasn't made under this file's key; or
+  -- there is no payload
+  abbrev pub BeforeOldFails : (Header → KeyFault → Type 0) → FileFault → Type 0
+  BeforeOldFails Refused OtherFile = (f : OpenedFile) × HasOpened f × (HasId p f → ⊥)
+  BeforeOldFails Refused PositionForged =
+      (f : OpenedFile) × HasOpened f × HasId p f × (HasTag p f → ⊥)
+  BeforeOldFails Refused fault = StartFails Allows Refused old.main.source new.main.source fault
+
+  -- While the old text is copied, a failed read of it leaves all that it gave written; so does its
+  -- end, and a source that never ends
+  abbrev pub CopyFails : (pulled copied : List ℕ) → FileFault → Type 0
+  CopyFails pulled copied ShortText = (copied ≡ pulled) × IsAtEnd new.old.remaining
+  CopyFails pulled copied Read = (copied ≡ pulled) × NoneFailed old.main new.main
+      × HasFailed old.old.failed new.old.failed new.old.failing
+  CopyFails pulled copied ReadNeverEnds = (copied ≡ pulled) × NeverEndTogether old new
+  CopyFails pulled copied Write = WriteFailed old.main new.main × (new.old.failed ≡ old.old.failed)
+  CopyFails pulled copied other = ⊥
+
+  -- all of it up to the position was copied, and isn't the text that the position was made for; or
+  -- not so much was copied
+  abbrev pub InOldFails : (pulled copied : List ℕ) → FileFault → Type 0
+  InOldFails pulled copied OldTextDiffers = (length copied ≡ p.index * chunk_length)
+      × (chain_over p.index copied ≢ p.chain)
+  InOldFails pulled copied fault = (length copied < p.index * chunk_length)
+      × CopyFails pulled copied fault
+
+  -- a stop in the old text has no position
+  pub record StopsInOld (stopped : Stopped) : Type 0 where
     pub file : OpenedFile
-    pub accepts : Accepts Allows p old.main.source.remaining new.main.source.remaining file skipped
+    pub opened : HasOpened file
+    pub own : HasId p file
+    pub tagged : HasTag p file
+    pub copied : List ℕ
+    pub writes : WritesOld p old new stopped.written copied
+    pub nowhere : stopped.position ≡ None
+    pub why : InOldFails writes.pulled copied stopped.fault
+
+  -- While blocks are skipped, the file ends after so many whole ones, or no more comes of it
+  abbrev pub InSkippedFails : (skipped : List ℕ) → FileFault → Type 0
+  InSkippedFails skipped (Stream fault) = (fault.kind ≡ Truncated)
+      × (fault.chunk ≡ length skipped / block_length) × IsAtEnd new.main.source.remaining
+      × NoneFailed old.main new.main
+  InSkippedFails skipped Read = ReadFailed old.main new.main
+  InSkippedFails skipped ReadNeverEnds = NeverEndTogether old new
+  InSkippedFails skipped other = ⊥
+
+  -- a stop in the blocks that are skipped has the old text written, and the position that the run
+  -- began from
+  pub record StopsInSkipped (keep : Positions) (stopped : Stopped) : Type 0 where
+    pub file : OpenedFile
+    pub skipped : List ℕ
+    pub reads : Reads Allows old.main.source.remaining new.main.source.remaining file skipped
+    pub own : HasId p file
+    pub tagged : HasTag p file
     pub short : length skipped < p.index * block_length
     pub copied : List ℕ
     pub old_text : IsOldText p copied
-    pub writes : WritesOld p old new written copied
-    pub here : Told keep (IsSame p) position
+    pub writes : WritesOld p old new stopped.written copied
+    pub unfailed : new.old.failed ≡ old.old.failed
+    pub here : GivesPosition keep (IsSame p) stopped.position
+    pub why : InSkippedFails skipped stopped.fault
 
-  -- the source ended within the blocks that are skipped, after so many whole ones
-  pub record EndsInSkipped (old new : ResumePorts) (written : ℕ) (position : Option Position)
-      (fault : StreamFault) : Type 0 where
-    pub skipped : List ℕ
-    pub stops : StopsInSkipped old new written position skipped
-    pub kind : fault.kind ≡ Truncated
-    pub least : fault.chunk * block_length ≤ length skipped
-    pub most : length skipped < fault.chunk * block_length + block_length
-    pub at_end : IsAtEnd new.main.source.remaining
-
-  -- no more came, at each stage. Before the payload, nothing is written. While the old text is
-  -- copied, all that it gave is written, and there is no position. While blocks are skipped, the
-  -- old text is written, and the position is the one that the run began from. After them, all text
-  -- of the bytes that came is written, and they have no fault
-  abbrev pub FailsAt : (Main Old : Type 0) → ResumePorts → ResumePorts → ℕ → Option Position
-      → Type 0
-  FailsAt Main Old old new written position =
-      (WritesNone old.main new.main written position
-      × IsEarly Allows old.main.source.remaining new.main.source.remaining × Main)
-      ⊎ ((s : StopsInOld Allows p old new written position) × (s.copied ≡ s.writes.pulled) × Old)
-      ⊎ ((skipped : List ℕ) × StopsInSkipped old new written position skipped × Main)
-      ⊎ ((r : Run) × IsFrom p old.old new.old r
-      × StopsInPayload keep Allows old.main new.main written position r × HasNoFault r × Main)
-
-  -- when each fault comes, and what was written then; where the position or the old text isn't the
-  -- file's, at most 65,536 bytes were read after the nonce
-  abbrev pub ResumeFails : (Header → KeyFault → Type 0) → ResumePorts → ResumePorts → ℕ
-      → Option Position → FileFault → Type 0
-  ResumeFails Refused old new written position OtherFile =
-      WritesNone old.main new.main written position × (f : OpenedFile) × (rest : List ℕ)
-      × Reads Allows old.main.source.remaining new.main.source.remaining f rest × (HasId p f → ⊥)
-      × (length rest ≤ 65536)
-  ResumeFails Refused old new written position PositionForged =
-      WritesNone old.main new.main written position × (f : OpenedFile) × (rest : List ℕ)
-      × Reads Allows old.main.source.remaining new.main.source.remaining f rest × HasId p f
-      × (HasTag p f → ⊥) × (length rest ≤ 65536)
-  ResumeFails Refused old new written position ShortText =
-      (s : StopsInOld Allows p old new written position) × (s.copied ≡ s.writes.pulled)
-      × IsAtEnd new.old.remaining
-  ResumeFails Refused old new written position OldTextDiffers =
-      (position ≡ None) × (f : OpenedFile) × (rest : List ℕ)
-      × Accepts Allows p old.main.source.remaining new.main.source.remaining f rest
-      × (copied : List ℕ) × WritesOld p old new written copied
-      × (length copied ≡ p.index * chunk_length)
-      × (chain (first_chunks chunk_length p.index copied) ≢ p.chain) × (length rest ≤ 65536)
-  ResumeFails Refused old new written position (Stream fault) =
-      (EndsInSkipped old new written position fault
-      ⊎ ((r : Run) × IsFrom p old.old new.old r
-      × StopsInPayload keep Allows old.main new.main written position r
-      × ((outcome_of r).status ≡ Failed fault)))
-      × NoPortFailed old new
-  ResumeFails Refused old new written position Write =
-      (StopsInOld Allows p old new written position
-      ⊎ ((r : Run) × IsFrom p old.old new.old r
-      × StopsWriting keep Allows old.main new.main written position r))
-      × WriteFailed old.main new.main × (new.old.failed ≡ old.old.failed)
-  ResumeFails Refused old new written position Read =
-      FailsAt (ReadFailed old.main new.main × (new.old.failed ≡ old.old.failed))
-      (HasFailed old.old.failed new.old.failed new.old.failing × NoneFailed old.main new.main)
-      old new written position
-  ResumeFails Refused old new written position ReadNeverEnds =
-      FailsAt (NeverEnd old new) (NeverEnd old new) old new written position
-  ResumeFails Refused old new written position fault =
-      WritesNone old.main new.main written position
-      × StartFails Allows Refused old.main.source new.main.source fault
-
-  -- what a resumed decryption promises where it stopped
-  abbrev pub ResumeStops : (Header → KeyFault → Type 0) → ResumePorts → ResumePorts → Stopped
-      → Type 0
-  ResumeStops Refused old new stopped = ResumeFails Refused old new stopped.written stopped.position
-      stopped.fault
+  -- what it promises where it stopped: before the payload, which its run would name; or in it
+  abbrev pub ResumeStops : Positions → (Header → KeyFault → Type 0) → Option Run → Stopped → Type 0
+  ResumeStops keep Refused None stopped =
+      (WritesNone old.main new.main stopped × (new.old ≡ old.old)
+      × BeforeOldFails Refused stopped.fault)
+      ⊎ StopsInOld stopped ⊎ StopsInSkipped keep stopped
+  ResumeStops keep Refused (Some r) stopped = IsFrom p old.old new.old r
+      × (new.old.failed ≡ old.old.failed)
+      × StopsInPayload keep Allows (NeverEndTogether old new) old.main new.main stopped r

@@ -1,13 +1,12 @@
--- What a resumed decryption did. A chunk has 65,536 bytes, its block 65,552.
-use Rattle.std.specs.Prelude.{◌≡◌, ℕ, List, ◌++◌, length, Option}
+-- What a resumed decryption did.
+use Rattle.std.specs.Prelude.{◌≡◌, ℕ, List, ◌++◌, length}
 use Rattle.std.specs.Io.KnownBytes.{Consumes, Appends}
 use Rattle.age_io.specs.Views.{SourceView}
-use Rattle.age_stanza.specs.declared.header.Header.{Header}
 use Rattle.age_stream.specs.Headline.{IsPrefixOf}
-use Rattle.age_file.specs.Ports.{Ports, NoneFailed}
-use Rattle.age_file.specs.Runs.{Run, Reads}
+use Rattle.age_file.specs.Ports.{Ports}
+use Rattle.age_file.specs.Runs.{Run}
 use Rattle.age_file.specs.declared.position.Position.{Position}
-use Rattle.age_file.specs.Verdicts.{OpenedFile, HasId, HasTag}
+use Rattle.age_file.specs.Verdicts.{HasId, HasTag}
 use Rattle.age_file.specs.OldTexts.{BeginsWith, IsOldText}
 
 -- the ports of a decryption, and what is seen of the old text's source
@@ -17,9 +16,6 @@ pub record ResumePorts : Type 0 where
 
 abbrev pub resume_ports : Ports → SourceView → ResumePorts
 resume_ports main old = record { main = main; old = old }
-
-abbrev pub NoPortFailed : ResumePorts → ResumePorts → Type 0
-NoPortFailed old new = NoneFailed old.main new.main × (new.old.failed ≡ old.old.failed)
 
 -- only these bytes were written, the first of those that were read from the old text; if that
 -- begins with the chunks of a text before the position, these bytes begin that text
@@ -40,13 +36,6 @@ pub record IsFrom (p : Position) (old new : SourceView) (r : Run) : Type 0 where
   pub old_text : IsOldText p r.copied
   pub more : List ℕ
   pub old_read : Consumes old.remaining new.remaining (r.copied ++ more)
-
--- the position is this file's, of which these bytes were read after the nonce
-pub record Accepts (Allows : Header → List ℕ → Type 0) (p : Position) (old new : Option (List ℕ))
-    (f : OpenedFile) (rest : List ℕ) : Type 0 where
-  pub reads : Reads Allows old new f rest
-  pub own : HasId p f
-  pub tagged : HasTag p f
 
 -- the same fields
 pub record IsSame (p next : Position) : Type 0 where

@@ -1,13 +1,15 @@
 -- What was encrypted under a passphrase, decrypted with it.
-use Rattle.std.specs.Prelude.{◌≡◌, ℕ, ◌≤◌, List, [], length, Some, Result, MatchResult}
+use Rattle.std.specs.Prelude.{◌≡◌, ℕ, ◌≤◌, List, [], length, Option, Some, Result, MatchResult}
 use Rattle.base64.specs.GeneralPurpose.{IsBytes}
 use Rattle.age_chunk.specs.Payload.{chunk_count, chunk_length}
 use Rattle.age_stream.specs.Authentic.{IsClosed}
 use Rattle.age_chunk.specs.Nonce.{chunk_limit}
-use Rattle.age_keys.specs.Passphrase.{PassphraseIdentity, IsPassphraseKey, PassphraseRefuses}
+use Rattle.age_keys.specs.Passphrase.{PassphraseIdentity, IsAllowed, IsPassphraseKey}
+use Rattle.age_keys.specs.Passphrase.{PassphraseRefuses}
 use Rattle.age_file.specs.AgeFile.{box, unbox}
 use Rattle.age_file.specs.Ports.{Ports}
-use Rattle.age_file.specs.Secrets.{SecretView, IsWithinLimits}
+use Rattle.age_file.specs.Runs.{Run}
+use Rattle.age_file.specs.Secrets.{SecretView}
 use Rattle.age_file.specs.Encrypts.{AgeFile, Encrypts}
 use Rattle.age_file.specs.Decrypts.{IsWhole, StopsOutside}
 use Rattle.age_file.specs.Calls.{DecryptAnswers}
@@ -18,7 +20,7 @@ use Rattle.age_file.specs.declared.position.Positions.{Positions}
 
 -- a secret whose parts have their sizes
 pub record IsSecret (s : SecretView) : Type 0 where
-  pub within : IsWithinLimits s.pass s.log
+  pub within : IsAllowed s.pass s.log
   pub salt_length : length s.salt ≡ 16
   pub salt_bytes : IsBytes s.salt
   pub key_length : length s.key ≡ 16
@@ -46,12 +48,13 @@ pub record WasEncrypted (s : SecretView) (text : List ℕ) (old new : Ports) (wr
 -- as reading, writing or want of memory may stop it
 abbrev pub RoundTrip : Type 0
 RoundTrip = (keep : Positions) (s : SecretView) (max_log : ℕ) (text : List ℕ)
-    (was file now last : Ports) (written : Written) (result : Result Done Stopped) → IsSecret s
+    (was file now last : Ports) (written : Written) (result : Result Done Stopped)
+    (run : Option Run) → IsSecret s
     → s.log ≤ max_log
     → IsClosed (box s.key s.nonce) (unbox s.key s.nonce) chunk_length text
     → WasEncrypted s text was file written → now.source.remaining ≡ file.sink.taken
     → now.sink.taken ≡ Some []
     → DecryptAnswers PassphraseIdentity IsPassphraseKey PassphraseRefuses keep (words_of s max_log)
-    now last result
+    now last result run
     → MatchResult result (λ done. last.sink.taken ≡ Some text)
     (λ stopped. StopsOutside stopped.fault)

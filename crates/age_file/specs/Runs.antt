@@ -1,14 +1,12 @@
 -- Runs: what was read of an age file, and what was written. A decryption is a run that begins with
--- chunk 0; a resumed one begins with the chunk of its position, after the old text. A chunk has
--- 65,536 bytes, its block 65,552.
+-- chunk 0; a resumed one begins with the chunk of its position, after the old text.
 use Rattle.std.specs.Prelude.{◌≡◌, ℕ, ◌⊎◌, ◌*◌, ◌/◌, ◌<◌, ◌≤◌, min, List, [], ◌++◌}
 use Rattle.std.specs.Prelude.{length, take}
 use Rattle.std.specs.Prelude.{Option, None, IsSomeAnd, Bool, true, false}
-use Rattle.std.specs.Simd.{first_chunks}
 use Rattle.std.specs.Io.KnownBytes.{Consumes, Appends, IsAtEnd}
 use Rattle.age_stanza.specs.declared.header.Header.{Header}
 use Rattle.age_stanza.specs.Grammar.{HeadText}
-use Rattle.age_stream.specs.declared.step.Status.TheVariants.{Done}
+use Rattle.age_stream.specs.declared.step.Status.TheVariants.{Done, Failed}
 use Rattle.age_stream.specs.Opening.{has_failed}
 use Rattle.age_chunk.specs.Payload.{chunk_count, chunk_length, block_length}
 use Rattle.age_stream.specs.Segment.{Segment, Outcome, outcome, released}
@@ -16,16 +14,15 @@ use Rattle.age_stream.specs.Headline.{IsPrefixOf, IsAuthentic}
 use Rattle.age_chunk.specs.Nonce.{chunk_limit}
 use Rattle.age_keys.specs.Opened.{Opens}
 use Rattle.age_file.specs.AgeFile.{box, unbox}
-use Rattle.age_file.specs.Bindings.{chain}
-use Rattle.age_file.specs.Ports.{Ports}
+use Rattle.age_file.specs.Bindings.{chain_over}
+use Rattle.age_file.specs.Ports.{Ports, NoneFailed, ReadFailed, WriteFailed}
 use Rattle.age_file.specs.Verdicts.{OpenedFile, HasId, HasTag}
 use Rattle.age_file.specs.declared.position.Position.{Position}
 use Rattle.age_file.specs.declared.position.Positions.{Positions}
 use Rattle.age_file.specs.declared.position.Positions.TheVariants.{Kept, Dropped}
-
--- one piece from a start, with an end or without
-abbrev pub segment : ℕ → List ℕ → Bool → Segment
-segment start bytes ended = record { start = start; bytes = bytes; ended = ended; late = false }
+use Rattle.age_file.specs.declared.decryption.Stopped.{Stopped}
+use Rattle.age_fault.specs.declared.fault.FileFault.{FileFault}
+use Rattle.age_fault.specs.declared.fault.FileFault.TheVariants.{Stream, Read, Write, ReadNeverEnds}
 
 -- a run: the file that was opened, the chunk that the run begins with, the old text that was copied
 -- and the blocks that were skipped before it, the bytes that were read after them, whether the
@@ -46,7 +43,7 @@ pub record IsFromStart (r : Run) : Type 0 where
   pub none_skipped : r.skipped ≡ []
 
 abbrev pub segment_of : Run → Segment
-segment_of r = segment r.first r.bytes r.ended
+segment_of r = record { start = r.first; bytes = r.bytes; ended = r.ended; late = false }
 
 -- the outcome of the bytes, and the text that they release, every chunk of which opened
 abbrev pub outcome_of : Run → Outcome
@@ -83,10 +80,6 @@ pub record IsRun (Allows : Header → List ℕ → Type 0) (old new : Ports) (wr
 abbrev pub HasNoFault : Run → Type 0
 HasNoFault r = (r.ended ≡ false) × (has_failed (outcome_of r).status ≡ false)
 
--- some of the text was not written, or the end of the file was seen
-abbrev pub StopsShort : Run → Type 0
-StopsShort r = (length r.out < length (text_of r)) ⊎ ((outcome_of r).status ≡ Done)
-
 -- every block that is tried and opens is one that the writer of this text sealed there
 abbrev pub IsTexts : List ℕ → Run → Type 0
 IsTexts text r = IsAuthentic (box r.file.key r.file.nonce) (unbox r.file.key r.file.nonce)
@@ -99,17 +92,9 @@ pub record IsAuthenticRun (r : Run) (text : List ℕ) : Type 0 where
   pub old_text : r.copied ≡ take (r.first * chunk_length) text
   pub authentic : IsTexts text r
 
--- then what was written begins that text, or is all of it
-abbrev pub WritesOf : Run → Type 0
-WritesOf r = (text : List ℕ) → IsAuthenticRun r text → IsPrefixOf (held r) text
-
-abbrev pub WritesAll : Run → Type 0
-WritesAll r = (text : List ℕ) → IsAuthenticRun r text → held r ≡ text
-
 -- a position stands after chunks of a text, and carries the chain over them
 abbrev pub CarriesText : List ℕ → Position → Type 0
-CarriesText text p = (p.index * chunk_length ≤ length text)
-    × (p.chain ≡ chain (first_chunks chunk_length p.index text))
+CarriesText text p = (p.index * chunk_length ≤ length text) × (p.chain ≡ chain_over p.index text)
 
 -- where a reader may go on: the whole chunks that were written, copied or released as not last,
 -- with the file's id, the chain over those chunks, and the tag; of an authentic run, that chain is
@@ -117,41 +102,46 @@ CarriesText text p = (p.index * chunk_length ≤ length text)
 pub record IsPositionOf (r : Run) (p : Position) : Type 0 where
   pub index : p.index ≡ min (length (held r) / chunk_length) (outcome_of r).index
   pub own : HasId p r.file
-  pub chain_is : p.chain ≡ chain (first_chunks chunk_length p.index (held r))
+  pub chain_is : p.chain ≡ chain_over p.index (held r)
   pub tagged : HasTag p r.file
   pub carries : (text : List ℕ) → IsAuthenticRun r text → CarriesText text p
 
 -- a position is returned if positions are kept, and none if they are dropped
-abbrev pub Told : Positions → (Position → Type 0) → Option Position → Type 0
-Told Kept Is position = IsSomeAnd position Is
-Told Dropped Is position = position ≡ None
+abbrev pub GivesPosition : Positions → (Position → Type 0) → Option Position → Type 0
+GivesPosition Kept Is position = IsSomeAnd position Is
+GivesPosition Dropped Is position = position ≡ None
 
--- nothing was written, and there is no position
-abbrev pub WritesNone : Ports → Ports → ℕ → Option Position → Type 0
-WritesNone old new written position = Appends old.sink.taken new.sink.taken [] × (written ≡ 0)
-    × (position ≡ None)
+-- a stop before anything was written: it has no position
+pub record WritesNone (old new : Ports) (stopped : Stopped) : Type 0 where
+  pub sink : new.sink ≡ old.sink
+  pub written : stopped.written ≡ 0
+  pub position : stopped.position ≡ None
 
-module _ (Allows : Header → List ℕ → Type 0) where
-  -- a run of which all text was written
-  pub record Wrote (old new : Ports) (written : ℕ) (r : Run) : Type 0 where
-    pub is : IsRun Allows old new written r
-    pub whole : r.out ≡ text_of r
-    pub of : WritesOf r
+-- when each fault comes in a payload. Unless the sink failed, all text was written; no more came
+-- only if what did has no fault; and if the sink failed, some text was not written, or the end of
+-- the file was seen and only the flush was left
+abbrev pub PayloadFails : (Never : Type 0) → Ports → Ports → Run → FileFault → Type 0
+PayloadFails Never old new r (Stream fault) = (r.out ≡ text_of r)
+    × ((outcome_of r).status ≡ Failed fault) × NoneFailed old new
+PayloadFails Never old new r Read = (r.out ≡ text_of r) × HasNoFault r × ReadFailed old new
+PayloadFails Never old new r Write =
+    ((length r.out < length (text_of r)) ⊎ ((outcome_of r).status ≡ Done)) × WriteFailed old new
+PayloadFails Never old new r ReadNeverEnds = (r.out ≡ text_of r) × HasNoFault r × Never
+PayloadFails Never old new r other = ⊥
 
-  -- and of which the source ended, and the end is reported
-  pub record IsDone (old new : Ports) (written : ℕ) (r : Run) : Type 0 where
-    pub wrote : Wrote old new written r
-    pub ended : r.ended ≡ true
-    pub done : (outcome_of r).status ≡ Done
-    pub all : WritesAll r
+-- a run that stopped in its payload; of an authentic run, what was written begins the text
+pub record StopsInPayload (keep : Positions) (Allows : Header → List ℕ → Type 0)
+    (Never : Type 0) (old new : Ports) (stopped : Stopped) (r : Run) : Type 0 where
+  pub is : IsRun Allows old new stopped.written r
+  pub begins : (text : List ℕ) → IsAuthenticRun r text → IsPrefixOf (held r) text
+  pub here : GivesPosition keep (IsPositionOf r) stopped.position
+  pub why : PayloadFails Never old new r stopped.fault
 
-module _ (keep : Positions) (Allows : Header → List ℕ → Type 0) where
-  -- a run that stopped in its payload, with all of its text written
-  abbrev pub StopsInPayload : Ports → Ports → ℕ → Option Position → Run → Type 0
-  StopsInPayload old new written position r = Wrote Allows old new written r
-      × Told keep (IsPositionOf r) position
-
-  -- or with so much as the sink took: not all, unless only the flush was left
-  abbrev pub StopsWriting : Ports → Ports → ℕ → Option Position → Run → Type 0
-  StopsWriting old new written position r = IsRun Allows old new written r × WritesOf r
-      × Told keep (IsPositionOf r) position × StopsShort r
+-- a run that wrote all of its text and saw the end; of an authentic run, that is all of the text
+pub record IsDone (Allows : Header → List ℕ → Type 0) (old new : Ports) (written : ℕ) (r : Run)
+    : Type 0 where
+  pub is : IsRun Allows old new written r
+  pub whole : r.out ≡ text_of r
+  pub ended : r.ended ≡ true
+  pub done : (outcome_of r).status ≡ Done
+  pub all : (text : List ℕ) → IsAuthenticRun r text → held r ≡ text

@@ -7,34 +7,27 @@ use Rattle.age_stanza.specs.Grammar.{HeadText}
 use Rattle.age_keys.specs.declared.fault.KeyFault.{KeyFault}
 use Rattle.age_keys.specs.declared.fault.KeyFault.TheVariants.{Memory as KeyMemory}
 use Rattle.age_keys.specs.Opened.{Opens, Refuses}
-use Rattle.age_file.specs.Faults.{TellsFault, NeverEnds, InHeader, StopsAtHeader}
-use Rattle.age_fault.specs.Faults.{HasFailed}
+use Rattle.age_file.specs.Faults.{pull_room, InHeader, HeadFails}
 use Rattle.age_fault.specs.declared.fault.FileFault.{FileFault}
-use Rattle.age_fault.specs.declared.fault.FileFault.TheVariants.{Head, Key, NonceCut, Read, Memory}
-use Rattle.age_fault.specs.declared.fault.FileFault.TheVariants.{ReadNeverEnds}
+use Rattle.age_fault.specs.declared.fault.FileFault.TheVariants.{Key, NonceCut}
 
--- what came has no fault so far: it ends within a header, or it is a header that was opened and
--- fewer than 16 bytes after it
+-- what came is a header that was opened, and fewer than 16 bytes after it
+abbrev pub InNonce : (Header → List ℕ → Type 0) → Option (List ℕ) → Option (List ℕ) → Type 0
+InNonce Allows old new =
+    (h : Header) × (front : List ℕ) × (key : List ℕ) × (short : List ℕ) × HeadText h front
+    × Opens Allows h key × (length short < 16) × Consumes old new (front ++ short)
+
+-- what came has no fault so far
 abbrev pub IsEarly : (Header → List ℕ → Type 0) → Option (List ℕ) → Option (List ℕ) → Type 0
-IsEarly Allows old new = InHeader old new
-    ⊎ ((h : Header) × (front : List ℕ) × (key : List ℕ) × (short : List ℕ) × HeadText h front
-    × Opens Allows h key × (length short < 16) × Consumes old new (front ++ short))
+IsEarly Allows old new = InHeader old new ⊎ InNonce Allows old new
 
--- why there is no payload; after a header that wasn't opened, at most 65,536 bytes were read
+-- why there is no payload; after a header that wasn't opened, no more was read than one pull gives
 abbrev pub StartFails : (Header → List ℕ → Type 0) → (Header → KeyFault → Type 0) → SourceView
     → SourceView → FileFault → Type 0
-StartFails Allows Refused old new (Head fault) = TellsFault old.remaining new.remaining fault
 StartFails Allows Refused old new (Key fault) =
     (h : Header) × (front : List ℕ) × (rest : List ℕ) × HeadText h front
     × Consumes old.remaining new.remaining (front ++ rest) × (fault ≢ KeyMemory)
-    × Refuses Allows Refused h fault × (length rest ≤ 65536)
-StartFails Allows Refused old new NonceCut =
-    (h : Header) × (front : List ℕ) × (key : List ℕ) × (short : List ℕ) × HeadText h front
-    × Opens Allows h key × (length short < 16)
-    × Consumes old.remaining new.remaining (front ++ short) × IsAtEnd new.remaining
-StartFails Allows Refused old new Read = IsEarly Allows old.remaining new.remaining
-    × HasFailed old.failed new.failed new.failing
-StartFails Allows Refused old new Memory = StopsAtHeader old.remaining new.remaining
-StartFails Allows Refused old new ReadNeverEnds = IsEarly Allows old.remaining new.remaining
-    × NeverEnds old.remaining new.remaining
-StartFails Allows Refused old new other = ⊥
+    × Refuses Allows Refused h fault × (length rest ≤ pull_room)
+StartFails Allows Refused old new NonceCut = InNonce Allows old.remaining new.remaining
+    × IsAtEnd new.remaining
+StartFails Allows Refused old new fault = HeadFails (IsEarly Allows) old new fault

@@ -4,7 +4,6 @@ pub mod Copies
 pub mod Counts
 pub mod Decrypts
 pub mod Encrypts
-pub mod Faults
 pub mod Fronts
 pub mod Intakes
 pub mod Payloads

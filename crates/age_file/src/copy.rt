@@ -6,49 +6,49 @@ ghost use Rattle.age_file.specs.inner.Bindings.{chain_if};
 ghost use Rattle.age_file.specs.inner.Readers.{view_of_reader, view_of_writer};
 ghost use Rattle.age_file.specs.inner.Readers.{SameReader, SameWriter};
 ghost use Rattle.age_file.specs.inner.Copies.{CopiesChunk, CopiesAll};
+ghost use Rattle.age_chunk.specs.Payload.{chunk_length};
+ghost use Rattle.age_chunk.specs.Nonce.{chunk_limit};
 
 use crate::reader::{Reader, Writer};
 use crate::start::some_bytes;
 use age_fault::{FileFault, write_all};
 use age_io::{Sink, Source};
+use age_stream::CHUNK_LEN;
 use sha2::{Digest, Sha256};
-
-/// The bytes of a chunk before the last.
-const CHUNK: usize = 65_536;
 
 /// Copies a chunk, and counts it.
 fn copy_chunk<S: Source, O: Sink>(
     reader: &mut Reader<'_, S>,
     writer: &mut Writer<'_, O>,
 ) -> Result<(), FileFault>
-    requires room { writer.old.progress.written ≤ 2 ^ 64 }
-    requires limit { writer.old.progress.index + 1 < 281474976710656 }
-    requires kept { IsSome writer.old.progress.chain }
-    ensures copied { CopiesChunk 65536 (view_of_reader S.view reader.old)
+    requires room { writer.old.tally.written ≤ 2 ^ 64 }
+    requires limit { writer.old.tally.index + 1 < chunk_limit }
+    requires kept { IsSome writer.old.tally.chain }
+    ensures copied { CopiesChunk chunk_length (view_of_reader S.view reader.old)
         (view_of_reader S.view reader.new) (view_of_writer O.view writer.old)
         (view_of_writer O.view writer.new) result }
     ensures same_reader { SameReader reader.old reader.new }
     ensures same_writer { SameWriter writer.old writer.new }
 {
-    let Some(chain) = writer.progress.chain else {
+    let Some(chain) = writer.tally.chain else {
         unreachable!();
     };
     let mut digest = Sha256::new();
     digest.update(&chain);
-    let mut left = CHUNK;
+    let mut left = CHUNK_LEN;
     'parts: while left > 0 {
         if !some_bytes(reader)? {
             return Err(FileFault::ShortText);
         }
         let n = left.min(reader.intake.bytes().len());
         let piece = &reader.intake.bytes()[..n];
-        write_all(writer.sink, piece, &mut writer.progress.written)?;
+        write_all(writer.sink, piece, &mut writer.tally.written)?;
         digest.update(piece);
         reader.intake.use_front(n);
         left -= n;
     }
-    let index = writer.progress.index + 1;
-    writer.progress.advance(index, Some(digest.finalize()));
+    let index = writer.tally.index + 1;
+    writer.tally.advance(index, Some(digest.finalize()));
     Ok(())
 }
 
@@ -58,10 +58,10 @@ pub(crate) fn copy_chunks<S: Source, O: Sink>(
     chunks: u64,
     writer: &mut Writer<'_, O>,
 ) -> Result<(), FileFault>
-    requires limit { chunks < 281474976710656 }
-    requires fresh { (writer.old.progress.written ≡ 0) × (writer.old.progress.index ≡ 0)
-        × (writer.old.progress.chain ≡ chain_if Kept []) }
-    ensures copied { CopiesAll 65536 chunks (view_of_reader S.view reader.old)
+    requires limit { chunks < chunk_limit }
+    requires fresh { (writer.old.tally.written ≡ 0) × (writer.old.tally.index ≡ 0)
+        × (writer.old.tally.chain ≡ chain_if Kept []) }
+    ensures copied { CopiesAll chunk_length chunks (view_of_reader S.view reader.old)
         (view_of_reader S.view reader.new) (view_of_writer O.view writer.old)
         (view_of_writer O.view writer.new) result }
     ensures same_reader { SameReader reader.old reader.new }

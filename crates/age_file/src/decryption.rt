@@ -7,13 +7,14 @@ ghost use Rattle.age_file.specs.Decrypts.{Decrypts};
 ghost use Rattle.age_file.specs.inner.Decrypts.{PositionAt, EndsAs, OpensPayload};
 ghost use Rattle.age_file.specs.inner.Payloads.{HasPlace};
 ghost use Rattle.age_file.specs.inner.Readers.{stage_of, SameReader, SameWriter};
+ghost use Rattle.age_chunk.specs.Nonce.{chunk_limit};
 
 use crate::intake::Intake;
 use crate::payload::decrypt_payload;
 use crate::position::{Position, Positions};
-use crate::progress::Progress;
 use crate::reader::{Reader, Writer};
 use crate::start::{Unlocked, start};
+use crate::tally::Tally;
 use age_fault::FileFault;
 use age_io::{Sink, Source};
 use age_keys::{Unlock, payload_key, position_key};
@@ -54,49 +55,45 @@ impl Stopped {
     }
 
     /// A stop after what was written.
-    pub(crate) fn after(
-        fault: FileFault,
-        progress: &Progress,
-        position: Option<Position>,
-    ) -> Stopped
+    pub(crate) fn after(fault: FileFault, tally: &Tally, position: Option<Position>) -> Stopped
         ensures { result ≡ record {
           fault = fault;
-          written = progress.now.written;
+          written = tally.now.written;
           position = position;
         } }
     {
         Stopped {
             fault,
-            written: progress.written,
+            written: tally.written,
             position,
         }
     }
 }
 
 /// Where a reader of this file may continue, if a chain was kept.
-fn position_of(unlocked: &Unlocked, progress: &Progress) -> Option<Position>
-    ensures { PositionAt unlocked.now progress.now.index progress.now.chain result }
+fn position_of(unlocked: &Unlocked, tally: &Tally) -> Option<Position>
+    ensures { PositionAt unlocked.now tally.now.index tally.now.chain result }
 {
-    let chain = progress.chain?;
+    let chain = tally.chain?;
     let key = position_key(&unlocked.key, &unlocked.nonce);
-    Some(Position::tagged(&key, progress.index, unlocked.id, chain))
+    Some(Position::tagged(&key, tally.index, unlocked.id, chain))
 }
 
 /// How a run ended: with what it wrote, and with the position of a stop, if a chain was kept.
 pub(crate) fn ended(
     run: Result<(), FileFault>,
     unlocked: &Unlocked,
-    progress: &Progress,
+    tally: &Tally,
 ) -> Result<Done, Stopped>
-    ensures { EndsAs unlocked.now progress.now run result }
+    ensures { EndsAs unlocked.now tally.now run result }
 {
     match run {
         Ok(()) => Ok(Done {
-            written: progress.written,
+            written: tally.written,
         }),
         Err(fault) => {
-            let next = position_of(unlocked, progress);
-            Err(Stopped::after(fault, progress, next))
+            let next = position_of(unlocked, tally);
+            Err(Stopped::after(fault, tally, next))
         }
     }
 }
@@ -108,7 +105,7 @@ pub(crate) fn open_payload<S: Source, O: Sink>(
     reader: &mut Reader<'_, S>,
     writer: &mut Writer<'_, O>,
 ) -> Result<Done, Stopped>
-    requires limit { index < 281474976710656 }
+    requires limit { index < chunk_limit }
     requires room { HasPlace (stage_of S.view O.view reader.old writer.old) }
     ensures opened { OpensPayload unlocked.now index
         (stage_of S.view O.view reader.old writer.old)
@@ -118,7 +115,7 @@ pub(crate) fn open_payload<S: Source, O: Sink>(
 {
     let key = payload_key(&unlocked.key, &unlocked.nonce);
     let run = decrypt_payload(&key, index, reader, writer);
-    ended(run, unlocked, &writer.progress)
+    ended(run, unlocked, &writer.tally)
 }
 
 /// Decrypts a file, and hands out the position of a stop: [`decrypt_with`], with positions kept.
@@ -167,10 +164,10 @@ pub fn decrypt_with<U: Unlock, S: Source, O: Sink>(
         Ok(unlocked) => unlocked,
         Err(fault) => return Err(Stopped::early(fault)),
     };
-    let progress = Progress::new(positions);
+    let tally = Tally::new(positions);
     let mut writer = Writer {
         sink: writer,
-        progress,
+        tally,
     };
     open_payload(&unlocked, 0, &mut reader, &mut writer)
 }

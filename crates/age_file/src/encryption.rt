@@ -9,10 +9,10 @@ ghost use Rattle.age_fault.specs.declared.fault.FileFault.TheVariants.{Memory};
 
 use crate::intake::Intake;
 use crate::position::Positions;
-use crate::progress::Progress;
 use crate::reader::{Reader, Writer};
 use crate::sealing::seal_all;
 use crate::secret::Secret;
+use crate::tally::Tally;
 use age_fault::{FileFault, write_all};
 use age_io::{Sink, Source};
 use age_keys::{FileKey, payload_key, scrypt_header};
@@ -47,14 +47,14 @@ fn write_front<O: Sink>(
     secret: &Secret<'_>,
     writer: &mut Writer<'_, O>,
 ) -> Result<(), FileFault>
-    requires { writer.old.progress.written ≡ 0 }
+    requires { writer.old.tally.written ≡ 0 }
     ensures wrote { WritesFront secret.now (view_of_writer O.view writer.old)
         (view_of_writer O.view writer.new) result }
     ensures named { (O.view writer.new.sink.now).label ≡ (O.view writer.old.sink.now).label }
     ensures same { SameWriter writer.old writer.new }
 {
     let front = front_of(alloc, secret)?;
-    write_all(writer.sink, front.as_slice(), &mut writer.progress.written)
+    write_all(writer.sink, front.as_slice(), &mut writer.tally.written)
 }
 
 /// Encrypts all that a source gives under a passphrase, into an age file (<https://c2sp.org/age>):
@@ -86,7 +86,7 @@ pub fn encrypt<S: Source, O: Sink>(
     };
     let mut writer = Writer {
         sink: writer,
-        progress: Progress::new(Positions::Dropped),
+        tally: Tally::new(Positions::Dropped),
     };
     write_front(alloc, secret, &mut writer)?;
     let key = payload_key(&FileKey::new(secret.file_key), &secret.payload_nonce);

@@ -1,8 +1,7 @@
 //! Reads the header at the beginning of a source.
 
-ghost use Rattle.std.specs.Prelude.{◌≡◌, ℕ, List, [], IfOk, IfErr, OnOk};
-ghost use Rattle.age_file.specs.Faults.{HeadFails, StopsAtHeader};
-ghost use Rattle.age_file.specs.inner.Faults.{StopsInHeader};
+ghost use Rattle.std.specs.Prelude.{◌≡◌, ℕ, List, [], IfOk, IfErr};
+ghost use Rattle.age_file.specs.Faults.{HeadFails, InHeader};
 ghost use Rattle.age_file.specs.inner.Readers.{view_of_reader, SameReader};
 ghost use Rattle.age_file.specs.inner.Intakes.{ReadsHead};
 ghost use Rattle.age_file.specs.inner.Fronts.{IsReading, IsFront, TakesFront, head_of};
@@ -26,18 +25,18 @@ pub(crate) struct Head {
 /// The text of a header that is being read: what parses it, its length so far in bytes, and the
 /// digest that was fed it.
 #[derive(Drop)]
-struct Front {
+struct HeadReader {
     parser: HeadParser,
     len: u64,
     digest: Sha256,
 }
 
-impl Front {
+impl HeadReader {
     /// Nothing was read yet.
-    fn new(alloc: Global) -> Front
+    fn new(alloc: Global) -> HeadReader
         ensures { IsFront result [] }
     {
-        Front {
+        HeadReader {
             parser: HeadParser::new(alloc),
             len: 0,
             digest: Sha256::new(),
@@ -84,14 +83,8 @@ impl Front {
         requires unread { (reader.old.intake.now.bytes ≡ []) × (reader.old.intake.now.pulls ≡ 0) }
         ensures found { IfOk result (λ header. ReadsHead (S.view reader.old.source.now)
             (view_of_reader S.view reader.new) (head_of header self.new)) }
-        ensures last { OnOk result (StopsAtHeader (S.view reader.old.source.now).remaining
-            (S.view reader.new.source.now).remaining) }
-        ensures unfailed { OnOk result ((S.view reader.new.source.now).failed ≡
-            (S.view reader.old.source.now).failed) }
-        ensures fails { IfErr result (HeadFails (S.view reader.old.source.now)
+        ensures fails { IfErr result (HeadFails InHeader (S.view reader.old.source.now)
             (S.view reader.new.source.now)) }
-        ensures early { IfErr result (StopsInHeader (S.view reader.old.source.now).remaining
-            (S.view reader.new.source.now).remaining) }
         ensures same { SameReader reader.old reader.new }
     {
         'pieces: while reader.intake.refill(reader.source)? {
@@ -111,17 +104,11 @@ pub(crate) fn read_head<S: Source>(
     requires { (reader.old.intake.now.bytes ≡ []) × (reader.old.intake.now.pulls ≡ 0) }
     ensures found { IfOk result (ReadsHead (S.view reader.old.source.now)
         (view_of_reader S.view reader.new)) }
-    ensures last { OnOk result (StopsAtHeader (S.view reader.old.source.now).remaining
-        (S.view reader.new.source.now).remaining) }
-    ensures unfailed { OnOk result ((S.view reader.new.source.now).failed ≡
-        (S.view reader.old.source.now).failed) }
-    ensures fails { IfErr result (HeadFails (S.view reader.old.source.now)
+    ensures fails { IfErr result (HeadFails InHeader (S.view reader.old.source.now)
         (S.view reader.new.source.now)) }
-    ensures early { IfErr result (StopsInHeader (S.view reader.old.source.now).remaining
-        (S.view reader.new.source.now).remaining) }
     ensures same { SameReader reader.old reader.new }
 {
-    let mut front = Front::new(alloc);
+    let mut front = HeadReader::new(alloc);
     let header = front.read(reader)?;
     Ok(front.head(header))
 }

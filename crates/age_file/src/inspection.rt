@@ -2,8 +2,7 @@
 
 ghost use Rattle.std.specs.Prelude.{◌≡◌, ◌+◌, ◌^◌, ◌<◌, ◌≤◌, ◌*◌, IfOk, IfErr};
 ghost use Rattle.std.specs.Prelude.{OnOk, map};
-ghost use Rattle.std.specs.Io.KnownBytes.{IsAtEnd};
-ghost use Rattle.age_file.specs.Faults.{HeadFails};
+ghost use Rattle.age_file.specs.Faults.{HeadFails, NoHeadFault};
 ghost use Rattle.age_file.specs.inner.Readers.{view_of_reader, SameReader};
 ghost use Rattle.age_file.specs.inner.Intakes.{CountsRest, RestFails};
 ghost use Rattle.age_file.specs.Reports.{stanza_report, IsPlainOf, Inspects};
@@ -15,7 +14,15 @@ use crate::report::{Report, StanzaReport, StanzaReports};
 use age_fault::FileFault;
 use age_io::Source;
 use age_stanza::{Bytes, Stanza, Stanzas};
+use age_stream::{BLOCK_LEN, CHUNK_LIMIT, TAG_LEN};
 use std::alloc::{AllocError, Global};
+
+/// The lengths of a payload nonce, a tag and a whole chunk's block, as a report counts them.
+const NONCE_LEN: u128 = 16;
+
+const TAG: u128 = TAG_LEN as u128;
+
+const BLOCK: u128 = BLOCK_LEN as u128;
 
 /// How many stanzas give their memory back at once.
 const STANZAS_AT_ONCE: usize = 4_096;
@@ -25,10 +32,6 @@ fn count_rest<S: Source>(reader: &mut Reader<'_, S>) -> Result<u128, FileFault>
     requires { reader.old.intake.now.pulls ≤ 2 ^ 63 }
     ensures counts { IfOk result (CountsRest (view_of_reader S.view reader.old)
         (view_of_reader S.view reader.new)) }
-    ensures ended { OnOk result (IsAtEnd (S.view reader.new.source.now).remaining) }
-    ensures small { IfOk result (λ n. n ≤ 65536 * (2 ^ 63 + 1)) }
-    ensures unfailed { OnOk result ((S.view reader.new.source.now).failed ≡
-        (S.view reader.old.source.now).failed) }
     ensures fails { IfErr result (RestFails (view_of_reader S.view reader.old)
         (view_of_reader S.view reader.new)) }
     ensures same { SameReader reader.old reader.new }
@@ -80,31 +83,32 @@ fn plain_of(rest: u128) -> Option<u128>
     requires { rest < 2 ^ 127 }
     ensures { IsPlainOf rest result }
 {
-    if rest < 32 {
+    if rest < NONCE_LEN + TAG {
         return None;
     }
-    let payload = rest - 16;
-    if payload == 16 {
+    let payload = rest - NONCE_LEN;
+    if payload == TAG {
         return Some(0);
     }
-    let chunks = payload.div_ceil(65_552);
-    if chunks > 281_474_976_710_656 || payload < (chunks - 1) * 65_552 + 17 {
+    let chunks = payload.div_ceil(BLOCK);
+    if chunks > CHUNK_LIMIT as u128 || payload <= (chunks - 1) * BLOCK + TAG {
         return None;
     }
-    Some(payload - 16 * chunks)
+    Some(payload - TAG * chunks)
 }
 
 /// Reads a source to its end, and reports what it holds: the header's length, its stanzas, how many
 /// bytes follow it, and the length of the plaintext that so many bytes hold
 /// (<https://c2sp.org/age#header>, <https://c2sp.org/age#payload>).
 ///
-/// Refuses with the header's fault (1 to 8), `Read` (26), `Memory` (28) and `ReadNeverEnds` (29).
+/// Refuses with the header's fault (1 to 8), `Read` (26), `Memory` (28) and `ReadNeverEnds` (29). If
+/// the bytes that it read have a fault of the header, it refuses with that, not with 26 or 29.
 pub fn inspect<S: Source>(alloc: Global, source: &mut S) -> Result<Report, FileFault>
     ensures ok { IfOk result (Inspects (S.view source.old).remaining
         (S.view source.new).remaining) }
     ensures unfailed { OnOk result ((S.view source.new).failed ≡ (S.view source.old).failed) }
     // When each fault comes.
-    ensures fails { IfErr result (HeadFails (S.view source.old) (S.view source.new)) }
+    ensures fails { IfErr result (HeadFails NoHeadFault (S.view source.old) (S.view source.new)) }
 {
     let mut intake = Intake::new(alloc)?;
     let mut reader = Reader {

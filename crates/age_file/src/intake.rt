@@ -3,9 +3,11 @@
 ghost use Rattle.std.specs.Prelude.{◌≡◌, ◌≤◌, [], length, drop, IfOk};
 ghost use Rattle.age_file.specs.inner.Intakes.{Refills};
 ghost use Rattle.age_file.specs.inner.Readers.{reader_view};
+ghost use Rattle.age_file.specs.Faults.{pull_room};
 
 use age_fault::FileFault;
 use age_io::Source;
+use age_stream::CHUNK_LEN;
 use std::alloc::{AllocError, Global};
 use std::marker::Model;
 
@@ -13,8 +15,9 @@ use std::marker::Model;
 /// ones that never end.
 const MOST_PULLS: u64 = 9_223_372_036_854_775_808;
 
-/// How many bytes are pulled at once, at most.
-const ROOM: usize = 65_536;
+/// How many bytes are pulled at once, at most: a chunk's, so that a pull of a text that is encrypted
+/// fills a chunk.
+const PULL_ROOM: usize = CHUNK_LEN;
 
 /// The bytes that were pulled from a source and not used yet, and how many pulls of the call gave
 /// some.
@@ -32,13 +35,14 @@ impl Model for Intake {
     ghost Value = { Unread };
 
     ghost use Rattle.std.specs.Prelude.{◌≡◌, ◌≤◌, ◌^◌, length, drop, take};
+    ghost use Rattle.age_file.specs.Faults.{pull_room};
 
     ghost view = { λ i. record {
       bytes = drop i.from (take i.to i.buffer.items);
       pulls = i.pulls;
     } };
 
-    ghost invariant = { λ i. (i.from ≤ i.to) × (i.to ≤ 65536) × (length i.buffer.items ≡ 65536)
+    ghost invariant = { λ i. (i.from ≤ i.to) × (i.to ≤ pull_room) × (length i.buffer.items ≡ pull_room)
         × (i.pulls ≤ 2 ^ 63) };
 }
 
@@ -46,7 +50,7 @@ impl Intake {
     pub(crate) fn new(alloc: Global) -> Result<Intake, AllocError>
         ensures { IfOk result (λ i. (i.bytes ≡ []) × (i.pulls ≡ 0)) }
     {
-        let buffer = vec![in alloc; 0; ROOM]?;
+        let buffer = vec![in alloc; 0; PULL_ROOM]?;
         Ok(Intake {
             buffer,
             from: 0,
@@ -66,7 +70,7 @@ impl Intake {
     /// The bytes that were not used yet.
     pub(crate) fn bytes(&self) -> &[u8]
         ensures bytes { result.now ≡ self.now.bytes }
-        ensures most { length result.now ≤ 65536 }
+        ensures most { length result.now ≤ pull_room }
     {
         &self.buffer[self.from..self.to]
     }

@@ -1,7 +1,7 @@
 //! Age files over sources and sinks.
 //!
 //! A `Source` gives bytes and a `Sink` takes them. Both count their failures, and those over memory
-//! tell their bytes, so that the contract of an engine can name what it read and what it wrote.
+//! show their bytes, so that the contract of an engine can name what it read and what it wrote.
 //!
 //! `inspect` reads a whole file and reports what its header holds and how much plaintext the bytes
 //! after it would be. `encrypt` writes an age file of what it reads, and `decrypt` the text of a
@@ -20,7 +20,6 @@ mod laws;
 mod payload;
 mod position;
 mod position_text;
-mod progress;
 mod reader;
 mod report;
 mod resumption;
@@ -28,6 +27,7 @@ mod sealing;
 mod secret;
 mod skip;
 mod start;
+mod tally;
 
 pub use age_fault::{FileFault, flush_all, write_all};
 pub use age_io::{Failed, MemSink, MemSource, Memory, Reading, Sink, Source, Writing};

@@ -7,15 +7,17 @@ ghost use Rattle.age_file.specs.inner.Boxes.{opens};
 ghost use Rattle.age_file.specs.inner.Releases.{FeedsOnce, FeedsPiece, Closes};
 ghost use Rattle.age_file.specs.inner.Payloads.{HasPlace, DecryptsPayload};
 ghost use Rattle.age_file.specs.inner.Readers.{view_of_writer, stage_of, SameReader, SameWriter};
+ghost use Rattle.age_chunk.specs.Payload.{chunk_length};
+ghost use Rattle.age_chunk.specs.Nonce.{chunk_limit};
 
 use crate::reader::{Reader, Writer};
 use age_fault::{FileFault, flush_all, write_all};
 use age_io::{Sink, Source};
 use age_keys::PayloadKey;
-use age_stream::Opener;
+use age_stream::{BLOCK_LEN, Opener};
 
 /// What opens the blocks of a payload.
-type PayloadOpener<'a> = Opener<'a, PayloadKey, 65552>;
+type PayloadOpener<'a> = Opener<'a, PayloadKey, BLOCK_LEN>;
 
 /// Feeds the beginning of a piece, and writes the chunk that comes out.
 fn feed_once<O: Sink>(
@@ -23,9 +25,9 @@ fn feed_once<O: Sink>(
     piece: &[u8],
     writer: &mut Writer<'_, O>,
 ) -> Result<usize, FileFault>
-    requires small { length opener.old.held + writer.old.progress.written + length piece.now
+    requires small { length opener.old.held + writer.old.tally.written + length piece.now
         < 2 ^ 128 }
-    ensures fed { FeedsOnce opens 65536 opener.old opener.new (view_of_writer O.view writer.old)
+    ensures fed { FeedsOnce opens chunk_length opener.old opener.new (view_of_writer O.view writer.old)
         (view_of_writer O.view writer.new) piece.now result }
     ensures some { IfOk result (λ n. 0 < length piece.now → 0 < n) }
     ensures same { SameWriter writer.old writer.new }
@@ -35,8 +37,8 @@ fn feed_once<O: Sink>(
     let Some(chunk) = step.chunk else {
         return Ok(taken);
     };
-    write_all(writer.sink, chunk, &mut writer.progress.written)?;
-    writer.progress.count(step.index, chunk);
+    write_all(writer.sink, chunk, &mut writer.tally.written)?;
+    writer.tally.count(step.index, chunk);
     Ok(taken)
 }
 
@@ -47,9 +49,9 @@ fn feed_piece<O: Sink>(
     writer: &mut Writer<'_, O>,
 ) -> Result<(), FileFault>
     requires sound { has_failed opener.old.status ≡ false }
-    requires small { length opener.old.held + writer.old.progress.written + length piece.now
+    requires small { length opener.old.held + writer.old.tally.written + length piece.now
         < 2 ^ 128 }
-    ensures fed { FeedsPiece opens 65536 opener.old opener.new (view_of_writer O.view writer.old)
+    ensures fed { FeedsPiece opens chunk_length opener.old opener.new (view_of_writer O.view writer.old)
         (view_of_writer O.view writer.new) piece.now result }
     ensures same { SameWriter writer.old writer.new }
 {
@@ -65,13 +67,13 @@ fn close<O: Sink>(
     opener: &mut PayloadOpener<'_>,
     writer: &mut Writer<'_, O>,
 ) -> Result<(), FileFault>
-    requires { length opener.old.held + writer.old.progress.written < 2 ^ 128 }
-    ensures closed { Closes opens 65536 opener.old opener.new (view_of_writer O.view writer.old)
+    requires { length opener.old.held + writer.old.tally.written < 2 ^ 128 }
+    ensures closed { Closes opens chunk_length opener.old opener.new (view_of_writer O.view writer.old)
         (view_of_writer O.view writer.new) result }
     ensures same { SameWriter writer.old writer.new }
 {
     let text = opener.end()?;
-    write_all(writer.sink, text, &mut writer.progress.written)
+    write_all(writer.sink, text, &mut writer.tally.written)
 }
 
 /// Writes what is left, and flushes.
@@ -79,8 +81,8 @@ fn finish<O: Sink>(
     opener: &mut PayloadOpener<'_>,
     writer: &mut Writer<'_, O>,
 ) -> Result<(), FileFault>
-    requires { length opener.old.held + writer.old.progress.written < 2 ^ 128 }
-    ensures closed { Closes opens 65536 opener.old opener.new (view_of_writer O.view writer.old)
+    requires { length opener.old.held + writer.old.tally.written < 2 ^ 128 }
+    ensures closed { Closes opens chunk_length opener.old opener.new (view_of_writer O.view writer.old)
         (view_of_writer O.view writer.new) result }
     ensures settled { OnOk result ((O.view writer.new.sink.now).settled ≡ true) }
     ensures same { SameWriter writer.old writer.new }
@@ -97,9 +99,9 @@ pub(crate) fn decrypt_payload<S: Source, O: Sink>(
     reader: &mut Reader<'_, S>,
     writer: &mut Writer<'_, O>,
 ) -> Result<(), FileFault>
-    requires limit { index < 281474976710656 }
+    requires limit { index < chunk_limit }
     requires room { HasPlace (stage_of S.view O.view reader.old writer.old) }
-    ensures decrypts { DecryptsPayload (opens key.now) 65536 index
+    ensures decrypts { DecryptsPayload (opens key.now) chunk_length index
         (stage_of S.view O.view reader.old writer.old)
         (stage_of S.view O.view reader.new writer.new) result }
     ensures settled { OnOk result ((O.view writer.new.sink.now).settled ≡ true) }

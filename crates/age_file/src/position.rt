@@ -5,6 +5,7 @@ ghost use Rattle.std.specs.List.{concat};
 ghost use Rattle.sha2.specs.Hashers.{Holds256};
 ghost use Rattle.age_stanza.specs.Text.{base64_text};
 ghost use Rattle.age_file.specs.Bindings.{link, file_id, position_tag};
+ghost use Rattle.age_chunk.specs.Nonce.{chunk_limit};
 
 use base64::engine::general_purpose::STANDARD_NO_PAD;
 use itoa::Buffer;
@@ -26,7 +27,7 @@ pub struct Position {
     pub chain: [u8; 32],
     /// The HMAC of the position's text before the tag, under the position key of the file.
     pub tag: [u8; 32],
-    ghost within: { index < 281474976710656 },
+    ghost within: { index < chunk_limit },
 }
 
 /// Whether a decryption keeps the position at which a reader can continue after a stop. Keeping it
@@ -100,7 +101,7 @@ pub(crate) fn file_id(mut digest: Sha256, nonce: &[u8; 16]) -> [u8; 32]
 impl Position {
     /// The position of this index, file and chain, with its tag under a position key.
     pub(crate) fn tagged(key: &[u8; 32], index: u64, file_id: [u8; 32], chain: [u8; 32]) -> Position
-        requires { index < 281474976710656 }
+        requires { index < chunk_limit }
         ensures index { result.index ≡ index }
         ensures file_id { result.file_id ≡ file_id }
         ensures chain { result.chain ≡ chain }

@@ -6,16 +6,15 @@ ghost use Rattle.std.specs.Prelude.{decimal};
 ghost use Rattle.age_file.specs.PositionTexts.{position_text, NoPosition, IsDigest};
 ghost use Rattle.age_file.specs.inner.PositionTexts.{index_text, field_text, fields_text};
 ghost use Rattle.age_fault.specs.declared.fault.FileFault.TheVariants.{BadPosition, Memory};
+ghost use Rattle.age_chunk.specs.Nonce.{chunk_limit};
 
 use crate::position::{Position, VERSION, front_parts, spelled};
 use age_fault::FileFault;
+use age_stream::CHUNK_LIMIT;
 use base64::engine::general_purpose::STANDARD_NO_PAD;
 use itoa::Buffer;
 use std::alloc::{AllocError, Global};
 use std::str::from_utf8;
-
-/// No index is so great.
-const INDEXES: u64 = 281_474_976_710_656;
 
 /// How many characters follow the index: three times a space and 43 characters, and a line feed.
 const FIELDS: usize = 133;
@@ -38,15 +37,15 @@ fn text_of(alloc: Global, position: &Position) -> Result<Vec<u8>, AllocError>
 
 /// The number that digits spell, without leading zeros, where it is an index.
 fn number_of(digits: &[u8]) -> Option<u64>
-    ensures limit { IfSome result (λ index. index < 281474976710656) }
+    ensures limit { IfSome result (λ index. index < chunk_limit) }
     ensures some { IfSome result (λ index. digits.now ≡ decimal index) }
-    ensures none { IfNone result ((index : ℕ) → index < 281474976710656 → digits.now ≢ decimal
+    ensures none { IfNone result ((index : ℕ) → index < chunk_limit → digits.now ≢ decimal
         index) }
 {
     let text = from_utf8(digits).ok()?;
     let index = text.parse::<u64>().ok()?;
     let mut buffer = Buffer::new();
-    if index < INDEXES && buffer.format(index).as_bytes() == digits {
+    if index < CHUNK_LIMIT && buffer.format(index).as_bytes() == digits {
         Some(index)
     } else {
         None
@@ -55,9 +54,9 @@ fn number_of(digits: &[u8]) -> Option<u64>
 
 /// The index in the front of a position's text, which ends with the index.
 fn index_of(front: &[u8]) -> Option<u64>
-    ensures limit { IfSome result (λ index. index < 281474976710656) }
+    ensures limit { IfSome result (λ index. index < chunk_limit) }
     ensures some { IfSome result (λ index. front.now ≡ index_text index) }
-    ensures none { IfNone result ((index : ℕ) → index < 281474976710656 → front.now ≢ index_text
+    ensures none { IfNone result ((index : ℕ) → index < chunk_limit → front.now ≢ index_text
         index) }
 {
     if front.len() < 16 || &front[..16] != VERSION.as_slice() {
@@ -89,7 +88,7 @@ fn digest_of(field: &[u8]) -> Option<[u8; 32]>
 
 /// The position of an index, with what the text after it says.
 fn position_of(index: u64, fields: &[u8]) -> Option<Position>
-    requires index { index < 281474976710656 }
+    requires index { index < chunk_limit }
     requires size { length fields.now ≡ 133 }
     ensures index { IfSome result (λ p. p.index ≡ index) }
     ensures fields { IfSome result (λ p. fields.now ≡ fields_text p.file_id p.chain p.tag) }

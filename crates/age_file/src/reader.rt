@@ -1,7 +1,7 @@
 //! A source with what was pulled from it, and a sink with how far a run has come.
 
 use crate::intake::Intake;
-use crate::progress::Progress;
+use crate::tally::Tally;
 
 /// A source, and the bytes that were pulled from it and not used yet.
 #[derive(Drop)]
@@ -14,5 +14,5 @@ pub(crate) struct Reader<'a, S> {
 #[derive(Drop)]
 pub(crate) struct Writer<'a, O> {
     pub(crate) sink: &'a mut O,
-    pub(crate) progress: Progress,
+    pub(crate) tally: Tally,
 }

@@ -10,15 +10,16 @@ ghost use Rattle.age_file.specs.inner.Bindings.{chain_if};
 ghost use Rattle.age_file.specs.inner.Verdicts.{VerdictOn};
 ghost use Rattle.age_file.specs.Resumes.{resume_ports};
 ghost use Rattle.age_file.specs.ResumePromises.{ResumesText};
+ghost use Rattle.age_chunk.specs.Payload.{chunk_length};
 
 use crate::copy::copy_chunks;
 use crate::decryption::{Done, Stopped, ended, open_payload};
 use crate::intake::Intake;
 use crate::position::{Position, Positions, tag_of};
-use crate::progress::Progress;
 use crate::reader::{Reader, Writer};
 use crate::skip::skip_blocks;
 use crate::start::{Unlocked, start};
+use crate::tally::Tally;
 use age_fault::FileFault;
 use age_io::{Sink, Source};
 use age_keys::{Unlock, position_key};
@@ -47,19 +48,19 @@ fn copy_old<L: Source, O: Sink>(
     reader: &mut Reader<'_, L>,
     writer: &mut Writer<'_, O>,
 ) -> Result<(), FileFault>
-    requires fresh { (writer.old.progress.written ≡ 0) × (writer.old.progress.index ≡ 0)
-        × (writer.old.progress.chain ≡ chain_if Kept []) }
-    ensures copied { CopiesText positions 65536 position.now.index position.now.chain
+    requires fresh { (writer.old.tally.written ≡ 0) × (writer.old.tally.index ≡ 0)
+        × (writer.old.tally.chain ≡ chain_if Kept []) }
+    ensures copied { CopiesText positions chunk_length position.now.index position.now.chain
         (view_of_reader L.view reader.old) (view_of_reader L.view reader.new)
         (view_of_writer O.view writer.old) (view_of_writer O.view writer.new) result }
     ensures same_reader { SameReader reader.old reader.new }
     ensures same_writer { SameWriter writer.old writer.new }
 {
     copy_chunks(reader, position.index, writer)?;
-    if writer.progress.chain != Some(position.chain) {
+    if writer.tally.chain != Some(position.chain) {
         return Err(FileFault::OldTextDiffers);
     }
-    writer.progress.keep(positions);
+    writer.tally.keep(positions);
     Ok(())
 }
 
@@ -73,8 +74,8 @@ fn copy_before<L: Source, O: Sink>(
     writer: &mut Writer<'_, O>,
 ) -> Result<(), FileFault>
     requires unread { old_intake.bytes ≡ [] }
-    requires fresh { (writer.old.progress.written ≡ 0) × (writer.old.progress.index ≡ 0)
-        × (writer.old.progress.chain ≡ chain_if Kept []) }
+    requires fresh { (writer.old.tally.written ≡ 0) × (writer.old.tally.index ≡ 0)
+        × (writer.old.tally.chain ≡ chain_if Kept []) }
     ensures copied { CopiesBefore positions position.now (L.view source.old) (L.view source.new)
         intake.old intake.new (view_of_writer O.view writer.old) (view_of_writer O.view writer.new)
         result }
@@ -158,10 +159,10 @@ pub fn resume_with<U: Unlock, S: Source, L: Source, O: Sink>(
         Ok(()) => {}
         Err(fault) => return Err(Stopped::early(fault)),
     }
-    let progress = Progress::new(Positions::Kept);
+    let tally = Tally::new(Positions::Kept);
     let mut writer = Writer {
         sink: writer,
-        progress,
+        tally,
     };
     match copy_before(
         positions,
@@ -172,10 +173,10 @@ pub fn resume_with<U: Unlock, S: Source, L: Source, O: Sink>(
         &mut writer,
     ) {
         Ok(()) => {}
-        Err(fault) => return Err(Stopped::after(fault, &writer.progress, None)),
+        Err(fault) => return Err(Stopped::after(fault, &writer.tally, None)),
     }
     match skip_blocks(&mut reader, position.index) {
         Ok(()) => open_payload(&unlocked, position.index, &mut reader, &mut writer),
-        Err(fault) => ended(Err(fault), &unlocked, &writer.progress),
+        Err(fault) => ended(Err(fault), &unlocked, &writer.tally),
     }
 }

@@ -5,16 +5,17 @@ ghost use Rattle.age_file.specs.inner.Boxes.{seals};
 ghost use Rattle.age_file.specs.inner.Readers.{view_of_writer, ports_of, SameReader, SameWriter};
 ghost use Rattle.age_file.specs.inner.Seals.{IsFeeding, HasRoom, SealsOnce, SealsPiece, SealsLast};
 ghost use Rattle.age_file.specs.inner.Seals.{SealsAll, SealsFront};
+ghost use Rattle.age_chunk.specs.Payload.{chunk_length};
 
 use crate::encryption::Written;
 use crate::reader::{Reader, Writer};
 use age_fault::{FileFault, flush_all, write_all};
 use age_io::{Sink, Source};
 use age_keys::PayloadKey;
-use age_stream::Sealer;
+use age_stream::{BLOCK_LEN, Sealer};
 
 /// What seals the chunks of a payload.
-type PayloadSealer<'a> = Sealer<'a, PayloadKey, 65552>;
+type PayloadSealer<'a> = Sealer<'a, PayloadKey, BLOCK_LEN>;
 
 /// Feeds the beginning of a piece, and writes the block that comes out.
 fn seal_once<O: Sink>(
@@ -23,8 +24,8 @@ fn seal_once<O: Sink>(
     writer: &mut Writer<'_, O>,
 ) -> Result<usize, FileFault>
     requires feeding { IsFeeding sealer.old }
-    requires room { writer.old.progress.written ≤ 2 ^ 127 }
-    ensures sealed { SealsOnce seals 65536 sealer.old sealer.new (view_of_writer O.view writer.old)
+    requires room { writer.old.tally.written ≤ 2 ^ 127 }
+    ensures sealed { SealsOnce seals chunk_length sealer.old sealer.new (view_of_writer O.view writer.old)
         (view_of_writer O.view writer.new) piece.now result }
     ensures named { (O.view writer.new.sink.now).label ≡ (O.view writer.old.sink.now).label }
     ensures same_writer { SameWriter writer.old writer.new }
@@ -32,7 +33,7 @@ fn seal_once<O: Sink>(
     let step = sealer.feed(piece)?;
     let taken = step.taken;
     if let Some(block) = step.chunk {
-        write_all(writer.sink, block, &mut writer.progress.written)?;
+        write_all(writer.sink, block, &mut writer.tally.written)?;
     }
     Ok(taken)
 }
@@ -44,8 +45,8 @@ fn seal_piece<O: Sink>(
     writer: &mut Writer<'_, O>,
 ) -> Result<(), FileFault>
     requires feeding { IsFeeding sealer.old }
-    requires room { HasRoom seals 65536 sealer.old writer.old.progress.written (length piece.now) }
-    ensures sealed { SealsPiece seals 65536 sealer.old sealer.new (view_of_writer O.view writer.old)
+    requires room { HasRoom seals chunk_length sealer.old writer.old.tally.written (length piece.now) }
+    ensures sealed { SealsPiece seals chunk_length sealer.old sealer.new (view_of_writer O.view writer.old)
         (view_of_writer O.view writer.new) piece.now result }
     ensures named { (O.view writer.new.sink.now).label ≡ (O.view writer.old.sink.now).label }
     ensures same_writer { SameWriter writer.old writer.new }
@@ -63,14 +64,14 @@ fn seal_last<O: Sink>(
     writer: &mut Writer<'_, O>,
 ) -> Result<(), FileFault>
     requires feeding { IsFeeding sealer.old }
-    requires room { writer.old.progress.written ≤ 2 ^ 127 }
-    ensures sealed { SealsLast seals 65536 sealer.old (view_of_writer O.view writer.old)
+    requires room { writer.old.tally.written ≤ 2 ^ 127 }
+    ensures sealed { SealsLast seals chunk_length sealer.old (view_of_writer O.view writer.old)
         (view_of_writer O.view writer.new) result }
     ensures named { (O.view writer.new.sink.now).label ≡ (O.view writer.old.sink.now).label }
     ensures same_writer { SameWriter writer.old writer.new }
 {
     let block = sealer.finish()?;
-    write_all(writer.sink, block, &mut writer.progress.written)
+    write_all(writer.sink, block, &mut writer.tally.written)
 }
 
 /// Writes what is left, and flushes.
@@ -79,8 +80,8 @@ fn finish<O: Sink>(
     writer: &mut Writer<'_, O>,
 ) -> Result<(), FileFault>
     requires feeding { IsFeeding sealer.old }
-    requires room { writer.old.progress.written ≤ 2 ^ 127 }
-    ensures sealed { SealsLast seals 65536 sealer.old (view_of_writer O.view writer.old)
+    requires room { writer.old.tally.written ≤ 2 ^ 127 }
+    ensures sealed { SealsLast seals chunk_length sealer.old (view_of_writer O.view writer.old)
         (view_of_writer O.view writer.new) result }
     ensures settled { OnOk result ((O.view writer.new.sink.now).settled ≡ true) }
     ensures named { (O.view writer.new.sink.now).label ≡ (O.view writer.old.sink.now).label }
@@ -98,16 +99,16 @@ pub(crate) fn seal_all<S: Source, O: Sink>(
     writer: &mut Writer<'_, O>,
 ) -> Result<Written, FileFault>
     requires unread { (reader.old.intake.now.bytes ≡ []) × (reader.old.intake.now.pulls ≡ 0) }
-    requires room { writer.old.progress.written ≤ 2 ^ 126 }
-    ensures sealed { IfOk result (λ w. SealsAll (seals key.now) 65536
+    requires room { writer.old.tally.written ≤ 2 ^ 126 }
+    ensures sealed { IfOk result (λ w. SealsAll (seals key.now) chunk_length
         (ports_of S.view O.view reader.old writer.old)
-        (ports_of S.view O.view reader.new writer.new) writer.old.progress.written
-        writer.new.progress.written w.plain) }
-    ensures counted { IfOk result (λ w. w.file ≡ writer.new.progress.written) }
-    ensures fails { IfErr result (SealsFront (seals key.now) 65536
+        (ports_of S.view O.view reader.new writer.new) writer.old.tally.written
+        writer.new.tally.written w.plain) }
+    ensures counted { IfOk result (λ w. w.file ≡ writer.new.tally.written) }
+    ensures fails { IfErr result (SealsFront (seals key.now) chunk_length
         (ports_of S.view O.view reader.old writer.old)
-        (ports_of S.view O.view reader.new writer.new) writer.old.progress.written
-        writer.new.progress.written) }
+        (ports_of S.view O.view reader.new writer.new) writer.old.tally.written
+        writer.new.tally.written) }
     ensures settled { OnOk result ((O.view writer.new.sink.now).settled ≡ true) }
     ensures named { (O.view writer.new.sink.now).label ≡ (O.view writer.old.sink.now).label }
     ensures same_reader { SameReader reader.old reader.new }
@@ -123,6 +124,6 @@ pub(crate) fn seal_all<S: Source, O: Sink>(
     finish(&mut sealer, writer)?;
     Ok(Written {
         plain,
-        file: writer.progress.written,
+        file: writer.tally.written,
     })
 }

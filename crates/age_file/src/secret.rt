@@ -1,8 +1,10 @@
 //! What an age file for a passphrase is made of.
 
 ghost use Rattle.std.specs.Option.{SomeIff};
-ghost use Rattle.age_file.specs.Secrets.{SecretView, IsWithinLimits};
+ghost use Rattle.age_keys.specs.Passphrase.{IsAllowed};
+ghost use Rattle.age_file.specs.Secrets.{SecretView};
 
+use age_keys::PASSPHRASE_LIMIT;
 use std::marker::Model;
 
 /// What an age file for a passphrase is made of. Salt, file key and payload nonce have to be new
@@ -27,12 +29,12 @@ impl<'a> Model for Secret<'a> {
       nonce = s.payload_nonce;
     } };
 
-    ghost invariant = { λ s. IsWithinLimits s.pass.now s.log };
+    ghost invariant = { λ s. IsAllowed s.pass.now s.log };
 }
 
 impl<'a> Secret<'a> {
-    /// The secret of these parts; `None` where the passphrase has no byte or more than 65,536, or
-    /// the work factor isn't 1 to 22.
+    /// The secret of these parts; `None` where the passphrase has no byte or more than
+    /// [`PASSPHRASE_LIMIT`], or the work factor isn't 1 to 22.
     pub fn new(
         pass: &'a [u8],
         log: u32,
@@ -40,7 +42,7 @@ impl<'a> Secret<'a> {
         file_key: &[u8; 16],
         payload_nonce: &[u8; 16],
     ) -> Option<Secret<'a>>
-        ensures { SomeIff result (IsWithinLimits pass.now log)
+        ensures { SomeIff result (IsAllowed pass.now log)
             (record {
               pass = pass.now;
               log = log;
@@ -49,7 +51,7 @@ impl<'a> Secret<'a> {
               nonce = payload_nonce.now;
             }) }
     {
-        if pass.is_empty() || pass.len() > 65_536 || log < 1 || log > 22 {
+        if pass.is_empty() || pass.len() > PASSPHRASE_LIMIT || log < 1 || log > 22 {
             return None;
         }
         Some(Secret {

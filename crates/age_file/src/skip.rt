@@ -2,23 +2,21 @@
 
 ghost use Rattle.age_file.specs.inner.Skips.{SkipsBlock, SkipsBlocks};
 ghost use Rattle.age_file.specs.inner.Readers.{view_of_reader, SameReader};
+ghost use Rattle.age_chunk.specs.Payload.{block_length};
 
 use crate::reader::Reader;
 use crate::start::some_bytes;
 use age_fault::FileFault;
 use age_io::Source;
-use age_stream::{StreamFault, StreamKind};
-
-/// The bytes of a block of a whole chunk.
-const BLOCK: usize = 65_552;
+use age_stream::{BLOCK_LEN, StreamFault, StreamKind};
 
 /// Passes over a block. False: the source ended within it.
 fn skip_block<S: Source>(reader: &mut Reader<'_, S>) -> Result<bool, FileFault>
-    ensures skipped { SkipsBlock 65552 (view_of_reader S.view reader.old)
+    ensures skipped { SkipsBlock block_length (view_of_reader S.view reader.old)
         (view_of_reader S.view reader.new) result }
     ensures same { SameReader reader.old reader.new }
 {
-    let mut left = BLOCK;
+    let mut left = BLOCK_LEN;
     'parts: while left > 0 {
         if !some_bytes(reader)? {
             return Ok(false);
@@ -35,7 +33,7 @@ pub(crate) fn skip_blocks<S: Source>(
     reader: &mut Reader<'_, S>,
     blocks: u64,
 ) -> Result<(), FileFault>
-    ensures skipped { SkipsBlocks 65552 blocks (view_of_reader S.view reader.old)
+    ensures skipped { SkipsBlocks block_length blocks (view_of_reader S.view reader.old)
         (view_of_reader S.view reader.new) result }
     ensures same { SameReader reader.old reader.new }
 {

@@ -1,10 +1,12 @@
 //! Reads a file up to its payload.
 
 ghost use Rattle.std.specs.Prelude.{◌≡◌, ◌+◌, ◌-◌, ◌≤◌, [], ◌++◌, length, take, min};
-ghost use Rattle.std.specs.Prelude.{IfOk, IfErr, OnOk};
+ghost use Rattle.std.specs.Prelude.{IfOk, IfErr};
 ghost use Rattle.age_file.specs.Starts.{StartFails};
 ghost use Rattle.age_file.specs.inner.Readers.{view_of_reader, SameReader};
-ghost use Rattle.age_file.specs.inner.Starts.{Uses, SomeAnswers, NonceFails, ReadsNonce, StartsAt};
+ghost use Rattle.age_file.specs.inner.Starts.{Uses, SomeAnswers, NonceFails, TakesNonce, ReadsNonce};
+ghost use Rattle.age_file.specs.inner.Starts.{StartsAt};
+ghost use Rattle.age_file.specs.Faults.{pull_room};
 
 use crate::head::read_head;
 use crate::position::file_id;
@@ -50,12 +52,9 @@ fn copy_some(from: &[u8], into: &mut [u8; 16], have: usize) -> usize
 
 /// Reads the payload nonce.
 fn take_nonce<S: Source>(reader: &mut Reader<'_, S>) -> Result<[u8; 16], FileFault>
-    requires { length reader.old.intake.now.bytes ≤ 65536 }
-    ensures few { OnOk result (length reader.new.intake.now.bytes ≤ 65536) }
-    ensures found { IfOk result (Uses (view_of_reader S.view reader.old)
+    requires { length reader.old.intake.now.bytes ≤ pull_room }
+    ensures found { IfOk result (TakesNonce (view_of_reader S.view reader.old)
         (view_of_reader S.view reader.new)) }
-    ensures unfailed { OnOk result ((S.view reader.new.source.now).failed ≡
-        (S.view reader.old.source.now).failed) }
     ensures fails { IfErr result (NonceFails (view_of_reader S.view reader.old)
         (view_of_reader S.view reader.new)) }
     ensures same { SameReader reader.old reader.new }
@@ -79,11 +78,9 @@ fn read_nonce<S: Source>(
     digest: Sha256,
     reader: &mut Reader<'_, S>,
 ) -> Result<Unlocked, FileFault>
-    requires { length reader.old.intake.now.bytes ≤ 65536 }
+    requires { length reader.old.intake.now.bytes ≤ pull_room }
     ensures found { IfOk result (ReadsNonce key digest (view_of_reader S.view reader.old)
         (view_of_reader S.view reader.new)) }
-    ensures unfailed { OnOk result ((S.view reader.new.source.now).failed ≡
-        (S.view reader.old.source.now).failed) }
     ensures fails { IfErr result (NonceFails (view_of_reader S.view reader.old)
         (view_of_reader S.view reader.new)) }
     ensures same { SameReader reader.old reader.new }
@@ -102,8 +99,6 @@ pub(crate) fn start<U: Unlock, S: Source>(
     requires { (reader.old.intake.now.bytes ≡ []) × (reader.old.intake.now.pulls ≡ 0) }
     ensures found { IfOk result (StartsAt (U.allows unlock.now) (S.view reader.old.source.now)
         (view_of_reader S.view reader.new)) }
-    ensures unfailed { OnOk result ((S.view reader.new.source.now).failed ≡
-        (S.view reader.old.source.now).failed) }
     ensures fails { IfErr result (StartFails (U.allows unlock.now) (U.refuses unlock.now)
         (S.view reader.old.source.now) (S.view reader.new.source.now)) }
     ensures same { SameReader reader.old reader.new }

@@ -1,19 +1,19 @@
--- What a meter was told.
+-- What a meter counts.
 use Rattle.std.specs.Prelude.{ℕ, ◌+◌, ◌-◌, ◌^◌, min, Option, option_map, Result, Ok, Err}
 
 -- a count after so many bytes more; it stays at the greatest value of its type
 abbrev pub with_more : ℕ → ℕ → ℕ
 with_more bytes count = min (count + bytes) (2 ^ 64 - 1)
 
--- what a meter was told, once it was told of so many bytes more; nothing where it doesn't count
+-- a meter's count after so many bytes more, where it counts
 abbrev pub counted : ℕ → Option ℕ → Option ℕ
-counted bytes told = option_map (with_more bytes) told
+counted bytes count = option_map (with_more bytes) count
 
--- what a meter was told as a run begins
+-- a meter's count as a run begins, where it counts
 abbrev pub begun : Option ℕ → Option ℕ
-begun told = option_map (λ _. 0) told
+begun count = option_map (λ _. 0) count
 
--- what a meter was told by a pull: how many bytes it gave, and nothing of one that failed
+-- a meter's count after a pull: that of the bytes that it gave is added, and nothing if it failed
 abbrev pub pulled : {E : Type 0} → Result ℕ E → Option ℕ → Option ℕ
-pulled (Ok bytes) told = counted bytes told
-pulled (Err failed) told = told
+pulled (Ok bytes) count = counted bytes count
+pulled (Err failed) count = count

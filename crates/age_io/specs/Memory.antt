@@ -1,4 +1,4 @@
--- Sources and sinks over memory: what each call answers and leaves, by their plan of failures.
+-- Sources and sinks over memory: what each call returns and leaves, by their plan of failures.
 use Rattle.std.specs.Prelude.{◌≡◌, ◌≢◌, ◌⊎◌, ℕ, ◌+◌, ◌-◌, ◌^◌, min, List, []}
 use Rattle.std.specs.Prelude.{◌++◌, length, take, drop, Option, Some, Result, Ok, Err, Bool, true}
 use Rattle.std.specs.Prelude.{false}

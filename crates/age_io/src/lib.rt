@@ -2,8 +2,8 @@
 //!
 //! A `Source` gives bytes and a `Sink` takes them. Both count their failures. `Reading` and
 //! `Writing` are those over std's readers and writers, `MemSource` and `MemSink` those over memory,
-//! which also tell contracts their bytes, and fail at a call that is planned. A `Metered` source
-//! tells a `Meter` how many bytes each pull gave.
+//! which also show contracts their bytes, and fail at a call that is planned. A `Metered` source
+//! reports to a `Meter` how many bytes each pull gave.
 #![tactic(auto)]
 
 mod durability;

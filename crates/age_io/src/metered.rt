@@ -1,4 +1,4 @@
-//! A source that tells a meter what it gives.
+//! A source that reports to a meter how many bytes it gives.
 
 ghost use Rattle.std.specs.Prelude.{◌≡◌, ◌≤◌, length, IfOk, MatchResult, is_err};
 ghost use Rattle.std.specs.Io.KnownBytes.{ReadConsumes};
@@ -9,8 +9,8 @@ use crate::failed::Failed;
 use crate::meter::Meter;
 use crate::source::Source;
 
-/// A source that hands on what another gives, and tells a meter how many bytes each pull gave. A
-/// contract sees both.
+/// A source that hands on what another gives, and reports to a meter how many bytes each pull gave.
+/// A contract sees both.
 #[derive(Debug, Drop)]
 pub struct Metered<S: Source, M: Meter> {
     source: S,
@@ -30,8 +30,8 @@ impl<S: Source, M: Meter> Metered<S, M> {
 impl<S: Source, M: Meter> Source for Metered<S, M> {
     ghost view = { λ s. S.view s.source };
 
-    /// Does what the source's own pull does, and tells the meter how many bytes it gave; nothing
-    /// if it failed.
+    /// Does what the source's own pull does, and reports to the meter how many bytes it gave;
+    /// nothing if it failed.
     fn pull(&mut self, into: &mut [u8]) -> Result<usize, Failed>
         ensures bound { IfOk result (λ n. n ≤ length into.new) }
         ensures bytes { ReadConsumes (S.view self.old.source).remaining
@@ -40,7 +40,7 @@ impl<S: Source, M: Meter> Source for Metered<S, M> {
             (λ _. (S.view self.new.source).failed ≡ (S.view self.old.source).failed)
             (λ _. (S.view self.new.source).failed ≡ one_more (S.view self.old.source).failed) }
         ensures last { (S.view self.new.source).failing ≡ is_err result }
-        ensures told { M.told self.new.meter ≡ pulled result (M.told self.old.meter) }
+        ensures metered { M.count self.new.meter ≡ pulled result (M.count self.old.meter) }
     {
         let n = self.source.pull(into)?;
         self.meter.advance(n as u64);

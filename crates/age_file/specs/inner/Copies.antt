@@ -18,6 +18,7 @@ use Rattle.age_file.specs.inner.Skips.{Passes, Dries}
 use Rattle.age_fault.specs.declared.fault.FileFault.{FileFault}
 use Rattle.age_fault.specs.declared.fault.FileFault.TheVariants.{ShortText, Read, Write}
 use Rattle.age_fault.specs.declared.fault.FileFault.TheVariants.{ReadNeverEnds, OldTextDiffers}
+use Rattle.age_chunk.specs.Payload.{chunk_length}
 
 -- what was written of the old text, fewer bytes than were to be copied: all that the source gave,
 -- or its front where the sink failed
@@ -37,22 +38,22 @@ CopyFails old new was now out other = ⊥
 abbrev pub ChunkGoes : ℕ → ReaderView → ReaderView → WriterView → WriterView → List ℕ → Type 0
 ChunkGoes n old new was now out = (length out ≡ n) × Passes old new out
     × (now.sink.failed ≡ was.sink.failed)
-    × (now.progress.index ≡ was.progress.index + 1)
-    × (now.progress.chain ≡ link_if was.progress.chain out)
+    × (now.tally.index ≡ was.tally.index + 1)
+    × (now.tally.chain ≡ link_if was.tally.chain out)
 
 -- so many chunks were copied, and the chain is over them
 abbrev pub ChunksGo : ℕ → ℕ → ReaderView → ReaderView → WriterView → WriterView → List ℕ → Type 0
 ChunksGo n chunks old new was now out = (length out ≡ chunks * n) × Passes old new out
     × (now.sink.failed ≡ was.sink.failed)
-    × (now.progress.index ≡ chunks)
-    × (now.progress.chain ≡ chain_if Kept (first_chunks n chunks out))
+    × (now.tally.index ≡ chunks)
+    × (now.tally.chain ≡ chain_if Kept (first_chunks n chunks out))
 
 pub record Copies (Goes : List ℕ → Type 0) (size : ℕ) (old new : ReaderView) (was now : WriterView)
     (result : Result (Unit {0}) FileFault) : Type 0 where
   pub out : List ℕ
   pub wrote : Appends was.sink.taken now.sink.taken out
   pub named : now.sink.label ≡ was.sink.label
-  pub count : now.progress.written ≡ was.progress.written + length out
+  pub count : now.tally.written ≡ was.tally.written + length out
   pub answered : MatchResult result (λ _. Goes out)
       (λ fault. (length out < size) × CopyFails old new was now out fault)
 
@@ -71,7 +72,7 @@ CopiesAll n chunks old new was now result = Copies (ChunksGo n chunks old new wa
 abbrev pub TextFails : ℕ → ℕ → List ℕ → ReaderView → ReaderView → WriterView → WriterView
     → List ℕ → FileFault → Type 0
 TextFails n chunks links old new was now out OldTextDiffers = ChunksGo n chunks old new was now out
-    × (now.progress.chain ≢ Some links)
+    × (now.tally.chain ≢ Some links)
 TextFails n chunks links old new was now out fault = (length out < chunks * n)
     × CopyFails old new was now out fault
 
@@ -79,8 +80,8 @@ TextFails n chunks links old new was now out fault = (length out < chunks * n)
 abbrev pub TextGoes : Positions → ℕ → ℕ → List ℕ → ReaderView → ReaderView → WriterView
     → WriterView → List ℕ → Type 0
 TextGoes keep n chunks links old new was now out = (length out ≡ chunks * n) × Passes old new out
-    × (now.sink.failed ≡ was.sink.failed) × (now.progress.index ≡ chunks)
-    × (now.progress.chain ≡ chain_if keep (first_chunks n chunks out))
+    × (now.sink.failed ≡ was.sink.failed) × (now.tally.index ≡ chunks)
+    × (now.tally.chain ≡ chain_if keep (first_chunks n chunks out))
     × (chain (first_chunks n chunks out) ≡ links)
 
 -- the old text was copied, and has this chain
@@ -89,7 +90,7 @@ pub record CopiesText (keep : Positions) (n chunks : ℕ) (links : List ℕ) (ol
   pub out : List ℕ
   pub wrote : Appends was.sink.taken now.sink.taken out
   pub named : now.sink.label ≡ was.sink.label
-  pub count : now.progress.written ≡ was.progress.written + length out
+  pub count : now.tally.written ≡ was.tally.written + length out
   pub answered : MatchResult result (λ _. TextGoes keep n chunks links old new was now out)
       (TextFails n chunks links old new was now out)
 
@@ -101,7 +102,7 @@ pub record CopiesBefore (keep : Positions) (p : Position) (old new : SourceView)
   pub none : first.bytes ≡ []
   pub counted_on : first.pulls ≡ before.pulls
   pub last : Unread
-  pub copied : CopiesText keep 65536 p.index p.chain (reader_view old first)
+  pub copied : CopiesText keep chunk_length p.index p.chain (reader_view old first)
       (reader_view new last) was now result
   pub kept : after.bytes ≡ before.bytes
   pub counted : after.pulls ≡ last.pulls

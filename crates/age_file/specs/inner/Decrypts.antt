@@ -8,12 +8,13 @@ use Rattle.age_file.specs.inner.Readers.{Stage}
 use Rattle.age_file.specs.Bindings.{position_tag}
 use Rattle.age_file.specs.declared.position.Position.{Position}
 use Rattle.age_file.specs.declared.start.Unlocked.{Unlocked}
-use Rattle.age_file.specs.declared.progress.Progress.{Progress}
+use Rattle.age_file.specs.declared.tally.Tally.{Tally}
 use Rattle.age_file.specs.declared.decryption.Done.{Done}
 use Rattle.age_file.specs.declared.decryption.Stopped.{Stopped}
 use Rattle.age_fault.specs.declared.fault.FileFault.{FileFault}
+use Rattle.age_chunk.specs.Payload.{chunk_length}
 
--- where it is told: the position of this index and chain, in the file that was unlocked
+-- where it is known: the position of this index and chain, in the file that was unlocked
 pub record IsPositionAt (unlocked : Unlocked) (index : ℕ) (links : List ℕ) (p : Position)
     : Type 0 where
   pub index_is : p.index ≡ index
@@ -28,7 +29,7 @@ PositionAt unlocked index (Some links) position =
 PositionAt unlocked index None position = position ≡ None
 
 -- how a run ended: with what was written, and where it stopped with a position
-abbrev pub EndsAs : Unlocked → Progress → Result (Unit {0}) FileFault → Result Done Stopped → Type 0
+abbrev pub EndsAs : Unlocked → Tally → Result (Unit {0}) FileFault → Result Done Stopped → Type 0
 EndsAs unlocked p (Ok done) result = result ≡ Ok (record { written = p.written })
 EndsAs unlocked p (Err fault) result =
     (next : Option Position) × PositionAt unlocked p.index p.chain next
@@ -38,7 +39,7 @@ EndsAs unlocked p (Err fault) result =
 pub record OpensPayload (unlocked : Unlocked) (start : ℕ) (old new : Stage)
     (result : Result Done Stopped) : Type 0 where
   pub run : Result (Unit {0}) FileFault
-  pub decrypts : DecryptsPayload (opens (payload_key unlocked.key unlocked.nonce)) 65536 start old
+  pub decrypts : DecryptsPayload (opens (payload_key unlocked.key unlocked.nonce)) chunk_length start old
       new run
   pub settled : OnOk run (new.writer.sink.settled ≡ true)
-  pub ended : EndsAs unlocked new.writer.progress run result
+  pub ended : EndsAs unlocked new.writer.tally run result

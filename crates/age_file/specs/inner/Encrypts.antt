@@ -21,7 +21,7 @@ pub record WroteFront (s : SecretView) (was now : WriterView) : Type 0 where
   pub front : List ℕ
   pub begins : BeginsFile s front
   pub wrote : Appends was.sink.taken now.sink.taken front
-  pub count : now.progress.written ≡ length front
+  pub count : now.tally.written ≡ length front
   pub failed : now.sink.failed ≡ was.sink.failed
 
 -- the sink failed in it

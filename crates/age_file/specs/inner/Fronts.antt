@@ -1,30 +1,29 @@
 -- A header's text that is being read. Only private functions cite this.
-use Rattle.std.specs.Prelude.{◌≡◌, ◌⊎◌, ℕ, ◌<◌, List, [], ◌++◌, length, take, drop, Option, Some}
+use Rattle.std.specs.Prelude.{◌≡◌, ◌⊎◌, ℕ, List, [], ◌++◌, length, take, drop, Option, Some}
 use Rattle.std.specs.Prelude.{None, Result, Ok, Err}
 use Rattle.sha2.specs.Hashers.{Holds256}
-use Rattle.age_stanza.specs.Faults.{HasHeader, NoFault, IsFault, memory_fault}
+use Rattle.age_stanza.specs.Faults.{HasHeader, IsFault, memory_fault}
 use Rattle.age_stanza.specs.Grammar.{HeadText}
 use Rattle.age_stanza.specs.Parsing.{reading}
 use Rattle.age_stanza.specs.declared.fault.HeadFault.{HeadFault}
 use Rattle.age_stanza.specs.declared.header.Header.{Header}
-use Rattle.age_file.specs.declared.head.Front.{Front}
+use Rattle.age_file.specs.declared.head.HeadReader.{HeadReader}
 use Rattle.age_file.specs.declared.head.Head.{Head}
+use Rattle.age_file.specs.Faults.{EndsInHeader}
 use Rattle.age_file.specs.inner.Unread.{Unread}
 
 -- these bytes were fed, which hold no header and no fault
-pub record IsFront (f : Front) (held : List ℕ) : Type 0 where
+pub record IsFront (f : HeadReader) (held : List ℕ) : Type 0 where
   pub parser_is : f.parser ≡ reading held
   pub len_is : f.len ≡ length held
   pub hashed : Holds256 f.digest held
-  pub short : length held < 1048576
-  pub none : HasHeader held → ⊥
-  pub sound : NoFault held
+  pub inside : EndsInHeader held
 
-abbrev pub IsReading : Front → Type 0
+abbrev pub IsReading : HeadReader → Type 0
 IsReading f = (held : List ℕ) × IsFront f held
 
 -- the header ends in the bytes of the intake, and was fed up to its end
-pub record EndsFront (held : List ℕ) (was now : Unread) (new : Front) (header : Header)
+pub record EndsFront (held : List ℕ) (was now : Unread) (new : HeadReader) (header : Header)
     : Type 0 where
   pub taken : ℕ
   pub text : HeadText header (held ++ take taken was.bytes)
@@ -34,7 +33,7 @@ pub record EndsFront (held : List ℕ) (was now : Unread) (new : Front) (header 
   pub pulls : now.pulls ≡ was.pulls
 
 -- after these the bytes of the intake were fed
-abbrev pub TakesFront : List ℕ → Unread → Unread → Front → Result (Option Header) HeadFault
+abbrev pub TakesFront : List ℕ → Unread → Unread → HeadReader → Result (Option Header) HeadFault
     → Type 0
 TakesFront held was now new (Ok None) = IsFront new (held ++ was.bytes) × (now.bytes ≡ [])
     × (now.pulls ≡ was.pulls)
@@ -43,5 +42,5 @@ TakesFront held was now new (Err fault) = (fault ≡ memory_fault)
     ⊎ ((HasHeader (held ++ was.bytes) → ⊥) × IsFault (held ++ was.bytes) fault)
 
 -- the header, with what was counted and hashed of its text
-abbrev pub head_of : Header → Front → Head
+abbrev pub head_of : Header → HeadReader → Head
 head_of header f = record { header = header; len = f.len; digest = f.digest }

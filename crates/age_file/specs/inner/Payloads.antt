@@ -14,14 +14,18 @@ use Rattle.age_file.specs.inner.Intakes.{Pulled}
 use Rattle.age_file.specs.inner.Bindings.{chain_if}
 use Rattle.age_file.specs.inner.Counts.{HasCounted}
 use Rattle.age_file.specs.declared.position.Positions.{Positions}
-use Rattle.age_file.specs.Runs.{segment}
 use Rattle.age_fault.specs.declared.fault.FileFault.{FileFault}
 use Rattle.age_fault.specs.declared.fault.FileFault.TheVariants.{Stream, Read, Write, ReadNeverEnds}
+use Rattle.age_file.specs.Faults.{pull_room}
+
+-- one piece from a start, with an end or without
+abbrev pub segment : ℕ → List ℕ → Bool → Segment
+segment start bytes ended = record { start = start; bytes = bytes; ended = ended; late = false }
 
 -- there is room for what is unread: few bytes for the pulls that were made
 abbrev pub HasPlace : Stage → Type 0
-HasPlace s = (s.writer.progress.written + length s.reader.unread.bytes
-    ≤ 2 ^ 64 + 65536 * s.reader.unread.pulls) × (s.reader.unread.pulls ≤ 2 ^ 63)
+HasPlace s = (s.writer.tally.written + length s.reader.unread.bytes
+    ≤ 2 ^ 64 + pull_room * s.reader.unread.pulls) × (s.reader.unread.pulls ≤ 2 ^ 63)
 
 module _ (opening : List ℕ → List ℕ → Option (List ℕ)) (n : ℕ) where
   -- the end was not seen, and so far there is no fault
@@ -29,21 +33,21 @@ module _ (opening : List ℕ → List ℕ → Option (List ℕ)) (n : ℕ) where
   IsUnderWay s = (s.ended ≡ false) × (has_failed (outcome opening n s).status ≡ false)
 
   -- all of the text was written, and the fault is where the segment stands; unless the sink failed
-  abbrev pub PayloadFails : Stage → Stage → Segment → List ℕ → FileFault → Type 0
-  PayloadFails old new s out (Stream fault) = ((outcome opening n s).status ≡ Failed fault)
+  abbrev pub SegmentFails : Stage → Stage → Segment → List ℕ → FileFault → Type 0
+  SegmentFails old new s out (Stream fault) = ((outcome opening n s).status ≡ Failed fault)
       × (out ≡ released opening n s) × NoneFailed (ports_at old) (ports_at new)
-  PayloadFails old new s out Write =
+  SegmentFails old new s out Write =
       ((length out < length (released opening n s)) ⊎ ((outcome opening n s).status ≡ Done))
       × WriteFailed (ports_at old) (ports_at new)
-  PayloadFails old new s out Read = (out ≡ released opening n s) × IsUnderWay s
+  SegmentFails old new s out Read = (out ≡ released opening n s) × IsUnderWay s
       × ReadFailed (ports_at old) (ports_at new)
-  PayloadFails old new s out ReadNeverEnds = (out ≡ released opening n s) × IsUnderWay s
+  SegmentFails old new s out ReadNeverEnds = (out ≡ released opening n s) × IsUnderWay s
       × (new.reader.unread.pulls ≡ 2 ^ 63)
       × NoneFailed (ports_at old) (ports_at new)
-  PayloadFails old new s out other = ⊥
+  SegmentFails old new s out other = ⊥
 
-  abbrev pub PayloadDone : Stage → Stage → Segment → List ℕ → Type 0
-  PayloadDone old new s out = (s.ended ≡ true) × ((outcome opening n s).status ≡ Done)
+  abbrev pub SegmentDone : Stage → Stage → Segment → List ℕ → Type 0
+  SegmentDone old new s out = (s.ended ≡ true) × ((outcome opening n s).status ≡ Done)
       × (out ≡ released opening n s) × NoneFailed (ports_at old) (ports_at new)
 
   -- the bytes that were pulled are a segment, and the beginning of its text was written
@@ -60,11 +64,11 @@ module _ (opening : List ℕ → List ℕ → Option (List ℕ)) (n : ℕ) where
     pub at_end : ended ≡ true → IsAtEnd new.reader.source.remaining
     pub wrote : Appends old.writer.sink.taken new.writer.sink.taken out
     pub named : new.writer.sink.label ≡ old.writer.sink.label
-    pub count : new.writer.progress.written ≡ old.writer.progress.written + length out
+    pub count : new.writer.tally.written ≡ old.writer.tally.written + length out
     pub prefix : IsPrefixOf out (released opening n (segment start bytes ended))
     pub counts : (keep : Positions) (base : List ℕ) → length base ≡ start * n
-        → old.writer.progress.index ≡ start
-        → old.writer.progress.chain ≡ chain_if keep (first_chunks n start base)
-        → HasCounted keep opening n (base ++ out) (segment start bytes ended) new.writer.progress
-    pub answered : MatchResult result (λ _. PayloadDone old new (segment start bytes ended) out)
-        (PayloadFails old new (segment start bytes ended) out)
+        → old.writer.tally.index ≡ start
+        → old.writer.tally.chain ≡ chain_if keep (first_chunks n start base)
+        → HasCounted keep opening n (base ++ out) (segment start bytes ended) new.writer.tally
+    pub answered : MatchResult result (λ _. SegmentDone old new (segment start bytes ended) out)
+        (SegmentFails old new (segment start bytes ended) out)

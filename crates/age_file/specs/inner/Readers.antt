@@ -3,7 +3,7 @@ use Rattle.std.specs.Prelude.{◌≡◌}
 use Rattle.age_io.specs.Views.{SourceView, SinkView}
 use Rattle.age_file.specs.Ports.{Ports, ports}
 use Rattle.age_file.specs.inner.Unread.{Unread}
-use Rattle.age_file.specs.declared.progress.Progress.{Progress}
+use Rattle.age_file.specs.declared.tally.Tally.{Tally}
 use Rattle.age_file.specs.declared.reader.Reader.{Reader}
 use Rattle.age_file.specs.declared.reader.Writer.{Writer}
 
@@ -18,10 +18,10 @@ reader_view source unread = record { source = source; unread = unread }
 -- what is seen of a sink, and how far the run has come
 pub record WriterView : Type 0 where
   pub sink : SinkView
-  pub progress : Progress
+  pub tally : Tally
 
-abbrev pub writer_view : SinkView → Progress → WriterView
-writer_view sink progress = record { sink = sink; progress = progress }
+abbrev pub writer_view : SinkView → Tally → WriterView
+writer_view sink tally = record { sink = sink; tally = tally }
 
 -- where a run stands
 pub record Stage : Type 0 where
@@ -38,7 +38,7 @@ abbrev pub view_of_reader : {S : Type 0} → (S → SourceView) → Reader S →
 view_of_reader source r = reader_view (source r.source.now) r.intake.now
 
 abbrev pub view_of_writer : {O : Type 0} → (O → SinkView) → Writer O → WriterView
-view_of_writer sink w = writer_view (sink w.sink.now) w.progress
+view_of_writer sink w = writer_view (sink w.sink.now) w.tally
 
 abbrev pub stage_of : {S O : Type 0} → (S → SourceView) → (O → SinkView) → Reader S → Writer O
     → Stage

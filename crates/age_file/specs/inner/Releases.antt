@@ -17,7 +17,7 @@ use Rattle.age_fault.specs.declared.fault.FileFault.TheVariants.{Stream, Write}
 
 module _ {B : Type 0} (opening : B → List ℕ → List ℕ → Option (List ℕ)) (n : ℕ) where
   -- for each segment that the opener stood for, it stands for the next, whose text is more by what
-  -- was written and what wasn't; after any base, the progress goes on counting the chunks that
+  -- was written and what wasn't; after any base, the tally goes on counting the chunks that
   -- were written
   pub record Releases (next : Segment → Segment) (old new : OpenerView B) (was now : WriterView)
       (unwritten : List ℕ) : Type 0 where
@@ -25,15 +25,15 @@ module _ {B : Type 0} (opening : B → List ℕ → List ℕ → Option (List �
     pub key : new.key ≡ old.key
     pub wrote : Appends was.sink.taken now.sink.taken out
     pub named : now.sink.label ≡ was.sink.label
-    pub count : now.progress.written ≡ was.progress.written + length out
+    pub count : now.tally.written ≡ was.tally.written + length out
     pub stands : (s : Segment) → Stands opening n old s → Stands opening n new (next s)
     pub text : (s : Segment) → Stands opening n old s → released (opening old.key) n (next s)
         ≡ released (opening old.key) n s ++ (out ++ unwritten)
     pub counts : (keep : Positions) → 0 < n → (s : Segment) (base : List ℕ)
         → length base ≡ s.start * n
         → Stands opening n old s
-        → CountsChunks keep (opening old.key) n base s [] was.progress
-        → CountsChunks keep (opening old.key) n base (next s) unwritten now.progress
+        → CountsChunks keep (opening old.key) n base s [] was.tally
+        → CountsChunks keep (opening old.key) n base (next s) unwritten now.tally
 
   -- a fault of the opener, or of the sink, with what was left of the piece and not written: some
   -- text, unless the opener came to the end
@@ -50,8 +50,8 @@ module _ {B : Type 0} (opening : B → List ℕ → List ℕ → Option (List �
   abbrev pub FeedGoes : OpenerView B → OpenerView B → WriterView → WriterView → List ℕ → List ℕ
       → Type 0
   FeedGoes old new was now fed unwritten =
-      (length new.held + now.progress.written
-      ≤ length old.held + was.progress.written + length fed) × (unwritten ≡ [])
+      (length new.held + now.tally.written
+      ≤ length old.held + was.tally.written + length fed) × (unwritten ≡ [])
       × (now.sink.failed ≡ was.sink.failed) × (has_failed new.status ≡ false)
 
   -- one call: the opener took the front of the piece

@@ -18,7 +18,7 @@ use Rattle.age_fault.specs.declared.fault.FileFault.TheVariants.{Stream, Read, W
 -- so many bytes were written
 pub record Wrote (was now : WriterView) (out : List ℕ) : Type 0 where
   pub bytes : Appends was.sink.taken now.sink.taken out
-  pub count : now.progress.written ≡ was.progress.written + length out
+  pub count : now.tally.written ≡ was.tally.written + length out
 
 -- the blocks before the last, joined
 abbrev pub front_of : (List ℕ → List ℕ → List ℕ) → ℕ → List ℕ → List ℕ

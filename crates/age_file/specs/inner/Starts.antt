@@ -16,6 +16,7 @@ use Rattle.age_file.specs.inner.Intakes.{Pulled, PullFails}
 use Rattle.age_file.specs.declared.start.Unlocked.{Unlocked}
 use Rattle.age_fault.specs.declared.fault.FileFault.{FileFault}
 use Rattle.age_fault.specs.declared.fault.FileFault.TheVariants.{NonceCut, Read, ReadNeverEnds}
+use Rattle.age_file.specs.Faults.{pull_room}
 
 -- bytes of the intake were used, after those that were used before
 abbrev pub Uses : ReaderView → ReaderView → List ℕ → Type 0
@@ -26,7 +27,7 @@ Uses old new bytes = (start : Option (List ℕ)) (used : List ℕ)
 -- some byte is there, or the source is at its end
 abbrev pub SomeAnswers : ReaderView → ReaderView → Result Bool FileFault → Type 0
 SomeAnswers old new (Ok true) = (0 < length new.unread.bytes)
-    × (new.source.failed ≡ old.source.failed) × (length new.unread.bytes ≤ 65536)
+    × (new.source.failed ≡ old.source.failed) × (length new.unread.bytes ≤ pull_room)
 SomeAnswers old new (Ok false) = (new.unread.bytes ≡ []) × IsAtEnd new.source.remaining
     × (new.source.failed ≡ old.source.failed)
 SomeAnswers old new (Err fault) = (new.unread.bytes ≡ []) × PullFails old new fault
@@ -43,14 +44,19 @@ NonceFails old new Read = UsesShort old new
 NonceFails old new ReadNeverEnds = UsesShort old new × (new.unread.pulls ≡ 2 ^ 63)
 NonceFails old new other = ⊥
 
--- the nonce after a header was read, and identifies the file with what the digest was fed
+-- the nonce was read; what follows it came with the last pull
+pub record TakesNonce (old new : ReaderView) (nonce : List ℕ) : Type 0 where
+  pub uses : Uses old new nonce
+  pub few : length new.unread.bytes ≤ pull_room
+  pub unfailed : new.source.failed ≡ old.source.failed
+
+-- it identifies the file with what the digest was fed
 pub record ReadsNonce (key : List ℕ) (digest : Sha256) (old new : ReaderView) (unlocked : Unlocked)
     : Type 0 where
   pub key_is : unlocked.key ≡ key
   pub size : length unlocked.nonce ≡ 16
-  pub uses : Uses old new unlocked.nonce
+  pub takes : TakesNonce old new unlocked.nonce
   pub id : (front : List ℕ) → Holds256 digest front → unlocked.id ≡ file_id front unlocked.nonce
-  pub few : length new.unread.bytes ≤ 65536
 
 -- a header was read and opened, and the nonce after it was read
 pub record StartsAt (Allows : Header → List ℕ → Type 0) (old : SourceView) (new : ReaderView)
@@ -61,6 +67,7 @@ pub record StartsAt (Allows : Header → List ℕ → Type 0) (old : SourceView)
   pub opens : Opens Allows header unlocked.key
   pub size : length unlocked.nonce ≡ 16
   pub id : unlocked.id ≡ file_id front unlocked.nonce
-  pub few : length new.unread.bytes ≤ 65536
+  pub few : length new.unread.bytes ≤ pull_room
   pub pulled : Pulled old.remaining new.source.remaining new.unread.pulls
       ((front ++ unlocked.nonce) ++ new.unread.bytes)
+  pub unfailed : new.source.failed ≡ old.failed

@@ -162,7 +162,7 @@ parts-preserved g c =
 pub returns-clause-copied : goal.returns-clause-copied
 returns-clause-copied g c =
     let kept = c.parts.invariant in
-    let risen : c.parts.writer.progress.index < c.parts.writer.progress.index + 1 = omega arith in
+    let risen : c.parts.writer.tally.index < c.parts.writer.tally.index + 1 = omega arith in
     let further = c.advance.ensures.counted.further risen in
     record {
       out = kept.copied;

@@ -3,6 +3,7 @@ use Rattle.std.specs.Io.KnownBytes.{Appends}
 use Rattle.sha2.specs.Hashers.{Holds256}
 use Rattle.age_file.specs.inner.Skips.{Passes}
 use Rattle.age_file.specs.inner.Readers.{view_of_reader, SameReader, SameWriter}
+use Rattle.age_chunk.specs.Payload.{chunk_length}
 use Rattle.age_file.proofs.copy.copy_chunk.Given as goal
 
 -- what was copied so far
@@ -11,15 +12,15 @@ invariant-parts g l = record {
   same_reader : SameReader l.fn.reader l.reader;
   same_writer : SameWriter l.fn.writer l.writer;
   copied : List ℕ;
-  size : length copied + l.left ≡ 65536;
+  size : length copied + l.left ≡ chunk_length;
   passes : Passes (view_of_reader g.S.Source.view l.fn.reader) (view_of_reader g.S.Source.view l.reader) copied;
   wrote : Appends (g.O.Sink.view l.fn.writer.sink.now).taken (g.O.Sink.view l.writer.sink.now).taken copied;
   failures : (g.O.Sink.view l.writer.sink.now).failed ≡ (g.O.Sink.view l.fn.writer.sink.now).failed;
   named : (g.O.Sink.view l.writer.sink.now).label ≡ (g.O.Sink.view l.fn.writer.sink.now).label;
-  count : l.writer.progress.written ≡ l.fn.writer.progress.written + length copied;
-  index : l.writer.progress.index ≡ l.fn.writer.progress.index;
-  chain : l.writer.progress.chain ≡ l.fn.writer.progress.chain;
-  hashed : (links : List ℕ) → l.fn.writer.progress.chain ≡ Some links → Holds256 l.digest (links ++ copied);
+  count : l.writer.tally.written ≡ l.fn.writer.tally.written + length copied;
+  index : l.writer.tally.index ≡ l.fn.writer.tally.index;
+  chain : l.writer.tally.chain ≡ l.fn.writer.tally.chain;
+  hashed : (links : List ℕ) → l.fn.writer.tally.chain ≡ Some links → Holds256 l.digest (links ++ copied);
 }
 
 abbrev pub decreases-parts : goal.decreases-parts

@@ -9,6 +9,7 @@ use Rattle.age_file.proofs.SkipSteps.{passes_then}
 use Rattle.age_file.proofs.CopySteps.{chain_more, chunk_failed}
 use Rattle.std.proofs.KnownBytes.{Appends-nil}
 use Rattle.age_file.specs.inner.Readers.{view_of_reader, view_of_writer}
+use Rattle.age_chunk.specs.Payload.{chunk_length}
 use Rattle.age_file.proofs.copy.copy_chunks.Goals as goal
 
 pub copy_chunk-requires-clause-room : goal.copy_chunk-requires-clause-room
@@ -27,7 +28,7 @@ returns-in_err-copy_chunk-clause-copied g c =
     let was = view_of_writer g.O.Sink.view c.args.writer.now in
     let between = view_of_writer g.O.Sink.view c.loop-copied.writer in
     let now = view_of_writer g.O.Sink.view c.copy_chunk.new.writer in
-    rw (p.1, p.2) (chunk_failed 65536 c.args.chunks c.loop-copied._copied old mid new was between now kept.out c.in_err-copy_chunk.field-0.0 kept.size
+    rw (p.1, p.2) (chunk_failed chunk_length c.args.chunks c.loop-copied._copied old mid new was between now kept.out c.in_err-copy_chunk.field-0.0 kept.size
     (omega arith) kept.passes kept.wrote kept.named kept.failures (omega (arith, kept.count, c.requires.fresh.0)) c.in_err-copy_chunk.ensures.copied)
 
 pub loop-copied-init : goal.loop-copied-init
@@ -55,9 +56,9 @@ loop-copied-preserved g c =
     let mid = view_of_reader g.S.Source.view c.loop-copied.reader in
     let new = view_of_reader g.S.Source.view c.copy_chunk.new.reader in
     let next : suc i ≡ i + 1 = omega arith in
-    let links : c.copy_chunk.new.writer.progress.chain ≡ chain_if Kept (first_chunks 65536 (i + 1) (kept.out ++ step.out)) =
-    goes.4 ∙ ap (λ (xs : Option (List ℕ)). link_if xs step.out) kept.chain_is ∙ ap Some (sym (chain_more 65536 i kept.out step.out kept.size goes.0))
-    ∙ ap (λ (k : ℕ). chain_if Kept (first_chunks 65536 k (kept.out ++ step.out))) next in
+    let links : c.copy_chunk.new.writer.tally.chain ≡ chain_if Kept (first_chunks chunk_length (i + 1) (kept.out ++ step.out)) =
+    goes.4 ∙ ap (λ (xs : Option (List ℕ)). link_if xs step.out) kept.chain_is ∙ ap Some (sym (chain_more chunk_length i kept.out step.out kept.size goes.0))
+    ∙ ap (λ (k : ℕ). chain_if Kept (first_chunks chunk_length k (kept.out ++ step.out))) next in
     record {
       same_reader = (c.in_ok-copy_chunk.ensures.same_reader.0 ∙ kept.same_reader.0, c.in_ok-copy_chunk.ensures.same_reader.1 ∙ kept.same_reader.1);
       same_writer = c.in_ok-copy_chunk.ensures.same_writer ∙ kept.same_writer;

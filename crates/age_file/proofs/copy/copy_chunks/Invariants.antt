@@ -5,6 +5,7 @@ use Rattle.age_file.specs.inner.Bindings.{chain_if}
 use Rattle.age_file.specs.declared.position.Positions.TheVariants.{Kept}
 use Rattle.age_file.specs.inner.Skips.{Passes}
 use Rattle.age_file.specs.inner.Readers.{view_of_reader, SameReader, SameWriter}
+use Rattle.age_chunk.specs.Payload.{chunk_length}
 use Rattle.age_file.proofs.copy.copy_chunks.Given as goal
 
 -- the chunks that were copied so far
@@ -13,12 +14,12 @@ invariant-loop-copied g l = record {
   same_reader : SameReader l.fn.reader l.reader;
   same_writer : SameWriter l.fn.writer l.writer;
   out : List ℕ;
-  size : length out ≡ l._copied * 65536;
+  size : length out ≡ l._copied * chunk_length;
   passes : Passes (view_of_reader g.S.Source.view l.fn.reader) (view_of_reader g.S.Source.view l.reader) out;
   wrote : Appends (g.O.Sink.view l.fn.writer.sink.now).taken (g.O.Sink.view l.writer.sink.now).taken out;
   failures : (g.O.Sink.view l.writer.sink.now).failed ≡ (g.O.Sink.view l.fn.writer.sink.now).failed;
   named : (g.O.Sink.view l.writer.sink.now).label ≡ (g.O.Sink.view l.fn.writer.sink.now).label;
-  count : l.writer.progress.written ≡ length out;
-  index : l.writer.progress.index ≡ l._copied;
-  chain_is : l.writer.progress.chain ≡ chain_if Kept (first_chunks 65536 l._copied out);
+  count : l.writer.tally.written ≡ length out;
+  index : l.writer.tally.index ≡ l._copied;
+  chain_is : l.writer.tally.chain ≡ chain_if Kept (first_chunks chunk_length l._copied out);
 }

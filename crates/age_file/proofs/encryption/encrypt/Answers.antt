@@ -8,6 +8,7 @@ use Rattle.age_file.specs.inner.Readers.{view_of_writer, writer_view}
 use Rattle.age_file.proofs.EncryptSteps.{front_fails, file_done, file_stopped}
 use Rattle.age_file.specs.Encrypts.{Encrypts, EncryptFails}
 use Rattle.age_file.proofs.ReaderSteps.{ports_last}
+use Rattle.age_chunk.specs.Payload.{chunk_length}
 use Rattle.age_file.proofs.encryption.encrypt.Goals as goal
 
 pub returns-in_err-write_front-clause-fails : goal.returns-in_err-write_front-clause-fails
@@ -28,8 +29,8 @@ returns-clause-done g c =
     let is : c.payload_key-key.result ≡ payload_key s.key s.nonce =
     c.payload_key-key.ensures ∙ (ap (λ k. payload_key k c.secret.inside.payload_nonce) c.new-3.ensures
     ∙ ap (λ v. payload_key v.key v.nonce) c.secret.view_is) in
-    let written = c.write_front.new.writer.progress.written in
-    let file = c.seal_all.new.writer.progress.written in
+    let written = c.write_front.new.writer.tally.written in
+    let file = c.seal_all.new.writer.tally.written in
     let old = ports (g.S.Source.view c.args.reader.now) (g.O.Sink.view c.args.writer.now) in
     let mid = ports (g.S.Source.view c.args.reader.now) (g.O.Sink.view c.write_front.new.writer.sink.now) in
     let new = ports (g.S.Source.view c.seal_all.new.reader.source.now) (g.O.Sink.view c.seal_all.new.writer.sink.now) in
@@ -37,7 +38,7 @@ returns-clause-done g c =
     _ c.seal_all.new.reader.source.now _ c.seal_all.new.writer.sink.now (search rules) (search rules)
     (file_done s front.front front.begins old mid new written file refl refl front.failed front.wrote front.count c.seal_all.result
     c.seal_all.ensures.counted
-    (subst (λ (k : List ℕ). IfOk c.seal_all.result (λ w. SealsAll (λ nonce text. sealing k nonce [] text) 65536 mid new written file w.plain)) is
+    (subst (λ (k : List ℕ). IfOk c.seal_all.result (λ w. SealsAll (λ nonce text. sealing k nonce [] text) chunk_length mid new written file w.plain)) is
     c.seal_all.ensures.sealed))
 
 pub returns-clause-fails : goal.returns-clause-fails
@@ -47,13 +48,13 @@ returns-clause-fails g c =
     let is : c.payload_key-key.result ≡ payload_key s.key s.nonce =
     c.payload_key-key.ensures ∙ (ap (λ k. payload_key k c.secret.inside.payload_nonce) c.new-3.ensures
     ∙ ap (λ v. payload_key v.key v.nonce) c.secret.view_is) in
-    let written = c.write_front.new.writer.progress.written in
-    let file = c.seal_all.new.writer.progress.written in
+    let written = c.write_front.new.writer.tally.written in
+    let file = c.seal_all.new.writer.tally.written in
     let old = ports (g.S.Source.view c.args.reader.now) (g.O.Sink.view c.args.writer.now) in
     let mid = ports (g.S.Source.view c.args.reader.now) (g.O.Sink.view c.write_front.new.writer.sink.now) in
     let new = ports (g.S.Source.view c.seal_all.new.reader.source.now) (g.O.Sink.view c.seal_all.new.writer.sink.now) in
     ports_last g.S.Source.view g.O.Sink.view (λ q. IfErr c.seal_all.result (EncryptFails s old q))
     _ c.seal_all.new.reader.source.now _ c.seal_all.new.writer.sink.now (search rules) (search rules)
     (file_stopped s front.front front.begins old mid new written file refl refl front.failed front.wrote front.count c.seal_all.result
-    (subst (λ (k : List ℕ). IfErr c.seal_all.result (SealsFront (λ nonce text. sealing k nonce [] text) 65536 mid new written file)) is
+    (subst (λ (k : List ℕ). IfErr c.seal_all.result (SealsFront (λ nonce text. sealing k nonce [] text) chunk_length mid new written file)) is
     c.seal_all.ensures.fails))

@@ -1,6 +1,7 @@
 use Rattle.std.proofs.Common.{◌≡◌, ◌+◌, ◌-◌, ◌*◌, ◌^◌, ◌≤◌, ◌++◌, [], ℕ, List, length, Option}
 use Rattle.age_file.specs.inner.Intakes.{Pulled}
 use Rattle.age_file.specs.inner.Readers.{SameReader}
+use Rattle.age_file.specs.Faults.{pull_room}
 use Rattle.age_file.proofs.inspection.count_rest.Given as goal
 
 -- the bytes that were counted
@@ -9,7 +10,7 @@ invariant-pulls g l = record {
   same : SameReader l.fn.reader l.reader;
   passed : List ℕ;
   count_is : l.count ≡ length passed;
-  small : l.count ≤ 65536 * (l.reader.intake.now.pulls + 1);
+  small : l.count ≤ pull_room * (l.reader.intake.now.pulls + 1);
   most : l.reader.intake.now.pulls ≤ 2 ^ 63;
   pulled : (start : Option (List ℕ)) (used : List ℕ) → Pulled start (g.S.Source.view l.fn.reader.source.now).remaining l.fn.reader.intake.now.pulls
       (used ++ l.fn.reader.intake.now.bytes)

@@ -1,29 +1,62 @@
-use Rattle.std.proofs.Common.{◌≡◌, ◌++◌, ℕ, List, refl, subst, rules}
+use Rattle.std.proofs.Common.{◌≡◌, ◌++◌, ◌∙◌, ℕ, List, refl, inl, inr, arith, rules}
 use Rattle.std.proofs.lemmas.Result.{err_from_is_err_and}
 use Rattle.std.specs.Io.KnownBytes.{Consumes, IsAtEnd}
-use Rattle.age_file.specs.Faults.{HeadFails}
-use Rattle.age_fault.specs.Faults.{HasFailed}
-use Rattle.age_file.specs.inner.Intakes.{Pulled, RestFails}
+use Rattle.age_stanza.specs.declared.header.Header.{Header}
+use Rattle.age_stanza.specs.Grammar.{HeadText}
+use Rattle.age_file.specs.Faults.{InHeader, NoHeadFault, StopsAtHeader, HeadFails}
+use Rattle.age_file.specs.inner.Intakes.{Pulled, PullFails, RestFails}
 use Rattle.age_io.specs.Views.{SourceView}
-use Rattle.age_file.specs.inner.Readers.{ReaderView, view_of_reader}
+use Rattle.age_file.specs.inner.Readers.{ReaderView, reader_view, view_of_reader}
+use Rattle.age_file.specs.inner.Unread.{Unread}
 use Rattle.age_fault.specs.declared.fault.FileFault.{FileFault}
 use Rattle.age_fault.specs.declared.fault.FileFault.TheVariants.{Read, ReadNeverEnds}
-use Rattle.age_file.proofs.Bytes.{stops_unread}
+use Rattle.age_file.proofs.Bytes.{stops_unread, sound_too, pull_fails_since}
 use Rattle.age_file.proofs.ReaderSteps.{read_last}
 use Rattle.age_file.proofs.inspection.inspect.Goals as goal
 
+-- no more came of a source, whose bytes so far are sound
+no_more : (first : SourceView) (was : Unread) (now : ReaderView) (fault : FileFault) (bytes : List ℕ) → NoHeadFault first.remaining now.source.remaining
+    → Pulled first.remaining now.source.remaining now.unread.pulls bytes → PullFails (reader_view first was) now fault
+    → HeadFails NoHeadFault first now.source fault
+no_more first was now Read bytes sound all why = (sound, why)
+no_more first was now ReadNeverEnds bytes sound all why =
+    (sound, (bytes, all.consumed, (omega (arith, all.each_gave, why.0), omega (arith, all.small, why.0))))
+no_more first was now other bytes sound all why = absurd why
+
 -- a rest that could not be read, after a header that was
-rest_to_head : (first : SourceView) (mid now : ReaderView) (front : List ℕ) (fault : FileFault) → mid.source.failed ≡ first.failed
-    → Pulled first.remaining mid.source.remaining mid.unread.pulls (front ++ mid.unread.bytes)
-    → RestFails mid now fault → HeadFails first now.source fault
-rest_to_head first mid now front Read same h f = subst (λ (k : ℕ). HasFailed k now.source.failed now.source.failing) same f
-rest_to_head first mid now front ReadNeverEnds same h f = f first.remaining front h
-rest_to_head first mid now front other same h f = absurd f
+rest_to_head : (first : SourceView) (mid now : ReaderView) (header : Header) (front : List ℕ) (fault : FileFault) → HeadText header front
+    → mid.source.failed ≡ first.failed → Pulled first.remaining mid.source.remaining mid.unread.pulls (front ++ mid.unread.bytes)
+    → RestFails mid now fault → HeadFails NoHeadFault first now.source fault
+rest_to_head first mid now header front fault text same h f =
+    let more = f.more first.remaining front h in
+    let sound : NoHeadFault first.remaining now.source.remaining = (front ++ more.0, more.1.consumed, inr (header, front, more.0, text, refl)) in
+    no_more first mid.unread now fault (front ++ more.0) sound more.1 (pull_fails_since (reader_view first mid.unread) mid now fault same f.why)
 
 pub returns-in_err-intake-clause-fails : goal.returns-in_err-intake-clause-fails
 returns-in_err-intake-clause-fails g c =
     let p = err_from_is_err_and c.from_residual.result c.from_residual.ensures.1 in
     rw (p.1, p.2) (stops_unread (g.S.Source.view c.args.source.now).remaining)
+
+pub returns-in_err-head-clause-fails : goal.returns-in_err-head-clause-fails
+returns-in_err-head-clause-fails g c =
+    let p = err_from_is_err_and c.from_residual-in_err-head.result c.from_residual-in_err-head.ensures.1 in
+    let first = g.S.Source.view c.args.source.now in
+    let fails = sound_too InHeader NoHeadFault first (g.S.Source.view c.read_head.new.reader.source.now) c.in_err-head.field-0.0
+    (λ h. (h.0, h.1, inl h.2)) c.in_err-head.ensures.fails in
+    rw (p.1, p.2) (read_last g.S.Source.view (λ v. HeadFails NoHeadFault first v c.in_err-head.field-0.0) _ c.read_head.new.reader.source.now
+    (search rules) fails)
+
+pub returns-in_err-stanzas-clause-fails : goal.returns-in_err-stanzas-clause-fails
+returns-in_err-stanzas-clause-fails g c =
+    let p = err_from_is_err_and c.from_residual-in_err-stanzas.result c.from_residual-in_err-stanzas.ensures.1 in
+    let first = g.S.Source.view c.args.source.now in
+    rw (p.1, p.2) (read_last g.S.Source.view (λ v. StopsAtHeader first.remaining v.remaining) _ c.read_head.new.reader.source.now (search rules)
+    c.in_ok-head.ensures.found.last)
+
+pub returns-clause-unfailed : goal.returns-clause-unfailed
+returns-clause-unfailed g c =
+    read_last g.S.Source.view (λ v. v.failed ≡ (g.S.Source.view c.args.source.now).failed) _ c.count_rest.new.reader.source.now (search rules)
+    (c.in_ok-rest.ensures.counts.unfailed ∙ c.in_ok-head.ensures.found.unfailed)
 
 pub returns-in_err-rest-clause-fails : goal.returns-in_err-rest-clause-fails
 returns-in_err-rest-clause-fails g c =
@@ -32,19 +65,21 @@ returns-in_err-rest-clause-fails g c =
     let first = g.S.Source.view c.args.source.now in
     let mid = view_of_reader g.S.Source.view c.read_head.new.reader in
     let last = view_of_reader g.S.Source.view c.count_rest.new.reader in
-    let fails = rest_to_head first mid last head.front c.in_err-rest.field-0.0 c.in_ok-head.ensures.unfailed head.pulled c.in_err-rest.ensures.fails in
-    rw (p.1, p.2) (read_last g.S.Source.view (λ v. HeadFails first v c.in_err-rest.field-0.0) _ c.count_rest.new.reader.source.now (search rules) fails)
+    let fails = rest_to_head first mid last c.in_ok-head.head.header head.front c.in_err-rest.field-0.0 head.text head.unfailed head.pulled
+    c.in_err-rest.ensures.fails in
+    rw (p.1, p.2) (read_last g.S.Source.view (λ v. HeadFails NoHeadFault first v c.in_err-rest.field-0.0) _ c.count_rest.new.reader.source.now
+    (search rules) fails)
 
 pub returns-clause-ok : goal.returns-clause-ok
 returns-clause-ok g c =
     let head = c.in_ok-head.ensures.found in
     let first = g.S.Source.view c.args.source.now in
-    let counted = c.in_ok-rest.ensures.counts first.remaining head.front head.pulled in
+    let counted = c.in_ok-rest.ensures.counts.counts first.remaining head.front head.pulled in
     let reports = rw c.in_ok-stanzas.was at c.reports_of.ensures in (
       head.front ++ counted.0,
       read_last g.S.Source.view (λ v. Consumes first.remaining v.remaining (head.front ++ counted.0)) _ c.count_rest.new.reader.source.now (search rules)
           counted.2,
-      read_last g.S.Source.view (λ v. IsAtEnd v.remaining) _ c.count_rest.new.reader.source.now (search rules) c.in_ok-rest.ensures.ended,
+      read_last g.S.Source.view (λ v. IsAtEnd v.remaining) _ c.count_rest.new.reader.source.now (search rules) c.in_ok-rest.ensures.counts.at_end,
       record {
         h = c.in_ok-head.head.header;
         front = head.front;

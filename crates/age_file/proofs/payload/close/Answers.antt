@@ -6,6 +6,7 @@ use Rattle.age_file.specs.inner.Boxes.{opens, seals}
 use Rattle.age_keys.specs.inner.PayloadBox.{box_valid}
 use Rattle.age_fault.proofs.Bytes.{answer_as}
 use Rattle.age_file.proofs.CountSteps.{mark_end}
+use Rattle.age_chunk.specs.Payload.{chunk_length}
 use Rattle.age_file.proofs.payload.close.Goals as goal
 
 pub returns-in_err-text-clause-closed : goal.returns-in_err-text-clause-closed
@@ -21,9 +22,9 @@ returns-in_err-text-clause-closed g c =
         named = refl;
         count = omega arith;
         stands = after.stands;
-        text = c.in_err-text.ensures.text;
+        text = c.in_err-text.ensures.ends.text;
         counts = λ keep positive s base len h m. mark_end (seals c.args.opener.now.key) (opens c.args.opener.now.key) (box_valid c.args.opener.now.key)
-            65536 positive keep base s [] [] _ _ len (c.in_err-text.ensures.text s h) refl refl m;
+            chunk_length positive keep base s [] [] _ _ len (c.in_err-text.ensures.ends.text s h) refl refl m;
       };
       answered = rw (p.1, p.2) (after.fault, refl, refl, refl);
     }
@@ -41,10 +42,10 @@ returns-clause-closed g c =
         named = c.write_all.ensures.named;
         count = put.count;
         stands = after.stands;
-        text = λ s h. c.in_ok-text.ensures.text s h ∙ ap (λ (t : List ℕ). released (opens c.args.opener.now.key) 65536 s ++ t) put.parts;
+        text = λ s h. c.in_ok-text.ensures.ends.text s h ∙ ap (λ (t : List ℕ). released (opens c.args.opener.now.key) chunk_length s ++ t) put.parts;
         counts = λ keep positive s base len h m.
-            let more = c.in_ok-text.ensures.text s h ∙ ap (λ (t : List ℕ). released (opens c.args.opener.now.key) 65536 s ++ t) put.parts in
-            mark_end (seals c.args.opener.now.key) (opens c.args.opener.now.key) (box_valid c.args.opener.now.key) 65536 positive keep base s put.out
+            let more = c.in_ok-text.ensures.ends.text s h ∙ ap (λ (t : List ℕ). released (opens c.args.opener.now.key) chunk_length s ++ t) put.parts in
+            mark_end (seals c.args.opener.now.key) (opens c.args.opener.now.key) (box_valid c.args.opener.now.key) chunk_length positive keep base s put.out
             put.unwritten _ _ len more refl refl m;
       };
       answered = answer_as c.write_all.result put.answered c.write_all.ensures.fault (λ _ all. (after.done, all.0, all.1))

@@ -2,6 +2,7 @@ use Rattle.std.proofs.Common.{◌-◌, ◌^◌}
 use Rattle.age_file.specs.inner.Boxes.{opens}
 use Rattle.age_file.specs.inner.Readers.{stage_of, SameReader, SameWriter}
 use Rattle.age_file.proofs.FlowSteps.{GoesOn}
+use Rattle.age_chunk.specs.Payload.{chunk_length}
 use Rattle.age_file.proofs.payload.decrypt_payload.Given as goal
 
 abbrev pub invariant-turns : goal.invariant-turns
@@ -11,7 +12,7 @@ invariant-turns g l =
     record {
       same_reader : SameReader l.fn.reader l.reader;
       same_writer : SameWriter l.fn.writer l.writer;
-      goes : GoesOn opens 65536 l.initial.opener l.opener old now;
+      goes : GoesOn opens chunk_length l.initial.opener l.opener old now;
     }
 
 abbrev pub decreases-turns : goal.decreases-turns

@@ -4,6 +4,7 @@ use Rattle.std.proofs.lemmas.List.{take_rest, take-append-drop, length-append, l
 use Rattle.age_file.specs.inner.Boxes.{opens}
 use Rattle.age_file.proofs.ReleaseSteps.{both_then, releases_none, releases_then, fails_then}
 use Rattle.age_file.specs.inner.Readers.{view_of_writer}
+use Rattle.age_chunk.specs.Payload.{chunk_length}
 use Rattle.age_file.proofs.payload.feed_piece.Goals as goal
 
 -- the front of what is left of a piece
@@ -23,7 +24,7 @@ loop-at-init g c =
     record {
       same = refl;
       within = omega arith;
-      releases = releases_none opens 65536 c.args.opener.now was;
+      releases = releases_none opens chunk_length c.args.opener.now was;
       goes = (omega arith, refl, refl, c.requires.sound);
     }
 
@@ -33,7 +34,7 @@ loop-at-preserved g c =
     let fed = c.in_ok-at.ensures.fed in
     let piece = c.args.piece.now in
     let at = c.loop-at.at in
-    let both = both_then opens 65536 (take at piece) fed.fed (take (at + c.in_ok-at.field-0) piece) c.args.opener.now c.loop-at.opener c.feed_once.new.opener
+    let both = both_then opens chunk_length (take at piece) fed.fed (take (at + c.in_ok-at.field-0) piece) c.args.opener.now c.loop-at.opener c.feed_once.new.opener
     (view_of_writer g.O.Sink.view c.args.writer.now)
     (view_of_writer g.O.Sink.view c.loop-at.writer)
     (view_of_writer g.O.Sink.view c.feed_once.new.writer) fed.unwritten
@@ -69,9 +70,9 @@ returns-in_err-at g c =
         left = fed.left;
         unwritten = fed.unwritten;
         parts = all_of piece fed.fed fed.left at fed.parts;
-        releases = releases_then opens 65536 (take at piece) fed.fed c.args.opener.now c.loop-at.opener c.feed_once.new.opener was mid now fed.unwritten
+        releases = releases_then opens chunk_length (take at piece) fed.fed c.args.opener.now c.loop-at.opener c.feed_once.new.opener was mid now fed.unwritten
             kept.releases fed.releases;
-        answered = rw (p.1, p.2) (fails_then opens 65536 (take at piece) c.args.opener.now c.loop-at.opener c.feed_once.new.opener was mid now fed.left
+        answered = rw (p.1, p.2) (fails_then opens chunk_length (take at piece) c.args.opener.now c.loop-at.opener c.feed_once.new.opener was mid now fed.left
             fed.unwritten c.in_err-at.field-0.0 kept.goes fed.answered);
       };
       same = c.in_err-at.ensures.same ∙ kept.same;

@@ -3,6 +3,7 @@ use Rattle.age_stream.specs.Deliveries.{with_piece}
 use Rattle.age_file.specs.inner.Boxes.{opens}
 use Rattle.age_file.specs.inner.Releases.{Releases, FeedGoes}
 use Rattle.age_file.specs.inner.Readers.{view_of_writer, SameWriter}
+use Rattle.age_chunk.specs.Payload.{chunk_length}
 use Rattle.age_file.proofs.payload.feed_piece.Given as goal
 
 abbrev pub invariant-loop-at : goal.invariant-loop-at
@@ -12,8 +13,8 @@ invariant-loop-at g l =
     record {
       same : SameWriter l.fn.writer l.writer;
       within : l.at ≤ length l.piece;
-      releases : Releases opens 65536 (λ s. with_piece s (take l.at l.piece)) l.fn.opener l.opener was now [];
-      goes : FeedGoes opens 65536 l.fn.opener l.opener was now (take l.at l.piece) [];
+      releases : Releases opens chunk_length (λ s. with_piece s (take l.at l.piece)) l.fn.opener l.opener was now [];
+      goes : FeedGoes opens chunk_length l.fn.opener l.opener was now (take l.at l.piece) [];
     }
 
 abbrev pub decreases-loop-at : goal.decreases-loop-at

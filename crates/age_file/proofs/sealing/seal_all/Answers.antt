@@ -14,11 +14,12 @@ use Rattle.age_fault.specs.declared.fault.FileFault.{FileFault}
 use Rattle.age_file.proofs.Bytes.{cut_pulled}
 use Rattle.age_file.proofs.SealSteps.{front_small}
 use Rattle.age_file.proofs.SourceSteps.{front_begins, no_front, piece_done, piece_cut, pull_fails, seal_fails, last_written, last_begins, last_whole}
+use Rattle.age_chunk.specs.Payload.{block_length, chunk_length}
 use Rattle.age_file.proofs.sealing.seal_all.Goals as goal
 
 pub pulls-init : goal.pulls-init
 pulls-init g c =
-    let n : ℕ = 65536 in
+    let n : ℕ = chunk_length in
     let none = no_front (seals c.new-sealer.result.key) n (omega arith) in
     let now = view_of_writer g.O.Sink.view c.args.writer.now in
     record {
@@ -48,10 +49,10 @@ returns-in_err-refill-clause-fails g c =
     let kept = c.pulls.invariant in
     let r = c.in_err-refill.ensures in
     let all = cut_pulled _ _ _ kept.text _ r.answered.0 (r.pulled _ kept.text kept.pulled) in
-    let n : ℕ = 65536 in
+    let n : ℕ = chunk_length in
     let old = ports (g.S.Source.view c.args.reader.now.source.now) (g.O.Sink.view c.args.writer.now.sink.now) in
     let new = ports (g.S.Source.view c.refill.new.source) (g.O.Sink.view c.pulls.writer.sink.now) in
-    rw (p.1, p.2) (subst (λ k. SealsFront (seals k) n old new c.args.writer.now.progress.written c.pulls.writer.progress.written c.in_err-refill.field-0.0)
+    rw (p.1, p.2) (subst (λ k. SealsFront (seals k) n old new c.args.writer.now.tally.written c.pulls.writer.tally.written c.in_err-refill.field-0.0)
     (ap (λ v. v.key) c.new-sealer.ensures) (record {
       text = kept.text;
       out = front_of (seals c.new-sealer.result.key) n kept.text;
@@ -68,7 +69,7 @@ pub seal_piece-requires : goal.seal_piece-requires
 seal_piece-requires g c =
     let kept = c.pulls.invariant in
     let text = kept.text in
-    let n : ℕ = 65536 in
+    let n : ℕ = chunk_length in
     let pulled = kept.pulled in
     let blocks : front_of (seals c.new-sealer.result.key) n text ≡ front_of (seals c.pulls.sealer.key) n text =
     ap (λ k. front_of (seals k) n text) (sym kept.goes.key) in
@@ -88,7 +89,7 @@ returns-in_err-seal_piece-clause-fails g c =
     let kept = c.pulls.invariant in
     let r = rw c.if-branch.true at c.in_ok-refill.ensures in
     let s = c.in_err-seal_piece.ensures.sealed in
-    let n : ℕ = 65536 in
+    let n : ℕ = chunk_length in
     let positive : 0 < n = omega arith in
     let piece = c.bytes.result.now in
     let was = view_of_writer g.O.Sink.view c.args.writer.now in
@@ -99,7 +100,7 @@ returns-in_err-seal_piece-clause-fails g c =
     let all = rw (← c.bytes.ensures.bytes) at (r.pulled old.source.remaining kept.text kept.pulled) in
     let unwritten = piece_cut seals n c.new-sealer.result c.pulls.sealer c.seal_piece.new.sealer was mid now kept.text piece s.fed s.left s.unwritten
     kept.goes kept.fresh kept.wrote s.some positive in
-    rw (p.1, p.2) (subst (λ k. SealsFront (seals k) n old new c.args.writer.now.progress.written c.seal_piece.new.writer.progress.written
+    rw (p.1, p.2) (subst (λ k. SealsFront (seals k) n old new c.args.writer.now.tally.written c.seal_piece.new.writer.tally.written
     c.in_err-seal_piece.field-0.0)
     (ap (λ v. v.key) c.new-sealer.ensures) (record {
       text = kept.text ++ piece;
@@ -115,7 +116,7 @@ pulls-preserved g c =
     let kept = c.pulls.invariant in
     let r = rw c.if-branch.true at c.in_ok-refill.ensures in
     let s = c.in_ok-seal_piece.ensures.sealed in
-    let n : ℕ = 65536 in
+    let n : ℕ = chunk_length in
     let positive : 0 < n = omega arith in
     let piece = c.bytes.result.now in
     let was = view_of_writer g.O.Sink.view c.args.writer.now in
@@ -152,10 +153,10 @@ finish-requires g c =
     let r = rw c.if-branch.false at c.in_ok-refill.ensures in
     let all = cut_pulled _ _ _ kept.text _ r.answered.0 (r.pulled _ kept.text kept.pulled) in
     let small : length kept.text ≤ 2 ^ 80 = omega (arith, all.small, all.most) in
-    let n : ℕ = 65536 in
+    let n : ℕ = chunk_length in
     let key = c.new-sealer.result.key in
     let fits = front_small (seals key) (opens key) (box_valid key) n kept.text (omega arith) in
-    let product : length kept.text * 65552 ≤ 2 ^ 80 * 65552 = mul-le (length kept.text) 65552 (2 ^ 80) 65552 small (omega arith) in
+    let product : length kept.text * block_length ≤ 2 ^ 80 * block_length = mul-le (length kept.text) block_length (2 ^ 80) block_length small (omega arith) in
     record { feeding = kept.goes.feeding; room = omega (arith, c.requires.room, kept.wrote.count, fits, product) }
 
 pub returns-in_err-finish-clause-fails : goal.returns-in_err-finish-clause-fails
@@ -166,7 +167,7 @@ returns-in_err-finish-clause-fails g c =
     let all = cut_pulled _ _ _ kept.text _ r.answered.0 (r.pulled _ kept.text kept.pulled) in
     let small : length kept.text ≤ 2 ^ 80 = omega (arith, all.small, all.most) in
     let l = c.in_err-finish.ensures.sealed in
-    let n : ℕ = 65536 in
+    let n : ℕ = chunk_length in
     let a = c.new-sealer.result in
     let b = c.pulls.sealer in
     let was = view_of_writer g.O.Sink.view c.args.writer.now in
@@ -175,7 +176,7 @@ returns-in_err-finish-clause-fails g c =
     let old = ports (g.S.Source.view c.args.reader.now.source.now) (g.O.Sink.view c.args.writer.now.sink.now) in
     let new = ports (g.S.Source.view c.refill.new.source) (g.O.Sink.view c.finish.new.writer.sink.now) in
     let out = last_written seals n a b was mid now kept.text kept.goes.key (kept.goes.holds [] kept.fresh) kept.wrote l.out l.unwritten l.wrote l.blocks in
-    rw (p.1, p.2) (subst (λ k. SealsFront (seals k) n old new c.args.writer.now.progress.written c.finish.new.writer.progress.written c.in_err-finish.field-0.0)
+    rw (p.1, p.2) (subst (λ k. SealsFront (seals k) n old new c.args.writer.now.tally.written c.finish.new.writer.tally.written c.in_err-finish.field-0.0)
     (ap (λ v. v.key) c.new-sealer.ensures) (record {
       text = kept.text;
       out = front_of (seals a.key) n kept.text ++ l.out;
@@ -195,7 +196,7 @@ returns-clause-sealed g c =
     let all = cut_pulled _ _ _ kept.text _ r.answered.0 (r.pulled _ kept.text kept.pulled) in
     let small : length kept.text ≤ 2 ^ 80 = omega (arith, all.small, all.most) in
     let l = c.in_ok-finish.ensures.sealed in
-    let n : ℕ = 65536 in
+    let n : ℕ = chunk_length in
     let a = c.new-sealer.result in
     let b = c.pulls.sealer in
     let was = view_of_writer g.O.Sink.view c.args.writer.now in
@@ -205,7 +206,7 @@ returns-clause-sealed g c =
     let new = ports (g.S.Source.view c.refill.new.source) (g.O.Sink.view c.finish.new.writer.sink.now) in
     let out = last_whole seals n a b was mid now kept.text kept.goes.key (kept.goes.holds [] kept.fresh) kept.wrote l.out l.unwritten l.wrote l.blocks
     l.answered.0 in
-    subst (λ k. SealsAll (seals k) n old new c.args.writer.now.progress.written c.finish.new.writer.progress.written c.pulls.plain)
+    subst (λ k. SealsAll (seals k) n old new c.args.writer.now.tally.written c.finish.new.writer.tally.written c.pulls.plain)
     (ap (λ v. v.key) c.new-sealer.ensures) (record {
       text = kept.text;
       few = omega (arith, l.limit, (kept.goes.holds [] kept.fresh).index);

@@ -4,22 +4,23 @@ use Rattle.age_file.specs.inner.Boxes.{seals}
 use Rattle.age_file.specs.inner.Intakes.{Pulled}
 use Rattle.age_file.specs.inner.Seals.{IsFeeding, Wrote, GoesOn, front_of}
 use Rattle.age_file.specs.inner.Readers.{view_of_writer, SameReader, SameWriter}
+use Rattle.age_chunk.specs.Payload.{chunk_length}
 use Rattle.age_file.proofs.sealing.seal_all.Given as goal
 
 -- the text that came so far
 abbrev pub invariant-pulls : goal.invariant-pulls
 invariant-pulls g l = record {
   feeding : IsFeeding l.initial.sealer;
-  fresh : Holds 65536 l.initial.sealer [];
+  fresh : Holds chunk_length l.initial.sealer [];
   same_reader : SameReader l.fn.reader l.reader;
   same_writer : SameWriter l.fn.writer l.writer;
   text : List ℕ;
   pulled : Pulled (g.S.Source.view l.fn.reader.source.now).remaining (g.S.Source.view l.reader.source.now).remaining l.reader.intake.now.pulls text;
   unread : l.reader.intake.now.bytes ≡ [];
   plain_is : l.plain ≡ length text;
-  goes : GoesOn seals 65536 l.initial.sealer l.sealer text;
+  goes : GoesOn seals chunk_length l.initial.sealer l.sealer text;
   wrote : Wrote (view_of_writer g.O.Sink.view l.fn.writer) (view_of_writer g.O.Sink.view l.writer)
-      (front_of (seals l.initial.sealer.key) 65536 text);
+      (front_of (seals l.initial.sealer.key) chunk_length text);
   read_failed : (g.S.Source.view l.reader.source.now).failed ≡ (g.S.Source.view l.fn.reader.source.now).failed;
   write_failed : (g.O.Sink.view l.writer.sink.now).failed ≡ (g.O.Sink.view l.fn.writer.sink.now).failed;
   named : (g.O.Sink.view l.writer.sink.now).label ≡ (g.O.Sink.view l.fn.writer.sink.now).label;

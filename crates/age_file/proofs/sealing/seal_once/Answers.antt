@@ -7,14 +7,15 @@ use Rattle.age_stream.specs.Lent.{chunk_bytes}
 use Rattle.age_file.specs.inner.Boxes.{seals}
 use Rattle.age_file.specs.inner.Seals.{front_of}
 use Rattle.age_file.proofs.SealSteps.{step_len_le, step_len_some, at_limit, too_long, some_sealed}
+use Rattle.age_chunk.specs.Payload.{chunk_length}
 use Rattle.age_file.proofs.sealing.seal_once.Goals as goal
 
 pub returns-in_err-step-clause-sealed : goal.returns-in_err-step-clause-sealed
 returns-in_err-step-clause-sealed g c =
     let p = err_from_is_err_and c.from_residual.result c.from_residual.ensures.1 in
-    let n : ℕ = 65536 in
+    let n : ℕ = chunk_length in
     let key = c.args.sealer.now.key in
-    let refused = c.in_err-step.ensures.refused in
+    let refused = c.in_err-step.ensures.takes.refused in
     let limit = at_limit n c.args.sealer.now c.args.piece.now c.requires.feeding.sound refused.0 in
     record {
       fed = [];
@@ -32,12 +33,12 @@ returns-in_err-step-clause-sealed g c =
 pub returns-in_ok-write_all-clause-sealed : goal.returns-in_ok-write_all-clause-sealed
 returns-in_ok-write_all-clause-sealed g c =
     let after = rw c.in_ok-step.was at c.feed.follows.holds-at-none in
-    let ok = c.in_ok-step.ensures in
+    let ok = c.in_ok-step.ensures.takes in
     let put = c.in_ok-write_all.ensures.writes in
     let step = c.in_ok-step.step in
     let piece = c.args.piece.now in
     let held = c.args.sealer.now.held in
-    let n : ℕ = 65536 in
+    let n : ℕ = chunk_length in
     let is : chunk_bytes step.chunk ≡ put.out ++ put.unwritten = ap (λ o. chunk_bytes o) c.in-Some.is ∙ put.parts in
     record {
       fed = take step.taken piece;
@@ -57,11 +58,11 @@ returns-in_ok-write_all-clause-sealed g c =
 pub returns-in_default-clause-sealed : goal.returns-in_default-clause-sealed
 returns-in_default-clause-sealed g c =
     let after = rw c.in_ok-step.was at c.feed.follows.holds-at-none in
-    let ok = c.in_ok-step.ensures in
+    let ok = c.in_ok-step.ensures.takes in
     let step = c.in_ok-step.step in
     let piece = c.args.piece.now in
     let held = c.args.sealer.now.held in
-    let n : ℕ = 65536 in
+    let n : ℕ = chunk_length in
     let is : chunk_bytes step.chunk ≡ [] ++ [] = ap (λ o. chunk_bytes o) c.in_default.is in
     record {
       fed = take step.taken piece;
@@ -80,11 +81,11 @@ returns-in_default-clause-sealed g c =
 pub returns-in_err-write_all-clause-sealed : goal.returns-in_err-write_all-clause-sealed
 returns-in_err-write_all-clause-sealed g c =
     let p = err_from_is_err_and c.from_residual-in_err-write_all.result c.from_residual-in_err-write_all.ensures.1 in
-    let ok = c.in_ok-step.ensures in
+    let ok = c.in_ok-step.ensures.takes in
     let put = c.in_err-write_all.ensures.writes in
     let step = c.in_ok-step.step in
     let piece = c.args.piece.now in
-    let n : ℕ = 65536 in
+    let n : ℕ = chunk_length in
     let is : chunk_bytes step.chunk ≡ put.out ++ put.unwritten = ap (λ o. chunk_bytes o) c.in-Some.is ∙ put.parts in
     record {
       fed = take step.taken piece;

@@ -7,12 +7,13 @@ use Rattle.age_keys.specs.inner.PayloadBox.{box_valid}
 use Rattle.age_file.specs.inner.Seals.{SealsSome, GoesOn, SealFails, front_of}
 use Rattle.age_file.proofs.SealSteps.{next_some, fed_alone, fed_is, goes_then, fails_then, room_left}
 use Rattle.age_file.specs.inner.Readers.{view_of_writer}
+use Rattle.age_chunk.specs.Payload.{chunk_length}
 use Rattle.age_file.proofs.sealing.seal_piece.Goals as goal
 
 pub loop-at-init : goal.loop-at-init
 loop-at-init g c =
     let key = c.args.sealer.now.key in
-    let n : ℕ = 65536 in
+    let n : ℕ = chunk_length in
     record {
       same_writer = refl;
       within = omega arith;
@@ -33,14 +34,14 @@ seal_once-requires g c =
     let key = c.args.sealer.now.key in
     record {
       feeding = kept.goes.feeding;
-      room = room_left seals (opens key) 65536 c.args.sealer.now c.loop-at.sealer _ _ c.args.piece.now c.loop-at.at (box_valid key) (omega arith)
+      room = room_left seals (opens key) chunk_length c.args.sealer.now c.loop-at.sealer _ _ c.args.piece.now c.loop-at.at (box_valid key) (omega arith)
           c.requires.room kept.some;
     }
 
 pub loop-at-preserved : goal.loop-at-preserved
 loop-at-preserved g c =
     let kept = c.loop-at.invariant in
-    let n : ℕ = 65536 in
+    let n : ℕ = chunk_length in
     let piece = c.args.piece.now in
     let at = c.loop-at.at in
     let s = c.in_ok-at.ensures.sealed in
@@ -77,7 +78,7 @@ pub returns-in_err-at-clause-sealed : goal.returns-in_err-at-clause-sealed
 returns-in_err-at-clause-sealed g c =
     let p = err_from_is_err_and c.from_residual.result c.from_residual.ensures.1 in
     let kept = c.loop-at.invariant in
-    let n : ℕ = 65536 in
+    let n : ℕ = chunk_length in
     let piece = c.args.piece.now in
     let at = c.loop-at.at in
     let s = c.in_err-at.ensures.sealed in
@@ -102,7 +103,7 @@ returns-in_err-at-clause-sealed g c =
 pub returns-clause-sealed : goal.returns-clause-sealed
 returns-clause-sealed g c =
     let kept = c.loop-at.invariant in
-    let n : ℕ = 65536 in
+    let n : ℕ = chunk_length in
     let piece = c.args.piece.now in
     let at = c.loop-at.at in
     let was = view_of_writer g.O.Sink.view c.args.writer.now in

@@ -3,6 +3,7 @@ use Rattle.std.proofs.lemmas.Result.{err_from_is_err_and}
 use Rattle.std.proofs.lemmas.List.{length-append}
 use Rattle.age_file.proofs.SkipSteps.{passes_then, pass_fails, ends_after}
 use Rattle.age_file.specs.inner.Readers.{view_of_reader}
+use Rattle.age_chunk.specs.Payload.{block_length}
 use Rattle.age_file.proofs.skip.skip_blocks.Goals as goal
 
 pub returns-then-not-branch-clause-skipped : goal.returns-then-not-branch-clause-skipped
@@ -12,7 +13,7 @@ returns-then-not-branch-clause-skipped g c =
     let old = view_of_reader g.S.Source.view c.args.reader.now in
     let mid = view_of_reader g.S.Source.view c.loop-block.reader in
     let new = view_of_reader g.S.Source.view c.skip_block.new.reader in
-    (refl, omega arith, ends_after 65552 c.loop-block.block old mid new kept.passed kept.size kept.passes r)
+    (refl, omega arith, ends_after block_length c.loop-block.block old mid new kept.passed kept.size kept.passes r)
 
 pub returns-in_err-skip_block-clause-skipped : goal.returns-in_err-skip_block-clause-skipped
 returns-in_err-skip_block-clause-skipped g c =
@@ -21,7 +22,7 @@ returns-in_err-skip_block-clause-skipped g c =
     let old = view_of_reader g.S.Source.view c.args.reader.now in
     let mid = view_of_reader g.S.Source.view c.loop-block.reader in
     let new = view_of_reader g.S.Source.view c.skip_block.new.reader in
-    rw (p.1, p.2) (pass_fails 65552 c.args.blocks c.loop-block.block old mid new kept.passed c.in_err-skip_block.field-0.0 kept.size (omega arith)
+    rw (p.1, p.2) (pass_fails block_length c.args.blocks c.loop-block.block old mid new kept.passed c.in_err-skip_block.field-0.0 kept.size (omega arith)
     kept.passes c.in_err-skip_block.ensures.skipped)
 
 pub loop-block-preserved : goal.loop-block-preserved

@@ -1,12 +1,13 @@
 use Rattle.std.proofs.Common.{◌≡◌, ◌*◌, ℕ, List, length}
 use Rattle.age_file.specs.inner.Skips.{Passes}
 use Rattle.age_file.specs.inner.Readers.{view_of_reader, SameReader}
+use Rattle.age_chunk.specs.Payload.{block_length}
 use Rattle.age_file.proofs.skip.skip_blocks.Given as goal
 
 abbrev pub invariant-loop-block : goal.invariant-loop-block
 invariant-loop-block g l = record {
   same : SameReader l.fn.reader l.reader;
   passed : List ℕ;
-  size : length passed ≡ l.block * 65552;
+  size : length passed ≡ l.block * block_length;
   passes : Passes (view_of_reader g.S.Source.view l.fn.reader) (view_of_reader g.S.Source.view l.reader) passed;
 }

@@ -65,4 +65,4 @@ returns-clause-found g c =
     let old = view_of_reader g.S.Source.view c.args.reader.now in
     let new = view_of_reader g.S.Source.view c.parts.reader in
     let whole : take c.parts.have c.parts.nonce ≡ c.parts.nonce = take_all c.parts.have c.parts.nonce (omega (arith, kept.room)) in
-    subst (λ (t : List ℕ). Uses old new t) whole kept.uses
+    record { uses = subst (λ (t : List ℕ). Uses old new t) whole kept.uses; few = kept.few; unfailed = kept.unfailed }

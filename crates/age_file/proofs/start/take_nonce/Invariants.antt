@@ -1,13 +1,14 @@
 use Rattle.std.proofs.Common.{◌-◌, ◌≡◌, ◌≤◌, take, length}
 use Rattle.age_file.specs.inner.Starts.{Uses}
 use Rattle.age_file.specs.inner.Readers.{view_of_reader, SameReader}
+use Rattle.age_file.specs.Faults.{pull_room}
 use Rattle.age_file.proofs.start.take_nonce.Given as goal
 
 abbrev pub invariant-parts : goal.invariant-parts
 invariant-parts g l = record {
   same : SameReader l.fn.reader l.reader;
   most : l.have ≤ 16;
-  few : length l.reader.intake.now.bytes ≤ 65536;
+  few : length l.reader.intake.now.bytes ≤ pull_room;
   room : length l.nonce ≡ 16;
   uses : Uses (view_of_reader g.S.Source.view l.fn.reader) (view_of_reader g.S.Source.view l.reader) (take l.have l.nonce);
   unfailed : (g.S.Source.view l.reader.source.now).failed ≡ (g.S.Source.view l.fn.reader.source.now).failed;

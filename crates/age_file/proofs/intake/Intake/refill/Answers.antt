@@ -3,11 +3,12 @@ use Rattle.std.proofs.lemmas.List.{length-append}
 use Rattle.std.proofs.KnownBytes.{Consumes-nil, Consumes-kept, Consumes-trans}
 use Rattle.std.specs.Io.KnownBytes.{Consumes}
 use Rattle.age_file.specs.inner.Intakes.{Pulled}
+use Rattle.age_file.specs.Faults.{pull_room}
 use Rattle.age_file.proofs.intake.Intake.refill.Goals as goal
 
 -- the pulls go on with a piece, or stay where it is empty
 goes_on : (start old new : Option (List ℕ)) (pulls now : ℕ) (bytes piece : List ℕ) → Consumes old new piece → now ≤ pulls + length piece
-    → length piece + 65536 * pulls ≤ 65536 * now → now ≤ 2 ^ 63
+    → length piece + pull_room * pulls ≤ pull_room * now → now ≤ 2 ^ 63
     → Pulled start old pulls bytes → Pulled start new now (bytes ++ piece)
 goes_on start old new pulls now bytes piece read gave small most p = record {
   consumed = Consumes-trans start old new bytes piece p.consumed read;

@@ -1,8 +1,9 @@
 use Rattle.std.proofs.Common.{◌++◌, ◌∙◌, refl, take, ap, length, arith}
 use Rattle.std.proofs.lemmas.List.{length-drop}
 use Rattle.std.proofs.lemmas.Result.{err_from_is_err_and}
-use Rattle.age_file.proofs.Bytes.{pull_fails, pull_early, piece_fails, told_early, end_fails, stops_at, stops_at_held, cut_pulled, head_pulled}
-use Rattle.age_file.proofs.head.Front.read.Goals as goal
+use Rattle.age_file.specs.Faults.{EndsInHeader}
+use Rattle.age_file.proofs.Bytes.{pull_fails, piece_fails, end_fails, stops_at, cut_pulled, head_pulled}
+use Rattle.age_file.proofs.head.HeadReader.read.Goals as goal
 
 pub returns-clause-fails : goal.returns-clause-fails
 returns-clause-fails g c =
@@ -13,15 +14,8 @@ returns-clause-fails g c =
     let cuts = rw kept.front.parser_is at c.end.ensures in
     let all = cut_pulled old.remaining new.remaining c.refill.new.self.pulls kept.held c.refill.new.self.bytes r.0
     (c.refill.ensures.pulled old.remaining kept.held kept.pulled) in
-    rw c.from.ensures (end_fails old new kept.held c.end.result
-    (stops_at_held old.remaining new.remaining kept.held all.consumed kept.front.none kept.front.sound) all.consumed r.2 cuts.2
-    (cuts.3, kept.front.short, cuts.0))
-
-pub returns-clause-early : goal.returns-clause-early
-returns-clause-early g c =
-    let old = g.S.Source.view c.args.reader.now.source.now in
-    let new = g.S.Source.view c.refill.new.source in
-    rw c.from.ensures (told_early old.remaining new.remaining c.end.result)
+    let inside : EndsInHeader kept.held = record { no_header = cuts.2; no_fault = cuts.3; short = kept.front.inside.short } in
+    rw c.from.ensures (end_fails old new kept.held c.end.result all.consumed r.2 (inside, cuts.0))
 
 pub returns-in_err-refill-clause-fails : goal.returns-in_err-refill-clause-fails
 returns-in_err-refill-clause-fails g c =
@@ -33,17 +27,7 @@ returns-in_err-refill-clause-fails g c =
     let all = cut_pulled old.remaining new.remaining c.refill.new.self.pulls kept.held c.refill.new.self.bytes a.0
     (c.refill.ensures.pulled old.remaining kept.held kept.pulled) in
     rw (p.1, p.2) (pull_fails old (g.S.Source.view c.pieces.reader.source.now) new c.pieces.reader.intake.now c.refill.new.self kept.held
-    c.in_err-refill.field-0.0 kept.unfailed all a.2)
-
-pub returns-in_err-refill-clause-early : goal.returns-in_err-refill-clause-early
-returns-in_err-refill-clause-early g c =
-    let p = err_from_is_err_and c.from_residual.result c.from_residual.ensures.1 in
-    let kept = c.pieces.invariant in
-    let old = g.S.Source.view c.args.reader.now.source.now in
-    let new = g.S.Source.view c.refill.new.source in
-    let all = cut_pulled old.remaining new.remaining c.refill.new.self.pulls kept.held c.refill.new.self.bytes c.in_err-refill.ensures.answered.0
-    (c.refill.ensures.pulled old.remaining kept.held kept.pulled) in
-    rw (p.1, p.2) (pull_early old.remaining new.remaining c.in_err-refill.field-0.0 (kept.held, all.consumed, kept.front.none, kept.front.sound))
+    c.in_err-refill.field-0.0 kept.unfailed kept.front.inside all a.2)
 
 pub take-requires : goal.take-requires
 take-requires g c = (c.pieces.invariant.held, c.pieces.invariant.front)
@@ -56,15 +40,9 @@ returns-in_err-header-clause-fails g c =
     let new = g.S.Source.view c.refill.new.source in
     let r = rw c.if-branch.true at c.in_ok-refill.ensures.answered in
     let all = c.refill.ensures.pulled old.remaining kept.held kept.pulled in
-    rw (p.1, p.2) (piece_fails old new kept.held c.refill.new.self.bytes c.in_err-header.field-0.0 r.1 kept.front.none kept.front.sound
-    all.consumed (c.in_err-header.ensures kept.held kept.front))
-
-pub returns-in_err-header-clause-early : goal.returns-in_err-header-clause-early
-returns-in_err-header-clause-early g c =
-    let p = err_from_is_err_and c.from_residual-in_err-header.result c.from_residual-in_err-header.ensures.1 in
-    let old = g.S.Source.view c.args.reader.now.source.now in
-    let new = g.S.Source.view c.refill.new.source in
-    rw (p.1, p.2) (told_early old.remaining new.remaining c.in_err-header.field-0.0)
+    let stops = stops_at old.remaining new.remaining kept.held c.refill.new.self.bytes r.1 kept.front.inside all.consumed in
+    rw (p.1, p.2) (piece_fails old new kept.held c.refill.new.self.bytes c.in_err-header.field-0.0 stops all.consumed
+    (c.in_err-header.ensures kept.held kept.front))
 
 pub returns-in-Some-clause-found : goal.returns-in-Some-clause-found
 returns-in-Some-clause-found g c =
@@ -82,21 +60,9 @@ returns-in-Some-clause-found g c =
       hashed = ends.hashed;
       few = omega (arith, r.1, ap length ends.rest, length-drop ends.taken c.refill.new.self.bytes);
       pulled = head_pulled old.remaining new.remaining c.refill.new.self c.take.new.intake kept.held bytes ends.taken ends.pulls refl ends.rest all;
+      last = stops_at old.remaining new.remaining kept.held bytes r.1 kept.front.inside all.consumed;
+      unfailed = r.4 ∙ kept.unfailed;
     }
-
-pub returns-in-Some-clause-last : goal.returns-in-Some-clause-last
-returns-in-Some-clause-last g c =
-    let kept = c.pieces.invariant in
-    let old = g.S.Source.view c.args.reader.now.source.now in
-    let new = g.S.Source.view c.refill.new.source in
-    let r = rw c.if-branch.true at c.in_ok-refill.ensures.answered in
-    let all = c.refill.ensures.pulled old.remaining kept.held kept.pulled in
-    stops_at old.remaining new.remaining kept.held c.refill.new.self.bytes r.1 kept.front.none kept.front.sound all.consumed
-
-pub returns-in-Some-clause-unfailed : goal.returns-in-Some-clause-unfailed
-returns-in-Some-clause-unfailed g c =
-    let r = rw c.if-branch.true at c.in_ok-refill.ensures.answered in
-    r.4 ∙ c.pieces.invariant.unfailed
 
 pub pieces-preserved : goal.pieces-preserved
 pieces-preserved g c =

@@ -1,7 +1,7 @@
 use Rattle.std.proofs.Common.{ap, take, length, arith}
 use Rattle.std.proofs.lemmas.List.{length-append, length-take}
 use Rattle.std.proofs.lemmas.Result.{err_from_is_err_and}
-use Rattle.age_file.proofs.head.Front.take.Goals as goal
+use Rattle.age_file.proofs.head.HeadReader.take.Goals as goal
 
 pub returns-in-More : goal.returns-in-More
 returns-in-More c =
@@ -13,9 +13,7 @@ returns-in-More c =
         parser_is = feeds.0;
         len_is = omega (arith, f.len_is, length-append held bytes, ap length is);
         hashed = rw is at (c.update.ensures held f.hashed);
-        short = feeds.1;
-        none = feeds.2;
-        sound = feeds.3;
+        inside = record { no_header = feeds.2; no_fault = feeds.3; short = feeds.1 };
       },
       c.use_all.ensures.bytes,
       c.use_all.ensures.pulls,

@@ -3,25 +3,26 @@
 ghost use Rattle.std.specs.Prelude.{◌≡◌, ◌<◌, ℕ, List, []};
 ghost use Rattle.age_file.specs.inner.Bindings.{chain_if, link_if};
 ghost use Rattle.age_file.specs.declared.position.Positions.TheVariants.{Kept};
+ghost use Rattle.age_chunk.specs.Nonce.{chunk_limit};
 
 use crate::position::{Positions, next_link};
 
 /// How far a run has come: how many bytes it wrote, how many whole chunks before the last these
 /// make from the start of the text, and the chain over those, where positions are kept.
 #[derive(Clone, Copy)]
-pub(crate) struct Progress {
+pub(crate) struct Tally {
     pub(crate) written: u128,
     pub(crate) index: u64,
     pub(crate) chain: Option<[u8; 32]>,
-    ghost within: { index < 281474976710656 },
+    ghost within: { index < chunk_limit },
 }
 
-impl Progress {
+impl Tally {
     ghost use Rattle.age_file.specs.inner.Counts.{Advances};
 
     /// Nothing was written.
     #[tactic(auto, unfolding(crate::specs::Bindings::chain))]
-    pub(crate) fn new(positions: Positions) -> Progress
+    pub(crate) fn new(positions: Positions) -> Tally
         ensures written { result.written ≡ 0 }
         ensures index { result.index ≡ 0 }
         ensures chain { result.chain ≡ chain_if positions [] }
@@ -30,7 +31,7 @@ impl Progress {
             Positions::Kept => Some([0; 32]),
             Positions::Dropped => None,
         };
-        Progress {
+        Tally {
             written: 0,
             index: 0,
             chain,
@@ -63,7 +64,7 @@ impl Progress {
     /// Counts a chunk that was written, unless it was the last of its text: that leaves the index
     /// of the opener, and isn't linked.
     pub(crate) fn count(&mut self, index: u64, chunk: &[u8])
-        requires { index < 281474976710656 }
+        requires { index < chunk_limit }
         ensures same { self.new.written ≡ self.old.written }
         ensures counted { Advances self.old.index self.old.chain index
             (link_if self.old.chain chunk.now) self.new }
@@ -77,7 +78,7 @@ impl Progress {
 
     /// Like `count`, with the link given.
     pub(crate) fn advance(&mut self, index: u64, chain: Option<[u8; 32]>)
-        requires { index < 281474976710656 }
+        requires { index < chunk_limit }
         ensures same { self.new.written ≡ self.old.written }
         ensures counted { Advances self.old.index self.old.chain index chain self.new }
     {
