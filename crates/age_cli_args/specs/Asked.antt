@@ -1,6 +1,6 @@
 -- What the words after the program's name ask for, by the definitions of the parser of command
 -- lines.
-use Rattle.std.specs.Prelude.{◌≡◌, ◌⊎◌, Bool, true, false, List, [], bytes_eq, Option, Some}
+use Rattle.std.specs.Prelude.{◌≡◌, Bool, true, false, List, [], bytes_eq, Option, Some}
 use Rattle.std.specs.Prelude.{codes}
 use Rattle.std.specs.Option.{option_map_or}
 use Rattle.clap.specs.Words.{Row, Text, one_of, fault_of, subcommand_of}
@@ -31,13 +31,3 @@ AsksVersion words = IsAmong DisplayVersion (refusals words)
 -- whether a flag is given, which then stands for `true`
 abbrev pub is_given : Text → List Row → Bool
 is_given id rows = option_map_or (λ t. bytes_eq t (codes "true")) (one_of id rows) false
-
--- the arguments are those of a command, and `--progress` is among them
-abbrev pub AsksProgress : List Text → Type 0
-AsksProgress words = (name : Text) × (rows : List Row) × Asks words name rows
-    × (is_given (codes "progress") rows ≡ true)
-
--- what a run may have been asked that ends well: nothing, help, the version, or a command
-abbrev pub IsServed : List Text → Type 0
-IsServed words = (words ≡ []) ⊎ (AsksHelp words ⊎ (AsksVersion words
-    ⊎ ((name : Text) × (rows : List Row) × Asks words name rows)))

@@ -26,8 +26,8 @@ with_writing a = with_rule (with_rule a (flag_rule (codes "no-sync")))
     (flag_rule (codes "progress"))
 
 -- `[--pass FILE] [--file-key HEX] [--shared FILE] [--max-log N] [--save FILE]`, how it writes
-abbrev pub with_unlocking : App → App
-with_unlocking a = with_writing (with_rule (with_rule (with_rule (with_rule (with_rule a
+abbrev pub with_opening : App → App
+with_opening a = with_writing (with_rule (with_rule (with_rule (with_rule (with_rule a
     (option_rule (codes "pass"))) (option_rule (codes "file-key"))) (option_rule (codes "shared")))
     (number_rule (codes "max-log"))) (option_rule (codes "save")))
 
@@ -49,11 +49,11 @@ encrypting = with_both_files (with_sealing (with_rule (new_app (codes "encrypt")
 
 -- `decrypt`, what opens the file, `IN OUT`
 unfoldable pub decrypting : App
-decrypting = with_both_files (with_unlocking (new_app (codes "decrypt")))
+decrypting = with_both_files (with_opening (new_app (codes "decrypt")))
 
 -- `resume --position FILE --old FILE`, what opens the file, `IN OUT`
 unfoldable pub resuming : App
-resuming = with_both_files (with_unlocking (with_rule (with_rule (new_app (codes "resume"))
+resuming = with_both_files (with_opening (with_rule (with_rule (new_app (codes "resume"))
     (required_rule (option_rule (codes "position")))) (required_rule (option_rule (codes "old")))))
 
 -- `inspect [FILE]`

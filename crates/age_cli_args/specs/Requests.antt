@@ -7,10 +7,10 @@ use Rattle.clap.specs.Words.{Row, Text, first_of, one_of}
 use Rattle.age_cli_args.specs.Asked.{Asks, is_given}
 use Rattle.age_io.specs.declared.durability.Durability.{Durability}
 use Rattle.age_io.specs.declared.durability.Durability.TheVariants.{Synced, Buffered}
-use Rattle.age_cli_args.specs.declared.request.Progress.{Progress}
-use Rattle.age_cli_args.specs.declared.request.Progress.TheVariants.{Shown, Silent}
+use Rattle.age_cli_args.specs.declared.request.ProgressOption.{ProgressOption}
+use Rattle.age_cli_args.specs.declared.request.ProgressOption.TheVariants.{Shown, Silent}
 use Rattle.age_cli_args.specs.declared.request.Encrypting.{Encrypting}
-use Rattle.age_cli_args.specs.declared.request.Unlocking.{Unlocking}
+use Rattle.age_cli_args.specs.declared.request.IdentityOptions.{IdentityOptions}
 use Rattle.age_cli_args.specs.declared.request.Decrypting.{Decrypting}
 use Rattle.age_cli_args.specs.declared.request.Resuming.{Resuming}
 use Rattle.age_cli_args.specs.declared.request.Drilling.{Drilling}
@@ -30,7 +30,7 @@ abbrev pub IsDurability : List Row → Durability → Type 0
 IsDurability rows d = d ≡ (if is_given (codes "no-sync") rows then Buffered else Synced)
 
 -- `--progress` says that progress is shown
-abbrev pub IsProgress : List Row → Progress → Type 0
+abbrev pub IsProgress : List Row → ProgressOption → Type 0
 IsProgress rows p = p ≡ (if is_given (codes "progress") rows then Shown else Silent)
 
 pub record IsEncrypting (rows : List Row) (e : Encrypting) : Type 0 where
@@ -42,14 +42,14 @@ pub record IsEncrypting (rows : List Row) (e : Encrypting) : Type 0 where
   pub from : Some e.from.now ≡ first_of (codes "IN") rows
   pub to : Some e.to.now ≡ first_of (codes "OUT") rows
 
-pub record IsUnlocking (rows : List Row) (u : Unlocking) : Type 0 where
+pub record IsIdentityOptions (rows : List Row) (u : IdentityOptions) : Type 0 where
   pub pass : text_of u.pass ≡ first_of (codes "pass") rows
   pub file_key : text_of u.file_key ≡ first_of (codes "file-key") rows
   pub shared : text_of u.shared ≡ first_of (codes "shared") rows
   pub max_log : u.max_log ≡ number_or 22 (one_of (codes "max-log") rows)
 
 pub record IsDecrypting (rows : List Row) (d : Decrypting) : Type 0 where
-  pub unlocking : IsUnlocking rows d.unlocking
+  pub identity : IsIdentityOptions rows d.identity
   pub save : text_of d.save ≡ first_of (codes "save") rows
   pub durability : IsDurability rows d.durability
   pub progress : IsProgress rows d.progress

@@ -8,4 +8,6 @@ mod reading;
 mod request;
 
 pub use reading::read_request;
-pub use request::{Decrypting, Drilling, Encrypting, Progress, Request, Resuming, Unlocking};
+pub use request::{
+    Decrypting, Drilling, Encrypting, IdentityOptions, ProgressOption, Request, Resuming,
+};

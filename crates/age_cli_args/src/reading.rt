@@ -6,11 +6,13 @@ ghost use Rattle.clap.specs.Words.{FailsBy};
 ghost use Rattle.clap.specs.Walk.{texts};
 ghost use Rattle.age_cli_args.specs.Asked.{refusals, is_given};
 ghost use Rattle.age_cli_args.specs.Requests.{number_or, text_of, IsDurability, IsProgress};
-ghost use Rattle.age_cli_args.specs.Requests.{IsEncrypting, IsUnlocking, IsDecrypting, IsResuming};
+ghost use Rattle.age_cli_args.specs.Requests.{IsEncrypting, IsIdentityOptions, IsDecrypting, IsResuming};
 ghost use Rattle.age_cli_args.specs.Requests.{IsDrilling, IsRequest, Requests};
 
 use crate::commands::matches_of;
-use crate::request::{Decrypting, Drilling, Encrypting, Progress, Request, Resuming, Unlocking};
+use crate::request::{
+    Decrypting, Drilling, Encrypting, IdentityOptions, ProgressOption, Request, Resuming,
+};
 use age_io::Durability;
 use clap::{ArgMatches, Error};
 use std::alloc::Global;
@@ -58,13 +60,13 @@ fn durability(matches: &ArgMatches<'_>) -> Durability
 }
 
 /// Whether progress is shown.
-fn progress(matches: &ArgMatches<'_>) -> Progress
+fn progress(matches: &ArgMatches<'_>) -> ProgressOption
     ensures { IsProgress (rows_of (found_of matches.now)) result }
 {
     if flag(matches, "progress") {
-        Progress::Shown
+        ProgressOption::Shown
     } else {
-        Progress::Silent
+        ProgressOption::Silent
     }
 }
 
@@ -90,10 +92,10 @@ fn encrypting<'a>(matches: &ArgMatches<'a>) -> Option<Encrypting<'a>>
     })
 }
 
-fn unlocking<'a>(matches: &ArgMatches<'a>) -> Option<Unlocking<'a>>
-    ensures { IfSome result (IsUnlocking (rows_of (found_of matches.now))) }
+fn identity_options<'a>(matches: &ArgMatches<'a>) -> Option<IdentityOptions<'a>>
+    ensures { IfSome result (IsIdentityOptions (rows_of (found_of matches.now))) }
 {
-    Some(Unlocking {
+    Some(IdentityOptions {
         pass: text(matches, "pass"),
         file_key: text(matches, "file-key"),
         shared: text(matches, "shared"),
@@ -105,7 +107,7 @@ fn decrypting<'a>(matches: &ArgMatches<'a>) -> Option<Decrypting<'a>>
     ensures { IfSome result (IsDecrypting (rows_of (found_of matches.now))) }
 {
     Some(Decrypting {
-        unlocking: unlocking(matches)?,
+        identity: identity_options(matches)?,
         save: text(matches, "save"),
         durability: durability(matches),
         progress: progress(matches),
@@ -154,8 +156,7 @@ fn request_of<'a>(name: &str, matches: &ArgMatches<'a>) -> Option<Request<'a>>
 /// and where memory is refused.
 ///
 /// `None` never comes up: each command has an argument for all that it takes, and numbers outside
-/// 1 to 22 are refused. The parser of command lines doesn't promise this, so callers have to answer
-/// it.
+/// 1 to 22 are refused. The parser of command lines doesn't promise this, so callers must handle it.
 pub fn read_request<'a>(alloc: Global, words: &'a [&'a str]) -> Result<Option<Request<'a>>, Error>
     ensures asked { IfOk result (λ o. IfSome o (Requests (texts words.now))) }
     ensures refusals { FailsBy (refusals (texts words.now)) result }

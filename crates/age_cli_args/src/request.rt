@@ -4,7 +4,7 @@ use age_io::Durability;
 
 /// Whether progress is shown while IN is read.
 #[derive(Clone, Copy, Debug, PartialEq, Eq)]
-pub enum Progress {
+pub enum ProgressOption {
     /// How much of IN was read is shown.
     Shown,
     /// Nothing is shown.
@@ -23,7 +23,7 @@ pub struct Encrypting<'a> {
     /// When OUT reaches the disk: later, where `--no-sync` is given.
     pub durability: Durability,
     /// Whether progress is shown: where `--progress` is given.
-    pub progress: Progress,
+    pub progress: ProgressOption,
     /// The path of the plaintext (IN).
     pub from: &'a str,
     /// The path of the age file (OUT).
@@ -33,7 +33,7 @@ pub struct Encrypting<'a> {
 /// The options that say what opens a file. That exactly one of the first three is given isn't
 /// checked yet.
 #[derive(Clone, Copy)]
-pub struct Unlocking<'a> {
+pub struct IdentityOptions<'a> {
     /// The path of the passphrase file, where `--pass` is given.
     pub pass: Option<&'a str>,
     /// The file key's digits, where `--file-key` is given; they may be malformed.
@@ -49,13 +49,13 @@ pub struct Unlocking<'a> {
 #[derive(Clone, Copy)]
 pub struct Decrypting<'a> {
     /// What opens the file.
-    pub unlocking: Unlocking<'a>,
+    pub identity: IdentityOptions<'a>,
     /// The path that a stop's position is saved to, where `--save` is given.
     pub save: Option<&'a str>,
     /// When OUT and the saved position reach the disk: later, where `--no-sync` is given.
     pub durability: Durability,
     /// Whether progress is shown: where `--progress` is given.
-    pub progress: Progress,
+    pub progress: ProgressOption,
     /// The path of the age file (IN).
     pub from: &'a str,
     /// The path of the plaintext (OUT).

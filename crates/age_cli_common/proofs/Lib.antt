@@ -1,2 +1,2 @@
 pub mod Cuts
-pub mod IdentitySteps
+pub mod EventSteps

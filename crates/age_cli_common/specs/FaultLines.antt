@@ -1,4 +1,4 @@
--- The lines in which faults are told.
+-- The lines in which faults are reported.
 use Rattle.std.specs.Prelude.{◌⊎◌, ℕ, List, [], ◌++◌, codes, decimal, nat_le, Option, Some, None}
 use Rattle.std.specs.Prelude.{if◌then◌else◌}
 use Rattle.std.specs.Io.KnownBytes.{Appends}
@@ -24,17 +24,10 @@ TakesOrFails old new failed_old failed_new bytes = Appends old new bytes
     ⊎ HasRisen failed_old failed_new
 
 -- the line of the fault that ended a run, or the two lines, unless the sink failed
-abbrev pub TellsEnding : Ending → Option (List ℕ) → Option (List ℕ) → ℕ → ℕ → Type 0
-TellsEnding (Fault fault) old new failed_old failed_new =
+abbrev pub ReportsEnding : Ending → Option (List ℕ) → Option (List ℕ) → ℕ → ℕ → Type 0
+ReportsEnding (Fault fault) old new failed_old failed_new =
     TakesOrFails old new failed_old failed_new (fault_line fault)
-TellsEnding (Unsaved fault second) old new failed_old failed_new =
+ReportsEnding (Unsaved fault second) old new failed_old failed_new =
     TakesOrFails old new failed_old failed_new (fault_line fault ++ fault_line second)
-TellsEnding (Words text) old new failed_old failed_new = Unit {0}
-TellsEnding (Usage usage) old new failed_old failed_new = Unit {0}
-
--- the same of some fault, or of two
-abbrev pub TellsFault : Option (List ℕ) → Option (List ℕ) → ℕ → ℕ → Type 0
-TellsFault old new failed_old failed_new =
-    ((fault : FileFault) × TakesOrFails old new failed_old failed_new (fault_line fault))
-    ⊎ ((fault : FileFault) × (second : FileFault)
-    × TakesOrFails old new failed_old failed_new (fault_line fault ++ fault_line second))
+ReportsEnding (Words text) old new failed_old failed_new = Unit {0}
+ReportsEnding (Usage usage) old new failed_old failed_new = Unit {0}

@@ -1,8 +1,6 @@
 -- What opens a file, as the options and the files make it.
 use Rattle.std.specs.Prelude.{◌≡◌, ℕ, ◌-◌, ◌==◌, ◌&&◌, nat_lt, List, ◌++◌, length}
 use Rattle.std.specs.Prelude.{take, slice_index, Option, Some, None, if◌then◌else◌}
-use Rattle.std.specs.Prelude.{option_map}
-use Rattle.std.specs.declared.vec.Vec.{Vec}
 use Rattle.clap.specs.Words.{Text}
 use Rattle.age_stanza.specs.declared.header.Header.{Header}
 use Rattle.age_keys.specs.declared.fault.KeyFault.{KeyFault}
@@ -14,7 +12,7 @@ use Rattle.age_cli_common.specs.declared.identity.Identity.TheVariants.{ByPassph
 use Rattle.age_cli_common.specs.declared.identity.Identity.TheVariants.{ByShared}
 use Rattle.age_cli_common.specs.Files.{Files}
 use Rattle.age_cli_args.specs.Requests.{text_of}
-use Rattle.age_cli_args.specs.declared.request.Unlocking.{Unlocking}
+use Rattle.age_cli_args.specs.declared.request.IdentityOptions.{IdentityOptions}
 
 -- the keys that a passphrase with its limit, a file key or a shared secret may find in a header,
 -- and the faults
@@ -61,7 +59,7 @@ pub record Options : Type 0 where
   pub max_log : ℕ
 
 -- those of what is asked
-abbrev pub options_asked : Unlocking → Options
+abbrev pub options_asked : IdentityOptions → Options
 options_asked u = record {
   pass = text_of u.pass;
   file_key = text_of u.file_key;
@@ -72,20 +70,3 @@ options_asked u = record {
 -- the options, and the file that they name, make what opens the input
 abbrev pub OpensBy : Files → Options → Identity → Type 0
 OpensBy old o identity = IsIdentity old o.pass o.file_key o.shared o.max_log identity
-
--- the bytes of a file that was read, where it wasn't too long
-abbrev pub bytes_of : {Z : Type 0} → Option (Vec ℕ Z) → Option (List ℕ)
-bytes_of = option_map (λ v. v.items)
-
--- these bytes are what the file of this name holds, where there are such
-abbrev pub IsSecretIn : Files → Option Text → Option (List ℕ) → Type 0
-IsSecretIn old (Some name) (Some bytes) = old name ≡ Some bytes
-IsSecretIn old name bytes = Unit {0}
-
-abbrev pub first_named : Option Text → Option Text → Option Text
-first_named (Some name) other = Some name
-first_named None other = other
-
--- the file of a passphrase, or else that of a shared secret
-abbrev pub secret_name : Unlocking → Option Text
-secret_name u = first_named (text_of u.pass) (text_of u.shared)

@@ -4,6 +4,7 @@ pub mod Identities
 pub mod Endings
 pub mod FaultLines
 pub mod EventOrders
+pub mod Choices
 pub mod Names
 pub mod Orders
 pub mod inner

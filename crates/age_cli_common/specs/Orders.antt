@@ -88,10 +88,10 @@ order_asked (Inspect file) = inspecting_order (text_of file)
 order_asked (Encrypt e) =
     encrypting_order (Some e.pass.now) (text_of e.random) (Some e.from.now) (Some e.to.now)
     e.durability
-order_asked (Decrypt d) = decrypting_order (text_of d.unlocking.pass) (text_of d.unlocking.shared)
+order_asked (Decrypt d) = decrypting_order (text_of d.identity.pass) (text_of d.identity.shared)
     (Some d.from.now) (Some d.to.now) (text_of d.save) d.durability
 order_asked (Resume r) =
-    resuming_order (text_of r.decrypting.unlocking.pass) (text_of r.decrypting.unlocking.shared)
+    resuming_order (text_of r.decrypting.identity.pass) (text_of r.decrypting.identity.shared)
     (Some r.position.now) (Some r.old.now) (Some r.decrypting.from.now) (Some r.decrypting.to.now)
     (text_of r.decrypting.save) r.decrypting.durability
 order_asked (Drill d) = drilling_order (text_of d.pass) (Some d.script.now) (Some d.from.now)

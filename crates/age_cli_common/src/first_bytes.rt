@@ -1,20 +1,22 @@
-//! The first bytes of a source.
+//! The first bytes of a source or a file.
 
 ghost use Rattle.std.specs.Prelude.{◌≡◌, ◌^◌, ◌<◌, ◌≤◌, take, [], OnOk, IfOk, IfErr};
-ghost use Rattle.std.specs.Prelude.{IfSome};
+ghost use Rattle.std.specs.Prelude.{IfSome, Some, true, ◌∷◌, ◌++◌};
+ghost use Rattle.age_fileset.specs.Events.{Opened};
 ghost use Rattle.age_fileset.specs.FileSet.{IsMemoryOr};
 ghost use Rattle.age_fault.specs.declared.fault.FileFault.TheVariants.{Read};
 ghost use Rattle.std.specs.Io.KnownBytes.{Consumes, IsAtEnd};
 ghost use Rattle.age_cli_common.specs.FirstBytes.{AreFirst};
 
 use age_fault::FileFault;
+use age_fileset::FileSet;
 use age_io::Source;
 use std::alloc::Global;
 
 /// How many bytes are pulled at once, at most.
 const ROOM: usize = 4096;
 
-/// Pulls at most so many bytes to the beginning of a buffer.
+/// Pulls at most `most` bytes to the beginning of a buffer.
 fn pull_some<S: Source>(
     source: &mut S,
     buffer: &mut [u8; ROOM],
@@ -34,9 +36,8 @@ fn pull_some<S: Source>(
     }
 }
 
-/// Puts the first bytes of a source into a vector that is empty: so many, or all that it gives
-/// where it ends before. Not a byte more is pulled. Where it fails, the vector holds what came
-/// before.
+/// Reads `most` bytes into an empty vector, or fewer if the source ends before. No more are pulled.
+/// If it fails, the vector holds what was read before.
 pub fn fill_first<S: Source>(
     source: &mut S,
     held: &mut Vec<u8>,
@@ -58,8 +59,7 @@ pub fn fill_first<S: Source>(
     Ok(())
 }
 
-/// The first bytes of a source: so many, or all that it gives where it ends before. Not a byte more
-/// is pulled.
+/// The first `most` bytes of a source, or fewer if it ends before. No more are pulled.
 pub fn read_first<S: Source>(
     alloc: Global,
     source: &mut S,
@@ -74,8 +74,7 @@ pub fn read_first<S: Source>(
     Ok(held)
 }
 
-/// All bytes of a source that gives at most so many; `None` where it gives more. At most one byte
-/// more is pulled.
+/// All bytes of a source; `None` if it gives more than `most`. At most one byte more is pulled.
 pub fn read_up_to<S: Source>(
     alloc: Global,
     source: &mut S,
@@ -92,4 +91,22 @@ pub fn read_up_to<S: Source>(
         return Ok(None);
     }
     Ok(Some(first))
+}
+
+/// All bytes of a file; `None` if it has more than `most`. At most one byte more is pulled.
+pub fn read_file<F: FileSet>(
+    alloc: Global,
+    files: &mut F,
+    name: &str,
+    most: usize,
+) -> Result<Option<Vec<u8>>, FileFault>
+    requires { most < 2 ^ 32 }
+    ensures kept { (F.view files.new).entries ≡ (F.view files.old).entries }
+    ensures noted { (F.view files.new).events ≡ (F.view files.old).events ++ Opened name.now ∷ [] }
+    ensures all { IfOk result (λ o. IfSome o (λ v. F.shows_bytes ≡ true
+        → (F.view files.old).entries name.now ≡ Some v.items)) }
+    ensures faults { IfErr result (IsMemoryOr Read) }
+{
+    let mut source = files.open(alloc, name)?;
+    read_up_to(alloc, &mut source, most)
 }

@@ -5,16 +5,16 @@
 //! arguments name.
 #![tactic(auto)]
 
+mod choice;
 mod ending;
 mod first_bytes;
 mod identity;
 mod put;
-mod telling;
+mod reporting;
 
+pub use choice::Choice;
 pub use ending::{Ending, Usage};
-pub use first_bytes::{fill_first, read_first, read_up_to};
-pub use identity::{
-    Identity, identity_of, read_pass, read_secret, secret_file, secret_room, trimmed,
-};
+pub use first_bytes::{fill_first, read_file, read_first, read_up_to};
+pub use identity::{Identity, read_pass, trimmed};
 pub use put::put_bytes;
-pub use telling::tell;
+pub use reporting::report_ending;

@@ -1,4 +1,4 @@
-//! Writes all of some bytes.
+//! Writes bytes whole.
 
 ghost use Rattle.std.specs.Prelude.{◌≡◌, OnOk, OnErr};
 ghost use Rattle.std.specs.Io.KnownBytes.{Appends};
@@ -7,7 +7,7 @@ ghost use Rattle.age_fault.specs.Faults.{HasRisen};
 use age_fault::{FileFault, write_all};
 use age_io::Sink;
 
-/// Writes all of some bytes, where nobody asks how many were written before a failure.
+/// Writes all bytes. After a failure nothing says how many were written.
 pub fn put_bytes<O: Sink>(sink: &mut O, bytes: &[u8]) -> Result<(), FileFault>
     ensures ok { OnOk result (Appends (O.view sink.old).taken (O.view sink.new).taken bytes.now) }
     ensures same { OnOk result ((O.view sink.new).failed ≡ (O.view sink.old).failed) }

@@ -11,9 +11,11 @@ ghost use Rattle.age_stanza.specs.Grammar.{HasText};
 ghost use Rattle.age_stanza.specs.Parsing.{reading};
 
 use crate::replaying::Replaying;
-use crate::script::{Line, SCRIPT_MAX, has_too_many_lines, read_lines};
+use crate::script::{SCRIPT_MAX, ScriptLine, has_too_many_lines, read_lines};
 use age_cli_args::Drilling;
-use age_cli_common::{Ending, Usage, fill_first, put_bytes, read_pass, read_up_to, trimmed};
+use age_cli_common::{
+    Ending, Usage, fill_first, put_bytes, read_file, read_pass, read_up_to, trimmed,
+};
 use age_fault::{FileFault, flush_all};
 use age_fileset::FileSet;
 use age_io::{Sink, Source};
@@ -34,21 +36,15 @@ const BYTES_MAX: usize = HEAD_MAX + NONCE_LEN + PAYLOAD_MAX + 1;
 /// The greatest work factor that is accepted.
 const MAX_LOG: u32 = 22;
 
-/// The bytes of a script.
-fn script_in<S: Source>(alloc: Global, source: &mut S) -> Result<Vec<u8>, Ending> {
-    match read_up_to(alloc, source, SCRIPT_MAX)? {
+/// The bytes of the file of a script.
+fn read_script<F: FileSet>(alloc: Global, files: &mut F, name: &str) -> Result<Vec<u8>, Ending>
+    ensures kept { (F.view files.new).entries ≡ (F.view files.old).entries }
+    ensures noted { (F.view files.new).events ≡ (F.view files.old).events ++ Opened name.now ∷ [] }
+{
+    match read_file(alloc, files, name, SCRIPT_MAX)? {
         Some(script) if !has_too_many_lines(script.as_slice()) => Ok(script),
         _ => Err(Ending::Usage(Usage::ScriptTooLong)),
     }
-}
-
-/// The bytes of the file of a script.
-fn read_script<F: FileSet>(alloc: Global, files: &mut F, name: &str) -> Result<Vec<u8>, Ending>
-    ensures kept { F.entry files.new ≡ F.entry files.old }
-    ensures noted { F.events files.new ≡ F.events files.old ++ Opened name.now ∷ [] }
-{
-    let mut source = files.open(alloc, name)?;
-    script_in(alloc, &mut source)
 }
 
 /// The header that a parser finds at the beginning of a file, and its length. `read` is how reading
@@ -151,19 +147,23 @@ fn flip(payload: &mut [u8], offset: usize) {
     }
 }
 
-/// Does what a line asks. The line is within the payload: one that isn't changes nothing.
-fn obey_line(replay: &mut Replaying<'_>, payload: &mut [u8], line: Line) -> Result<(), FileFault> {
+/// Obeys a line of the script. A piece or a byte that isn't within the payload changes nothing.
+fn obey_line(
+    replay: &mut Replaying<'_>,
+    payload: &mut [u8],
+    line: ScriptLine,
+) -> Result<(), FileFault> {
     match line {
-        Line::Piece { offset, len } => match payload.get(offset..offset.saturating_add(len)) {
+        ScriptLine::Piece { offset, len } => match payload.get(offset..offset.saturating_add(len)) {
             Some(piece) => replay.take(&Delivery::Piece(piece)),
             None => Ok(()),
         },
-        Line::Flip { offset } => {
+        ScriptLine::Flip { offset } => {
             flip(payload, offset);
             Ok(())
         }
-        Line::End => replay.take(&Delivery::End),
-        Line::Restart { index } => replay.take(&Delivery::Restart(index)),
+        ScriptLine::End => replay.take(&Delivery::End),
+        ScriptLine::Restart { index } => replay.take(&Delivery::Restart(index)),
     }
 }
 
@@ -173,7 +173,7 @@ fn answer_line<O: Sink>(
     replay: &mut Replaying<'_>,
     payload: &mut [u8],
     number: usize,
-    line: Line,
+    line: ScriptLine,
     output: &mut O,
 ) -> Result<(), FileFault> {
     let refused = replay.refused();
@@ -187,7 +187,7 @@ fn answer_lines<O: Sink>(
     alloc: Global,
     replay: &mut Replaying<'_>,
     payload: &mut [u8],
-    lines: &[Line],
+    lines: &[ScriptLine],
     output: &mut O,
 ) -> Result<(), FileFault> {
     for (i, line) in lines.iter().enumerate() {
@@ -279,11 +279,11 @@ fn drill<F: FileSet, O: Sink>(
     unlock: Option<&Passphrase<'_>>,
     output: &mut O,
 ) -> Result<(), Ending>
-    ensures kept { F.entry files.new ≡ F.entry files.old }
+    ensures kept { (F.view files.new).entries ≡ (F.view files.old).entries }
     ensures order { Follows (Opened asked.now.script.now ∷ Opened asked.now.from.now ∷ [])
-        (F.events files.old) (F.events files.new) }
-    ensures order_done { OnOk result (F.events files.new
-        ≡ F.events files.old ++ Opened asked.now.script.now ∷ Opened asked.now.from.now ∷ []) }
+        (F.view files.old).events (F.view files.new).events }
+    ensures order_done { OnOk result ((F.view files.new).events ≡ (F.view files.old).events
+        ++ Opened asked.now.script.now ∷ Opened asked.now.from.now ∷ []) }
 {
     let script = read_script(alloc, files, asked.script)?;
     let opened = files.open(alloc, asked.from);
@@ -298,11 +298,11 @@ fn drill_sealed<F: FileSet, O: Sink>(
     pass_name: &str,
     output: &mut O,
 ) -> Result<(), Ending>
-    ensures kept { F.entry files.new ≡ F.entry files.old }
+    ensures kept { (F.view files.new).entries ≡ (F.view files.old).entries }
     ensures order { Follows
         (Opened pass_name.now ∷ Opened asked.now.script.now ∷ Opened asked.now.from.now ∷ [])
-        (F.events files.old) (F.events files.new) }
-    ensures order_done { OnOk result (F.events files.new ≡ F.events files.old
+        (F.view files.old).events (F.view files.new).events }
+    ensures order_done { OnOk result ((F.view files.new).events ≡ (F.view files.old).events
         ++ Opened pass_name.now ∷ Opened asked.now.script.now ∷ Opened asked.now.from.now ∷ []) }
 {
     let pass = read_pass(alloc, files, pass_name)?;
@@ -319,14 +319,14 @@ pub fn drill_file<F: FileSet, O: Sink>(
     asked: &Drilling<'_>,
     output: &mut O,
 ) -> Result<(), Ending>
-    ensures kept { F.entry files.new ≡ F.entry files.old }
-    ensures order { Follows (order_asked (Drill asked.now)).whole (F.events files.old)
-        (F.events files.new) }
-    ensures order_done { OnOk result
-        (F.events files.new ≡ F.events files.old ++ (order_asked (Drill asked.now)).done) }
+    ensures kept { (F.view files.new).entries ≡ (F.view files.old).entries }
+    ensures order { Follows (order_asked (Drill asked.now)).whole (F.view files.old).events
+        (F.view files.new).events }
+    ensures order_done { OnOk result ((F.view files.new).events
+        ≡ (F.view files.old).events ++ (order_asked (Drill asked.now)).done) }
     // Both or neither of `--clear` and `--pass`.
     ensures one { asked.now.clear ≡ is_some (text_of asked.now.pass)
-        → RefusesAtOnce (F.events files.old) (F.events files.new) result }
+        → RefusesAtOnce (F.view files.old).events (F.view files.new).events result }
 {
     match (asked.clear, asked.pass) {
         (true, None) => drill(alloc, files, asked, None, output),

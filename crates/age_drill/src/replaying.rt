@@ -4,13 +4,13 @@
 
 use age_fault::FileFault;
 use age_keys::PayloadKey;
-use age_stream::{ClearBox, Delivery, Memory, Replay, Status};
+use age_stream::{BLOCK_LEN, ClearBox, Delivery, Memory, Replay, Status};
 
 /// A replay of a payload whose chunks are in the clear, or of one that is sealed.
 #[derive(Drop)]
 pub(crate) enum Replaying<'k> {
     Clear(Replay<'k, ClearBox, 20>),
-    Sealed(Replay<'k, PayloadKey, 65_552>),
+    Sealed(Replay<'k, PayloadKey, BLOCK_LEN>),
 }
 
 impl<'k> Replaying<'k> {

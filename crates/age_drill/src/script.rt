@@ -12,7 +12,7 @@ const LINES_MAX: usize = 1_000;
 
 /// What a line of a script asks for.
 #[derive(Clone, Copy)]
-pub(crate) enum Line {
+pub(crate) enum ScriptLine {
     /// To deliver so many bytes of the payload, from this one on.
     Piece { offset: usize, len: usize },
     /// To invert all bits of this byte of the payload.
@@ -38,7 +38,7 @@ fn number(word: &str) -> Option<u64> {
 }
 
 /// A piece that ends within the payload, by two numbers.
-fn piece(numbers: &str, payload_len: usize) -> Option<Line> {
+fn piece(numbers: &str, payload_len: usize) -> Option<ScriptLine> {
     let (offset, len) = numbers.split_once(' ')?;
     match (number(offset), number(len)) {
         (Some(offset), Some(len)) => piece_within(offset, len, payload_len),
@@ -46,9 +46,9 @@ fn piece(numbers: &str, payload_len: usize) -> Option<Line> {
     }
 }
 
-fn piece_within(offset: u64, len: u64, payload_len: usize) -> Option<Line> {
+fn piece_within(offset: u64, len: u64, payload_len: usize) -> Option<ScriptLine> {
     match offset.checked_add(len) {
-        Some(end) if end <= payload_len as u64 => Some(Line::Piece {
+        Some(end) if end <= payload_len as u64 => Some(ScriptLine::Piece {
             offset: offset as usize,
             len: len as usize,
         }),
@@ -57,36 +57,36 @@ fn piece_within(offset: u64, len: u64, payload_len: usize) -> Option<Line> {
 }
 
 /// A byte within the payload.
-fn flip(offset: u64, payload_len: usize) -> Option<Line> {
+fn flip(offset: u64, payload_len: usize) -> Option<ScriptLine> {
     if offset >= payload_len as u64 {
         return None;
     }
-    Some(Line::Flip {
+    Some(ScriptLine::Flip {
         offset: offset as usize,
     })
 }
 
 /// A line of a word and numbers. A number has no space, so none of them is followed by more.
-fn numbered(word: &str, numbers: &str, payload_len: usize) -> Option<Line> {
+fn numbered(word: &str, numbers: &str, payload_len: usize) -> Option<ScriptLine> {
     match (word, number(numbers)) {
         ("piece", _) => piece(numbers, payload_len),
         ("flip", Some(offset)) => flip(offset, payload_len),
-        ("restart", Some(index)) => Some(Line::Restart { index }),
+        ("restart", Some(index)) => Some(ScriptLine::Restart { index }),
         _ => None,
     }
 }
 
 /// A line without its LF: words separated by one space.
-fn read_words(text: &str, payload_len: usize) -> Option<Line> {
+fn read_words(text: &str, payload_len: usize) -> Option<ScriptLine> {
     match text.split_once(' ') {
         Some((word, numbers)) => numbered(word, numbers, payload_len),
-        None if text == "end" => Some(Line::End),
+        None if text == "end" => Some(ScriptLine::End),
         None => None,
     }
 }
 
 /// Reads a line with its LF.
-fn read_line(line: &[u8], payload_len: usize) -> Option<Line> {
+fn read_line(line: &[u8], payload_len: usize) -> Option<ScriptLine> {
     let text = std::str::from_utf8(line.strip_suffix(b"\n")?).ok()?;
     read_words(text, payload_len)
 }
@@ -96,7 +96,7 @@ pub(crate) fn read_lines(
     alloc: Global,
     script: &[u8],
     payload_len: usize,
-) -> Result<Vec<Line>, Ending> {
+) -> Result<Vec<ScriptLine>, Ending> {
     let mut lines = Vec::new(alloc);
     for line in script.split_inclusive(|b| *b == b'\n') {
         push(&mut lines, read_line(line, payload_len))?;
@@ -105,7 +105,7 @@ pub(crate) fn read_lines(
 }
 
 /// Adds a line, unless it is a bad one.
-fn push(lines: &mut Vec<Line>, line: Option<Line>) -> Result<(), Ending> {
+fn push(lines: &mut Vec<ScriptLine>, line: Option<ScriptLine>) -> Result<(), Ending> {
     let Some(line) = line else {
         return Err(Ending::Usage(Usage::BadScriptLine(lines.len() + 1)));
     };

@@ -4,6 +4,7 @@ use Rattle.std.specs.Prelude.{position, option_map, find, nat_lt, is_some}
 use Rattle.std.proofs.Common.{cond}
 use Rattle.std.specs.Option.{option_or}
 use borrow.Author.Tests.{ltb-false}
+use Rattle.std.proofs.lemmas.Bool.{false_from_ne_true}
 use Rattle.std.proofs.lemmas.Option.{slice_get_past}
 use Rattle.std.specs.List.{position_or_len}
 use Rattle.std.proofs.Math.ListN.{set}
@@ -19,12 +20,8 @@ bytes_in = option_map (λ e. e.bytes)
 has_name-same : (q : List ℕ) (e : MemEntry) → e.name ≡ q → has_name q e ≡ true
 has_name-same q e same = (bytes_eq-Decides (e.name) q).1 same
 
-false_unless : (b : Bool) → (b ≡ true → ⊥) → b ≡ false
-false_unless true h = absurd (h refl)
-false_unless false h = refl
-
 has_name-other : (q : List ℕ) (e : MemEntry) → (e.name ≡ q → ⊥) → has_name q e ≡ false
-has_name-other q e other = false_unless (has_name q e) (λ h. other ((bytes_eq-Decides (e.name) q).0 h))
+has_name-other q e other = false_from_ne_true (has_name q e) (λ h. other ((bytes_eq-Decides (e.name) q).0 h))
 
 named_so : (q : List ℕ) (e : MemEntry) → has_name q e ≡ true → e.name ≡ q
 named_so q e h = (bytes_eq-Decides (e.name) q).0 h

@@ -4,9 +4,9 @@ ghost use Rattle.std.specs.Prelude.{◌≡◌, ◌≢◌, ◌⊎◌, ℕ, Bool, 
 ghost use Rattle.std.specs.Prelude.{◌++◌, Option};
 ghost use Rattle.std.specs.Prelude.{Some, IfOk, IfErr, IfSome, IsOkUnless, OnOk, OnErr, is_some};
 ghost use Rattle.std.specs.Prelude.{option_map, length};
-ghost use Rattle.age_fileset.specs.FileSet.{IsMemoryOr, CreateFails, or_empty};
+ghost use Rattle.age_fileset.specs.FileSet.{FilesView, IsMemoryOr, CreateFails, or_empty};
 ghost use Rattle.age_fileset.specs.declared.files.CreateFault.TheVariants.{Fault};
-ghost use Rattle.age_fileset.specs.Events.{Event, Opened, Prepared, Created, Replaced, Closed};
+ghost use Rattle.age_fileset.specs.Events.{Opened, Prepared, Created, Replaced, Closed};
 
 use age_fault::FileFault;
 use age_io::{Durability, Sink, Source};
@@ -31,8 +31,8 @@ impl From<FileFault> for CreateFault {
 
 /// Files by their names.
 ///
-/// A name is opaque: a set gives it what meaning it likes, and nobody else takes one apart. Whoever
-/// implements this owes what the contracts say, and beyond them, where `tells` is false:
+/// A name is opaque: only the set interprets it. Beyond what contracts say, an implementation whose
+/// `shows_bytes` is false has to keep this:
 /// - `create` changes nothing of a file that is there. Its bytes are replaced with the first put
 ///   that takes some, or by `close`; from then on they may be seen by others.
 /// - a sink that is dropped without `close` or `discard` may leave the file with some of the bytes
@@ -46,49 +46,43 @@ pub trait FileSet {
     /// A file that is written.
     type Out: Sink + Drop;
 
-    // Whether contracts see the entries.
-    ghost tells: { Self → Bool };
+    // Whether contracts see what the files hold, and so what their sources give and sinks take.
+    ghost shows_bytes: { Bool };
 
-    // The bytes of the entry of a name, where there is one.
-    ghost entry: { Self → List ℕ → Option (List ℕ) };
-
-    // What was opened, prepared, created, replaced and closed, in order, also where the entries
-    // aren't shown, and whether it succeeded or not.
-    ghost events: { Self → List Event };
+    // What contracts see of a set: its entries, and what was done.
+    ghost view: { Self → FilesView };
 
     /// Whether two names stand for one file. Equal names do, and no others if the set shows its
     /// entries.
     fn is_same(&self, one: &str, other: &str) -> bool
         ensures equal { one.now ≡ other.now → result ≡ true }
-        ensures told { tells self.now ≡ true → result ≡ true → one.now ≡ other.now }
+        ensures shown { shows_bytes ≡ true → result ≡ true → one.now ≡ other.now }
     {
         one == other
     }
 
     /// Opens a file to be read. Refuses with `Read` (26) where it can't be, and with `Memory` (28).
     fn open(&mut self, alloc: Global, name: &str) -> Result<Self::In, FileFault>
-        ensures told { tells self.new ≡ tells self.old }
-        ensures kept { entry self.new ≡ entry self.old }
-        ensures noted { events self.new ≡ events self.old ++ Opened name.now ∷ [] }
-        ensures found { IfOk result (λ s. tells self.old ≡ true
-            → (is_some (entry self.old name.now) ≡ true)
-            × ((Self.In.view s).remaining ≡ entry self.old name.now)) }
+        ensures kept { (view self.new).entries ≡ (view self.old).entries }
+        ensures noted { (view self.new).events ≡ (view self.old).events ++ Opened name.now ∷ [] }
+        ensures found { IfOk result (λ s. shows_bytes ≡ true
+            → (is_some ((view self.old).entries name.now) ≡ true)
+            × ((Self.In.view s).remaining ≡ (view self.old).entries name.now)) }
         ensures faults { IfErr result (IsMemoryOr FileFault.Read) };
 
-    /// Opens a file to be read. One that isn't there counts as empty. Refuses with `Read` (26) where
-    /// it can't be opened, and with `Memory` (28).
+    /// Opens a file to be read. One that isn't there counts as empty. Refuses with `Read` (26)
+    /// where it can't be opened, and with `Memory` (28).
     fn open_or_empty(&mut self, alloc: Global, name: &str) -> Result<Self::In, FileFault>
-        ensures told { tells self.new ≡ tells self.old }
-        ensures kept { entry self.new ≡ entry self.old }
-        ensures noted { events self.new ≡ events self.old ++ Opened name.now ∷ [] }
-        ensures found { IfOk result (λ s. tells self.old ≡ true
-            → (Self.In.view s).remaining ≡ or_empty (entry self.old name.now)) }
+        ensures kept { (view self.new).entries ≡ (view self.old).entries }
+        ensures noted { (view self.new).events ≡ (view self.old).events ++ Opened name.now ∷ [] }
+        ensures found { IfOk result (λ s. shows_bytes ≡ true
+            → (Self.In.view s).remaining ≡ or_empty ((view self.old).entries name.now)) }
         ensures faults { IfErr result (IsMemoryOr FileFault.Read) };
 
     /// How many bytes a file that was opened still has to give, where the set can say; none of a
     /// pipe or a terminal.
     fn length(&self, _source: &Self::In) -> Option<u64>
-        ensures told { tells self.now ≡ true → IfSome result (λ n.
+        ensures shown { shows_bytes ≡ true → IfSome result (λ n.
             option_map length (Self.In.view _source.now).remaining ≡ Some n) }
     {
         None
@@ -105,60 +99,57 @@ pub trait FileSet {
         name: &str,
         spared: Option<&str>,
     ) -> Result<(), CreateFault>
-        ensures told { tells self.new ≡ tells self.old }
-        ensures kept { entry self.new ≡ entry self.old }
-        ensures noted { events self.new ≡ events self.old ++ Prepared name.now ∷ [] }
-        ensures faults { IfErr result (CreateFails (tells self.old)) };
+        ensures kept { (view self.new).entries ≡ (view self.old).entries }
+        ensures noted { (view self.new).events ≡ (view self.old).events ++ Prepared name.now ∷ [] }
+        ensures faults { IfErr result (CreateFails shows_bytes) };
 
     /// Opens a file to be written, and makes it where there is none. No entry changes until it is
     /// closed. Refuses with `Write` (27) where it can't be, with `Memory` (28), and where it is one
     /// that was opened, prepared or created before, which never comes of a set that shows its
     /// entries; a file that it made is gone again then.
     fn create(&mut self, alloc: Global, name: &str) -> Result<Self::Out, CreateFault>
-        ensures told { tells self.new ≡ tells self.old }
-        ensures kept { entry self.new ≡ entry self.old }
-        ensures made { IfOk result (λ o. tells self.old ≡ true
+        ensures kept { (view self.new).entries ≡ (view self.old).entries }
+        ensures made { IfOk result (λ o. shows_bytes ≡ true
             → ((Self.Out.view o).taken ≡ Some []) × ((Self.Out.view o).label ≡ name.now)) }
-        ensures noted { events self.new ≡ events self.old ++ Created name.now ∷ [] }
-        ensures faults { IfErr result (CreateFails (tells self.old)) };
+        ensures noted { (view self.new).events ≡ (view self.old).events ++ Created name.now ∷ [] }
+        ensures faults { IfErr result (CreateFails shows_bytes) };
 
     /// Whether a file that was created is that of standard error, to which lines of progress and
     /// faults go. None is in a set that shows its entries.
     fn is_for_faults(&self, _out: &Self::Out) -> bool
-        ensures told { tells self.now ≡ true → result ≡ false }
+        ensures shown { shows_bytes ≡ true → result ≡ false }
     {
         false
     }
 
     /// Ends a file that was created, with exactly the bytes that its sink took, in place of what it
     /// held, and waits until they have reached the disk where that is asked for and the machine can
-    /// wait. Refuses with `Write` (27); it is then as it was, or holds the bytes that its sink took.
+    /// wait. Refuses with `Write` (27); it is then as it was, or holds the bytes that its sink
+    /// took.
     fn close(&mut self, out: Self::Out, durability: Durability) -> Result<(), FileFault>
-        ensures told { tells self.new ≡ tells self.old }
-        ensures put { OnOk result (tells self.old ≡ true
-            → entry self.new (Self.Out.view out).label ≡ (Self.Out.view out).taken) }
+        ensures put { OnOk result (shows_bytes ≡ true
+            → (view self.new).entries (Self.Out.view out).label ≡ (Self.Out.view out).taken) }
         ensures others { (q : List ℕ) → q ≢ (Self.Out.view out).label
-            → entry self.new q ≡ entry self.old q }
-        ensures err { OnErr result ((entry self.new ≡ entry self.old) ⊎ (tells self.old ≡ true
-            → entry self.new (Self.Out.view out).label ≡ (Self.Out.view out).taken)) }
-        ensures noted { events self.new ≡ events self.old ++ Closed durability ∷ [] }
+            → (view self.new).entries q ≡ (view self.old).entries q }
+        ensures err { OnErr result (((view self.new).entries ≡ (view self.old).entries)
+            ⊎ (shows_bytes ≡ true
+            → (view self.new).entries (Self.Out.view out).label ≡ (Self.Out.view out).taken)) }
+        ensures noted { (view self.new).events ≡ (view self.old).events ++ Closed durability ∷ [] }
         ensures faults { IsOkUnless result FileFault.Write };
 
     /// Ends a file that was created and into which nothing was put: it is as it was before
     /// `create`, and where there was none, there is none, also on the disk where that is asked for.
     fn discard(&mut self, out: Self::Out, durability: Durability)
-        ensures told { tells self.new ≡ tells self.old }
-        ensures kept { (tells self.old ≡ true → (Self.Out.view out).taken ≡ Some [])
-            → entry self.new ≡ entry self.old }
+        ensures kept { (shows_bytes ≡ true → (Self.Out.view out).taken ≡ Some [])
+            → (view self.new).entries ≡ (view self.old).entries }
         ensures others { (q : List ℕ) → q ≢ (Self.Out.view out).label
-            → entry self.new q ≡ entry self.old q }
-        ensures noted { events self.new ≡ events self.old ++ Closed durability ∷ [] };
+            → (view self.new).entries q ≡ (view self.old).entries q }
+        ensures noted { (view self.new).events ≡ (view self.old).events ++ Closed durability ∷ [] };
 
-    /// Makes a file of these bytes, in place of one of the name, and waits for the disk as `close`
-    /// does. Where the folder lets a new file be made beside it, the one of the name is there with
-    /// what it held until the new one is whole; else it is written directly. Refuses with `Write`
-    /// (27) and with `Memory` (28); no entry has changed then, though a file that is written
-    /// directly may hold a part of the bytes.
+    /// Makes a file of these bytes, and waits for the disk as `close` does. One of the name is
+    /// replaced atomically where its folder lets a new one be made beside it; else it is written
+    /// directly. Refuses with `Write` (27) and with `Memory` (28); no entry has changed then, though
+    /// a file that is written directly may hold a part of the bytes.
     fn replace(
         &mut self,
         alloc: Global,
@@ -166,11 +157,12 @@ pub trait FileSet {
         bytes: &[u8],
         durability: Durability,
     ) -> Result<(), FileFault>
-        ensures told { tells self.new ≡ tells self.old }
-        ensures put { OnOk result (tells self.old ≡ true
-            → entry self.new name.now ≡ Some bytes.now) }
-        ensures others { (q : List ℕ) → q ≢ name.now → entry self.new q ≡ entry self.old q }
-        ensures err { OnErr result (entry self.new ≡ entry self.old) }
-        ensures noted { events self.new ≡ events self.old ++ Replaced name.now durability ∷ [] }
+        ensures put { OnOk result (shows_bytes ≡ true
+            → (view self.new).entries name.now ≡ Some bytes.now) }
+        ensures others { (q : List ℕ) → q ≢ name.now
+            → (view self.new).entries q ≡ (view self.old).entries q }
+        ensures err { OnErr result ((view self.new).entries ≡ (view self.old).entries) }
+        ensures noted { (view self.new).events
+            ≡ (view self.old).events ++ Replaced name.now durability ∷ [] }
         ensures faults { IfErr result (IsMemoryOr FileFault.Write) };
 }

@@ -3,14 +3,23 @@
 ghost use Rattle.std.specs.Prelude.{◌≡◌, [], ◌∷◌, ◌++◌, List};
 ghost use Rattle.std.specs.Borrow.{ftrue};
 ghost use Rattle.std.specs.Coded.{coded_list};
-ghost use Rattle.age_io.specs.declared.durability.Durability.TheVariants.{Synced, Buffered};
 ghost use Rattle.age_fileset.specs.Events.{Event, Opened, Prepared, Created, Replaced, Closed};
-ghost use Rattle.age_fileset.specs.inner.Events.{coded_event};
+ghost use Rattle.age_fileset.specs.inner.Events.{coded_event, event_of};
 
 use age_io::Durability;
 use std::marker::Model;
 
-// Events that no code holds: the proofs of its calls set them.
+/// What is done with a file.
+#[derive(Clone, Copy)]
+enum Action<'a> {
+    Opened(&'a str),
+    Prepared(&'a str),
+    Created(&'a str),
+    Replaced(&'a str, Durability),
+    Closed(Durability),
+}
+
+// Events that no code holds: the proof of `note` adds one.
 #[derive(Debug, Drop)]
 struct Cell {
     pub ghost events: { List Event } by { coded_list coded_event },
@@ -27,32 +36,8 @@ impl Cell {
         Cell {}
     }
 
-    fn opened(&mut self, _name: &[u8])
-        ensures { self.new.events ≡ self.old.events ++ Opened _name.now ∷ [] }
-    {}
-
-    fn prepared(&mut self, _name: &[u8])
-        ensures { self.new.events ≡ self.old.events ++ Prepared _name.now ∷ [] }
-    {}
-
-    fn created(&mut self, _name: &[u8])
-        ensures { self.new.events ≡ self.old.events ++ Created _name.now ∷ [] }
-    {}
-
-    fn replaced_synced(&mut self, _name: &[u8])
-        ensures { self.new.events ≡ self.old.events ++ Replaced _name.now Synced ∷ [] }
-    {}
-
-    fn replaced_buffered(&mut self, _name: &[u8])
-        ensures { self.new.events ≡ self.old.events ++ Replaced _name.now Buffered ∷ [] }
-    {}
-
-    fn closed_synced(&mut self)
-        ensures { self.new.events ≡ self.old.events ++ Closed Synced ∷ [] }
-    {}
-
-    fn closed_buffered(&mut self)
-        ensures { self.new.events ≡ self.old.events ++ Closed Buffered ∷ [] }
+    fn note(&mut self, _action: &Action<'_>)
+        ensures { self.new.events ≡ self.old.events ++ event_of _action.now ∷ [] }
     {}
 }
 
@@ -85,40 +70,34 @@ impl Log {
     pub fn opened(&mut self, name: &str)
         ensures { self.new ≡ self.old ++ Opened name.now ∷ [] }
     {
-        self.cell.opened(name.as_bytes());
+        self.cell.note(&Action::Opened(name));
     }
 
     /// A file was to be prepared.
     pub fn prepared(&mut self, name: &str)
         ensures { self.new ≡ self.old ++ Prepared name.now ∷ [] }
     {
-        self.cell.prepared(name.as_bytes());
+        self.cell.note(&Action::Prepared(name));
     }
 
     /// A file was to be created.
     pub fn created(&mut self, name: &str)
         ensures { self.new ≡ self.old ++ Created name.now ∷ [] }
     {
-        self.cell.created(name.as_bytes());
+        self.cell.note(&Action::Created(name));
     }
 
     /// A file was to be replaced, and to reach the disk now or later.
     pub fn replaced(&mut self, name: &str, durability: Durability)
         ensures { self.new ≡ self.old ++ Replaced name.now durability ∷ [] }
     {
-        match durability {
-            Durability::Synced => self.cell.replaced_synced(name.as_bytes()),
-            Durability::Buffered => self.cell.replaced_buffered(name.as_bytes()),
-        }
+        self.cell.note(&Action::Replaced(name, durability));
     }
 
     /// A file that was created was ended, to reach the disk now or later.
     pub fn closed(&mut self, durability: Durability)
         ensures { self.new ≡ self.old ++ Closed durability ∷ [] }
     {
-        match durability {
-            Durability::Synced => self.cell.closed_synced(),
-            Durability::Buffered => self.cell.closed_buffered(),
-        }
+        self.cell.note(&Action::Closed(durability));
     }
 }

@@ -21,7 +21,7 @@ use age_stanza::Bytes;
 use std::alloc::Global;
 use std::marker::Model;
 
-/// Files over memory, which tell their names and bytes. A contract sees the list of them, the names
+/// Files over memory, whose names and bytes contracts see: the list of them, the names
 /// that can't be written, and how many bytes a file that is written can hold.
 #[derive(Debug, Drop)]
 pub struct MemFiles {
@@ -136,7 +136,8 @@ impl MemFiles {
         bytes_of(self.entries.as_slice(), name)
     }
 
-    /// Lets no file of this name be made from now on. Where memory is refused nothing changes.
+    /// Refuses each later attempt to create or replace a file of this name. Where memory is refused
+    /// nothing changes.
     pub fn refuse(&mut self, alloc: Global, name: &str) -> Result<(), Memory>
         ensures ok { OnOk result
             (self.new ≡ record self.old { refused = self.old.refused ++ name.now ∷ [] }) }
@@ -210,11 +211,9 @@ impl FileSet for MemFiles {
 
     type Out = MemOut;
 
-    ghost tells = { λ _. true };
+    ghost shows_bytes = { true };
 
-    ghost entry = { λ f. entry_of f.entries };
-
-    ghost events = { λ f. f.events };
+    ghost view = { λ f. record { entries = entry_of f.entries; events = f.events } };
 
     /// Opens a copy of a file's bytes. Refuses with `Read` (26) exactly where no file has the name.
     fn open(&mut self, alloc: Global, name: &str) -> Result<MemSource, FileFault>

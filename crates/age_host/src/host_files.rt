@@ -3,10 +3,10 @@
 ghost use Rattle.std.specs.Prelude.{◌≡◌, true, false, None, Some, Err, IfErr, IsErr, Contains};
 ghost use Rattle.age_fileset.specs.FileSet.{IsMemoryOr, CreateFails};
 ghost use Rattle.age_fileset.specs.declared.files.CreateFault.TheVariants.{SameFile};
-ghost use Rattle.age_host.specs.declared.host_names.Identity.{Identity};
+ghost use Rattle.age_host.specs.declared.host_names.FileId.{FileId};
 
 use crate::host_in::HostIn;
-use crate::host_names::{Identity, Stream};
+use crate::host_names::{FileId, Stream};
 use crate::host_out::HostOut;
 use crate::host_prepare::Prepared;
 use crate::host_replace::replace;
@@ -25,7 +25,7 @@ use std::rt::HostRuntime;
 #[derive(Drop)]
 pub struct HostFiles<'r> {
     rt: &'r HostRuntime,
-    open: Vec<Identity>,
+    open: Vec<FileId>,
     prepared: Vec<Prepared>,
     log: Log,
 }
@@ -44,13 +44,13 @@ impl<'r> HostFiles<'r> {
     /// Keeps a file that was opened to be read.
     fn admit_in(
         &mut self,
-        opened: io::Result<(HostIn, Option<Identity>)>,
+        opened: io::Result<(HostIn, Option<FileId>)>,
     ) -> Result<HostIn, FileFault>
         ensures kept { self.new.log ≡ self.old.log }
         ensures faults { IfErr result (IsMemoryOr FileFault.Read) }
     {
         match opened {
-            Ok((file, identity)) => match keep(&mut self.open, identity) {
+            Ok((file, id)) => match keep(&mut self.open, id) {
                 Ok(()) => Ok(file),
                 Err(_) => Err(FileFault::Memory),
             },
@@ -84,14 +84,12 @@ impl<'r> HostFiles<'r> {
         bytes: &[u8],
         durability: Durability,
     ) -> io::Result<()> {
-        let identity = prepared.identity(self.rt);
-        if !prepared.is_in_place(self.rt)? || is_for_faults(self.rt, identity) {
+        let id = prepared.id(self.rt);
+        if !prepared.is_in_place(self.rt)? || is_for_faults(self.rt, id) {
             return Err(io::Error::from(io::ErrorKind::AlreadyExists));
         }
         let opened = self.open.as_slice();
-        replace_apart(
-            alloc, self.rt, opened, prepared, identity, bytes, durability,
-        )
+        replace_apart(alloc, self.rt, opened, prepared, id, bytes, durability)
     }
 
     /// Keeps a file that was prepared, where it is none of those that are open.
@@ -99,8 +97,8 @@ impl<'r> HostFiles<'r> {
         ensures kept { self.new.log ≡ self.old.log }
         ensures faults { IfErr result (CreateFails false) }
     {
-        let identity = prepared.identity(self.rt);
-        if is_known(self.open.as_slice(), identity) || is_for_faults(self.rt, identity) {
+        let id = prepared.id(self.rt);
+        if is_known(self.open.as_slice(), id) || is_for_faults(self.rt, id) {
             return Err(CreateFault::SameFile);
         }
         match self.prepared.push(prepared) {
@@ -111,43 +109,43 @@ impl<'r> HostFiles<'r> {
 }
 
 /// Whether this is the file to which standard error leads.
-fn is_for_faults(rt: &HostRuntime, identity: Option<Identity>) -> bool {
-    identity.is_some() && identity == Identity::of_stream(rt, Stream::Faults)
+fn is_for_faults(rt: &HostRuntime, id: Option<FileId>) -> bool {
+    id.is_some() && id == FileId::of_stream(rt, Stream::Faults)
 }
 
 /// Whether this is a file that was prepared.
-fn is_prepared(rt: &HostRuntime, prepared: &[Prepared], identity: Option<Identity>) -> bool {
-    identity.is_some() && prepared.iter().any(|p| p.identity(rt) == identity)
+fn is_prepared(rt: &HostRuntime, prepared: &[Prepared], id: Option<FileId>) -> bool {
+    id.is_some() && prepared.iter().any(|p| p.id(rt) == id)
 }
 
 /// Whether this is a file that was opened.
-fn is_known(opened: &[Identity], identity: Option<Identity>) -> bool
-    ensures { (one : Identity) → identity ≡ Some one → Contains opened.now one → result ≡ true }
+fn is_known(opened: &[FileId], id: Option<FileId>) -> bool
+    ensures { (one : FileId) → id ≡ Some one → Contains opened.now one → result ≡ true }
 {
-    match identity {
-        Some(identity) => opened.contains(&identity),
+    match id {
+        Some(id) => opened.contains(&id),
         None => false,
     }
 }
 
 /// Keeps which file was opened.
-fn keep(opened: &mut Vec<Identity>, identity: Option<Identity>) -> Result<(), AllocError> {
-    if let Some(identity) = identity {
-        opened.push(identity)?;
+fn keep(opened: &mut Vec<FileId>, id: Option<FileId>) -> Result<(), AllocError> {
+    if let Some(id) = id {
+        opened.push(id)?;
     }
     Ok(())
 }
 
 /// Keeps which file was opened to be written, where it is none of those that were opened before.
-fn admit(opened: &mut Vec<Identity>, identity: Option<Identity>) -> Result<(), CreateFault>
-    ensures apart { (one : Identity) → identity ≡ Some one → Contains opened.old.items one
+fn admit(opened: &mut Vec<FileId>, id: Option<FileId>) -> Result<(), CreateFault>
+    ensures apart { (one : FileId) → id ≡ Some one → Contains opened.old.items one
         → result ≡ Err SameFile }
     ensures faults { IfErr result (CreateFails false) }
 {
-    if is_known(opened.as_slice(), identity) {
+    if is_known(opened.as_slice(), id) {
         return Err(CreateFault::SameFile);
     }
-    match keep(opened, identity) {
+    match keep(opened, id) {
         Ok(()) => Ok(()),
         Err(_) => Err(CreateFault::Fault(FileFault::Memory)),
     }
@@ -157,16 +155,16 @@ fn admit(opened: &mut Vec<Identity>, identity: Option<Identity>) -> Result<(), C
 /// prepared before; otherwise it is as it was before.
 fn admit_out(
     rt: &HostRuntime,
-    opened: &mut Vec<Identity>,
+    opened: &mut Vec<FileId>,
     prepared: &[Prepared],
     out: HostOut,
 ) -> Result<HostOut, CreateFault>
     ensures { IfErr result (CreateFails false) }
 {
-    let admitted = if is_prepared(rt, prepared, out.identity()) {
+    let admitted = if is_prepared(rt, prepared, out.id()) {
         Err(CreateFault::SameFile)
     } else {
-        admit(opened, out.identity())
+        admit(opened, out.id())
     };
     match admitted {
         Ok(()) => Ok(out),
@@ -181,16 +179,16 @@ fn admit_out(
 fn replace_apart(
     alloc: Global,
     rt: &HostRuntime,
-    opened: &[Identity],
+    opened: &[FileId],
     prepared: &Prepared,
-    identity: Option<Identity>,
+    id: Option<FileId>,
     bytes: &[u8],
     durability: Durability,
 ) -> io::Result<()>
-    ensures apart { (one : Identity) → identity ≡ Some one → Contains opened.now one
+    ensures apart { (one : FileId) → id ≡ Some one → Contains opened.now one
         → IsErr result }
 {
-    if is_known(opened, identity) {
+    if is_known(opened, id) {
         return Err(io::Error::from(io::ErrorKind::AlreadyExists));
     }
     replace(alloc, rt, prepared, bytes, durability)
@@ -212,19 +210,17 @@ impl<'r> FileSet for HostFiles<'r> {
 
     type Out = HostOut;
 
-    ghost tells = { λ _. false };
+    ghost shows_bytes = { false };
 
-    ghost entry = { λ _ _. None };
-
-    ghost events = { λ f. f.log };
+    ghost view = { λ f. record { entries = λ _. None; events = f.log } };
 
     /// Two paths of one file are the same too, so that no link destroys what is read.
     fn is_same(&self, one: &str, other: &str) -> bool {
         if one == other {
             return true;
         }
-        let one = Identity::at(self.rt, one);
-        one.is_some() && one == Identity::at(self.rt, other)
+        let one = FileId::at(self.rt, one);
+        one.is_some() && one == FileId::at(self.rt, other)
     }
 
     fn open(&mut self, alloc: Global, name: &str) -> Result<HostIn, FileFault> {
@@ -237,7 +233,7 @@ impl<'r> FileSet for HostFiles<'r> {
         self.admit_in(HostIn::open_or_empty(alloc, self.rt, name))
     }
 
-    /// That of a regular file. Standard input has none.
+    /// The length of a regular file. Standard input has none.
     fn length(&self, source: &HostIn) -> Option<u64> {
         source.length()
     }
@@ -250,7 +246,7 @@ impl<'r> FileSet for HostFiles<'r> {
     ) -> Result<(), CreateFault> {
         self.log.prepared(name);
         let spared = match spared {
-            Some(spared) => Identity::at(self.rt, spared),
+            Some(spared) => FileId::at(self.rt, spared),
             None => None,
         };
         match Prepared::new(alloc, self.rt, name, spared) {

@@ -3,7 +3,7 @@
 ghost use Rattle.std.specs.Prelude.{◌≡◌, None};
 ghost use Rattle.std.specs.Io.{ReadsAtMost};
 
-use crate::host_names::{Identity, Place, Stream, above_streams, place_of};
+use crate::host_names::{FileId, Resolved, Stream, above_streams, resolve};
 use age_io::{Failed, Source};
 use std::alloc::Global;
 use std::fs::File;
@@ -48,19 +48,19 @@ impl HostIn {
         alloc: Global,
         rt: &HostRuntime,
         name: &str,
-    ) -> io::Result<(HostIn, Option<Identity>)> {
-        match place_of(alloc, rt, name)? {
-            Place::Stream(stream) => HostIn::open_stream(rt, stream),
-            Place::Path(_) => HostIn::open_path(rt, name),
+    ) -> io::Result<(HostIn, Option<FileId>)> {
+        match resolve(alloc, rt, name)? {
+            Resolved::Stream(stream) => HostIn::open_stream(rt, stream),
+            Resolved::Path(_) => HostIn::open_path(rt, name),
         }
     }
 
-    /// The same; what isn't there counts as an empty file.
+    /// Like `open`, but a missing file counts as empty.
     pub(crate) fn open_or_empty(
         alloc: Global,
         rt: &HostRuntime,
         name: &str,
-    ) -> io::Result<(HostIn, Option<Identity>)> {
+    ) -> io::Result<(HostIn, Option<FileId>)> {
         match HostIn::open(alloc, rt, name) {
             Err(error) if error.kind() == io::ErrorKind::NotFound => {
                 Ok((HostIn::new(Origin::Nothing, Some(0)), None))
@@ -83,20 +83,20 @@ impl HostIn {
         self.left
     }
 
-    fn open_stream(rt: &HostRuntime, stream: Stream) -> io::Result<(HostIn, Option<Identity>)> {
+    fn open_stream(rt: &HostRuntime, stream: Stream) -> io::Result<(HostIn, Option<FileId>)> {
         let Stream::Input = stream else {
             return Err(io::Error::from(io::ErrorKind::Unsupported));
         };
         stream.check(rt)?;
         let input = HostIn::new(Origin::Input(rt.stdin()), None);
-        Ok((input, Identity::of_stream(rt, stream)))
+        Ok((input, FileId::of_stream(rt, stream)))
     }
 
-    fn open_path(rt: &HostRuntime, name: &str) -> io::Result<(HostIn, Option<Identity>)> {
+    fn open_path(rt: &HostRuntime, name: &str) -> io::Result<(HostIn, Option<FileId>)> {
         HostIn::of_file(above_streams(File::open(rt, name)?)?)
     }
 
-    fn of_file(file: File) -> io::Result<(HostIn, Option<Identity>)> {
+    fn of_file(file: File) -> io::Result<(HostIn, Option<FileId>)> {
         let metadata = file.metadata()?;
         if metadata.is_dir() {
             return Err(io::Error::from(io::ErrorKind::IsADirectory));
@@ -106,8 +106,8 @@ impl HostIn {
         } else {
             None
         };
-        let identity = Identity::of(&metadata);
-        Ok((HostIn::new(Origin::File(file), left), identity))
+        let id = FileId::of(&metadata);
+        Ok((HostIn::new(Origin::File(file), left), id))
     }
 
     fn read(&mut self, into: &mut [u8]) -> io::Result<usize>

@@ -20,7 +20,7 @@ pub(crate) enum Stream {
 }
 
 impl Stream {
-    /// The stream of which this is a name.
+    /// The stream of this name.
     fn named(name: &str) -> Option<Stream> {
         match name {
             "/dev/stdin" => Some(Stream::Input),
@@ -30,7 +30,7 @@ impl Stream {
         }
     }
 
-    /// The stream of whose descriptor this is a name.
+    /// The stream whose descriptor has this name.
     fn numbered(name: &str) -> Option<Stream> {
         match name {
             "/dev/fd/0" | "/proc/self/fd/0" => Some(Stream::Input),
@@ -67,7 +67,7 @@ fn check_open(descriptor: BorrowedFd<'_>) -> io::Result<()> {
 
 /// What a name stands for.
 #[derive(Drop)]
-pub(crate) enum Place {
+pub(crate) enum Resolved {
     /// A stream that the program was started with.
     Stream(Stream),
     /// A path that is no link; whether there is a file is another matter.
@@ -78,15 +78,15 @@ pub(crate) enum Place {
 const LINKS_MAX: usize = 40;
 
 /// What a name stands for, at the end of its links.
-pub(crate) fn place_of(alloc: Global, rt: &HostRuntime, name: &str) -> io::Result<Place> {
+pub(crate) fn resolve(alloc: Global, rt: &HostRuntime, name: &str) -> io::Result<Resolved> {
     let mut path = PathBuf::from_str(alloc, name)?;
     for _ in 0..LINKS_MAX {
         if let Some(stream) = Stream::named(path.as_str()) {
-            return Ok(Place::Stream(stream));
+            return Ok(Resolved::Stream(stream));
         }
         match target_of(alloc, rt, &path)? {
             Some(target) => path = target,
-            None => return Ok(Place::Path(path)),
+            None => return Ok(Resolved::Path(path)),
         }
     }
     Err(io::Error::from(io::ErrorKind::FilesystemLoop))
@@ -109,44 +109,44 @@ fn joined(alloc: Global, path: &PathBuf, target: PathBuf) -> io::Result<Option<P
     }
 }
 
-/// Which file one is, whatever its names.
+/// Identifies a file, whatever its names.
 #[derive(Clone, Copy, PartialEq, Eq)]
-pub(crate) enum Identity {
+pub(crate) enum FileId {
     /// A regular file or a pipe, by its device and inode.
     File(u64, u64),
     /// A block device, by its number.
     Block(u64),
 }
 
-impl Identity {
+impl FileId {
     /// `None` for a terminal or another character device, and for a socket: what is written to one
     /// is never read from it again.
-    pub(crate) fn of(metadata: &Metadata) -> Option<Identity> {
+    pub(crate) fn of(metadata: &Metadata) -> Option<FileId> {
         let kind = metadata.file_type();
         if kind.is_block_device() {
-            Some(Identity::Block(metadata.rdev()))
+            Some(FileId::Block(metadata.rdev()))
         } else if kind.is_file() || kind.is_fifo() {
-            Some(Identity::File(metadata.dev(), metadata.ino()))
+            Some(FileId::File(metadata.dev(), metadata.ino()))
         } else {
             None
         }
     }
 
-    /// That of the file to which a name leads, where there is one.
-    pub(crate) fn at(rt: &HostRuntime, name: &str) -> Option<Identity> {
+    /// The id of the file to which a name leads, if there is one.
+    pub(crate) fn at(rt: &HostRuntime, name: &str) -> Option<FileId> {
         match fs::metadata(rt, name) {
-            Ok(metadata) => Identity::of(&metadata),
+            Ok(metadata) => FileId::of(&metadata),
             Err(_) => None,
         }
     }
 
-    /// That of the file to which a stream leads.
-    pub(crate) fn of_stream(rt: &HostRuntime, stream: Stream) -> Option<Identity> {
-        Identity::at(rt, stream.path())
+    /// The id of the file to which a stream leads.
+    pub(crate) fn of_stream(rt: &HostRuntime, stream: Stream) -> Option<FileId> {
+        FileId::at(rt, stream.path())
     }
 }
 
-/// Which file one is, of whatever kind, while it is there.
+/// Identifies a file of any kind, as long as it exists.
 #[derive(Clone, Copy, PartialEq, Eq)]
 pub(crate) struct Node {
     device: u64,
@@ -168,8 +168,7 @@ pub(crate) fn is_on_disk(metadata: &Metadata) -> bool {
     kind.is_file() || kind.is_block_device()
 }
 
-/// What the system says of the file at a path, where no link is followed; `None` where nothing is
-/// there.
+/// The metadata of what is at a path, also of a link; `None` if nothing is there.
 pub(crate) fn found_at(rt: &HostRuntime, path: &str) -> io::Result<Option<Metadata>> {
     match fs::symlink_metadata(rt, path) {
         Ok(found) => Ok(Some(found)),

@@ -3,7 +3,7 @@
 ghost use Rattle.std.specs.Prelude.{◌≡◌, [], None, true};
 ghost use Rattle.std.specs.Io.{WritesAtMost};
 
-use crate::host_names::{Identity, Place, Stream, above_streams, place_of};
+use crate::host_names::{FileId, Resolved, Stream, above_streams, resolve};
 use crate::host_paths::{OUTPUT_MODE, make_file, open_to_write, remove};
 use crate::host_sync::{sync_file, sync_folder, sync_stream};
 use age_io::{Durability, Failed, Sink};
@@ -32,7 +32,7 @@ enum Target {
     File(OutFile),
     /// Standard output, from where it stands.
     Output(Stdout),
-    /// Standard error, likewise.
+    /// Standard error, from where it stands.
     Faults(Stderr),
 }
 
@@ -42,8 +42,8 @@ enum Target {
 #[derive(Drop)]
 pub struct HostOut {
     target: Target,
-    // Which file it is, where that can be told.
-    identity: Option<Identity>,
+    // Which file it is, where that is known.
+    id: Option<FileId>,
     failed: u64,
     failing: bool,
 }
@@ -64,7 +64,7 @@ fn is_regular(file: &File) -> io::Result<bool> {
 /// Whether a file is the one at a path, where no link is followed.
 fn is_at(rt: &HostRuntime, own: &Metadata, path: &PathBuf) -> bool {
     match fs::symlink_metadata(rt, path.as_str()) {
-        Ok(there) => Identity::of(own) == Identity::of(&there),
+        Ok(there) => FileId::of(own) == FileId::of(&there),
         Err(_) => false,
     }
 }
@@ -176,10 +176,10 @@ fn cut_file(file: &File, len: u64) -> io::Result<()> {
 }
 
 impl HostOut {
-    fn new(target: Target, identity: Option<Identity>) -> HostOut {
+    fn new(target: Target, id: Option<FileId>) -> HostOut {
         HostOut {
             target,
-            identity,
+            id,
             failed: 0,
             failing: false,
         }
@@ -188,15 +188,15 @@ impl HostOut {
     /// Opens what a name stands for without emptying it, or makes a file where there is none.
     /// Nothing can be written to standard input.
     pub(crate) fn open(alloc: Global, rt: &HostRuntime, name: &str) -> io::Result<HostOut> {
-        match place_of(alloc, rt, name)? {
-            Place::Path(path) => HostOut::of_file(OutFile::open(rt, name, path)?),
-            Place::Stream(stream) => HostOut::of_stream(rt, stream),
+        match resolve(alloc, rt, name)? {
+            Resolved::Path(path) => HostOut::of_file(OutFile::open(rt, name, path)?),
+            Resolved::Stream(stream) => HostOut::of_stream(rt, stream),
         }
     }
 
     fn of_file(out: OutFile) -> io::Result<HostOut> {
-        let identity = Identity::of(&out.file.metadata()?);
-        Ok(HostOut::new(Target::File(out), identity))
+        let id = FileId::of(&out.file.metadata()?);
+        Ok(HostOut::new(Target::File(out), id))
     }
 
     /// A file that is open to be written, in place of what it holds.
@@ -217,21 +217,19 @@ impl HostOut {
             Stream::Output => Target::Output(rt.stdout()),
             Stream::Faults => Target::Faults(rt.stderr()),
         };
-        Ok(HostOut::new(target, Identity::of_stream(rt, stream)))
+        Ok(HostOut::new(target, FileId::of_stream(rt, stream)))
     }
 
-    /// Which file it is, where that can be told.
-    pub(crate) fn identity(&self) -> Option<Identity> {
-        self.identity
+    /// Which file it is, where that is known.
+    pub(crate) fn id(&self) -> Option<FileId> {
+        self.id
     }
 
     /// Whether it is standard error, or the file to which that leads.
     pub(crate) fn is_for_faults(&self, rt: &HostRuntime) -> bool {
         match &self.target {
             Target::Faults(_) => true,
-            _ => {
-                self.identity.is_some() && self.identity == Identity::of_stream(rt, Stream::Faults)
-            }
+            _ => { self.id.is_some() && self.id == FileId::of_stream(rt, Stream::Faults) }
         }
     }
 

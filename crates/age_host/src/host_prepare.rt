@@ -1,6 +1,6 @@
 //! A file of the machine that is to be replaced later.
 
-use crate::host_names::{Identity, Node, Place, Stream, found_at, is_on_disk, place_of};
+use crate::host_names::{FileId, Node, Resolved, Stream, found_at, is_on_disk, resolve};
 use crate::host_paths::open_to_write;
 use crate::host_sync::folder_of;
 use std::alloc::Global;
@@ -13,13 +13,13 @@ use std::rt::HostRuntime;
 #[derive(Drop)]
 pub(crate) struct Prepared {
     name: String,
-    place: Place,
-    // The folder of its path, without links; `None` where that can't be told.
+    resolved: Resolved,
+    // The folder of its path, without links; `None` where that isn't known.
     folder: Option<PathBuf>,
     // The pipe or the device to which the name led, where it was one.
     device: Option<Node>,
     // A file that it may be although that is open.
-    spared: Option<Identity>,
+    spared: Option<FileId>,
 }
 
 impl Prepared {
@@ -30,17 +30,17 @@ impl Prepared {
         alloc: Global,
         rt: &HostRuntime,
         name: &str,
-        spared: Option<Identity>,
+        spared: Option<FileId>,
     ) -> io::Result<Prepared> {
-        let place = place_of(alloc, rt, name)?;
-        let device = match &place {
-            Place::Stream(stream) => check_stream(rt, *stream)?,
-            Place::Path(path) => check_path(rt, name, path)?,
+        let resolved = resolve(alloc, rt, name)?;
+        let device = match &resolved {
+            Resolved::Stream(stream) => check_stream(rt, *stream)?,
+            Resolved::Path(path) => check_path(rt, name, path)?,
         };
-        let folder = folder_in(rt, &place)?;
+        let folder = folder_in(rt, &resolved)?;
         Ok(Prepared {
             name: String::from_str(alloc, name)?,
-            place,
+            resolved,
             folder,
             device,
             spared,
@@ -49,7 +49,7 @@ impl Prepared {
 
     /// Whether its path still leads to the same folder, so that no new link is followed.
     pub(crate) fn is_in_place(&self, rt: &HostRuntime) -> io::Result<bool> {
-        match (&self.folder, folder_in(rt, &self.place)?) {
+        match (&self.folder, folder_in(rt, &self.resolved)?) {
             (Some(before), Some(now)) => Ok(before.as_str() == now.as_str()),
             (None, None) => Ok(true),
             _ => Ok(false),
@@ -71,23 +71,23 @@ impl Prepared {
     }
 
     /// Where its name led.
-    pub(crate) fn place(&self) -> &Place {
-        &self.place
+    pub(crate) fn resolved(&self) -> &Resolved {
+        &self.resolved
     }
 
-    /// Which file is there now, where that can be told, unless it may be open.
-    pub(crate) fn identity(&self, rt: &HostRuntime) -> Option<Identity> {
+    /// Which file is there now, where that is known, unless it may be open.
+    pub(crate) fn id(&self, rt: &HostRuntime) -> Option<FileId> {
         let found = match self.device {
-            Some(_) => Identity::at(rt, self.name.as_str()),
-            None => identity_in(rt, &self.place),
+            Some(_) => FileId::at(rt, self.name.as_str()),
+            None => id_in(rt, &self.resolved),
         };
         if found == self.spared { None } else { found }
     }
 }
 
-/// The folder of the path of a place, without links, where that can be told.
-fn folder_in(rt: &HostRuntime, place: &Place) -> io::Result<Option<PathBuf>> {
-    let Place::Path(path) = place else {
+/// The folder of a path, without links, where that is known.
+fn folder_in(rt: &HostRuntime, resolved: &Resolved) -> io::Result<Option<PathBuf>> {
+    let Resolved::Path(path) = resolved else {
         return Ok(None);
     };
     match fs::canonicalize(rt, folder_of(path)) {
@@ -97,12 +97,12 @@ fn folder_in(rt: &HostRuntime, place: &Place) -> io::Result<Option<PathBuf>> {
     }
 }
 
-/// Which file is at a place, where that can be told.
-fn identity_in(rt: &HostRuntime, place: &Place) -> Option<Identity> {
-    match place {
-        Place::Stream(stream) => Identity::of_stream(rt, *stream),
-        Place::Path(path) => match found_at(rt, path.as_str()) {
-            Ok(Some(found)) => Identity::of(&found),
+/// Which file is there, where that is known.
+fn id_in(rt: &HostRuntime, resolved: &Resolved) -> Option<FileId> {
+    match resolved {
+        Resolved::Stream(stream) => FileId::of_stream(rt, *stream),
+        Resolved::Path(path) => match found_at(rt, path.as_str()) {
+            Ok(Some(found)) => FileId::of(&found),
             _ => None,
         },
     }
@@ -144,7 +144,7 @@ fn check_found(
         return Ok(Some(Node::of(found)));
     }
     match found_at(rt, path.as_str())? {
-        Some(there) if Identity::of(&there) == Identity::of(found) => {}
+        Some(there) if FileId::of(&there) == FileId::of(found) => {}
         _ => return Err(io::Error::from(io::ErrorKind::NotFound)),
     }
     open_to_write(rt, name)?;

@@ -1,6 +1,6 @@
 //! Replaces a file of the machine as a whole.
 
-use crate::host_names::{Node, Place, found_at};
+use crate::host_names::{Node, Resolved, found_at};
 use crate::host_out::HostOut;
 use crate::host_paths::{POSITION_MODE, make_file, open_to_write, remove};
 use crate::host_prepare::Prepared;
@@ -70,7 +70,7 @@ impl Beside {
         }
     }
 
-    /// Lets those do what they may with it who may with another, where that is allowed.
+    /// Gives it the permissions of another file, where that is allowed.
     fn set_permissions(&self, permissions: Option<Permissions>) {
         if let Some(permissions) = permissions {
             let _ = self.file.set_permissions(permissions);
@@ -214,11 +214,11 @@ pub(crate) fn replace(
         let file = open_found(rt, name, device)?;
         return fill_directly(rt, HostOut::over(file)?, bytes, durability);
     }
-    match prepared.place() {
-        Place::Stream(stream) => {
+    match prepared.resolved() {
+        Resolved::Stream(stream) => {
             fill_directly(rt, HostOut::of_stream(rt, *stream)?, bytes, durability)
         }
-        Place::Path(path) => match found_at(rt, path.as_str())? {
+        Resolved::Path(path) => match found_at(rt, path.as_str())? {
             Some(found) if !found.is_symlink() => {
                 replace_found(alloc, rt, path, &found, bytes, durability)
             }

@@ -13,7 +13,7 @@ use age_io::{Meter, Sink};
 /// over, as it ends in a carriage return.
 ///
 /// Where the length is known a line is due as the percentage rises, and otherwise with each 64 MiB.
-/// A contract sees the sink, the length, how many bytes were told, the percentage or the number of
+/// A contract sees the sink, the length, how many bytes were read, the percentage or the number of
 /// times 64 MiB at which the next line is due, and whether there is a line to end. What the sink
 /// fails to take is left out.
 #[derive(Debug, Drop)]
@@ -55,7 +55,7 @@ impl<O: Sink> ProgressLine<O> {
 }
 
 impl<O: Sink> Meter for ProgressLine<O> {
-    ghost told = { λ p. Some p.count };
+    ghost count = { λ p. Some p.count };
 
     /// Writes nothing.
     fn begin(&mut self, length: Option<u64>)

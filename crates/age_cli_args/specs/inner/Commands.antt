@@ -43,7 +43,7 @@ abbrev pub with_all : App → List Argument → App
 with_all a [] = a
 with_all a (r ∷ rest) = with_all (with_rule a (rule_as r.0.now r.1)) rest
 
--- a command that is told like this
+-- a command as the table says it
 abbrev pub app_as : Subcommand → App
 app_as s = with_all (new_app s.name.now) s.arguments.now
 

@@ -3,12 +3,20 @@ use Rattle.std.specs.Prelude.{◌≡◌, ◌⊎◌, ℕ, List, refl}
 use Rattle.std.specs.Coded.{Coded, coded_ℕ, coded_list, coded⊎, code_by}
 use base.Stored.{coded_unit}
 use mathlib.Core.Logic.{inl, inr}
-use Rattle.age_io.specs.declared.durability.Durability.{Durability}
 use Rattle.age_io.specs.declared.durability.Durability.TheVariants.{Synced, Buffered}
 use Rattle.age_fileset.specs.Events.{Event, Opened, Prepared, Created, Replaced, Closed}
+use Rattle.age_fileset.specs.declared.log.Action.{Action}
+use Rattle.age_fileset.specs.declared.log.Action.TheVariants as action
 
--- an event's parts, for the form in which ghost state is kept: what has a name, and what has none,
--- each with what tells it apart
+-- the event that an action is
+abbrev pub event_of : Action → Event
+event_of (action.Opened name) = Opened name.now
+event_of (action.Prepared name) = Prepared name.now
+event_of (action.Created name) = Created name.now
+event_of (action.Replaced name durability) = Replaced name.now durability
+event_of (action.Closed durability) = Closed durability
+
+-- an event as a choice among sums, the form in which ghost state is kept
 abbrev Parts : Type 0
 Parts = List ℕ ⊎ (List ℕ ⊎ (List ℕ ⊎ (List ℕ ⊎ (List ℕ ⊎ (Unit {0} ⊎ Unit {0})))))
 

@@ -1,9 +1,9 @@
 //! Reports why a run ended.
 
-ghost use Rattle.std.specs.Prelude.{◌≡◌, ◌++◌, [], decimal, OnOk, OnErr, Some, true};
-ghost use Rattle.std.specs.Io.KnownBytes.{Appends};
-ghost use Rattle.age_fault.specs.Faults.{HasRisen, number_of, place_of};
-ghost use Rattle.age_cli_common.specs.FaultLines.{place_text, fault_line, TellsEnding};
+ghost use Rattle.std.specs.Prelude.{◌≡◌, ◌++◌, [], decimal, Some, true};
+ghost use Rattle.age_fault.specs.Faults.{number_of, place_of};
+ghost use Rattle.age_cli_common.specs.FaultLines.{place_text, fault_line, ReportsEnding};
+ghost use Rattle.age_cli_common.specs.inner.Puts.{PutsAll};
 
 use crate::ending::{Ending, Usage};
 use crate::put::put_bytes;
@@ -15,17 +15,17 @@ use itoa::Buffer;
 /// A line on the stack, so that it goes out in one put and lines of several runs don't mix. The
 /// longest has 61 bytes.
 #[derive(Debug, Drop)]
-struct Line {
+struct FaultLine {
     bytes: ArrayVec<u8, 128>,
     failed: u64,
     failing: bool,
 }
 
-impl Line {
-    fn new() -> Line
+impl FaultLine {
+    fn new() -> FaultLine
         ensures { result.bytes.items ≡ [] }
     {
-        Line {
+        FaultLine {
             bytes: ArrayVec::new(),
             failed: 0,
             failing: false,
@@ -33,7 +33,7 @@ impl Line {
     }
 }
 
-impl Sink for Line {
+impl Sink for FaultLine {
     ghost view = { λ line. record {
       taken = Some line.bytes.items;
       failed = line.failed;
@@ -68,10 +68,7 @@ impl Sink for Line {
 
 /// A word, and a number in decimal.
 fn put_number<E: Sink>(faults: &mut E, word: &str, number: u64) -> Result<(), FileFault>
-    ensures ok { OnOk result
-        (Appends (E.view faults.old).taken (E.view faults.new).taken (word.now ++ decimal number)) }
-    ensures same { OnOk result ((E.view faults.new).failed ≡ (E.view faults.old).failed) }
-    ensures err { OnErr result (HasRisen (E.view faults.old).failed (E.view faults.new).failed) }
+    ensures { PutsAll (word.now ++ decimal number) (E.view faults.old) (E.view faults.new) result }
 {
     put_bytes(faults, word.as_bytes())?;
     let mut digits = Buffer::new();
@@ -80,11 +77,8 @@ fn put_number<E: Sink>(faults: &mut E, word: &str, number: u64) -> Result<(), Fi
 
 /// The line of a header's fault, or the chunk of a payload's.
 fn put_place<E: Sink>(faults: &mut E, fault: FileFault) -> Result<(), FileFault>
-    ensures ok { OnOk result
-        (Appends (E.view faults.old).taken (E.view faults.new).taken
-        (place_text (number_of fault) (place_of fault))) }
-    ensures same { OnOk result ((E.view faults.new).failed ≡ (E.view faults.old).failed) }
-    ensures err { OnErr result (HasRisen (E.view faults.old).failed (E.view faults.new).failed) }
+    ensures { PutsAll (place_text (number_of fault) (place_of fault)) (E.view faults.old)
+        (E.view faults.new) result }
 {
     match fault.place() {
         Some(line) if fault.number() <= 8 => put_number(faults, " line ", line),
@@ -96,10 +90,7 @@ fn put_place<E: Sink>(faults: &mut E, fault: FileFault) -> Result<(), FileFault>
 /// The fault's number and name, and its place. It takes no memory, so that running out of it is
 /// reported too.
 fn put_fault_line<E: Sink>(faults: &mut E, fault: FileFault) -> Result<(), FileFault>
-    ensures ok { OnOk result
-        (Appends (E.view faults.old).taken (E.view faults.new).taken (fault_line fault)) }
-    ensures same { OnOk result ((E.view faults.new).failed ≡ (E.view faults.old).failed) }
-    ensures err { OnErr result (HasRisen (E.view faults.old).failed (E.view faults.new).failed) }
+    ensures { PutsAll (fault_line fault) (E.view faults.old) (E.view faults.new) result }
 {
     put_number(faults, "age_tool: ", fault.number() as u64)?;
     put_bytes(faults, b" ")?;
@@ -110,12 +101,9 @@ fn put_fault_line<E: Sink>(faults: &mut E, fault: FileFault) -> Result<(), FileF
 
 /// One line, in one put.
 fn put_fault<E: Sink>(faults: &mut E, fault: FileFault) -> Result<(), FileFault>
-    ensures ok { OnOk result
-        (Appends (E.view faults.old).taken (E.view faults.new).taken (fault_line fault)) }
-    ensures same { OnOk result ((E.view faults.new).failed ≡ (E.view faults.old).failed) }
-    ensures err { OnErr result (HasRisen (E.view faults.old).failed (E.view faults.new).failed) }
+    ensures { PutsAll (fault_line fault) (E.view faults.old) (E.view faults.new) result }
 {
-    let mut line = Line::new();
+    let mut line = FaultLine::new();
     match put_fault_line(&mut line, fault) {
         Ok(()) => put_bytes(faults, line.bytes.as_slice()),
         // A line that is too long goes out in parts.
@@ -152,7 +140,7 @@ fn put_usage_line<E: Sink>(faults: &mut E, usage: Usage) -> Result<(), FileFault
 
 /// One line, in one put.
 fn put_usage<E: Sink>(faults: &mut E, usage: Usage) -> Result<(), FileFault> {
-    let mut line = Line::new();
+    let mut line = FaultLine::new();
     match put_usage_line(&mut line, usage) {
         Ok(()) => put_bytes(faults, line.bytes.as_slice()),
         Err(_) => put_usage_line(faults, usage),
@@ -160,7 +148,7 @@ fn put_usage<E: Sink>(faults: &mut E, usage: Usage) -> Result<(), FileFault> {
 }
 
 fn put_ending<E: Sink>(faults: &mut E, ending: &Ending) -> Result<(), FileFault>
-    ensures { TellsEnding ending.now (E.view faults.old).taken (E.view faults.new).taken
+    ensures { ReportsEnding ending.now (E.view faults.old).taken (E.view faults.new).taken
         (E.view faults.old).failed (E.view faults.new).failed }
 {
     match ending {
@@ -176,8 +164,8 @@ fn put_ending<E: Sink>(faults: &mut E, ending: &Ending) -> Result<(), FileFault>
 }
 
 /// Reports why a run ended, where the sink takes it.
-pub fn tell<E: Sink>(faults: &mut E, ending: &Ending)
-    ensures { TellsEnding ending.now (E.view faults.old).taken (E.view faults.new).taken
+pub fn report_ending<E: Sink>(faults: &mut E, ending: &Ending)
+    ensures { ReportsEnding ending.now (E.view faults.old).taken (E.view faults.new).taken
         (E.view faults.old).failed (E.view faults.new).failed }
 {
     let _ = put_ending(faults, ending);

@@ -1,0 +1,106 @@
+//! What opens a file, as one of the options says.
+
+ghost use Rattle.std.specs.Prelude.{◌≡◌, ◌++◌, true, IfOk, IfErr, IfSome};
+ghost use Rattle.age_keys.specs.Passphrase.{IsAllowed};
+ghost use Rattle.age_fault.specs.declared.fault.FileFault.TheVariants.{Read};
+ghost use Rattle.age_fileset.specs.FileSet.{IsMemoryOr};
+ghost use Rattle.age_cli_common.specs.EventOrders.{opening};
+ghost use Rattle.age_cli_common.specs.Identities.{options_asked, IsPassphraseIn, IsSharedIn};
+ghost use Rattle.age_cli_common.specs.Choices.{file_of, bytes_of, IsSecretIn, Makes, Chooses};
+
+use crate::ending::Usage;
+use crate::first_bytes::read_file;
+use crate::identity::{Identity, PASSPHRASE_FILE_MAX, SHARED_FILE_LEN, shared_of, trimmed};
+use age_cli_args::IdentityOptions;
+use age_fault::FileFault;
+use age_fileset::FileSet;
+use age_keys::{KnownKey, Passphrase, SharedSecret};
+use std::alloc::Global;
+
+/// What opens a file, as one of the options says: a key, or the name of a file that isn't read yet.
+#[derive(Drop)]
+pub enum Choice<'a> {
+    /// The file of a passphrase, and the greatest work factor that is accepted.
+    PassphraseFile(&'a str, u32),
+    /// A file key.
+    FileKey(KnownKey),
+    /// The file of a shared secret and its recipient.
+    SharedFile(&'a str),
+}
+
+impl<'a> Choice<'a> {
+    /// What the one option says that is given. Refuses none and more than one, and a bad file key.
+    pub fn of(options: &IdentityOptions<'a>) -> Result<Choice<'a>, Usage>
+        ensures { IfOk result (Chooses (options_asked options.now)) }
+    {
+        match (options.pass, options.file_key, options.shared) {
+            (Some(name), None, None) => Ok(Choice::PassphraseFile(name, options.max_log)),
+            (None, Some(digits), None) => match KnownKey::read(digits) {
+                Some(key) => Ok(Choice::FileKey(key)),
+                None => Err(Usage::BadFileKey),
+            },
+            (None, None, Some(name)) => Ok(Choice::SharedFile(name)),
+            _ => Err(Usage::GiveOneIdentity),
+        }
+    }
+
+    /// The bytes of the file, where one is named; `None` also where it is longer than a secret. At
+    /// most one byte more is pulled.
+    pub fn read<F: FileSet>(
+        &self,
+        alloc: Global,
+        files: &mut F,
+    ) -> Result<Option<Vec<u8>>, FileFault>
+        ensures kept { (F.view files.new).entries ≡ (F.view files.old).entries }
+        ensures noted { (F.view files.new).events
+            ≡ (F.view files.old).events ++ opening (file_of self.now) }
+        ensures faults { IfErr result (IsMemoryOr Read) }
+        ensures read { IfOk result (λ o. F.shows_bytes ≡ true
+            → IsSecretIn (F.view files.old).entries (file_of self.now) (bytes_of o)) }
+    {
+        match self {
+            Choice::PassphraseFile(name, _) => read_file(alloc, files, name, PASSPHRASE_FILE_MAX),
+            Choice::FileKey(_) => Ok(None),
+            Choice::SharedFile(name) => read_file(alloc, files, name, SHARED_FILE_LEN),
+        }
+    }
+
+    /// What opens the file, given the bytes that `read` returned. Refuses those that hold no
+    /// passphrase, or no shared secret with its recipient.
+    pub fn identity<'s>(self, secret: &'s Option<Vec<u8>>) -> Result<Identity<'s>, Usage>
+        ensures { IfOk result (Makes self.entry (bytes_of secret.now)) }
+    {
+        match self {
+            Choice::PassphraseFile(_, max_log) => match passphrase_in(secret, max_log) {
+                Some(pass) => Ok(Identity::ByPassphrase(pass)),
+                None => Err(Usage::BadPassphraseFile),
+            },
+            Choice::FileKey(key) => Ok(Identity::ByFileKey(key)),
+            Choice::SharedFile(_) => match shared_in(secret) {
+                Some(shared) => Ok(Identity::ByShared(shared)),
+                None => Err(Usage::BadSharedFile),
+            },
+        }
+    }
+}
+
+/// The passphrase in the bytes of its file.
+fn passphrase_in<'s>(secret: &'s Option<Vec<u8>>, max_log: u32) -> Option<Passphrase<'s>>
+    ensures { IfSome result (λ words. IsPassphraseIn (bytes_of secret.now) words.pass
+        × (words.max_log ≡ max_log) × IsAllowed words.pass words.max_log) }
+{
+    match secret {
+        Some(bytes) => Passphrase::new(trimmed(bytes.as_slice()), max_log),
+        None => None,
+    }
+}
+
+/// The shared secret and the recipient in the bytes of their file.
+fn shared_in(secret: &Option<Vec<u8>>) -> Option<SharedSecret>
+    ensures { IfSome result (IsSharedIn (bytes_of secret.now)) }
+{
+    match secret {
+        Some(bytes) => shared_of(bytes.as_slice()),
+        None => None,
+    }
+}
