@@ -1,13 +1,21 @@
 -- What is so where a command or a step of one ends early, and of what a step read.
-use Rattle.std.proofs.Common.{◌≡◌, ◌∙◌, ◌++◌, inl, inr, ap, sym, subst, true, true≢false, append-nil, List, ℕ, Option, Some, None}
+use Rattle.std.proofs.Common.{◌≡◌, ◌∙◌, ◌⊎◌, ◌++◌, inl, inr, ap, sym, subst, refl, Bool, true, false, true≢false, append-nil, List, ℕ, Option, Some, None}
 use Rattle.std.proofs.Common.{Result, Ok, Err, IfOk, IfErr, OnOk}
 use Rattle.std.specs.Prelude.{IsErr, IsErrAnd, is_some, OnErr}
 use Rattle.std.specs.Io.KnownBytes.{Consumes, IsAtEnd}
 use Rattle.age_fault.specs.declared.fault.FileFault.{FileFault}
-use Rattle.age_fault.specs.declared.fault.FileFault.TheVariants.{Read}
-use Rattle.age_fileset.specs.FileSet.{IsMemoryOr}
-use Rattle.age_cli_common.specs.Endings.{EndsEarly}
+use Rattle.age_fault.specs.declared.fault.FileFault.TheVariants.{Read, BadPosition}
+use Rattle.age_fileset.specs.FileSet.{IsMemoryOr, CreateFails}
+use Rattle.age_fileset.specs.declared.files.CreateFault.{CreateFault}
+use Rattle.age_fileset.specs.declared.files.CreateFault.TheVariants.{SameFile}
+use Rattle.age_fileset.specs.declared.files.CreateFault.TheVariants as create
+use Rattle.age_fileset.specs.Events.{Event}
+use Rattle.age_fileset.specs.FileSet.{FilesView}
+use Rattle.age_cli_common.specs.Endings.{EndsEarly, is_usage}
+use Rattle.age_cli_common.specs.inner.Endings.{ending_of}
+use Rattle.age_cli_common.specs.declared.ending.Ending.{Ending}
 use Rattle.age_cli_common.specs.declared.ending.Ending.TheVariants.{Fault}
+use Rattle.age_cli.specs.inner.Openings.{Judges}
 
 -- what is so of a result that is this error
 pub no_value : {T E : Type 0} (r : Result T E) (e : E) → IsErr r × IsErrAnd r (λ x. x ≡ e) → (P : T → Type 0) → IfOk r P
@@ -35,6 +43,17 @@ pub early_fault : (f : FileFault) → IsMemoryOr Read f → EndsEarly (Fault f)
 early_fault f (inl read) = inl read
 early_fault f (inr memory) = inr (inr memory)
 
+-- and so is one of an output that can't be made
+pub created_early : (shows : Bool) (f : CreateFault) → CreateFails shows f → EndsEarly (ending_of f)
+created_early shows SameFile fails = tt
+created_early shows (create.Fault f) (inl write) = inr (inl write)
+created_early shows (create.Fault f) (inr memory) = inr (inr memory)
+
+-- it isn't the command line's where contracts see the files
+pub created_fault : (shows : Bool) (f : CreateFault) → CreateFails shows f → shows ≡ true → is_usage (ending_of f) ≡ false
+created_fault shows SameFile fails shown = absurd (true≢false (sym shown ∙ fails))
+created_fault shows (create.Fault f) fails shown = refl
+
 -- what was read from a file that is there is at its front
 pub front_read : (old new : Option (List ℕ)) (bytes : List ℕ) → is_some old ≡ true → Consumes old new bytes
     → (rest : List ℕ) × (old ≡ Some (bytes ++ rest))
@@ -48,7 +67,17 @@ whole_read None new bytes there read ended = absurd (true≢false (sym there))
 whole_read (Some xs) None bytes there read ended = absurd read
 whole_read (Some xs) (Some ys) bytes there read ended = ap Some (read ∙ (ap (λ t. bytes ++ t) ended ∙ append-nil bytes))
 
+-- a fault of the position or of the old text ends `resume` before its output is made
+pub bad_position : (f : FileFault) → IsMemoryOr Read f ⊎ (f ≡ BadPosition) → EndsEarly (Fault f) ⊎ (Fault f ≡ Fault BadPosition)
+bad_position f (inl early) = inl (early_fault f early)
+bad_position f (inr bad) = inr (ap Fault bad)
+
 -- what follows from a result that is well and from one that isn't
 pub either_way : {T E : Type 0} (r : Result T E) (P Q R : Type 0) → OnOk r P → OnErr r Q → (P → R) → (Q → R) → R
 either_way (Ok x) P Q R p q well bad = well p
 either_way (Err e) P Q R p q well bad = bad q
+
+-- what is asked of a choice is asked of what the options say
+pub in_order : {A : Type 0} (shows : Bool) (a b : List Event) (old new : FilesView) (IsRead : A → Type 0) (IsTwice : Type 0) (r : Result A Ending) → a ≡ b
+    → Judges shows a old new IsRead IsTwice r → Judges shows b old new IsRead IsTwice r
+in_order shows a b old new IsRead IsTwice r same judged = subst (λ (order : List Event). Judges shows order old new IsRead IsTwice r) same judged

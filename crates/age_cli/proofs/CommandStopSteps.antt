@@ -1,5 +1,6 @@
 -- What stands where a command stopped, step by step.
-use Rattle.std.proofs.Common.{◌≡◌, ◌∙◌, ℕ, inl, inr, refl, ap, sym, subst, List, [], length, Option, Some, None}
+use Rattle.std.proofs.Common.{◌≡◌, ◌∙◌, ℕ, inl, inr, refl, ap, sym, subst, List, [], length, Option, Some, None, false, true≢false}
+use Rattle.std.specs.Prelude.{◌==◌, IsSomeAnd}
 use Rattle.std.specs.Io.KnownBytes.{Appends}
 use Rattle.std.proofs.lemmas.List.{nil_from_length}
 use Rattle.clap.specs.Words.{Text}
@@ -10,16 +11,19 @@ use Rattle.age_file.specs.Ports.{Ports}
 use Rattle.age_file.specs.Secrets.{SecretView}
 use Rattle.age_file.specs.Encrypts.{EncryptFails}
 use Rattle.age_file.specs.Runs.{Run, IsFromStart, held, IsRun, IsAuthenticRun, WritesNone}
-use Rattle.age_file.specs.Decrypts.{DecryptFails, WroteSoFar}
+use Rattle.age_file.specs.Decrypts.{DecryptStops}
+use Rattle.age_file.specs.declared.decryption.Stopped.{Stopped}
+use Rattle.age_io.specs.Views.{SinkView}
+use Rattle.std.proofs.KnownBytes.{Appends-nil}
 use Rattle.age_file.specs.OldTexts.{BeginsWith}
 use Rattle.age_file.specs.Resumes.{ResumePorts, WritesOld, IsFrom}
-use Rattle.age_file.specs.ResumeFaults.{ResumeFails, FailsAt}
+use Rattle.age_file.specs.ResumeFaults.{ResumeStops}
 use Rattle.age_file.specs.declared.position.Position.{Position}
 use Rattle.age_file.specs.declared.position.Positions.{Positions}
 use Rattle.age_fault.specs.declared.fault.FileFault.{FileFault}
 use Rattle.age_fault.specs.declared.fault.FileFault.TheVariants as fault
 use Rattle.age_cli_common.specs.Files.{Files}
-use Rattle.age_cli.specs.CommandStops.{EndsOf}
+use Rattle.age_cli.specs.Outputs.{EndsOf}
 use Rattle.age_cli_common.specs.declared.ending.Ending.{Ending}
 use Rattle.age_cli_common.specs.declared.ending.Ending.TheVariants.{Words, Usage, Fault, Unsaved}
 
@@ -35,79 +39,61 @@ Written old new written out = Appends old new out × (written ≡ length out)
 pub holds_nothing : (old new : Option (List ℕ)) (written : ℕ) (out : List ℕ) → old ≡ Some [] → Written old new written out → written ≡ 0 → new ≡ Some []
 holds_nothing old new written out empty put none = none_out new out written (subst (λ (o : Option (List ℕ)). Appends o new out) empty put.0) put.1 none
 
+some_out : (new : Option (List ℕ)) (out : List ℕ) (written : ℕ) → Appends (Some []) new out → written ≡ length out → (written == 0) ≡ false
+    → new ≡ Some [] → ⊥
+some_out new out written put count some nothing =
+    let none : [] ≡ out = subst (λ (n : Option (List ℕ)). Appends (Some []) n out) nothing put in
+    true≢false (sym (ap (λ (n : ℕ). n == 0) (count ∙ ap (λ (xs : List ℕ). length xs) (sym none))) ∙ some)
+
+-- where something was written, it holds that
+pub holds_something : (old new : Option (List ℕ)) (written : ℕ) (out : List ℕ) → old ≡ Some [] → Written old new written out → (written == 0) ≡ false
+    → new ≡ Some [] → ⊥
+holds_something old new written out empty put some =
+    some_out new out written (subst (λ (o : Option (List ℕ)). Appends o new out) empty put.0) put.1 some
+
+-- a stop before anything was written
+none_written : (old new : Ports) (stopped : Stopped) → WritesNone old new stopped → Written old.sink.taken new.sink.taken stopped.written []
+none_written old new stopped w = (subst (λ (s : SinkView). Appends old.sink.taken s.taken []) (sym w.sink) (Appends-nil _), w.written)
+
 -- where memory was refused, an encryption wrote nothing
 pub sealed_nothing : (s : SecretView) (old new : Ports) (f : FileFault) → f ≡ fault.Memory → EncryptFails s old new f → new.sink.taken ≡ old.sink.taken
 sealed_nothing s old new f is fails = ap (λ (p : Ports). p.sink.taken) (subst (λ (x : FileFault). EncryptFails s old new x) is fails)
 
+-- the run of a call that ended
+pub the_run : {P : Run → Type 0} (run : Option Run) → IsSomeAnd run P → (r : Run) × P r
+the_run None h = absurd h
+the_run (Some r) h = (r, h)
+
 -- what a decryption wrote before it stopped; it begins the text of which each run is authentic
-module _ (keep : Positions) (A : Header → List ℕ → Type 0) (R : Header → KeyFault → Type 0) (old new : Ports) (written : ℕ) (position : Option Position) where
+module _ (keep : Positions) (A : Header → List ℕ → Type 0) (R : Header → KeyFault → Type 0) (old new : Ports) (stopped : Stopped) where
   abbrev pub Begins : List ℕ → Type 0
-  Begins out = (text : List ℕ) → ((r : Run) → IsFromStart r → IsRun A old new written r → IsAuthenticRun r text) → IsPrefixOf out text
+  Begins out = (text : List ℕ) → ((r : Run) → IsFromStart r → IsRun A old new stopped.written r → IsAuthenticRun r text) → IsPrefixOf out text
 
   abbrev pub Wrote : Type 0
-  Wrote = (out : List ℕ) × Written old.sink.taken new.sink.taken written out × Begins out
+  Wrote = (out : List ℕ) × Written old.sink.taken new.sink.taken stopped.written out × Begins out
 
-  of_none : WritesNone old new written position → Wrote
-  of_none h = ([], (h.0, h.1), (λ text auth. (text, refl)))
-
-  of_so_far : WroteSoFar keep A old new written position → Wrote
-  of_so_far (inl h) = of_none h.0
-  of_so_far (inr h) = (held h.0, (h.2.0.is.wrote, h.2.0.is.count), (λ text auth. h.2.0.of text (auth h.0 h.1 h.2.0.is)))
-
-  pub stop_wrote : (fault : FileFault) → DecryptFails keep A R old new written position fault → Wrote
-  stop_wrote (fault.Stream f) h = (held h.0, (h.2.0.is.wrote, h.2.0.is.count), (λ text auth. h.2.0.of text (auth h.0 h.1 h.2.0.is)))
-  stop_wrote fault.Write h = (held h.0, (h.2.0.wrote, h.2.0.count), (λ text auth. h.2.1 text (auth h.0 h.1 h.2.0)))
-  stop_wrote fault.Read h = of_so_far h.0
-  stop_wrote fault.ReadNeverEnds h = of_so_far h.0
-  stop_wrote (fault.Head f) h = of_none h.0
-  stop_wrote (fault.Key f) h = of_none h.0
-  stop_wrote fault.NonceCut h = of_none h.0
-  stop_wrote fault.BadPosition h = of_none h.0
-  stop_wrote fault.OtherFile h = of_none h.0
-  stop_wrote fault.ShortText h = of_none h.0
-  stop_wrote fault.Memory h = of_none h.0
-  stop_wrote fault.PositionForged h = of_none h.0
-  stop_wrote fault.OldTextDiffers h = of_none h.0
+  pub stop_wrote : (run : Option Run) → DecryptStops keep A R old new run stopped → Wrote
+  stop_wrote None h = ([], none_written old new stopped h.0, (λ text auth. (text, refl)))
+  stop_wrote (Some r) h = (held r, (h.1.is.wrote, h.1.is.count), (λ text auth. h.1.begins text (auth r h.0 h.1.is)))
 
 -- what a resumed decryption wrote before it stopped; it begins the text of whose first chunks the old text is, and of which
 -- each run is authentic
-module _ (keep : Positions) (A : Header → List ℕ → Type 0) (p : Position) (R : Header → KeyFault → Type 0) (old new : ResumePorts) (written : ℕ)
-    (position : Option Position) where
+module _ (keep : Positions) (A : Header → List ℕ → Type 0) (p : Position) (R : Header → KeyFault → Type 0) (old new : ResumePorts) (stopped : Stopped) where
   abbrev pub RewriteBegins : List ℕ → Type 0
   RewriteBegins out = (text : List ℕ) → BeginsWith p old.old.remaining text
-      → ((r : Run) → IsFrom p old.old new.old r → IsRun A old.main new.main written r → IsAuthenticRun r text) → IsPrefixOf out text
+      → ((r : Run) → IsFrom p old.old new.old r → IsRun A old.main new.main stopped.written r → IsAuthenticRun r text) → IsPrefixOf out text
 
   abbrev pub Rewrote : Type 0
-  Rewrote = (out : List ℕ) × Written old.main.sink.taken new.main.sink.taken written out × RewriteBegins out
+  Rewrote = (out : List ℕ) × Written old.main.sink.taken new.main.sink.taken stopped.written out × RewriteBegins out
 
-  none_new : WritesNone old.main new.main written position → Rewrote
-  none_new h = ([], (h.0, h.1), (λ text begins auth. (text, refl)))
-
-  old_new : (copied : List ℕ) → WritesOld p old new written copied → Rewrote
+  old_new : (copied : List ℕ) → WritesOld p old new stopped.written copied → Rewrote
   old_new copied h = (copied, (h.wrote, h.count), (λ text begins auth. h.of text begins))
 
-  at_new : (M O : Type 0) → FailsAt keep A p M O old new written position → Rewrote
-  at_new M O (inl h) = none_new h.0
-  at_new M O (inr (inl h)) = old_new h.0.copied h.0.writes
-  at_new M O (inr (inr (inl h))) = old_new h.1.copied h.1.writes
-  at_new M O (inr (inr (inr h))) = (held h.0, (h.2.0.is.wrote, h.2.0.is.count), (λ text begins auth. h.2.0.of text (auth h.0 h.1 h.2.0.is)))
-
-  pub resume_wrote : (fault : FileFault) → ResumeFails keep A p R old new written position fault → Rewrote
-  resume_wrote fault.OtherFile h = none_new h.0
-  resume_wrote fault.PositionForged h = none_new h.0
-  resume_wrote fault.ShortText h = old_new h.0.copied h.0.writes
-  resume_wrote fault.OldTextDiffers h = old_new h.4 h.5
-  resume_wrote (fault.Stream f) (inl h, rest) = old_new h.stops.copied h.stops.writes
-  resume_wrote (fault.Stream f) (inr h, rest) = (held h.0, (h.2.0.is.wrote, h.2.0.is.count), (λ text begins auth. h.2.0.of text (auth h.0 h.1 h.2.0.is)))
-  resume_wrote fault.Write (inl h, why, same) = old_new h.copied h.writes
-  resume_wrote fault.Write (inr h, why, same) = (held h.0, (h.2.0.wrote, h.2.0.count), (λ text begins auth. h.2.1 text (auth h.0 h.1 h.2.0)))
-  resume_wrote fault.Read h = at_new _ _ h
-  resume_wrote fault.ReadNeverEnds h = at_new _ _ h
-  resume_wrote (fault.Head f) h = none_new h.0
-  resume_wrote (fault.Key f) h = none_new h.0
-  resume_wrote fault.NonceCut h = none_new h.0
-  resume_wrote fault.BadPosition h = none_new h.0
-  resume_wrote fault.Memory h = none_new h.0
+  pub resume_wrote : (run : Option Run) → ResumeStops A p old new keep R run stopped → Rewrote
+  resume_wrote None (inl h) = ([], none_written old.main new.main stopped h.0, (λ text begins auth. (text, refl)))
+  resume_wrote None (inr (inl h)) = old_new h.copied h.writes
+  resume_wrote None (inr (inr h)) = old_new h.copied h.writes
+  resume_wrote (Some r) h = (held r, (h.2.is.wrote, h.2.is.count), (λ text begins auth. h.2.begins text (auth r h.0 h.2.is)))
 
 -- an ending is the same seen from before the output was made, where the position goes elsewhere
 pub ends_from : (f : FileFault) (name : Option Text) (p : Option Position) (old mid new : Files) (e : Ending) → ((q : Text) → name ≡ Some q → mid q ≡ old q)

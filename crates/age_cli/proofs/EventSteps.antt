@@ -1,47 +1,27 @@
--- The events of a command, in order.
-use Rattle.std.proofs.Common.{◌≡◌, ◌∙◌, ◌++◌, ◌∷◌, [], refl, ap, sym, List, ℕ, append_assoc, Option, Some, None}
+-- The events of a command whose output is written, in order.
+use Rattle.std.proofs.Common.{◌≡◌, ◌∙◌, ◌++◌, ◌∷◌, [], ap, sym, subst, List, append_assoc, Some}
 use Rattle.clap.specs.Words.{Text}
 use Rattle.age_io.specs.declared.durability.Durability.{Durability}
-use Rattle.age_fileset.specs.Events.{Event, Opened, Created, Closed}
-use Rattle.age_cli_common.specs.EventOrders.{Follows, preparing, making}
+use Rattle.age_fileset.specs.Events.{Event, Created, Closed}
+use Rattle.age_cli_common.specs.EventOrders.{Follows, making}
+use Rattle.age_cli_common.proofs.EventSteps.{then_did, then_follows}
 
--- events came, and then others
-pub then_did : (old mid new done more : List Event) → mid ≡ old ++ done → new ≡ mid ++ more → new ≡ old ++ (done ++ more)
-then_did old mid new done more m n = n ∙ (ap (λ x. x ++ more) m ∙ append_assoc old done more)
+-- the output was created last, and then it was ended, and the file of the position may have been replaced
+pub then_concluded : (xs ys : List Event) (to : Text) (d : Durability) (rest old mid new : List Event) → mid ≡ old ++ (xs ++ (ys ++ Created to ∷ []))
+    → Follows (Closed d ∷ rest) mid new → Follows ((xs ++ (ys ++ making (Some to) d)) ++ rest) old new
+then_concluded xs ys to d rest old mid new m f =
+    let b = Created to in
+    let c = Closed d in
+    let same : (xs ++ (ys ++ b ∷ [])) ++ c ∷ rest ≡ (xs ++ (ys ++ b ∷ c ∷ [])) ++ rest =
+    append_assoc xs (ys ++ b ∷ []) (c ∷ rest)
+    ∙ (ap (λ t. xs ++ t) (append_assoc ys (b ∷ []) (c ∷ rest) ∙ sym (append_assoc ys (b ∷ c ∷ []) rest)) ∙ sym (append_assoc xs (ys ++ b ∷ c ∷ []) rest)) in
+    subst (λ order. Follows order old new) same (then_follows old mid new _ _ m f)
 
--- events came, and then an order was followed
-pub then_follows : (old mid new done order : List Event) → mid ≡ old ++ done → Follows order mid new → Follows (done ++ order) old new
-then_follows old mid new done order m f = record {
-  done = done ++ f.done;
-  rest = f.rest;
-  did = then_did old mid new done f.done m f.did;
-  front = ap (λ x. done ++ x) f.front ∙ sym (append_assoc done f.done f.rest);
-}
-
-nil_after : (xs : List Event) → xs ≡ xs ++ []
-nil_after [] = refl
-nil_after (x ∷ xs) = ap (λ t. x ∷ t) (nil_after xs)
-
--- an order was followed whole
-pub followed : (old new order : List Event) → new ≡ old ++ order → Follows order old new
-followed old new order is = record { done = order; rest = []; did = is; front = nil_after order }
-
--- what follows an order follows a longer one
-pub longer : (order more old new : List Event) → Follows order old new → Follows (order ++ more) old new
-longer order more old new f = record {
-  done = f.done;
-  rest = f.rest ++ more;
-  did = f.did;
-  front = ap (λ x. x ++ more) f.front ∙ append_assoc f.done f.rest more;
-}
-
--- no event came so far
-pub none_done : (order old : List Event) → Follows order old old
-none_done order old = record { done = []; rest = order; did = nil_after old; front = refl }
-
--- the input was opened and what is written prepared and created, and then it was ended
-pub then_closed : (old mid new : List Event) (from : Text) (save : Option Text) (to : Text) (d : Durability)
-    → mid ≡ old ++ (Opened from ∷ (preparing save ++ Created to ∷ [])) → new ≡ mid ++ Closed d ∷ []
-    → new ≡ old ++ (Opened from ∷ (preparing save ++ making (Some to) d))
-then_closed old mid new from (Some name) to d m n = then_did old mid new _ _ m n
-then_closed old mid new from None to d m n = then_did old mid new _ _ m n
+-- and nothing more
+pub then_closed : (xs ys : List Event) (to : Text) (d : Durability) (old mid new : List Event) → mid ≡ old ++ (xs ++ (ys ++ Created to ∷ []))
+    → new ≡ mid ++ Closed d ∷ [] → new ≡ old ++ (xs ++ (ys ++ making (Some to) d))
+then_closed xs ys to d old mid new m n =
+    let b = Created to in
+    let c = Closed d in
+    then_did old mid new _ _ m n
+    ∙ ap (λ t. old ++ t) (append_assoc xs (ys ++ b ∷ []) (c ∷ []) ∙ ap (λ t. xs ++ t) (append_assoc ys (b ∷ []) (c ∷ [])))

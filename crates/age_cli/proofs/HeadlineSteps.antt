@@ -1,32 +1,45 @@
 -- The headline for OUT, from what the commands did.
-use Rattle.std.proofs.Common.{◌≡◌, ◌≤◌, ◌*◌, ◌∙◌, ◌++◌, ℕ, inl, inr, ap, sym, subst, refl, true, true≢false, codes, List, [], length, take, Option, Some, None}
-use Rattle.std.proofs.Common.{append-nil, append_assoc, arith, rules, ⊎_elim, Bool, false}
+use Rattle.std.proofs.Common.{◌≡◌, ◌≤◌, ◌*◌, ◌∙◌, ◌⊎◌, ◌++◌, ℕ, inl, inr, ap, sym, subst, refl, true, true≢false, codes, List, [], length, take, Option, Some, None}
+use Rattle.std.proofs.Common.{append-nil, append_assoc, arith, rules, ⊎_elim, Bool, false, Result, Ok, Err}
 use Rattle.std.proofs.lemmas.List.{length-take, take_at}
-use Rattle.std.specs.Prelude.{is_some, ◌==◌, if◌then◌else◌}
+use Rattle.std.specs.Prelude.{is_some, ◌==◌, if◌then◌else◌, bytes_eq, OnErr, OnOk, IfErr}
 use Rattle.std.specs.Option.{option_map_or}
 use Rattle.std.specs.Io.KnownBytes.{Consumes, Appends, IsAtEnd}
-use Rattle.clap.specs.Words.{Row, Text, first_of}
-use Rattle.age_chunk.specs.Payload.{chunk_count}
+use Rattle.clap.specs.Words.{Row, Text}
+use Rattle.clap.specs.Kinds.{Kinds, IsAmong}
+use Rattle.clap.specs.declared.error.kind.ErrorKind.TheVariants.{DisplayHelp, DisplayVersion}
+use Rattle.age_chunk.specs.Nonce.{chunk_limit}
+use Rattle.age_chunk.specs.Payload.{chunk_count, chunk_length}
 use Rattle.age_stream.specs.Headline.{IsPrefixOf}
 use Rattle.age_file.specs.OldTexts.{BeginsWith}
-use Rattle.age_file.specs.Resumes.{ResumePorts, IsFrom}
+use Rattle.age_file.specs.Resumes.{ResumePorts, resume_ports, IsFrom}
 use Rattle.age_file.specs.Ports.{Ports}
 use Rattle.age_file.specs.Runs.{Run, IsFromStart, held, IsRun, IsTexts, IsAuthenticRun}
+use Rattle.age_file.specs.declared.decryption.Stopped.{Stopped}
 use Rattle.age_file.specs.declared.position.Positions.{Positions}
 use Rattle.age_file.specs.declared.position.Position.{Position}
+use Rattle.age_fileset.specs.FileSet.{FilesView}
 use Rattle.age_fault.specs.declared.fault.FileFault.{FileFault}
+use Rattle.age_cli_args.specs.Asked.{Asks, refusals}
+use Rattle.age_cli_args.specs.Requests.{IsIdentityOptions, IsDecrypting, IsResuming, Requests, text_of}
+use Rattle.age_cli_args.specs.declared.request.IdentityOptions.{IdentityOptions}
+use Rattle.age_cli_args.specs.declared.request.Decrypting.{Decrypting}
+use Rattle.age_cli_args.specs.declared.request.Resuming.{Resuming}
+use Rattle.age_cli_args.specs.declared.request.Request.{Request}
+use Rattle.age_cli_args.specs.declared.request.Request.TheVariants.{Inspect, Encrypt, Decrypt, Resume, Drill}
+use Rattle.age_cli_args.proofs.Simple.{no_command}
 use Rattle.age_cli_common.specs.Files.{Files}
 use Rattle.age_cli_common.specs.declared.identity.Identity.{Identity}
-use Rattle.age_cli_common.specs.Identities.{allows_by, refuses_by}
-use Rattle.age_cli.specs.Rows.{DecryptsRows}
-use Rattle.age_cli.specs.Rows.{ResumesRows}
-use Rattle.age_cli.specs.Decryptions.{DecryptsOut}
-use Rattle.age_cli.specs.Resumptions.{ResumesOut, old_for}
-use Rattle.age_cli.specs.CommandStops.{OutStops, DecryptionStop, ResumptionStop, kept_for}
-use Rattle.age_cli.specs.Stops.{FailsToDecrypt, FailsToResume}
-use Rattle.age_cli.proofs.CommandStopSteps.{stop_wrote, resume_wrote}
-use Rattle.age_cli.specs.Headline.{IsRead, IsWritersInput, HoldsNoMore, KeepsOut, BeginsAt, IsWritersResumption}
+use Rattle.age_cli_common.specs.Identities.{Options, OpensBy, options_asked, allows_by, refuses_by}
 use Rattle.age_cli_common.specs.declared.ending.Ending.{Ending}
+use Rattle.age_cli.specs.Acts.{Acts, EndsBefore, OfEngine}
+use Rattle.age_cli.specs.Engines.{opening, resuming, Ran}
+use Rattle.age_cli.specs.Outputs.{IsLeft, IsUnclosed, Stops, Writes, kept_for}
+use Rattle.age_cli.specs.Outcomes.{by_result}
+use Rattle.age_cli.specs.Obeying.{Around, IsForHelp, IsRefusal, Obeys}
+use Rattle.age_cli.specs.Resumptions.{IsPositionIn, old_for}
+use Rattle.age_cli.proofs.CommandStopSteps.{stop_wrote, resume_wrote}
+use Rattle.age_cli.specs.Headline.{IsRead, IsWritersInput, KeepsOut, BeginsAt, IsWritersResumption}
 
 appended_nil : (b : Option (List ℕ)) (out : List ℕ) → Appends (Some []) b out → b ≡ Some out
 appended_nil None out p = absurd p
@@ -43,9 +56,9 @@ read_from (Some x) (Some y) bs t c = (y, ap Some c, λ e. e)
 is_read : (identity : Identity) (input : Option (List ℕ)) (before after : Ports) (written : ℕ) (r : Run) → input ≡ before.source.remaining → is_some input
     ≡ true
     → IsRun (allows_by identity) before after written r → IsRead identity input r
-is_read identity input before after written r coming told is =
+is_read identity input before after written r coming there is =
     let read = (r.file.header_bytes ++ r.file.nonce) ++ (r.skipped ++ r.bytes) in
-    let found = read_from before.source.remaining after.source.remaining read (ap is_some (sym coming) ∙ told) is.reads.read in
+    let found = read_from before.source.remaining after.source.remaining read (ap is_some (sym coming) ∙ there) is.reads.read in
     record {
       text = is.reads.text;
       opens = is.reads.opens;
@@ -56,63 +69,36 @@ is_read identity input before after written r coming told is =
       whole = λ ended. found.2 (is.at_end ended);
     }
 
+-- a file is as it was, or holds a beginning of the text
+abbrev HoldsNoMore : Option (List ℕ) → Option (List ℕ) → List ℕ → Type 0
+HoldsNoMore old new text = (new ≡ old) ⊎ ((bytes : List ℕ) × (new ≡ Some bytes) × IsPrefixOf bytes text)
+
 -- OUT where it is whole
-whole_out : (identity : Identity) (input new : Option (List ℕ)) (text : List ℕ) → is_some input ≡ true
-    → ((r : Run) → IsFromStart r → IsRead identity input r → IsAuthenticRun r text) → DecryptsOut identity input new → new ≡ Some text
-whole_out identity input new text told auth o =
-    let r = o.ends.0 in
-    let is = o.ends.2.wrote.is in
-    let read = is_read identity input o.before o.after o.done.written r o.coming told is in
-    let all : held r ≡ text = o.ends.2.all text (auth r o.ends.1 read) in
-    o.taken ∙ (appended o.before.sink.taken o.after.sink.taken (held r) o.empty is.wrote ∙ ap Some all)
+whole_out : (IsPorts : Ports → Type 0) (keep : Positions) (identity : Identity) (input new : Option (List ℕ)) (text : List ℕ) → is_some input ≡ true
+    → ((r : Run) → IsFromStart r → IsRead identity input r → IsAuthenticRun r text) → Ran IsPorts (opening keep identity).ends input new → new ≡ Some text
+whole_out IsPorts keep identity input new text there auth o =
+    let done = o.promise.0 in
+    let r = o.promise.1 in
+    let ends = o.promise.2 in
+    let is = ends.1.is in
+    let read = is_read identity input o.before o.after done.written r o.coming there is in
+    let all : held r ≡ text = ends.1.all text (auth r ends.0 read) in
+    o.took ∙ (appended o.before.sink.taken o.after.sink.taken (held r) o.empty is.wrote ∙ ap Some all)
 
 -- OUT where it stopped
 held_stop : (IsPorts : Ports → Type 0) (keep : Positions) (identity : Identity) (input old new : Option (List ℕ)) (position : Option Position)
     (fault : FileFault) (text : List ℕ)
     → is_some input ≡ true → ((r : Run) → IsFromStart r → IsRead identity input r → IsAuthenticRun r text)
-    → OutStops (DecryptionStop IsPorts keep identity input position fault) (DecryptsOut identity input) old new position fault
+    → IsLeft IsPorts (opening keep identity) position fault input old new ⊎ IsUnclosed IsPorts (opening keep identity) position fault input old new
     → HoldsNoMore old new text
-held_stop IsPorts keep identity input old new position fault text told auth (inl (written, taken, s, leaves)) =
-    let w = stop_wrote keep (allows_by identity) (refuses_by identity) s.before s.after written position fault s.fails in
-    let begins : IsPrefixOf w.0 text = w.2 text (λ r from is. auth r from (is_read identity input s.before s.after written r s.coming told is)) in
-    ⊎_elim (λ at. inr (w.0, at ∙ (s.took ∙ appended s.before.sink.taken s.after.sink.taken w.0 s.empty w.1.0), begins)) (λ same. inl same) leaves.held
-held_stop IsPorts keep identity input old new position fault text told auth (inr s) =
-    ⊎_elim (λ same. inl same) (λ whole. inr (text, whole_out identity input new text told auth whole, ([], append-nil text))) s.0
-
--- the name that stands there
-one_name : (a : Option Text) (x y : Text) → a ≡ Some x → a ≡ Some y → x ≡ y
-one_name a x y p q = ap (λ (o : Option Text). option_map_or (λ t. t) o []) (sym p ∙ q)
-
-pub kept_stop : (IsPorts : Ports → Type 0) (rows : List Row) (old new : Files) (e : Ending) (status : ℕ) (text : List ℕ) → (status ≡ 0 → ⊥)
-    → IsWritersInput rows old text
-    → FailsToDecrypt IsPorts rows old new e → KeepsOut rows old new status text
-kept_stop IsPorts rows old new e status text failed auth (inl same) = record {
-  safe = λ to is. inl (ap (λ f. f to) same.0);
-  whole = λ to is zero. absurd (failed zero);
-}
-kept_stop IsPorts rows old new e status text failed auth (inr s) =
-    let t = s.stops in
-    let here : HoldsNoMore (old s.to) (new s.to) text = held_stop IsPorts (kept_for (first_of (codes "save") rows)) t.identity (old s.from) (old s.to)
-    (new s.to) t.position t.fault text t.there
-    (auth s.from t.identity s.from_is t.opens) t.output in
-    record {
-      safe = λ to is. subst (λ (t : Text). HoldsNoMore (old t) (new t) text) (one_name (first_of (codes "OUT") rows) s.to to s.to_is is) here;
-      whole = λ to is zero. absurd (failed zero);
-    }
-
-pub kept_done : (rows : List Row) (old new : Files) (status : ℕ) (text : List ℕ) → IsWritersInput rows old text → DecryptsRows rows old new
-    → KeepsOut rows old new status text
-kept_done rows old new status text auth d =
-    let t = d.decrypts in
-    let holds : new d.to ≡ Some text = whole_out t.identity (old d.from) (new d.to) text t.there (auth d.from t.identity d.from_is t.opens) t.output in
-    record {
-      safe = λ to is. inr (
-        text,
-        subst (λ (t : Text). new t ≡ Some text) (one_name (first_of (codes "OUT") rows) d.to to d.to_is is) holds,
-        ([], append-nil text),
-      );
-      whole = λ to is zero. subst (λ (t : Text). new t ≡ Some text) (one_name (first_of (codes "OUT") rows) d.to to d.to_is is) holds;
-    }
+held_stop IsPorts keep identity input old new position fault text there auth (inl (taken, s, left)) =
+    let written = s.promise.0 in
+    let stopped : Stopped = record { fault = fault; written = written; position = position } in
+    let w = stop_wrote keep (allows_by identity) (refuses_by identity) s.before s.after stopped s.promise.1 s.promise.2 in
+    let begins : IsPrefixOf w.0 text = w.2 text (λ r from is. auth r from (is_read identity input s.before s.after written r s.coming there is)) in
+    ⊎_elim (λ same. inl same) (λ put. inr (w.0, put.0 ∙ (s.took ∙ appended s.before.sink.taken s.after.sink.taken w.0 s.empty w.1.0), begins)) left
+held_stop IsPorts keep identity input old new position fault text there auth (inr s) =
+    ⊎_elim (λ same. inl same) (λ whole. inr (text, whole_out IsPorts keep identity input new text there auth whole, ([], append-nil text))) s.0
 
 -- ---- of a decryption that goes on from a position
 
@@ -122,7 +108,7 @@ some_of (Some x) t = (x, refl)
 
 -- the file of `--old` begins with the chunks of the text before the position
 abbrev Fronts : ℕ → List ℕ → List ℕ → Type 0
-Fronts index text all = (index * 65536 ≤ length text) × IsPrefixOf (take (index * 65536) text) all
+Fronts index text all = (index * chunk_length ≤ length text) × IsPrefixOf (take (index * chunk_length) text) all
 
 either_same : (b : Bool) (x : Option (List ℕ)) → (if b then x else x) ≡ x
 either_same true x = refl
@@ -145,88 +131,242 @@ same_front : (n : ℕ) (a b x y : List ℕ) → length a ≡ n → length b ≡ 
 same_front n a b x y p q e = sym (take_at a x n p) ∙ (ap (take n) e ∙ take_at b y n q)
 
 -- what is so of the position, of the old text and of the input
-module _ (identity : Identity) (p : Position) (input old_text : Option (List ℕ)) (text : List ℕ) (told : is_some input ≡ true) (old_told : is_some old_text
+module _ (identity : Identity) (p : Position) (input old_text : Option (List ℕ)) (text : List ℕ) (there : is_some input ≡ true) (old_there : is_some old_text
     ≡ true)
-    (few : chunk_count 65536 text ≤ 281474976710656) (begins : (all : List ℕ) → old_text ≡ Some all → (p.index * 65536 ≤ length text)
-    × IsPrefixOf (take (p.index * 65536) text) all)
+    (few : chunk_count chunk_length text ≤ chunk_limit) (begins : (all : List ℕ) → old_text ≡ Some all → (p.index * chunk_length ≤ length text)
+    × IsPrefixOf (take (p.index * chunk_length) text) all)
     (auth : (r : Run) → BeginsAt p r → IsRead identity input r → IsTexts text r) where
   begins_with : (coming : Option (List ℕ)) → old_text ≡ coming → BeginsWith p coming text
   begins_with coming same =
-      let all = some_of old_text old_told in
+      let all = some_of old_text old_there in
       let h = begins all.0 all.1 in
-      record { all = all.0; told = sym same ∙ all.1; within = h.0; begins = h.1 }
+      record { all = all.0; shown = sym same ∙ all.1; within = h.0; begins = h.1 }
 
   authentic_run : (before after : ResumePorts) (written : ℕ) (r : Run) → input ≡ before.main.source.remaining → old_text ≡ before.old.remaining
       → IsFrom p before.old after.old r → IsRun (allows_by identity) before.main after.main written r → IsAuthenticRun r text
   authentic_run before after written r coming old_coming from is =
       let b = begins_with before.old.remaining old_coming in
-      let found = read_from before.old.remaining after.old.remaining (r.copied ++ from.more) (ap is_some (sym old_coming) ∙ old_told) from.old_read in
-      let whole : (r.copied ++ from.more) ++ found.0 ≡ b.all = ap (λ (o : Option (List ℕ)). option_map_or (λ t. t) o []) (sym found.1 ∙ b.told) in
-      let size : length (take (p.index * 65536) text) ≡ p.index * 65536 = omega (arith, length-take (p.index * 65536) text, b.within) in
-      let front = same_front (p.index * 65536) r.copied (take (p.index * 65536) text) (from.more ++ found.0) b.begins.0 from.old_text.size size
+      let found = read_from before.old.remaining after.old.remaining (r.copied ++ from.more) (ap is_some (sym old_coming) ∙ old_there) from.old_read in
+      let whole : (r.copied ++ from.more) ++ found.0 ≡ b.all = ap (λ (o : Option (List ℕ)). option_map_or (λ t. t) o []) (sym found.1 ∙ b.shown) in
+      let size : length (take (p.index * chunk_length) text) ≡ p.index * chunk_length = omega (arith, length-take (p.index * chunk_length) text, b.within) in
+      let front = same_front (p.index * chunk_length) r.copied (take (p.index * chunk_length) text) (from.more ++ found.0) b.begins.0 from.old_text.size size
       (sym (append_assoc r.copied from.more found.0) ∙ (whole ∙ sym b.begins.1)) in
       record {
         few = few;
         within = omega (arith, b.within, from.index);
-        old_text = front ∙ ap (λ (k : ℕ). take (k * 65536) text) (sym from.index);
+        old_text = front ∙ ap (λ (k : ℕ). take (k * chunk_length) text) (sym from.index);
         authentic = auth r (record { index = from.index; own = from.own; tagged = from.tagged })
-            (is_read identity input before.main after.main written r coming told is);
+            (is_read identity input before.main after.main written r coming there is);
       }
 
   -- OUT where it is whole
-  whole_resumed : (new : Option (List ℕ)) → ResumesOut identity p input old_text new → new ≡ Some text
-  whole_resumed new o =
-      let r = o.ends.0 in
-      let is = o.ends.2.wrote.is in
-      let all : held r ≡ text = o.ends.2.all text (authentic_run o.before o.after o.done.written r o.coming o.old_coming o.ends.1 is) in
-      o.taken ∙ (appended o.before.main.sink.taken o.after.main.sink.taken (held r) o.empty is.wrote ∙ ap Some all)
+  whole_resumed : (IsPorts : Ports → Type 0) (keep : Positions) (new : Option (List ℕ)) → Ran IsPorts (resuming IsPorts keep identity p old_text).ends input new
+      → new ≡ Some text
+  whole_resumed IsPorts keep new o =
+      let first = o.promise.0 in
+      let last = o.promise.1 in
+      let done = o.promise.5.0 in
+      let r = o.promise.5.1 in
+      let ends = o.promise.5.2 in
+      let is = ends.2.is in
+      let all : held r ≡ text = ends.2.all text
+      (authentic_run (resume_ports o.before first) (resume_ports o.after last) done.written r o.coming o.promise.4 ends.0 is) in
+      o.took ∙ (appended o.before.sink.taken o.after.sink.taken (held r) o.empty is.wrote ∙ ap Some all)
 
   -- OUT where it stopped
   resumed_stop : (IsPorts : Ports → Type 0) (keep : Positions) (old new : Option (List ℕ)) (position : Option Position) (fault : FileFault)
-      → OutStops (ResumptionStop IsPorts keep identity p input old_text position fault) (ResumesOut identity p input old_text) old new position fault
+      → IsLeft IsPorts (resuming IsPorts keep identity p old_text) position fault input old new
+      ⊎ IsUnclosed IsPorts (resuming IsPorts keep identity p old_text) position fault input old new
       → HoldsNoMore old new text
-  resumed_stop IsPorts keep old new position fault (inl (written, taken, s, leaves)) =
-      let w = resume_wrote keep (allows_by identity) p (refuses_by identity) s.before s.after written position fault s.fails in
-      let front : IsPrefixOf w.0 text = w.2 text (begins_with s.before.old.remaining s.old_coming) (λ r from is. authentic_run s.before s.after written
-      r s.coming s.old_coming from is) in
-      ⊎_elim (λ at. inr (w.0, at ∙ (s.took ∙ appended s.before.main.sink.taken s.after.main.sink.taken w.0 s.empty w.1.0), front)) (λ same. inl same)
-      leaves.held
+  resumed_stop IsPorts keep old new position fault (inl (taken, s, left)) =
+      let before = resume_ports s.before s.promise.0 in
+      let after = resume_ports s.after s.promise.1 in
+      let written = s.promise.5.0 in
+      let stopped : Stopped = record { fault = fault; written = written; position = position } in
+      let w = resume_wrote keep (allows_by identity) p (refuses_by identity) before after stopped s.promise.5.1 s.promise.5.2 in
+      let front : IsPrefixOf w.0 text = w.2 text (begins_with before.old.remaining s.promise.4) (λ r from is. authentic_run before after written
+      r s.coming s.promise.4 from is) in
+      ⊎_elim (λ same. inl same) (λ put. inr (w.0, put.0 ∙ (s.took ∙ appended s.before.sink.taken s.after.sink.taken w.0 s.empty w.1.0), front)) left
   resumed_stop IsPorts keep old new position fault (inr s) =
-      ⊎_elim (λ same. inl same) (λ whole. inr (text, whole_resumed new whole, ([], append-nil text))) s.0
+      ⊎_elim (λ same. inl same) (λ whole. inr (text, whole_resumed IsPorts keep new whole, ([], append-nil text))) s.0
 
-pub kept_resumption_stop : (IsPorts : Ports → Type 0) (rows : List Row) (old new : Files) (e : Ending) (status : ℕ) (text : List ℕ) → (status ≡ 0 → ⊥)
-    → IsWritersResumption rows old text
-    → FailsToResume IsPorts rows old new e → KeepsOut rows old new status text
-kept_resumption_stop IsPorts rows old new e status text failed auth (inl same) = record {
-  safe = λ to is. inl (ap (λ f. f to) same.0);
-  whole = λ to is zero. absurd (failed zero);
+-- ---- what the words ask for
+
+-- the words name one command, with these arguments
+one_name : (words : List Text) (name other : Text) (rows given : List Row) → Asks words name rows → Asks words other given → name ≡ other
+one_name words name other rows given a b =
+    ap (λ (o : Option (Text × List Row)). option_map_or (λ q. q.0) o []) (sym a.command ∙ b.command)
+
+one_command : (words : List Text) (name other : Text) (rows given : List Row) → Asks words name rows → Asks words other given → rows ≡ given
+one_command words name other rows given a b =
+    ap (λ (o : Option (Text × List Row)). option_map_or (λ q. q.1) o []) (sym a.command ∙ b.command)
+
+not_help : (words : List Text) → refusals words ≡ [] → IsForHelp words → ⊥
+not_help words taken (inl help) = subst (λ (ks : Kinds). IsAmong DisplayHelp ks) taken help
+not_help words taken (inr version) = subst (λ (ks : Kinds). IsAmong DisplayVersion ks) taken version
+
+same_text : (a b : Text) (o : Option Text) → Some a ≡ o → Some b ≡ o → a ≡ b
+same_text a b o p q = ap (λ (x : Option Text). option_map_or (λ t. t) x []) (p ∙ sym q)
+
+same_options : (rows : List Row) (u v : IdentityOptions) → IsIdentityOptions rows u → IsIdentityOptions rows v → options_asked u ≡ options_asked v
+same_options rows u v a b = rw (a.pass ∙ sym b.pass, a.file_key ∙ sym b.file_key, a.shared ∙ sym b.shared, a.max_log ∙ sym b.max_log) refl
+
+-- two requests that the same words make ask for the same
+pub record IsSame (d e : Decrypting) : Type 0 where
+  pub options : options_asked d.identity ≡ options_asked e.identity
+  pub from : d.from.now ≡ e.from.now
+  pub to : d.to.now ≡ e.to.now
+
+same_decrypting : (rows : List Row) (d e : Decrypting) → IsDecrypting rows d → IsDecrypting rows e → IsSame d e
+same_decrypting rows d e a b = record {
+  options = same_options rows d.identity e.identity a.identity b.identity;
+  from = same_text d.from.now e.from.now _ a.from b.from;
+  to = same_text d.to.now e.to.now _ a.to b.to;
 }
-kept_resumption_stop IsPorts rows old new e status text failed auth (inr s) =
-    let t = s.stops in
-    let here : HoldsNoMore (old s.to) (new s.to) text = resumed_stop t.identity t.from_position (old s.from)
-    (old_for t.from_position (old s.old_name)) text t.there t.old_there auth.few
-    (old_front t.from_position (old s.old_name) text
-    (λ all same. auth.old_text s.position_name t.from_position s.position_name_is t.position_is s.old_name all s.old_name_is same))
-    (auth.rest s.position_name t.from_position s.position_name_is t.position_is s.from t.identity s.from_is t.opens)
-    IsPorts (kept_for (first_of (codes "save") rows)) (old s.to) (new s.to) t.position t.fault t.output in
-    record {
-      safe = λ to is. subst (λ (t : Text). HoldsNoMore (old t) (new t) text) (one_name (first_of (codes "OUT") rows) s.to to s.to_is is) here;
-      whole = λ to is zero. absurd (failed zero);
-    }
 
-pub kept_resumption_done : (rows : List Row) (old new : Files) (status : ℕ) (text : List ℕ) → IsWritersResumption rows old text → ResumesRows rows old new
-    → KeepsOut rows old new status text
-kept_resumption_done rows old new status text auth d =
-    let t = d.resumes in
-    let holds : new d.to ≡ Some text = whole_resumed t.identity t.position (old d.from) (old_for t.position (old d.old_name)) text t.there t.old_there
-    auth.few (old_front t.position (old d.old_name) text
-    (λ all same. auth.old_text d.position_name t.position d.position_name_is t.position_is d.old_name all d.old_name_is same))
-    (auth.rest d.position_name t.position d.position_name_is t.position_is d.from t.identity d.from_is t.opens) (new d.to) t.output in
-    record {
-      safe = λ to is. inr (
-        text,
-        subst (λ (t : Text). new t ≡ Some text) (one_name (first_of (codes "OUT") rows) d.to to d.to_is is) holds,
-        ([], append-nil text),
-      );
-      whole = λ to is zero. subst (λ (t : Text). new t ≡ Some text) (one_name (first_of (codes "OUT") rows) d.to to d.to_is is) holds;
-    }
+-- a request is none of another command
+differs : (words : List Text) (a b name other : Text) (rows given : List Row) → Asks words name rows → Asks words other given → name ≡ a → other ≡ b
+    → bytes_eq a b ≡ false → bytes_eq b b ≡ true → ⊥
+differs words a b name other rows given x y p q apart same =
+    true≢false (sym same ∙ (ap (λ (n : Text). bytes_eq n b) (sym q ∙ (sym (one_name words name other rows given x y) ∙ p)) ∙ apart))
+
+only_decrypting : (words : List Text) (asked : Request) (d : Decrypting) → Requests words asked → Requests words (Decrypt d)
+    → (e : Decrypting) × (asked ≡ Decrypt e) × IsSame e d
+only_decrypting words (Decrypt e) d (name, rows, x, is) (other, given, y, of) =
+    (e, refl, same_decrypting given e d (subst (λ t. IsDecrypting t e) (one_command words name other rows given x y) is.1) of.1)
+only_decrypting words (Encrypt e) d (name, rows, x, is) (other, given, y, of) =
+    absurd (differs words (codes "encrypt") (codes "decrypt") name other rows given x y is.0 of.0 refl refl)
+only_decrypting words (Resume r) d (name, rows, x, is) (other, given, y, of) =
+    absurd (differs words (codes "resume") (codes "decrypt") name other rows given x y is.0 of.0 refl refl)
+only_decrypting words (Inspect f) d (name, rows, x, is) (other, given, y, of) =
+    absurd (differs words (codes "inspect") (codes "decrypt") name other rows given x y is.0 of.0 refl refl)
+only_decrypting words (Drill r) d (name, rows, x, is) (other, given, y, of) =
+    absurd (differs words (codes "drill") (codes "decrypt") name other rows given x y is.0 of.0 refl refl)
+
+-- and so of `resume`
+pub record IsSameResuming (r s : Resuming) : Type 0 where
+  pub decrypting : IsSame r.decrypting s.decrypting
+  pub position : r.position.now ≡ s.position.now
+  pub old : r.old.now ≡ s.old.now
+
+only_resuming : (words : List Text) (asked : Request) (r : Resuming) → Requests words asked → Requests words (Resume r)
+    → (s : Resuming) × (asked ≡ Resume s) × IsSameResuming s r
+only_resuming words (Resume s) r (name, rows, x, is) (other, given, y, of) =
+    let same = one_command words name other rows given x y in
+    let a = subst (λ t. IsResuming t s) same is.1 in
+    let b = of.1 in (
+      s,
+      refl,
+      record {
+        decrypting = same_decrypting given s.decrypting r.decrypting a.decrypting b.decrypting;
+        position = same_text s.position.now r.position.now _ a.position b.position;
+        old = same_text s.old.now r.old.now _ a.old b.old;
+      },
+    )
+only_resuming words (Decrypt e) r (name, rows, x, is) (other, given, y, of) =
+    absurd (differs words (codes "decrypt") (codes "resume") name other rows given x y is.0 of.0 refl refl)
+only_resuming words (Encrypt e) r (name, rows, x, is) (other, given, y, of) =
+    absurd (differs words (codes "encrypt") (codes "resume") name other rows given x y is.0 of.0 refl refl)
+only_resuming words (Inspect f) r (name, rows, x, is) (other, given, y, of) =
+    absurd (differs words (codes "inspect") (codes "resume") name other rows given x y is.0 of.0 refl refl)
+only_resuming words (Drill d) r (name, rows, x, is) (other, given, y, of) =
+    absurd (differs words (codes "drill") (codes "resume") name other rows given x y is.0 of.0 refl refl)
+
+-- ---- the headline
+
+kept_whole : (old new : Option (List ℕ)) (status : ℕ) (text : List ℕ) → new ≡ Some text → KeepsOut old new status text
+kept_whole old new status text whole = record { safe = inr (text, whole, ([], append-nil text)); whole = λ zero. whole }
+
+kept_stopped : (old new : Option (List ℕ)) (status : ℕ) (text : List ℕ) → (status ≡ 0 → ⊥) → HoldsNoMore old new text → KeepsOut old new status text
+kept_stopped old new status text failed safe = record { safe = safe; whole = λ zero. absurd (failed zero) }
+
+module _ (words : List Text) (shows : Bool) (IsPorts : Ports → Type 0) (before after : Around) (Unprinted Unshown : Type 0) (status : ℕ) (text : List ℕ)
+    (shown : shows ≡ true) where
+  abbrev pub old : Files
+  old = before.files.entries
+
+  abbrev pub new : Files
+  new = after.files.entries
+
+  -- with no request nothing differs, and with status 0 help was asked for
+  declined : (r : Result (Unit {0}) Ending) → OnErr r (status ≡ 0 → ⊥) → OnOk r (IsForHelp words) → refusals words ≡ [] → after.files ≡ before.files → (to : Text)
+      → KeepsOut (old to) (new to) status text
+  declined (Ok done) failed help taken same to = absurd (not_help words taken help)
+  declined (Err e) failed help taken same to = kept_stopped (old to) (new to) status text failed (inl (ap (λ (v : FilesView). v.entries to) same))
+
+  module _ (e : Decrypting) (auth : IsWritersInput e old text) where
+    decrypted : (r : Result (Unit {0}) Ending) → OnErr r (status ≡ 0 → ⊥)
+        → OnOk r (shows ≡ true → OfEngine IsPorts (Decrypt e) old (λ engine paths. Writes IsPorts engine paths old new))
+        → IfErr r (λ ending. ((new ≡ old) × EndsBefore (Decrypt e) ending)
+        ⊎ OfEngine IsPorts (Decrypt e) old (λ engine paths. Stops IsPorts engine paths old new ending))
+        → KeepsOut (old e.to.now) (new e.to.now) status text
+    decrypted (Ok done) failed wrote stopped =
+        let did = wrote shown in
+        kept_whole (old e.to.now) (new e.to.now) status text
+        (whole_out IsPorts (kept_for (text_of e.save)) did.0 (old e.from.now) (new e.to.now) text did.2.there (auth did.0 did.1) did.2.output)
+    decrypted (Err ending) failed wrote (inl same) =
+        kept_stopped (old e.to.now) (new e.to.now) status text failed (inl (ap (λ (f : Files). f e.to.now) same.0))
+    decrypted (Err ending) failed wrote (inr did) =
+        kept_stopped (old e.to.now) (new e.to.now) status text failed
+        (held_stop IsPorts (kept_for (text_of e.save)) did.0 (old e.from.now) (old e.to.now) (new e.to.now) did.2.position did.2.fault text did.2.there
+        (auth did.0 did.1) did.2.output)
+
+  -- of what is asked, whichever request was made of the words
+  pub headline_of : (r : Result (Unit {0}) Ending) → OnErr r (status ≡ 0 → ⊥)
+      → Obeys words shows IsPorts before after Unprinted Unshown (by_result IsRefusal r) → (d : Decrypting) → Requests words (Decrypt d)
+      → IsWritersInput d old text → KeepsOut (old d.to.now) (new d.to.now) status text
+  headline_of r failed (inl o) d (name, rows, asks, is) auth = absurd (no_command words name rows o.none asks)
+  headline_of r failed (inr (inr o)) d (name, rows, asks, is) auth = declined r failed o.done asks.taken o.untouched d.to.now
+  headline_of r failed (inr (inl o)) d made auth =
+      let only = only_decrypting words o.asked d o.made made in
+      let e = only.0 in
+      let same = only.2 in
+      let mine : IsWritersInput e old text = λ identity opens run from read.
+      auth identity (subst (λ (x : Options). OpensBy old x identity) same.options opens) run from (subst (λ (t : Text). IsRead identity (old t) run) same.from read) in
+      let acts = subst (λ (q : Request). Acts IsPorts shows q before.files after.files Unshown (by_result IsRefusal r)) only.1 o.acts in
+      subst (λ (t : Text). KeepsOut (old t) (new t) status text) same.to (decrypted e mine r failed acts.done (acts.stops shown))
+
+  module _ (s : Resuming) (auth : IsWritersResumption s old text) where
+    resumed : (r : Result (Unit {0}) Ending) → OnErr r (status ≡ 0 → ⊥)
+        → OnOk r (shows ≡ true → OfEngine IsPorts (Resume s) old (λ engine paths. Writes IsPorts engine paths old new))
+        → IfErr r (λ ending. ((new ≡ old) × EndsBefore (Resume s) ending)
+        ⊎ OfEngine IsPorts (Resume s) old (λ engine paths. Stops IsPorts engine paths old new ending))
+        → KeepsOut (old s.decrypting.to.now) (new s.decrypting.to.now) status text
+    resumed (Ok done) failed wrote stopped =
+        let d = s.decrypting in
+        let did = wrote shown in
+        let p = did.2 in
+        kept_whole (old d.to.now) (new d.to.now) status text
+        (whole_resumed did.0 p (old d.from.now) (old_for p (old s.old.now)) text did.5.there did.4 auth.few
+        (old_front p (old s.old.now) text (λ all same. auth.old_text p did.3 all same)) (auth.rest p did.3 did.0 did.1)
+        IsPorts (kept_for (text_of d.save)) (new d.to.now) did.5.output)
+    resumed (Err ending) failed wrote (inl same) =
+        kept_stopped (old s.decrypting.to.now) (new s.decrypting.to.now) status text failed (inl (ap (λ (f : Files). f s.decrypting.to.now) same.0))
+    resumed (Err ending) failed wrote (inr did) =
+        let d = s.decrypting in
+        let p = did.2 in
+        kept_stopped (old d.to.now) (new d.to.now) status text failed
+        (resumed_stop did.0 p (old d.from.now) (old_for p (old s.old.now)) text did.5.there did.4 auth.few
+        (old_front p (old s.old.now) text (λ all same. auth.old_text p did.3 all same)) (auth.rest p did.3 did.0 did.1)
+        IsPorts (kept_for (text_of d.save)) (old d.to.now) (new d.to.now) did.5.position did.5.fault did.5.output)
+
+  pub resumed_headline_of : (r : Result (Unit {0}) Ending) → OnErr r (status ≡ 0 → ⊥)
+      → Obeys words shows IsPorts before after Unprinted Unshown (by_result IsRefusal r) → (a : Resuming) → Requests words (Resume a)
+      → IsWritersResumption a old text → KeepsOut (old a.decrypting.to.now) (new a.decrypting.to.now) status text
+  resumed_headline_of r failed (inl o) a (name, rows, asks, is) auth = absurd (no_command words name rows o.none asks)
+  resumed_headline_of r failed (inr (inr o)) a (name, rows, asks, is) auth = declined r failed o.done asks.taken o.untouched a.decrypting.to.now
+  resumed_headline_of r failed (inr (inl o)) a made auth =
+      let only = only_resuming words o.asked a o.made made in
+      let s = only.0 in
+      let same = only.2 in
+      let d = same.decrypting in
+      let at : (p : Position) → IsPositionIn (old s.position.now) p → IsPositionIn (old a.position.now) p =
+      λ p is. subst (λ (t : Text). IsPositionIn (old t) p) same.position is in
+      let mine : IsWritersResumption s old text = record {
+        few = auth.few;
+        old_text = λ p is all held. auth.old_text p (at p is) all (subst (λ (t : Text). old t ≡ Some all) same.old held);
+        rest = λ p is identity opens run from read. auth.rest p (at p is) identity (subst (λ (x : Options). OpensBy old x identity) d.options opens) run from
+            (subst (λ (t : Text). IsRead identity (old t) run) d.from read);
+      } in
+      let acts = subst (λ (q : Request). Acts IsPorts shows q before.files after.files Unshown (by_result IsRefusal r)) only.1 o.acts in
+      subst (λ (t : Text). KeepsOut (old t) (new t) status text) d.to (resumed s mine r failed acts.done (acts.stops shown))

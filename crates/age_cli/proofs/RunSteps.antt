@@ -1,35 +1,58 @@
 -- A run keeps what the part that obeys the words does, whatever says how that ended.
-use Rattle.std.proofs.Common.{List, Bool}
+use Rattle.std.proofs.Common.{inl, inr, List, Bool}
 use Rattle.clap.specs.Words.{Text}
 use Rattle.age_file.specs.Ports.{Ports}
+use Rattle.age_fileset.specs.FileSet.{FilesView}
+use Rattle.age_cli_args.specs.declared.request.Request.{Request}
+use Rattle.age_cli_args.specs.declared.request.Request.TheVariants.{Inspect, Drill, Encrypt, Decrypt, Resume}
 use Rattle.age_cli_common.specs.declared.ending.Ending.{Ending}
-use Rattle.age_cli.specs.Obeying.{Around, Obeys}
+use Rattle.age_cli.specs.Acts.{Acts}
+use Rattle.age_cli.specs.Obeying.{Around, Answers, Obeys}
+use Rattle.age_cli.specs.Outcomes.{Outcome}
 
-pub obeys_so : (words : List Text) (shows : Bool) (IsPorts : Ports → Type 0) (before after : Around) (Unprinted Silent : Type 0)
-    (Done Refused : Type 0 → Type 0) (Stopped : (Ending → Type 0) → Type 0) (Done2 Refused2 : Type 0 → Type 0) (Stopped2 : (Ending → Type 0) → Type 0)
-    → ((P : Type 0) → Done P → Done2 P) → ((P : Type 0) → Refused P → Refused2 P) → ((Ends : Ending → Type 0) → Stopped Ends → Stopped2 Ends)
-    → Obeys words shows IsPorts before after Unprinted Silent Done Refused Stopped
-    → Obeys words shows IsPorts before after Unprinted Silent Done2 Refused2 Stopped2
-obeys_so words shows IsPorts before after Unprinted Silent Done Refused Stopped Done2 Refused2 Stopped2 done usage stopped o = record {
-  served = done _ o.served;
-  report = λ none. done _ (o.report none);
-  inspects = λ rows asks. done _ (o.inspects rows asks);
-  encrypts = λ rows asks. done _ (o.encrypts rows asks);
-  decrypts = λ rows asks. done _ (o.decrypts rows asks);
-  resumes = λ rows asks. done _ (o.resumes rows asks);
-  spares = o.spares;
-  usage = usage _ o.usage;
-  refused = o.refused;
-  encrypts_stop = λ rows asks shown. stopped _ (o.encrypts_stop rows asks shown);
-  decrypts_stop = λ rows asks shown. stopped _ (o.decrypts_stop rows asks shown);
-  resumes_stop = λ rows asks shown. stopped _ (o.resumes_stop rows asks shown);
-  apart = λ name rows asks twice. let no = o.apart name rows asks twice in (no.0, done _ no.1, stopped _ no.2);
-  drills = λ rows asks both. let no = o.drills rows asks both in (no.0, done _ no.1, stopped _ no.2);
-  touches = o.touches;
-  finished = λ name rows asks. done _ (o.finished name rows asks);
-  judged = λ name rows asks. usage _ (o.judged name rows asks);
-  judged_shown = λ name rows asks shown. usage _ (o.judged_shown name rows asks shown);
-  untouched = o.untouched;
-  unprinted = o.unprinted;
-  silent = o.silent;
+-- what is so by one way of saying how it ended is so by another
+pub record Implies (how other : Outcome) : Type 1 where
+  pub done : (P : Type 0) → how.if_done P → other.if_done P
+  pub refused : (P : Type 0) → how.if_refused P → other.if_refused P
+  pub stopped : (Ends : Ending → Type 0) → how.if_stopped Ends → other.if_stopped Ends
+  pub declined : how.is_refused → other.is_refused
+
+pub acts_so : (IsPorts : Ports → Type 0) (shows : Bool) (asked : Request) (before after : FilesView) (Unshown : Type 0) (how other : Outcome)
+    → Implies how other → Acts IsPorts shows asked before after Unshown how → Acts IsPorts shows asked before after Unshown other
+acts_so IsPorts shows asked before after Unshown how other i a = record {
+  done = i.done _ a.done;
+  stops = λ shown. i.stopped _ (a.stops shown);
+  usage = i.refused _ a.usage;
+  spares = a.spares;
+  order = a.order;
+  order_done = i.done _ a.order_done;
+  order_usage = i.refused _ a.order_usage;
+  order_shown = λ shown. i.refused _ (a.order_shown shown);
+  apart = λ twice. let no = a.apart twice in (no.0, i.declined no.1);
+  silent = a.silent;
 }
+
+module _ (words : List Text) (shows : Bool) (IsPorts : Ports → Type 0) (before after : Around) (Unprinted Unshown : Type 0) (how other : Outcome) where
+  answers_so : Implies how other → (asked : Request) → Answers words shows IsPorts before after Unprinted Unshown how asked
+      → Answers words shows IsPorts before after Unprinted Unshown other asked
+  answers_so i (Inspect file) a = i.done _ a
+  answers_so i (Drill d) a = λ both. let no = a both in (no.0, i.declined no.1)
+  answers_so i (Encrypt e) a = a
+  answers_so i (Decrypt d) a = a
+  answers_so i (Resume r) a = a
+
+  pub obeys_so : Implies how other → Obeys words shows IsPorts before after Unprinted Unshown how → Obeys words shows IsPorts before after Unprinted Unshown other
+  obeys_so i (inl o) = inl (record { none = o.none; report = i.done _ o.report; untouched = o.untouched; silent = o.silent })
+  obeys_so i (inr (inl o)) = inr (inl (record {
+    asked = o.asked;
+    made = o.made;
+    acts = acts_so IsPorts shows o.asked before.files after.files Unshown how other i o.acts;
+    answers = answers_so i o.asked o.answers;
+  }))
+  obeys_so i (inr (inr o)) = inr (inr (record {
+    done = i.done _ o.done;
+    refused = λ no. i.declined (o.refused no);
+    untouched = o.untouched;
+    unprinted = o.unprinted;
+    silent = o.silent;
+  }))

@@ -19,16 +19,16 @@ Reports input_old input_new output_old output_new =
 abbrev pub IsReportOf : Option (List ℕ) → Report → Type 0
 IsReportOf held r = (bytes : List ℕ) × (held ≡ Some bytes) × IsReport bytes r
 
--- a report was written, that of the file, where the files are told
+-- a report was written, that of the file, where contracts see the files
 abbrev pub ReportsFile : Bool → Option (List ℕ) → Option (List ℕ) → Option (List ℕ) → Type 0
-ReportsFile tells held output_old output_new =
-    (r : Report) × (tells ≡ true → IsReportOf held r)
+ReportsFile shows held output_old output_new =
+    (r : Report) × (shows ≡ true → IsReportOf held r)
     × Appends output_old output_new (report_text r)
 
 -- the report of the input, or of the file of this name
 abbrev pub Inspects : Option Text → Bool → Files → Option (List ℕ) → Option (List ℕ)
     → Option (List ℕ) → Option (List ℕ) → Type 0
-Inspects None tells entry input_old input_new output_old output_new =
+Inspects None shows files input_old input_new output_old output_new =
     Reports input_old input_new output_old output_new
-Inspects (Some name) tells entry input_old input_new output_old output_new =
-    ReportsFile tells (entry name) output_old output_new
+Inspects (Some name) shows files input_old input_new output_old output_new =
+    ReportsFile shows (files name) output_old output_new

@@ -1,13 +1,11 @@
 pub mod Encryptions
-pub mod Decryptions
 pub mod Resumptions
-pub mod CommandStops
-pub mod Endings
+pub mod Engines
+pub mod Outputs
+pub mod Outcomes
 pub mod ReportTexts
 pub mod Inspections
-pub mod Rows
-pub mod Orders
-pub mod Stops
+pub mod Acts
 pub mod Headline
 pub mod Obeying
 pub mod Runs

@@ -1,4 +1,4 @@
-pub mod Files
-pub mod Ports
-pub mod Randoms
 pub mod Endings
+pub mod Openings
+pub mod Files
+pub mod Randoms

@@ -12,17 +12,17 @@
 //! contract says, whether it succeeds or stops. An `Ending` says why it did not succeed.
 #![tactic(auto)]
 
-mod decryption;
-mod encryption;
-mod inspection;
+mod decrypt_command;
+mod encrypt_command;
+mod inspect_command;
 mod output;
 mod print;
 mod program;
-mod resumption;
+mod resume_command;
 mod stop;
 
 pub use age_fileset::{CreateFault, FileSet, MemFiles};
-pub use decryption::decrypt_file;
-pub use encryption::encrypt_file;
+pub use decrypt_command::decrypt_file;
+pub use encrypt_command::encrypt_file;
 pub use program::run;
-pub use resumption::resume_file;
+pub use resume_command::resume_file;

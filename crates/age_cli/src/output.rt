@@ -1,22 +1,24 @@
-//! How the output of a command is opened, and how it is left where the command stops.
+//! How the input and the output of a command are opened, and how the output is ended.
 
-ghost use Rattle.std.specs.Prelude.{◌≡◌, ◌≢◌, ℕ, [], ◌∷◌, ◌++◌, List, Some, true};
-ghost use Rattle.std.specs.Prelude.{false, is_some, IfOk, IfErr, OnOk, OnErr};
+ghost use Rattle.std.specs.Prelude.{◌≡◌, ◌⊎◌, [], ◌∷◌, ◌++◌, Some, true, false, is_some, IfErr};
 ghost use Rattle.age_cli_common.specs.Endings.{EndsEarly, is_usage};
 ghost use Rattle.age_fileset.specs.Events.{Opened, Created, Closed};
 ghost use Rattle.age_cli_args.specs.Requests.{text_of};
-ghost use Rattle.age_cli_common.specs.EventOrders.{Follows, preparing, making};
-ghost use Rattle.age_cli.specs.CommandStops.{Leaves};
+ghost use Rattle.age_cli_common.specs.EventOrders.{preparing, making};
+ghost use Rattle.age_cli_common.specs.Files.{SparesBut};
+ghost use Rattle.age_cli.specs.inner.Endings.{Concludes, EndsOut};
+ghost use Rattle.age_cli.specs.inner.Openings.{Opens};
 
-use age_cli_args::Progress;
+use crate::stop::{Stop, end_of};
+use age_cli_args::ProgressOption;
 use age_cli_common::{Ending, Usage};
 use age_fileset::FileSet;
-use age_io::Durability;
+use age_io::{Durability, Meter, Metered};
 use std::alloc::Global;
 
 /// What a command is to write.
 #[derive(Clone, Copy)]
-pub(crate) struct Outputs<'a> {
+pub(crate) struct Output<'a> {
     /// The output.
     pub(crate) to: &'a str,
     /// Where its position goes if it stops.
@@ -26,16 +28,16 @@ pub(crate) struct Outputs<'a> {
     /// When what was written reaches the disk.
     pub(crate) durability: Durability,
     /// Whether progress is shown, on standard error.
-    pub(crate) progress: Progress,
+    pub(crate) progress: ProgressOption,
 }
 
 /// Whether progress would go to the output.
-fn shows_progress_in<F: FileSet>(files: &F, out: &F::Out, progress: Progress) -> bool
-    ensures told { F.tells files.now ≡ true → result ≡ false }
+fn shows_progress_in<F: FileSet>(files: &F, out: &F::Out, progress: ProgressOption) -> bool
+    ensures { F.shows_bytes ≡ true → result ≡ false }
 {
     match progress {
-        Progress::Shown => files.is_for_faults(out),
-        Progress::Silent => false,
+        ProgressOption::Shown => files.is_for_faults(out),
+        ProgressOption::Silent => false,
     }
 }
 
@@ -44,18 +46,12 @@ fn shows_progress_in<F: FileSet>(files: &F, out: &F::Out, progress: Progress) ->
 fn create_out<F: FileSet>(
     alloc: Global,
     files: &mut F,
-    asked: &Outputs<'_>,
+    asked: &Output<'_>,
 ) -> Result<F::Out, Ending>
-    ensures told { F.tells files.new ≡ F.tells files.old }
-    ensures kept { F.entry files.new ≡ F.entry files.old }
-    ensures made { IfOk result (λ o. F.tells files.old ≡ true
-        → ((F.Out.view o).taken ≡ Some []) × ((F.Out.view o).label ≡ asked.now.to.now)) }
-    ensures noted { OnOk result
-        (F.events files.new ≡ F.events files.old ++ Created asked.now.to.now ∷ []) }
-    ensures noted_err { OnErr result (Follows (making (Some asked.now.to.now) asked.now.durability)
-        (F.events files.old) (F.events files.new)) }
-    ensures early { IfErr result EndsEarly }
-    ensures usage { F.tells files.old ≡ true → IfErr result (λ e. is_usage e ≡ false) }
+    ensures { Opens (F.shows_bytes) (Created asked.now.to.now ∷ [])
+        (making (Some asked.now.to.now) asked.now.durability) (F.view files.old)
+        (F.view files.new) (λ o. ((F.Out.view o).taken ≡ Some [])
+        × ((F.Out.view o).label ≡ asked.now.to.now)) result }
 {
     let out = files.create(alloc, asked.to)?;
     if shows_progress_in(files, &out, asked.progress) {
@@ -67,39 +63,17 @@ fn create_out<F: FileSet>(
 
 /// Prepares the file of `save`, if there is one, unless it turns out to be a file that is read,
 /// other than that of the position.
-fn prepare_save<F: FileSet>(alloc: Global, files: &mut F, asked: &Outputs<'_>) -> Result<(), Ending>
-    ensures told { F.tells files.new ≡ F.tells files.old }
-    ensures kept { F.entry files.new ≡ F.entry files.old }
-    ensures noted { F.events files.new ≡ F.events files.old ++ preparing (text_of asked.now.save) }
+fn prepare_save<F: FileSet>(alloc: Global, files: &mut F, asked: &Output<'_>) -> Result<(), Ending>
+    ensures kept { (F.view files.new).entries ≡ (F.view files.old).entries }
+    ensures noted { (F.view files.new).events
+        ≡ (F.view files.old).events ++ preparing (text_of asked.now.save) }
     ensures early { IfErr result EndsEarly }
-    ensures usage { F.tells files.old ≡ true → IfErr result (λ e. is_usage e ≡ false) }
+    ensures fault { F.shows_bytes ≡ true → IfErr result (λ e. is_usage e ≡ false) }
 {
     match asked.save {
         Some(save) => Ok(files.prepare(alloc, save, asked.position)?),
         None => Ok(()),
     }
-}
-
-/// Prepares the file of `save`, and then opens the output.
-fn make_outputs<F: FileSet>(
-    alloc: Global,
-    files: &mut F,
-    asked: &Outputs<'_>,
-) -> Result<F::Out, Ending>
-    ensures told { F.tells files.new ≡ F.tells files.old }
-    ensures kept { F.entry files.new ≡ F.entry files.old }
-    ensures made { IfOk result (λ o. F.tells files.old ≡ true
-        → ((F.Out.view o).taken ≡ Some []) × ((F.Out.view o).label ≡ asked.now.to.now)) }
-    ensures noted { OnOk result (F.events files.new ≡ F.events files.old
-        ++ (preparing (text_of asked.now.save) ++ Created asked.now.to.now ∷ [])) }
-    ensures noted_err { OnErr result (Follows (preparing (text_of asked.now.save)
-        ++ making (Some asked.now.to.now) asked.now.durability)
-        (F.events files.old) (F.events files.new)) }
-    ensures early { IfErr result EndsEarly }
-    ensures usage { F.tells files.old ≡ true → IfErr result (λ e. is_usage e ≡ false) }
-{
-    prepare_save(alloc, files, asked)?;
-    create_out(alloc, files, asked)
 }
 
 /// Opens the input, and then what is to be written, unless that turns out to be a file that is
@@ -108,43 +82,90 @@ pub(crate) fn open_both<F: FileSet>(
     alloc: Global,
     files: &mut F,
     from: &str,
-    asked: &Outputs<'_>,
+    asked: &Output<'_>,
 ) -> Result<(F::In, F::Out), Ending>
-    ensures told { F.tells files.new ≡ F.tells files.old }
-    ensures kept { F.entry files.new ≡ F.entry files.old }
-    ensures found { IfOk result (λ both. F.tells files.old ≡ true
-        → (is_some (F.entry files.old from.now) ≡ true)
-        × ((F.In.view both.0).remaining ≡ F.entry files.old from.now)) }
-    ensures made { IfOk result (λ both. F.tells files.old ≡ true
-        → ((F.Out.view both.1).taken ≡ Some [])
-        × ((F.Out.view both.1).label ≡ asked.now.to.now)) }
-    ensures noted { OnOk result (F.events files.new ≡ F.events files.old ++ Opened from.now
-        ∷ (preparing (text_of asked.now.save) ++ Created asked.now.to.now ∷ [])) }
-    ensures noted_err { OnErr result (Follows (Opened from.now ∷ (preparing (text_of asked.now.save)
+    ensures { Opens (F.shows_bytes)
+        (Opened from.now ∷ (preparing (text_of asked.now.save) ++ Created asked.now.to.now ∷ []))
+        (Opened from.now ∷ (preparing (text_of asked.now.save)
         ++ making (Some asked.now.to.now) asked.now.durability))
-        (F.events files.old) (F.events files.new)) }
-    ensures early { IfErr result EndsEarly }
-    ensures usage { F.tells files.old ≡ true → IfErr result (λ e. is_usage e ≡ false) }
+        (F.view files.old) (F.view files.new)
+        (λ both. (is_some ((F.view files.old).entries from.now) ≡ true)
+        × ((F.In.view both.0).remaining ≡ (F.view files.old).entries from.now)
+        × ((F.Out.view both.1).taken ≡ Some [])
+        × ((F.Out.view both.1).label ≡ asked.now.to.now)) result }
 {
     let source = files.open(alloc, from)?;
-    let out = make_outputs(alloc, files, asked)?;
+    prepare_save(alloc, files, asked)?;
+    let out = create_out(alloc, files, asked)?;
     Ok((source, out))
 }
 
-/// Ends the output of a run that stopped: with what was written, or as it was, where nothing was.
-pub(crate) fn leave<F: FileSet>(files: &mut F, out: F::Out, written: u128, durability: Durability)
-    ensures told { F.tells files.new ≡ F.tells files.old }
-    ensures held { F.tells files.old ≡ true → (written ≡ 0 → (F.Out.view out).taken ≡ Some [])
-        → Leaves (written ≡ 0) (F.Out.view out).taken (F.entry files.old (F.Out.view out).label)
-        (F.entry files.new (F.Out.view out).label) }
-    ensures others { (q : List ℕ) → q ≢ (F.Out.view out).label
-        → F.entry files.new q ≡ F.entry files.old q }
-    ensures noted { F.events files.new ≡ F.events files.old ++ Closed durability ∷ [] }
+/// An input of which a meter is shown the length, where the set of files can say it, and then how
+/// much is read.
+pub(crate) fn with_meter<F: FileSet, M: Meter>(
+    files: &F,
+    source: F::In,
+    mut meter: M,
+) -> Metered<F::In, M>
+    ensures { result.source ≡ source }
 {
-    let wrote_nothing = written == 0;
-    if wrote_nothing {
+    meter.begin(files.length(&source));
+    Metered::new(source, meter)
+}
+
+/// Ends the output where the engine stopped: with what was written, or as it was.
+fn leave<F: FileSet>(files: &mut F, out: F::Out, is_untouched: bool, durability: Durability)
+    ensures untouched { F.shows_bytes ≡ true → is_untouched ≡ true
+        → (F.Out.view out).taken ≡ Some []
+        → (F.view files.new).entries ≡ (F.view files.old).entries }
+    ensures written { F.shows_bytes ≡ true → is_untouched ≡ false
+        → ((F.view files.new).entries ≡ (F.view files.old).entries)
+        ⊎ ((F.view files.new).entries (F.Out.view out).label ≡ (F.Out.view out).taken) }
+    ensures others { SparesBut (F.Out.view out).label (F.view files.old).entries
+        (F.view files.new).entries }
+    ensures noted { (F.view files.new).events
+        ≡ (F.view files.old).events ++ Closed durability ∷ [] }
+{
+    if is_untouched {
         files.discard(out, durability);
     } else {
+        // What stopped the engine is reported, and not that its output can't be closed either.
         let _ = files.close(out, durability);
+    }
+}
+
+/// Ends the output once the engine returned: whole, or as its stop leaves it.
+fn end_out<F: FileSet>(
+    files: &mut F,
+    out: F::Out,
+    durability: Durability,
+    engine: Result<(), Stop>,
+) -> Result<(), Stop>
+    ensures { EndsOut (F.shows_bytes) durability (F.Out.view out) engine (F.view files.old)
+        (F.view files.new) result }
+{
+    match engine {
+        Ok(()) => Ok(files.close(out, durability)?),
+        Err(stop) => {
+            leave(files, out, stop.is_untouched, durability);
+            Err(stop)
+        }
+    }
+}
+
+/// Ends the output once the engine returned, and saves the position of a stop.
+pub(crate) fn conclude<F: FileSet>(
+    alloc: Global,
+    files: &mut F,
+    out: F::Out,
+    asked: &Output<'_>,
+    engine: Result<(), Stop>,
+) -> Result<(), Ending>
+    ensures { Concludes (F.shows_bytes) (text_of asked.now.save) asked.now.durability
+        (F.Out.view out) engine (F.view files.old) (F.view files.new) result }
+{
+    match end_out(files, out, asked.durability, engine) {
+        Ok(()) => Ok(()),
+        Err(stop) => Err(end_of(alloc, files, asked.save, stop, asked.durability)),
     }
 }

@@ -1,22 +1,21 @@
 //! The program, over arguments, files, a source and sinks.
 
-ghost use Rattle.std.specs.Prelude.{◌≡◌, List, IfErr, IsOk};
-ghost use Rattle.clap.specs.Words.{Text, kind_of};
+ghost use Rattle.std.specs.Prelude.{◌≡◌, IfErr, IsOk};
+ghost use Rattle.clap.specs.Words.{kind_of};
 ghost use Rattle.clap.specs.Walk.{texts};
-ghost use Rattle.age_cli_args.specs.Requests.{Requests};
 ghost use Rattle.age_cli_common.specs.Endings.{EndsEarly};
-ghost use Rattle.age_cli.specs.CommandStops.{PortsOf};
-ghost use Rattle.age_cli.specs.Endings.{status_of};
-ghost use Rattle.age_cli.specs.Obeying.{around, IsRefusal};
+ghost use Rattle.age_cli.specs.Engines.{PortsOf};
+ghost use Rattle.age_cli.specs.Obeying.{around, IsRefusal, Obeys};
+ghost use Rattle.age_cli.specs.Outcomes.{by_result, status_of};
 ghost use Rattle.age_cli.specs.Runs.{Runs};
-ghost use Rattle.age_cli.specs.inner.Endings.{IsForOutput, Obeyed};
+ghost use Rattle.age_cli.specs.inner.Endings.{IsForOutput};
 
-use crate::decryption::decrypt_file;
-use crate::encryption::encrypt_file;
-use crate::inspection::{report, report_file};
-use crate::resumption::resume_file;
+use crate::decrypt_command::decrypt_file;
+use crate::encrypt_command::encrypt_file;
+use crate::inspect_command::{report, report_file};
+use crate::resume_command::resume_file;
 use age_cli_args::{Request, read_request};
-use age_cli_common::{Ending, Usage, tell};
+use age_cli_common::{Ending, Usage, report_ending};
 use age_drill::drill_file;
 use age_file::{FileFault, Sink, Source, flush_all, write_all};
 use age_fileset::FileSet;
@@ -47,33 +46,7 @@ fn answer_refusal<O: Sink>(alloc: Global, error: Error, output: &mut O) -> Resul
     Ok(())
 }
 
-/// Carries out what the words ask for.
-fn carry_out<F: FileSet, I: Source, O: Sink, P: Meter>(
-    alloc: Global,
-    request: &Request,
-    files: &mut F,
-    input: &mut I,
-    output: &mut O,
-    progress: &mut P,
-) -> Result<(), Ending>
-    ensures { (words : List Text) → Requests words request.now
-        → Obeyed words (F.tells files.old) (PortsOf F.In.view F.Out.view)
-        (around (F.entry files.old) (F.events files.old) (I.view input.old).remaining
-        (O.view output.old).taken)
-        (around (F.entry files.new) (F.events files.new) (I.view input.new).remaining
-        (O.view output.new).taken) (output.new ≡ output.old) (progress.new ≡ progress.old) result }
-{
-    match request {
-        Request::Inspect(Some(name)) => report_file(alloc, files, name, output),
-        Request::Inspect(None) => report(alloc, input, output),
-        Request::Encrypt(asked) => encrypt_file(alloc, files, asked, progress),
-        Request::Decrypt(asked) => decrypt_file(alloc, files, asked, progress),
-        Request::Resume(asked) => resume_file(alloc, files, asked, progress),
-        Request::Drill(asked) => drill_file(alloc, files, asked, output),
-    }
-}
-
-/// Runs the command.
+/// Does what the words ask for.
 fn obey<F: FileSet, I: Source, O: Sink, P: Meter>(
     alloc: Global,
     words: &[&str],
@@ -82,19 +55,26 @@ fn obey<F: FileSet, I: Source, O: Sink, P: Meter>(
     output: &mut O,
     progress: &mut P,
 ) -> Result<(), Ending>
-    ensures { Obeyed (texts words.now) (F.tells files.old) (PortsOf F.In.view F.Out.view)
-        (around (F.entry files.old) (F.events files.old) (I.view input.old).remaining
-        (O.view output.old).taken)
-        (around (F.entry files.new) (F.events files.new) (I.view input.new).remaining
-        (O.view output.new).taken) (output.new ≡ output.old) (progress.new ≡ progress.old) result }
+    ensures { Obeys (texts words.now) (F.shows_bytes) (PortsOf F.In.view F.Out.view)
+        (around (F.view files.old) (I.view input.old).remaining (O.view output.old).taken)
+        (around (F.view files.new) (I.view input.new).remaining (O.view output.new).taken)
+        (output.new ≡ output.old) (progress.new ≡ progress.old) (by_result IsRefusal result) }
 {
     if words.is_empty() {
         return report(alloc, input, output);
     }
-    match read_request(alloc, words) {
-        Ok(Some(request)) => carry_out(alloc, &request, files, input, output, progress),
-        Ok(None) => Err(Ending::Usage(Usage::Unread)),
-        Err(error) => answer_refusal(alloc, error, output),
+    let request = match read_request(alloc, words) {
+        Ok(Some(request)) => request,
+        Ok(None) => return Err(Ending::Usage(Usage::Unread)),
+        Err(error) => return answer_refusal(alloc, error, output),
+    };
+    match &request {
+        Request::Inspect(Some(name)) => report_file(alloc, files, name, output),
+        Request::Inspect(None) => report(alloc, input, output),
+        Request::Encrypt(asked) => encrypt_file(alloc, files, asked, progress),
+        Request::Decrypt(asked) => decrypt_file(alloc, files, asked, progress),
+        Request::Resume(asked) => resume_file(alloc, files, asked, progress),
+        Request::Drill(asked) => drill_file(alloc, files, asked, output),
     }
 }
 
@@ -117,7 +97,7 @@ fn status(ending: &Ending) -> u8
 /// `drill` delivers the payload of IN by a script, and writes a line for each line of it. Help that
 /// is asked for goes to the output, with status 0.
 ///
-/// With `--progress`, `progress` is told how many bytes IN has, where the set of files can say so,
+/// With `--progress`, `progress` is shown how many bytes IN has, where the set of files can say so,
 /// and how many of them each pull gave, and then that the reading is over, before a fault is
 /// reported.
 pub fn run<F: FileSet, I: Source, O: Sink, E: Sink, P: Meter>(
@@ -129,17 +109,16 @@ pub fn run<F: FileSet, I: Source, O: Sink, E: Sink, P: Meter>(
     faults: &mut E,
     progress: &mut P,
 ) -> u8
-    ensures { Runs (texts words.now) (F.tells files.old) (PortsOf F.In.view F.Out.view)
-        (around (F.entry files.old) (F.events files.old) (I.view input.old).remaining
-        (O.view output.old).taken)
-        (around (F.entry files.new) (F.events files.new) (I.view input.new).remaining
-        (O.view output.new).taken) (E.view faults.old) (E.view faults.new)
-        (faults.new ≡ faults.old) (output.new ≡ output.old) (progress.new ≡ progress.old) result }
+    ensures { Runs (texts words.now) (F.shows_bytes) (PortsOf F.In.view F.Out.view)
+        (around (F.view files.old) (I.view input.old).remaining (O.view output.old).taken)
+        (around (F.view files.new) (I.view input.new).remaining (O.view output.new).taken)
+        (E.view faults.old) (E.view faults.new) (faults.new ≡ faults.old)
+        (output.new ≡ output.old) (progress.new ≡ progress.old) result }
 {
     match obey(alloc, words, files, input, output, progress) {
         Ok(()) => 0,
         Err(ending) => {
-            tell(faults, &ending);
+            report_ending(faults, &ending);
             status(&ending)
         }
     }

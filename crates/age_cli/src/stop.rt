@@ -3,43 +3,73 @@
 ghost use Rattle.std.specs.Prelude.{◌≡◌, true, false, None, OnOk, IfErr};
 ghost use Rattle.age_cli_args.specs.Requests.{text_of};
 ghost use Rattle.age_cli_common.specs.Endings.{is_usage};
-ghost use Rattle.age_cli.specs.CommandStops.{SaveFails, EndsOf};
+ghost use Rattle.age_cli.specs.Outputs.{SaveFails, EndsOf};
 ghost use Rattle.age_cli_common.specs.EventOrders.{Follows, replacing};
 ghost use Rattle.age_cli_common.specs.Files.{SparesBoth};
+ghost use Rattle.age_cli.specs.inner.Endings.{is_memory, sealing_end, opening_end};
 ghost use Rattle.age_cli.specs.inner.Files.{Saves};
 
 use age_cli_common::Ending;
-use age_file::{FileFault, Position, Stopped};
+use age_file::{Done, FileFault, Position, Stopped, Written};
 use age_fileset::FileSet;
 use age_io::Durability;
 use std::alloc::Global;
 
-/// Why a command stopped, and the position to save.
+/// Why a command stopped, and what it leaves.
 #[derive(Clone, Copy)]
 pub(crate) struct Stop {
+    /// Why it stopped.
     pub(crate) fault: FileFault,
+    /// The position to save.
     pub(crate) position: Option<Position>,
+    /// Whether nothing was written, so that the output is left as it was.
+    pub(crate) is_untouched: bool,
 }
 
 impl From<FileFault> for Stop {
-    ghost from_gives = { λ f s. s ≡ record { fault = f; position = None } };
+    ghost from_gives = { λ f s. s ≡ record { fault = f; position = None; is_untouched = false } };
 
     fn from(fault: FileFault) -> Stop {
         Stop {
             fault,
             position: None,
+            is_untouched: false,
         }
     }
 }
 
-impl From<Stopped> for Stop {
-    ghost from_gives = { λ f s. s ≡ record { fault = f.fault; position = f.position } };
+/// Whether memory was refused.
+fn is_memory(fault: FileFault) -> bool
+    ensures { result ≡ is_memory fault }
+{
+    matches!(fault, FileFault::Memory)
+}
 
-    fn from(stopped: Stopped) -> Stop {
-        Stop {
+/// How an encryption ended. It has no position, and nothing was written if memory was refused.
+pub(crate) fn sealing_end(sealed: Result<Written, FileFault>) -> Result<(), Stop>
+    ensures { result ≡ sealing_end sealed }
+{
+    match sealed {
+        Ok(_) => Ok(()),
+        Err(fault) => Err(Stop {
+            fault,
+            position: None,
+            is_untouched: is_memory(fault),
+        }),
+    }
+}
+
+/// How a decryption ended.
+pub(crate) fn opening_end(opened: Result<Done, Stopped>) -> Result<(), Stop>
+    ensures { result ≡ opening_end opened }
+{
+    match opened {
+        Ok(_) => Ok(()),
+        Err(stopped) => Err(Stop {
             fault: stopped.fault,
             position: stopped.position,
-        }
+            is_untouched: stopped.written == 0,
+        }),
     }
 }
 
@@ -51,16 +81,14 @@ fn save<F: FileSet>(
     position: Option<Position>,
     durability: Durability,
 ) -> Result<(), FileFault>
-    ensures saved { OnOk result (F.tells files.old ≡ true
-        → Saves (text_of name.entry) position (F.entry files.old) (F.entry files.new)) }
+    ensures saved { OnOk result (F.shows_bytes ≡ true → Saves (text_of name.entry) position
+        (F.view files.old).entries (F.view files.new).entries) }
     ensures unsaved { IfErr result (λ second. SaveFails (text_of name.entry) position
-        (F.entry files.old) (F.entry files.new) second) }
-    ensures alone { position ≡ None → F.entry files.new ≡ F.entry files.old }
+        (F.view files.old).entries (F.view files.new).entries second) }
     ensures noted { Follows (replacing (text_of name.entry) durability)
-        (F.events files.old) (F.events files.new) }
-    ensures idle { position ≡ None → F.events files.new ≡ F.events files.old }
-    ensures others { F.tells files.old ≡ true
-        → SparesBoth None (text_of name.entry) (F.entry files.old) (F.entry files.new) }
+        (F.view files.old).events (F.view files.new).events }
+    ensures others { F.shows_bytes ≡ true → SparesBoth None (text_of name.entry)
+        (F.view files.old).entries (F.view files.new).entries }
 {
     let (Some(name), Some(position)) = (name, position) else {
         return Ok(());
@@ -78,15 +106,12 @@ pub(crate) fn end_of<F: FileSet>(
     durability: Durability,
 ) -> Ending
     ensures fault { is_usage result ≡ false }
-    ensures ends { F.tells files.old ≡ true
-        → EndsOf stop.fault (text_of name.entry) stop.position (F.entry files.old)
-        (F.entry files.new) result }
-    ensures alone { stop.position ≡ None → F.entry files.new ≡ F.entry files.old }
+    ensures ends { F.shows_bytes ≡ true → EndsOf stop.fault (text_of name.entry) stop.position
+        (F.view files.old).entries (F.view files.new).entries result }
     ensures noted { Follows (replacing (text_of name.entry) durability)
-        (F.events files.old) (F.events files.new) }
-    ensures idle { stop.position ≡ None → F.events files.new ≡ F.events files.old }
-    ensures others { F.tells files.old ≡ true
-        → SparesBoth None (text_of name.entry) (F.entry files.old) (F.entry files.new) }
+        (F.view files.old).events (F.view files.new).events }
+    ensures others { F.shows_bytes ≡ true → SparesBoth None (text_of name.entry)
+        (F.view files.old).entries (F.view files.new).entries }
 {
     match save(alloc, files, name, stop.position, durability) {
         Ok(()) => Ending::Fault(stop.fault),

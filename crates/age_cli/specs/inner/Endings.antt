@@ -1,20 +1,89 @@
 -- How a part of the program ended. What only private code cites.
-use Rattle.std.specs.Prelude.{◌≡◌, ◌⊎◌, Bool, true, List, Result, OnOk, IfErr}
+use Rattle.std.specs.Prelude.{◌≡◌, ◌⊎◌, ℕ, ◌==◌, ◌++◌, ◌∷◌, [], true, false, Bool, List, Option}
+use Rattle.std.specs.Prelude.{Some, None, Result, Ok, Err, IsOk, OnOk, IfErr}
 use Rattle.clap.specs.Words.{Text}
 use Rattle.clap.specs.declared.error.kind.ErrorKind.{ErrorKind}
 use Rattle.clap.specs.declared.error.kind.ErrorKind.TheVariants.{DisplayHelp, DisplayVersion}
-use Rattle.age_file.specs.Ports.{Ports}
+use Rattle.age_io.specs.Views.{SinkView}
+use Rattle.age_io.specs.declared.durability.Durability.{Durability}
+use Rattle.age_file.specs.declared.decryption.Done.{Done}
+use Rattle.age_file.specs.declared.decryption.Stopped.{Stopped}
+use Rattle.age_file.specs.declared.encryption.Written.{Written}
+use Rattle.age_fault.specs.declared.fault.FileFault.{FileFault}
+use Rattle.age_fault.specs.declared.fault.FileFault.TheVariants.{Write, Memory}
+use Rattle.age_fileset.specs.Events.{Closed}
+use Rattle.age_fileset.specs.FileSet.{FilesView}
 use Rattle.age_cli_common.specs.Endings.{is_usage}
+use Rattle.age_cli_common.specs.EventOrders.{Follows, replacing}
+use Rattle.age_cli_common.specs.Files.{SparesBut, SparesBoth}
 use Rattle.age_cli_common.specs.declared.ending.Ending.{Ending}
-use Rattle.age_cli.specs.Obeying.{Around, Obeys}
+use Rattle.age_cli.specs.Outputs.{EndsOf}
+use Rattle.age_cli.specs.declared.stop.Stop.{Stop}
 
 -- a refusal that isn't one: help or the version is asked for
 abbrev pub IsForOutput : ErrorKind → Type 0
 IsForOutput kind = (kind ≡ DisplayHelp) ⊎ (kind ≡ DisplayVersion)
 
--- the words were obeyed, as this result says
-abbrev pub Obeyed : {A : Type 0} → List Text → Bool → (Ports → Type 0) → Around → Around → Type 0
-    → Type 0 → Result A Ending → Type 0
-Obeyed words shows IsPorts before after Unprinted Silent result =
-    Obeys words shows IsPorts before after Unprinted Silent (OnOk result)
-    (λ P. IfErr result (λ e. is_usage e ≡ true → P)) (λ Ends. IfErr result Ends)
+abbrev pub is_memory : FileFault → Bool
+is_memory Memory = true
+is_memory other = false
+
+-- how an engine ended: nothing was written if an encryption had no memory, and by the count of a
+-- decryption
+abbrev pub sealing_end : Result Written FileFault → Result (Unit {0}) Stop
+sealing_end (Ok written) = Ok tt
+sealing_end (Err fault) =
+    Err (record { fault = fault; position = None; is_untouched = is_memory fault })
+
+abbrev pub opening_end : Result Done Stopped → Result (Unit {0}) Stop
+opening_end (Ok done) = Ok tt
+opening_end (Err s) =
+    Err (record { fault = s.fault; position = s.position; is_untouched = s.written == 0 })
+
+-- where it says that nothing was written, its sink took nothing
+abbrev pub IsFaithful : Result (Unit {0}) Stop → SinkView → Type 0
+IsFaithful engine sink = IfErr engine (λ stop. stop.is_untouched ≡ true → sink.taken ≡ Some [])
+
+-- how a stop leaves OUT: the engine stopped, and it is as it was, or holds what the sink took; or
+-- it could not be closed
+abbrev pub Left : Result (Unit {0}) Stop → (taken old new : Option (List ℕ)) → Stop → Type 0
+Left (Err cause) taken old new stop =
+    (stop ≡ cause) × ((new ≡ old) ⊎ ((new ≡ taken) × (cause.is_untouched ≡ false)))
+Left (Ok done) taken old new stop =
+    (stop ≡ record { fault = Write; position = None; is_untouched = false })
+    × ((new ≡ old) ⊎ (new ≡ taken))
+
+-- OUT was ended, whose sink is this: whole, or as a stop leaves it
+pub record EndsOut (shows : Bool) (durability : Durability) (sink : SinkView)
+    (engine : Result (Unit {0}) Stop) (old new : FilesView) (result : Result (Unit {0}) Stop)
+    : Type 0 where
+  -- It holds what the sink took, if the engine and the end succeeded.
+  pub done : OnOk result (IsOk engine × (shows ≡ true → new.entries sink.label ≡ sink.taken))
+  -- Otherwise it is left.
+  pub stops : IfErr result (λ stop. shows ≡ true → IsFaithful engine sink
+      → Left engine sink.taken (old.entries sink.label) (new.entries sink.label) stop)
+  -- No other file differs.
+  pub others : SparesBut sink.label old.entries new.entries
+  -- It is closed once.
+  pub noted : new.events ≡ old.events ++ Closed durability ∷ []
+
+-- and then the position of a stop was saved
+pub record Concludes (shows : Bool) (save : Option Text) (durability : Durability)
+    (sink : SinkView) (engine : Result (Unit {0}) Stop) (old new : FilesView)
+    (result : Result (Unit {0}) Ending) : Type 0 where
+  -- OUT holds what the sink took, and no other file differs.
+  pub done : OnOk result (IsOk engine × (shows ≡ true
+      → (new.entries sink.label ≡ sink.taken) × SparesBut sink.label old.entries new.entries))
+  -- OUT is left, and the position saved, if it goes to another file.
+  pub stops : IfErr result (λ ending. shows ≡ true → (save ≡ Some sink.label → ⊥)
+      → IsFaithful engine sink → (stop : Stop)
+      × Left engine sink.taken (old.entries sink.label) (new.entries sink.label) stop
+      × EndsOf stop.fault save stop.position old.entries new.entries ending)
+  -- The command line is not to blame.
+  pub fault : IfErr result (λ ending. is_usage ending ≡ false)
+  -- No other file differs.
+  pub spares : shows ≡ true → SparesBoth (Some sink.label) save old.entries new.entries
+  -- OUT is closed, and the file of the position replaced, if at all.
+  pub order : Follows (Closed durability ∷ replacing save durability) old.events new.events
+  -- If all is done, OUT is closed and nothing more.
+  pub order_done : OnOk result (new.events ≡ old.events ++ Closed durability ∷ [])

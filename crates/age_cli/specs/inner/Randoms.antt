@@ -1,10 +1,11 @@
 -- The random parts of an age file in bytes. What only private code cites.
-use Rattle.std.specs.Prelude.{◌≡◌, ℕ, List, ◌++◌, length, Option, Some}
-use Rattle.clap.specs.Words.{Text}
+use Rattle.std.specs.Prelude.{◌≡◌, ℕ, List, ◌++◌, length, Some}
+use Rattle.age_cli_args.specs.Requests.{text_of}
+use Rattle.age_cli_args.specs.declared.request.Encrypting.{Encrypting}
 use Rattle.age_cli_common.specs.Orders.{random_name}
 use Rattle.age_cli_common.specs.Files.{Files}
-use Rattle.age_cli.specs.declared.encryption.Random.{Random}
-use Rattle.age_cli.specs.declared.encryption.Material.{Material}
+use Rattle.age_cli.specs.declared.encrypt_command.Random.{Random}
+use Rattle.age_cli.specs.declared.encrypt_command.Material.{Material}
 
 -- one after the other, each of 16 bytes
 pub record IsRandom (bytes : List ℕ) (r : Random) : Type 0 where
@@ -15,10 +16,9 @@ pub record IsRandom (bytes : List ℕ) (r : Random) : Type 0 where
   pub nonce_length : length r.payload_nonce ≡ 16
 
 -- what stands under the names of the passphrase and of the random bytes is this
-pub record IsMaterialIn (pass : Text) (random : Option Text) (old : Files) (m : Material) : Type 0
-  where
-    pub pass_is : old pass ≡ Some m.pass.items
-    pub bytes : List ℕ
-    pub rest : List ℕ
-    pub random_held : old (random_name random) ≡ Some (bytes ++ rest)
-    pub random_is : IsRandom bytes m.random
+pub record IsMaterialIn (asked : Encrypting) (old : Files) (m : Material) : Type 0 where
+  pub pass_is : old asked.pass.now ≡ Some m.pass.items
+  pub bytes : List ℕ
+  pub rest : List ℕ
+  pub random_held : old (random_name (text_of asked.random)) ≡ Some (bytes ++ rest)
+  pub random_is : IsRandom bytes m.random

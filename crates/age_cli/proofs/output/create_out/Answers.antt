@@ -1,31 +1,52 @@
-use Rattle.std.proofs.Common.{◌≡◌, ◌∙◌, ◌∷◌, sym, true, true≢false, Some, []}
+use Rattle.std.proofs.Common.{◌∙◌, ◌∷◌, true≢false, refl, []}
 use Rattle.age_fileset.specs.Events.{Created, Closed}
-use Rattle.age_cli.proofs.EventSteps.{followed, then_did}
+use Rattle.age_cli_common.specs.Endings.{EndsEarly}
+use Rattle.age_cli_common.specs.inner.Endings.{ending_of}
+use Rattle.age_cli_common.specs.declared.ending.Ending.{Ending}
+use Rattle.age_cli.proofs.CommandSteps.{no_value, not_well, this_error, an_error, created_early, created_fault}
+use Rattle.age_cli_common.proofs.EventSteps.{followed, then_did}
 use Rattle.age_cli.proofs.output.create_out.Goals as goal
+
+pub returns-in_err-out : goal.returns-in_err-out
+returns-in_err-out g c =
+    let r = c.from_residual.result in
+    let a = c.args.asked.now in
+    let e : Ending = ending_of c.in_err-out.field-0.0 in
+    let is = c.from_residual.ensures in
+    let faults = c.in_err-out.ensures.faults in
+    record {
+      kept = c.in_err-out.ensures.kept;
+      opened = no_value r e is _;
+      noted = not_well r e is _;
+      followed = an_error r _ (record {
+        done = Created a.to.now ∷ [];
+        rest = Closed a.durability ∷ [];
+        did = c.in_err-out.ensures.noted;
+        front = refl;
+      });
+      early = this_error r e is EndsEarly (created_early _ _ faults);
+      fault = λ shown. this_error r e is _ (created_fault _ _ faults shown);
+    }
 
 pub returns-then-shows_progress_in : goal.returns-then-shows_progress_in
 returns-then-shows_progress_in g c =
     let created = c.in_ok-out.ensures in
     let a = c.args.asked.now in
-    let empty : g.F.FileSet.tells c.create.new.self ≡ true → (g.F.Out.Sink.view c.in_ok-out.out).taken ≡ Some [] =
-    λ told. (created.made (sym created.told ∙ told)).0 in
     record {
-      told = c.discard.ensures.told ∙ created.told;
-      kept = c.discard.ensures.kept empty ∙ created.kept;
-      made = tt;
+      kept = c.discard.ensures.kept (λ shown. (created.made shown).0) ∙ created.kept;
+      opened = tt;
       noted = tt;
-      noted_err = followed _ _ _ (then_did _ _ _ (Created a.to.now ∷ []) (Closed a.durability ∷ []) created.noted c.discard.ensures.noted);
+      followed = followed _ _ _ (then_did _ _ _ (Created a.to.now ∷ []) (Closed a.durability ∷ []) created.noted c.discard.ensures.noted);
       early = tt;
-      usage = λ told. absurd (true≢false (c.if-shows_progress_in.ensures.told (created.told ∙ told)));
+      fault = λ shown. absurd (true≢false (c.if-shows_progress_in.ensures shown));
     }
 
 pub returns : goal.returns
 returns g c = record {
-  told = c.in_ok-out.ensures.told;
   kept = c.in_ok-out.ensures.kept;
-  made = c.in_ok-out.ensures.made;
+  opened = c.in_ok-out.ensures.made;
   noted = c.in_ok-out.ensures.noted;
-  noted_err = tt;
+  followed = tt;
   early = tt;
-  usage = λ told. tt;
+  fault = λ shown. tt;
 }

@@ -6,7 +6,7 @@ use Rattle.age_cli_common.specs.Endings.{EndsEarly}
 use Rattle.age_cli_common.specs.declared.ending.Ending.{Ending}
 use Rattle.age_cli_common.specs.declared.ending.Ending.TheVariants.{Fault}
 use Rattle.age_cli.proofs.CommandSteps.{no_value, not_well, this_error, an_error, early_fault}
-use Rattle.age_cli.proofs.EventSteps.{then_did, then_follows}
+use Rattle.age_cli_common.proofs.EventSteps.{followed, longer, then_did, then_follows}
 use Rattle.age_cli.proofs.output.open_both.Goals as goal
 
 pub returns-in_err-source : goal.returns-in_err-source
@@ -16,19 +16,30 @@ returns-in_err-source g c =
     let e : Ending = Fault c.in_err-source.field-0.0 in
     let is = c.from_residual.ensures in
     record {
-      told = c.in_err-source.ensures.told;
       kept = c.in_err-source.ensures.kept;
-      found = no_value r e is _;
-      made = no_value r e is _;
+      opened = no_value r e is _;
       noted = not_well r e is _;
-      noted_err = an_error r _ (record {
-        done = Opened c.args.from.now ∷ [];
-        rest = preparing (text_of a.save) ++ making (Some a.to.now) a.durability;
-        did = c.in_err-source.ensures.noted;
-        front = refl;
-      });
+      followed = an_error r _ (longer (Opened c.args.from.now ∷ []) (preparing (text_of a.save) ++ making (Some a.to.now) a.durability) _ _
+          (followed _ _ _ c.in_err-source.ensures.noted));
       early = this_error r e is EndsEarly (early_fault _ c.in_err-source.ensures.faults);
-      usage = λ told. this_error r e is _ refl;
+      fault = λ shown. this_error r e is _ refl;
+    }
+
+pub returns-in_err-prepare_save : goal.returns-in_err-prepare_save
+returns-in_err-prepare_save g c =
+    let r = c.from_residual-in_err-prepare_save.result in
+    let a = c.args.asked.now in
+    let e = c.in_err-prepare_save.field-0.0 in
+    let is = c.from_residual-in_err-prepare_save.ensures in
+    let prepared = c.in_err-prepare_save.ensures in
+    record {
+      kept = prepared.kept ∙ c.in_ok-source.ensures.kept;
+      opened = no_value r e is _;
+      noted = not_well r e is _;
+      followed = an_error r _ (then_follows _ _ _ (Opened c.args.from.now ∷ []) (preparing (text_of a.save) ++ making (Some a.to.now) a.durability)
+          c.in_ok-source.ensures.noted (longer (preparing (text_of a.save)) (making (Some a.to.now) a.durability) _ _ (followed _ _ _ prepared.noted)));
+      early = this_error r e is EndsEarly prepared.early;
+      fault = λ shown. this_error r e is _ (prepared.fault shown);
     }
 
 pub returns-in_err-out : goal.returns-in_err-out
@@ -37,28 +48,32 @@ returns-in_err-out g c =
     let a = c.args.asked.now in
     let e = c.in_err-out.field-0.0 in
     let is = c.from_residual-in_err-out.ensures in
+    let prepared = c.in_ok-prepare_save.ensures in
+    let out = c.in_err-out.ensures in
     record {
-      told = c.in_err-out.ensures.told ∙ c.in_ok-source.ensures.told;
-      kept = c.in_err-out.ensures.kept ∙ c.in_ok-source.ensures.kept;
-      found = no_value r e is _;
-      made = no_value r e is _;
+      kept = out.kept ∙ (prepared.kept ∙ c.in_ok-source.ensures.kept);
+      opened = no_value r e is _;
       noted = not_well r e is _;
-      noted_err = an_error r _ (then_follows _ _ _ (Opened c.args.from.now ∷ []) ((preparing (text_of a.save) ++ making (Some a.to.now) a.durability)) c.in_ok-source.ensures.noted
-          c.in_err-out.ensures.noted_err);
-      early = this_error r e is EndsEarly c.in_err-out.ensures.early;
-      usage = λ told. this_error r e is _ (c.in_err-out.ensures.usage (c.in_ok-source.ensures.told ∙ told));
+      followed = an_error r _ (then_follows _ _ _ (Opened c.args.from.now ∷ []) (preparing (text_of a.save) ++ making (Some a.to.now) a.durability)
+          c.in_ok-source.ensures.noted (then_follows _ _ _ (preparing (text_of a.save)) (making (Some a.to.now) a.durability) prepared.noted out.followed));
+      early = this_error r e is EndsEarly out.early;
+      fault = λ shown. this_error r e is _ (out.fault shown);
     }
 
 pub returns : goal.returns
 returns g c =
     let a = c.args.asked.now in
+    let prepared = c.in_ok-prepare_save.ensures in
+    let out = c.in_ok-out.ensures in
     record {
-      told = c.in_ok-out.ensures.told ∙ c.in_ok-source.ensures.told;
-      kept = c.in_ok-out.ensures.kept ∙ c.in_ok-source.ensures.kept;
-      found = c.in_ok-source.ensures.found;
-      made = λ told. c.in_ok-out.ensures.made (c.in_ok-source.ensures.told ∙ told);
-      noted = then_did _ _ _ (Opened c.args.from.now ∷ []) (preparing (text_of a.save) ++ Created a.to.now ∷ []) c.in_ok-source.ensures.noted c.in_ok-out.ensures.noted;
-      noted_err = tt;
+      kept = out.kept ∙ (prepared.kept ∙ c.in_ok-source.ensures.kept);
+      opened = λ shown.
+          let found = c.in_ok-source.ensures.found shown in
+          let made = out.opened shown in
+          (found.0, found.1, made.0, made.1);
+      noted = then_did _ _ _ (Opened c.args.from.now ∷ []) (preparing (text_of a.save) ++ Created a.to.now ∷ []) c.in_ok-source.ensures.noted
+          (then_did _ _ _ (preparing (text_of a.save)) (Created a.to.now ∷ []) prepared.noted out.noted);
+      followed = tt;
       early = tt;
-      usage = λ told. tt;
+      fault = λ shown. tt;
     }

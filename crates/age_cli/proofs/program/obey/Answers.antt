@@ -1,26 +1,101 @@
-use Rattle.std.proofs.Common.{refl, inl, Err}
+use Rattle.std.proofs.Common.{◌∙◌, ap, inl, inr, refl, sym, subst, Some, None, append-nil}
 use Rattle.clap.specs.Walk.{texts}
-use Rattle.age_cli_common.specs.declared.ending.Ending.TheVariants.{Usage}
-use Rattle.age_cli_common.specs.declared.ending.Usage as usage
-use Rattle.age_cli.proofs.ObeySteps.{obeys_nothing, obeys_no_command, help_served, help_of, help_output, no_words, some_words}
+use Rattle.age_cli_args.specs.Requests.{Requests}
+use Rattle.age_cli_args.specs.declared.request.Request.TheVariants.{Inspect, Encrypt, Decrypt, Resume, Drill}
+use Rattle.age_cli.proofs.ObeySteps.{no_words, for_help, help_done, no_help, refuses, refuses_so, drill_acts, inspect_acts}
+use Rattle.age_cli.proofs.RunSteps.{acts_so}
 use Rattle.age_cli.proofs.program.obey.Goals as goal
 
 pub returns-then-is_empty : goal.returns-then-is_empty
-returns-then-is_empty g c =
-    obeys_nothing (texts c.args.words.now) _ _ _ _ _ _ _ _ _ c.report.result _ (no_words c.args.words.now _ c.is_empty.ensures c.if-is_empty.true)
-    c.report.ensures.done refl
+returns-then-is_empty g c = inl (record {
+  none = no_words c.args.words.now _ c.is_empty.ensures c.if-is_empty.true;
+  report = c.report.ensures.done;
+  untouched = refl;
+  silent = refl;
+})
+
+pub returns-in-Ok-None : goal.returns-in-Ok-None
+returns-in-Ok-None g c = inr (inr (record {
+  done = tt;
+  refused = λ no. inl refl;
+  untouched = refl;
+  unprinted = λ no. refl;
+  silent = refl;
+}))
 
 pub returns-in-Err : goal.returns-in-Err
 returns-in-Err g c =
     let w = texts c.args.words.now in
     let did = c.answer_refusal.ensures in
-    let e = c.in-Err.error in
-    let has = c.in-Err.ensures.refusals in
-    obeys_no_command w _ _ _ _ _ _ _ _ _ c.answer_refusal.result _ (some_words c.args.words.now _ c.is_empty.ensures c.if-is_empty.false)
-    (help_served w c.answer_refusal.result e has did.asked) did.early (λ taken. did.refusal (λ asked. (help_of w e has asked).1 taken))
-    (λ unasked. did.kept (λ asked. unasked (help_output w e has asked))) refl
+    let r = c.answer_refusal.result in
+    let help = for_help w c.in-Err.error c.in-Err.ensures.refusals in
+    inr (inr (record {
+      done = help_done r (λ ok. help (did.asked ok));
+      refused = λ no. no_help r (λ ok. help (did.asked ok)) no (did.refusal (λ asked. no (help asked)));
+      untouched = refl;
+      unprinted = λ no. did.kept (λ asked. no (help asked));
+      silent = refl;
+    }))
 
-pub returns-in-Ok-None : goal.returns-in-Ok-None
-returns-in-Ok-None g c =
-    obeys_no_command (texts c.args.words.now) {A = Unit {0}} _ _ _ _ _ _ _ _ _ (Err (Usage usage.Usage.Unread)) _
-    (some_words c.args.words.now _ c.is_empty.ensures c.if-is_empty.false) tt tt (λ taken. inl refl) (λ unasked. refl) refl
+pub returns-in-Inspect-Some : goal.returns-in-Inspect-Some
+returns-in-Inspect-Some g c =
+    let here = c.in-Inspect-Some in
+    let did = c.report_file.ensures in
+    inr (inl (record {
+      asked = Inspect (Some here.name);
+      made = subst (Requests (texts c.args.words.now)) (here.is ∙ ap Inspect (rw here.is at here.field-0-is)) (rw c.in-Ok-Some.field-0-is at c.in-Ok-Some.ensures.asked);
+      acts = inspect_acts _ _ _ _ _ c.report_file.result did.kept refl (Some here.name) did.noted did.fault;
+      answers = did.done;
+    }))
+
+pub returns-in-Inspect-None : goal.returns-in-Inspect-None
+returns-in-Inspect-None g c =
+    let here = c.in-Inspect-None in
+    let did = c.report-in-Inspect-None.ensures in
+    inr (inl (record {
+      asked = Inspect None;
+      made = subst (Requests (texts c.args.words.now)) (here.is ∙ ap Inspect (rw here.is at here.field-0-is)) (rw c.in-Ok-Some.field-0-is at c.in-Ok-Some.ensures.asked);
+      acts = inspect_acts _ _ _ _ _ c.report-in-Inspect-None.result refl refl None (sym (append-nil _)) did.fault;
+      answers = did.done;
+    }))
+
+pub returns-in-Encrypt : goal.returns-in-Encrypt
+returns-in-Encrypt g c =
+    let here = c.in-Encrypt in
+    inr (inl (record {
+      asked = Encrypt here.asked;
+      made = subst (Requests (texts c.args.words.now)) here.is (rw c.in-Ok-Some.field-0-is at c.in-Ok-Some.ensures.asked);
+      acts = acts_so _ _ _ _ _ _ _ _ (refuses_so c.encrypt_file.result) c.encrypt_file.ensures;
+      answers = refl;
+    }))
+
+pub returns-in-Decrypt : goal.returns-in-Decrypt
+returns-in-Decrypt g c =
+    let here = c.in-Decrypt in
+    inr (inl (record {
+      asked = Decrypt here.asked;
+      made = subst (Requests (texts c.args.words.now)) here.is (rw c.in-Ok-Some.field-0-is at c.in-Ok-Some.ensures.asked);
+      acts = acts_so _ _ _ _ _ _ _ _ (refuses_so c.decrypt_file.result) c.decrypt_file.ensures;
+      answers = refl;
+    }))
+
+pub returns-in-Resume : goal.returns-in-Resume
+returns-in-Resume g c =
+    let here = c.in-Resume in
+    inr (inl (record {
+      asked = Resume here.asked;
+      made = subst (Requests (texts c.args.words.now)) here.is (rw c.in-Ok-Some.field-0-is at c.in-Ok-Some.ensures.asked);
+      acts = acts_so _ _ _ _ _ _ _ _ (refuses_so c.resume_file.result) c.resume_file.ensures;
+      answers = refl;
+    }))
+
+pub returns-in-Drill : goal.returns-in-Drill
+returns-in-Drill g c =
+    let here = c.in-Drill in
+    let did = c.drill_file.ensures in
+    inr (inl (record {
+      asked = Drill here.asked;
+      made = subst (Requests (texts c.args.words.now)) here.is (rw c.in-Ok-Some.field-0-is at c.in-Ok-Some.ensures.asked);
+      acts = drill_acts _ _ _ _ _ c.drill_file.result did.kept refl here.asked did.order did.order_done;
+      answers = λ both. let no = did.one both in (no.0, refuses c.drill_file.result no.1);
+    }))

@@ -1,0 +1,143 @@
+-- What a command did whose engine ran.
+use Rattle.std.proofs.Common.{◌≡◌, ◌∙◌, ◌++◌, ◌∷◌, ap, sym, subst, refl, inl, inr, true, List, [], Bool, Some, None, append-nil}
+use Rattle.std.proofs.Common.{Result, IfOk, IfErr}
+use Rattle.std.specs.Prelude.{is_some}
+use Rattle.std.proofs.lemmas.Result.{on_ok_weaker, IfErr-weaker}
+use Rattle.age_io.specs.Views.{SourceView}
+use Rattle.age_io.specs.declared.durability.Durability.{Durability}
+use Rattle.age_file.specs.Ports.{Ports, ports}
+use Rattle.age_file.specs.Secrets.{SecretView}
+use Rattle.age_file.specs.Encrypts.{Encrypts, EncryptFails}
+use Rattle.age_file.specs.Decrypts.{Decrypts}
+use Rattle.age_file.specs.Resumes.{resume_ports}
+use Rattle.age_file.specs.ResumePromises.{ResumesText}
+use Rattle.age_file.specs.declared.encryption.Written.{Written}
+use Rattle.age_file.specs.declared.decryption.Done.{Done}
+use Rattle.age_file.specs.declared.decryption.Stopped.{Stopped}
+use Rattle.age_file.specs.declared.position.Position.{Position}
+use Rattle.age_file.specs.declared.position.Positions.{Positions}
+use Rattle.age_fault.specs.declared.fault.FileFault.{FileFault}
+use Rattle.age_fileset.specs.Events.{Event, Opened, Created}
+use Rattle.age_fileset.specs.FileSet.{FilesView}
+use Rattle.age_cli_args.specs.Requests.{text_of}
+use Rattle.age_cli_args.specs.declared.request.ProgressOption.TheVariants.{Silent}
+use Rattle.age_cli_args.specs.declared.request.Encrypting.{Encrypting}
+use Rattle.age_cli_args.specs.declared.request.Decrypting.{Decrypting}
+use Rattle.age_cli_args.specs.declared.request.Resuming.{Resuming}
+use Rattle.age_cli_args.specs.declared.request.Request.{Request}
+use Rattle.age_cli_args.specs.declared.request.Request.TheVariants.{Encrypt, Decrypt, Resume}
+use Rattle.age_cli_common.specs.EventOrders.{Follows, identity_order, preparing, making, replacing}
+use Rattle.age_cli_common.specs.Files.{Files, SparesBoth}
+use Rattle.age_cli_common.specs.Identities.{OpensBy, options_asked, allows_by, refuses_by}
+use Rattle.age_cli_common.specs.Names.{NamesTwice}
+use Rattle.age_cli_common.specs.Orders.{order_asked, random_name}
+use Rattle.age_cli_common.specs.declared.ending.Ending.{Ending}
+use Rattle.age_cli_common.specs.declared.identity.Identity.{Identity}
+use Rattle.age_cli.specs.Acts.{Acts, OfEngine, Spares, paths_of, progress_of}
+use Rattle.age_cli.specs.Encryptions.{MakesSecret}
+use Rattle.age_cli.specs.Engines.{Engine, sealing, opening, resuming}
+use Rattle.age_cli.specs.Outcomes.{IsUsage, by_result}
+use Rattle.age_cli.specs.Outputs.{Paths, Stops, Writes, kept_for}
+use Rattle.age_cli.specs.Resumptions.{IsPositionIn, old_for}
+use Rattle.age_cli.specs.declared.stop.Stop.{Stop}
+use Rattle.age_cli.specs.inner.Endings.{Concludes, sealing_end, opening_end}
+use Rattle.age_cli.proofs.ActSteps.{acts_concluded}
+use Rattle.age_cli.proofs.EngineSteps.{Kept, kept_sealing, kept_opening, kept_resuming, wrote_out, stopped_out, spared_out}
+use Rattle.age_cli.proofs.EventSteps.{then_concluded, then_closed}
+
+-- IN and OUT were found so
+abbrev pub Found : Paths → Files → Ports → Type 0
+Found p old before = (is_some (old p.from) ≡ true) × (before.source.remaining ≡ old p.from) × (before.sink.taken ≡ Some []) × (before.sink.label ≡ p.to)
+
+-- and so the position and the old text
+abbrev pub WasEarlier : Resuming → Position → Files → SourceView → Type 0
+WasEarlier a from old first = IsPositionIn (old a.position.now) from × (is_some (old_for from (old a.old.now)) ≡ true)
+    × (first.remaining ≡ old_for from (old a.old.now))
+
+module _ (IsPorts : Ports → Type 0) (shows : Bool) (asked : Request) (old opened new : FilesView) (Unshown : Type 0) (engine : Engine) (p : Paths)
+    (durability : Durability) (before after : Ports) (end : Result (Unit {0}) Stop) (r : Result (Unit {0}) Ending) (xs ys : List Event) where
+  acts_of_engine : IsPorts before → IsPorts after → (order_asked asked).done ≡ xs ++ (ys ++ making (Some p.to) durability)
+      → (order_asked asked).whole ≡ (xs ++ (ys ++ making (Some p.to) durability)) ++ replacing p.save durability
+      → (shows ≡ true → (P : Engine → Paths → Type 0) → P engine p → OfEngine IsPorts asked old.entries P)
+      → (SparesBoth (Some p.to) p.save old.entries new.entries → Spares asked old.entries new.entries)
+      → opened.entries ≡ old.entries → (shows ≡ true → Found p old.entries before) → after.sink.label ≡ before.sink.label
+      → (shows ≡ true → before.sink.taken ≡ Some [] → Kept engine before after end) → Concludes shows p.save durability after.sink end opened new r
+      → opened.events ≡ old.events ++ (xs ++ (ys ++ Created p.to ∷ [])) → (NamesTwice (order_asked asked).apart → ⊥) → (p.save ≡ Some p.to → ⊥)
+      → (progress_of asked ≡ Silent → Unshown) → Acts IsPorts shows asked old new Unshown (by_result IsUsage r)
+  acts_of_engine before_is after_is done_is whole_is of spares kept found named promise concludes noted apart unsaved silent =
+      acts_concluded IsPorts shows asked old new Unshown r
+      (on_ok_weaker r (λ wrote shown. of shown (λ e q. Writes IsPorts e q old.entries new.entries) (wrote shown))
+      (wrote_out IsPorts engine shows p durability old opened new before after before_is after_is end r kept found named promise concludes))
+      (λ shown. IfErr-weaker r _ _ (λ e stops. of shown (λ n q. Stops IsPorts n q old.entries new.entries e) stops)
+      (stopped_out IsPorts engine shows p durability old opened new before after before_is after_is end r kept found named promise concludes unsaved shown))
+      concludes.fault
+      (λ shown. spares
+      (spared_out IsPorts engine shows p durability old opened new before after before_is after_is end r kept found named promise concludes shown))
+      (subst (λ order. Follows order old.events new.events) (sym whole_is)
+      (then_concluded xs ys p.to durability (replacing p.save durability) old.events opened.events new.events noted concludes.order))
+      (on_ok_weaker r (λ closed. then_closed xs ys p.to durability old.events opened.events new.events noted closed ∙ ap (λ order. old.events ++ order) (sym done_is))
+      concludes.order_done)
+      apart silent
+
+module _ (IsPorts : Ports → Type 0) (shows : Bool) (old opened new : FilesView) (Unshown : Type 0) (before after : Ports) (before_is : IsPorts before)
+    (after_is : IsPorts after) (end : Result (Unit {0}) Stop) (r : Result (Unit {0}) Ending) (kept : opened.entries ≡ old.entries) where
+  pub encrypt_acts : (e : Encrypting) (secret : SecretView) (sealed : Result Written FileFault) → (shows ≡ true → MakesSecret e old.entries secret)
+      → (shows ≡ true → Found (record { from = e.from.now; to = e.to.now; save = None }) old.entries before) → end ≡ sealing_end sealed
+      → IfOk sealed (Encrypts secret before after) → IfErr sealed (EncryptFails secret before after) → after.sink.label ≡ before.sink.label
+      → Concludes shows None e.durability after.sink end opened new r
+      → opened.events ≡ old.events
+      ++ ((Opened e.pass.now ∷ Opened (random_name (text_of e.random)) ∷ []) ++ (Opened e.from.now ∷ Created e.to.now ∷ []))
+      → (NamesTwice (order_asked (Encrypt e)).apart → ⊥) → (e.progress ≡ Silent → Unshown)
+      → Acts IsPorts shows (Encrypt e) old new Unshown (by_result IsUsage r)
+  encrypt_acts e secret sealed made found is ends fails named concludes noted apart silent =
+      acts_of_engine IsPorts shows (Encrypt e) old opened new Unshown (sealing secret) (record { from = e.from.now; to = e.to.now; save = None }) e.durability
+      before after end r (Opened e.pass.now ∷ Opened (random_name (text_of e.random)) ∷ []) (Opened e.from.now ∷ []) before_is after_is refl
+      (sym (append-nil _))
+      (λ shown P holds. (secret, made shown, holds)) (λ spared. spared) kept found named
+      (λ shown empty. subst (λ (n : Result (Unit {0}) Stop). Kept (sealing secret) before after n) (sym is) (kept_sealing secret before after sealed ends fails empty))
+      concludes noted apart (λ same. cc) silent
+
+  pub decrypt_acts : (d : Decrypting) (keep : Positions) (identity : Identity) (decrypted : Result Done Stopped)
+      → (shows ≡ true → OpensBy old.entries (options_asked d.identity) identity) → (shows ≡ true → Found (paths_of d) old.entries before)
+      → keep ≡ kept_for (text_of d.save) → end ≡ opening_end decrypted → Decrypts keep (allows_by identity) (refuses_by identity) before after decrypted
+      → Concludes shows (text_of d.save) d.durability after.sink end opened new r
+      → opened.events ≡ old.events ++ (identity_order (text_of d.identity.pass) (text_of d.identity.shared)
+      ++ ((Opened d.from.now ∷ preparing (text_of d.save)) ++ Created d.to.now ∷ []))
+      → (NamesTwice (order_asked (Decrypt d)).apart → ⊥) → (d.progress ≡ Silent → Unshown)
+      → Acts IsPorts shows (Decrypt d) old new Unshown (by_result IsUsage r)
+  decrypt_acts d keep identity decrypted opens found keep_is is promise concludes noted apart silent =
+      let k = kept_for (text_of d.save) in
+      let did = subst (λ (x : Positions). Decrypts x (allows_by identity) (refuses_by identity) before after decrypted) keep_is promise in
+      acts_of_engine IsPorts shows (Decrypt d) old opened new Unshown (opening k identity) (paths_of d) d.durability before after end r
+      (identity_order (text_of d.identity.pass) (text_of d.identity.shared)) (Opened d.from.now ∷ preparing (text_of d.save)) before_is after_is refl refl
+      (λ shown P holds. (identity, opens shown, holds)) (λ spared. spared) kept found did.named
+      (λ shown empty. subst (λ (n : Result (Unit {0}) Stop). Kept (opening k identity) before after n) (sym is)
+      (kept_opening k identity before after did.run decrypted did.done did.stopped empty)) concludes noted apart
+      (λ same. apart (inr (inl (inl (d.to.now, same, refl))))) silent
+
+  pub resume_acts : (a : Resuming) (keep : Positions) (identity : Identity) (from : Position) (first last : SourceView) (resumed : Result Done Stopped)
+      → (shows ≡ true → OpensBy old.entries (options_asked a.decrypting.identity) identity)
+      → (shows ≡ true → WasEarlier a from old.entries first)
+      → IsPorts (ports first before.sink) → IsPorts (ports last after.sink)
+      → (shows ≡ true → Found (paths_of a.decrypting) old.entries before)
+      → keep ≡ kept_for (text_of a.decrypting.save) → end ≡ opening_end resumed
+      → ResumesText keep (allows_by identity) (refuses_by identity) from (resume_ports before first) (resume_ports after last) resumed
+      → Concludes shows (text_of a.decrypting.save) a.decrypting.durability after.sink end opened new r
+      → opened.events ≡ old.events ++ (identity_order (text_of a.decrypting.identity.pass) (text_of a.decrypting.identity.shared)
+      ++ ((Opened a.position.now ∷ Opened a.old.now ∷ Opened a.decrypting.from.now ∷ preparing (text_of a.decrypting.save)) ++ Created a.decrypting.to.now ∷ []))
+      → (NamesTwice (order_asked (Resume a)).apart → ⊥) → (a.decrypting.progress ≡ Silent → Unshown)
+      → Acts IsPorts shows (Resume a) old new Unshown (by_result IsUsage r)
+  resume_acts a keep identity from first last resumed opens earlier first_is last_is found keep_is is promise concludes noted apart silent =
+      let d = a.decrypting in
+      let k = kept_for (text_of d.save) in
+      let engine = resuming IsPorts k identity from (old_for from (old.entries a.old.now)) in
+      let did = subst (λ (x : Positions). ResumesText x (allows_by identity) (refuses_by identity) from (resume_ports before first) (resume_ports after last)
+      resumed) keep_is promise in
+      acts_of_engine IsPorts shows (Resume a) old opened new Unshown engine (paths_of d) d.durability before after end r
+      (identity_order (text_of d.identity.pass) (text_of d.identity.shared))
+      (Opened a.position.now ∷ Opened a.old.now ∷ Opened d.from.now ∷ preparing (text_of d.save)) before_is after_is refl refl
+      (λ shown P holds. (identity, opens shown, from, (earlier shown).0, (earlier shown).1, holds)) (λ spared. spared) kept found did.named
+      (λ shown empty. subst (λ (n : Result (Unit {0}) Stop). Kept engine before after n) (sym is)
+      (kept_resuming IsPorts k identity from (old_for from (old.entries a.old.now)) before after first last did.run resumed first_is last_is (sym (earlier shown).2)
+      did.done did.stopped empty)) concludes noted apart
+      (λ same. apart (inr (inl (inl (d.to.now, same, refl))))) silent

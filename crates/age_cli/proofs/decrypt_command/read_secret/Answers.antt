@@ -1,0 +1,44 @@
+use Rattle.std.proofs.Common.{◌∙◌, refl, sym, true≢false}
+use Rattle.age_cli_common.specs.Endings.{EndsEarly}
+use Rattle.age_cli_common.specs.declared.ending.Ending.{Ending}
+use Rattle.age_cli_common.specs.declared.ending.Ending.TheVariants.{Fault}
+use Rattle.age_cli.proofs.CommandSteps.{no_value, not_well, this_error, early_fault}
+use Rattle.age_cli_common.proofs.EventSteps.{followed, none_done}
+use Rattle.age_cli.proofs.decrypt_command.read_secret.Goals as goal
+
+pub returns-then-is_file_named_twice : goal.returns-then-is_file_named_twice
+returns-then-is_file_named_twice g c = record {
+  kept = refl;
+  read = tt;
+  noted = tt;
+  followed = none_done _ _;
+  apart = λ twice. (refl, refl);
+  early = tt;
+}
+
+pub returns-in_err-read : goal.returns-in_err-read
+returns-in_err-read g c =
+    let r = c.from_residual.result in
+    let e : Ending = Fault c.in_err-read.field-0.0 in
+    let is = c.from_residual.ensures in
+    let read = c.in_err-read.ensures in
+    record {
+      kept = read.kept;
+      read = no_value r e is _;
+      noted = not_well r e is _;
+      followed = followed _ _ _ read.noted;
+      apart = λ twice. absurd (true≢false (sym twice ∙ c.if-is_file_named_twice.false));
+      early = this_error r e is EndsEarly (early_fault _ read.faults);
+    }
+
+pub returns : goal.returns
+returns g c =
+    let read = c.in_ok-read.ensures in
+    record {
+      kept = read.kept;
+      read = read.read;
+      noted = read.noted;
+      followed = followed _ _ _ read.noted;
+      apart = λ twice. absurd (true≢false (sym twice ∙ c.if-is_file_named_twice.false));
+      early = tt;
+    }

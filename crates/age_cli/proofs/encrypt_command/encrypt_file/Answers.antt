@@ -1,0 +1,87 @@
+use Rattle.std.proofs.Common.{◌∙◌, ◌∷◌, [], refl, ap, sym, subst, true≢false, Some, None}
+use Rattle.age_file.specs.Ports.{ports}
+use Rattle.age_fileset.specs.Events.{Opened, Created}
+use Rattle.age_cli_args.specs.Requests.{text_of}
+use Rattle.age_cli_args.specs.declared.request.Request.TheVariants.{Encrypt}
+use Rattle.age_cli_common.specs.EventOrders.{making}
+use Rattle.age_cli_common.specs.Files.{Files}
+use Rattle.age_cli_common.specs.Orders.{random_name}
+use Rattle.age_cli_common.specs.declared.ending.Ending.{Ending}
+use Rattle.age_cli_common.specs.declared.ending.Ending.TheVariants.{Usage}
+use Rattle.age_cli.specs.Outputs.{Paths}
+use Rattle.age_cli.proofs.ActSteps.{acts_early, shown_not_silent}
+use Rattle.age_cli.proofs.FinalSteps.{Found, encrypt_acts}
+use Rattle.age_cli_common.proofs.EventSteps.{longer, then_did, then_follows}
+use Rattle.age_cli.proofs.encrypt_command.encrypt_file.Goals as goal
+
+pub returns-in_err-material : goal.returns-in_err-material
+returns-in_err-material g c =
+    let a = c.args.asked.now in
+    let e : Ending = c.in_err-material.field-0.0 in
+    let judged = c.in_err-material.ensures in
+    acts_early _ _ (Encrypt a) _ _ _ c.from_residual.result e c.from_residual.ensures judged.kept judged.early
+    (longer _ (Opened a.from.now ∷ making (Some a.to.now) a.durability) _ _ judged.followed) (λ shown usage. judged.followed)
+    (λ twice. judged.apart twice) refl
+
+pub returns-in_err-secret : goal.returns-in_err-secret
+returns-in_err-secret g c =
+    let a = c.args.asked.now in
+    let e : Ending = Usage c.in_err-secret.field-0.0 in
+    let judged = c.in_ok-material.ensures in
+    acts_early _ _ (Encrypt a) _ _ _ c.from_residual-in_err-secret.result e c.from_residual-in_err-secret.ensures judged.kept tt
+    (longer _ (Opened a.from.now ∷ making (Some a.to.now) a.durability) _ _ judged.followed) (λ shown usage. judged.followed)
+    (λ twice. absurd (judged.apart twice).1) refl
+
+pub returns-in_err-source : goal.returns-in_err-source
+returns-in_err-source g c =
+    let a = c.args.asked.now in
+    let e : Ending = c.in_err-source.field-0.0 in
+    let judged = c.in_ok-material.ensures in
+    let both = c.in_err-source.ensures in
+    acts_early _ _ (Encrypt a) _ _ _ c.from_residual-in_err-source.result e c.from_residual-in_err-source.ensures (both.kept ∙ judged.kept) both.early
+    (then_follows _ _ _ (Opened a.pass.now ∷ Opened (random_name (text_of a.random)) ∷ []) (Opened a.from.now ∷ making (Some a.to.now) a.durability)
+    judged.noted both.followed)
+    (λ shown usage. absurd (true≢false (sym usage ∙ both.fault shown)))
+    (λ twice. absurd (judged.apart twice).1) refl
+
+pub returns-in-Silent : goal.returns-in-Silent
+returns-in-Silent g c =
+    let a = c.args.asked.now in
+    let paths : Paths = record { from = a.from.now; to = a.to.now; save = None } in
+    let view = g.F.FileSet.view in
+    let In = g.F.In.Source.view in
+    let Out = g.F.Out.Sink.view in
+    let judged = c.in_ok-material.ensures in
+    let both = c.in_ok-source.ensures in
+    let run = c.encrypt-sealed in
+    let before = ports (In c.in_ok-source.source) (Out c.in_ok-source.out) in
+    encrypt_acts _ _ (view c.args.files.now) (view c.open_both.new.files) (view c.conclude.new.files) _ before (ports (In run.new.reader) (Out run.new.writer))
+    (record { source = c.in_ok-source.source; sink = c.in_ok-source.out; is = refl }) (record { source = run.new.reader; sink = run.new.writer; is = refl })
+    c.sealing_end.result c.conclude.result (both.kept ∙ judged.kept) a c.in_ok-secret.secret run.result
+    (λ shown. c.in_ok-secret.ensures (view c.args.files.now).entries (judged.read shown))
+    (λ shown. subst (λ (f : Files). Found paths f before) judged.kept (both.opened shown))
+    c.sealing_end.ensures run.ensures.done run.ensures.fails run.ensures.named c.conclude.ensures
+    (then_did _ _ _ (Opened a.pass.now ∷ Opened (random_name (text_of a.random)) ∷ []) (Opened a.from.now ∷ Created a.to.now ∷ []) judged.noted both.noted)
+    (λ twice. absurd (judged.apart twice).1) (λ silent. refl)
+
+pub returns : goal.returns
+returns g c =
+    let a = c.args.asked.now in
+    let paths : Paths = record { from = a.from.now; to = a.to.now; save = None } in
+    let view = g.F.FileSet.view in
+    let In = g.F.In.Source.view in
+    let Out = g.F.Out.Sink.view in
+    let judged = c.in_ok-material.ensures in
+    let both = c.in_ok-source.ensures in
+    let run = c.encrypt-sealed-in-Shown in
+    let source = c.with_meter-metered.result.source in
+    let before = ports (In source) (Out c.in_ok-source.out) in
+    encrypt_acts _ _ (view c.args.files.now) (view c.open_both.new.files) (view c.conclude-in-Shown.new.files) _ before (ports (In run.new.reader.source) (Out run.new.writer))
+    (record { source = source; sink = c.in_ok-source.out; is = refl }) (record { source = run.new.reader.source; sink = run.new.writer; is = refl })
+    c.sealing_end-in-Shown.result c.conclude-in-Shown.result (both.kept ∙ judged.kept) a c.in_ok-secret.secret run.result
+    (λ shown. c.in_ok-secret.ensures (view c.args.files.now).entries (judged.read shown))
+    (λ shown. let f = both.opened shown in
+    subst (λ (f : Files). Found paths f before) judged.kept (f.0, ap (λ s. (In s).remaining) c.with_meter-metered.ensures ∙ f.1, f.2, f.3))
+    c.sealing_end-in-Shown.ensures run.ensures.done run.ensures.fails run.ensures.named c.conclude-in-Shown.ensures
+    (then_did _ _ _ (Opened a.pass.now ∷ Opened (random_name (text_of a.random)) ∷ []) (Opened a.from.now ∷ Created a.to.now ∷ []) judged.noted both.noted)
+    (λ twice. absurd (judged.apart twice).1) (λ silent. absurd (shown_not_silent (sym c.in-Shown.is ∙ silent)))

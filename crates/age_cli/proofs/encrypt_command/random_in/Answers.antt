@@ -1,0 +1,15 @@
+use Rattle.age_cli_common.specs.Endings.{EndsEarly}
+use Rattle.age_cli_common.specs.declared.ending.Ending.{Ending}
+use Rattle.age_cli_common.specs.declared.ending.Ending.TheVariants.{Fault}
+use Rattle.age_cli.proofs.CommandSteps.{no_value, this_error, early_fault}
+use Rattle.age_cli.proofs.encrypt_command.random_in.Goals as goal
+
+pub returns-in_err-bytes : goal.returns-in_err-bytes
+returns-in_err-bytes g c =
+    let r = c.from_residual.result in
+    let e : Ending = Fault c.in_err-bytes.field-0.0 in
+    let is = c.from_residual.ensures in
+    record {
+      read = no_value r e is _;
+      early = this_error r e is EndsEarly (early_fault _ c.in_err-bytes.ensures.faults);
+    }

@@ -1,0 +1,78 @@
+use Rattle.std.proofs.Common.{◌∙◌, ◌++◌, ◌∷◌, [], refl, ap, sym, true≢false}
+use Rattle.age_cli_args.specs.Requests.{text_of}
+use Rattle.age_fileset.specs.Events.{Opened}
+use Rattle.age_cli_common.specs.Endings.{EndsEarly}
+use Rattle.age_cli_common.specs.Orders.{random_name}
+use Rattle.age_cli.proofs.CommandSteps.{no_value, not_well, this_error}
+use Rattle.age_cli_common.proofs.EventSteps.{followed, none_done, then_did}
+use Rattle.age_cli.proofs.encrypt_command.read_material.Goals as goal
+
+pub returns-then-names_out_twice : goal.returns-then-names_out_twice
+returns-then-names_out_twice g c = record {
+  kept = refl;
+  read = tt;
+  noted = tt;
+  followed = none_done _ _;
+  apart = λ twice. (refl, refl);
+  early = tt;
+}
+
+pub returns-in_err-pass : goal.returns-in_err-pass
+returns-in_err-pass g c =
+    let a = c.args.asked.now in
+    let r = c.from_residual.result in
+    let e = c.in_err-pass.field-0.0 in
+    let is = c.from_residual.ensures in
+    record {
+      kept = c.in_err-pass.ensures.kept;
+      read = no_value r e is _;
+      noted = not_well r e is _;
+      followed = record {
+        done = Opened a.pass.now ∷ [];
+        rest = Opened (random_name (text_of a.random)) ∷ [];
+        did = c.in_err-pass.ensures.noted;
+        front = refl;
+      };
+      apart = λ twice. absurd (true≢false (sym (c.names_out_twice.ensures twice) ∙ c.if-names_out_twice.false));
+      early = this_error r e is EndsEarly c.in_err-pass.ensures.early;
+    }
+
+pub returns-in_err-random : goal.returns-in_err-random
+returns-in_err-random g c =
+    let a = c.args.asked.now in
+    let r = c.from_residual-in_err-random.result in
+    let e = c.in_err-random.field-0.0 in
+    let is = c.from_residual-in_err-random.ensures in
+    record {
+      kept = c.in_err-random.ensures.kept ∙ c.in_ok-pass.ensures.kept;
+      read = no_value r e is _;
+      noted = not_well r e is _;
+      followed = followed _ _ _ (then_did _ _ _ (Opened a.pass.now ∷ []) (Opened c.random_name.result.now ∷ []) c.in_ok-pass.ensures.noted
+          c.in_err-random.ensures.noted ∙ ap (λ n. (g.F.FileSet.view c.args.files.now).events ++ Opened a.pass.now ∷ Opened n ∷ []) c.random_name.ensures);
+      apart = λ twice. absurd (true≢false (sym (c.names_out_twice.ensures twice) ∙ c.if-names_out_twice.false));
+      early = this_error r e is EndsEarly c.in_err-random.ensures.early;
+    }
+
+pub returns : goal.returns
+returns g c =
+    let a = c.args.asked.now in
+    let name = c.random_name.ensures in
+    let events = then_did _ _ _ (Opened a.pass.now ∷ []) (Opened c.random_name.result.now ∷ []) c.in_ok-pass.ensures.noted c.in_ok-random.ensures.noted
+    ∙ ap (λ n. (g.F.FileSet.view c.args.files.now).events ++ Opened a.pass.now ∷ Opened n ∷ []) name in
+    record {
+      kept = c.in_ok-random.ensures.kept ∙ c.in_ok-pass.ensures.kept;
+      read = λ shown.
+          let random = c.in_ok-random.ensures.read shown in
+          record {
+            pass_is = c.in_ok-pass.ensures.read shown;
+            bytes = random.0;
+            rest = random.1;
+            random_held = ap (λ f. f (random_name (text_of a.random))) (sym c.in_ok-pass.ensures.kept)
+                ∙ (ap (λ q. (g.F.FileSet.view c.read_pass.new.files).entries q) (sym name) ∙ random.2);
+            random_is = random.3;
+          };
+      noted = events;
+      followed = followed _ _ _ events;
+      apart = λ twice. absurd (true≢false (sym (c.names_out_twice.ensures twice) ∙ c.if-names_out_twice.false));
+      early = tt;
+    }

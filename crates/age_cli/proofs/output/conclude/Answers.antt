@@ -1,0 +1,46 @@
+use Rattle.std.proofs.Common.{◌∙◌, ◌∷◌, [], ap, sym, subst, Some}
+use Rattle.age_fileset.specs.Events.{Closed}
+use Rattle.age_cli_args.specs.Requests.{text_of}
+use Rattle.age_cli_common.specs.EventOrders.{replacing}
+use Rattle.age_cli.specs.inner.Endings.{Left}
+use Rattle.age_cli.proofs.CommandStopSteps.{ends_from}
+use Rattle.age_cli_common.proofs.EventSteps.{followed, longer, then_follows}
+use Rattle.age_cli.proofs.output.conclude.Goals as goal
+
+pub returns-in-Ok : goal.returns-in-Ok
+returns-in-Ok g c =
+    let out = c.in-Ok.ensures in
+    let a = c.args.asked.now in
+    record {
+      done = (out.done.0, λ shown. (out.done.1 shown, out.others));
+      stops = tt;
+      fault = tt;
+      spares = λ shown q to save. out.others q (λ e. to (ap Some (sym e)));
+      order = longer (Closed a.durability ∷ []) (replacing (text_of a.save) a.durability) _ _ (followed _ _ _ out.noted);
+      order_done = out.noted;
+    }
+
+pub returns-in-Err : goal.returns-in-Err
+returns-in-Err g c =
+    let out = c.in-Err.ensures in
+    let ended = c.end_of.ensures in
+    let a = c.args.asked.now in
+    let stop = c.in-Err.stop in
+    let sink = g.F.Out.Sink.view c.args.out in
+    let view = g.F.FileSet.view in
+    let old = (view c.args.files.now).entries in
+    let mid = (view c.end_out.new.files).entries in
+    let new = (view c.end_of.new.files).entries in
+    record {
+      done = tt;
+      stops = λ shown apart faithful. (
+        stop,
+        subst (λ x. Left c.args.engine sink.taken (old sink.label) x stop) (sym (ended.others shown sink.label (λ e. cc) apart)) (out.stops shown faithful),
+        ends_from stop.fault (text_of a.save) stop.position old mid new c.end_of.result (λ q name. out.others q (λ e. apart (name ∙ ap Some e)))
+            (ended.ends shown),
+      );
+      fault = ended.fault;
+      spares = λ shown q to save. ended.others shown q (λ e. cc) save ∙ out.others q (λ e. to (ap Some (sym e)));
+      order = then_follows _ _ _ (Closed a.durability ∷ []) (replacing (text_of a.save) a.durability) out.noted ended.noted;
+      order_done = tt;
+    }

@@ -1,0 +1,56 @@
+use Rattle.std.proofs.Common.{◌∙◌, ◌∷◌, [], inl, refl, ap, sym}
+use Rattle.std.specs.Prelude.{is_some}
+use Rattle.age_fileset.specs.Events.{Opened}
+use Rattle.age_cli.specs.Resumptions.{old_for}
+use Rattle.age_cli.proofs.CommandSteps.{no_value, not_well, this_error}
+use Rattle.age_cli_common.proofs.EventSteps.{followed, then_did}
+use Rattle.age_cli.proofs.resume_command.open_earlier.Goals as goal
+
+pub returns-in_err-position : goal.returns-in_err-position
+returns-in_err-position g c =
+    let r = c.from_residual.result in
+    let e = c.in_err-position.field-0.0 in
+    let is = c.from_residual.ensures in
+    record {
+      kept = c.in_err-position.ensures.kept;
+      found = no_value r e is _;
+      noted = not_well r e is _;
+      follows = record {
+        done = Opened c.args.asked.now.position.now ∷ [];
+        rest = Opened c.args.asked.now.old.now ∷ [];
+        did = c.in_err-position.ensures.noted;
+        front = refl;
+      };
+      faults = this_error r e is _ c.in_err-position.ensures.faults;
+    }
+
+pub returns-in_err-old : goal.returns-in_err-old
+returns-in_err-old g c =
+    let a = c.args.asked.now in
+    let r = c.from_residual-in_err-old.result in
+    let e = c.in_err-old.field-0.0 in
+    let is = c.from_residual-in_err-old.ensures in
+    record {
+      kept = c.in_err-old.ensures.kept ∙ c.in_ok-position.ensures.kept;
+      found = no_value r e is _;
+      noted = not_well r e is _;
+      follows = followed _ _ _ (then_did _ _ _ (Opened a.position.now ∷ []) (Opened a.old.now ∷ []) c.in_ok-position.ensures.noted
+          c.in_err-old.ensures.noted);
+      faults = this_error r e is _ (inl c.in_err-old.ensures.faults);
+    }
+
+pub returns : goal.returns
+returns g c =
+    let a = c.args.asked.now in
+    let position = c.in_ok-position.ensures in
+    let p = c.in_ok-position.position in
+    let events = then_did _ _ _ (Opened a.position.now ∷ []) (Opened a.old.now ∷ []) position.noted c.in_ok-old.ensures.noted in
+    record {
+      kept = c.in_ok-old.ensures.kept ∙ position.kept;
+      found = λ shown.
+          let found = c.in_ok-old.ensures.found shown in
+          (position.read shown, ap (λ f. is_some (old_for p (f a.old.now))) (sym position.kept) ∙ found.0, found.1 ∙ ap (λ f. old_for p (f a.old.now)) position.kept);
+      noted = events;
+      follows = followed _ _ _ events;
+      faults = tt;
+    }

@@ -1,0 +1,15 @@
+use Rattle.std.proofs.Common.{inl}
+use Rattle.age_cli.proofs.CommandSteps.{no_value, this_error}
+use Rattle.age_cli.proofs.resume_command.read_position.Goals as goal
+
+pub returns-in_err-text : goal.returns-in_err-text
+returns-in_err-text g c =
+    let r = c.from_residual.result in
+    let e = c.in_err-text.field-0.0 in
+    let is = c.from_residual.ensures in
+    record {
+      kept = c.in_err-text.ensures.kept;
+      read = no_value r e is _;
+      noted = c.in_err-text.ensures.noted;
+      faults = this_error r e is _ (inl c.in_err-text.ensures.faults);
+    }

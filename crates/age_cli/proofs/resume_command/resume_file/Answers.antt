@@ -1,0 +1,135 @@
+use Rattle.std.proofs.Common.{◌∙◌, ◌++◌, ◌∷◌, [], inl, refl, ap, sym, subst, true≢false, Some}
+use Rattle.age_file.specs.Ports.{ports}
+use Rattle.age_fileset.specs.Events.{Opened, Created}
+use Rattle.age_cli_args.specs.Requests.{text_of}
+use Rattle.age_cli_args.specs.declared.request.Request.TheVariants.{Resume}
+use Rattle.age_cli_common.specs.EventOrders.{identity_order, preparing, making}
+use Rattle.age_cli_common.specs.Files.{Files}
+use Rattle.age_cli_common.specs.declared.ending.Ending.{Ending}
+use Rattle.age_cli_common.specs.declared.ending.Ending.TheVariants.{Fault, Usage}
+use Rattle.age_cli.specs.Acts.{paths_of}
+use Rattle.age_cli.proofs.ActSteps.{acts_early, shown_not_silent}
+use Rattle.age_cli.proofs.CommandSteps.{bad_position, in_order}
+use Rattle.age_cli.proofs.FinalSteps.{Found, WasEarlier, resume_acts}
+use Rattle.age_cli_common.proofs.EventSteps.{longer, none_done, then_did, then_follows}
+use Rattle.age_cli.proofs.resume_command.resume_file.Goals as goal
+
+pub returns-in_err-choice : goal.returns-in_err-choice
+returns-in_err-choice g c =
+    let r = c.args.asked.now in
+    let d = r.decrypting in
+    let e : Ending = Usage c.in_err-choice.field-0.0 in
+    acts_early _ _ (Resume r) _ _ _ c.from_residual.result e c.from_residual.ensures refl (inl tt) (none_done _ _) (λ shown usage. none_done _ _)
+    (λ twice. (refl, refl)) refl
+
+pub returns-in_err-secret : goal.returns-in_err-secret
+returns-in_err-secret g c =
+    let r = c.args.asked.now in
+    let d = r.decrypting in
+    let e : Ending = c.in_err-secret.field-0.0 in
+    let judged = in_order _ _ _ _ _ _ _ _ c.in_ok-choice.ensures.order c.in_err-secret.ensures in
+    acts_early _ _ (Resume r) _ _ _ c.from_residual-in_err-secret.result e c.from_residual-in_err-secret.ensures judged.kept (inl judged.early)
+    (longer _ (Opened r.position.now ∷ Opened r.old.now ∷ Opened d.from.now ∷ (preparing (text_of d.save) ++ making (Some d.to.now) d.durability)) _ _ judged.followed)
+    (λ shown usage. judged.followed)
+    (λ twice. judged.apart (c.names_one_twice-is_file_named_twice.ensures twice)) refl
+
+pub returns-in_err-identity : goal.returns-in_err-identity
+returns-in_err-identity g c =
+    let r = c.args.asked.now in
+    let d = r.decrypting in
+    let e : Ending = Usage c.in_err-identity.field-0.0 in
+    let judged = in_order _ _ _ _ _ _ _ _ c.in_ok-choice.ensures.order c.in_ok-secret.ensures in
+    acts_early _ _ (Resume r) _ _ _ c.from_residual-in_err-identity.result e c.from_residual-in_err-identity.ensures judged.kept (inl tt)
+    (longer _ (Opened r.position.now ∷ Opened r.old.now ∷ Opened d.from.now ∷ (preparing (text_of d.save) ++ making (Some d.to.now) d.durability)) _ _ judged.followed)
+    (λ shown usage. judged.followed)
+    (λ twice. absurd (judged.apart (c.names_one_twice-is_file_named_twice.ensures twice)).1) refl
+
+pub returns-in_err-position : goal.returns-in_err-position
+returns-in_err-position g c =
+    let r = c.args.asked.now in
+    let d = r.decrypting in
+    let e : Ending = Fault c.in_err-position.field-0.0 in
+    let judged = in_order _ _ _ _ _ _ _ _ c.in_ok-choice.ensures.order c.in_ok-secret.ensures in
+    let earlier = c.in_err-position.ensures in
+    acts_early _ _ (Resume r) _ _ _ c.from_residual-in_err-position.result e c.from_residual-in_err-position.ensures (earlier.kept ∙ judged.kept)
+    (bad_position _ earlier.faults)
+    (then_follows _ _ _ (identity_order (text_of d.identity.pass) (text_of d.identity.shared)) (Opened r.position.now ∷ Opened r.old.now ∷ Opened d.from.now ∷ (preparing (text_of d.save) ++ making (Some d.to.now) d.durability)) judged.noted
+    (longer (Opened r.position.now ∷ Opened r.old.now ∷ []) (Opened d.from.now ∷ (preparing (text_of d.save) ++ making (Some d.to.now) d.durability)) _ _
+    earlier.follows))
+    (λ shown usage. absurd (true≢false (sym usage)))
+    (λ twice. absurd (judged.apart (c.names_one_twice-is_file_named_twice.ensures twice)).1) refl
+
+pub returns-in_err-source : goal.returns-in_err-source
+returns-in_err-source g c =
+    let r = c.args.asked.now in
+    let d = r.decrypting in
+    let e : Ending = c.in_err-source.field-0.0 in
+    let judged = in_order _ _ _ _ _ _ _ _ c.in_ok-choice.ensures.order c.in_ok-secret.ensures in
+    let earlier = c.in_ok-position.ensures in
+    let both = c.in_err-source.ensures in
+    acts_early _ _ (Resume r) _ _ _ c.from_residual-in_err-source.result e c.from_residual-in_err-source.ensures (both.kept ∙ (earlier.kept ∙ judged.kept))
+    (inl both.early)
+    (then_follows _ _ _ (identity_order (text_of d.identity.pass) (text_of d.identity.shared)) (Opened r.position.now ∷ Opened r.old.now ∷ Opened d.from.now ∷ (preparing (text_of d.save) ++ making (Some d.to.now) d.durability)) judged.noted
+    (then_follows _ _ _ (Opened r.position.now ∷ Opened r.old.now ∷ [])
+    (Opened d.from.now ∷ (preparing (text_of d.save) ++ making (Some d.to.now) d.durability)) earlier.noted both.followed))
+    (λ shown usage. absurd (true≢false (sym usage ∙ both.fault shown)))
+    (λ twice. absurd (judged.apart (c.names_one_twice-is_file_named_twice.ensures twice)).1) refl
+
+pub returns-in-Silent : goal.returns-in-Silent
+returns-in-Silent g c =
+    let r = c.args.asked.now in
+    let d = r.decrypting in
+    let view = g.F.FileSet.view in
+    let In = g.F.In.Source.view in
+    let Out = g.F.Out.Sink.view in
+    let judged = in_order _ _ _ _ _ _ _ _ c.in_ok-choice.ensures.order c.in_ok-secret.ensures in
+    let earlier = c.in_ok-position.ensures in
+    let both = c.in_ok-source.ensures in
+    let run = c.resume_with-resumed in
+    let first = c.in_ok-position.old in
+    let before = ports (In c.in_ok-source.source) (Out c.in_ok-source.out) in
+    resume_acts _ _ (view c.args.files.now) (view c.open_both.new.files) (view c.conclude.new.files) _ before (ports (In run.new.reader) (Out run.new.writer))
+    (record { source = c.in_ok-source.source; sink = c.in_ok-source.out; is = refl }) (record { source = run.new.reader; sink = run.new.writer; is = refl })
+    c.opening_end.result c.conclude.result (both.kept ∙ (earlier.kept ∙ judged.kept)) r c.positions_for-positions.result c.in_ok-identity.identity
+    c.in_ok-position.position (In first) (In run.new.old_reader) run.result
+    (λ shown. c.in_ok-choice.ensures.opens (view c.args.files.now).entries _ _ (judged.read shown) c.in_ok-identity.ensures)
+    (λ shown. subst (λ (f : Files). WasEarlier r c.in_ok-position.position f (In first)) judged.kept (earlier.found shown))
+    (record { source = first; sink = c.in_ok-source.out; is = refl }) (record { source = run.new.old_reader; sink = run.new.writer; is = refl })
+    (λ shown. subst (λ (f : Files). Found (paths_of d) f before) (earlier.kept ∙ judged.kept) (both.opened shown))
+    c.positions_for-positions.ensures c.opening_end.ensures run.ensures c.conclude.ensures
+    (then_did _ _ _ (identity_order (text_of d.identity.pass) (text_of d.identity.shared))
+    (Opened r.position.now ∷ Opened r.old.now ∷ Opened d.from.now ∷ (preparing (text_of d.save) ++ Created d.to.now ∷ [])) judged.noted
+    (then_did _ _ _ (Opened r.position.now ∷ Opened r.old.now ∷ []) (Opened d.from.now ∷ (preparing (text_of d.save) ++ Created d.to.now ∷ [])) earlier.noted
+    both.noted))
+    (λ twice. absurd (judged.apart (c.names_one_twice-is_file_named_twice.ensures twice)).1) (λ silent. refl)
+
+pub returns : goal.returns
+returns g c =
+    let r = c.args.asked.now in
+    let d = r.decrypting in
+    let view = g.F.FileSet.view in
+    let In = g.F.In.Source.view in
+    let Out = g.F.Out.Sink.view in
+    let judged = in_order _ _ _ _ _ _ _ _ c.in_ok-choice.ensures.order c.in_ok-secret.ensures in
+    let earlier = c.in_ok-position.ensures in
+    let both = c.in_ok-source.ensures in
+    let run = c.resume_with-resumed-in-Shown in
+    let first = c.in_ok-position.old in
+    let source = c.with_meter-metered.result.source in
+    let before = ports (In source) (Out c.in_ok-source.out) in
+    resume_acts _ _ (view c.args.files.now) (view c.open_both.new.files) (view c.conclude-in-Shown.new.files) _ before (ports (In run.new.reader.source) (Out run.new.writer))
+    (record { source = source; sink = c.in_ok-source.out; is = refl }) (record { source = run.new.reader.source; sink = run.new.writer; is = refl })
+    c.opening_end-in-Shown.result c.conclude-in-Shown.result (both.kept ∙ (earlier.kept ∙ judged.kept)) r c.positions_for-positions.result c.in_ok-identity.identity
+    c.in_ok-position.position (In first) (In run.new.old_reader) run.result
+    (λ shown. c.in_ok-choice.ensures.opens (view c.args.files.now).entries _ _ (judged.read shown) c.in_ok-identity.ensures)
+    (λ shown. subst (λ (f : Files). WasEarlier r c.in_ok-position.position f (In first)) judged.kept (earlier.found shown))
+    (record { source = first; sink = c.in_ok-source.out; is = refl }) (record { source = run.new.old_reader; sink = run.new.writer; is = refl })
+    (λ shown. let f = both.opened shown in
+    subst (λ (f : Files). Found (paths_of d) f before) (earlier.kept ∙ judged.kept)
+    (f.0, ap (λ s. (In s).remaining) c.with_meter-metered.ensures ∙ f.1, f.2, f.3))
+    c.positions_for-positions.ensures c.opening_end-in-Shown.ensures run.ensures c.conclude-in-Shown.ensures
+    (then_did _ _ _ (identity_order (text_of d.identity.pass) (text_of d.identity.shared))
+    (Opened r.position.now ∷ Opened r.old.now ∷ Opened d.from.now ∷ (preparing (text_of d.save) ++ Created d.to.now ∷ [])) judged.noted
+    (then_did _ _ _ (Opened r.position.now ∷ Opened r.old.now ∷ []) (Opened d.from.now ∷ (preparing (text_of d.save) ++ Created d.to.now ∷ [])) earlier.noted
+    both.noted))
+    (λ twice. absurd (judged.apart (c.names_one_twice-is_file_named_twice.ensures twice)).1) (λ silent. absurd (shown_not_silent (sym c.in-Shown.is ∙ silent)))

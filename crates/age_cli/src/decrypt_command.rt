@@ -1,0 +1,129 @@
+//! The command that decrypts a file.
+
+ghost use Rattle.std.specs.Prelude.{◌≡◌, true, Some};
+ghost use Rattle.age_cli_args.specs.Requests.{text_of};
+ghost use Rattle.age_cli_args.specs.declared.request.Request.TheVariants.{Decrypt};
+ghost use Rattle.age_cli_common.specs.Choices.{IsSecretIn, bytes_of, file_of};
+ghost use Rattle.age_cli_common.specs.EventOrders.{opening};
+ghost use Rattle.age_cli_common.specs.Names.{NamesTwice};
+ghost use Rattle.age_cli_common.specs.Orders.{order_asked};
+ghost use Rattle.age_cli.specs.Acts.{Acts};
+ghost use Rattle.age_cli.specs.Engines.{PortsOf};
+ghost use Rattle.age_cli.specs.Outcomes.{IsUsage, by_result};
+ghost use Rattle.age_cli.specs.Outputs.{kept_for};
+ghost use Rattle.age_cli.specs.inner.Openings.{Judges};
+
+use crate::output::{Output, conclude, open_both, with_meter};
+use crate::stop::opening_end;
+use age_cli_args::{Decrypting, ProgressOption};
+use age_cli_common::{Choice, Ending, Usage};
+use age_file::{Positions, decrypt_with};
+use age_fileset::FileSet;
+use age_io::Meter;
+use std::alloc::Global;
+
+/// Whether a name is given, and stands for the same file as another.
+pub(crate) fn is_given_as<F: FileSet>(files: &F, given: Option<&str>, name: &str) -> bool
+    ensures { text_of given.entry ≡ Some name.now → result ≡ true }
+{
+    match given {
+        Some(given) => files.is_same(given, name),
+        None => false,
+    }
+}
+
+/// Whether a name stands for a file that a decryption reads: its input, or the file of what opens
+/// that.
+fn is_read<F: FileSet>(files: &F, asked: &Decrypting<'_>, name: &str) -> bool
+    ensures from { asked.now.from.now ≡ name.now → result ≡ true }
+    ensures pass { text_of asked.now.identity.pass ≡ Some name.now → result ≡ true }
+    ensures shared { text_of asked.now.identity.shared ≡ Some name.now → result ≡ true }
+{
+    files.is_same(asked.from, name)
+        || is_given_as(files, asked.identity.pass, name)
+        || is_given_as(files, asked.identity.shared, name)
+}
+
+/// Whether two files that have to differ are one: OUT must differ from each file that is read, and
+/// the file of `--save` from all of these and from OUT.
+pub(crate) fn names_a_file_twice<F: FileSet>(files: &F, asked: &Decrypting<'_>) -> bool
+    ensures { NamesTwice (order_asked (Decrypt asked.now)).apart → result ≡ true }
+{
+    if is_read(files, asked, asked.to) {
+        return true;
+    }
+    let Some(save) = asked.save else {
+        return false;
+    };
+    if files.is_same(save, asked.to) {
+        return true;
+    }
+    is_read(files, asked, save)
+}
+
+/// Positions are kept where one is to be saved: a decryption without them is faster.
+pub(crate) fn positions_for(save: Option<&str>) -> Positions
+    ensures { result ≡ kept_for (text_of save.entry) }
+{
+    match save {
+        Some(_) => Positions::Kept,
+        None => Positions::Dropped,
+    }
+}
+
+/// The bytes of the file of what opens the input, if it has one. That isn't read if two files that
+/// have to differ are one.
+pub(crate) fn read_secret<F: FileSet>(
+    alloc: Global,
+    files: &mut F,
+    choice: &Choice<'_>,
+    is_file_named_twice: bool,
+) -> Result<Option<Vec<u8>>, Ending>
+    ensures { Judges (F.shows_bytes) (opening (file_of choice.now)) (F.view files.old)
+        (F.view files.new) (λ secret. IsSecretIn (F.view files.old).entries (file_of choice.now)
+        (bytes_of secret)) (is_file_named_twice ≡ true) result }
+{
+    if is_file_named_twice {
+        return Err(Ending::Usage(Usage::SameFile));
+    }
+    Ok(choice.read(alloc, files)?)
+}
+
+/// Decrypts a file as asked. If it stops, its position is saved.
+pub fn decrypt_file<F: FileSet, P: Meter>(
+    alloc: Global,
+    files: &mut F,
+    asked: &Decrypting<'_>,
+    progress: &mut P,
+) -> Result<(), Ending>
+    ensures { Acts (PortsOf F.In.view F.Out.view) (F.shows_bytes) (Decrypt asked.now)
+        (F.view files.old) (F.view files.new) (progress.new ≡ progress.old)
+        (by_result IsUsage result) }
+{
+    let is_file_named_twice = names_a_file_twice(files, asked);
+    let choice = Choice::of(&asked.identity)?;
+    let secret = read_secret(alloc, files, &choice, is_file_named_twice)?;
+    let identity = choice.identity(&secret)?;
+    let output = Output {
+        to: asked.to,
+        save: asked.save,
+        position: None,
+        durability: asked.durability,
+        progress: asked.progress,
+    };
+    let (mut source, mut out) = open_both(alloc, files, asked.from, &output)?;
+    let positions = positions_for(asked.save);
+    match asked.progress {
+        ProgressOption::Silent => {
+            let opened = decrypt_with(alloc, positions, &identity, &mut source, &mut out);
+            conclude(alloc, files, out, &output, opening_end(opened))
+        }
+        ProgressOption::Shown => {
+            let mut metered = with_meter(files, source, &mut *progress);
+            let opened = decrypt_with(alloc, positions, &identity, &mut metered, &mut out);
+            drop(metered);
+            progress.end();
+            conclude(alloc, files, out, &output, opening_end(opened))
+        }
+    }
+}

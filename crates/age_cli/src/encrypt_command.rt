@@ -1,0 +1,176 @@
+//! The command that encrypts a file.
+
+ghost use Rattle.std.specs.Prelude.{◌≡◌, ◌++◌, [], ◌∷◌, ℕ, List, Some, true, IfOk, IfErr, IfSome};
+ghost use Rattle.std.specs.Io.KnownBytes.{Consumes};
+ghost use Rattle.age_fileset.specs.Events.{Opened};
+ghost use Rattle.age_cli_args.specs.Requests.{text_of};
+ghost use Rattle.age_cli_args.specs.declared.request.Request.TheVariants.{Encrypt};
+ghost use Rattle.age_cli_common.specs.Endings.{EndsEarly};
+ghost use Rattle.age_cli_common.specs.Files.{Files};
+ghost use Rattle.age_cli_common.specs.Names.{NamesTwice};
+ghost use Rattle.age_cli_common.specs.Orders.{order_asked, random_name};
+ghost use Rattle.age_cli.specs.Acts.{Acts};
+ghost use Rattle.age_cli.specs.Encryptions.{MakesSecret};
+ghost use Rattle.age_cli.specs.Engines.{PortsOf};
+ghost use Rattle.age_cli.specs.Outcomes.{IsUsage, by_result};
+ghost use Rattle.age_cli.specs.inner.Openings.{Judges};
+ghost use Rattle.age_cli.specs.inner.Randoms.{IsRandom, IsMaterialIn};
+
+use crate::output::{Output, conclude, open_both, with_meter};
+use crate::stop::sealing_end;
+use age_cli_args::{Encrypting, ProgressOption};
+use age_cli_common::{Ending, Usage, read_first, read_pass, trimmed};
+use age_file::{Secret, Source, encrypt};
+use age_fileset::FileSet;
+use age_io::Meter;
+use std::alloc::Global;
+
+/// Where random bytes come from if no file is named.
+const RANDOM: &str = "/dev/urandom";
+
+/// The random parts of an age file.
+#[derive(Clone, Copy)]
+struct Random {
+    file_key: [u8; 16],
+    salt: [u8; 16],
+    payload_nonce: [u8; 16],
+}
+
+/// The random parts in bytes: file key, salt and payload nonce.
+fn random_of(bytes: &[u8]) -> Option<Random>
+    ensures { IfSome result (λ r. IsRandom bytes.now r) }
+{
+    let (file_key, rest) = bytes.split_first_chunk::<16>()?;
+    let (salt, rest) = rest.split_first_chunk::<16>()?;
+    let payload_nonce = rest.first_chunk::<16>()?;
+    Some(Random {
+        file_key: *file_key,
+        salt: *salt,
+        payload_nonce: *payload_nonce,
+    })
+}
+
+/// The random parts, from the first 48 bytes of a source.
+fn random_in<S: Source>(alloc: Global, source: &mut S) -> Result<Random, Ending>
+    ensures read { IfOk result (λ r. (bytes : List ℕ) × Consumes (S.view source.old).remaining
+        (S.view source.new).remaining bytes × IsRandom bytes r) }
+    ensures early { IfErr result EndsEarly }
+{
+    let bytes = read_first(alloc, source, 48)?;
+    match random_of(bytes.as_slice()) {
+        Some(random) => Ok(random),
+        None => Err(Ending::Usage(Usage::BadRandomFile)),
+    }
+}
+
+/// The random parts, from the first 48 bytes of a file.
+fn read_random<F: FileSet>(alloc: Global, files: &mut F, name: &str) -> Result<Random, Ending>
+    ensures kept { (F.view files.new).entries ≡ (F.view files.old).entries }
+    ensures read { IfOk result (λ r. F.shows_bytes ≡ true
+        → (bytes : List ℕ) × (rest : List ℕ)
+        × ((F.view files.old).entries name.now ≡ Some (bytes ++ rest)) × IsRandom bytes r) }
+    ensures noted { (F.view files.new).events ≡ (F.view files.old).events ++ Opened name.now ∷ [] }
+    ensures early { IfErr result EndsEarly }
+{
+    let mut source = files.open(alloc, name)?;
+    random_in(alloc, &mut source)
+}
+
+/// What a secret is made of: the bytes of the file of the passphrase, and the random parts.
+#[derive(Drop)]
+struct Material {
+    pass: Vec<u8>,
+    random: Random,
+}
+
+/// The name of the file of random bytes.
+fn random_name<'a>(asked: &Encrypting<'a>) -> &'a str
+    ensures { result.now ≡ random_name (text_of asked.now.random) }
+{
+    match asked.random {
+        Some(name) => name,
+        None => RANDOM,
+    }
+}
+
+/// Whether the output is one of the files that are read.
+fn names_out_twice<F: FileSet>(files: &F, asked: &Encrypting<'_>) -> bool
+    ensures { NamesTwice (order_asked (Encrypt asked.now)).apart → result ≡ true }
+{
+    files.is_same(asked.from, asked.to)
+        || files.is_same(asked.pass, asked.to)
+        || files.is_same(random_name(asked), asked.to)
+}
+
+/// What the secret is made of, from the files of the passphrase and of random bytes. These aren't
+/// read where the output is one of the files that are.
+fn read_material<F: FileSet>(
+    alloc: Global,
+    files: &mut F,
+    asked: &Encrypting<'_>,
+) -> Result<Material, Ending>
+    ensures { Judges (F.shows_bytes)
+        (Opened asked.now.pass.now ∷ Opened (random_name (text_of asked.now.random)) ∷ [])
+        (F.view files.old) (F.view files.new) (IsMaterialIn asked.now (F.view files.old).entries)
+        (NamesTwice (order_asked (Encrypt asked.now)).apart) result }
+{
+    if names_out_twice(files, asked) {
+        return Err(Ending::Usage(Usage::SameFile));
+    }
+    let pass = read_pass(alloc, files, asked.pass)?;
+    let random = read_random(alloc, files, random_name(asked))?;
+    Ok(Material { pass, random })
+}
+
+/// The secret of a work factor and of what it is made of.
+fn secret_of<'a>(asked: &Encrypting<'_>, material: &'a Material) -> Result<Secret<'a>, Usage>
+    ensures { IfOk result (λ secret. (old : Files) → IsMaterialIn asked.now old material.now
+        → MakesSecret asked.now old secret) }
+{
+    match Secret::new(
+        trimmed(material.pass.as_slice()),
+        asked.log,
+        &material.random.salt,
+        &material.random.file_key,
+        &material.random.payload_nonce,
+    ) {
+        Some(secret) => Ok(secret),
+        None => Err(Usage::BadPassphraseFile),
+    }
+}
+
+/// Encrypts a file as asked.
+pub fn encrypt_file<F: FileSet, P: Meter>(
+    alloc: Global,
+    files: &mut F,
+    asked: &Encrypting<'_>,
+    progress: &mut P,
+) -> Result<(), Ending>
+    ensures { Acts (PortsOf F.In.view F.Out.view) (F.shows_bytes) (Encrypt asked.now)
+        (F.view files.old) (F.view files.new) (progress.new ≡ progress.old)
+        (by_result IsUsage result) }
+{
+    let material = read_material(alloc, files, asked)?;
+    let secret = secret_of(asked, &material)?;
+    let output = Output {
+        to: asked.to,
+        save: None,
+        position: None,
+        durability: asked.durability,
+        progress: asked.progress,
+    };
+    let (mut source, mut out) = open_both(alloc, files, asked.from, &output)?;
+    match asked.progress {
+        ProgressOption::Silent => {
+            let sealed = encrypt(alloc, &secret, &mut source, &mut out);
+            conclude(alloc, files, out, &output, sealing_end(sealed))
+        }
+        ProgressOption::Shown => {
+            let mut metered = with_meter(files, source, &mut *progress);
+            let sealed = encrypt(alloc, &secret, &mut metered, &mut out);
+            drop(metered);
+            progress.end();
+            conclude(alloc, files, out, &output, sealing_end(sealed))
+        }
+    }
+}

@@ -1,0 +1,160 @@
+//! The command that continues a decryption.
+
+ghost use Rattle.std.specs.Prelude.{◌≡◌, ◌⊎◌, [], ◌∷◌, ◌++◌, true, is_some, IfOk, IfErr, OnOk};
+ghost use Rattle.age_fault.specs.declared.fault.FileFault.TheVariants.{Read, BadPosition};
+ghost use Rattle.age_fileset.specs.Events.{Opened};
+ghost use Rattle.age_fileset.specs.FileSet.{IsMemoryOr};
+ghost use Rattle.age_cli_args.specs.declared.request.Request.TheVariants.{Resume};
+ghost use Rattle.age_cli_common.specs.EventOrders.{Follows};
+ghost use Rattle.age_cli_common.specs.Names.{NamesTwice};
+ghost use Rattle.age_cli_common.specs.Orders.{order_asked};
+ghost use Rattle.age_cli.specs.Acts.{Acts};
+ghost use Rattle.age_cli.specs.Engines.{PortsOf};
+ghost use Rattle.age_cli.specs.Outcomes.{IsUsage, by_result};
+ghost use Rattle.age_cli.specs.Resumptions.{IsPositionIn, old_for};
+
+use crate::decrypt_command::{is_given_as, names_a_file_twice, positions_for, read_secret};
+use crate::output::{Output, conclude, open_both, with_meter};
+use crate::stop::opening_end;
+use age_cli_args::{ProgressOption, Resuming};
+use age_cli_common::{Choice, Ending, read_file};
+use age_file::{FileFault, Position, resume_with};
+use age_fileset::FileSet;
+use age_io::Meter;
+use std::alloc::Global;
+
+/// A position's file has fewer bytes.
+const POSITION_FILE_MAX: usize = 256;
+
+/// The position in a file.
+fn read_position<F: FileSet>(
+    alloc: Global,
+    files: &mut F,
+    name: &str,
+) -> Result<Position, FileFault>
+    ensures kept { (F.view files.new).entries ≡ (F.view files.old).entries }
+    ensures read { IfOk result
+        (λ p. F.shows_bytes ≡ true → IsPositionIn ((F.view files.old).entries name.now) p) }
+    ensures noted { (F.view files.new).events ≡ (F.view files.old).events ++ Opened name.now ∷ [] }
+    ensures faults { IfErr result (λ f. IsMemoryOr Read f ⊎ (f ≡ BadPosition)) }
+{
+    match read_file(alloc, files, name, POSITION_FILE_MAX)? {
+        Some(text) => Position::read(text.as_slice()),
+        None => Err(FileFault::BadPosition),
+    }
+}
+
+/// Whether two files that have to differ are one: those of a decryption; the earlier output must
+/// differ from IN, OUT and the file of `--save`, and OUT from the position.
+fn names_one_twice<F: FileSet>(files: &F, asked: &Resuming<'_>) -> bool
+    ensures { NamesTwice (order_asked (Resume asked.now)).apart → result ≡ true }
+{
+    let others = &asked.decrypting;
+    names_a_file_twice(files, others)
+        || files.is_same(asked.position, others.to)
+        || files.is_same(asked.old, others.from)
+        || files.is_same(asked.old, others.to)
+        || is_given_as(files, others.save, asked.old)
+}
+
+/// Opens the earlier output. Where the position has no chunk before it, a missing one counts as
+/// empty: a run that stops before its first chunk makes none.
+fn open_old<F: FileSet>(
+    alloc: Global,
+    files: &mut F,
+    name: &str,
+    position: &Position,
+) -> Result<F::In, FileFault>
+    ensures kept { (F.view files.new).entries ≡ (F.view files.old).entries }
+    ensures found { IfOk result (λ s. F.shows_bytes ≡ true
+        → (is_some (old_for position.now ((F.view files.old).entries name.now)) ≡ true)
+        × ((F.In.view s).remaining ≡ old_for position.now ((F.view files.old).entries name.now))) }
+    ensures noted { (F.view files.new).events ≡ (F.view files.old).events ++ Opened name.now ∷ [] }
+    ensures faults { IfErr result (IsMemoryOr Read) }
+{
+    if position.index == 0 {
+        files.open_or_empty(alloc, name)
+    } else {
+        files.open(alloc, name)
+    }
+}
+
+/// The position, and then the earlier output, opened.
+fn open_earlier<F: FileSet>(
+    alloc: Global,
+    files: &mut F,
+    asked: &Resuming<'_>,
+) -> Result<(Position, F::In), FileFault>
+    ensures kept { (F.view files.new).entries ≡ (F.view files.old).entries }
+    ensures found { IfOk result (λ both. F.shows_bytes ≡ true
+        → IsPositionIn ((F.view files.old).entries asked.now.position.now) both.0
+        × (is_some (old_for both.0 ((F.view files.old).entries asked.now.old.now)) ≡ true)
+        × ((F.In.view both.1).remaining
+        ≡ old_for both.0 ((F.view files.old).entries asked.now.old.now))) }
+    ensures noted { OnOk result ((F.view files.new).events ≡ (F.view files.old).events
+        ++ Opened asked.now.position.now ∷ Opened asked.now.old.now ∷ []) }
+    ensures follows { Follows (Opened asked.now.position.now ∷ Opened asked.now.old.now ∷ [])
+        (F.view files.old).events (F.view files.new).events }
+    ensures faults { IfErr result (λ f. IsMemoryOr Read f ⊎ (f ≡ BadPosition)) }
+{
+    let position = read_position(alloc, files, asked.position)?;
+    let old = open_old(alloc, files, asked.old, &position)?;
+    Ok((position, old))
+}
+
+/// Continues a decryption as asked. If it stops, its position is saved.
+pub fn resume_file<F: FileSet, P: Meter>(
+    alloc: Global,
+    files: &mut F,
+    asked: &Resuming<'_>,
+    progress: &mut P,
+) -> Result<(), Ending>
+    ensures { Acts (PortsOf F.In.view F.Out.view) (F.shows_bytes) (Resume asked.now)
+        (F.view files.old) (F.view files.new) (progress.new ≡ progress.old)
+        (by_result IsUsage result) }
+{
+    let wanted = &asked.decrypting;
+    let is_file_named_twice = names_one_twice(files, asked);
+    let choice = Choice::of(&wanted.identity)?;
+    let secret = read_secret(alloc, files, &choice, is_file_named_twice)?;
+    let identity = choice.identity(&secret)?;
+    let (position, mut old) = open_earlier(alloc, files, asked)?;
+    let output = Output {
+        to: wanted.to,
+        save: wanted.save,
+        position: Some(asked.position),
+        durability: wanted.durability,
+        progress: wanted.progress,
+    };
+    let (mut source, mut out) = open_both(alloc, files, wanted.from, &output)?;
+    let positions = positions_for(wanted.save);
+    match wanted.progress {
+        ProgressOption::Silent => {
+            let resumed = resume_with(
+                alloc,
+                positions,
+                &identity,
+                &position,
+                &mut source,
+                &mut old,
+                &mut out,
+            );
+            conclude(alloc, files, out, &output, opening_end(resumed))
+        }
+        ProgressOption::Shown => {
+            let mut metered = with_meter(files, source, &mut *progress);
+            let resumed = resume_with(
+                alloc,
+                positions,
+                &identity,
+                &position,
+                &mut metered,
+                &mut old,
+                &mut out,
+            );
+            drop(metered);
+            progress.end();
+            conclude(alloc, files, out, &output, opening_end(resumed))
+        }
+    }
+}
