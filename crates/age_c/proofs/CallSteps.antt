@@ -17,6 +17,7 @@ use Rattle.age_c.specs.Numbers.{status_of, misused}
 use Rattle.age_c.specs.Readers.{IsAt, key_of, opens, text_of}
 use Rattle.age_c.specs.ReaderCalls.{Call, IsCall, AreCalls, CallsAreWritten, after_block, after_end, given_by, segment_from, texts_of, seals}
 use Rattle.age_c.proofs.ReaderSteps.{key_same, some_is}
+use Rattle.age_chunk.specs.Payload.{chunk_length}
 
 -- a call leaves the segment's start
 start_piece : (a : ℕ) (b : List ℕ) (ended late : Bool) (piece : List ℕ)
@@ -73,7 +74,7 @@ both : (r : Reader) (c : Call) (s : Segment) (calls : List Call) → After r s (
     → After r s (segment_from (next c s) calls) (c.text ++ texts_of calls) (last_reader c.after calls)
 both r c s calls first others =
     let there : text_of r (segment_from (next c s) calls) ≡ text_of r (next c s) ++ texts_of calls =
-    subst (λ (k : List ℕ). released (opens k) 65536 (segment_from (next c s) calls) ≡ released (opens k) 65536 (next c s) ++ texts_of calls)
+    subst (λ (k : List ℕ). released (opens k) chunk_length (segment_from (next c s) calls) ≡ released (opens k) chunk_length (next c s) ++ texts_of calls)
     first.key others.text_is in
     record {
       at = others.at;
@@ -100,28 +101,28 @@ done_after : (r : Reader) (c : Call) → IsCall r c → c.is_end ≡ true → c.
 done_after r c (inl idle) is_end zero = let e : 0 ≡ 255 = sym zero ∙ idle.0 in absurd (omega (arith, e))
 done_after r c (inr taken) is_end zero = taken.2 is_end zero
 
-done_status : (r : Reader) (s : Segment) → IsAt r s → r.state ≡ 3 → (outcome (opens (key_of r)) 65536 s).status ≡ Done
+done_status : (r : Reader) (s : Segment) → IsAt r s → r.state ≡ 3 → (outcome (opens (key_of r)) chunk_length s).status ≡ Done
 done_status r s h three = some_is (sym h.status ∙ ap (λ (n : ℕ). status_of n r.fault_chunk) three)
 
 pub calls_are_written : CallsAreWritten
 calls_are_written r h calls are text few authentic =
     let after = all_calls calls r (fresh 0) h are in
     let s = segment_from (fresh 0) calls in
-    let positive : 0 < 65536 = omega arith in
-    let reached : IsReached (seals (key_of r)) (opens (key_of r)) 65536 text s = record {
+    let positive : 0 < chunk_length = omega arith in
+    let reached : IsReached (seals (key_of r)) (opens (key_of r)) chunk_length text s = record {
       limit = omega (arith, after.start);
-      within = omega (arith, ap (λ (n : ℕ). n * 65536) after.start);
+      within = omega (arith, ap (λ (n : ℕ). n * chunk_length) after.start);
     } in
-    let right = released_is_written (seals (key_of r)) (opens (key_of r)) (box_valid (key_of r)) 65536 positive s text few reached authentic in
-    let none : take (s.start * 65536) text ≡ [] = ap (λ (n : ℕ). take (n * 65536) text) after.start in
-    let nothing : text_of r (fresh 0) ≡ [] = ap (λ (o : Outcome). flat_map (λ (t : List ℕ). t) o.texts) (fresh_outcome (opens (key_of r)) 65536 0) in
-    let is : take (s.start * 65536) text ++ text_of r s ≡ texts_of calls =
+    let right = released_is_written (seals (key_of r)) (opens (key_of r)) (box_valid (key_of r)) chunk_length positive s text few reached authentic in
+    let none : take (s.start * chunk_length) text ≡ [] = ap (λ (n : ℕ). take (n * chunk_length) text) after.start in
+    let nothing : text_of r (fresh 0) ≡ [] = ap (λ (o : Outcome). flat_map (λ (t : List ℕ). t) o.texts) (fresh_outcome (opens (key_of r)) chunk_length 0) in
+    let is : take (s.start * chunk_length) text ++ text_of r s ≡ texts_of calls =
     ap (λ (t : List ℕ). t ++ text_of r s) none ∙ (after.text_is ∙ ap (λ (t : List ℕ). t ++ texts_of calls) nothing) in (
       (right.prefix.0, ap (λ (t : List ℕ). t ++ right.prefix.0) (sym is) ∙ right.prefix.1),
       λ before last parts is_end zero.
           let end = last_is before last r (subst (λ (cs : List Call). AreCalls r cs) parts are) in
           let reader : last_reader r calls ≡ last.after = ap (last_reader r) parts ∙ end.0 in
           let three : (last_reader r calls).state ≡ 3 = ap (λ (r : Reader). r.state) reader ∙ done_after (last_reader r before) last end.1 is_end zero in
-          let status = subst (λ (k : List ℕ). (outcome (opens k) 65536 s).status ≡ Done) after.key (done_status (last_reader r calls) s after.at three) in
+          let status = subst (λ (k : List ℕ). (outcome (opens k) chunk_length s).status ≡ Done) after.key (done_status (last_reader r calls) s after.at three) in
           sym is ∙ right.done status,
     )

@@ -8,8 +8,9 @@ use Rattle.std.proofs.lemmas.List.{append_assoc, append-nil, drop_at, length-app
 use Rattle.std.proofs.lemmas.Bool.Decides.{eqb_tells}
 use Rattle.std.proofs.lemmas.Grind.{flat_map-append}
 use Rattle.age_chunk.specs.Nonce.{nonce_bytes, chunk_limit}
-use Rattle.age_chunk.specs.Payload.{pair, block_bytes, payload, last_index, last_chunk}
-use Rattle.age_stream.proofs.Chunks.{first_chunks_more, first_chunks-append, enumerate_from_more, length-first_chunks}
+use Rattle.age_chunk.specs.Payload.{pair, block_bytes, payload, last_index, last_chunk, chunk_length}
+use Rattle.age_chunk.proofs.FirstChunks.{first_chunks_more, first_chunks-append, length-first_chunks}
+use Rattle.age_stream.proofs.Chunks.{enumerate_from_more}
 use Rattle.age_stream.proofs.Sealings.{last_index_is}
 use Rattle.age_c.specs.declared.writer.Writer.{Writer}
 use Rattle.age_c.specs.ReaderCalls.{seals}
@@ -83,33 +84,33 @@ module _ (sealing : List ℕ → List ℕ → List ℕ) (m k : ℕ) (text : List
 
 pub seals_chunk : (old new : Writer) (chunk bytes : List ℕ) → old.state ≡ 1 → new.state ≡ old.state → new.chunk ≡ old.chunk + 1
     → old.chunk + 1 < chunk_limit → SameFile old new
-    → length chunk ≡ 65536 → bytes ≡ seals (key_of old) (nonce_bytes old.chunk false) chunk
+    → length chunk ≡ chunk_length → bytes ≡ seals (key_of old) (nonce_bytes old.chunk false) chunk
     → SealsChunk chunk old bytes new
 seals_chunk old new chunk bytes first still next limit same size is =
     record {
       sealed = λ text h. record {
         unfinished = still ∙ first;
-        whole = omega (arith, length-append text chunk, h.whole, size, ap (λ (n : ℕ). n * 65536) next);
+        whole = omega (arith, length-append text chunk, h.whole, size, ap (λ (n : ℕ). n * chunk_length) next);
       };
       blocks = λ text h.
-          let more = blocks_more (seals (key_of old)) 65536 old.chunk text h.whole chunk size in
+          let more = blocks_more (seals (key_of old)) chunk_length old.chunk text h.whole chunk size in
           let key = key_same old new same in
-          ap (λ (k : List ℕ). block_bytes (map (pair (seals k) false) (enumerate_from 0 (first_chunks 65536 new.chunk (text ++ chunk))))) key
-          ∙ (ap (λ (n : ℕ). block_bytes (map (pair (seals (key_of old)) false) (enumerate_from 0 (first_chunks 65536 n (text ++ chunk))))) next
+          ap (λ (k : List ℕ). block_bytes (map (pair (seals k) false) (enumerate_from 0 (first_chunks chunk_length new.chunk (text ++ chunk))))) key
+          ∙ (ap (λ (n : ℕ). block_bytes (map (pair (seals (key_of old)) false) (enumerate_from 0 (first_chunks chunk_length n (text ++ chunk))))) next
           ∙ (more ∙ ap (λ (b : List ℕ). blocks_of old text ++ b) (sym is)));
       usable = record { unfinished = still ∙ first; chunk = omega (arith, next, limit) };
       same = same;
     }
 
 pub seals_last : (old new : Writer) (rest bytes : List ℕ) → old.chunk < chunk_limit → new.state ≡ 2 → SameFile old new
-    → length rest ≤ 65536 → (length rest ≡ 0 → old.chunk ≡ 0) → bytes ≡ seals (key_of old) (nonce_bytes old.chunk true) rest
+    → length rest ≤ chunk_length → (length rest ≡ 0 → old.chunk ≡ 0) → bytes ≡ seals (key_of old) (nonce_bytes old.chunk true) rest
     → SealsLast rest old bytes new
 seals_last old new rest bytes limit finished same short some is =
-    let positive : 0 < 65536 = omega arith in
+    let positive : 0 < chunk_length = omega arith in
     record {
-      payload_is = λ text h. payload_more (seals (key_of old)) 65536 old.chunk text h.whole rest positive short some
+      payload_is = λ text h. payload_more (seals (key_of old)) chunk_length old.chunk text h.whole rest positive short some
           ∙ ap (λ (b : List ℕ). blocks_of old text ++ b) (sym is);
-      few = λ text h. omega (arith, rest_index (seals (key_of old)) 65536 old.chunk text h.whole rest positive short some, limit);
+      few = λ text h. omega (arith, rest_index (seals (key_of old)) chunk_length old.chunk text h.whole rest positive short some, limit);
       finished = finished;
       same = same;
     }
@@ -167,7 +168,7 @@ all_calls (c ∷ calls) w text h are =
 none_yet : (w : Writer) → HasSealed w [] → blocks_of w [] ≡ []
 none_yet w h =
     let z : w.chunk ≡ 0 = omega (arith, h.whole) in
-    ap (λ (n : ℕ). block_bytes (map (pair (seals (key_of w)) false) (enumerate_from 0 (first_chunks 65536 n [])))) z
+    ap (λ (n : ℕ). block_bytes (map (pair (seals (key_of w)) false) (enumerate_from 0 (first_chunks chunk_length n [])))) z
 
 pub calls_are_payload : CallsArePayload
 calls_are_payload w h calls are last is is_end zero =
@@ -176,5 +177,5 @@ calls_are_payload w h calls are last is is_end zero =
     let whole = seals_last.payload_is (taken_by calls) after.sealed in
     let front : blocks_of (writer_after w calls) (taken_by calls) ≡ written_by calls =
     after.blocks ∙ ap (λ (b : List ℕ). b ++ written_by calls) (none_yet w h) in
-    sym (ap (λ (k : List ℕ). payload (seals k) 65536 (taken_by calls ++ last.text)) (sym after.key)
+    sym (ap (λ (k : List ℕ). payload (seals k) chunk_length (taken_by calls ++ last.text)) (sym after.key)
     ∙ (whole ∙ ap (λ (b : List ℕ). b ++ last.bytes) front))

@@ -5,7 +5,7 @@ use Rattle.std.specs.List.{flat_map}
 use Rattle.age_cipher.specs.Aead.{sealing as sealing_with}
 use Rattle.age_chunk.specs.ChunkBoxes.{Seals}
 use Rattle.age_chunk.specs.Nonce.{chunk_limit}
-use Rattle.age_chunk.specs.Payload.{chunk_count}
+use Rattle.age_chunk.specs.Payload.{chunk_count, chunk_length, block_length}
 use Rattle.age_stream.specs.Segment.{Segment}
 use Rattle.age_stream.specs.Deliveries.{with_piece, with_end, fresh}
 use Rattle.age_stream.specs.Headline.{IsAuthentic, IsPrefixOf}
@@ -43,14 +43,14 @@ pub record TakesEnd (rest : List ℕ) (old : Reader) (answer : ℕ) (text : List
 -- the call isn't misused: the reader can be used, and there is a whole block, and room for its text
 pub record IsBlockCall (r : Reader) (block out : List ℕ) : Type 0 where
   pub usable : CanBeUsed r
-  pub whole : length block ≡ 65552
-  pub room : 65536 ≤ length out
+  pub whole : length block ≡ block_length
+  pub room : chunk_length ≤ length out
 
 -- the same of an end: what is left is shorter than a block
 pub record IsEndCall (r : Reader) (rest out : List ℕ) : Type 0 where
   pub usable : CanBeUsed r
-  pub short : length rest < 65552
-  pub room : 65536 ≤ length out
+  pub short : length rest < block_length
+  pub room : chunk_length ≤ length out
 
 -- a call: whether it is an end, what it was given, what it answered and wrote, and the reader after
 -- it
@@ -92,8 +92,9 @@ texts_of calls = flat_map (λ (c : Call). c.text) calls
 -- and where the last call is an end that answered 0, all of it
 abbrev pub CallsAreWritten : Type 0
 CallsAreWritten = (r : Reader) → IsAt r (fresh 0) → (calls : List Call) → AreCalls r calls
-    → (text : List ℕ) → chunk_count 65536 text ≤ chunk_limit
-    → IsAuthentic (seals (key_of r)) (opens (key_of r)) 65536 text (segment_from (fresh 0) calls)
+    → (text : List ℕ) → chunk_count chunk_length text ≤ chunk_limit
+    → IsAuthentic (seals (key_of r)) (opens (key_of r)) chunk_length text
+    (segment_from (fresh 0) calls)
     → IsPrefixOf (texts_of calls) text
     × ((before : List Call) (last : Call) → calls ≡ before ++ last ∷ [] → last.is_end ≡ true
     → last.answer ≡ 0 → texts_of calls ≡ text)

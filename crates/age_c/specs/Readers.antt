@@ -7,6 +7,7 @@ use Rattle.age_stream.specs.Segment.{Segment, outcome, released, rest_bytes}
 use Rattle.age_chunk.specs.Nonce.{chunk_limit}
 use Rattle.age_c.specs.declared.reader.Reader.{Reader}
 use Rattle.age_c.specs.Numbers.{status_of}
+use Rattle.age_chunk.specs.Payload.{chunk_length}
 
 -- how the payload's key opens a block at a nonce
 abbrev pub opens : List ℕ → List ℕ → List ℕ → Option (List ℕ)
@@ -19,14 +20,16 @@ key_of r = payload_key r.file_key r.nonce
 -- the reader was given this segment: it stands where the outcome says, and was given whole blocks
 -- while it is open
 pub record IsAt (r : Reader) (s : Segment) : Type 0 where
-  pub status : status_of r.state r.fault_chunk ≡ Some (outcome (opens (key_of r)) 65536 s).status
-  pub index : r.chunk ≡ (outcome (opens (key_of r)) 65536 s).index
-  pub whole : (outcome (opens (key_of r)) 65536 s).status ≡ Open → rest_bytes 65536 s.bytes ≡ []
+  pub status : status_of r.state r.fault_chunk
+      ≡ Some (outcome (opens (key_of r)) chunk_length s).status
+  pub index : r.chunk ≡ (outcome (opens (key_of r)) chunk_length s).index
+  pub whole : (outcome (opens (key_of r)) chunk_length s).status ≡ Open
+      → rest_bytes chunk_length s.bytes ≡ []
   pub timely : s.ended ≡ false → s.late ≡ false
 
 -- the text that a reader of a segment releases
 abbrev pub text_of : Reader → Segment → List ℕ
-text_of r s = released (opens (key_of r)) 65536 s
+text_of r s = released (opens (key_of r)) chunk_length s
 
 -- the file and its keys are the same
 pub record SameFile (was now : Reader) : Type 0 where

@@ -2,7 +2,7 @@
 use Rattle.std.specs.Prelude.{◌≡◌, ◌≢◌, ℕ, ◌==◌, Bool, true, false, List, [], ◌∷◌, ◌++◌}
 use Rattle.std.specs.Prelude.{if◌then◌else◌}
 use Rattle.std.specs.List.{flat_map}
-use Rattle.age_chunk.specs.Payload.{payload}
+use Rattle.age_chunk.specs.Payload.{payload, chunk_length}
 use Rattle.age_c.specs.declared.writer.Writer.{Writer}
 use Rattle.age_c.specs.ReaderCalls.{seals}
 use Rattle.age_c.specs.Writers.{HasSealed, SealsChunk, SealsLast, key_of}
@@ -47,4 +47,4 @@ CallsArePayload = (w : Writer) → HasSealed w [] → (calls : List SealCall) �
     → (last : SealCall) → IsSealCall (writer_after w calls) last → last.is_end ≡ true
     → last.answer ≡ 0
     → written_by calls ++ last.bytes
-    ≡ payload (seals (key_of w)) 65536 (taken_by calls ++ last.text)
+    ≡ payload (seals (key_of w)) chunk_length (taken_by calls ++ last.text)

@@ -8,9 +8,11 @@ use Rattle.age_keys.specs.Keys.{payload_key}
 use Rattle.age_keys.specs.Passphrase.{IsAllowed}
 use Rattle.age_keys.specs.Scrypt.{scrypt_head}
 use Rattle.age_chunk.specs.Nonce.{chunk_limit}
-use Rattle.age_chunk.specs.Payload.{pair, block_bytes, payload, chunk_count}
+use Rattle.age_chunk.specs.Payload.{chunk_length, block_length, chunk_count}
+use Rattle.age_chunk.specs.Payload.{pair, block_bytes, payload}
 use Rattle.age_c.specs.declared.writer.Writer.{Writer}
 use Rattle.age_c.specs.ReaderCalls.{seals}
+use Rattle.age_chunk.specs.ChunkBoxes.{tag_length}
 
 -- the payload's key
 abbrev pub key_of : Writer → List ℕ
@@ -24,12 +26,13 @@ pub record CanBeUsed (w : Writer) : Type 0 where
 -- the writer was given this text, in whole chunks
 pub record HasSealed (w : Writer) (text : List ℕ) : Type 0 where
   pub unfinished : w.state ≡ 1
-  pub whole : length text ≡ w.chunk * 65536
+  pub whole : length text ≡ w.chunk * chunk_length
 
 -- the blocks of whole chunks, none of which is the last
 abbrev pub blocks_of : Writer → List ℕ → List ℕ
 blocks_of w text = block_bytes
-    (map (pair (seals (key_of w)) false) (enumerate_from 0 (first_chunks 65536 w.chunk text)))
+    (map (pair (seals (key_of w)) false)
+    (enumerate_from 0 (first_chunks chunk_length w.chunk text)))
 
 -- the file and its keys are the same
 pub record SameFile (was now : Writer) : Type 0 where
@@ -50,23 +53,24 @@ pub record SealsChunk (chunk : List ℕ) (old : Writer) (bytes : List ℕ) (new 
 pub record SealsLast (rest : List ℕ) (old : Writer) (bytes : List ℕ) (new : Writer)
     : Type 0 where
   pub payload_is : (text : List ℕ) → HasSealed old text
-      → payload (seals (key_of old)) 65536 (text ++ rest) ≡ blocks_of old text ++ bytes
-  pub few : (text : List ℕ) → HasSealed old text → chunk_count 65536 (text ++ rest) ≤ chunk_limit
+      → payload (seals (key_of old)) chunk_length (text ++ rest) ≡ blocks_of old text ++ bytes
+  pub few : (text : List ℕ) → HasSealed old text
+      → chunk_count chunk_length (text ++ rest) ≤ chunk_limit
   pub finished : new.state ≡ 2
   pub same : SameFile old new
 
 -- a call that isn't misused has a writer that can be used, a whole chunk, and room for its block
 pub record IsChunkCall (w : Writer) (chunk out : List ℕ) : Type 0 where
   pub usable : CanBeUsed w
-  pub whole : length chunk ≡ 65536
-  pub room : 65552 ≤ length out
+  pub whole : length chunk ≡ chunk_length
+  pub room : block_length ≤ length out
 
 -- the same of the last chunk, which has a byte, unless the whole text has none
 pub record IsLastCall (w : Writer) (rest out : List ℕ) : Type 0 where
   pub usable : CanBeUsed w
-  pub short : length rest ≤ 65536
+  pub short : length rest ≤ chunk_length
   pub some : length rest ≡ 0 → w.chunk ≡ 0
-  pub room : length rest + 16 ≤ length out
+  pub room : length rest + tag_length ≤ length out
 
 -- the random bytes that a file is made of: the file key, the stanza's salt and the payload's nonce
 abbrev pub key_in : List ℕ → List ℕ

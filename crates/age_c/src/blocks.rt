@@ -11,21 +11,17 @@ ghost use Rattle.age_c.specs.Numbers.{answer_of, status_of};
 ghost use Rattle.age_c.specs.ReaderCalls.{Takes, TakesEnd, after_block};
 ghost use Rattle.age_c.specs.Readers.{CanBeUsed, SameFile, opens};
 ghost use Rattle.age_c.specs.Readers.{key_of as key_in};
+ghost use Rattle.age_chunk.specs.Payload.{chunk_length, block_length};
+ghost use Rattle.age_chunk.specs.ChunkBoxes.{tag_length};
 
 use crate::numbers::{numbers_of, status_of};
 use crate::reader::Reader;
-use age_chunk::CHUNK_LIMIT;
+use age_chunk::{BLOCK_LEN, CHUNK_LIMIT};
 use age_keys::{FileKey, PayloadKey, payload_key};
 use age_stream::{Opener, Status};
 
-/// The length of a whole block.
-pub(crate) const BLOCK: usize = 65_552;
-
-/// The length of a whole chunk.
-pub(crate) const CHUNK: usize = 65_536;
-
 /// What opens the blocks of a payload.
-type PayloadOpener<'a> = Opener<'a, PayloadKey, 65552>;
+type PayloadOpener<'a> = Opener<'a, PayloadKey, BLOCK_LEN>;
 
 /// The status of a reader, if it is at a chunk that a payload may have.
 pub(crate) fn status_at(reader: &Reader) -> Option<Status>
@@ -51,7 +47,7 @@ fn key_of(reader: &Reader) -> PayloadKey
 pub(crate) fn put(bytes: &[u8], out: &mut [u8]) -> usize
     requires { length bytes.now ≤ length out.old }
     ensures bytes { take result out.new ≡ bytes.now }
-    ensures behind { drop result out.new ≡ drop result out.old }
+    ensures after { drop result out.new ≡ drop result out.old }
     ensures most { result ≤ length out.new }
     ensures len { result ≡ length bytes.now }
 {
@@ -63,7 +59,7 @@ pub(crate) fn put(bytes: &[u8], out: &mut [u8]) -> usize
 fn put_chunk(chunk: Option<&[u8]>, out: &mut [u8]) -> usize
     requires { length (chunk_bytes chunk) ≤ length out.old }
     ensures text { take result out.new ≡ chunk_bytes chunk.entry }
-    ensures behind { drop result out.new ≡ drop result out.old }
+    ensures after { drop result out.new ≡ drop result out.old }
     ensures most { result ≤ length out.new }
 {
     match chunk {
@@ -90,17 +86,17 @@ fn keep(reader: &mut Reader, index: u64, status: Status)
 /// Feeds a whole block, and returns how many bytes of text it put into `out`.
 fn feed_block(opener: &mut PayloadOpener<'_>, block: &[u8], out: &mut [u8]) -> usize
     requires held { opener.old.held ≡ [] }
-    requires block { length block.now ≡ 65552 }
-    requires room { 65536 ≤ length out.old }
+    requires block { length block.now ≡ block_length }
+    requires room { chunk_length ≤ length out.old }
     ensures key { opener.new.key ≡ opener.old.key }
-    ensures stands { (s : Segment) → Stands opens 65536 opener.old s
-        → Stands opens 65536 opener.new (with_piece s block.now) }
-    ensures text { (s : Segment) → Stands opens 65536 opener.old s
-        → released (opens opener.old.key) 65536 (with_piece s block.now)
-        ≡ released (opens opener.old.key) 65536 s ++ take result out.new }
+    ensures stands { (s : Segment) → Stands opens chunk_length opener.old s
+        → Stands opens chunk_length opener.new (with_piece s block.now) }
+    ensures text { (s : Segment) → Stands opens chunk_length opener.old s
+        → released (opens opener.old.key) chunk_length (with_piece s block.now)
+        ≡ released (opens opener.old.key) chunk_length s ++ take result out.new }
     ensures nothing { has_failed opener.new.status ≡ true → result ≡ 0 }
     ensures was_open { opener.new.status ≡ Status.Open → opener.old.status ≡ Status.Open }
-    ensures behind { drop result out.new ≡ drop result out.old }
+    ensures after { drop result out.new ≡ drop result out.old }
     ensures most { result ≤ length out.new }
 {
     match opener.feed(block) {
@@ -112,13 +108,13 @@ fn feed_block(opener: &mut PayloadOpener<'_>, block: &[u8], out: &mut [u8]) -> u
 /// Feeds what is left before the end, which is shorter than a block, so that no text comes.
 fn feed_rest(opener: &mut PayloadOpener<'_>, rest: &[u8])
     requires held { opener.old.held ≡ [] }
-    requires rest { length rest.now < 65552 }
+    requires rest { length rest.now < block_length }
     ensures key { opener.new.key ≡ opener.old.key }
-    ensures stands { (s : Segment) → Stands opens 65536 opener.old s
-        → Stands opens 65536 opener.new (with_piece s rest.now) }
-    ensures text { (s : Segment) → Stands opens 65536 opener.old s
-        → released (opens opener.old.key) 65536 (with_piece s rest.now)
-        ≡ released (opens opener.old.key) 65536 s }
+    ensures stands { (s : Segment) → Stands opens chunk_length opener.old s
+        → Stands opens chunk_length opener.new (with_piece s rest.now) }
+    ensures text { (s : Segment) → Stands opens chunk_length opener.old s
+        → released (opens opener.old.key) chunk_length (with_piece s rest.now)
+        ≡ released (opens opener.old.key) chunk_length s }
     ensures room { has_failed opener.new.status ≡ false
         → length opener.new.held ≤ length rest.now }
 {
@@ -131,17 +127,17 @@ fn feed_rest(opener: &mut PayloadOpener<'_>, rest: &[u8])
 /// Ends, and returns how many bytes of text it put into `out`.
 fn end_opener(opener: &mut PayloadOpener<'_>, out: &mut [u8]) -> usize
     requires room { has_failed opener.old.status ≡ false
-        → length opener.old.held ≤ length out.old + 16 }
+        → length opener.old.held ≤ length out.old + tag_length }
     ensures key { opener.new.key ≡ opener.old.key }
-    ensures stands { (s : Segment) → Stands opens 65536 opener.old s
-        → Stands opens 65536 opener.new (with_end s) }
-    ensures text { (s : Segment) → Stands opens 65536 opener.old s
-        → released (opens opener.old.key) 65536 (with_end s)
-        ≡ released (opens opener.old.key) 65536 s ++ take result out.new }
+    ensures stands { (s : Segment) → Stands opens chunk_length opener.old s
+        → Stands opens chunk_length opener.new (with_end s) }
+    ensures text { (s : Segment) → Stands opens chunk_length opener.old s
+        → released (opens opener.old.key) chunk_length (with_end s)
+        ≡ released (opens opener.old.key) chunk_length s ++ take result out.new }
     ensures nothing { has_failed opener.new.status ≡ true → result ≡ 0 }
     ensures closed { opener.new.status ≢ Status.Open }
     ensures done { has_failed opener.new.status ≡ false → opener.new.status ≡ Status.Done }
-    ensures behind { drop result out.new ≡ drop result out.old }
+    ensures after { drop result out.new ≡ drop result out.old }
     ensures most { result ≤ length out.new }
 {
     match opener.end() {
@@ -154,11 +150,11 @@ fn end_opener(opener: &mut PayloadOpener<'_>, out: &mut [u8]) -> usize
 pub(crate) fn open_block(reader: &mut Reader, status: Status, block: &[u8], out: &mut [u8]) -> usize
     requires status { status_of reader.old.state reader.old.fault_chunk ≡ Some status }
     requires limit { reader.old.chunk < chunk_limit }
-    requires block { length block.now ≡ 65552 }
-    requires room { 65536 ≤ length out.old }
+    requires block { length block.now ≡ block_length }
+    requires room { chunk_length ≤ length out.old }
     ensures takes { Takes (after_block block.now) reader.old (answer_of reader.new.state)
         (take result out.new) reader.new }
-    ensures behind { drop result out.new ≡ drop result out.old }
+    ensures after { drop result out.new ≡ drop result out.old }
     ensures most { result ≤ length out.new }
 {
     let key = key_of(reader);
@@ -173,11 +169,11 @@ pub(crate) fn open_block(reader: &mut Reader, status: Status, block: &[u8], out:
 pub(crate) fn open_last(reader: &mut Reader, status: Status, rest: &[u8], out: &mut [u8]) -> usize
     requires status { status_of reader.old.state reader.old.fault_chunk ≡ Some status }
     requires limit { reader.old.chunk < chunk_limit }
-    requires rest { length rest.now < 65552 }
-    requires room { 65536 ≤ length out.old }
+    requires rest { length rest.now < block_length }
+    requires room { chunk_length ≤ length out.old }
     ensures takes { TakesEnd rest.now reader.old (answer_of reader.new.state)
         (take result out.new) reader.new }
-    ensures behind { drop result out.new ≡ drop result out.old }
+    ensures after { drop result out.new ≡ drop result out.old }
     ensures most { result ≤ length out.new }
 {
     let key = key_of(reader);

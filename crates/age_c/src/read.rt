@@ -4,9 +4,10 @@ ghost use Rattle.std.specs.Prelude.{◌≡◌, ◌≢◌, ◌≤◌, length, tak
 ghost use Rattle.age_c.specs.ReaderCalls.{IsBlockCall, IsEndCall, Takes, TakesEnd, after_block};
 
 use crate::MISUSED;
-use crate::blocks::{BLOCK, CHUNK, open_block, open_last, status_at};
+use crate::blocks::{open_block, open_last, status_at};
 use crate::numbers::answer_of;
 use crate::reader::Reader;
+use age_chunk::{BLOCK_LEN, CHUNK_LEN};
 
 /// Opens a whole block of 65,552 bytes, and puts its text into `out`, which has room for 65,536 or
 /// more. The answer is 0 or the number of a fault, 17 to 22, with which the reader refuses each
@@ -20,7 +21,7 @@ pub extern "C" fn age_c_block(
 ) -> u32
     ensures taken { result ≢ 255 → Takes (after_block block.now) reader.old result
         (take written.new out.new) reader.new }
-    ensures behind { drop written.new out.new ≡ drop written.new out.old }
+    ensures after { drop written.new out.new ≡ drop written.new out.old }
     ensures most { written.new ≤ length out.new }
     ensures fits { IsBlockCall reader.old block.now out.old → result ≢ 255 }
     ensures meant { result ≢ 255 → IsBlockCall reader.old block.now out.old }
@@ -30,7 +31,7 @@ pub extern "C" fn age_c_block(
     let Some(status) = status_at(reader) else {
         return MISUSED;
     };
-    if block.len() != BLOCK || out.len() < CHUNK {
+    if block.len() != BLOCK_LEN || out.len() < CHUNK_LEN {
         return MISUSED;
     }
     *written = open_block(reader, status, block, out);
@@ -49,7 +50,7 @@ pub extern "C" fn age_c_end(
 ) -> u32
     ensures taken { result ≢ 255
         → TakesEnd rest.now reader.old result (take written.new out.new) reader.new }
-    ensures behind { drop written.new out.new ≡ drop written.new out.old }
+    ensures after { drop written.new out.new ≡ drop written.new out.old }
     ensures most { written.new ≤ length out.new }
     ensures fits { IsEndCall reader.old rest.now out.old → result ≢ 255 }
     ensures meant { result ≢ 255 → IsEndCall reader.old rest.now out.old }
@@ -59,7 +60,7 @@ pub extern "C" fn age_c_end(
     let Some(status) = status_at(reader) else {
         return MISUSED;
     };
-    if rest.len() >= BLOCK || out.len() < CHUNK {
+    if rest.len() >= BLOCK_LEN || out.len() < CHUNK_LEN {
         return MISUSED;
     }
     *written = open_last(reader, status, rest, out);

@@ -6,10 +6,10 @@ ghost use Rattle.age_c.specs.Writers.{BeginsFile, CanBeUsed, IsChunkCall, IsLast
 ghost use Rattle.age_c.specs.Writers.{SealsChunk, SealsLast};
 
 use crate::MISUSED;
-use crate::blocks::{BLOCK, CHUNK, put};
+use crate::blocks::put;
 use crate::sealing::{Random, seal_last, seal_next};
 use crate::writer::Writer;
-use age_chunk::CHUNK_LIMIT;
+use age_chunk::{BLOCK_LEN, CHUNK_LEN, CHUNK_LIMIT};
 use age_keys::Passphrase;
 use std::alloc::Global;
 
@@ -41,7 +41,7 @@ pub extern "C" fn age_c_seal_passphrase(
 ) -> u32
     ensures begun { result ≡ 0
         → BeginsFile pass.now work random.now (take written.new out.new) writer.new }
-    ensures behind { drop written.new out.new ≡ drop written.new out.old }
+    ensures after { drop written.new out.new ≡ drop written.new out.old }
     ensures most { written.new ≤ length out.new }
     ensures memory { result ≢ 0 → result ≢ 255 → result ≡ 28 }
     ensures fits { IsStartCall pass.now work random.now out.old → result ≢ 255 }
@@ -78,7 +78,7 @@ pub extern "C" fn age_c_seal_block(
 ) -> u32
     ensures sealed { result ≡ 0
         → SealsChunk text.now writer.old (take written.new out.new) writer.new }
-    ensures behind { drop written.new out.new ≡ drop written.new out.old }
+    ensures after { drop written.new out.new ≡ drop written.new out.old }
     ensures most { written.new ≤ length out.new }
     ensures too_many { result ≢ 0 → result ≢ 255
         → (result ≡ 22) × (writer.old.chunk + 1 ≡ chunk_limit) }
@@ -87,7 +87,7 @@ pub extern "C" fn age_c_seal_block(
     ensures same { result ≢ 0 → (writer.new ≡ writer.old) × (written.new ≡ 0) }
 {
     *written = 0;
-    if !can_be_used(writer) || text.len() != CHUNK || out.len() < BLOCK {
+    if !can_be_used(writer) || text.len() != CHUNK_LEN || out.len() < BLOCK_LEN {
         return MISUSED;
     }
     if writer.chunk == CHUNK_LIMIT - 1 {
@@ -108,7 +108,7 @@ pub extern "C" fn age_c_seal_end(
 ) -> u32
     ensures sealed { result ≡ 0
         → SealsLast rest.now writer.old (take written.new out.new) writer.new }
-    ensures behind { drop written.new out.new ≡ drop written.new out.old }
+    ensures after { drop written.new out.new ≡ drop written.new out.old }
     ensures most { written.new ≤ length out.new }
     ensures answers { result ≢ 0 → result ≡ 255 }
     ensures fits { IsLastCall writer.old rest.now out.old → result ≢ 255 }
@@ -116,7 +116,7 @@ pub extern "C" fn age_c_seal_end(
     ensures same { result ≢ 0 → (writer.new ≡ writer.old) × (written.new ≡ 0) }
 {
     *written = 0;
-    if !can_be_used(writer) || rest.len() > CHUNK || (rest.is_empty() && writer.chunk > 0) {
+    if !can_be_used(writer) || rest.len() > CHUNK_LEN || (rest.is_empty() && writer.chunk > 0) {
         return MISUSED;
     }
     if out.len() < rest.len() + 16 {

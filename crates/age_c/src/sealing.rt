@@ -8,10 +8,12 @@ ghost use Rattle.age_c.specs.Starts.{number_of};
 ghost use Rattle.age_c.specs.Writers.{CanBeUsed, IsFront, SealsChunk, SealsLast};
 ghost use Rattle.age_c.specs.Writers.{key_in, nonce_in, salt_in};
 ghost use Rattle.age_c.specs.Writers.{key_of as key_of_writer};
+ghost use Rattle.age_chunk.specs.Payload.{chunk_length, block_length};
+ghost use Rattle.age_chunk.specs.ChunkBoxes.{tag_length};
 
 use crate::start::StartFault;
 use crate::writer::Writer;
-use age_chunk::{ChunkBox, nonce_of};
+use age_chunk::{ChunkBox, TAG_LEN, nonce_of};
 use age_keys::{FileKey, KeyFault, PayloadKey, payload_key, scrypt_header};
 use age_stanza::encode_head;
 use std::alloc::Global;
@@ -91,14 +93,14 @@ fn key_of(writer: &Writer) -> PayloadKey
 
 /// Seals a text as one chunk into `out`, and returns the length of its block.
 fn seal_chunk(writer: &Writer, last: bool, text: &[u8], out: &mut [u8]) -> usize
-    requires text { length text.now ≤ 65536 }
-    requires room { length text.now + 16 ≤ length out.old }
+    requires text { length text.now ≤ chunk_length }
+    requires room { length text.now + tag_length ≤ length out.old }
     ensures block { take result out.new ≡ sealing_with (key_of_writer writer.now)
         (nonce_bytes writer.now.chunk last) [] text.now }
-    ensures behind { drop result out.new ≡ drop result out.old }
+    ensures after { drop result out.new ≡ drop result out.old }
     ensures most { result ≤ length out.new }
 {
-    let len = text.len() + 16;
+    let len = text.len() + TAG_LEN;
     let block = &mut out[..len];
     block[..text.len()].copy_from_slice(text);
     key_of(writer).seal_at(&nonce_of(writer.chunk, last), block);
@@ -109,10 +111,10 @@ fn seal_chunk(writer: &Writer, last: bool, text: &[u8], out: &mut [u8]) -> usize
 pub(crate) fn seal_next(writer: &mut Writer, chunk: &[u8], out: &mut [u8]) -> usize
     requires usable { CanBeUsed writer.old }
     requires limit { writer.old.chunk + 1 < chunk_limit }
-    requires chunk { length chunk.now ≡ 65536 }
-    requires room { 65552 ≤ length out.old }
+    requires chunk { length chunk.now ≡ chunk_length }
+    requires room { block_length ≤ length out.old }
     ensures sealed { SealsChunk chunk.now writer.old (take result out.new) writer.new }
-    ensures behind { drop result out.new ≡ drop result out.old }
+    ensures after { drop result out.new ≡ drop result out.old }
     ensures most { result ≤ length out.new }
 {
     let len = seal_chunk(writer, false, chunk, out);
@@ -123,11 +125,11 @@ pub(crate) fn seal_next(writer: &mut Writer, chunk: &[u8], out: &mut [u8]) -> us
 /// Seals what is left as the last chunk into `out`, and returns the length of its block.
 pub(crate) fn seal_last(writer: &mut Writer, rest: &[u8], out: &mut [u8]) -> usize
     requires usable { CanBeUsed writer.old }
-    requires rest { length rest.now ≤ 65536 }
+    requires rest { length rest.now ≤ chunk_length }
     requires some { length rest.now ≡ 0 → writer.old.chunk ≡ 0 }
-    requires room { length rest.now + 16 ≤ length out.old }
+    requires room { length rest.now + tag_length ≤ length out.old }
     ensures sealed { SealsLast rest.now writer.old (take result out.new) writer.new }
-    ensures behind { drop result out.new ≡ drop result out.old }
+    ensures after { drop result out.new ≡ drop result out.old }
     ensures most { result ≤ length out.new }
 {
     let len = seal_chunk(writer, true, rest, out);

@@ -3,10 +3,10 @@
 ghost use Rattle.std.specs.Prelude.{◌≡◌, OnOk};
 ghost use Rattle.std.specs.Io.KnownBytes.{Appends};
 ghost use Rattle.age_stream.specs.Lent.{chunk_bytes};
-ghost use Rattle.age_chunk.specs.Payload.{payload};
+ghost use Rattle.age_chunk.specs.Payload.{payload, chunk_length, block_length};
 
 use age_file::{FileFault, Sink, write_all};
-use age_stream::{ChunkBox, Sealer};
+use age_stream::{BLOCK_LEN, ChunkBox, Sealer};
 
 /// The bytes that are lent, if any are.
 fn bytes_of(chunk: Option<&[u8]>) -> &[u8]
@@ -29,9 +29,9 @@ fn put<O: Sink>(sink: &mut O, bytes: &[u8]) -> Result<(), FileFault>
 /// Writes the payload of a text (<https://c2sp.org/age#payload>), block by block.
 pub fn seal_to<B: ChunkBox, O: Sink>(key: &B, text: &[u8], sink: &mut O) -> Result<(), FileFault>
     ensures sealed { OnOk result (Appends (O.view sink.old).taken (O.view sink.new).taken
-        (payload (B.sealing key.now) 65536 text.now)) }
+        (payload (B.sealing key.now) chunk_length text.now)) }
 {
-    let mut sealer = Sealer::<B, 65552>::new(key);
+    let mut sealer = Sealer::<B, BLOCK_LEN>::new(key);
     let mut at = 0;
     while at < text.len() {
         let step = sealer.feed(&text[at..])?;

@@ -9,7 +9,7 @@ use Rattle.age_stanza.specs.Grammar.{HeadText}
 use Rattle.age_stanza.specs.Faults.{HasHeader, IsFault}
 use Rattle.age_stanza.specs.Parsing.{Parsing, reading, complete, Feeds, Cuts}
 use Rattle.age_stanza.proofs.AnyPieces.{more_fault}
-use Rattle.age_vectors.specs.Header.{IsTold}
+use Rattle.age_vectors.specs.Header.{IsReported}
 
 -- the parser was fed a front of the bytes, and this is left
 pub record Reads (parser : Parsing) (rest bytes : List ℕ) : Type 0 where
@@ -17,29 +17,29 @@ pub record Reads (parser : Parsing) (rest bytes : List ℕ) : Type 0 where
   pub is : parser ≡ reading fed
   pub parts : fed ++ rest ≡ bytes
 
--- what a front of the bytes was told, of them all
-pub fault_fed : (old new : Parsing) (rest piece behind bytes : List ℕ) (fault : HeadFault) → Reads old rest bytes → piece ++ behind ≡ rest
-    → Feeds old piece (Err fault) new → IsTold bytes fault
-fault_fed old new rest piece behind bytes fault reads parts feeds = told (subst (λ (p : Parsing). Feeds p piece (Err fault) new) reads.is feeds) where
-  joined : (reads.fed ++ piece) ++ behind ≡ bytes
-  joined = append_assoc reads.fed piece behind ∙ ap (λ (t : List ℕ). reads.fed ++ t) parts ∙ reads.parts
+-- what a front of the bytes was reported, of them all
+pub fault_fed : (old new : Parsing) (rest piece after bytes : List ℕ) (fault : HeadFault) → Reads old rest bytes → piece ++ after ≡ rest
+    → Feeds old piece (Err fault) new → IsReported bytes fault
+fault_fed old new rest piece after bytes fault reads parts feeds = reported (subst (λ (p : Parsing). Feeds p piece (Err fault) new) reads.is feeds) where
+  joined : (reads.fed ++ piece) ++ after ≡ bytes
+  joined = append_assoc reads.fed piece after ∙ ap (λ (t : List ℕ). reads.fed ++ t) parts ∙ reads.parts
 
-  whole : ((HasHeader (reads.fed ++ piece) → ⊥) × IsFault (reads.fed ++ piece) fault) → IsTold bytes fault
+  whole : ((HasHeader (reads.fed ++ piece) → ⊥) × IsFault (reads.fed ++ piece) fault) → IsReported bytes fault
   whole f =
-      let all = more_fault (reads.fed ++ piece) behind fault f.0 f.1 in
+      let all = more_fault (reads.fed ++ piece) after fault f.0 f.1 in
       inr (subst (λ (b : List ℕ). HasHeader b → ⊥) joined all.0, inl (subst (λ (b : List ℕ). IsFault b fault) joined all.1))
 
-  told : Feeds (reading reads.fed) piece (Err fault) new → IsTold bytes fault
-  told f = elim f.1 [ inl memory ↦ inl memory | inr e ↦ whole e ]
+  reported : Feeds (reading reads.fed) piece (Err fault) new → IsReported bytes fault
+  reported f = elim f.1 [ inl memory ↦ inl memory | inr e ↦ whole e ]
 
 -- a header that ends in a piece
-pub header_fed : (old new : Parsing) (rest piece behind bytes : List ℕ) (taken : ℕ) (h : Header) → Reads old rest bytes → piece ++ behind ≡ rest
+pub header_fed : (old new : Parsing) (rest piece after bytes : List ℕ) (taken : ℕ) (h : Header) → Reads old rest bytes → piece ++ after ≡ rest
     → Feeds old piece (Ok (Ready taken h)) new
     → HeadText h (take (length bytes - length rest + taken) bytes)
-header_fed old new rest piece behind bytes taken h reads parts feeds = found (subst (λ (p : Parsing). Feeds p piece (Ok (Ready taken h)) new) reads.is feeds)
+header_fed old new rest piece after bytes taken h reads parts feeds = found (subst (λ (p : Parsing). Feeds p piece (Ok (Ready taken h)) new) reads.is feeds)
   where
-    joined : (reads.fed ++ piece) ++ behind ≡ bytes
-    joined = append_assoc reads.fed piece behind ∙ ap (λ (t : List ℕ). reads.fed ++ t) parts ∙ reads.parts
+    joined : (reads.fed ++ piece) ++ after ≡ bytes
+    joined = append_assoc reads.fed piece after ∙ ap (λ (t : List ℕ). reads.fed ++ t) parts ∙ reads.parts
 
     found : Feeds (reading reads.fed) piece (Ok (Ready taken h)) new → HeadText h (take (length bytes - length rest + taken) bytes)
     found f =
@@ -47,28 +47,28 @@ header_fed old new rest piece behind bytes taken h reads parts feeds = found (su
         let size : length bytes ≡ length reads.fed + length rest = sym (ap length reads.parts) ∙ length-append reads.fed rest in
         let at : length bytes - length rest + taken ≡ length reads.fed + taken = omega arith in
         let front : take (length bytes - length rest + taken) bytes ≡ reads.fed ++ take taken piece =
-        ap (λ n. take n bytes) at ∙ ap (take (length reads.fed + taken)) (sym joined ∙ append_assoc reads.fed piece behind)
-        ∙ take-append-add reads.fed (piece ++ behind) taken
-        ∙ ap (λ (t : List ℕ). reads.fed ++ t) (take-append-le taken piece behind within) in
+        ap (λ n. take n bytes) at ∙ ap (take (length reads.fed + taken)) (sym joined ∙ append_assoc reads.fed piece after)
+        ∙ take-append-add reads.fed (piece ++ after) taken
+        ∙ ap (λ (t : List ℕ). reads.fed ++ t) (take-append-le taken piece after within) in
         subst (HeadText h) (sym front) f.2
 
 -- the end of the bytes
-pub cut_fed : (old new : Parsing) (rest bytes : List ℕ) (fault : HeadFault) → Reads old rest bytes → length rest ≡ 0 → Cuts old fault new → IsTold bytes fault
-cut_fed old new [] bytes fault reads none cuts = told (subst (λ (p : Parsing). Cuts p fault new) reads.is cuts) where
+pub cut_fed : (old new : Parsing) (rest bytes : List ℕ) (fault : HeadFault) → Reads old rest bytes → length rest ≡ 0 → Cuts old fault new → IsReported bytes fault
+cut_fed old new [] bytes fault reads none cuts = reported (subst (λ (p : Parsing). Cuts p fault new) reads.is cuts) where
   all : reads.fed ≡ bytes
   all = sym (append-nil reads.fed) ∙ reads.parts
 
-  told : Cuts (reading reads.fed) fault new → IsTold bytes fault
-  told f = subst (λ (b : List ℕ). IsTold b fault) all (inr (f.2, inr (f.0, f.3)))
+  reported : Cuts (reading reads.fed) fault new → IsReported bytes fault
+  reported f = subst (λ (b : List ℕ). IsReported b fault) all (inr (f.2, inr (f.0, f.3)))
 cut_fed old new (x ∷ rest) bytes fault reads none cuts = absurd (omega arith)
 
 -- a piece more
-pub more_fed : (old new : Parsing) (rest piece behind bytes : List ℕ) → Reads old rest bytes → piece ++ behind ≡ rest → Feeds old piece (Ok More) new
-    → Reads new behind bytes
-more_fed old new rest piece behind bytes reads parts feeds = record {
+pub more_fed : (old new : Parsing) (rest piece after bytes : List ℕ) → Reads old rest bytes → piece ++ after ≡ rest → Feeds old piece (Ok More) new
+    → Reads new after bytes
+more_fed old new rest piece after bytes reads parts feeds = record {
   fed = reads.fed ++ piece;
   is = goes (subst (λ (p : Parsing). Feeds p piece (Ok More) new) reads.is feeds);
-  parts = append_assoc reads.fed piece behind ∙ ap (λ (t : List ℕ). reads.fed ++ t) parts ∙ reads.parts;
+  parts = append_assoc reads.fed piece after ∙ ap (λ (t : List ℕ). reads.fed ++ t) parts ∙ reads.parts;
 } where
   goes : Feeds (reading reads.fed) piece (Ok More) new → new ≡ reading (reads.fed ++ piece)
   goes f = f.0

@@ -16,14 +16,14 @@ pub record Accepts (bytes : List ℕ) (size : ℕ) : Type 0 where
 abbrev pub IsCut : List ℕ → HeadFault → Type 0
 IsCut bytes fault = (fault ≡ record { kind = HeadCut; line = line_after bytes }) × NoFault bytes
 
--- what is told of bytes and their end, which have no header in front
-abbrev pub IsTold : List ℕ → HeadFault → Type 0
-IsTold bytes fault = (fault ≡ memory_fault)
+-- what is reported of bytes and their end, which have no header in front
+abbrev pub IsReported : List ℕ → HeadFault → Type 0
+IsReported bytes fault = (fault ≡ memory_fault)
     ⊎ ((HasHeader bytes → ⊥) × (IsFault bytes fault ⊎ IsCut bytes fault))
 
--- a fault of this number is told in this line
+-- a fault of this number is reported in this line
 pub record Refuses (bytes : List ℕ) (number line : ℕ) : Type 0 where
   pub fault : HeadFault
-  pub told : IsTold bytes fault
+  pub reported : IsReported bytes fault
   pub number_is : number_of fault.kind ≡ number
   pub place_is : place_of fault ≡ Some line

@@ -4,7 +4,7 @@ ghost use Rattle.std.specs.Prelude.{◌≡◌, ◌+◌, ◌*◌, ◌^◌, ◌≤
 ghost use Rattle.std.specs.Prelude.{replicate};
 ghost use Rattle.age_cipher.specs.Keystream.{ciphertext};
 ghost use Rattle.age_cipher.specs.Poly1305.{poly1305};
-ghost use Rattle.age_cipher.specs.Aead.{sealing};
+ghost use Rattle.age_cipher.specs.Aead.{block_limit, sealing};
 
 use age_cipher::{open_in_place, poly1305, seal_in_place, xor_stream};
 
@@ -383,7 +383,7 @@ fn seals_to(
     wanted: &[u8],
 ) -> bool
     requires block { length block.old ≡ length text.now + 16 }
-    requires short { length text.now ≤ 65536 }
+    requires short { length block.old ≤ block_limit }
     ensures { IsTrue result
         → sealing key.now nonce.now aad.now text.now ≡ wanted.now }
 {

@@ -169,13 +169,13 @@ fn restart_rows(alloc: Global) -> bool {
         Delivery::End,
     ];
     let beyond = [whole, Delivery::Restart(3)];
-    let behind = [whole, Delivery::Restart(2), Delivery::End];
+    let later = [whole, Delivery::Restart(2), Delivery::End];
     let text = b"abcdefgh".as_slice();
     let truncated = failed(StreamKind::Truncated, 2);
     leaves(alloc, &again, text, 1, Status::Done)
         && leaves(alloc, &beyond, text, 1, Status::LastSeen)
-        && leaves(alloc, &behind[..2], text, 2, Status::Open)
-        && leaves(alloc, &behind, text, 2, truncated)
+        && leaves(alloc, &later[..2], text, 2, Status::Open)
+        && leaves(alloc, &later, text, 2, truncated)
         && leaves(alloc, &in_second, text, 1, Status::Done)
 }
 

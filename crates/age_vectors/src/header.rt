@@ -1,7 +1,7 @@
 // Headers of the C2SP page's grammar, whole and in single bytes.
 ghost use Rattle.std.specs.Prelude.{◌<◌, IsTrue, IfOk, IfErr, take};
 ghost use Rattle.age_stanza.specs.Grammar.{HeadText};
-ghost use Rattle.age_vectors.specs.Header.{IsTold, Accepts, Refuses};
+ghost use Rattle.age_vectors.specs.Header.{IsReported, Accepts, Refuses};
 ghost use Rattle.age_vectors.specs.HeaderRows.{AcceptedRows, FirstLineRows, ArgumentRows, LineRows};
 
 use age_stanza::{HEAD_MAX, HeadFault, HeadParser, HeadStep, Header};
@@ -66,14 +66,14 @@ const ARMOR_CR: &[u8; 36] = b"-----BEGIN AGE ENCRYPTED FILE-----\r\n";
 pub(crate) fn parsed(alloc: Global, bytes: &[u8], step: usize) -> Result<(usize, Header), HeadFault>
     requires { 0 < step }
     ensures ok { IfOk result (λ found. HeadText found.1 (take found.0 bytes.now)) }
-    ensures err { IfErr result (λ fault. IsTold bytes.now fault) }
+    ensures err { IfErr result (λ fault. IsReported bytes.now fault) }
 {
     let mut parser = HeadParser::new(alloc);
     let mut rest = bytes;
     while !rest.is_empty() {
-        let (piece, behind) = rest.split_at(step.min(rest.len()));
+        let (piece, later) = rest.split_at(step.min(rest.len()));
         match parser.feed(piece)? {
-            HeadStep::More => rest = behind,
+            HeadStep::More => rest = later,
             HeadStep::Ready { taken, header } => {
                 return Ok((bytes.len() - rest.len() + taken, header));
             }

@@ -3,6 +3,7 @@
 use crate::stops::{Example, Failure, LOG, PASS, POSITIONS, STEP, decrypted, has_text, is_front};
 use age_file::{Done, MemSink, MemSource, Position, Stopped, resume};
 use age_keys::Passphrase;
+use age_stream::CHUNK_LEN;
 use std::alloc::Global;
 
 /// What a resumed run begins with, and which of its calls fails.
@@ -298,7 +299,7 @@ fn stops(alloc: Global, example: &Example, rest: &Rest<'_>, failure: Failure, le
     let goes_on = match stopped.position {
         None => len < 131_072,
         Some(position) => {
-            has_text(alloc, &position, POSITIONS.get(len / 65_536))
+            has_text(alloc, &position, POSITIONS.get(len / CHUNK_LEN))
                 && goes_on_from(alloc, example, position, text.as_slice())
         }
     };

@@ -5,7 +5,12 @@ use age_file::{
     Done, FileFault, MemSink, MemSource, Position, Secret, Stopped, Written, decrypt, encrypt,
 };
 use age_keys::Passphrase;
+use age_stream::{BLOCK_LEN, CHUNK_LEN};
 use std::alloc::Global;
+
+const CHUNK: u128 = CHUNK_LEN as u128;
+
+const BLOCK: u128 = BLOCK_LEN as u128;
 
 pub(crate) const PASS: &[u8] = b"correct horse";
 
@@ -171,7 +176,7 @@ fn decrypt_rows(alloc: Global, example: &Example) -> bool {
 // How much of the file so many pulls make: a block is sealed once a byte after its chunk came.
 fn sealed_after(pulls: u64) -> usize {
     let text = (pulls as u128 * 10_000).min(200_000);
-    (165 + text.saturating_sub(1) / 65_536 * 65_552) as usize
+    (165 + text.saturating_sub(1) / CHUNK * BLOCK) as usize
 }
 
 // How much of the file so many puts took.
@@ -179,7 +184,7 @@ fn file_after(puts: u64) -> usize {
     if puts == 0 {
         return 0;
     }
-    let blocks = (puts as u128 - 1) / 7 * 65_552 + (puts as u128 - 1) % 7 * 10_000;
+    let blocks = (puts as u128 - 1) / 7 * BLOCK + (puts as u128 - 1) % 7 * 10_000;
     (165 + blocks).min(200_229) as usize
 }
 
@@ -187,12 +192,12 @@ fn file_after(puts: u64) -> usize {
 // for the end.
 fn opened_after(pulls: u64) -> usize {
     let file = (pulls as u128 * 10_000).min(200_229);
-    (file.saturating_sub(165) / 65_552 * 65_536) as usize
+    (file.saturating_sub(165) / BLOCK * CHUNK) as usize
 }
 
 // How much of the text so many puts took.
 fn text_after(puts: u64) -> usize {
-    (puts as u128 / 7 * 65_536 + puts as u128 % 7 * 10_000).min(200_000) as usize
+    (puts as u128 / 7 * CHUNK + puts as u128 % 7 * 10_000).min(200_000) as usize
 }
 
 // Whether these are so many bytes from the front of others.
@@ -243,7 +248,7 @@ fn is_position_right(
 ) -> bool {
     match position {
         None => matches!(failure, Failure::Pull(0)),
-        Some(position) => has_text(alloc, position, POSITIONS.get(len / 65_536)),
+        Some(position) => has_text(alloc, position, POSITIONS.get(len / CHUNK_LEN)),
     }
 }
 

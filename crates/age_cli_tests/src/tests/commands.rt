@@ -25,31 +25,31 @@ const FACTOR_23: &[u8] = b"age-encryption.org/v1\n-> scrypt AAAAAAAAAAAAAAAAAAAA
 struct Ended<'a> {
     status: u8,
     printed: &'a [u8],
-    told: &'a [u8],
+    reported: &'a [u8],
 }
 
 /// All was done, and nothing was printed.
 const DONE: Ended<'static> = Ended {
     status: 0,
     printed: b"",
-    told: b"",
+    reported: b"",
 };
 
 /// Nothing was printed but this fault.
-fn fault(told: &[u8]) -> Ended<'_> {
+fn fault(reported: &[u8]) -> Ended<'_> {
     Ended {
         status: 1,
         printed: b"",
-        told,
+        reported,
     }
 }
 
 /// Nothing was printed but what is wrong with the words.
-fn usage(told: &[u8]) -> Ended<'_> {
+fn usage(reported: &[u8]) -> Ended<'_> {
     Ended {
         status: 2,
         printed: b"",
-        told,
+        reported,
     }
 }
 
@@ -70,7 +70,7 @@ fn ends(alloc: Global, files: &mut MemFiles, words: &[&str], ended: Ended<'_>) -
         &mut faults,
         &mut None::<ProgressLine<MemSink>>,
     );
-    status == ended.status && output.bytes() == ended.printed && faults.bytes() == ended.told
+    status == ended.status && output.bytes() == ended.printed && faults.bytes() == ended.reported
 }
 
 /// Puts a file there.

@@ -122,9 +122,9 @@ fn pull_in_turn<M: Meter + Drop>(rt: &impl Abort, alloc: Global, meter: M) -> Re
     Ok(())
 }
 
-// It tells a meter, and one where there is one.
+// It reports to a meter, and to one that may be there.
 #[test]
-fn tells_what_a_source_gives(rt: HostRuntime) -> Result<(), Fail> {
+fn counts_what_a_source_gives(rt: HostRuntime) -> Result<(), Fail> {
     let alloc = rt.alloc();
     let mut progress = ProgressLine::new(MemSink::new(alloc, 10_000, usize::MAX, None)?);
     progress.begin(Some(10));

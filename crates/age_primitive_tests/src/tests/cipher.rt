@@ -1,6 +1,7 @@
 //! Values under a key of bytes 9 and a nonce of bytes 0xff, as OpenSSL gives them, and tags that
 //! were worked out by hand.
 ghost use Rattle.std.specs.Prelude.{◌≡◌, ◌+◌, ◌*◌, ◌^◌, ◌≤◌, IfOk, length, vec_len};
+ghost use Rattle.age_cipher.specs.Aead.{block_limit};
 
 use age_cipher::{open_in_place, poly1305, seal_in_place, xor_stream};
 use std::alloc::{AllocError, Global};
@@ -150,9 +151,12 @@ fn filled(alloc: Global, byte: u8, n: usize) -> Result<Vec<u8>, AllocError>
     vec![in alloc; byte; n]
 }
 
+// How many bytes a block has at most.
+const LONGEST: usize = 65_552;
+
 // Seals a block of bytes 7, and opens it changed and unchanged.
 fn seals_and_opens(rt: &impl Abort, block: &mut [u8], before: &mut [u8])
-    requires size { (48 ≤ length block.old) × (length block.old ≤ 65552) }
+    requires size { (48 ≤ length block.old) × (length block.old ≤ block_limit) }
     requires same { length before.old ≡ length block.old }
 {
     let len = block.len() - 16;
@@ -171,8 +175,8 @@ fn seals_and_opens(rt: &impl Abort, block: &mut [u8], before: &mut [u8])
 
 #[test]
 fn longest_block(rt: HostRuntime) -> Result<(), Fail> {
-    let mut block = filled(rt.alloc(), 7, 65_552)?;
-    let mut before = filled(rt.alloc(), 0, 65_552)?;
+    let mut block = filled(rt.alloc(), 7, LONGEST)?;
+    let mut before = filled(rt.alloc(), 0, LONGEST)?;
     seals_and_opens(&rt, &mut block, &mut before);
     Ok(())
 }

@@ -1,4 +1,5 @@
 ghost use Rattle.std.specs.Prelude.{◌≤◌, length};
+ghost use Rattle.age_kdf.specs.Pbkdf2.{derived_key_limit};
 
 use age_kdf::{hkdf32, hmac, pbkdf2_once};
 use sha2::{Digest, Sha256};
@@ -70,8 +71,11 @@ fn block(i: [u8; 4]) -> [u8; 32] {
     hmac(b"pleaseletmein", &[b"SodiumChloride", &i])
 }
 
+// How many bytes are derived at most.
+const MOST: usize = 65_536;
+
 fn fill(out: &mut [u8])
-    requires { length out.old ≤ 65536 }
+    requires { length out.old ≤ derived_key_limit }
 {
     pbkdf2_once(b"pleaseletmein", b"SodiumChloride", out);
 }
@@ -90,7 +94,7 @@ fn pbkdf2_by_blocks(rt: HostRuntime) {
 
 #[test]
 fn pbkdf2_of_the_most_bytes(rt: HostRuntime) -> Result<(), Fail> {
-    let mut out = vec![in rt.alloc(); 1; 65536]?;
+    let mut out = vec![in rt.alloc(); 1; MOST]?;
     fill(&mut out);
     assert!(rt; out.ends_with(&block([0, 0, 8, 0])));
     Ok(())

@@ -10,7 +10,7 @@ use age_file::{
     Done, FileFault, MemSink, MemSource, Position, Positions, Stopped, decrypt, decrypt_with,
 };
 use age_keys::{FileKey, KnownKey, PayloadKey, payload_key};
-use age_stream::seal_all;
+use age_stream::{BLOCK_LEN, seal_all};
 use sha2::{Digest, Sha256};
 use std::alloc::Global;
 
@@ -107,7 +107,7 @@ fn long_text(alloc: Global, len: u32) -> Option<Vec<u8>> {
 /// The file of a text, sealed here; a test compares the digest of one with python's.
 fn file_of(alloc: Global, text: &[u8]) -> Option<Vec<u8>> {
     let key = payload_key(&FileKey::new(KEY), &NONCE);
-    match seal_all::<PayloadKey, 65552>(alloc, &key, text) {
+    match seal_all::<PayloadKey, BLOCK_LEN>(alloc, &key, text) {
         Ok(payload) => joined(alloc, FRONT, payload.as_slice()),
         Err(_) => None,
     }

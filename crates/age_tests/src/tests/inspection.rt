@@ -48,7 +48,7 @@ fn is_report(report: &Report, rest: usize, plain: Option<u128>) -> bool {
 }
 
 /// Whether the report on a file gives the length of its plaintext, or says that it has none.
-fn tells(alloc: Global, rest: usize, step: usize, plain: Option<u128>) -> bool
+fn reports(alloc: Global, rest: usize, step: usize, plain: Option<u128>) -> bool
     requires { 0 < step }
 {
     match inspected(alloc, rest, step, None) {
@@ -74,13 +74,13 @@ fn the_length_of_the_plaintext(rt: HostRuntime) {
         (131_136, None),
         (131_137, Some(131_073)),
     ] {
-        assert!(rt; tells(rt.alloc(), rest, 4096, plain), "at {rest}");
+        assert!(rt; reports(rt.alloc(), rest, 4096, plain), "at {rest}");
     }
 }
 
 #[test]
 fn pieces_of_one_byte(rt: HostRuntime) {
-    assert!(rt; tells(rt.alloc(), 40, 1, Some(8)));
+    assert!(rt; reports(rt.alloc(), 40, 1, Some(8)));
 }
 
 fn fails_to_read(alloc: Global, call: u64) -> bool {

@@ -1,4 +1,5 @@
 ghost use Rattle.std.specs.Prelude.{◌≤◌, length};
+ghost use Rattle.age_keys.specs.Passphrase.{passphrase_limit};
 
 use age_keys::{
     FileKey, KeyFault, KnownKey, Passphrase, PayloadKey, X25519Stanza, open_header, payload_key,
@@ -113,7 +114,7 @@ fn refuses_31_digits(rt: HostRuntime) {
 /// The key that a passphrase opens a header of its own with.
 fn opened(alloc: Global, pass: &[u8]) -> Result<[u8; 16], KeyFault>
     requires least { 1 ≤ length pass.now }
-    requires most { length pass.now ≤ 65536 }
+    requires most { length pass.now ≤ passphrase_limit }
 {
     let Some(passphrase) = Passphrase::new(pass, 1) else {
         return Err(KeyFault::WrongKey);

@@ -1,8 +1,8 @@
 //! Worked examples that run, and each public function once. The longer ones stand in the crate of
 //! the vectors.
 use age_stream::{
-    CHUNK_LIMIT, ClearBox, Delivery, Drill, Memory, Opener, Replay, SealFault, Sealer, Status,
-    StreamFault, StreamKind, drill, nonce_of, seal_all, seal_into,
+    BLOCK_LEN, CHUNK_LIMIT, ClearBox, Delivery, Drill, Memory, Opener, Replay, SealFault, Sealer,
+    Status, StreamFault, StreamKind, drill, nonce_of, seal_all, seal_into,
 };
 use std::alloc::Global;
 
@@ -92,7 +92,7 @@ fn a_chunk_is_lent_with_the_byte_after_it(rt: HostRuntime) {
 #[test]
 fn an_opener_of_whole_blocks_of_a_file(rt: HostRuntime) {
     let key = ClearBox;
-    let mut opener = Opener::<ClearBox, 65_552>::new(&key);
+    let mut opener = Opener::<ClearBox, BLOCK_LEN>::new(&key);
     let block = b"abc\0\0\0\0\0\0\0\0\0\0\0\x01\0\0\0\0";
     assert!(rt; matches!(opener.feed(block), Ok(step) if step.taken == 19 && step.chunk.is_none()));
     assert!(rt; matches!(opener.end(), Ok(text) if text == b"abc".as_slice()));

@@ -5,13 +5,14 @@ use Rattle.std.specs.Prelude.{Some}
 use Rattle.age_c.specs.Readers.{opens}
 use Rattle.age_keys.specs.Keys.{payload_key}
 use Rattle.age_c.proofs.start.reader_after.Goals as goal
+use Rattle.age_chunk.specs.Payload.{chunk_length}
 
 pub returns-clause-start : goal.returns-clause-start
 returns-clause-start c =
-    let o = fresh_outcome (opens (payload_key c.bytes.result.now c.copy_from_slice.new.self)) 65536 0 in
+    let o = fresh_outcome (opens (payload_key c.bytes.result.now c.copy_from_slice.new.self)) chunk_length 0 in
     record {
       status = ap (λ (o : Outcome). Some o.status) (sym o);
       index = ap (λ (o : Outcome). o.index) (sym o);
-      whole = λ _. fresh_rest 65536 0;
+      whole = λ _. fresh_rest chunk_length 0;
       timely = λ _. refl;
     }

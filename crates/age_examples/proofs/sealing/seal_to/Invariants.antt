@@ -1,7 +1,7 @@
 use Rattle.std.proofs.Common.{length, ◌-◌, ◌≡◌, ◌≤◌, take, false}
 use Rattle.std.specs.Io.KnownBytes.{Appends}
 use Rattle.age_stream.specs.Sealing.{Holds}
-use Rattle.age_chunk.specs.Payload.{sealed_before_last, block_bytes}
+use Rattle.age_chunk.specs.Payload.{sealed_before_last, block_bytes, chunk_length}
 use Rattle.age_examples.proofs.sealing.seal_to.Given as goal
 
 abbrev pub invariant-loop-at : goal.invariant-loop-at
@@ -11,9 +11,9 @@ invariant-loop-at g l =
       unfinished : l.sealer.finished ≡ false;
       unfailed : l.sealer.failed ≡ false;
       key : l.sealer.key ≡ l.key;
-      holds : Holds 65536 l.sealer (take l.at l.text);
+      holds : Holds chunk_length l.sealer (take l.at l.text);
       wrote : Appends (g.O.Sink.view l.initial.sink).taken (g.O.Sink.view l.sink).taken
-          (block_bytes (sealed_before_last (g.B.ChunkBox.sealing l.key) 65536 (take l.at l.text)));
+          (block_bytes (sealed_before_last (g.B.ChunkBox.sealing l.key) chunk_length (take l.at l.text)));
     }
 
 abbrev pub decreases-loop-at : goal.decreases-loop-at

@@ -4,6 +4,7 @@ ghost use Rattle.std.specs.Prelude.{◌<◌};
 
 use super::*;
 use age_file::resume;
+use age_stream::CHUNK_LIMIT;
 
 /// What a resumed run reads: a file, an old text, and the position.
 #[derive(Clone, Copy)]
@@ -69,7 +70,7 @@ fn after_two() -> Position {
 
 /// The position of these files whose chain is of zero bytes.
 fn without_chain(index: u64, tag: [u8; 32]) -> Position
-    requires { index < 281474976710656 }
+    requires { index < CHUNK_LIMIT }
 {
     Position {
         index,

@@ -5,7 +5,7 @@ use Rattle.age_vectors.proofs.header.refuses_in.Goals as goal
 pub returns-then-number : goal.returns-then-number
 returns-then-number c = λ e. record {
   fault = c.in-Err.fault;
-  told = c.in-Err.ensures.err;
+  reported = c.in-Err.ensures.err;
   number_is = sym c.number.ensures ∙ c.if-number.true;
   place_is = sym c.in-Some.ensures ∙ ap (λ (n : ℕ). Some n) (eqb-true _ _ e);
 }
