@@ -21,7 +21,7 @@ const HEADERS: [&[u8]; 4] = [
     b"age-encryption.org/v1\n-> a\nAAAAAAAAAAAAAAAAAAAAAAAAAAAAAAAAAAAAAAAAAAAAAAAAAAAAAAAAAAAAAAAA\nAAAA\n-> b\n\n--- AAAAAAAAAAAAAAAAAAAAAAAAAAAAAAAAAAAAAAAAAAAbehind",
 ];
 
-/// Bytes that the grammar tells apart.
+/// Bytes that the grammar distinguishes.
 const TELLING: &[u8; 16] = b"\n\n\n  -->=+/AB\r\0\xff";
 
 /// Numbers from a fixed seed (Knuth's MMIX generator).
@@ -49,7 +49,7 @@ impl Numbers {
     }
 }
 
-/// What a parser makes of all bytes, and of an end behind them.
+/// What a parser makes of all bytes, and of an end after them.
 #[derive(Clone, Copy, PartialEq, Eq)]
 enum Outcome {
     /// A header of so many bytes.
@@ -93,7 +93,7 @@ fn change(alloc: Global, numbers: &mut Numbers, bytes: &mut Vec<u8>) -> Result<(
     Ok(())
 }
 
-// Some of the bytes behind a place once more, at the end.
+// Some of the bytes after a place once more, at the end.
 fn repeat(alloc: Global, numbers: &mut Numbers, bytes: &mut Vec<u8>, at: usize) -> Result<(), AllocError> {
     let count = numbers.below(70);
     let mut part = bytes.as_slice().get(at..).unwrap_or(b"").to_vec(alloc)?;

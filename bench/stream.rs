@@ -7,15 +7,13 @@
 ghost use Rattle.std.specs.Prelude.{◌≡◌, vec_len, IfOk};
 
 use age_keys::{FileKey, PayloadKey, payload_key};
-use age_stream::{Opener, Sealer, Status, seal_all};
+use age_stream::{BLOCK_LEN, CHUNK_LEN, Opener, Sealer, Status, seal_all};
 use std::alloc::{AllocError, Global};
 use std::io;
 use std::rt::Clock;
 use std::time::Instant;
 
 const SIZE: usize = 16_777_216;
-const CHUNK: usize = 65_536;
-const SEALED: usize = 65_552;
 
 fn nanoseconds(rt: &impl Clock, start: Instant) -> io::Result<u64> {
     Ok(u64::try_from(start.elapsed(rt)?.as_nanos()).unwrap_or(u64::MAX))
@@ -29,9 +27,9 @@ fn filled(alloc: Global, byte: u8, n: usize) -> Result<Vec<u8>, AllocError>
 
 // The bytes of all blocks of a text.
 fn sealed(key: &PayloadKey, text: &[u8]) -> Option<usize> {
-    let mut sealer = Sealer::<PayloadKey, SEALED>::new(key);
+    let mut sealer = Sealer::<PayloadKey, BLOCK_LEN>::new(key);
     let mut blocks = 0usize;
-    for piece in text.chunks(CHUNK) {
+    for piece in text.chunks(CHUNK_LEN) {
         let mut at = 0usize;
         for _turn in 0..2u8 {
             if sealer.is_finished() || piece.len() < at {
@@ -50,9 +48,9 @@ fn sealed(key: &PayloadKey, text: &[u8]) -> Option<usize> {
 
 // The bytes of all texts of a payload.
 fn opened(key: &PayloadKey, payload: &[u8]) -> Option<usize> {
-    let mut opener = Opener::<PayloadKey, SEALED>::new(key);
+    let mut opener = Opener::<PayloadKey, BLOCK_LEN>::new(key);
     let mut texts = 0usize;
-    for piece in payload.chunks(SEALED) {
+    for piece in payload.chunks(BLOCK_LEN) {
         let step = opener.feed(piece).ok()?;
         texts = texts.saturating_add(step.chunk.map_or(0, |it| it.len()));
     }
@@ -63,7 +61,7 @@ fn opened(key: &PayloadKey, payload: &[u8]) -> Option<usize> {
 fn main(rt: HostRuntime) -> io::Result<()> {
     let key = payload_key(&FileKey::new([9; 16]), &[5; 16]);
     let text = filled(rt.alloc(), 7, SIZE)?;
-    let Ok(payload) = seal_all::<PayloadKey, SEALED>(rt.alloc(), &key, &text) else {
+    let Ok(payload) = seal_all::<PayloadKey, BLOCK_LEN>(rt.alloc(), &key, &text) else {
         return println!(rt; "not sealed");
     };
     let (mut seal, mut open) = (u64::MAX, u64::MAX);

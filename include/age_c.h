@@ -24,10 +24,10 @@
  *     }
  *     if (answer != 0) fprintf(stderr, "%u %s\n", answer, age_c_fault_name(answer));
  *
- * bindings/c/decrypt.c is a whole program.
+ * bindings/c/decrypt.c (share/age_tool/decrypt.c of a release) is a whole program.
  *
  * WHAT HOLDS. Each text that a call writes was checked: while nobody forges a tag, the texts of
- * one reader, joined, are a prefix of what the file's writer wrote, and once age_c_end answered 0
+ * one reader, joined, are a prefix of what the file's writer wrote, and once age_c_end returned 0
  * they are all of it. Before that the text may be cut short: don't act on it as if it were whole.
  *
  * OWNERSHIP. A reader or writer is 64 bytes of plain numbers in the caller's memory: there is
@@ -40,15 +40,15 @@
  *
  * POINTERS. No pointer may be null, not even with a length of 0. Each points to at least as many
  * bytes as the length after it says, and what a call writes to overlaps nothing else that the call
- * is given. The library can't check this. Everything else that is out of range, a reader or writer
- * of other numbers too, is answered with AGE_C_MISUSED.
+ * is given. The library can't check this. For anything else that is out of range, the numbers in a
+ * reader or writer among them, a call returns AGE_C_MISUSED.
  *
  * THREADS. Any number of calls may run at the same time, on different readers and writers.
  *
- * ERRORS. A call answers 0, the number of a fault (age_c_fault_name; docs/FAULTS.md says what each
- * means), AGE_C_MORE or AGE_C_MISUSED. A call that doesn't answer 0 has written no byte of `out`
- * and left *written at 0. It has changed nothing else, but for a reader that was refused with 17
- * to 22: it is refused with the same fault for good.
+ * ERRORS. A call returns 0, the number of a fault (age_c_fault_name; docs/FAULTS.md says what each
+ * means), AGE_C_MORE or AGE_C_MISUSED. A call that doesn't return 0 has written no byte of `out`,
+ * has set *written to 0, and has changed nothing else. Only a reader that was refused with 17 to 22
+ * has changed: every later call on it returns the same fault.
  *
  * The library is for x86-64 Linux: glibc 2.34 or later, and a processor with the instructions of
  * x86-64-v2. Link libage_c.a, which holds all that it needs but the C library; or libage_c.so.
@@ -73,8 +73,8 @@ extern "C" {
 
 #define AGE_C_CHUNK 65536u /* bytes of text in a whole chunk */
 #define AGE_C_BLOCK 65552u /* bytes of its block */
-/* With so many bytes of a file, or all of it, an age_c_open_.. doesn't answer AGE_C_MORE because
- * a header is long: it has at most 1,048,576 bytes, and the nonce 16. */
+/* With so many bytes of a file, an age_c_open_.. never returns AGE_C_MORE: a header has at most
+ * 1,048,576 bytes, and the nonce 16. */
 #define AGE_C_FRONT_MAX 1048592u
 #define AGE_C_SEAL_FRONT 256u /* room that age_c_seal_passphrase asks for */
 #define AGE_C_PASS_MAX 65536u /* bytes of a passphrase; at least 1 */
@@ -131,8 +131,8 @@ uint32_t age_c_open_shared(const uint8_t *front, size_t front_len, const uint8_t
 uint32_t age_c_block(age_c_reader *reader, const uint8_t *block, size_t block_len, uint8_t *out,
                      size_t out_len, size_t *written);
 
-/* The file ended after these bytes, fewer than AGE_C_BLOCK and maybe none. `out` as above. Only
- * the answer 0 says that the text is whole. */
+/* The file ended after these bytes, fewer than AGE_C_BLOCK and maybe none. `out` as above. The
+ * text is whole only if this returns 0. */
 uint32_t age_c_end(age_c_reader *reader, const uint8_t *rest, size_t rest_len, uint8_t *out,
                    size_t out_len, size_t *written);
 
@@ -157,14 +157,14 @@ uint32_t age_c_seal_end(age_c_writer *writer, const uint8_t *rest, size_t rest_l
 
 /* ---- faults ---- */
 
-/* The name of an answer, as age_tool prints it. */
+/* The name of what a call returned, as age_tool prints it. */
 static inline const char *age_c_fault_name(uint32_t answer) {
     static const char *const names[29] = {
         "Ok", "NotAge", "Armored", "BadStanzaLine", "BadBody", "BadEndLine", "NoStanza",
         "HeadTooLong", "HeadCut", "ScryptNotAlone", "BadScrypt", "WorkTooHigh", "NoMatch",
         "WrongKey", "MacMismatch", "BadX25519", "NonceCut", "ChunkDamaged", "ChunkCut",
         "EmptyLast", "Truncated", "Trailing", "TooManyChunks", 0, 0, 0, 0, 0, "Memory"};
-    if (answer == AGE_C_MORE) return "More";
+    if (answer == AGE_C_MORE) return "HeaderOrNonceCut";
     if (answer == AGE_C_MISUSED) return "Misused";
     return answer < 29 && names[answer] ? names[answer] : "Unknown";
 }

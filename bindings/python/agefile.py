@@ -8,13 +8,15 @@
     with agefile.open("notes.age", "wb", passphrase="correct horse") as file:
         file.write(b"text")
 
-It needs libage_c.so, made by `bindings/build`: the file that the environment variable AGE_C_LIBRARY
-names, else the one beside this module, else one that the loader finds.
+This file is all of the module. It needs libage_c.so, made by `bindings/build`: the file that the
+environment variable AGE_C_LIBRARY names, else the one beside this module or of its release, else
+one that the loader finds.
 
 Reading: no byte of a block is returned before the block was checked, and the end of the file (b"")
 only once it was checked that nothing is missing. What is wrong raises AgeError. So a loop that
 reads to the end without an exception has seen the whole text; one that stops earlier may have seen
-the beginning of a file that was cut.
+the beginning of a file that was cut. A file that can't seek can be read, but not sought in; in one
+that can, seek() reads on to the place, from the beginning if it lies before.
 
 Writing: the file is whole once close() returned. A `with` block that is left by an exception
 abandons it: it then ends in a way that every reader reports.
@@ -25,6 +27,8 @@ import ctypes.util
 import io
 import os
 import pathlib
+
+__all__ = ["open", "AgeError", "AgeReader", "AgeWriter"]
 
 CHUNK = 65_536
 BLOCK = 65_552
@@ -42,14 +46,17 @@ NAMES = {
 
 
 class AgeError(Exception):
-    """A fault: `number` and `name` as docs/FAULTS.md lists them, and `place`, the number of the chunk, where there is one. 254 says
-    that the file ends in its header or in the 16 bytes after it."""
+    """A fault: `number` and `name` as docs/FAULTS.md lists them, and `place`, the number of the chunk, if it has one. 254 says that the
+    file ends in its header or in the 16 bytes after it, 255 that an argument is out of range, such as an empty passphrase."""
 
     def __init__(self, number, place=None):
+        super().__init__(number, place)
         self.number = number
         self.name = NAMES.get(number, "Unknown")
         self.place = place
-        super().__init__(f"{number} {self.name}" + ("" if place is None else f" chunk {place}"))
+
+    def __str__(self):
+        return f"{self.number} {self.name}" + ("" if self.place is None else f" chunk {self.place}")
 
 
 class _ReaderState(ctypes.Structure):
@@ -66,9 +73,18 @@ class _WriterState(ctypes.Structure):
     ]
 
 
+def _found():
+    """The library's file: see the head of this module."""
+    folder = pathlib.Path(__file__).resolve().parent
+    places = [folder / "libage_c.so", folder / "libage_c.so.0"]
+    if folder.parts[-2:] == ("share", "age_tool"):
+        places.append(folder.parent.parent / "lib" / "libage_c.so.0")
+    beside = next((str(it) for it in places if it.exists()), None)
+    return os.environ.get("AGE_C_LIBRARY") or beside or ctypes.util.find_library("age_c")
+
+
 def _library():
-    beside = pathlib.Path(__file__).resolve().with_name("libage_c.so")
-    name = os.environ.get("AGE_C_LIBRARY") or (str(beside) if beside.exists() else ctypes.util.find_library("age_c"))
+    name = _found()
     if name is None:
         raise ImportError("no libage_c.so: make it by bindings/build, or let AGE_C_LIBRARY name it")
     library = ctypes.CDLL(name)
@@ -130,7 +146,7 @@ class AgeReader(io.RawIOBase):
             self._payload_at, self._begun = file.tell() - len(self._rest), bytes(self._state)
 
     def _begin(self, passphrase, file_key, shared, max_work):
-        """Opens the header, and returns what was read behind it."""
+        """Opens the header, and returns what was read after it."""
         front = bytearray()
         while True:
             piece = self._file.read(min(CHUNK, FRONT_MAX - len(front)))
@@ -145,21 +161,20 @@ class AgeReader(io.RawIOBase):
             else:
                 raise ValueError("a passphrase, a file_key or shared (secret, recipient) is needed")
             if answer == 0:
-                return bytes(front[self._state.payload_at:])
+                return front[self._state.payload_at:]
             if answer != MORE or not piece:
                 raise AgeError(answer)
 
     def _fill(self):
-        """Reads a block, or what is left of the file, and returns how many bytes that is."""
-        have = min(len(self._rest), BLOCK)
-        self._block.view[:have] = self._rest[:have]
-        self._rest = self._rest[have:]
-        while have < BLOCK:
-            piece = self._file.read(BLOCK - have)
+        """Reads a block, or what is left of the file, and returns how many bytes that is. What came before a failed read is kept."""
+        while len(self._rest) < BLOCK:
+            piece = self._file.read(BLOCK - len(self._rest))
             if not piece:
                 break
-            self._block.view[have:have + len(piece)] = piece
-            have += len(piece)
+            self._rest += piece
+        have = min(len(self._rest), BLOCK)
+        self._block.view[:have] = self._rest[:have]
+        del self._rest[:have]
         return have
 
     def _next(self):
@@ -203,7 +218,7 @@ class AgeReader(io.RawIOBase):
         return self._begun is not None
 
     def seek(self, offset, whence=io.SEEK_SET):
-        """Reads on up to there; what lies before is read again from the beginning. Nothing is skipped unchecked."""
+        """Reads on to that place, or from the beginning if it lies before. Nothing is skipped unchecked."""
         self._checkClosed()
         if not self.seekable():
             raise io.UnsupportedOperation("seek")
@@ -229,7 +244,7 @@ class AgeReader(io.RawIOBase):
     def _rewind(self):
         self._file.seek(self._payload_at)
         ctypes.memmove(ctypes.byref(self._state), self._begun, len(self._begun))
-        self._rest = b""
+        self._rest = bytearray()
         self._at = self._len = self._before = 0
         self._fault, self._ended = None, False
 
@@ -263,6 +278,7 @@ class AgeWriter(io.BufferedIOBase):
         self._state, front = begun
         self._text, self._count = bytearray(), 0
         self._out, self._written = _Bytes(BLOCK), ctypes.c_size_t()
+        self._failed = False
         self._write(front)
 
     def _write(self, out):
@@ -270,10 +286,14 @@ class AgeWriter(io.BufferedIOBase):
             out = out[self._file.write(out) or 0:]
 
     def _seal(self, call, text):
+        if self._failed:
+            raise ValueError("a block couldn't be written: the file isn't whole")
+        self._failed = True  # until the block is written
         answer = call(self._state, *_given(_Bytes(text)), *_given(self._out), self._written)
         if answer != 0:
             raise AgeError(answer)
         self._write(self._out.view[:self._written.value])
+        self._failed = False
 
     def writable(self):
         return True
@@ -346,6 +366,8 @@ def open(file, mode="rb", *, passphrase=None, file_key=None, shared=None, work=1
     shared, a pair of an X25519 shared secret and the recipient that it was computed for. A file object isn't closed."""
     if mode not in ("r", "w", "x", "rb", "wb", "xb", "rt", "wt", "xt"):
         raise ValueError(f"bad mode {mode!r}")
+    if not mode.endswith("t") and (encoding, errors, newline) != (None, None, None):
+        raise ValueError("encoding, errors and newline are for text alone")
     if mode[0] != "r" and passphrase is None:
         raise ValueError("a passphrase is needed")
     # what can't be begun leaves the file as it is

@@ -1,4 +1,4 @@
-/* Calls with readers and writers of random numbers, and with lengths that don't fit, in memory of just the length that is told. No
+/* Calls with readers and writers of random numbers, and with lengths that don't fit, in memory of exactly the given length. No
  * call may touch anything else (valgrind sees to that), write a byte of text, or change what it misuses.
  *
  * usage: misuse TURNS

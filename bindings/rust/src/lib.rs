@@ -57,18 +57,58 @@ extern "C" {
 type Call = unsafe extern "C" fn(*mut Reader, *const u8, usize, *mut u8, usize, *mut usize) -> u32;
 
 /// A fault, by its number in docs/FAULTS.md, and its chunk if it has one. 254 says that the file
-/// ends in its header or in the 16 bytes after it.
+/// ends in its header or in the 16 bytes after it, 255 that an argument is out of range.
 #[derive(Clone, Copy, Debug, PartialEq, Eq)]
 pub struct AgeError {
     pub number: u32,
     pub chunk: Option<u64>,
 }
 
+/// The names of the faults 1 to 22.
+const NAMES: [&str; 22] = [
+    "NotAge",
+    "Armored",
+    "BadStanzaLine",
+    "BadBody",
+    "BadEndLine",
+    "NoStanza",
+    "HeadTooLong",
+    "HeadCut",
+    "ScryptNotAlone",
+    "BadScrypt",
+    "WorkTooHigh",
+    "NoMatch",
+    "WrongKey",
+    "MacMismatch",
+    "BadX25519",
+    "NonceCut",
+    "ChunkDamaged",
+    "ChunkCut",
+    "EmptyLast",
+    "Truncated",
+    "Trailing",
+    "TooManyChunks",
+];
+
+impl AgeError {
+    /// The name of the fault, as age_tool prints it.
+    pub fn name(&self) -> &'static str {
+        match self.number {
+            number @ 1..=22 => NAMES[number as usize - 1],
+            28 => "Memory",
+            254 => "HeaderOrNonceCut",
+            255 => "Misused",
+            _ => "Unknown",
+        }
+    }
+}
+
 impl fmt::Display for AgeError {
     fn fmt(&self, f: &mut fmt::Formatter<'_>) -> fmt::Result {
+        write!(f, "{} {}", self.number, self.name())?;
         match self.chunk {
-            Some(chunk) => write!(f, "age fault {} at chunk {chunk}", self.number),
-            None => write!(f, "age fault {}", self.number),
+            Some(chunk) => write!(f, " chunk {chunk}"),
+            None => Ok(()),
         }
     }
 }
@@ -121,7 +161,13 @@ impl<R: Read> AgeReader<R> {
             match answer {
                 0 => break,
                 MORE if bytes.len() > before => {}
-                number => return Err(AgeError { number, chunk: None }.into()),
+                number => {
+                    return Err(AgeError {
+                        number,
+                        chunk: None,
+                    }
+                    .into())
+                }
             }
         }
         bytes.drain(..reader.payload_at as usize);
@@ -141,7 +187,11 @@ impl<R: Read> AgeReader<R> {
     fn next(&mut self) -> io::Result<()> {
         fill(&mut self.file, &mut self.bytes, BLOCK)?;
         let given = self.bytes.len().min(BLOCK);
-        let call: Call = if given == BLOCK { age_c_block } else { age_c_end };
+        let call: Call = if given == BLOCK {
+            age_c_block
+        } else {
+            age_c_end
+        };
         (self.at, self.len) = (0, 0);
         // SAFETY: as above; `written` is set by each call.
         let answer = unsafe {
@@ -159,7 +209,10 @@ impl<R: Read> AgeReader<R> {
         if answer != 0 {
             let placed = matches!(answer, 17..=20 | 22);
             let chunk = placed.then_some(self.reader.fault_chunk);
-            self.fault = Some(AgeError { number: answer, chunk });
+            self.fault = Some(AgeError {
+                number: answer,
+                chunk,
+            });
         }
         Ok(())
     }

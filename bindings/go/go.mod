@@ -1,0 +1,3 @@
+module age_c_example
+
+go 1.19
