@@ -1,9 +1,9 @@
 //! A sink over memory, with a limit and a plan of failures.
 
 ghost use Rattle.std.specs.Prelude.{◌≡◌, ◌<◌, ◌≤◌, [], Some, true, false, length, IfOk, OnOk};
-ghost use Rattle.std.specs.Prelude.{MatchResult, vec_capacity, is_err};
+ghost use Rattle.std.specs.Prelude.{vec_capacity};
 ghost use Rattle.std.specs.Io.KnownBytes.{WriteAppends, Keeps};
-ghost use Rattle.age_io.specs.Memory.{one_more, Holding, Puts, Flushes};
+ghost use Rattle.age_io.specs.Memory.{Holding, Puts, Flushes};
 
 use crate::failed::{Failed, Memory};
 use crate::sink::Sink;
@@ -106,9 +106,6 @@ impl Sink for MemSink {
     fn put(&mut self, from: &[u8]) -> Result<usize, Failed>
         ensures bound { IfOk result (λ n. (n ≤ length from.now) × (0 < length from.now → 0 < n)) }
         ensures bytes { WriteAppends (Some self.old.held) (Some self.new.held) result from.now }
-        ensures counted { MatchResult result (λ _. self.new.failures ≡ self.old.failures)
-            (λ _. self.new.failures ≡ one_more self.old.failures) }
-        ensures last { self.new.failing ≡ is_err result }
         ensures plan { Puts self.old from.now result self.new }
     {
         let call = self.calls;
@@ -129,9 +126,6 @@ impl Sink for MemSink {
     fn flush(&mut self) -> Result<(), Failed>
         ensures settled { OnOk result (self.new.settled ≡ true) }
         ensures bytes { Keeps (Some self.old.held) (Some self.new.held) }
-        ensures counted { MatchResult result (λ _. self.new.failures ≡ self.old.failures)
-            (λ _. self.new.failures ≡ one_more self.old.failures) }
-        ensures last { self.new.failing ≡ is_err result }
         ensures plan { Flushes self.old result self.new }
     {
         let call = self.calls;

@@ -1,9 +1,9 @@
 //! A source over memory, with a plan of failures.
 
 ghost use Rattle.std.specs.Prelude.{◌≡◌, ◌<◌, ◌≤◌, Some, length, take, IfOk, MatchResult};
-ghost use Rattle.std.specs.Prelude.{drop, false, is_err};
+ghost use Rattle.std.specs.Prelude.{drop, false};
 ghost use Rattle.std.specs.Io.KnownBytes.{ReadConsumes};
-ghost use Rattle.age_io.specs.Memory.{one_more, Feeding, Pulls};
+ghost use Rattle.age_io.specs.Memory.{Feeding, Pulls};
 
 use crate::failed::Failed;
 use crate::source::Source;
@@ -90,9 +90,6 @@ impl Source for MemSource {
     fn pull(&mut self, into: &mut [u8]) -> Result<usize, Failed>
         ensures bound { IfOk result (λ n. n ≤ length into.new) }
         ensures bytes { ReadConsumes (Some self.old.left) (Some self.new.left) result into.new }
-        ensures counted { MatchResult result (λ _. self.new.failures ≡ self.old.failures)
-            (λ _. self.new.failures ≡ one_more self.old.failures) }
-        ensures last { self.new.failing ≡ is_err result }
         ensures rest { MatchResult result (λ n. drop n into.new ≡ drop n into.old)
             (λ _. into.new ≡ into.old) }
         ensures plan { Pulls self.old (length into.new) result self.new }

@@ -9,7 +9,8 @@ use Rattle.age_kdf.proofs.hmac_of_block.Goals as goal
 pub loop-part-preserved : goal.loop-part-preserved
 loop-part-preserved c =
     rw (
-      take_more c.args.parts.now c.loop-part.part-index (record { ref_ptr = (0, 0); now = [] }) c.loop-part-test.true,
+      take_more c.args.parts.now c.loop-part.part-index (record { ref_ptr = (0, 0); now = [] })
+          c.loop-part-test.true,
       map-append,
       concat-append,
       append-nil,
@@ -22,8 +23,11 @@ unfolding hmac
 returns c key e =
     let m : List ℕ = concat (map (λ part. part.now) c.args.parts.now) in
     let inner : c.finalize.result ≡ sha256 (xor_pad 0x36 c.args.block.now ++ m) =
-    c.finalize.ensures _ (rw (take_all c.loop-part.part-index c.args.parts.now c.loop-part-test.false) at c.loop-part.invariant) in
-    let outer = c.finalize-2.ensures _ (c.update-3.ensures _ (c.update-2.ensures [] c.new-outer.ensures)) in
+    c.finalize.ensures _
+    (rw (take_all c.loop-part.part-index c.args.parts.now c.loop-part-test.false) at
+    c.loop-part.invariant) in
+    let outer =
+    c.finalize-2.ensures _ (c.update-3.ensures _ (c.update-2.ensures [] c.new-outer.ensures)) in
     outer
     ∙ ap sha256 (ap₂ ◌++◌
     (c.as_slice-2.ensures ∙ c.xor_pad-2.ensures ∙ ap (xor_pad 0x5c) e)

@@ -8,4 +8,5 @@ pub returns : goal.returns
 unfolding pbkdf2_block
 returns c pass e =
     c.hmac_of_block.ensures pass e
-    ∙ ap (λ number. hmac pass (c.args.salt.now ++ number)) (append-nil c.to_be_bytes.result ∙ c.to_be_bytes.ensures)
+    ∙ ap (λ number. hmac pass (c.args.salt.now ++ number))
+    (append-nil c.to_be_bytes.result ∙ c.to_be_bytes.ensures)

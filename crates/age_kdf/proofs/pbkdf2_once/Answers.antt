@@ -1,10 +1,12 @@
-use Rattle.std.proofs.Common.{◌≡◌, ◌+◌, ◌-◌, ◌*◌, ◌≤◌, ◌∙◌, ◌++◌, ◌⊎◌, inl, inr, ℕ, List, length, take, ap, sym, arith}
+use Rattle.std.proofs.Common.{◌≡◌, ◌+◌, ◌-◌, ◌*◌, ◌≤◌, ◌∙◌, ◌++◌, ◌⊎◌, inl, inr, ℕ, List, length}
+use Rattle.std.proofs.Common.{take, ap, sym, arith}
 use Rattle.std.specs.Int.{div_ceil}
 use Rattle.std.proofs.lemmas.Bool.{cases_lt}
 use Rattle.std.proofs.lemmas.Grind.{div_ceil_times}
 use Rattle.std.proofs.lemmas.List.{take_all}
 use Rattle.age_kdf.specs.Pbkdf2.{pbkdf2_once}
-use Rattle.age_kdf.proofs.BlockLemmas.{joined, length-joined, length-pbkdf2_block, joined_more, chunk_written}
+use Rattle.age_kdf.proofs.BlockLemmas.{joined, length-joined, length-pbkdf2_block, joined_more}
+use Rattle.age_kdf.proofs.BlockLemmas.{chunk_written}
 use Rattle.age_kdf.proofs.pbkdf2_once.Goals as goal
 
 pub loop-i-init : goal.loop-i-init
@@ -20,14 +22,18 @@ loop-i-preserved c =
     let k : ℕ = c.min-end.result - a in
     let is = c.pbkdf2_block-block.ensures pass c.key_block-key.ensures in
     let front : length (joined pass salt i) ≡ a = length-joined pass salt i in
-    let block : length c.pbkdf2_block-block.result ≡ 32 = ap length is ∙ length-pbkdf2_block pass salt (i + 1) in
+    let block : length c.pbkdf2_block-block.result ≡ 32 =
+    ap length is ∙ length-pbkdf2_block pass salt (i + 1) in
     let room : length c.loop-i.out ≡ n = c.loop-i.auto.out in
-    let reach : (k ≡ 32) ⊎ (a + k ≡ n) = elim (cases_lt n (a + 32)) [ inl below ↦ inr (omega arith) | inr above ↦ inl (omega arith) ] in
-    let before : take a c.loop-i.out ≡ joined pass salt i = c.loop-i.invariant ∙ take_all n (joined pass salt i) (omega arith) in
+    let reach : (k ≡ 32) ⊎ (a + k ≡ n) =
+    elim (cases_lt n (a + 32))
+    [ inl below ↦ inr (omega arith) | inr above ↦ inl (omega arith) ] in
+    let before : take a c.loop-i.out ≡ joined pass salt i =
+    c.loop-i.invariant ∙ take_all n (joined pass salt i) (omega arith) in
     let next : 32 * (i + 1) ≡ a + 32 = omega arith in
     rw (next, joined_more) (
-    chunk_written (joined pass salt i) c.pbkdf2_block-block.result c.loop-i.out c.copy_from_slice.new.self a k n front block room (omega arith)
-    (omega arith) reach
+    chunk_written (joined pass salt i) c.pbkdf2_block-block.result c.loop-i.out
+    c.copy_from_slice.new.self a k n front block room (omega arith) (omega arith) reach
     c.copy_from_slice.ensures.after before
     ∙ ap (λ b. take n (joined pass salt i ++ b)) is
     )

@@ -7,4 +7,5 @@ use Rattle.age_kdf.proofs.xor_pad.Goals as goal
 pub returns : goal.returns
 unfolding xor_pad
 returns c =
-    mapped_is _ (λ byte. bit_xor byte c.args.pad) _ (λ x y q called. search rules) c.args.block.now c.map.result 64 c.told-block c.map.ensures.items
+    mapped_is _ (λ byte. bit_xor byte c.args.pad) _ (λ x y q called. search rules) c.args.block.now
+    c.map.result 64 c.told-block c.map.ensures.items

@@ -1,4 +1,5 @@
-use Rattle.std.proofs.Common.{ℕ, ◌+◌, ◌-◌, ◌≡◌, List, length, take, drop, ◌++◌, sym, ap, ◌∙◌, take-append-drop, drop-drop, arith}
+use Rattle.std.proofs.Common.{ℕ, ◌+◌, ◌-◌, ◌≡◌, List, length, take, drop, ◌++◌, sym, ap, ◌∙◌}
+use Rattle.std.proofs.Common.{take-append-drop, drop-drop, arith}
 use Rattle.std.proofs.lemmas.List.{take_rest}
 use Rattle.std.proofs.lemmas.Grind.{common_steps}
 use Rattle.age_io.specs.Memory.{Feeding}
@@ -9,10 +10,14 @@ returns-clause-bytes c =
     let at = c.self.inside.at in
     let n = c.min-n.result in
     let items = c.self.inside.bytes.items in
-    let front : take n c.copy_front.new.into ≡ take n (take (length c.deref.result.now - at) (drop at c.deref.result.now)) = c.copy_front.ensures.front in
+    let front : take n c.copy_front.new.into
+    ≡ take n (take (length c.deref.result.now - at) (drop at c.deref.result.now)) =
+    c.copy_front.ensures.front in
     let came : take n c.copy_front.new.into ≡ take n (drop at items) =
-    front ∙ ap (take n) (take_rest c.deref.result.now at) ∙ ap (λ (t : List ℕ). take n (drop at t)) c.deref.ensures.value in (
-      sym (ap (λ (s : Feeding). s.left) c.self.view_is) ∙ sym (ap (λ (t : List ℕ). t ++ drop (at + n) items) came
+    front ∙ ap (take n) (take_rest c.deref.result.now at)
+    ∙ ap (λ (t : List ℕ). take n (drop at t)) c.deref.ensures.value in (
+      sym (ap (λ (s : Feeding). s.left) c.self.view_is)
+          ∙ sym (ap (λ (t : List ℕ). t ++ drop (at + n) items) came
           ∙ ap (λ (t : List ℕ). take n (drop at items) ++ t) (sym (drop-drop n at items))
           ∙ take-append-drop n (drop at items)),
       λ zero some. grind (arith, common_steps),
