@@ -1,12 +1,13 @@
 //! The first bytes of a source or a file.
 
-ghost use Rattle.std.specs.Prelude.{◌≡◌, ◌^◌, ◌<◌, ◌≤◌, take, [], OnOk, IfOk, IfErr};
+ghost use Rattle.std.specs.Prelude.{◌≡◌, ◌^◌, ◌<◌, ◌≤◌, [], OnOk, IfOk, IfErr};
 ghost use Rattle.std.specs.Prelude.{IfSome, Some, true, ◌∷◌, ◌++◌};
 ghost use Rattle.age_fileset.specs.Events.{Opened};
 ghost use Rattle.age_fileset.specs.FileSet.{IsMemoryOr};
 ghost use Rattle.age_fault.specs.declared.fault.FileFault.TheVariants.{Read};
 ghost use Rattle.std.specs.Io.KnownBytes.{Consumes, IsAtEnd};
 ghost use Rattle.age_cli_common.specs.FirstBytes.{AreFirst};
+ghost use Rattle.age_cli_common.specs.inner.Pieces.{IsPiece};
 
 use age_fault::FileFault;
 use age_fileset::FileSet;
@@ -24,10 +25,8 @@ fn pull_some<S: Source>(
 ) -> Result<usize, FileFault>
     requires some { 0 < most }
     requires room { most ≤ 4096 }
-    ensures count { IfOk result (λ n. n ≤ most) }
-    ensures bytes { IfOk result (λ n. Consumes (S.view source.old).remaining
-        (S.view source.new).remaining (take n buffer.new)) }
-    ensures ended { IfOk result (λ n. n ≡ 0 → IsAtEnd (S.view source.new).remaining) }
+    ensures piece { IfOk result (λ n.
+        IsPiece (S.view source.old).remaining (S.view source.new).remaining most n buffer.new) }
     ensures fault { IfErr result (λ f. f ≡ Read) }
 {
     match source.pull(&mut buffer[..most]) {

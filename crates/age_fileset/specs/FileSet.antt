@@ -1,5 +1,5 @@
--- What contracts see of a set of files, the faults that it returns, and what it reads of a file that
--- may be missing.
+-- What contracts see of a set of files, the faults that it returns, and what it reads of a file
+-- that may be missing.
 use Rattle.std.specs.Prelude.{◌≡◌, ◌⊎◌, ℕ, Bool, false, List, [], Option, Some, None}
 use Rattle.age_fault.specs.declared.fault.FileFault.{FileFault}
 use Rattle.age_fault.specs.declared.fault.FileFault.TheVariants.{Memory, Write}

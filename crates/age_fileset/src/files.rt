@@ -148,8 +148,8 @@ pub trait FileSet {
 
     /// Makes a file of these bytes, and waits for the disk as `close` does. One of the name is
     /// replaced atomically where its folder lets a new one be made beside it; else it is written
-    /// directly. Refuses with `Write` (27) and with `Memory` (28); no entry has changed then, though
-    /// a file that is written directly may hold a part of the bytes.
+    /// directly. Refuses with `Write` (27) and with `Memory` (28); no entry has changed then,
+    /// though a file that is written directly may hold a part of the bytes.
     fn replace(
         &mut self,
         alloc: Global,

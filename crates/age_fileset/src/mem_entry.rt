@@ -1,8 +1,8 @@
 //! Files over memory, as a list.
 
-ghost use Rattle.std.specs.Prelude.{◌≡◌, ◌≢◌, IsOk, ℕ, List, Some, OnOk, OnErr, IfOk, is_some};
-ghost use Rattle.std.specs.Prelude.{true, position, option_map};
-ghost use Rattle.age_fileset.specs.Entries.{has_name, entry_of};
+ghost use Rattle.std.specs.Prelude.{◌≡◌, IsOk, ℕ, List, IfOk, is_some, true, position};
+ghost use Rattle.std.specs.Prelude.{option_map};
+ghost use Rattle.age_fileset.specs.Entries.{has_name, entry_of, PutsEntry};
 
 use age_stanza::Bytes;
 use std::alloc::{AllocError, Global};
@@ -66,11 +66,8 @@ pub(crate) fn put_entry(
     name: Name,
     bytes: Bytes,
 ) -> Result<(), AllocError>
-    ensures ok { OnOk result (entry_of entries.new.items name ≡ Some bytes) }
-    ensures others { (q : List ℕ) → q ≢ name
-        → entry_of entries.new.items q ≡ entry_of entries.old.items q }
+    ensures puts { PutsEntry name bytes result entries.old.items entries.new.items }
     ensures there { is_some (entry_of entries.old.items name) ≡ true → IsOk result }
-    ensures err { OnErr result (entries.new.items ≡ entries.old.items) }
 {
     match place(entries.as_slice(), name.as_str()) {
         Some(at) => {

@@ -1,13 +1,11 @@
 //! Files over memory.
 
-ghost use Rattle.std.specs.Prelude.{◌≡◌, ◌≢◌, ◌↔◌, ◌⊎◌, ◌++◌, ◌∷◌, ◌<◌};
-ghost use Rattle.std.specs.Prelude.{◌≤◌, IsTrue, ℕ, List, []};
-ghost use Rattle.std.specs.Prelude.{true, Some, None, OnOk, OnErr, IfOk, IsErrOf, IsOk, IfErr};
-ghost use Rattle.std.specs.Prelude.{IsOkUnless, Contains, is_some, option_map, length, MatchResult};
-ghost use Rattle.std.specs.Prelude.{is_err};
+ghost use Rattle.std.specs.Prelude.{◌≡◌, ◌↔◌, ◌⊎◌, ◌++◌, ◌∷◌, ◌<◌, ◌≤◌, IsTrue, [], true, Some};
+ghost use Rattle.std.specs.Prelude.{None, OnOk, OnErr, IfOk, IsErrOf, IsOk, IfErr, IsOkUnless};
+ghost use Rattle.std.specs.Prelude.{Contains, is_some, option_map, length};
 ghost use Rattle.std.specs.Io.KnownBytes.{WriteAppends, Keeps};
-ghost use Rattle.age_io.specs.Memory.{one_more, Puts, Flushes};
-ghost use Rattle.age_fileset.specs.Entries.{entry_of, empty_with};
+ghost use Rattle.age_io.specs.Memory.{Puts, Flushes};
+ghost use Rattle.age_fileset.specs.Entries.{entry_of, empty_with, PutsEntry};
 ghost use Rattle.age_fileset.specs.FileSet.{IsMemoryOr, CreateFails, or_empty};
 ghost use Rattle.age_fileset.specs.Events.{Opened, Prepared, Created, Replaced, Closed};
 ghost use Rattle.age_fileset.specs.declared.files.CreateFault.TheVariants.{Fault};
@@ -73,9 +71,6 @@ impl Sink for MemOut {
         ensures bound { IfOk result (λ n. (n ≤ length from.now) × (0 < length from.now → 0 < n)) }
         ensures bytes { WriteAppends (Some self.old.1.held) (Some self.new.1.held) result from.now }
         ensures named { self.new.0 ≡ self.old.0 }
-        ensures counted { MatchResult result (λ _. self.new.1.failures ≡ self.old.1.failures)
-            (λ _. self.new.1.failures ≡ one_more self.old.1.failures) }
-        ensures last { self.new.1.failing ≡ is_err result }
         ensures plan { Puts self.old.1 from.now result self.new.1 }
     {
         self.sink.put(from)
@@ -85,9 +80,6 @@ impl Sink for MemOut {
         ensures settled { OnOk result (self.new.1.settled ≡ true) }
         ensures bytes { Keeps (Some self.old.1.held) (Some self.new.1.held) }
         ensures named { self.new.0 ≡ self.old.0 }
-        ensures counted { MatchResult result (λ _. self.new.1.failures ≡ self.old.1.failures)
-            (λ _. self.new.1.failures ≡ one_more self.old.1.failures) }
-        ensures last { self.new.1.failing ≡ is_err result }
         ensures plan { Flushes self.old.1 result self.new.1 }
     {
         self.sink.flush()
@@ -113,12 +105,8 @@ impl MemFiles {
 
     /// Puts a file there, in place of one of its name. Where memory is refused nothing changes.
     pub fn put(&mut self, alloc: Global, name: &str, bytes: Vec<u8>) -> Result<(), Memory>
-        ensures ok { OnOk result (entry_of self.new.entries name.now ≡ Some bytes.items) }
-        ensures others { (q : List ℕ) → q ≢ name.now
-            → entry_of self.new.entries q ≡ entry_of self.old.entries q }
-        ensures err { OnErr result (self.new ≡ self.old) }
-        ensures refused { self.new.refused ≡ self.old.refused }
-        ensures room { self.new.room ≡ self.old.room }
+        ensures puts { PutsEntry name.now bytes.items result self.old.entries self.new.entries }
+        ensures kept { self.new ≡ record self.old { entries = self.new.entries } }
     {
         let Ok(name) = Name::new(alloc, name) else {
             return Err(Memory);
@@ -188,10 +176,7 @@ fn put_copy(
     name: &str,
     bytes: &[u8],
 ) -> Result<(), FileFault>
-    ensures ok { OnOk result (entry_of entries.new.items name.now ≡ Some bytes.now) }
-    ensures others { (q : List ℕ) → q ≢ name.now
-        → entry_of entries.new.items q ≡ entry_of entries.old.items q }
-    ensures err { OnErr result (entries.new.items ≡ entries.old.items) }
+    ensures puts { PutsEntry name.now bytes.now result entries.old.items entries.new.items }
     ensures memory { IfErr result (λ fault. fault ≡ FileFault.Memory) }
 {
     let Ok(copy) = bytes.to_vec(alloc) else {
@@ -289,14 +274,13 @@ impl FileSet for MemFiles {
     /// Puts what the sink took under its name. That takes no memory where a file of the name is
     /// there.
     fn close(&mut self, out: MemOut, durability: Durability) -> Result<(), FileFault>
-        ensures put { OnOk result (entry_of self.new.entries out.0 ≡ Some out.1.held) }
-        ensures others { (q : List ℕ) → q ≢ out.0
-            → entry_of self.new.entries q ≡ entry_of self.old.entries q }
+        ensures puts { PutsEntry out.0 out.1.held result self.old.entries self.new.entries }
         ensures there { is_some (entry_of self.old.entries out.0) ≡ true → IsOk result }
-        ensures err { OnErr result (self.new.entries ≡ self.old.entries) }
         ensures faults { IsOkUnless result FileFault.Write }
-        ensures kept { (self.new.refused ≡ self.old.refused) × (self.new.room ≡ self.old.room) }
-        ensures noted { self.new.events ≡ self.old.events ++ Closed durability ∷ [] }
+        ensures kept { self.new ≡ record self.old {
+          entries = self.new.entries;
+          events = self.old.events ++ Closed durability ∷ [];
+        } }
     {
         self.log.closed(durability);
         let MemOut { name, sink } = out;
@@ -324,16 +308,14 @@ impl FileSet for MemFiles {
         bytes: &[u8],
         durability: Durability,
     ) -> Result<(), FileFault>
-        ensures put { OnOk result (entry_of self.new.entries name.now ≡ Some bytes.now) }
-        ensures others { (q : List ℕ) → q ≢ name.now
-            → entry_of self.new.entries q ≡ entry_of self.old.entries q }
-        ensures err { OnErr result (self.new.entries ≡ self.old.entries) }
+        ensures puts { PutsEntry name.now bytes.now result self.old.entries self.new.entries }
         ensures refused { IsErrOf result FileFault.Write
             ↔ (Contains self.old.refused name.now ⊎ (self.old.room < length bytes.now)) }
         ensures faults { IfErr result (IsMemoryOr FileFault.Write) }
-        ensures kept { (self.new.refused ≡ self.old.refused) × (self.new.room ≡ self.old.room) }
-        ensures noted { self.new.events
-            ≡ self.old.events ++ Replaced name.now durability ∷ [] }
+        ensures kept { self.new ≡ record self.old {
+          entries = self.new.entries;
+          events = self.old.events ++ Replaced name.now durability ∷ [];
+        } }
     {
         self.log.replaced(name, durability);
         if is_refused(self.refused.as_slice(), name) || bytes.len() > self.room {

@@ -17,7 +17,8 @@ number_is xs =
       get_or-take 4 xs 3 0 (omega arith),
     ) (omega arith)
 
-pub words_all : (bytes words : List ℕ) → length bytes ≡ 1024 → length words ≡ 256 → IsRead little_number 4 bytes words
+pub words_all : (bytes words : List ℕ) → length bytes ≡ 1024 → length words ≡ 256
+    → IsRead little_number 4 bytes words
     → words ≡ words_of bytes
 unfolding word_at words_of part
 words_all bytes words lb lw read =

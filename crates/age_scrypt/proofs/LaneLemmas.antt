@@ -1,14 +1,17 @@
 -- Vectors of four words.
-use Rattle.std.proofs.Common.{◌≡◌, ℕ, ◌-◌, ◌*◌, ◌/◌, ◌%◌, ◌^◌, ◌<◌, List, [], ◌∷◌, ◌++◌, length, take, drop, map, bit_or, bit_xor, refl, ap, ◌∙◌, subst, zero}
+use Rattle.std.proofs.Common.{◌≡◌, ℕ, ◌-◌, ◌*◌, ◌/◌, ◌%◌, ◌^◌, ◌<◌, List, [], ◌∷◌, ◌++◌, length}
+use Rattle.std.proofs.Common.{take, drop, map, bit_or, bit_xor, refl, ap, ◌∙◌, subst, zero}
 use Rattle.std.proofs.Common.{suc, ◌+◌, arith}
-use Rattle.std.proofs.lemmas.List.{append_assoc, take-append-drop, drop-drop, length-take, length-drop}
+use Rattle.std.proofs.lemmas.List.{append_assoc, take-append-drop, drop-drop, length-take}
+use Rattle.std.proofs.lemmas.List.{length-drop}
 use Rattle.std.specs.Int.{w32, rotate_left}
 use Rattle.std.specs.Simd.Lanes.{zip2}
 use Rattle.age_scrypt.specs.Salsa.{add32, quarter, columns, rows, double_rounds}
 use Rattle.age_scrypt.specs.inner.Lanes.{quarters, transpose}
 
 -- what holds of every list of four words written out
-pub for_four : (P : List ℕ → Type 0) → ((p q r s : ℕ) → P (p ∷ q ∷ r ∷ s ∷ [])) → (xs : List ℕ) → length xs ≡ 4 → P xs
+pub for_four : (P : List ℕ → Type 0) → ((p q r s : ℕ) → P (p ∷ q ∷ r ∷ s ∷ [])) → (xs : List ℕ)
+    → length xs ≡ 4 → P xs
 for_four P h [] len = absurd (omega arith)
 for_four P h (p ∷ []) len = absurd (omega arith)
 for_four P h (p ∷ q ∷ []) len = absurd (omega arith)
@@ -29,13 +32,15 @@ shifts_rotate k some below =
 -- the same, of four vectors
 pub for_sixteen : (P : List ℕ → List ℕ → List ℕ → List ℕ → Type 0)
     → ((a0 a1 a2 a3 b0 b1 b2 b3 c0 c1 c2 c3 d0 d1 d2 d3 : ℕ)
-    → P (a0 ∷ a1 ∷ a2 ∷ a3 ∷ []) (b0 ∷ b1 ∷ b2 ∷ b3 ∷ []) (c0 ∷ c1 ∷ c2 ∷ c3 ∷ []) (d0 ∷ d1 ∷ d2 ∷ d3 ∷ []))
+    → P (a0 ∷ a1 ∷ a2 ∷ a3 ∷ []) (b0 ∷ b1 ∷ b2 ∷ b3 ∷ []) (c0 ∷ c1 ∷ c2 ∷ c3 ∷ [])
+    (d0 ∷ d1 ∷ d2 ∷ d3 ∷ []))
     → (a b c d : List ℕ) → length a ≡ 4 → length b ≡ 4 → length c ≡ 4 → length d ≡ 4 → P a b c d
 for_sixteen P h a b c d a_len b_len c_len d_len =
     for_four (λ a. P a b c d) (λ a0 a1 a2 a3.
     for_four (λ b. P (a0 ∷ a1 ∷ a2 ∷ a3 ∷ []) b c d) (λ b0 b1 b2 b3.
     for_four (λ c. P (a0 ∷ a1 ∷ a2 ∷ a3 ∷ []) (b0 ∷ b1 ∷ b2 ∷ b3 ∷ []) c d) (λ c0 c1 c2 c3.
-    for_four (λ d. P (a0 ∷ a1 ∷ a2 ∷ a3 ∷ []) (b0 ∷ b1 ∷ b2 ∷ b3 ∷ []) (c0 ∷ c1 ∷ c2 ∷ c3 ∷ []) d) (λ d0 d1 d2 d3.
+    for_four (λ d. P (a0 ∷ a1 ∷ a2 ∷ a3 ∷ []) (b0 ∷ b1 ∷ b2 ∷ b3 ∷ []) (c0 ∷ c1 ∷ c2 ∷ c3 ∷ []) d)
+    (λ d0 d1 d2 d3.
     h a0 a1 a2 a3 b0 b1 b2 b3 c0 c1 c2 c3 d0 d1 d2 d3) d d_len) c c_len) b b_len) a a_len
 
 -- b xor the sum of x and y, rotated, on vectors
@@ -45,13 +50,20 @@ xor_rotated_lanes b x y k = zip2 bit_xor b (map (λ sum. rotate_left w32 sum k) 
 -- a quarter round on each lane, as it is computed on vectors
 pub record IsQuarter (a b c d : List ℕ) : Type 0 where
   pub second : xor_rotated_lanes b a d 7 ≡ map (λ q. q.1) (quarters a b c d)
-  pub third : xor_rotated_lanes c (map (λ q. q.1) (quarters a b c d)) a 9 ≡ map (λ q. q.2) (quarters a b c d)
-  pub fourth : xor_rotated_lanes d (map (λ q. q.2) (quarters a b c d)) (map (λ q. q.1) (quarters a b c d)) 13 ≡ map (λ q. q.3) (quarters a b c d)
-  pub first : xor_rotated_lanes a (map (λ q. q.3) (quarters a b c d)) (map (λ q. q.2) (quarters a b c d)) 18 ≡ map (λ q. q.0) (quarters a b c d)
+  pub third : xor_rotated_lanes c (map (λ q. q.1) (quarters a b c d)) a 9
+      ≡ map (λ q. q.2) (quarters a b c d)
+  pub fourth : xor_rotated_lanes d (map (λ q. q.2) (quarters a b c d))
+      (map (λ q. q.1) (quarters a b c d)) 13 ≡ map (λ q. q.3) (quarters a b c d)
+  pub first : xor_rotated_lanes a (map (λ q. q.3) (quarters a b c d))
+      (map (λ q. q.2) (quarters a b c d)) 18 ≡ map (λ q. q.0) (quarters a b c d)
 
-pub quarter_lanes : (a b c d : List ℕ) → length a ≡ 4 → length b ≡ 4 → length c ≡ 4 → length d ≡ 4 → IsQuarter a b c d
+pub quarter_lanes : (a b c d : List ℕ) → length a ≡ 4 → length b ≡ 4 → length c ≡ 4 → length d ≡ 4
+    → IsQuarter a b c d
 unfolding quarter
-quarter_lanes = for_sixteen IsQuarter (λ a0 a1 a2 a3 b0 b1 b2 b3 c0 c1 c2 c3 d0 d1 d2 d3. record { second = refl; third = refl; fourth = refl; first = refl })
+quarter_lanes =
+    for_sixteen IsQuarter
+    (λ a0 a1 a2 a3 b0 b1 b2 b3 c0 c1 c2 c3 d0 d1 d2 d3.
+    record { second = refl; third = refl; fourth = refl; first = refl })
 
 -- sixteen words, written out
 pub sixteen_words : (P : List ℕ → Type 0)
@@ -59,32 +71,40 @@ pub sixteen_words : (P : List ℕ → Type 0)
     → P (x0 ∷ x1 ∷ x2 ∷ x3 ∷ x4 ∷ x5 ∷ x6 ∷ x7 ∷ x8 ∷ x9 ∷ x10 ∷ x11 ∷ x12 ∷ x13 ∷ x14 ∷ x15 ∷ []))
     → (x : List ℕ) → length x ≡ 16 → P x
 sixteen_words P h x len =
-    let cut : (i : ℕ) → take 4 (drop i x) ++ drop (i + 4) x ≡ drop i x = λ i. rw (← drop-drop) (take-append-drop 4 (drop i x)) in
+    let cut : (i : ℕ) → take 4 (drop i x) ++ drop (i + 4) x ≡ drop i x =
+    λ i. rw (← drop-drop) (take-append-drop 4 (drop i x)) in
     let parts : take 4 x ++ take 4 (drop 4 x) ++ take 4 (drop 8 x) ++ drop 12 x ≡ x =
     append_assoc (take 4 x ++ take 4 (drop 4 x)) (take 4 (drop 8 x)) (drop 12 x)
     ∙ ap (λ rest. take 4 x ++ take 4 (drop 4 x) ++ rest) (cut 8)
     ∙ append_assoc (take 4 x) (take 4 (drop 4 x)) (drop 8 x)
     ∙ ap (λ rest. take 4 x ++ rest) (cut 4)
     ∙ take-append-drop 4 x in
-    subst P parts (for_sixteen (λ a b c d. P (a ++ b ++ c ++ d)) h (take 4 x) (take 4 (drop 4 x)) (take 4 (drop 8 x)) (drop 12 x)
+    subst P parts
+    (for_sixteen (λ a b c d. P (a ++ b ++ c ++ d)) h (take 4 x) (take 4 (drop 4 x))
+    (take 4 (drop 8 x)) (drop 12 x)
     (omega (arith, length-take 4 x))
     (omega (arith, length-take 4 (drop 4 x), length-drop 4 x))
     (omega (arith, length-take 4 (drop 8 x), length-drop 8 x))
     (omega (arith, length-drop 12 x)))
 
 -- the rows are the columns of the transpose
-pub transpose-columns_of-transpose : (x : List ℕ) → length x ≡ 16 → transpose (columns (transpose x)) ≡ rows x
+pub transpose-columns_of-transpose : (x : List ℕ) → length x ≡ 16
+    → transpose (columns (transpose x)) ≡ rows x
 unfolding transpose columns rows
 transpose-columns_of-transpose = sixteen_words (λ x. transpose (columns (transpose x)) ≡ rows x)
     (λ x0 x1 x2 x3 x4 x5 x6 x7 x8 x9 x10 x11 x12 x13 x14 x15. refl)
 
 pub length-columns : (x : List ℕ) → length x ≡ 16 → length (columns x) ≡ 16
 unfolding columns
-length-columns = sixteen_words (λ x. length (columns x) ≡ 16) (λ x0 x1 x2 x3 x4 x5 x6 x7 x8 x9 x10 x11 x12 x13 x14 x15. refl)
+length-columns =
+    sixteen_words (λ x. length (columns x) ≡ 16)
+    (λ x0 x1 x2 x3 x4 x5 x6 x7 x8 x9 x10 x11 x12 x13 x14 x15. refl)
 
 pub length-rows : (x : List ℕ) → length x ≡ 16 → length (rows x) ≡ 16
 unfolding rows
-length-rows = sixteen_words (λ x. length (rows x) ≡ 16) (λ x0 x1 x2 x3 x4 x5 x6 x7 x8 x9 x10 x11 x12 x13 x14 x15. refl)
+length-rows =
+    sixteen_words (λ x. length (rows x) ≡ 16)
+    (λ x0 x1 x2 x3 x4 x5 x6 x7 x8 x9 x10 x11 x12 x13 x14 x15. refl)
 
 pub length-double_rounds : (n : ℕ) (x : List ℕ) → length x ≡ 16 → length (double_rounds n x) ≡ 16
 unfolding double_rounds

@@ -1,3 +1,4 @@
 pub mod Lanes
 pub mod Table
 pub mod Turned
+pub mod Workspace

@@ -15,10 +15,9 @@
 //! one BlockMix, and nothing else raises it.
 #![tactic(auto)]
 
-ghost use Rattle.std.specs.Prelude.{◌≡◌, ◌+◌, ◌*◌, ◌^◌, ◌≤◌, length, vec_len};
-ghost use Rattle.std.specs.Prelude.{vec_capacity, IfOk};
-ghost use Rattle.std.specs.Prelude.{OnOk, OnErr};
+ghost use Rattle.std.specs.Prelude.{◌≡◌, ◌+◌, ◌*◌, ◌^◌, ◌≤◌, IfOk, OnOk, OnErr};
 ghost use Rattle.age_scrypt.specs.Scrypt.{work_factor_limit, scrypt};
+ghost use Rattle.age_scrypt.specs.inner.Workspace.{IsWorkspace};
 
 mod fault;
 mod part;
@@ -37,7 +36,7 @@ pub use steps::Steps;
 /// The greatest work factor that a caller may allow, 22: its table has 4 GiB.
 pub const WORK_FACTOR_LIMIT: u32 = 22;
 
-/// The key, in memory that the caller has: an empty table with room for all blocks, and two blocks.
+/// The key, in memory that the caller took.
 fn derive_in(
     pass: &[u8],
     salt: &[u8],
@@ -48,10 +47,7 @@ fn derive_in(
     steps: &mut Steps,
 ) -> [u8; 32]
     requires log { log ≤ work_factor_limit }
-    requires empty { vec_len table.old ≡ 0 }
-    requires room { 256 * 2 ^ log ≤ vec_capacity table.old }
-    requires x { length x.old ≡ 256 }
-    requires y { length y.old ≡ 256 }
+    requires workspace { IsWorkspace (2 ^ log) table.old x.old y.old }
     ensures key { result ≡ scrypt pass.now salt.now log }
     ensures counted { steps.new ≡ steps.old + 2 * 2 ^ log }
 {

@@ -1,13 +1,13 @@
 //! ROMix with r = 8 (RFC 7914, section 5), over one flat table of words.
 
-ghost use Rattle.std.specs.Prelude.{◌≡◌, ℕ, ◌+◌, ◌*◌, ◌%◌, ◌^◌, ◌<◌, ◌≤◌};
-ghost use Rattle.std.specs.Prelude.{List, length, vec_len};
-ghost use Rattle.std.specs.Prelude.{vec_capacity};
+ghost use Rattle.std.specs.Prelude.{◌≡◌, ℕ, ◌+◌, ◌*◌, ◌%◌, ◌^◌, ◌<◌, ◌≤◌, List, length};
 ghost use Rattle.age_scrypt.specs.BlockMix.{xor_words};
 ghost use Rattle.age_scrypt.specs.Romix.{v_block, integerify, romix};
 ghost use Rattle.age_scrypt.specs.Scrypt.{work_factor_limit};
 ghost use Rattle.age_scrypt.specs.inner.Table.{IsTable};
 ghost use Rattle.age_scrypt.specs.inner.Turned.{IsTurned};
+ghost use Rattle.age_scrypt.specs.inner.Workspace.{IsCount, HasRoom, AreBlocks, IsWorkspace};
+ghost use Rattle.age_scrypt.specs.inner.Workspace.{IsFilled};
 
 use crate::part::Part;
 use crate::steps::{Steps, block_mix};
@@ -17,9 +17,7 @@ use crate::turn::{turn, turn_back};
 pub(crate) fn block_count(log: u32) -> usize
     requires { log ≤ work_factor_limit }
     ensures value { result ≡ 2 ^ log }
-    ensures some { 0 < result }
-    ensures few { result ≤ 2 ^ work_factor_limit }
-    ensures divides { 2 ^ 32 % result ≡ 0 }
+    ensures count { IsCount result }
 {
     1 << log
 }
@@ -40,8 +38,7 @@ fn xor_blocks(x: &[u32], y: &[u32], to: &mut [u32])
 /// word says it, since 2^32 is a multiple of `n`, and it is where it was before the turn.
 fn place_of(x: &[u32], n: usize) -> usize
     requires x { length x.now ≡ 256 }
-    requires n { 2 ^ 32 % n ≡ 0 }
-    requires some { 0 < n }
+    requires count { IsCount n }
     ensures below { result < n }
     ensures place { (b : List ℕ) → IsTurned b x.now → result ≡ integerify b % n }
 {
@@ -50,13 +47,10 @@ fn place_of(x: &[u32], n: usize) -> usize
 
 /// Fills a table that has room for `n` turned blocks: block `i` is `x` mixed `i` times.
 fn fill(table: &mut Vec<u32>, x: &mut [u32], n: usize, steps: &mut Steps)
-    requires empty { vec_len table.old ≡ 0 }
-    requires room { 256 * n ≤ vec_capacity table.old }
-    requires few { n ≤ 2 ^ work_factor_limit }
+    requires count { IsCount n }
+    requires table { HasRoom n table.old }
     requires x { length x.old ≡ 256 }
-    ensures len { vec_len table.new ≡ 256 * n }
-    ensures table { (b : List ℕ) → IsTurned b x.old → IsTable b n table.new.items }
-    ensures x { (b : List ℕ) → IsTurned b x.old → IsTurned (v_block b n) x.new }
+    ensures filled { IsFilled n x.old table.new x.new }
     ensures counted { steps.new ≡ steps.old + n }
 {
     for i in 0..n {
@@ -68,11 +62,9 @@ fn fill(table: &mut Vec<u32>, x: &mut [u32], n: usize, steps: &mut Steps)
 
 /// Looks up as many blocks as the table has.
 fn look_up(table: &[u32], x: &mut [u32], y: &mut [u32], n: usize, steps: &mut Steps)
+    requires count { IsCount n }
     requires table { length table.now ≡ 256 * n }
-    requires x { length x.old ≡ 256 }
-    requires y { length y.old ≡ 256 }
-    requires n { 2 ^ 32 % n ≡ 0 }
-    requires some { 0 < n }
+    requires blocks { AreBlocks x.old y.old }
     ensures x { (b : List ℕ) → IsTable b n table.now → IsTurned (v_block b n) x.old
         → IsTurned (romix n b) x.new }
     ensures counted { steps.new ≡ steps.old + n }
@@ -84,14 +76,10 @@ fn look_up(table: &[u32], x: &mut [u32], y: &mut [u32], n: usize, steps: &mut St
     }
 }
 
-/// ROMix of the block `x` in place, with `y` for a block in between. The table is empty, with room
-/// for `2^log` blocks.
+/// ROMix of the block `x` in place, with `y` for a block in between.
 pub(crate) fn romix(table: &mut Vec<u32>, x: &mut [u32], y: &mut [u32], log: u32, steps: &mut Steps)
     requires log { log ≤ work_factor_limit }
-    requires empty { vec_len table.old ≡ 0 }
-    requires room { 256 * 2 ^ log ≤ vec_capacity table.old }
-    requires x { length x.old ≡ 256 }
-    requires y { length y.old ≡ 256 }
+    requires workspace { IsWorkspace (2 ^ log) table.old x.old y.old }
     ensures x { x.new ≡ romix (2 ^ log) x.old }
     ensures counted { steps.new ≡ steps.old + 2 * 2 ^ log }
 {

@@ -10,4 +10,6 @@ returns-clause-key c =
     c.pbkdf2_once-2.ensures
     ∙ ap (λ block. pbkdf2_once c.args.pass.now block 32)
     (c.write_bytes.ensures
-    ∙ ap bytes_of (c.romix.ensures.x ∙ ap (romix (2 ^ c.args.log)) (c.read_words.ensures ∙ ap words_of c.pbkdf2_once.ensures)))
+    ∙ ap bytes_of
+    (c.romix.ensures.x
+    ∙ ap (romix (2 ^ c.args.log)) (c.read_words.ensures ∙ ap words_of c.pbkdf2_once.ensures)))

@@ -10,14 +10,15 @@ pieces-preserved g c =
     let buffer = c.pull_some.new.buffer in
     let items = c.in_ok-extend_from_slice.ensures.items in
     record {
-      read = rw items (Consumes-then _ _ _ c.pieces.held.items (take n buffer) kept.read c.in_ok-n.ensures.bytes);
+      read = rw items (Consumes-then _ _ _ c.pieces.held.items (take n buffer) kept.read
+          c.in_ok-n.ensures.piece.read);
       within = omega (
         arith,
         kept.within,
         ap length items,
         length-append c.pieces.held.items (take n buffer),
         length-take n buffer,
-        c.in_ok-n.ensures.count,
+        c.in_ok-n.ensures.piece.within,
         c.pieces-test.true,
         c.len.ensures,
       );

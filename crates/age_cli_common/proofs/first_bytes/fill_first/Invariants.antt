@@ -5,7 +5,8 @@ use Rattle.age_cli_common.proofs.first_bytes.fill_first.Given as goal
 -- what was read so far
 abbrev pub invariant-pieces : goal.invariant-pieces
 invariant-pieces g l = record {
-  read : Consumes (g.S.Source.view l.fn.source).remaining (g.S.Source.view l.source).remaining l.held.items;
+  read : Consumes (g.S.Source.view l.fn.source).remaining (g.S.Source.view l.source).remaining
+      l.held.items;
   within : length l.held.items ≤ l.most;
   room : length l.buffer ≡ 4096;
 }

@@ -1,4 +1,5 @@
-use Rattle.std.proofs.Common.{◌≡◌, ◌+◌, ◌-◌, ◌*◌, ◌++◌, ℕ, List, length, take, drop, refl, sym, subst, ap, arith}
+use Rattle.std.proofs.Common.{◌≡◌, ◌+◌, ◌-◌, ◌*◌, ◌++◌, ℕ, List, length, take, drop, refl, sym}
+use Rattle.std.proofs.Common.{subst, ap, arith}
 use Rattle.std.proofs.lemmas.List.{length-append}
 use Rattle.std.proofs.lemmas.Slice.{pushed}
 use Rattle.age_scrypt.specs.BlockMix.{part}
@@ -11,8 +12,8 @@ use Rattle.age_scrypt.proofs.romix.fill.Goals as goal
 pub loop-i-init : goal.loop-i-init
 unfolding v_block
 loop-i-init c = record {
-  room = c.requires.room;
-  len = c.requires.empty;
+  room = c.requires.table.room;
+  len = c.requires.table.empty;
   table = λ b t. record { at = λ j h. absurd (omega arith) };
   x = λ b t. t;
   counted = omega arith;
@@ -37,9 +38,17 @@ loop-i-preserved c =
     rw (width, c.deref.ensures.value, items) (part-append_right 256 table x i len x_len) in
     record {
       room = omega (arith, c.extend_from_slice.ensures.capacity);
-      len = omega (arith, c.deref.ensures.len, ap length c.deref.ensures.value, ap length items, length-append table x);
+      len =
+          omega (
+            arith,
+            c.deref.ensures.len,
+            ap length c.deref.ensures.value,
+            ap length items,
+            length-append table x,
+          );
       table = λ b t. rw items (table_more b i table x len x_len (inv.table b t) (inv.x b t));
       x = λ b t. mixed_times_more b c.block_mix.new.to i
-          (c.block_mix.ensures.mixed (v_block b i) (subst (IsTurned (v_block b i)) (sym from) (inv.x b t)));
+          (c.block_mix.ensures.mixed (v_block b i)
+          (subst (IsTurned (v_block b i)) (sym from) (inv.x b t)));
       counted = omega arith;
     }

@@ -11,7 +11,8 @@ loop-i-preserved c =
     below_more _ _
     (λ j below. c.write.ensures.others j (omega arith) (omega arith) ∙ c.loop-i.invariant j below)
     (c.write.ensures.here
-    ∙ words_of_diagonals (words p) c.diagonals.result (c.diagonals.ensures (words p) (rows_of_words p))
+    ∙ words_of_diagonals (words p) c.diagonals.result
+    (c.diagonals.ensures (words p) (rows_of_words p))
     ∙ ap turned c.read.ensures)
 
 pub returns : goal.returns
