@@ -36,7 +36,7 @@ module _ {B : Type 0} (sealing : B → Seals) (opening : B → Opens) (n : ℕ) 
     pub fault : IfErr answer (λ fault. new.status ≡ Failed fault)
     -- after Ok it isn't refused
     pub unfailed : OnOk answer (has_failed new.status ≡ false)
-    -- a text that is lent is a whole chunk, which ended the block that was open, and nothing is held
+    -- a text that is lent is a whole chunk and ended the block that was open; nothing is held
     pub lent : IfOk answer (λ step. IfSome step.chunk (λ chunk. (length chunk.now ≡ n)
         × (length old.held + step.taken ≡ n + tag_length) × (new.held ≡ [])))
     -- if nothing is lent, all that was taken is held

@@ -1,7 +1,10 @@
 -- What a replay stands for. A chunk has n bytes.
-use Rattle.std.specs.Prelude.{◌≡◌, ◌<◌, ◌+◌, ℕ, List, [], length, vec_capacity}
-use Rattle.age_chunk.specs.ChunkBoxes.{Opens}
+use Rattle.std.specs.Prelude.{◌≡◌, ◌<◌, ◌≤◌, ◌+◌, ℕ, List, [], ◌∷◌, ◌++◌, length, vec_capacity}
+use Rattle.std.specs.Prelude.{Result, OnOk, OnErr}
+use Rattle.age_chunk.specs.ChunkBoxes.{Seals, Opens}
+use Rattle.age_chunk.specs.declared.fault.Memory.{Memory}
 use Rattle.age_stream.specs.Deliveries.{Standing, standing, text_held}
+use Rattle.age_stream.specs.Headline.{HoldsWritten}
 use Rattle.age_stream.specs.Opening.{OpenerView, Stands, text_of_piece, text_at_end}
 use Rattle.age_stream.specs.declared.delivery.Delivery.{Delivery}
 use Rattle.age_stream.specs.declared.delivery.Delivery.TheVariants.{Piece, End, Restart}
@@ -51,6 +54,29 @@ could_release n o (Restart k) = 0
 pub record IsCramped {B : Type 0} (n : ℕ) (r : ReplayView B) (delivery : Delivery) : Type 0 where
   pub some : 0 < could_release n r.opener delivery
   pub full : r.capacity < length r.text + could_release n r.opener delivery
+
+-- what `take` does with a delivery
+module _ {B : Type 0} (sealing : B → Seals) (opening : B → Opens) (n : ℕ) where
+  pub record TakesDelivery (old : ReplayView B) (delivery : Delivery)
+      (answer : Result (Unit {0}) Memory) (new : ReplayView B) : Type 0 where
+    -- whatever deliveries it was given before, it was then given these and this one
+    pub held : OnOk answer ((deliveries : List Delivery) → Replays opening n old deliveries
+        → Replays opening n new (deliveries ++ delivery ∷ []))
+    -- the headline: while no block opens except as the writer of a text sealed it, what is held is
+    -- the beginning of that text, the end is reported only with all of it, an undamaged payload, or
+    -- its rest, gives all of it, and each block stands in its place
+    pub written : OnOk answer ((deliveries : List Delivery) → Replays opening n old deliveries
+        → HoldsWritten (sealing old.key) (opening old.key) n (deliveries ++ delivery ∷ [])
+        new.text new.opener.status)
+    -- where memory is refused nothing changes
+    pub err : OnErr answer (new ≡ old)
+    -- memory is refused only where the delivery could release more text than there is room for:
+    -- never at a restart, nor after the last chunk or a fault
+    pub memory : OnErr answer (IsCramped n old delivery)
+    -- what room there is stays
+    pub capacity : old.capacity ≤ new.capacity
+    -- its key stays
+    pub key : new.key ≡ old.key
 
 -- the bytes of a delivery
 abbrev pub bytes_in : Delivery → List ℕ

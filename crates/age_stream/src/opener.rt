@@ -1,6 +1,6 @@
 //! The reader's side: sealed chunks in, text out.
 ghost use Rattle.std.specs.Prelude.{◌≡◌, ◌≢◌, ◌+◌, ◌-◌, ◌<◌, ◌≤◌, [], ◌++◌, length, take};
-ghost use Rattle.std.specs.Prelude.{IfOk, OnOk, IfErr, Some, None, true, false, if◌then◌else◌};
+ghost use Rattle.std.specs.Prelude.{IfOk, OnOk, Some, None, true, false, if◌then◌else◌};
 ghost use Rattle.std.specs.Prelude.{nat_lt, ◌==◌, ◌&&◌};
 ghost use Rattle.std.specs.Bool.{OnTrue, OnFalse};
 ghost use Rattle.std.specs.Borrow.{sem};
@@ -8,7 +8,6 @@ ghost use Rattle.std.specs.Io.BufRead.{Rests};
 ghost use Rattle.age_chunk.specs.ChunkBoxes.{tag_length, text_length};
 ghost use Rattle.age_chunk.specs.Nonce.{nonce_bytes, chunk_limit};
 ghost use Rattle.age_chunk.specs.Payload.{chunk_length, block_length};
-ghost use Rattle.age_chunk.specs.declared.fault.StreamFault.{StreamFault as StreamFaultValue};
 ghost use Rattle.age_stream.specs.declared.step.Status.TheVariants.{Open};
 
 use crate::buffer::push_bytes;
@@ -36,10 +35,10 @@ struct OpenerState<'k, B: ChunkBox, const SEALED: usize> {
 
 impl<'k, B: ChunkBox, const SEALED: usize> OpenerState<'k, B, SEALED> {
     ghost use Rattle.age_stream.specs.Segment.{failed};
-    ghost use Rattle.age_stream.specs.inner.SegmentSteps.{final_block, one_block, status_ended};
-    ghost use Rattle.age_stream.specs.Opening.{has_failed, held_bytes, opener_view};
+    ghost use Rattle.age_stream.specs.inner.SegmentSteps.{final_block, one_block};
+    ghost use Rattle.age_stream.specs.Opening.{held_bytes};
     ghost use Rattle.age_stream.specs.inner.OpenerSteps.{IsTried, TakesPart, TakesWhole, TakesNone};
-    ghost use Rattle.age_stream.specs.inner.OpenerSteps.{Advances, Closes, EndsAs};
+    ghost use Rattle.age_stream.specs.inner.OpenerSteps.{Advances, Closes, EndsAs, EndsNone};
 
     // Empties the buffer of a text that was lent.
     fn settle(&mut self)
@@ -105,12 +104,7 @@ impl<'k, B: ChunkBox, const SEALED: usize> OpenerState<'k, B, SEALED> {
     // Takes nothing more.
     fn take_none(&mut self, piece: &[u8]) -> Result<(usize, bool), StreamFault>
         requires { self.old.status ≢ Status.Open }
-        ensures none { TakesNone self.old piece.now result self.new }
-        ensures sound { IfOk result (λ _. has_failed self.new.status ≡ false) }
-        ensures again { IfErr result (λ fault. (earlier : StreamFaultValue)
-            → self.old.status ≡ Status.Failed earlier → fault ≡ earlier) }
-        ensures unfailed { OnOk result (has_failed self.old.status ≡ false) }
-        ensures still { length piece.now ≡ 0 → opener_view self.new ≡ opener_view self.old }
+        ensures { TakesNone self.old piece.now result self.new }
     {
         match self.status {
             Status::Failed(fault) => Err(fault),
@@ -164,15 +158,7 @@ impl<'k, B: ChunkBox, const SEALED: usize> OpenerState<'k, B, SEALED> {
     // An end where no block is open.
     fn end_none(&mut self) -> Result<usize, StreamFault>
         requires { self.old.status ≢ Status.Open }
-        ensures ends { EndsAs
-            (record { texts = []; index = self.old.index; status = status_ended self.old.status })
-            self.old result self.new }
-        ensures again { IfErr result (λ fault. (earlier : StreamFaultValue)
-            → self.old.status ≡ Status.Failed earlier → fault ≡ earlier) }
-        ensures unfailed { OnOk result (has_failed self.old.status ≡ false) }
-        ensures done { OnOk result (self.new.status ≡ Status.Done) }
-        ensures none { OnOk result (held_bytes self.new ≡ []) }
-        ensures len { IfOk result (λ len. len ≡ 0) }
+        ensures { EndsNone self.old result self.new }
     {
         if let Status::Failed(fault) = self.status {
             return Err(fault);

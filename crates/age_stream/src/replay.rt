@@ -1,13 +1,10 @@
 //! What a reader holds, under any deliveries.
-ghost use Rattle.std.specs.Prelude.{◌≡◌, ◌+◌, ◌-◌, ◌*◌, ◌^◌, ◌<◌, ◌≤◌, List};
-ghost use Rattle.std.specs.Prelude.{[], ◌∷◌, ◌++◌, length, take, OnOk, OnErr, IfSome, IfNone};
-ghost use Rattle.std.specs.Prelude.{vec_len, vec_capacity, nat_lt, nat_le, ◌&&◌};
+ghost use Rattle.std.specs.Prelude.{◌≡◌, ◌+◌, ◌*◌, ◌^◌, ◌<◌, ◌≤◌, [], ◌++◌, length};
+ghost use Rattle.std.specs.Prelude.{OnOk, OnErr, vec_len, vec_capacity, nat_lt, nat_le, ◌&&◌};
 ghost use Rattle.std.specs.Bool.{OnTrue};
-ghost use Rattle.age_stream.specs.declared.delivery.Delivery.{Delivery as DeliveryValue};
 ghost use Rattle.age_stream.specs.Lent.{chunk_bytes};
 ghost use Rattle.age_chunk.specs.Nonce.{chunk_limit};
 ghost use Rattle.age_chunk.specs.Payload.{block_length};
-ghost use Rattle.age_stream.specs.Headline.{HoldsWritten};
 ghost use Rattle.age_chunk.specs.ChunkBoxes.{tag_length, text_length};
 
 use crate::delivery::Delivery;
@@ -41,8 +38,8 @@ struct ReplayState<'k, B: ChunkBox, const SEALED: usize> {
 }
 
 impl<'k, B: ChunkBox, const SEALED: usize> ReplayState<'k, B, SEALED> {
-    ghost use Rattle.age_stream.specs.Replaying.{IsCramped, Replays, replay_view};
-    ghost use Rattle.age_stream.specs.inner.ReplaySteps.{Goes, with_bytes};
+    ghost use Rattle.age_stream.specs.Replaying.{IsCramped, TakesDelivery, replay_view};
+    ghost use Rattle.age_stream.specs.inner.ReplaySteps.{FeedsOnce, Goes, with_bytes};
     ghost use Rattle.age_stream.specs.Opening.{text_at_end, text_of_piece, whole_text};
     ghost use Rattle.age_stream.specs.Deliveries.{after_delivery};
     ghost use Rattle.age_stream.specs.declared.delivery.Delivery.TheVariants.{End, Restart};
@@ -53,15 +50,7 @@ impl<'k, B: ChunkBox, const SEALED: usize> ReplayState<'k, B, SEALED> {
         requires room { self.old.opener.status ≡ Status.Open → vec_len self.old.text
             + whole_text (text_length SEALED) (length self.old.opener.held + length piece.now)
             ≤ vec_capacity self.old.text }
-        ensures taken { IfSome result (λ t. (0 < t) × (t ≤ length piece.now)
-            × (vec_len self.new.text
-            + whole_text (text_length SEALED) (length self.new.opener.held + (length piece.now - t))
-            ≤ vec_capacity self.new.text)
-            × Goes B.opening self.old self.new (λ s. with_bytes s (take t piece.now))) }
-        ensures capacity { vec_capacity self.old.text ≤ vec_capacity self.new.text }
-        ensures refused { IfNone result
-            (Goes B.opening self.old self.new (λ s. with_bytes s piece.now)) }
-        ensures key { self.new.key ≡ self.old.key }
+        ensures { FeedsOnce B.opening self.old piece.now result self.new }
     {
         match self.opener.feed(piece) {
             Ok(step) => {
@@ -187,8 +176,8 @@ impl<'k, B: ChunkBox, const SEALED: usize> ReplayState<'k, B, SEALED> {
 
     // One delivery, for what it was given before.
     fn deliver(&mut self, delivery: &Delivery<'_>) -> Result<(), Memory>
-        ensures stands { OnOk result (Goes B.opening self.old self.new
-            (λ s. after_delivery (B.opening self.old.key.now) (text_length SEALED) s delivery.now)) }
+        ensures stands { OnOk result (Goes B.opening self.old self.new (λ s.
+            after_delivery (B.opening self.old.key.now) (text_length SEALED) s delivery.now)) }
         ensures err { OnErr result (replay_view self.new ≡ replay_view self.old) }
         ensures memory { OnErr result
             (IsCramped (text_length SEALED) (replay_view self.old) delivery.now) }
@@ -207,19 +196,8 @@ impl<'k, B: ChunkBox, const SEALED: usize> ReplayState<'k, B, SEALED> {
 
     // The same, for each list of deliveries that it was given.
     fn take(&mut self, delivery: &Delivery<'_>) -> Result<(), Memory>
-        ensures held { OnOk result ((deliveries : List DeliveryValue)
-            → Replays B.opening (text_length SEALED) (replay_view self.old) deliveries
-            → Replays B.opening (text_length SEALED) (replay_view self.new)
-            (deliveries ++ delivery.now ∷ [])) }
-        ensures err { OnErr result (replay_view self.new ≡ replay_view self.old) }
-        ensures memory { OnErr result
-            (IsCramped (text_length SEALED) (replay_view self.old) delivery.now) }
-        ensures capacity { vec_capacity self.old.text ≤ vec_capacity self.new.text }
-        ensures written { OnOk result ((deliveries : List DeliveryValue)
-            → Replays B.opening (text_length SEALED) (replay_view self.old) deliveries
-            → HoldsWritten (B.sealing self.old.key.now) (B.opening self.old.key.now)
-            (text_length SEALED) (deliveries ++ delivery.now ∷ []) self.new.text.items self.new.opener.status) }
-        ensures key { self.new.key ≡ self.old.key }
+        ensures { TakesDelivery B.sealing B.opening (text_length SEALED)
+            (replay_view self.old) delivery.now result (replay_view self.new) }
     {
         self.deliver(delivery)
     }
@@ -244,7 +222,7 @@ impl<'k, B: ChunkBox, const SEALED: usize> Model for Replay<'k, B, SEALED> {
 }
 
 impl<'k, B: ChunkBox, const SEALED: usize> Replay<'k, B, SEALED> {
-    ghost use Rattle.age_stream.specs.Replaying.{IsCramped, Replays};
+    ghost use Rattle.age_stream.specs.Replaying.{Replays, TakesDelivery};
 
     /// A replay that was given nothing yet. Takes no memory.
     pub fn new(alloc: Global, key: &'k B) -> Self
@@ -313,26 +291,12 @@ impl<'k, B: ChunkBox, const SEALED: usize> Replay<'k, B, SEALED> {
     /// Takes a delivery: all bytes of a piece unless a fault comes, which then
     /// is the status; an end; or a restart at chunk k, which is refused where
     /// k is [`CHUNK_LIMIT`] or more or fewer than k whole chunks are held.
-    /// Where memory is refused nothing changes.
+    /// Where memory is refused nothing changes. While no block opens except as the
+    /// writer of a text sealed it, what is held is the beginning of that text, and
+    /// [`Done`](Status::Done) comes only with all of it.
     pub fn take(&mut self, delivery: &Delivery<'_>) -> Result<(), Memory>
-        ensures held { OnOk result ((deliveries : List DeliveryValue)
-            → Replays B.opening (text_length SEALED) self.old deliveries
-            → Replays B.opening (text_length SEALED) self.new (deliveries ++ delivery.now ∷ [])) }
-        ensures err { OnErr result (self.new ≡ self.old) }
-
-        // Memory is refused only where the delivery could release more text than there is room for:
-        // never at a restart, nor after the last chunk or a fault. What room there is stays.
-        ensures memory { OnErr result (IsCramped (text_length SEALED) self.old delivery.now) }
-        ensures capacity { self.old.capacity ≤ self.new.capacity }
-
-        // While no block opens except as the writer of a text sealed it, what is held is the
-        // beginning of that text, the end is reported only with all of it, an undamaged payload, or
-        // its rest, gives all of it, and each block stands in its place.
-        ensures written { OnOk result ((deliveries : List DeliveryValue)
-            → Replays B.opening (text_length SEALED) self.old deliveries
-            → HoldsWritten (B.sealing self.old.key) (B.opening self.old.key) (text_length SEALED)
-            (deliveries ++ delivery.now ∷ []) self.new.text self.new.opener.status) }
-        ensures key { self.new.key ≡ self.old.key }
+        ensures { TakesDelivery B.sealing B.opening (text_length SEALED)
+            self.old delivery.now result self.new }
     {
         self.state.take(delivery)
     }

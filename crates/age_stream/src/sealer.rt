@@ -1,6 +1,6 @@
 //! The writer's side: text in, sealed chunks out.
 ghost use Rattle.std.specs.Prelude.{◌≡◌, ℕ, ◌+◌, ◌<◌, ◌≤◌, List, [], ◌++◌, length};
-ghost use Rattle.std.specs.Prelude.{IfOk, OnOk, OnErr, IfErr, None, IsNone, true, false};
+ghost use Rattle.std.specs.Prelude.{OnOk, None, IsNone, true, false};
 ghost use Rattle.std.specs.Borrow.{sem};
 ghost use Rattle.std.specs.Io.BufRead.{Rests};
 ghost use Rattle.age_chunk.specs.ChunkBoxes.{tag_length, text_length};
@@ -30,10 +30,8 @@ struct SealerState<'k, B: ChunkBox, const SEALED: usize> {
 }
 
 impl<'k, B: ChunkBox, const SEALED: usize> SealerState<'k, B, SEALED> {
-    ghost use Rattle.age_stream.specs.Sealing.{held_text, sealer_view, Holds, needs_too_many};
-    ghost use Rattle.age_stream.specs.Sealing.{too_many};
-    ghost use Rattle.age_stream.specs.SealerCalls.{IsRefused};
-    ghost use Rattle.age_stream.specs.inner.SealerSteps.{Advances, IsStep, SealsLast, block_lent};
+    ghost use Rattle.age_stream.specs.Sealing.{held_text, sealer_view, Holds, too_many};
+    ghost use Rattle.age_stream.specs.inner.SealerSteps.{Steps, Advances, SealsLast};
     ghost use Rattle.age_chunk.specs.Payload.{sealed_before_last, block_bytes, payload};
 
     // Empties the buffer of a block that was lent, and puts the byte beside it first.
@@ -64,17 +62,7 @@ impl<'k, B: ChunkBox, const SEALED: usize> SealerState<'k, B, SEALED> {
     // Takes what it takes of a piece, and says whether the buffer then is a block to lend.
     fn step(&mut self, piece: &[u8]) -> Result<(usize, bool), StreamFault>
         requires { self.old.finished ≡ false }
-        ensures ok { IfOk result (λ s.
-            IsStep B.sealing (text_length SEALED) (sealer_view self.old) piece.now s.0
-            (block_lent self.new.buffer.items s) (sealer_view self.new)) }
-        ensures whole { IfOk result (λ s. s.1 ≡ true → length self.new.buffer.items ≡ SEALED) }
-        ensures fits { IfOk result
-            (λ _. needs_too_many (text_length SEALED) (sealer_view self.old) piece.now ≡ false) }
-        ensures refused { OnErr result
-            (needs_too_many (text_length SEALED) (sealer_view self.old) piece.now ≡ true) }
-        ensures fault { IfErr result (λ fault. fault ≡ too_many self.old.index) }
-        ensures err { OnErr result (IsRefused (sealer_view self.old) (sealer_view self.new)) }
-        ensures still { length piece.now ≡ 0 → sealer_view self.new ≡ sealer_view self.old }
+        ensures { Steps B.sealing self.old piece.now result self.new }
     {
         if self.failed {
             return Err(self.refusal());

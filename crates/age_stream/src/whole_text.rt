@@ -1,12 +1,9 @@
 //! A caller of the sealer: it feeds a text, and copies out the blocks that are lent.
-ghost use Rattle.std.specs.Prelude.{◌≡◌, ◌-◌, ◌≤◌, ◌<◌, ◌+◌, ◌*◌, ◌/◌};
-ghost use Rattle.std.specs.Prelude.{◌^◌, ◌++◌, length, take, IfOk, IfErr, OnOk, OnErr, IfSome};
-ghost use Rattle.std.specs.Prelude.{IfNone};
-ghost use Rattle.std.specs.Prelude.{vec_capacity};
-ghost use Rattle.age_chunk.specs.Payload.{payload, chunk_count, block_length};
-ghost use Rattle.age_chunk.specs.Nonce.{chunk_limit};
-ghost use Rattle.age_stream.specs.Authentic.{GivesBack, IsClosed};
-ghost use Rattle.age_stream.specs.WholeText.{SealRefuses, number_of, place_of};
+ghost use Rattle.std.specs.Prelude.{◌≡◌, ◌-◌, ◌≤◌, ◌<◌, ◌+◌, ◌*◌, ◌/◌, ◌^◌};
+ghost use Rattle.std.specs.Prelude.{length, IfSome, IfNone, vec_capacity};
+ghost use Rattle.age_chunk.specs.Payload.{chunk_count, block_length};
+ghost use Rattle.age_stream.specs.WholeText.{AppendsPayload, SealsPayload, number_of, place_of};
+ghost use Rattle.age_stream.specs.inner.WholeTextSteps.{SealsWithin};
 ghost use Rattle.age_stream.specs.declared.whole_text.SealFault.TheVariants as refusals;
 ghost use Rattle.age_chunk.specs.ChunkBoxes.{tag_length, text_length};
 
@@ -77,15 +74,8 @@ pub fn seal_all<B: ChunkBox, const SEALED: usize>(
 ) -> Result<Vec<u8>, SealFault>
     requires least { tag_length < SEALED }
     requires most { SEALED ≤ block_length }
-    ensures sealed { IfOk result
-        (λ v. v.items ≡ payload (B.sealing key.now) (text_length SEALED) text.now) }
-    ensures few { OnOk result (chunk_count (text_length SEALED) text.now ≤ chunk_limit) }
-
-    // Delivered in any pieces and then an end, it is held as the text again, with the status Done.
-    ensures gives_back { IfOk result
-        (λ v. IsClosed (B.sealing key.now) (B.opening key.now) (text_length SEALED) text.now
-        → GivesBack (B.opening key.now) (text_length SEALED) v.items text.now) }
-    ensures refused { IfErr result (SealRefuses (text_length SEALED) text.now 0) }
+    ensures { SealsPayload (B.sealing key.now) (B.opening key.now) (text_length SEALED) text.now
+        result }
 {
     let mut out = Vec::new(alloc);
     seal_into::<B, SEALED>(key, text, &mut out)?;
@@ -103,12 +93,8 @@ pub fn seal_into<B: ChunkBox, const SEALED: usize>(
 ) -> Result<(), SealFault>
     requires least { tag_length < SEALED }
     requires most { SEALED ≤ block_length }
-    ensures sealed { OnOk result (out.new.items
-        ≡ out.old.items ++ payload (B.sealing key.now) (text_length SEALED) text.now) }
-    ensures few { OnOk result (chunk_count (text_length SEALED) text.now ≤ chunk_limit) }
-    ensures refused { IfErr result
-        (SealRefuses (text_length SEALED) text.now (vec_capacity out.old - length out.old.items)) }
-    ensures unchanged { OnErr result (out.new.items ≡ out.old.items) }
+    ensures { AppendsPayload (B.sealing key.now) (text_length SEALED) text.now
+        out.old.items (vec_capacity out.old - length out.old.items) result out.new.items }
 {
     let Some(len) = payload_len(text.len(), SEALED - TAG_LEN) else {
         return Err(SealFault::Memory);
@@ -133,13 +119,8 @@ fn seal_within<B: ChunkBox, const SEALED: usize>(
     requires room { length out.old.items
         + (length text.now + chunk_count (text_length SEALED) text.now * tag_length)
         ≤ vec_capacity out.old }
-    ensures sealed { OnOk result (out.new.items
-        ≡ out.old.items ++ payload (B.sealing key.now) (text_length SEALED) text.now) }
-    ensures few { OnOk result (chunk_count (text_length SEALED) text.now ≤ chunk_limit) }
-    ensures refused { IfErr result (λ fault. SealRefuses (text_length SEALED) text.now 0
-        (refusals.Stream fault)) }
-    ensures begun { OnErr result
-        (take (length out.old.items) out.new.items ≡ out.old.items) }
+    ensures { SealsWithin (B.sealing key.now) (text_length SEALED) text.now
+        out.old.items result out.new.items }
 {
     let mut sealer = Sealer::<B, SEALED>::new(key);
     let mut at = 0;

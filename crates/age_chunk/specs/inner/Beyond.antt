@@ -45,5 +45,6 @@ sealing_beyond sealing nonce text =
 abbrev pub opening_beyond : Opens → Opens
 opening_beyond opening nonce block =
     let front = take (text_length (length block)) block in
+    let is_sealed = not (is_text nonce front) && bytes_eq (front ++ no_tag) block in
     if is_block nonce block then opening nonce block
-    else (if not (is_text nonce front) && bytes_eq (front ++ no_tag) block then Some front else None)
+    else (if is_sealed then Some front else None)

@@ -1,6 +1,7 @@
 -- The box that hides nothing is valid. The code cites this proof, so it can't stand in `proofs/`.
 use Rattle.std.specs.Prelude.{◌≡◌, ◌≤◌, ℕ, ◌+◌, List, [], ◌∷◌, ◌++◌}
-use Rattle.std.specs.Prelude.{length, take, drop, Some, None, nat_le, ◌&&◌, Bool, true, cond}
+use Rattle.std.specs.Prelude.{length, take, drop, Option, Some, None, nat_le, ◌&&◌, Bool, true}
+use Rattle.std.specs.Prelude.{cond}
 use Rattle.std.specs.Str.{bytes_eq}
 use Rattle.std.proofs.Common.{sym, ap, subst, ◌∙◌}
 use Rattle.std.proofs.Math.Nat.{eq-sub_of_add-eq, le-add_left}
@@ -38,17 +39,16 @@ clear_valid =
           take_at text (clear_mark nonce) (text_length (length block)) here in
           let same : bytes_eq (drop (text_length (length block)) block) (clear_mark nonce) ≡ true =
           (bytes_eq-Decides (drop (text_length (length block)) block) (clear_mark nonce)).1 tail in
-          ap (λ (b : Bool). cond (b && bytes_eq (drop (text_length (length block)) block) (clear_mark nonce))
-          (Some (take (text_length (length block)) block)) None) long
-          ∙ (ap (λ (b : Bool). cond b (Some (take (text_length (length block)) block)) None) same
-          ∙ ap (λ (t : List ℕ). Some t) front);
+          let mark : Bool = bytes_eq (drop (text_length (length block)) block) (clear_mark nonce) in
+          let opened : Option (List ℕ) = Some (take (text_length (length block)) block) in
+          ap (λ (b : Bool). cond (b && mark) opened None) long
+          ∙ (ap (λ (b : Bool). cond b opened None) same ∙ ap (λ (t : List ℕ). Some t) front);
       only =
           λ nonce text block h e.
-          let t = cond_some (nat_le tag_length (length block) && bytes_eq (drop (text_length (length block)) block)
-          (clear_mark nonce)) (take (text_length (length block)) block) text e in
-          let p =
-          and_parts (nat_le tag_length (length block))
-          (bytes_eq (drop (text_length (length block)) block) (clear_mark nonce)) t.0 in
+          let long : Bool = nat_le tag_length (length block) in
+          let mark : Bool = bytes_eq (drop (text_length (length block)) block) (clear_mark nonce) in
+          let t = cond_some (long && mark) (take (text_length (length block)) block) text e in
+          let p = and_parts long mark t.0 in
           let tail : drop (text_length (length block)) block ≡ clear_mark nonce =
           (bytes_eq-Decides (drop (text_length (length block)) block) (clear_mark nonce)).0 p.1 in
           ap (λ (x : List ℕ). x ++ clear_mark nonce) (sym t.1)

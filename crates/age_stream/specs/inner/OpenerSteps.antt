@@ -8,7 +8,7 @@ use Rattle.age_stream.specs.declared.step.Status.TheVariants.{Open, Done, Failed
 use Rattle.age_chunk.specs.declared.fault.StreamFault.{StreamFault}
 use Rattle.age_stream.specs.declared.opener.OpenerState.{OpenerState}
 use Rattle.age_stream.specs.Segment.{Segment, Outcome, outcome, released}
-use Rattle.age_stream.specs.inner.SegmentSteps.{status_after}
+use Rattle.age_stream.specs.inner.SegmentSteps.{status_after, status_ended}
 use Rattle.age_stream.specs.Deliveries.{with_piece, with_end}
 use Rattle.age_stream.specs.Headline.{ReleasesWritten}
 use Rattle.age_stream.specs.Opening.{Stands, given, handed, has_failed, text_at_end}
@@ -53,15 +53,29 @@ module _ {B : Type 0} {n : ℕ} {g : _} where
         × (length new.buffer.items ≡ n))
         (λ fault. (new.status ≡ Failed fault) × (outcome.texts ≡ []))
 
-  -- the opener is open no more
+  -- what `take_none` does with a piece, where no block is open
   pub record TakesNone (old : OpenerState B n g) (piece : List ℕ)
       (answer : Result (ℕ × Bool) StreamFault) (new : OpenerState B n g) : Type 0 where
+    -- the key stays
     pub key : new.key ≡ old.key
+    -- the opener stays at its chunk
     pub index : new.index ≡ old.index
+    -- the status is as once bytes came, or none
     pub status : new.status ≡ status_after (nat_lt 0 (length piece)) old.index old.status
+    -- after Ok it holds what it held
     pub held : MatchResult answer (λ _. held_bytes new ≡ held_bytes old) (λ _. ⊤)
+    -- Ok comes only for an empty piece, of which nothing is taken, and a refusal is the status
     pub answered : MatchResult answer (λ s. (s.0 ≡ 0) × (s.1 ≡ false)
         × (length piece ≡ 0)) (λ fault. new.status ≡ Failed fault)
+    -- after Ok the status is no refusal
+    pub sound : IfOk answer (λ _. has_failed new.status ≡ false)
+    -- a fault that came before comes again
+    pub again : IfErr answer
+        (λ fault. (earlier : StreamFault) → old.status ≡ Failed earlier → fault ≡ earlier)
+    -- Ok comes only if no call before was refused
+    pub unfailed : OnOk answer (has_failed old.status ≡ false)
+    -- an empty piece changes nothing
+    pub still : length piece ≡ 0 → opener_view new ≡ opener_view old
 
   -- an end came; so many bytes in front of the buffer are the text that it gave
   pub record EndsAs (outcome : Outcome) (old : OpenerState B n g) (answer : Result ℕ StreamFault)
@@ -74,6 +88,25 @@ module _ {B : Type 0} {n : ℕ} {g : _} where
         (λ len. (len ≤ length new.buffer.items) × (len ≤ length (held_bytes old))
         × (flat_map (λ (text : List ℕ). text) outcome.texts ≡ take len new.buffer.items))
         (λ fault. (new.status ≡ Failed fault) × (outcome.texts ≡ []))
+
+  -- what `end_none` does, where no block is open
+  pub record EndsNone (old : OpenerState B n g) (answer : Result ℕ StreamFault)
+      (new : OpenerState B n g) : Type 0 where
+    -- an end comes at the chunk at which the opener stands, and releases no text
+    pub ends : EndsAs
+        (record { texts = []; index = old.index; status = status_ended old.status })
+        old answer new
+    -- a fault that came before comes again
+    pub again : IfErr answer
+        (λ fault. (earlier : StreamFault) → old.status ≡ Failed earlier → fault ≡ earlier)
+    -- Ok comes only if no call before was refused
+    pub unfailed : OnOk answer (has_failed old.status ≡ false)
+    -- after Ok the opener is done
+    pub done : OnOk answer (new.status ≡ Done)
+    -- and holds nothing
+    pub none : OnOk answer (held_bytes new ≡ [])
+    -- the text is empty
+    pub len : IfOk answer (λ len. len ≡ 0)
 
 -- the text in the buffer, if there is one, of an answer: what was taken, and whether there is
 abbrev pub text_lent : ℕ → List ℕ → ℕ × Bool → List (List ℕ)

@@ -49,6 +49,26 @@ abbrev pub block_lent : List ℕ → ℕ × Bool → Option (List ℕ)
 block_lent buffer answer = if answer.1 then Some buffer else None
 
 module _ {B : Type 0} {n : ℕ} {g : _} (sealing : B → Seals) (old : SealerState B n g) where
+  -- what `step` does with a piece
+  pub record Steps (piece : List ℕ) (answer : Result (ℕ × Bool) StreamFault)
+      (new : SealerState B n g) : Type 0 where
+    -- bytes are taken, and the buffer may then be a block to lend
+    pub ok : IfOk answer (λ s. IsStep sealing (text_length n) (sealer_view old) piece s.0
+        (block_lent new.buffer.items s) (sealer_view new))
+    -- the block is a whole one
+    pub whole : IfOk answer (λ s. s.1 ≡ true → length new.buffer.items ≡ n)
+    -- no byte that is taken needs a chunk too many
+    pub fits : IfOk answer
+        (λ _. needs_too_many (text_length n) (sealer_view old) piece ≡ false)
+    -- a byte that is refused needs a chunk too many
+    pub refused : OnErr answer (needs_too_many (text_length n) (sealer_view old) piece ≡ true)
+    -- the fault names the chunk that is open
+    pub fault : IfErr answer (λ fault. fault ≡ too_many old.index)
+    -- and all else stays
+    pub err : OnErr answer (IsRefused (sealer_view old) (sealer_view new))
+    -- an empty piece changes nothing
+    pub still : length piece ≡ 0 → sealer_view new ≡ sealer_view old
+
   -- what `advance` does with a piece, for each text that the sealer may have been given
   pub record Advances (piece : List ℕ) (answer : Result (ℕ × Bool) StreamFault)
       (new : SealerState B n g) : Type 0 where

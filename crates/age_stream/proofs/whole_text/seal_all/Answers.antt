@@ -5,13 +5,19 @@ use Rattle.age_stream.proofs.Authentic.{comes_back}
 use Rattle.age_stream.proofs.whole_text.seal_all.Goals as goal
 use Rattle.age_chunk.specs.ChunkBoxes.{text_length}
 
-pub returns-clause-gives_back : goal.returns-clause-gives_back
-returns-clause-gives_back g c = λ closed.
+pub returns : goal.returns
+returns g c =
     let m = text_length g.row.SEALED in
     let key = c.args.key.now in
     let positive : 0 < m = omega (arith, c.requires.least) in
     let bytes = payload (g.B.ChunkBox.sealing key) m c.args.text.now in
-    let sealed = c.in_ok-seal_into.ensures.sealed ∙ ap (λ (front : List ℕ). front ++ bytes) c.new-out.ensures.items in
-    subst (λ (bytes : List ℕ). GivesBack (g.B.ChunkBox.opening key) m bytes c.args.text.now) (sym sealed)
-    (comes_back (g.B.ChunkBox.sealing key) (g.B.ChunkBox.opening key) (g.met.B.ChunkBox.valid key) m positive c.args.text.now c.in_ok-seal_into.ensures.few
-    closed)
+    let after = c.in_ok-seal_into.ensures in
+    let sealed = after.sealed ∙ ap (λ (front : List ℕ). front ++ bytes) c.new-out.ensures.items in
+    record {
+      sealed = sealed;
+      few = after.few;
+      gives_back = λ closed.
+          subst (λ (bytes : List ℕ). GivesBack (g.B.ChunkBox.opening key) m bytes c.args.text.now) (sym sealed)
+          (comes_back (g.B.ChunkBox.sealing key) (g.B.ChunkBox.opening key) (g.met.B.ChunkBox.valid key) m positive c.args.text.now after.few closed);
+      refused = tt;
+    }

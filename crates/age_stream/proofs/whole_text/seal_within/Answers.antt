@@ -78,8 +78,8 @@ push_lent-requires-2 g c =
     sym (length-append (front here) c.in_ok-finish.field-0.now) ∙ ap length (sym last ∙ ap (payload sealing m) all) in
     omega (arith, c.requires.room, inv.capacity, ap length inv.blocks, length-append c.args.out.now.items (front here), sum, size, c.loop-at.out.ok)
 
-pub returns-clause-sealed : goal.returns-clause-sealed
-returns-clause-sealed g c =
+pub returns : goal.returns
+returns g c =
     let text = c.args.text.now in
     let inv = c.loop-at.invariant in
     let m = text_length g.row.SEALED in
@@ -88,18 +88,15 @@ returns-clause-sealed g c =
     let front : List ℕ → List ℕ = λ t. block_bytes (sealed_before_last (g.B.ChunkBox.sealing c.args.key.now) m t) in
     let last0 = c.in_ok-finish.ensures.finishes.chunk here inv.holds in
     let last = rw inv.key at last0 in
-    c.push_lent-2.ensures.items
-    ∙ (ap (λ (t : List ℕ). t ++ c.in_ok-finish.field-0.now) inv.blocks
-    ∙ (append_assoc c.args.out.now.items (front here) c.in_ok-finish.field-0.now
-    ∙ ap (λ (t : List ℕ). c.args.out.now.items ++ t) (sym last ∙ ap (payload (g.B.ChunkBox.sealing c.args.key.now) m) all)))
-
-pub returns-clause-few : goal.returns-clause-few
-returns-clause-few g c =
-    let m = text_length g.row.SEALED in
-    let text = c.args.text.now in
-    let here : List ℕ = take c.loop-at.at text in
-    let all : here ≡ text = take_all c.loop-at.at text (omega (arith, c.loop-at-test.false)) in
-    omega (arith, c.in_ok-finish.ensures.finishes.limit, c.loop-at.invariant.holds.index, ap (last_index m) all)
+    record {
+      sealed = c.push_lent-2.ensures.items
+          ∙ (ap (λ (t : List ℕ). t ++ c.in_ok-finish.field-0.now) inv.blocks
+          ∙ (append_assoc c.args.out.now.items (front here) c.in_ok-finish.field-0.now
+          ∙ ap (λ (t : List ℕ). c.args.out.now.items ++ t) (sym last ∙ ap (payload (g.B.ChunkBox.sealing c.args.key.now) m) all)));
+      few = omega (arith, c.in_ok-finish.ensures.finishes.limit, inv.holds.index, ap (last_index m) all);
+      refused = tt;
+      begun = tt;
+    }
 
 pub new-sealer-requires : goal.new-sealer-requires
 new-sealer-requires g c = (sealer_fits c.requires.most, search rules)

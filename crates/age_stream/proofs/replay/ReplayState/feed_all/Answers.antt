@@ -27,22 +27,22 @@ loop-at-preserved g c =
     let piece = c.args.piece.now in
     let at = c.loop-at.at in
     let taken = c.in-Some.taken in
-    let r = c.in-Some.ensures.taken in
+    let r = c.in-Some.ensures in
     let left = length-take (length piece - at) (drop at piece) in
     let left2 = length-drop at piece in
     let on : take at piece ++ take taken (take (length piece - at) (drop at piece)) ≡ take (at + taken) piece =
     ap (λ (ys : List ℕ). take at piece ++ take taken ys) (take_rest piece at) ∙ sym (take-add at taken piece) in
     record {
-      within = omega (arith, r.1, left, left2, c.loop-at.invariant.within);
+      within = omega (arith, r.taken.1, left, left2, c.loop-at.invariant.within);
       room = λ _.
           let e : length (take (length piece - at) (drop at piece)) - taken ≡ length piece - (at + taken) = omega (arith, left, left2) in
-          omega (arith, r.2, ap (λ (k : ℕ). whole_text (text_length g.row.SEALED) (length c.feed_once.new.self.opener.held + k)) e);
+          omega (arith, r.room, ap (λ (k : ℕ). whole_text (text_length g.row.SEALED) (length c.feed_once.new.self.opener.held + k)) e);
       capacity = omega (arith, c.feed_once.ensures.capacity, c.loop-at.invariant.capacity);
       key = c.feed_once.ensures.key ∙ c.loop-at.invariant.key;
       fed = λ s h.
           subst (IsAt g.B.ChunkBox.opening (text_length g.row.SEALED) (replay_view c.feed_once.new.self))
           (with_bytes-append s (take at piece) (take taken (take (length piece - at) (drop at piece))) ∙ ap (with_bytes s) on)
-          (r.3 (with_bytes s (take at piece)) (c.loop-at.invariant.fed s h));
+          (r.fed (with_bytes s (take at piece)) (c.loop-at.invariant.fed s h));
     }
 
 pub returns-in-None-clause-fed : goal.returns-in-None-clause-fed
