@@ -1,5 +1,6 @@
 -- From what was read and decrypted to what a decryption did.
-use Rattle.std.proofs.Common.{Some, None, refl, ◌≡◌, ℕ, ◌*◌, ◌<◌, List, [], ◌++◌, length, Option, sym, ap, subst, ◌∙◌, arith}
+use Rattle.std.proofs.Common.{Some, None, refl, ◌≡◌, ℕ, ◌*◌, ◌<◌, List, [], ◌++◌, length, Option}
+use Rattle.std.proofs.Common.{sym, ap, subst, ◌∙◌, arith}
 use Rattle.std.proofs.Common.{append_assoc}
 use Rattle.std.specs.Prelude.{Result, MatchResult, OnOk, Ok, Err, true}
 use Rattle.age_stanza.specs.Laws.{OneHeader}
@@ -36,7 +37,8 @@ use Rattle.age_chunk.specs.Payload.{block_length, chunk_length}
 use Rattle.age_chunk.specs.Nonce.{chunk_limit}
 
 -- the tag of a position, over its own fields
-pub own_tag : (key tag : List ℕ) (index own_index : ℕ) (id own_id links own_links : List ℕ) → own_index ≡ index → own_id ≡ id → own_links ≡ links
+pub own_tag : (key tag : List ℕ) (index own_index : ℕ) (id own_id links own_links : List ℕ)
+    → own_index ≡ index → own_id ≡ id → own_links ≡ links
     → tag ≡ position_tag key index id links → tag ≡ position_tag key own_index own_id own_links
 own_tag key tag index own_index id own_id links own_links index_is id_is links_are is =
     is
@@ -47,7 +49,8 @@ own_tag key tag index own_index id own_id links own_links index_is id_is links_a
 first_fits : (r : Run) → IsFromStart r → r.first < chunk_limit
 first_fits r from = omega (arith, from.zero)
 
-module _ (keep : Positions) (Allows : Header → List ℕ → Type 0) (Refused : Header → KeyFault → Type 0) where
+module _ (keep : Positions) (Allows : Header → List ℕ → Type 0) (Refused : Header → KeyFault
+    → Type 0) where
   abbrev pub before : SourceView → Stage → Ports
   before a old = record { source = a; sink = old.writer.sink }
 
@@ -55,47 +58,81 @@ module _ (keep : Positions) (Allows : Header → List ℕ → Type 0) (Refused :
   after new = record { source = new.reader.source; sink = new.writer.sink }
 
   fails : (a : SourceView) (old new : Stage) (r : Run) (pulled : List ℕ) (fault : FileFault)
-      → old.reader.source.failed ≡ a.failed → Pulled a.remaining new.reader.source.remaining new.reader.unread.pulls pulled
+      → old.reader.source.failed ≡ a.failed
+      → Pulled a.remaining new.reader.source.remaining new.reader.unread.pulls pulled
       → SegmentFails (unbox r.file.key r.file.nonce) chunk_length old new (segment_of r) r.out fault
-      → PayloadFails (NeverEnds a.remaining new.reader.source.remaining) (before a old) (after new) r fault
+      → PayloadFails (NeverEnds a.remaining new.reader.source.remaining) (before a old) (after new)
+      r fault
   fails a old new r pulled (Stream x) same h f = (f.1, f.0, (f.2.0 ∙ same, f.2.1))
   fails a old new r pulled Write same h f = (f.0, (f.1.0, f.1.1 ∙ same))
-  fails a old new r pulled Read same h f =
-      (f.0, f.1, (subst (λ (m : ℕ). HasFailed m new.reader.source.failed new.reader.source.failing) same f.2.0, f.2.1))
-  fails a old new r pulled ReadNeverEnds same h f =
-      (f.0, f.1, (pulled, h.consumed, (omega (arith, h.each_gave, f.2), omega (arith, h.small, f.2))))
+  fails a old new r pulled Read same h f = (
+    f.0,
+    f.1,
+    (
+      subst (λ (m : ℕ). HasFailed m new.reader.source.failed new.reader.source.failing)
+          same f.2.0,
+      f.2.1,
+    ),
+  )
+  fails a old new r pulled ReadNeverEnds same h f = (
+    f.0,
+    f.1,
+    (
+      pulled,
+      h.consumed,
+      (omega (arith, h.each_gave, f.2), omega (arith, h.small, f.2)),
+    ),
+  )
   fails a old new r pulled other same h f = absurd f
 
   -- what was read and decrypted
-  pub record IsDecrypted (a : SourceView) (unlocked : Unlocked) (old new : Stage) (result : Result (Unit {0}) FileFault) : Type 0 where
+  pub record IsDecrypted (a : SourceView) (unlocked : Unlocked) (old new : Stage)
+      (result : Result (Unit {0}) FileFault) : Type 0 where
     pub run : Run
     pub from : IsFromStart run
     pub key_is : run.file.key ≡ unlocked.key
     pub nonce_is : run.file.nonce ≡ unlocked.nonce
     pub id : unlocked.id ≡ file_id run.file.header_bytes run.file.nonce
     pub is : IsRun Allows (before a old) (after new) new.writer.tally.written run
-    pub pulled : Pulled a.remaining new.reader.source.remaining new.reader.unread.pulls ((run.file.header_bytes ++ run.file.nonce) ++ run.bytes)
-    pub counts : HasCounted keep (unbox run.file.key run.file.nonce) chunk_length (held run) (segment_of run) new.writer.tally
-    pub answered : MatchResult result (λ _. SegmentDone (unbox run.file.key run.file.nonce) chunk_length old new (segment_of run) run.out)
-        (SegmentFails (unbox run.file.key run.file.nonce) chunk_length old new (segment_of run) run.out)
+    pub pulled : Pulled a.remaining new.reader.source.remaining new.reader.unread.pulls
+        ((run.file.header_bytes ++ run.file.nonce) ++ run.bytes)
+    pub counts : HasCounted keep (unbox run.file.key run.file.nonce) chunk_length (held run)
+        (segment_of run) new.writer.tally
+    pub answered : MatchResult result
+        (λ _. SegmentDone (unbox run.file.key run.file.nonce) chunk_length old new (segment_of run)
+        run.out)
+        (SegmentFails (unbox run.file.key run.file.nonce) chunk_length old new (segment_of run)
+        run.out)
 
-  pub decrypted : (a : SourceView) (unlocked : Unlocked) (old new : Stage) (result : Result (Unit {0}) FileFault)
-      → old.writer.tally.written ≡ 0 → old.writer.tally.index ≡ 0 → old.writer.tally.chain ≡ chain_if keep []
-      → StartsAt Allows a old.reader unlocked → DecryptsPayload (opens (payload_key unlocked.key unlocked.nonce)) chunk_length 0 old new result
+  pub decrypted : (a : SourceView) (unlocked : Unlocked) (old new : Stage)
+      (result : Result (Unit {0}) FileFault)
+      → old.writer.tally.written ≡ 0 → old.writer.tally.index ≡ 0
+      → old.writer.tally.chain ≡ chain_if keep []
+      → StartsAt Allows a old.reader unlocked
+      → DecryptsPayload (opens (payload_key unlocked.key unlocked.nonce)) chunk_length 0 old new
+      result
       → IsDecrypted a unlocked old new result
   decrypted a unlocked old new result none index chain_none s p =
       let head = s.front ++ unlocked.nonce in
-      let all : Pulled a.remaining new.reader.source.remaining new.reader.unread.pulls ((head ++ old.reader.unread.bytes) ++ p.fresh) =
+      let all : Pulled a.remaining new.reader.source.remaining new.reader.unread.pulls
+      ((head ++ old.reader.unread.bytes) ++ p.fresh) =
       p.pulled a.remaining (head ++ old.reader.unread.bytes) s.pulled in
       let parts : (head ++ old.reader.unread.bytes) ++ p.fresh ≡ head ++ p.bytes =
       append_assoc head old.reader.unread.bytes p.fresh ∙ ap (λ (t : List ℕ). head ++ t) p.parts in
-      let pulls : Pulled a.remaining new.reader.source.remaining new.reader.unread.pulls (head ++ p.bytes) =
-      subst (λ (t : List ℕ). Pulled a.remaining new.reader.source.remaining new.reader.unread.pulls t) parts all in
+      let pulls : Pulled a.remaining new.reader.source.remaining new.reader.unread.pulls
+      (head ++ p.bytes) =
+      subst (λ (t : List ℕ). Pulled a.remaining new.reader.source.remaining new.reader.unread.pulls
+      t) parts all in
       let zero_len : length {A = ℕ} [] ≡ 0 * chunk_length = omega arith in
       let zero_size : length {A = ℕ} [] ≡ 0 * block_length = omega arith in
       record {
         run = record {
-          file = record { header = s.header; header_bytes = s.front; key = unlocked.key; nonce = unlocked.nonce };
+          file = record {
+            header = s.header;
+            header_bytes = s.front;
+            key = unlocked.key;
+            nonce = unlocked.nonce;
+          };
           first = 0;
           copied = [];
           skipped = [];
@@ -121,9 +158,11 @@ module _ (keep : Positions) (Allows : Header → List ℕ → Type 0) (Refused :
         answered = p.answered;
       }
 
-  decrypt_done : (a : SourceView) (unlocked : Unlocked) (old new : Stage) → old.reader.source.failed ≡ a.failed
+  decrypt_done : (a : SourceView) (unlocked : Unlocked) (old new : Stage)
+      → old.reader.source.failed ≡ a.failed
       → (p : IsDecrypted a unlocked old new (Ok tt))
-      → IsFromStart p.run × IsDone Allows (before a old) (after new) new.writer.tally.written p.run × NoneFailed (before a old) (after new)
+      → IsFromStart p.run × IsDone Allows (before a old) (after new) new.writer.tally.written p.run
+      × NoneFailed (before a old) (after new)
   decrypt_done a unlocked old new same p =
       let f = p.answered in (
         p.from,
@@ -137,64 +176,82 @@ module _ (keep : Positions) (Allows : Header → List ℕ → Type 0) (Refused :
         (f.3.0 ∙ same, f.3.1),
       )
 
-  decrypt_stops : (a : SourceView) (unlocked : Unlocked) (old new : Stage) (fault : FileFault) (position : Option Position)
+  decrypt_stops : (a : SourceView) (unlocked : Unlocked) (old new : Stage) (fault : FileFault)
+      (position : Option Position)
       → old.reader.source.failed ≡ a.failed → (p : IsDecrypted a unlocked old new (Err fault))
       → PositionAt unlocked new.writer.tally.index new.writer.tally.chain position
       → DecryptStops keep Allows Refused (before a old) (after new) (Some p.run)
       (record { fault = fault; written = new.writer.tally.written; position = position })
   decrypt_stops a unlocked old new fault position same p at =
-      let kept = subst (λ (c : Option (List ℕ)). PositionAt unlocked new.writer.tally.index c position) p.counts.chain_is at in
+      let kept = subst (λ (c : Option (List ℕ)). PositionAt unlocked new.writer.tally.index c
+      position) p.counts.chain_is at in
       let limit = first_fits p.run p.from in (
         p.from,
         record {
           is = p.is;
           begins = writes_of p.run limit p.is.prefix;
-          here = position_given keep p.run unlocked new.writer.tally.index position limit p.key_is p.nonce_is p.id p.is.prefix p.counts.index kept;
-          why = fails a old new p.run ((p.run.file.header_bytes ++ p.run.file.nonce) ++ p.run.bytes) fault same p.pulled p.answered;
+          here = position_given keep p.run unlocked new.writer.tally.index position limit p.key_is
+              p.nonce_is p.id p.is.prefix p.counts.index kept;
+          why = fails a old new p.run ((p.run.file.header_bytes ++ p.run.file.nonce) ++ p.run.bytes)
+              fault same p.pulled p.answered;
         },
       )
 
   -- the whole run
-  pub run_ended : OneHeader → (a : SourceView) (unlocked : Unlocked) (old new : Stage) (run : Result (Unit {0}) FileFault) (result : Result Done Stopped)
+  pub run_ended : OneHeader → (a : SourceView) (unlocked : Unlocked) (old new : Stage)
+      (run : Result (Unit {0}) FileFault) (result : Result Done Stopped)
       → old.reader.source.failed ≡ a.failed
-      → new.writer.sink.label ≡ old.writer.sink.label → OnOk run (new.writer.sink.settled ≡ true) → IsDecrypted a unlocked old new run
+      → new.writer.sink.label ≡ old.writer.sink.label → OnOk run (new.writer.sink.settled ≡ true)
+      → IsDecrypted a unlocked old new run
       → EndsAs unlocked new.writer.tally run result
       → Decrypts keep Allows Refused (before a old) (after new) result
   run_ended one a unlocked old new (Ok done) result same named settled p is =
       let d = decrypt_done a unlocked old new same p in
-      subst (λ (r : Result Done Stopped). Decrypts keep Allows Refused (before a old) (after new) r) (sym is)
+      subst (λ (r : Result Done Stopped). Decrypts keep Allows Refused (before a old) (after new) r)
+      (sym is)
       (record {
         run = Some p.run;
         done = d;
         stopped = tt;
-        undamaged = λ text whole. undamaged_done one Allows Refused (before a old) (after new) new.writer.tally.written p.run text whole d.0 d.1;
+        undamaged = λ text whole. undamaged_done one Allows Refused (before a old) (after new)
+            new.writer.tally.written p.run text whole d.0 d.1;
         settled = settled;
         named = named;
       })
   run_ended one a unlocked old new (Err fault) result same named settled p (next, at, is) =
       let stops = decrypt_stops a unlocked old new fault next same p at in
-      let stopped : Stopped = record { fault = fault; written = new.writer.tally.written; position = next } in
-      subst (λ (r : Result Done Stopped). Decrypts keep Allows Refused (before a old) (after new) r) (sym is)
+      let stopped : Stopped = record {
+        fault = fault;
+        written = new.writer.tally.written;
+        position = next;
+      } in
+      subst (λ (r : Result Done Stopped). Decrypts keep Allows Refused (before a old) (after new) r)
+      (sym is)
       (record {
         run = Some p.run;
         done = tt;
         stopped = stops;
-        undamaged = λ text whole. undamaged keep one Allows Refused (before a old) (after new) (Some p.run) stopped text whole stops;
+        undamaged = λ text whole. undamaged keep one Allows Refused (before a old) (after new)
+            (Some p.run) stopped text whole stops;
         settled = tt;
         named = named;
       })
 
   -- no payload came to be opened
-  pub stopped_early : OneHeader → (old new : Ports) (fault : FileFault) → new.sink ≡ old.sink → StartFails Allows Refused old.source new.source fault
-      → Decrypts keep Allows Refused old new (Err (record { fault = fault; written = 0; position = None }))
+  pub stopped_early : OneHeader → (old new : Ports) (fault : FileFault) → new.sink ≡ old.sink
+      → StartFails Allows Refused old.source new.source fault
+      → Decrypts keep Allows Refused old new
+      (Err (record { fault = fault; written = 0; position = None }))
   stopped_early one old new fault same f =
       let stopped : Stopped = record { fault = fault; written = 0; position = None } in
-      let stops : DecryptStops keep Allows Refused old new None stopped = (record { sink = same; written = refl; position = refl }, f) in
+      let stops : DecryptStops keep Allows Refused old new None stopped =
+      (record { sink = same; written = refl; position = refl }, f) in
       record {
         run = None;
         done = tt;
         stopped = stops;
-        undamaged = λ text whole. undamaged keep one Allows Refused old new None stopped text whole stops;
+        undamaged = λ text whole. undamaged keep one Allows Refused old new None stopped text whole
+            stops;
         settled = tt;
         named = ap (λ (s : SinkView). s.label) same;
       }

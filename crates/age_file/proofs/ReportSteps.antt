@@ -5,7 +5,8 @@ use Rattle.std.proofs.lemmas.Bool.Decides.{nat_tests}
 use Rattle.age_chunk.specs.Payload.{chunk_count, chunk_length}
 use Rattle.age_file.specs.Reports.{chunks_for}
 
-rounded_up : (p : ℕ) → (p - 1) / chunk_length + 1 ≡ (if p == 0 then 1 else (p + (chunk_length - 1)) / chunk_length)
+rounded_up : (p : ℕ) → (p - 1) / chunk_length + 1
+    ≡ (if p == 0 then 1 else (p + (chunk_length - 1)) / chunk_length)
 rounded_up p = grind (arith, nat_tests)
 
 -- a text has as many chunks as its length makes

@@ -1,5 +1,6 @@
 -- What a run wrote of a text, where what opens is the writer's; and its position.
-use Rattle.std.proofs.Common.{◌≡◌, ℕ, ◌*◌, ◌<◌, ◌≤◌, ◌/◌, min, List, ◌++◌, length, take, Option, Some, None, sym, ap, subst, ◌∙◌}
+use Rattle.std.proofs.Common.{◌≡◌, ℕ, ◌*◌, ◌<◌, ◌≤◌, ◌/◌, min, List, ◌++◌, length, take, Option}
+use Rattle.std.proofs.Common.{Some, None, sym, ap, subst, ◌∙◌}
 use Rattle.std.proofs.Common.{arith, append_assoc}
 use Rattle.std.specs.Simd.{first_chunks}
 use Rattle.std.proofs.lemmas.List.{length-append}
@@ -14,7 +15,8 @@ use Rattle.age_file.specs.AgeFile.{box, unbox}
 use Rattle.age_file.specs.Bindings.{file_id, chain, position_tag}
 use Rattle.age_file.specs.inner.Bindings.{chain_if}
 use Rattle.age_file.specs.inner.Decrypts.{IsPositionAt, PositionAt}
-use Rattle.age_file.specs.Runs.{Run, IsFromStart, segment_of, outcome_of, text_of, held, IsTexts, IsAuthenticRun, IsPositionOf, GivesPosition}
+use Rattle.age_file.specs.Runs.{Run, IsFromStart, segment_of, outcome_of, text_of, held, IsTexts}
+use Rattle.age_file.specs.Runs.{IsAuthenticRun, IsPositionOf, GivesPosition}
 use Rattle.age_file.specs.declared.position.Position.{Position}
 use Rattle.age_file.specs.declared.position.Positions.{Positions}
 use Rattle.age_file.specs.declared.position.Positions.TheVariants.{Kept, Dropped}
@@ -25,14 +27,17 @@ use Rattle.age_chunk.specs.Nonce.{chunk_limit}
 
 -- the text of a run, after its old text
 held_text : (r : Run) (text : List ℕ) → IsAuthenticRun r text → r.first < chunk_limit
-    → IsPrefixOf (r.copied ++ text_of r) text × ((outcome_of r).status ≡ Done → r.copied ++ text_of r ≡ text)
+    → IsPrefixOf (r.copied ++ text_of r) text
+    × ((outcome_of r).status ≡ Done → r.copied ++ text_of r ≡ text)
 held_text r text auth limit =
     let seal = box r.file.key r.file.nonce in
     let open_box = unbox r.file.key r.file.nonce in
     let positive : 0 < chunk_length = omega arith in
-    let reached : IsReached seal open_box chunk_length text (segment_of r) = record { limit = limit; within = auth.within } in
+    let reached : IsReached seal open_box chunk_length text (segment_of r) =
+    record { limit = limit; within = auth.within } in
     let valid = box_valid (payload_key r.file.key r.file.nonce) in
-    let o = released_is_written seal open_box valid chunk_length positive (segment_of r) text auth.few reached auth.authentic in (
+    let o = released_is_written seal open_box valid chunk_length positive (segment_of r) text
+    auth.few reached auth.authentic in (
       subst (λ (t : List ℕ). IsPrefixOf (t ++ text_of r) text) (sym auth.old_text) o.prefix,
       λ done. ap (λ (t : List ℕ). t ++ text_of r) auth.old_text ∙ o.done done,
     )
@@ -46,43 +51,60 @@ append_prefix x y z p = (p.0, append_assoc x y p.0 ∙ ap (λ (t : List ℕ). x 
 
 pub writes_of : (r : Run) → r.first < chunk_limit → IsPrefixOf r.out (text_of r) → WritesOf r
 writes_of r limit begins text auth =
-    prefix_trans (held r) (r.copied ++ text_of r) text (append_prefix r.copied r.out (text_of r) begins) (held_text r text auth limit).0
+    prefix_trans (held r) (r.copied ++ text_of r) text
+    (append_prefix r.copied r.out (text_of r) begins) (held_text r text auth limit).0
 
-pub writes_all : (r : Run) → r.first < chunk_limit → r.out ≡ text_of r → (outcome_of r).status ≡ Done → (text : List ℕ) → IsAuthenticRun r text
+pub writes_all : (r : Run) → r.first < chunk_limit → r.out ≡ text_of r
+    → (outcome_of r).status ≡ Done → (text : List ℕ) → IsAuthenticRun r text
     → held r ≡ text
-writes_all r limit whole done text auth = ap (λ (t : List ℕ). r.copied ++ t) whole ∙ (held_text r text auth limit).1 done
+writes_all r limit whole done text auth = ap (λ (t : List ℕ). r.copied ++ t) whole
+    ∙ (held_text r text auth limit).1 done
 
 -- before a file's first chunk there is no text
-pub none_before : (r : Run) → IsFromStart r → (text : List ℕ) → r.copied ≡ take (r.first * chunk_length) text
+pub none_before : (r : Run) → IsFromStart r → (text : List ℕ)
+    → r.copied ≡ take (r.first * chunk_length) text
 none_before r from text =
     let zero : r.first * chunk_length ≡ 0 = omega (arith, from.zero) in
     from.none_copied ∙ ap (λ (k : ℕ). take k text) (sym zero)
 
-pub from_start : (r : Run) → IsFromStart r → (text : List ℕ) → chunk_count chunk_length text ≤ chunk_limit → IsTexts text r → IsAuthenticRun r text
+pub from_start : (r : Run) → IsFromStart r → (text : List ℕ)
+    → chunk_count chunk_length text ≤ chunk_limit → IsTexts text r → IsAuthenticRun r text
 from_start r from text few auth =
-    record { few = few; within = omega (arith, from.zero); old_text = none_before r from text; authentic = auth }
+    record {
+      few = few;
+      within = omega (arith, from.zero);
+      old_text = none_before r from text;
+      authentic = auth;
+    }
 
 -- the run's tally is that of what it wrote
-position_is : (r : Run) (unlocked : Unlocked) (index : ℕ) (p : Position) → r.first < chunk_limit → r.file.key ≡ unlocked.key
-    → r.file.nonce ≡ unlocked.nonce → unlocked.id ≡ file_id r.file.header_bytes r.file.nonce → IsPrefixOf r.out (text_of r)
-    → index ≡ min (length (held r) / chunk_length) (outcome_of r).index → IsPositionAt unlocked index (chain (first_chunks chunk_length index (held r))) p
+position_is : (r : Run) (unlocked : Unlocked) (index : ℕ) (p : Position) → r.first < chunk_limit
+    → r.file.key ≡ unlocked.key
+    → r.file.nonce ≡ unlocked.nonce → unlocked.id ≡ file_id r.file.header_bytes r.file.nonce
+    → IsPrefixOf r.out (text_of r)
+    → index ≡ min (length (held r) / chunk_length) (outcome_of r).index
+    → IsPositionAt unlocked index (chain (first_chunks chunk_length index (held r))) p
     → IsPositionOf r p
 position_is r unlocked index p limit key nonce id begins is at =
     let over : p.chain ≡ chain (first_chunks chunk_length p.index (held r)) =
     at.chain_is ∙ ap (λ (k : ℕ). chain (first_chunks chunk_length k (held r))) (sym at.index_is) in
-    let least : p.index ≡ min (length (held r) / chunk_length) (outcome_of r).index = at.index_is ∙ is in
+    let least : p.index ≡ min (length (held r) / chunk_length) (outcome_of r).index =
+    at.index_is ∙ is in
     record {
       index = least;
       own = at.file_id_is ∙ id;
       chain_is = over;
       tagged = at.tag_is
-          ∙ (ap (λ (k : List ℕ). position_tag (position_key k unlocked.nonce) p.index p.file_id p.chain) (sym key)
-          ∙ ap (λ (k : List ℕ). position_tag (position_key r.file.key k) p.index p.file_id p.chain) (sym nonce));
+          ∙ (ap (λ (k : List ℕ). position_tag (position_key k unlocked.nonce) p.index p.file_id
+          p.chain) (sym key)
+          ∙ ap (λ (k : List ℕ). position_tag (position_key r.file.key k) p.index p.file_id p.chain)
+          (sym nonce));
       carries = λ text auth.
           let rest = writes_of r limit begins text auth in
           let positive : 0 < chunk_length = omega arith in
           let le : p.index ≤ length (held r) / chunk_length = omega (arith, least) in
-          let within : p.index * chunk_length ≤ length (held r) = (le-div_iff_mul-le positive).0 le in (
+          let within : p.index * chunk_length ≤ length (held r) =
+          (le-div_iff_mul-le positive).0 le in (
             omega (arith, within, ap length rest.1, length-append (held r) rest.0),
             over
                 ∙ (sym (ap chain (first_chunks-append chunk_length p.index (held r) rest.0 within))
@@ -91,10 +113,15 @@ position_is r unlocked index p limit key nonce id begins is at =
     }
 
 -- and it is handed out where it was kept
-pub position_given : (keep : Positions) (r : Run) (unlocked : Unlocked) (index : ℕ) (position : Option Position) → r.first < chunk_limit
-    → r.file.key ≡ unlocked.key → r.file.nonce ≡ unlocked.nonce → unlocked.id ≡ file_id r.file.header_bytes r.file.nonce
-    → IsPrefixOf r.out (text_of r) → index ≡ min (length (held r) / chunk_length) (outcome_of r).index
-    → PositionAt unlocked index (chain_if keep (first_chunks chunk_length index (held r))) position → GivesPosition keep (IsPositionOf r) position
-position_given Kept r unlocked index (Some p) limit key nonce id begins is at = position_is r unlocked index p limit key nonce id begins is at
+pub position_given : (keep : Positions) (r : Run) (unlocked : Unlocked) (index : ℕ)
+    (position : Option Position) → r.first < chunk_limit
+    → r.file.key ≡ unlocked.key → r.file.nonce ≡ unlocked.nonce
+    → unlocked.id ≡ file_id r.file.header_bytes r.file.nonce
+    → IsPrefixOf r.out (text_of r)
+    → index ≡ min (length (held r) / chunk_length) (outcome_of r).index
+    → PositionAt unlocked index (chain_if keep (first_chunks chunk_length index (held r))) position
+    → GivesPosition keep (IsPositionOf r) position
+position_given Kept r unlocked index (Some p) limit key nonce id begins is at =
+    position_is r unlocked index p limit key nonce id begins is at
 position_given Kept r unlocked index None limit key nonce id begins is at = absurd at
 position_given Dropped r unlocked index position limit key nonce id begins is at = at

@@ -11,8 +11,8 @@ use Rattle.age_fault.specs.Faults.{HasFailed}
 use Rattle.age_fault.specs.declared.fault.FileFault.{FileFault}
 use Rattle.age_fault.specs.declared.fault.FileFault.TheVariants.{Head, Read, Memory, ReadNeverEnds}
 
--- how many bytes one pull gives at most: a chunk's, so that a pull of a text that is encrypted fills
--- a chunk
+-- how many bytes one pull gives at most: a chunk's, so that a pull of a text that is encrypted
+-- fills a chunk
 abbrev pub pull_room : ℕ
 pull_room = chunk_length
 
@@ -24,7 +24,8 @@ pub record EndsInHeader (bytes : List ℕ) : Type 0 where
 
 -- they do, and were cut there
 abbrev pub IsCut : List ℕ → HeadFault → Type 0
-IsCut bytes fault = EndsInHeader bytes × (fault ≡ record { kind = HeadCut; line = line_after bytes })
+IsCut bytes fault = EndsInHeader bytes
+    × (fault ≡ record { kind = HeadCut; line = line_after bytes })
 
 -- the fault of some bytes, after which the input ended: of a line, of their length, or of their end
 abbrev pub IsHeadFault : List ℕ → HeadFault → Type 0

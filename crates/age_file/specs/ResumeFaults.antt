@@ -25,12 +25,12 @@ use Rattle.age_file.specs.Verdicts.{OpenedFile, HasId, HasTag}
 use Rattle.age_file.specs.OldTexts.{IsOldText}
 use Rattle.age_file.specs.Resumes.{ResumePorts, WritesOld, IsFrom, IsSame}
 
--- | A stop                | with the fault              | What was written   | Position             |
--- |-----------------------|-----------------------------|--------------------|----------------------|
--- | before the old text   | 1 to 16, 24, 26, 28, 29, 30 | nothing            | none                 |
--- | in the old text       | 25, 26, 27, 29, 31          | some of it         | none                 |
--- | in the skipped blocks | 20, 26, 29                  | the old text       | where the run began  |
--- | in the payload        | 17 to 22, 26, 27, 29        | that and more text | where it stopped     |
+-- | A stop                | with the fault              | What was written   | Position           |
+-- |-----------------------|-----------------------------|--------------------|--------------------|
+-- | before the old text   | 1 to 16, 24, 26, 28, 29, 30 | nothing            | none               |
+-- | in the old text       | 25, 26, 27, 29, 31          | some of it         | none               |
+-- | in the skipped blocks | 20, 26, 29                  | the old text       | where it began     |
+-- | in the payload        | 17 to 22, 26, 27, 29        | that and more text | where it stopped   |
 
 -- the file and the old text, together, gave so much that they are taken for ones that never end
 abbrev pub NeverEndTogether : ResumePorts → ResumePorts → Type 0

@@ -1,11 +1,11 @@
 //! Copies an old text, chunk by chunk, with the chain over it.
 
-ghost use Rattle.std.specs.Prelude.{◌≡◌, ◌+◌, ◌^◌, ◌<◌, ◌≤◌, [], IsSome};
+ghost use Rattle.std.specs.Prelude.{◌≡◌, ◌<◌, []};
 ghost use Rattle.age_file.specs.declared.position.Positions.TheVariants.{Kept};
 ghost use Rattle.age_file.specs.inner.Bindings.{chain_if};
 ghost use Rattle.age_file.specs.inner.Readers.{view_of_reader, view_of_writer};
 ghost use Rattle.age_file.specs.inner.Readers.{SameReader, SameWriter};
-ghost use Rattle.age_file.specs.inner.Copies.{CopiesChunk, CopiesAll};
+ghost use Rattle.age_file.specs.inner.Copies.{CanCopy, CopiesChunk, CopiesAll};
 ghost use Rattle.age_chunk.specs.Payload.{chunk_length};
 ghost use Rattle.age_chunk.specs.Nonce.{chunk_limit};
 
@@ -21,9 +21,7 @@ fn copy_chunk<S: Source, O: Sink>(
     reader: &mut Reader<'_, S>,
     writer: &mut Writer<'_, O>,
 ) -> Result<(), FileFault>
-    requires room { writer.old.tally.written ≤ 2 ^ 64 }
-    requires limit { writer.old.tally.index + 1 < chunk_limit }
-    requires kept { IsSome writer.old.tally.chain }
+    requires { CanCopy writer.old.tally }
     ensures copied { CopiesChunk chunk_length (view_of_reader S.view reader.old)
         (view_of_reader S.view reader.new) (view_of_writer O.view writer.old)
         (view_of_writer O.view writer.new) result }

@@ -61,8 +61,8 @@ fn stanza_report_of(alloc: Global, stanza: &Stanza) -> Result<StanzaReport, Allo
     })
 }
 
-/// The reports on stanzas. They give their memory back on the way, so that the two lists take hardly
-/// more than the stanzas did.
+/// The reports on stanzas. They give their memory back on the way, so that the two lists take
+/// hardly more than the stanzas did.
 fn reports_of(alloc: Global, stanzas: Stanzas) -> Result<StanzaReports, AllocError>
     ensures { IfOk result (λ r. r ≡ map stanza_report stanzas) }
 {
@@ -101,8 +101,8 @@ fn plain_of(rest: u128) -> Option<u128>
 /// bytes follow it, and the length of the plaintext that so many bytes hold
 /// (<https://c2sp.org/age#header>, <https://c2sp.org/age#payload>).
 ///
-/// Refuses with the header's fault (1 to 8), `Read` (26), `Memory` (28) and `ReadNeverEnds` (29). If
-/// the bytes that it read have a fault of the header, it refuses with that, not with 26 or 29.
+/// Refuses with the header's fault (1 to 8), `Read` (26), `Memory` (28) and `ReadNeverEnds` (29).
+/// If the bytes that it read have a fault of the header, it refuses with that, not with 26 or 29.
 pub fn inspect<S: Source>(alloc: Global, source: &mut S) -> Result<Report, FileFault>
     ensures ok { IfOk result (Inspects (S.view source.old).remaining
         (S.view source.new).remaining) }

@@ -15,8 +15,8 @@ use std::marker::Model;
 /// ones that never end.
 const MOST_PULLS: u64 = 9_223_372_036_854_775_808;
 
-/// How many bytes are pulled at once, at most: a chunk's, so that a pull of a text that is encrypted
-/// fills a chunk.
+/// How many bytes are pulled at once, at most: a chunk's, so that a pull of a text that is
+/// encrypted fills a chunk.
 const PULL_ROOM: usize = CHUNK_LEN;
 
 /// The bytes that were pulled from a source and not used yet, and how many pulls of the call gave
@@ -42,8 +42,8 @@ impl Model for Intake {
       pulls = i.pulls;
     } };
 
-    ghost invariant = { λ i. (i.from ≤ i.to) × (i.to ≤ pull_room) × (length i.buffer.items ≡ pull_room)
-        × (i.pulls ≤ 2 ^ 63) };
+    ghost invariant = { λ i. (i.from ≤ i.to) × (i.to ≤ pull_room)
+        × (length i.buffer.items ≡ pull_room) × (i.pulls ≤ 2 ^ 63) };
 }
 
 impl Intake {

@@ -27,8 +27,8 @@ fn feed_once<O: Sink>(
 ) -> Result<usize, FileFault>
     requires small { length opener.old.held + writer.old.tally.written + length piece.now
         < 2 ^ 128 }
-    ensures fed { FeedsOnce opens chunk_length opener.old opener.new (view_of_writer O.view writer.old)
-        (view_of_writer O.view writer.new) piece.now result }
+    ensures fed { FeedsOnce opens chunk_length opener.old opener.new
+        (view_of_writer O.view writer.old) (view_of_writer O.view writer.new) piece.now result }
     ensures some { IfOk result (λ n. 0 < length piece.now → 0 < n) }
     ensures same { SameWriter writer.old writer.new }
 {
@@ -51,8 +51,8 @@ fn feed_piece<O: Sink>(
     requires sound { has_failed opener.old.status ≡ false }
     requires small { length opener.old.held + writer.old.tally.written + length piece.now
         < 2 ^ 128 }
-    ensures fed { FeedsPiece opens chunk_length opener.old opener.new (view_of_writer O.view writer.old)
-        (view_of_writer O.view writer.new) piece.now result }
+    ensures fed { FeedsPiece opens chunk_length opener.old opener.new
+        (view_of_writer O.view writer.old) (view_of_writer O.view writer.new) piece.now result }
     ensures same { SameWriter writer.old writer.new }
 {
     let mut at = 0;
@@ -68,8 +68,8 @@ fn close<O: Sink>(
     writer: &mut Writer<'_, O>,
 ) -> Result<(), FileFault>
     requires { length opener.old.held + writer.old.tally.written < 2 ^ 128 }
-    ensures closed { Closes opens chunk_length opener.old opener.new (view_of_writer O.view writer.old)
-        (view_of_writer O.view writer.new) result }
+    ensures closed { Closes opens chunk_length opener.old opener.new
+        (view_of_writer O.view writer.old) (view_of_writer O.view writer.new) result }
     ensures same { SameWriter writer.old writer.new }
 {
     let text = opener.end()?;
@@ -82,8 +82,8 @@ fn finish<O: Sink>(
     writer: &mut Writer<'_, O>,
 ) -> Result<(), FileFault>
     requires { length opener.old.held + writer.old.tally.written < 2 ^ 128 }
-    ensures closed { Closes opens chunk_length opener.old opener.new (view_of_writer O.view writer.old)
-        (view_of_writer O.view writer.new) result }
+    ensures closed { Closes opens chunk_length opener.old opener.new
+        (view_of_writer O.view writer.old) (view_of_writer O.view writer.new) result }
     ensures settled { OnOk result ((O.view writer.new.sink.now).settled ≡ true) }
     ensures same { SameWriter writer.old writer.new }
 {
@@ -104,7 +104,6 @@ pub(crate) fn decrypt_payload<S: Source, O: Sink>(
     ensures decrypts { DecryptsPayload (opens key.now) chunk_length index
         (stage_of S.view O.view reader.old writer.old)
         (stage_of S.view O.view reader.new writer.new) result }
-    ensures settled { OnOk result ((O.view writer.new.sink.now).settled ≡ true) }
     ensures same_reader { SameReader reader.old reader.new }
     ensures same_writer { SameWriter writer.old writer.new }
 {

@@ -1,10 +1,10 @@
 //! Seals what a source gives, and writes each block.
 
-ghost use Rattle.std.specs.Prelude.{◌≡◌, ◌^◌, ◌≤◌, [], length, IfOk, OnOk, IfErr, true};
+ghost use Rattle.std.specs.Prelude.{◌≡◌, ◌^◌, ◌≤◌, [], length, OnOk, true};
 ghost use Rattle.age_file.specs.inner.Boxes.{seals};
 ghost use Rattle.age_file.specs.inner.Readers.{view_of_writer, ports_of, SameReader, SameWriter};
 ghost use Rattle.age_file.specs.inner.Seals.{IsFeeding, HasRoom, SealsOnce, SealsPiece, SealsLast};
-ghost use Rattle.age_file.specs.inner.Seals.{SealsAll, SealsFront};
+ghost use Rattle.age_file.specs.inner.Seals.{SealsSource};
 ghost use Rattle.age_chunk.specs.Payload.{chunk_length};
 
 use crate::encryption::Written;
@@ -25,9 +25,8 @@ fn seal_once<O: Sink>(
 ) -> Result<usize, FileFault>
     requires feeding { IsFeeding sealer.old }
     requires room { writer.old.tally.written ≤ 2 ^ 127 }
-    ensures sealed { SealsOnce seals chunk_length sealer.old sealer.new (view_of_writer O.view writer.old)
-        (view_of_writer O.view writer.new) piece.now result }
-    ensures named { (O.view writer.new.sink.now).label ≡ (O.view writer.old.sink.now).label }
+    ensures sealed { SealsOnce seals chunk_length sealer.old sealer.new
+        (view_of_writer O.view writer.old) (view_of_writer O.view writer.new) piece.now result }
     ensures same_writer { SameWriter writer.old writer.new }
 {
     let step = sealer.feed(piece)?;
@@ -45,10 +44,10 @@ fn seal_piece<O: Sink>(
     writer: &mut Writer<'_, O>,
 ) -> Result<(), FileFault>
     requires feeding { IsFeeding sealer.old }
-    requires room { HasRoom seals chunk_length sealer.old writer.old.tally.written (length piece.now) }
-    ensures sealed { SealsPiece seals chunk_length sealer.old sealer.new (view_of_writer O.view writer.old)
-        (view_of_writer O.view writer.new) piece.now result }
-    ensures named { (O.view writer.new.sink.now).label ≡ (O.view writer.old.sink.now).label }
+    requires room { HasRoom seals chunk_length sealer.old writer.old.tally.written
+        (length piece.now) }
+    ensures sealed { SealsPiece seals chunk_length sealer.old sealer.new
+        (view_of_writer O.view writer.old) (view_of_writer O.view writer.new) piece.now result }
     ensures same_writer { SameWriter writer.old writer.new }
 {
     let mut at = 0;
@@ -67,7 +66,6 @@ fn seal_last<O: Sink>(
     requires room { writer.old.tally.written ≤ 2 ^ 127 }
     ensures sealed { SealsLast seals chunk_length sealer.old (view_of_writer O.view writer.old)
         (view_of_writer O.view writer.new) result }
-    ensures named { (O.view writer.new.sink.now).label ≡ (O.view writer.old.sink.now).label }
     ensures same_writer { SameWriter writer.old writer.new }
 {
     let block = sealer.finish()?;
@@ -84,7 +82,6 @@ fn finish<O: Sink>(
     ensures sealed { SealsLast seals chunk_length sealer.old (view_of_writer O.view writer.old)
         (view_of_writer O.view writer.new) result }
     ensures settled { OnOk result ((O.view writer.new.sink.now).settled ≡ true) }
-    ensures named { (O.view writer.new.sink.now).label ≡ (O.view writer.old.sink.now).label }
     ensures same_writer { SameWriter writer.old writer.new }
 {
     seal_last(sealer, writer)?;
@@ -100,17 +97,10 @@ pub(crate) fn seal_all<S: Source, O: Sink>(
 ) -> Result<Written, FileFault>
     requires unread { (reader.old.intake.now.bytes ≡ []) × (reader.old.intake.now.pulls ≡ 0) }
     requires room { writer.old.tally.written ≤ 2 ^ 126 }
-    ensures sealed { IfOk result (λ w. SealsAll (seals key.now) chunk_length
+    ensures sealed { SealsSource (seals key.now) chunk_length
         (ports_of S.view O.view reader.old writer.old)
         (ports_of S.view O.view reader.new writer.new) writer.old.tally.written
-        writer.new.tally.written w.plain) }
-    ensures counted { IfOk result (λ w. w.file ≡ writer.new.tally.written) }
-    ensures fails { IfErr result (SealsFront (seals key.now) chunk_length
-        (ports_of S.view O.view reader.old writer.old)
-        (ports_of S.view O.view reader.new writer.new) writer.old.tally.written
-        writer.new.tally.written) }
-    ensures settled { OnOk result ((O.view writer.new.sink.now).settled ≡ true) }
-    ensures named { (O.view writer.new.sink.now).label ≡ (O.view writer.old.sink.now).label }
+        writer.new.tally.written result }
     ensures same_reader { SameReader reader.old reader.new }
     ensures same_writer { SameWriter writer.old writer.new }
 {

@@ -4,8 +4,8 @@ ghost use Rattle.std.specs.Prelude.{◌≡◌, ◌+◌, ◌-◌, ◌≤◌, [], 
 ghost use Rattle.std.specs.Prelude.{IfOk, IfErr};
 ghost use Rattle.age_file.specs.Starts.{StartFails};
 ghost use Rattle.age_file.specs.inner.Readers.{view_of_reader, SameReader};
-ghost use Rattle.age_file.specs.inner.Starts.{Uses, SomeAnswers, NonceFails, TakesNonce, ReadsNonce};
-ghost use Rattle.age_file.specs.inner.Starts.{StartsAt};
+ghost use Rattle.age_file.specs.inner.Starts.{Uses, SomeAnswers, NonceFails, TakesNonce};
+ghost use Rattle.age_file.specs.inner.Starts.{ReadsNonce, StartsAt};
 ghost use Rattle.age_file.specs.Faults.{pull_room};
 
 use crate::head::read_head;

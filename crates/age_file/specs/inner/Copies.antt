@@ -1,6 +1,6 @@
 -- What was copied of an old text. Only private functions cite this. A chunk has n bytes.
-use Rattle.std.specs.Prelude.{◌≢◌, ◌≡◌, ℕ, ◌+◌, ◌*◌, ◌<◌, List, [], ◌++◌}
-use Rattle.std.specs.Prelude.{length, Some, Result}
+use Rattle.std.specs.Prelude.{◌≢◌, ◌≡◌, ℕ, ◌+◌, ◌*◌, ◌^◌, ◌<◌, ◌≤◌, List, [], ◌++◌}
+use Rattle.std.specs.Prelude.{length, Some, IsSome, Result}
 use Rattle.std.specs.Prelude.{MatchResult}
 use Rattle.std.specs.Simd.{first_chunks}
 use Rattle.std.specs.Io.KnownBytes.{Appends, IsAtEnd}
@@ -13,12 +13,23 @@ use Rattle.age_file.specs.declared.position.Positions.TheVariants.{Kept}
 use Rattle.age_file.specs.inner.Readers.{ReaderView, reader_view, WriterView}
 use Rattle.age_file.specs.inner.Unread.{Unread}
 use Rattle.age_file.specs.declared.position.Position.{Position}
+use Rattle.age_file.specs.declared.tally.Tally.{Tally}
 use Rattle.age_io.specs.Views.{SourceView}
 use Rattle.age_file.specs.inner.Skips.{Passes, Dries}
 use Rattle.age_fault.specs.declared.fault.FileFault.{FileFault}
 use Rattle.age_fault.specs.declared.fault.FileFault.TheVariants.{ShortText, Read, Write}
 use Rattle.age_fault.specs.declared.fault.FileFault.TheVariants.{ReadNeverEnds, OldTextDiffers}
+use Rattle.age_chunk.specs.Nonce.{chunk_limit}
 use Rattle.age_chunk.specs.Payload.{chunk_length}
+
+-- one chunk more can be copied
+pub record CanCopy (t : Tally) : Type 0 where
+  -- its bytes can be counted
+  pub room : t.written ≤ 2 ^ 64
+  -- a payload may have a chunk after it
+  pub limit : t.index + 1 < chunk_limit
+  -- there is a chain that goes on
+  pub kept : IsSome t.chain
 
 -- what was written of the old text, fewer bytes than were to be copied: all that the source gave,
 -- or its front where the sink failed

@@ -1,6 +1,5 @@
 -- What a decryption did.
 use Rattle.std.specs.Prelude.{◌≡◌, ℕ, List, Option, Some, None, IsSomeAnd, Result, Ok, Err}
-use Rattle.std.specs.Prelude.{OnOk, true}
 use Rattle.age_keys.specs.Keys.{payload_key, position_key}
 use Rattle.age_file.specs.inner.Boxes.{opens}
 use Rattle.age_file.specs.inner.Payloads.{DecryptsPayload}
@@ -39,7 +38,8 @@ EndsAs unlocked p (Err fault) result =
 pub record OpensPayload (unlocked : Unlocked) (start : ℕ) (old new : Stage)
     (result : Result Done Stopped) : Type 0 where
   pub run : Result (Unit {0}) FileFault
-  pub decrypts : DecryptsPayload (opens (payload_key unlocked.key unlocked.nonce)) chunk_length start old
-      new run
-  pub settled : OnOk run (new.writer.sink.settled ≡ true)
+  -- the run released what the payload's key opens
+  pub decrypts : DecryptsPayload (opens (payload_key unlocked.key unlocked.nonce)) chunk_length
+      start old new run
+  -- the answer is how it ended
   pub ended : EndsAs unlocked new.writer.tally run result

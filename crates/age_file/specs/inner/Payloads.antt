@@ -1,7 +1,7 @@
 -- What was made of the bytes after a nonce. Only private functions cite this. A chunk has n bytes.
 use Rattle.std.specs.Prelude.{◌≡◌, ℕ, ◌+◌, ◌*◌, ◌^◌, ◌≤◌, List, ◌++◌, length}
 use Rattle.std.specs.Prelude.{Option, Result}
-use Rattle.std.specs.Prelude.{MatchResult, Bool, true, false, ◌⊎◌, ◌<◌}
+use Rattle.std.specs.Prelude.{MatchResult, OnOk, Bool, true, false, ◌⊎◌, ◌<◌}
 use Rattle.std.specs.Simd.{first_chunks}
 use Rattle.std.specs.Io.KnownBytes.{Appends, IsAtEnd}
 use Rattle.age_stream.specs.declared.step.Status.TheVariants.{Failed, Done}
@@ -72,3 +72,5 @@ module _ (opening : List ℕ → List ℕ → Option (List ℕ)) (n : ℕ) where
         → HasCounted keep opening n (base ++ out) (segment start bytes ended) new.writer.tally
     pub answered : MatchResult result (λ _. SegmentDone old new (segment start bytes ended) out)
         (SegmentFails old new (segment start bytes ended) out)
+    -- after Ok the sink sent on what it took
+    pub settled : OnOk result (new.writer.sink.settled ≡ true)

@@ -2,7 +2,7 @@
 -- engines cite.
 use Rattle.std.specs.Prelude.{◌≡◌, ℕ, ◌+◌, ◌-◌, ◌*◌, ◌^◌, ◌<◌, ◌≤◌, List}
 use Rattle.std.specs.Prelude.{[], ◌++◌, length}
-use Rattle.std.specs.Prelude.{Result, MatchResult, false}
+use Rattle.std.specs.Prelude.{Result, MatchResult, IfOk, IfErr, OnOk, true, false}
 use Rattle.std.specs.Io.KnownBytes.{Consumes, Appends, IsAtEnd}
 use Rattle.age_chunk.specs.Nonce.{chunk_limit}
 use Rattle.age_stream.specs.Sealing.{SealerView, Holds, too_many}
@@ -12,13 +12,18 @@ use Rattle.age_fault.specs.Faults.{HasFailed}
 use Rattle.age_file.specs.Faults.{IsByAllPulls}
 use Rattle.age_file.specs.Ports.{Ports, NoneFailed, ReadFailed, WriteFailed}
 use Rattle.age_file.specs.inner.Readers.{WriterView}
+use Rattle.age_file.specs.declared.encryption.Written.{Written}
 use Rattle.age_fault.specs.declared.fault.FileFault.{FileFault}
 use Rattle.age_fault.specs.declared.fault.FileFault.TheVariants.{Stream, Read, Write, ReadNeverEnds}
 
--- so many bytes were written
+-- these bytes were written
 pub record Wrote (was now : WriterView) (out : List ℕ) : Type 0 where
+  -- the sink took them
   pub bytes : Appends was.sink.taken now.sink.taken out
+  -- they were counted
   pub count : now.tally.written ≡ was.tally.written + length out
+  -- the sink keeps its label
+  pub named : now.sink.label ≡ was.sink.label
 
 -- the blocks before the last, joined
 abbrev pub front_of : (List ℕ → List ℕ → List ℕ) → ℕ → List ℕ → List ℕ
@@ -142,3 +147,17 @@ module _ (sealing : List ℕ → List ℕ → List ℕ) (n : ℕ) where
     pub moved : ReadsWrites old new written_old written_new text out
     pub prefix : IsPrefixOf out (payload sealing n text)
     pub fails : SealingFails old new text out fault
+
+  -- a source was sealed, to its end or up to a fault
+  pub record SealsSource (old new : Ports) (written_old written_new : ℕ)
+      (result : Result Written FileFault) : Type 0 where
+    -- after Ok all of its text was sealed and written, and its length is answered
+    pub done : IfOk result (λ w. SealsAll old new written_old written_new w.plain)
+    -- so is the count of all bytes that were written
+    pub counted : IfOk result (λ w. w.file ≡ written_new)
+    -- after a fault, a front of the payload was written
+    pub fails : IfErr result (SealsFront old new written_old written_new)
+    -- after Ok the sink sent on what it took
+    pub settled : OnOk result (new.sink.settled ≡ true)
+    -- the sink keeps its label
+    pub named : new.sink.label ≡ old.sink.label

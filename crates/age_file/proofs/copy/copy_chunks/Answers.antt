@@ -1,4 +1,5 @@
-use Rattle.std.proofs.Common.{◌≡◌, ◌++◌, ◌∙◌, ◌+◌, ℕ, List, Option, Some, [], refl, sym, ap, suc, arith}
+use Rattle.std.proofs.Common.{◌≡◌, ◌++◌, ◌∙◌, ◌+◌, ℕ, List, Option, Some, [], refl, sym, ap, suc}
+use Rattle.std.proofs.Common.{arith}
 use Rattle.std.proofs.lemmas.Result.{err_from_is_err_and}
 use Rattle.std.proofs.lemmas.List.{length-append}
 use Rattle.std.specs.Simd.{first_chunks}
@@ -12,11 +13,14 @@ use Rattle.age_file.specs.inner.Readers.{view_of_reader, view_of_writer}
 use Rattle.age_chunk.specs.Payload.{chunk_length}
 use Rattle.age_file.proofs.copy.copy_chunks.Goals as goal
 
-pub copy_chunk-requires-clause-room : goal.copy_chunk-requires-clause-room
-copy_chunk-requires-clause-room g c = let kept = c.loop-copied.invariant in omega (arith, kept.count, kept.size, c.requires.limit)
-
-pub copy_chunk-requires-clause-limit : goal.copy_chunk-requires-clause-limit
-copy_chunk-requires-clause-limit g c = omega (arith, c.loop-copied.invariant.index, c.requires.limit, c.loop-copied-test.true)
+pub copy_chunk-requires : goal.copy_chunk-requires
+copy_chunk-requires g c =
+    let kept = c.loop-copied.invariant in
+    record {
+      room = omega (arith, kept.count, kept.size, c.requires.limit);
+      limit = omega (arith, kept.index, c.requires.limit, c.loop-copied-test.true);
+      kept = rw kept.chain_is refl;
+    }
 
 pub returns-in_err-copy_chunk-clause-copied : goal.returns-in_err-copy_chunk-clause-copied
 returns-in_err-copy_chunk-clause-copied g c =
@@ -28,8 +32,10 @@ returns-in_err-copy_chunk-clause-copied g c =
     let was = view_of_writer g.O.Sink.view c.args.writer.now in
     let between = view_of_writer g.O.Sink.view c.loop-copied.writer in
     let now = view_of_writer g.O.Sink.view c.copy_chunk.new.writer in
-    rw (p.1, p.2) (chunk_failed chunk_length c.args.chunks c.loop-copied._copied old mid new was between now kept.out c.in_err-copy_chunk.field-0.0 kept.size
-    (omega arith) kept.passes kept.wrote kept.named kept.failures (omega (arith, kept.count, c.requires.fresh.0)) c.in_err-copy_chunk.ensures.copied)
+    rw (p.1, p.2) (chunk_failed chunk_length c.args.chunks c.loop-copied._copied old mid new was
+    between now kept.out c.in_err-copy_chunk.field-0.0 kept.size
+    (omega arith) kept.passes kept.wrote kept.named kept.failures
+    (omega (arith, kept.count, c.requires.fresh.0)) c.in_err-copy_chunk.ensures.copied)
 
 pub loop-copied-init : goal.loop-copied-init
 loop-copied-init g c = record {
@@ -56,17 +62,24 @@ loop-copied-preserved g c =
     let mid = view_of_reader g.S.Source.view c.loop-copied.reader in
     let new = view_of_reader g.S.Source.view c.copy_chunk.new.reader in
     let next : suc i ≡ i + 1 = omega arith in
-    let links : c.copy_chunk.new.writer.tally.chain ≡ chain_if Kept (first_chunks chunk_length (i + 1) (kept.out ++ step.out)) =
-    goes.4 ∙ ap (λ (xs : Option (List ℕ)). link_if xs step.out) kept.chain_is ∙ ap Some (sym (chain_more chunk_length i kept.out step.out kept.size goes.0))
+    let links : c.copy_chunk.new.writer.tally.chain
+    ≡ chain_if Kept (first_chunks chunk_length (i + 1) (kept.out ++ step.out)) =
+    goes.4 ∙ ap (λ (xs : Option (List ℕ)). link_if xs step.out) kept.chain_is
+    ∙ ap Some (sym (chain_more chunk_length i kept.out step.out kept.size goes.0))
     ∙ ap (λ (k : ℕ). chain_if Kept (first_chunks chunk_length k (kept.out ++ step.out))) next in
     record {
-      same_reader = (c.in_ok-copy_chunk.ensures.same_reader.0 ∙ kept.same_reader.0, c.in_ok-copy_chunk.ensures.same_reader.1 ∙ kept.same_reader.1);
+      same_reader = (
+        c.in_ok-copy_chunk.ensures.same_reader.0 ∙ kept.same_reader.0,
+        c.in_ok-copy_chunk.ensures.same_reader.1 ∙ kept.same_reader.1,
+      );
       same_writer = c.in_ok-copy_chunk.ensures.same_writer ∙ kept.same_writer;
       out = kept.out ++ step.out;
       size = omega (arith, kept.size, goes.0, length-append kept.out step.out);
       passes = passes_then old mid new kept.out step.out kept.passes goes.1;
-      wrote = Appends-then (g.O.Sink.view c.args.writer.now.sink.now).taken (g.O.Sink.view c.loop-copied.writer.sink.now).taken
-          (g.O.Sink.view c.copy_chunk.new.writer.sink.now).taken kept.out step.out kept.wrote step.wrote;
+      wrote = Appends-then (g.O.Sink.view c.args.writer.now.sink.now).taken
+          (g.O.Sink.view c.loop-copied.writer.sink.now).taken
+          (g.O.Sink.view c.copy_chunk.new.writer.sink.now).taken kept.out step.out kept.wrote
+          step.wrote;
       failures = goes.2 ∙ kept.failures;
       named = step.named ∙ kept.named;
       count = omega (arith, kept.count, step.count, length-append kept.out step.out);

@@ -14,38 +14,56 @@ returns-in_default g c =
     let old = ports (g.S.Source.view c.args.reader.now) (g.O.Sink.view c.args.writer.now) in
     let Allows = g.U.Unlock.allows c.args.unlock.now in
     let Refused = g.U.Unlock.refuses c.args.unlock.now in
-    rw c.early.ensures (stopped_early c.args.positions Allows Refused c.one_header.ensures old old Memory refl (stops_unread _))
+    rw c.early.ensures (stopped_early c.args.positions Allows Refused c.one_header.ensures old old
+    Memory refl (stops_unread _))
 
 pub returns-in-Err : goal.returns-in-Err
 returns-in-Err g c =
     let old = ports (g.S.Source.view c.args.reader.now) (g.O.Sink.view c.args.writer.now) in
-    let new = ports (g.S.Source.view c.start.new.reader.source.now) (g.O.Sink.view c.args.writer.now) in
+    let new = ports (g.S.Source.view c.start.new.reader.source.now)
+    (g.O.Sink.view c.args.writer.now) in
     let Allows = g.U.Unlock.allows c.args.unlock.now in
     let Refused = g.U.Unlock.refuses c.args.unlock.now in
-    let early = stopped_early c.args.positions Allows Refused c.one_header.ensures old new c.in-Err.fault refl c.in-Err.ensures.fails in
-    rw c.early-in-Err.ensures (read_last g.S.Source.view (λ v. Decrypts c.args.positions Allows Refused old
-    (ports v (g.O.Sink.view c.args.writer.now)) (Err (record { fault = c.in-Err.fault; written = 0; position = None })))
+    let early = stopped_early c.args.positions Allows Refused c.one_header.ensures old new
+    c.in-Err.fault refl c.in-Err.ensures.fails in
+    rw c.early-in-Err.ensures (read_last g.S.Source.view
+    (λ v. Decrypts c.args.positions Allows Refused old
+    (ports v (g.O.Sink.view c.args.writer.now))
+    (Err (record { fault = c.in-Err.fault; written = 0; position = None })))
     _ c.start.new.reader.source.now (search rules) early)
 
 pub returns : goal.returns
 returns g c =
-    let old = stage (view_of_reader g.S.Source.view c.start.new.reader) (writer_view (g.O.Sink.view c.args.writer.now) c.new-tally.result) in
-    let new = stage_of g.S.Source.view g.O.Sink.view c.open_payload.new.reader c.open_payload.new.writer in
+    let old = stage (view_of_reader g.S.Source.view c.start.new.reader)
+    (writer_view (g.O.Sink.view c.args.writer.now) c.new-tally.result) in
+    let new = stage_of g.S.Source.view g.O.Sink.view c.open_payload.new.reader
+    c.open_payload.new.writer in
     let first = g.S.Source.view c.args.reader.now in
     let before = ports first (g.O.Sink.view c.args.writer.now) in
     let Allows = g.U.Unlock.allows c.args.unlock.now in
     let Refused = g.U.Unlock.refuses c.args.unlock.now in
     let o = c.open_payload.ensures.opened in
-    let ran = decrypted c.args.positions Allows Refused first c.in-Ok-start.unlocked old new o.run c.new-tally.ensures.written
+    let ran = decrypted c.args.positions Allows Refused first c.in-Ok-start.unlocked old new o.run
+    c.new-tally.ensures.written
     c.new-tally.ensures.index c.new-tally.ensures.chain c.in-Ok-start.ensures.found o.decrypts in
-    ports_last g.S.Source.view g.O.Sink.view (λ p. Decrypts c.args.positions Allows Refused before p c.open_payload.result)
-    _ c.open_payload.new.reader.source.now _ c.open_payload.new.writer.sink.now (search rules) (search rules)
-    (run_ended c.args.positions Allows Refused c.one_header.ensures first c.in-Ok-start.unlocked old new o.run c.open_payload.result
-    c.in-Ok-start.ensures.found.unfailed o.decrypts.named o.settled ran o.ended)
+    ports_last g.S.Source.view g.O.Sink.view
+    (λ p. Decrypts c.args.positions Allows Refused before p c.open_payload.result)
+    _ c.open_payload.new.reader.source.now _ c.open_payload.new.writer.sink.now (search rules)
+    (search rules)
+    (run_ended c.args.positions Allows Refused c.one_header.ensures first c.in-Ok-start.unlocked old
+    new o.run c.open_payload.result
+    c.in-Ok-start.ensures.found.unfailed o.decrypts.named o.decrypts.settled ran o.ended)
 
 pub open_payload-requires-clause-room : goal.open_payload-requires-clause-room
 open_payload-requires-clause-room g c =
     let found = c.in-Ok-start.ensures.found in
     let unread = c.start.new.reader.intake.now.bytes in
-    let p = found.pulled in
-    (omega (arith, c.new-tally.ensures.written, p.small, length-append (found.front ++ c.in-Ok-start.unlocked.nonce) unread), p.most)
+    let p = found.pulled in (
+      omega (
+        arith,
+        c.new-tally.ensures.written,
+        p.small,
+        length-append (found.front ++ c.in-Ok-start.unlocked.nonce) unread,
+      ),
+      p.most,
+    )

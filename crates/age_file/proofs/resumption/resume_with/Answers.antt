@@ -1,44 +1,61 @@
 use Rattle.std.proofs.Common.{None, refl, rules, Err}
 use Rattle.age_fault.specs.declared.fault.FileFault.TheVariants.{Memory}
-use Rattle.age_file.specs.inner.Readers.{reader_view, writer_view, stage, view_of_reader, view_of_writer, stage_of}
+use Rattle.age_file.specs.inner.Readers.{reader_view, writer_view, stage, view_of_reader}
+use Rattle.age_file.specs.inner.Readers.{view_of_writer, stage_of}
 use Rattle.age_file.specs.Ports.{ports}
 use Rattle.age_file.specs.Resumes.{resume_ports}
 use Rattle.age_file.specs.ResumePromises.{ResumesText}
 use Rattle.age_file.proofs.ReaderSteps.{read_last, ports_last}
 use Rattle.age_file.proofs.Bytes.{stops_unread}
-use Rattle.age_file.proofs.ResumeSteps.{place_after, stopped_early, refused, copy_stopped, skip_stopped, rest_ended}
+use Rattle.age_file.proofs.ResumeSteps.{place_after, stopped_early, refused, copy_stopped}
+use Rattle.age_file.proofs.ResumeSteps.{skip_stopped, rest_ended}
 use Rattle.age_file.proofs.resumption.resume_with.Goals as goal
 
 pub returns-in_default : goal.returns-in_default
 returns-in_default g c =
-    let old = resume_ports (ports (g.S.Source.view c.args.reader.now) (g.O.Sink.view c.args.writer.now)) (g.L.Source.view c.args.old_reader.now) in
+    let old = resume_ports (ports (g.S.Source.view c.args.reader.now)
+    (g.O.Sink.view c.args.writer.now)) (g.L.Source.view c.args.old_reader.now) in
     let Allows = g.U.Unlock.allows c.args.unlock.now in
     let Refused = g.U.Unlock.refuses c.args.unlock.now in
-    rw c.early.ensures (stopped_early c.args.positions Allows Refused c.args.position.now c.one_header.ensures old old Memory refl refl (stops_unread _))
+    rw c.early.ensures (stopped_early c.args.positions Allows Refused c.args.position.now
+    c.one_header.ensures old old Memory refl refl (stops_unread _))
 
 pub returns-in-Err : goal.returns-in-Err
 returns-in-Err g c =
-    let old = resume_ports (ports (g.S.Source.view c.args.reader.now) (g.O.Sink.view c.args.writer.now)) (g.L.Source.view c.args.old_reader.now) in
-    let new = resume_ports (ports (g.S.Source.view c.start.new.reader.source.now) (g.O.Sink.view c.args.writer.now)) (g.L.Source.view c.args.old_reader.now) in
+    let old = resume_ports (ports (g.S.Source.view c.args.reader.now)
+    (g.O.Sink.view c.args.writer.now)) (g.L.Source.view c.args.old_reader.now) in
+    let new = resume_ports (ports (g.S.Source.view c.start.new.reader.source.now)
+    (g.O.Sink.view c.args.writer.now)) (g.L.Source.view c.args.old_reader.now) in
     let Allows = g.U.Unlock.allows c.args.unlock.now in
     let Refused = g.U.Unlock.refuses c.args.unlock.now in
-    let early = stopped_early c.args.positions Allows Refused c.args.position.now c.one_header.ensures old new c.in-Err.fault refl refl
+    let early = stopped_early c.args.positions Allows Refused c.args.position.now
+    c.one_header.ensures old new c.in-Err.fault refl refl
     c.in-Err.ensures.fails in
-    rw c.early-in-Err.ensures (read_last g.S.Source.view (λ v. ResumesText c.args.positions Allows Refused c.args.position.now old
-    (resume_ports (ports v (g.O.Sink.view c.args.writer.now)) (g.L.Source.view c.args.old_reader.now))
-    (Err (record { fault = c.in-Err.fault; written = 0; position = None }))) _ c.start.new.reader.source.now (search rules) early)
+    rw c.early-in-Err.ensures (read_last g.S.Source.view
+    (λ v. ResumesText c.args.positions Allows Refused c.args.position.now old
+    (resume_ports (ports v (g.O.Sink.view c.args.writer.now))
+    (g.L.Source.view c.args.old_reader.now))
+    (Err (record { fault = c.in-Err.fault; written = 0; position = None }))) _
+    c.start.new.reader.source.now (search rules) early)
 
 pub returns-in-Err-verify : goal.returns-in-Err-verify
 returns-in-Err-verify g c =
-    let old = resume_ports (ports (g.S.Source.view c.args.reader.now) (g.O.Sink.view c.args.writer.now)) (g.L.Source.view c.args.old_reader.now) in
-    let new = resume_ports (ports (g.S.Source.view c.start.new.reader.source.now) (g.O.Sink.view c.args.writer.now)) (g.L.Source.view c.args.old_reader.now) in
+    let old = resume_ports (ports (g.S.Source.view c.args.reader.now)
+    (g.O.Sink.view c.args.writer.now)) (g.L.Source.view c.args.old_reader.now) in
+    let new = resume_ports (ports (g.S.Source.view c.start.new.reader.source.now)
+    (g.O.Sink.view c.args.writer.now)) (g.L.Source.view c.args.old_reader.now) in
     let Allows = g.U.Unlock.allows c.args.unlock.now in
     let Refused = g.U.Unlock.refuses c.args.unlock.now in
-    let stops = refused c.args.positions Allows Refused c.args.position.now c.one_header.ensures old new c.start.new.reader.intake.now c.in-Ok.unlocked
+    let stops = refused c.args.positions Allows Refused c.args.position.now c.one_header.ensures old
+    new c.start.new.reader.intake.now c.in-Ok.unlocked
     c.in-Err-verify.fault refl refl c.in-Ok.ensures.found c.in-Err-verify.ensures in
-    rw c.early-in-Err-verify.ensures (read_last g.S.Source.view (λ v. ResumesText c.args.positions Allows Refused c.args.position.now old
-    (resume_ports (ports v (g.O.Sink.view c.args.writer.now)) (g.L.Source.view c.args.old_reader.now))
-    (Err (record { fault = c.in-Err-verify.fault; written = 0; position = None }))) _ c.start.new.reader.source.now (search rules) stops)
+    rw c.early-in-Err-verify.ensures
+    (read_last g.S.Source.view (λ v. ResumesText c.args.positions Allows Refused
+    c.args.position.now old
+    (resume_ports (ports v (g.O.Sink.view c.args.writer.now))
+    (g.L.Source.view c.args.old_reader.now))
+    (Err (record { fault = c.in-Err-verify.fault; written = 0; position = None }))) _
+    c.start.new.reader.source.now (search rules) stops)
 
 pub returns-in-Err-copy_before : goal.returns-in-Err-copy_before
 returns-in-Err-copy_before g c =
@@ -46,17 +63,27 @@ returns-in-Err-copy_before g c =
     let b = c.in-Err-copy_before.ensures.copied in
     let x = reader_view (g.L.Source.view c.args.old_reader.now) b.first in
     let z = reader_view (g.L.Source.view c.copy_before.new.source) b.last in
-    let s1 = stage (view_of_reader g.S.Source.view c.start.new.reader) (view_of_writer g.O.Sink.view c.copy_before.new.writer) in
-    let old = resume_ports (ports (g.S.Source.view c.args.reader.now) (g.O.Sink.view c.args.writer.now)) (g.L.Source.view c.args.old_reader.now) in
+    let s1 = stage (view_of_reader g.S.Source.view c.start.new.reader)
+    (view_of_writer g.O.Sink.view c.copy_before.new.writer) in
+    let old = resume_ports (ports (g.S.Source.view c.args.reader.now)
+    (g.O.Sink.view c.args.writer.now)) (g.L.Source.view c.args.old_reader.now) in
     let Allows = g.U.Unlock.allows c.args.unlock.now in
     let Refused = g.U.Unlock.refuses c.args.unlock.now in
-    let stops = copy_stopped c.args.positions Allows Refused c.args.position.now (g.S.Source.view c.args.reader.now) c.in-Ok.unlocked
-    s1 c.start.new.reader.intake.now c.in-Ok.ensures.found c.in-Ok-verify.ensures c.in-Ok.ensures.found.unfailed first c.new-tally.ensures.written x z
+    let stops = copy_stopped c.args.positions Allows Refused c.args.position.now
+    (g.S.Source.view c.args.reader.now) c.in-Ok.unlocked
+    s1 c.start.new.reader.intake.now c.in-Ok.ensures.found c.in-Ok-verify.ensures
+    c.in-Ok.ensures.found.unfailed first c.new-tally.ensures.written x z
     b.none b.counted_on c.one_header.ensures c.in-Err-copy_before.fault b.copied in
-    rw c.after.ensures (ports_last g.S.Source.view g.O.Sink.view (λ p. ResumesText c.args.positions Allows Refused c.args.position.now old
+    rw c.after.ensures (ports_last g.S.Source.view g.O.Sink.view
+    (λ p. ResumesText c.args.positions Allows Refused c.args.position.now old
     (resume_ports p (g.L.Source.view c.copy_before.new.source))
-    (Err (record { fault = c.in-Err-copy_before.fault; written = c.copy_before.new.writer.tally.written; position = None })))
-    _ c.start.new.reader.source.now _ c.copy_before.new.writer.sink.now (search rules) (search rules) stops)
+    (Err (record {
+      fault = c.in-Err-copy_before.fault;
+      written = c.copy_before.new.writer.tally.written;
+      position = None;
+    })))
+    _ c.start.new.reader.source.now _ c.copy_before.new.writer.sink.now (search rules)
+    (search rules) stops)
 
 pub open_payload-requires-clause-room : goal.open_payload-requires-clause-room
 open_payload-requires-clause-room g c =
@@ -64,13 +91,17 @@ open_payload-requires-clause-room g c =
     let b = c.in-Ok-copy_before.ensures.copied in
     let x = reader_view (g.L.Source.view c.args.old_reader.now) b.first in
     let z = reader_view (g.L.Source.view c.copy_before.new.source) b.last in
-    let s1 = stage (reader_view (g.S.Source.view c.start.new.reader.source.now) c.copy_before.new.intake)
+    let s1 = stage (reader_view (g.S.Source.view c.start.new.reader.source.now)
+    c.copy_before.new.intake)
     (view_of_writer g.O.Sink.view c.copy_before.new.writer) in
     let skipped = c.in-Ok-skip_blocks.ensures.skipped in
-    place_after c.args.positions (g.U.Unlock.allows c.args.unlock.now) (g.U.Unlock.refuses c.args.unlock.now) c.args.position.now
+    place_after c.args.positions (g.U.Unlock.allows c.args.unlock.now)
+    (g.U.Unlock.refuses c.args.unlock.now) c.args.position.now
     (g.S.Source.view c.args.reader.now) c.in-Ok.unlocked
-    s1 c.start.new.reader.intake.now c.in-Ok.ensures.found c.in-Ok-verify.ensures c.in-Ok.ensures.found.unfailed first c.new-tally.ensures.written x z
-    b.none b.counted_on b.copied c.args.position.now.within b.kept b.counted (view_of_reader g.S.Source.view c.skip_blocks.new.reader)
+    s1 c.start.new.reader.intake.now c.in-Ok.ensures.found c.in-Ok-verify.ensures
+    c.in-Ok.ensures.found.unfailed first c.new-tally.ensures.written x z
+    b.none b.counted_on b.copied c.args.position.now.within b.kept b.counted
+    (view_of_reader g.S.Source.view c.skip_blocks.new.reader)
     skipped.0 skipped.1 skipped.2
 
 pub returns : goal.returns
@@ -79,18 +110,25 @@ returns g c =
     let b = c.in-Ok-copy_before.ensures.copied in
     let x = reader_view (g.L.Source.view c.args.old_reader.now) b.first in
     let z = reader_view (g.L.Source.view c.copy_before.new.source) b.last in
-    let s1 = stage (reader_view (g.S.Source.view c.start.new.reader.source.now) c.copy_before.new.intake)
+    let s1 = stage (reader_view (g.S.Source.view c.start.new.reader.source.now)
+    c.copy_before.new.intake)
     (view_of_writer g.O.Sink.view c.copy_before.new.writer) in
-    let old = resume_ports (ports (g.S.Source.view c.args.reader.now) (g.O.Sink.view c.args.writer.now)) (g.L.Source.view c.args.old_reader.now) in
+    let old = resume_ports (ports (g.S.Source.view c.args.reader.now)
+    (g.O.Sink.view c.args.writer.now)) (g.L.Source.view c.args.old_reader.now) in
     let Allows = g.U.Unlock.allows c.args.unlock.now in
     let Refused = g.U.Unlock.refuses c.args.unlock.now in
-    ports_last g.S.Source.view g.O.Sink.view (λ p. ResumesText c.args.positions Allows Refused c.args.position.now old
+    ports_last g.S.Source.view g.O.Sink.view
+    (λ p. ResumesText c.args.positions Allows Refused c.args.position.now old
     (resume_ports p (g.L.Source.view c.copy_before.new.source)) c.ended.result)
-    _ c.skip_blocks.new.reader.source.now _ c.copy_before.new.writer.sink.now (search rules) (search rules)
-    (skip_stopped c.args.positions Allows Refused c.args.position.now (g.S.Source.view c.args.reader.now) c.in-Ok.unlocked
-    s1 c.start.new.reader.intake.now c.in-Ok.ensures.found c.in-Ok-verify.ensures c.in-Ok.ensures.found.unfailed first c.new-tally.ensures.written x z
+    _ c.skip_blocks.new.reader.source.now _ c.copy_before.new.writer.sink.now (search rules)
+    (search rules)
+    (skip_stopped c.args.positions Allows Refused c.args.position.now
+    (g.S.Source.view c.args.reader.now) c.in-Ok.unlocked
+    s1 c.start.new.reader.intake.now c.in-Ok.ensures.found c.in-Ok-verify.ensures
+    c.in-Ok.ensures.found.unfailed first c.new-tally.ensures.written x z
     b.none b.counted_on b.copied c.args.position.now.within b.kept b.counted c.one_header.ensures
-    (view_of_reader g.S.Source.view c.skip_blocks.new.reader) c.in-Err-skip_blocks.fault c.ended.result c.ended.ensures
+    (view_of_reader g.S.Source.view c.skip_blocks.new.reader) c.in-Err-skip_blocks.fault
+    c.ended.result c.ended.ensures
     c.in-Err-skip_blocks.ensures.skipped)
 
 pub returns-in-Ok-skip_blocks : goal.returns-in-Ok-skip_blocks
@@ -99,18 +137,27 @@ returns-in-Ok-skip_blocks g c =
     let b = c.in-Ok-copy_before.ensures.copied in
     let x = reader_view (g.L.Source.view c.args.old_reader.now) b.first in
     let z = reader_view (g.L.Source.view c.copy_before.new.source) b.last in
-    let s1 = stage (reader_view (g.S.Source.view c.start.new.reader.source.now) c.copy_before.new.intake)
+    let s1 = stage (reader_view (g.S.Source.view c.start.new.reader.source.now)
+    c.copy_before.new.intake)
     (view_of_writer g.O.Sink.view c.copy_before.new.writer) in
-    let s2 = stage_of g.S.Source.view g.O.Sink.view c.open_payload.new.reader c.open_payload.new.writer in
-    let old = resume_ports (ports (g.S.Source.view c.args.reader.now) (g.O.Sink.view c.args.writer.now)) (g.L.Source.view c.args.old_reader.now) in
+    let s2 = stage_of g.S.Source.view g.O.Sink.view c.open_payload.new.reader
+    c.open_payload.new.writer in
+    let old = resume_ports (ports (g.S.Source.view c.args.reader.now)
+    (g.O.Sink.view c.args.writer.now)) (g.L.Source.view c.args.old_reader.now) in
     let Allows = g.U.Unlock.allows c.args.unlock.now in
     let Refused = g.U.Unlock.refuses c.args.unlock.now in
     let skipped = c.in-Ok-skip_blocks.ensures.skipped in
     let o = c.open_payload.ensures.opened in
-    ports_last g.S.Source.view g.O.Sink.view (λ p. ResumesText c.args.positions Allows Refused c.args.position.now old
+    ports_last g.S.Source.view g.O.Sink.view
+    (λ p. ResumesText c.args.positions Allows Refused c.args.position.now old
     (resume_ports p (g.L.Source.view c.copy_before.new.source)) c.open_payload.result)
-    _ c.open_payload.new.reader.source.now _ c.open_payload.new.writer.sink.now (search rules) (search rules)
-    (rest_ended c.args.positions Allows Refused c.args.position.now (g.S.Source.view c.args.reader.now) c.in-Ok.unlocked
-    s1 c.start.new.reader.intake.now c.in-Ok.ensures.found c.in-Ok-verify.ensures c.in-Ok.ensures.found.unfailed first c.new-tally.ensures.written x z
-    b.none b.counted_on b.copied c.args.position.now.within b.kept b.counted (view_of_reader g.S.Source.view c.skip_blocks.new.reader)
-    skipped.0 skipped.1 skipped.2 c.one_header.ensures s2 o.run c.open_payload.result o.decrypts o.settled o.ended)
+    _ c.open_payload.new.reader.source.now _ c.open_payload.new.writer.sink.now (search rules)
+    (search rules)
+    (rest_ended c.args.positions Allows Refused c.args.position.now
+    (g.S.Source.view c.args.reader.now) c.in-Ok.unlocked
+    s1 c.start.new.reader.intake.now c.in-Ok.ensures.found c.in-Ok-verify.ensures
+    c.in-Ok.ensures.found.unfailed first c.new-tally.ensures.written x z
+    b.none b.counted_on b.copied c.args.position.now.within b.kept b.counted
+    (view_of_reader g.S.Source.view c.skip_blocks.new.reader)
+    skipped.0 skipped.1 skipped.2 c.one_header.ensures s2 o.run c.open_payload.result o.decrypts
+    o.ended)

@@ -1,4 +1,5 @@
-use Rattle.std.proofs.Common.{◌≡◌, ◌<◌, ◌*◌, ◌^◌, ◌≤◌, length, ap, sym, subst, ◌∙◌, arith, List, ℕ, [], ◌++◌, refl, append-nil}
+use Rattle.std.proofs.Common.{◌≡◌, ◌<◌, ◌*◌, ◌^◌, ◌≤◌, length, ap, sym, subst, ◌∙◌, arith, List, ℕ}
+use Rattle.std.proofs.Common.{[], ◌++◌, refl, append-nil}
 use Rattle.std.proofs.lemmas.Result.{err_from_is_err_and}
 use Rattle.std.proofs.lemmas.Nat.{mul-le}
 use Rattle.std.proofs.KnownBytes.{Appends-nil, Consumes-nil}
@@ -13,7 +14,8 @@ use Rattle.age_file.specs.Ports.{ports}
 use Rattle.age_fault.specs.declared.fault.FileFault.{FileFault}
 use Rattle.age_file.proofs.Bytes.{cut_pulled}
 use Rattle.age_file.proofs.SealSteps.{front_small}
-use Rattle.age_file.proofs.SourceSteps.{front_begins, no_front, piece_done, piece_cut, pull_fails, seal_fails, last_written, last_begins, last_whole}
+use Rattle.age_file.proofs.SourceSteps.{front_begins, no_front, piece_done, piece_cut, pull_fails}
+use Rattle.age_file.proofs.SourceSteps.{seal_fails, last_written, last_begins, last_whole}
 use Rattle.age_chunk.specs.Payload.{block_length, chunk_length}
 use Rattle.age_file.proofs.sealing.seal_all.Goals as goal
 
@@ -36,34 +38,53 @@ pulls-init g c =
       };
       unread = c.requires.unread.0;
       plain_is = refl;
-      goes = record { key = refl; feeding = rw c.new-sealer.ensures (record { unfinished = refl; sound = refl }); holds = λ text h. rw (append-nil text) h };
-      wrote = subst (λ (t : List ℕ). Wrote now now t) (sym none) (record { bytes = Appends-nil now.sink.taken; count = omega arith });
+      goes = record {
+        key = refl;
+        feeding = rw c.new-sealer.ensures
+            (record { unfinished = refl; sound = refl });
+        holds = λ text h. rw (append-nil text) h;
+      };
+      wrote = subst (λ (t : List ℕ). Wrote now now t) (sym none)
+          (record { bytes = Appends-nil now.sink.taken; count = omega arith; named = refl });
       read_failed = refl;
       write_failed = refl;
-      named = refl;
     }
 
-pub returns-in_err-refill-clause-fails : goal.returns-in_err-refill-clause-fails
-returns-in_err-refill-clause-fails g c =
+pub returns-in_err-refill-clause-sealed : goal.returns-in_err-refill-clause-sealed
+returns-in_err-refill-clause-sealed g c =
     let p = err_from_is_err_and c.from_residual.result c.from_residual.ensures.1 in
     let kept = c.pulls.invariant in
     let r = c.in_err-refill.ensures in
     let all = cut_pulled _ _ _ kept.text _ r.answered.0 (r.pulled _ kept.text kept.pulled) in
     let n : ℕ = chunk_length in
-    let old = ports (g.S.Source.view c.args.reader.now.source.now) (g.O.Sink.view c.args.writer.now.sink.now) in
+    let old = ports (g.S.Source.view c.args.reader.now.source.now)
+    (g.O.Sink.view c.args.writer.now.sink.now) in
     let new = ports (g.S.Source.view c.refill.new.source) (g.O.Sink.view c.pulls.writer.sink.now) in
-    rw (p.1, p.2) (subst (λ k. SealsFront (seals k) n old new c.args.writer.now.tally.written c.pulls.writer.tally.written c.in_err-refill.field-0.0)
+    let front = subst (λ k. SealsFront (seals k) n old new c.args.writer.now.tally.written
+    c.pulls.writer.tally.written c.in_err-refill.field-0.0)
     (ap (λ v. v.key) c.new-sealer.ensures) (record {
       text = kept.text;
       out = front_of (seals c.new-sealer.result.key) n kept.text;
-      moved = record { read = all.consumed; wrote = kept.wrote.bytes; count = kept.wrote.count; small = omega (arith, all.small, all.most) };
+      moved = record {
+        read = all.consumed;
+        wrote = kept.wrote.bytes;
+        count = kept.wrote.count;
+        small = omega (arith, all.small, all.most);
+      };
       prefix = front_begins (seals c.new-sealer.result.key) n kept.text;
       fails = pull_fails (seals c.new-sealer.result.key) n old new kept.text
           (reader_view (g.S.Source.view c.pulls.reader.source.now) c.pulls.reader.intake.now)
           (reader_view (g.S.Source.view c.refill.new.source) c.refill.new.self)
           c.in_err-refill.field-0.0 kept.read_failed refl kept.write_failed all.each_gave all.small
           r.answered.2;
-    }))
+    }) in
+    rw (p.1, p.2) (record {
+      done = tt;
+      counted = tt;
+      fails = front;
+      settled = tt;
+      named = kept.wrote.named;
+    })
 
 pub seal_piece-requires : goal.seal_piece-requires
 seal_piece-requires g c =
@@ -71,7 +92,8 @@ seal_piece-requires g c =
     let text = kept.text in
     let n : ℕ = chunk_length in
     let pulled = kept.pulled in
-    let blocks : front_of (seals c.new-sealer.result.key) n text ≡ front_of (seals c.pulls.sealer.key) n text =
+    let blocks : front_of (seals c.new-sealer.result.key) n text
+    ≡ front_of (seals c.pulls.sealer.key) n text =
     ap (λ k. front_of (seals k) n text) (sym kept.goes.key) in
     record {
       feeding = kept.goes.feeding;
@@ -83,9 +105,10 @@ seal_piece-requires g c =
       };
     }
 
-pub returns-in_err-seal_piece-clause-fails : goal.returns-in_err-seal_piece-clause-fails
-returns-in_err-seal_piece-clause-fails g c =
-    let p = err_from_is_err_and c.from_residual-in_err-seal_piece.result c.from_residual-in_err-seal_piece.ensures.1 in
+pub returns-in_err-seal_piece-clause-sealed : goal.returns-in_err-seal_piece-clause-sealed
+returns-in_err-seal_piece-clause-sealed g c =
+    let p = err_from_is_err_and c.from_residual-in_err-seal_piece.result
+    c.from_residual-in_err-seal_piece.ensures.1 in
     let kept = c.pulls.invariant in
     let r = rw c.if-branch.true at c.in_ok-refill.ensures in
     let s = c.in_err-seal_piece.ensures.sealed in
@@ -95,21 +118,39 @@ returns-in_err-seal_piece-clause-fails g c =
     let was = view_of_writer g.O.Sink.view c.args.writer.now in
     let mid = view_of_writer g.O.Sink.view c.pulls.writer in
     let now = view_of_writer g.O.Sink.view c.seal_piece.new.writer in
-    let old = ports (g.S.Source.view c.args.reader.now.source.now) (g.O.Sink.view c.args.writer.now.sink.now) in
-    let new = ports (g.S.Source.view c.refill.new.source) (g.O.Sink.view c.seal_piece.new.writer.sink.now) in
-    let all = rw (← c.bytes.ensures.bytes) at (r.pulled old.source.remaining kept.text kept.pulled) in
-    let unwritten = piece_cut seals n c.new-sealer.result c.pulls.sealer c.seal_piece.new.sealer was mid now kept.text piece s.fed s.left s.unwritten
+    let old = ports (g.S.Source.view c.args.reader.now.source.now)
+    (g.O.Sink.view c.args.writer.now.sink.now) in
+    let new = ports (g.S.Source.view c.refill.new.source)
+    (g.O.Sink.view c.seal_piece.new.writer.sink.now) in
+    let all = rw (← c.bytes.ensures.bytes)
+    at (r.pulled old.source.remaining kept.text kept.pulled) in
+    let unwritten = piece_cut seals n c.new-sealer.result c.pulls.sealer c.seal_piece.new.sealer was
+    mid now kept.text piece s.fed s.left s.unwritten
     kept.goes kept.fresh kept.wrote s.some positive in
-    rw (p.1, p.2) (subst (λ k. SealsFront (seals k) n old new c.args.writer.now.tally.written c.seal_piece.new.writer.tally.written
+    let front = subst (λ k. SealsFront (seals k) n old new c.args.writer.now.tally.written
+    c.seal_piece.new.writer.tally.written
     c.in_err-seal_piece.field-0.0)
     (ap (λ v. v.key) c.new-sealer.ensures) (record {
       text = kept.text ++ piece;
       out = unwritten.0;
-      moved = record { read = all.consumed; wrote = unwritten.1.bytes; count = unwritten.1.count; small = omega (arith, all.small, all.most) };
+      moved = record {
+        read = all.consumed;
+        wrote = unwritten.1.bytes;
+        count = unwritten.1.count;
+        small = omega (arith, all.small, all.most);
+      };
       prefix = unwritten.2;
-      fails = seal_fails seals n c.new-sealer.result c.pulls.sealer old new mid now kept.text piece unwritten.0 c.in_err-seal_piece.field-0.0
+      fails = seal_fails seals n c.new-sealer.result c.pulls.sealer old new mid now kept.text piece
+          unwritten.0 c.in_err-seal_piece.field-0.0
           kept.write_failed refl (r.answered.4 ∙ kept.read_failed) kept.goes kept.fresh s.answered;
-    }))
+    }) in
+    rw (p.1, p.2) (record {
+      done = tt;
+      counted = tt;
+      fails = front;
+      settled = tt;
+      named = s.some.wrote.named ∙ kept.wrote.named;
+    })
 
 pub pulls-preserved : goal.pulls-preserved
 pulls-preserved g c =
@@ -122,8 +163,11 @@ pulls-preserved g c =
     let was = view_of_writer g.O.Sink.view c.args.writer.now in
     let mid = view_of_writer g.O.Sink.view c.pulls.writer in
     let now = view_of_writer g.O.Sink.view c.seal_piece.new.writer in
-    let all = rw (← c.bytes.ensures.bytes) at (r.pulled (g.S.Source.view c.args.reader.now.source.now).remaining kept.text kept.pulled) in
-    let done = piece_done seals n c.new-sealer.result c.pulls.sealer c.seal_piece.new.sealer was mid now kept.text piece s.fed s.left s.unwritten kept.goes
+    let all = rw (← c.bytes.ensures.bytes)
+    at (r.pulled (g.S.Source.view c.args.reader.now.source.now).remaining kept.text
+    kept.pulled) in
+    let done = piece_done seals n c.new-sealer.result c.pulls.sealer c.seal_piece.new.sealer was mid
+    now kept.text piece s.fed s.left s.unwritten kept.goes
     kept.fresh kept.wrote s.some positive s.answered.0 s.answered.1 s.answered.3 in
     record {
       feeding = kept.feeding;
@@ -131,7 +175,8 @@ pulls-preserved g c =
       same_reader = kept.same_reader;
       same_writer = c.in_ok-seal_piece.ensures.same_writer ∙ kept.same_writer;
       text = kept.text ++ piece;
-      pulled = subst (λ (k : ℕ). Pulled (g.S.Source.view c.args.reader.now.source.now).remaining (g.S.Source.view c.refill.new.source).remaining k
+      pulled = subst (λ (k : ℕ). Pulled (g.S.Source.view c.args.reader.now.source.now).remaining
+          (g.S.Source.view c.refill.new.source).remaining k
           (kept.text ++ piece)) (sym c.use_all.ensures.pulls) all;
       unread = c.use_all.ensures.bytes;
       plain_is = omega (
@@ -144,7 +189,6 @@ pulls-preserved g c =
       wrote = done.1;
       read_failed = r.answered.4 ∙ kept.read_failed;
       write_failed = s.answered.2 ∙ kept.write_failed;
-      named = c.in_ok-seal_piece.ensures.named ∙ kept.named;
     }
 
 pub finish-requires : goal.finish-requires
@@ -156,12 +200,17 @@ finish-requires g c =
     let n : ℕ = chunk_length in
     let key = c.new-sealer.result.key in
     let fits = front_small (seals key) (opens key) (box_valid key) n kept.text (omega arith) in
-    let product : length kept.text * block_length ≤ 2 ^ 80 * block_length = mul-le (length kept.text) block_length (2 ^ 80) block_length small (omega arith) in
-    record { feeding = kept.goes.feeding; room = omega (arith, c.requires.room, kept.wrote.count, fits, product) }
+    let product : length kept.text * block_length ≤ 2 ^ 80 * block_length =
+    mul-le (length kept.text) block_length (2 ^ 80) block_length small (omega arith) in
+    record {
+      feeding = kept.goes.feeding;
+      room = omega (arith, c.requires.room, kept.wrote.count, fits, product);
+    }
 
-pub returns-in_err-finish-clause-fails : goal.returns-in_err-finish-clause-fails
-returns-in_err-finish-clause-fails g c =
-    let p = err_from_is_err_and c.from_residual-in_err-finish.result c.from_residual-in_err-finish.ensures.1 in
+pub returns-in_err-finish-clause-sealed : goal.returns-in_err-finish-clause-sealed
+returns-in_err-finish-clause-sealed g c =
+    let p = err_from_is_err_and c.from_residual-in_err-finish.result
+    c.from_residual-in_err-finish.ensures.1 in
     let kept = c.pulls.invariant in
     let r = rw c.if-branch.false at c.in_ok-refill.ensures in
     let all = cut_pulled _ _ _ kept.text _ r.answered.0 (r.pulled _ kept.text kept.pulled) in
@@ -173,21 +222,35 @@ returns-in_err-finish-clause-fails g c =
     let was = view_of_writer g.O.Sink.view c.args.writer.now in
     let mid = view_of_writer g.O.Sink.view c.pulls.writer in
     let now = view_of_writer g.O.Sink.view c.finish.new.writer in
-    let old = ports (g.S.Source.view c.args.reader.now.source.now) (g.O.Sink.view c.args.writer.now.sink.now) in
-    let new = ports (g.S.Source.view c.refill.new.source) (g.O.Sink.view c.finish.new.writer.sink.now) in
-    let out = last_written seals n a b was mid now kept.text kept.goes.key (kept.goes.holds [] kept.fresh) kept.wrote l.out l.unwritten l.wrote l.blocks in
-    rw (p.1, p.2) (subst (λ k. SealsFront (seals k) n old new c.args.writer.now.tally.written c.finish.new.writer.tally.written c.in_err-finish.field-0.0)
+    let old = ports (g.S.Source.view c.args.reader.now.source.now)
+    (g.O.Sink.view c.args.writer.now.sink.now) in
+    let new = ports (g.S.Source.view c.refill.new.source)
+    (g.O.Sink.view c.finish.new.writer.sink.now) in
+    let out = last_written seals n a b was mid now kept.text kept.goes.key
+    (kept.goes.holds [] kept.fresh) kept.wrote l.out l.unwritten l.wrote l.blocks in
+    let front = subst (λ k. SealsFront (seals k) n old new c.args.writer.now.tally.written
+    c.finish.new.writer.tally.written c.in_err-finish.field-0.0)
     (ap (λ v. v.key) c.new-sealer.ensures) (record {
       text = kept.text;
       out = front_of (seals a.key) n kept.text ++ l.out;
       moved = record { read = all.consumed; wrote = out.bytes; count = out.count; small = small };
-      prefix = last_begins seals n a b was mid now kept.text kept.goes.key (kept.goes.holds [] kept.fresh) kept.wrote l.out l.unwritten l.wrote l.blocks;
-      fails = subst (λ (f : FileFault). SealingFails (seals a.key) n old new kept.text (front_of (seals a.key) n kept.text ++ l.out) f)
+      prefix = last_begins seals n a b was mid now kept.text kept.goes.key
+          (kept.goes.holds [] kept.fresh) kept.wrote l.out l.unwritten l.wrote l.blocks;
+      fails = subst (λ (f : FileFault). SealingFails (seals a.key) n old new kept.text
+          (front_of (seals a.key) n kept.text ++ l.out) f)
           (sym l.answered.0) (
-            subst (λ (k : ℕ). HasFailed k new.sink.failed new.sink.failing) kept.write_failed l.answered.1,
+            subst (λ (k : ℕ). HasFailed k new.sink.failed new.sink.failing) kept.write_failed
+                l.answered.1,
             r.answered.3 ∙ kept.read_failed,
           );
-    }))
+    }) in
+    rw (p.1, p.2) (record {
+      done = tt;
+      counted = tt;
+      fails = front;
+      settled = tt;
+      named = out.named;
+    })
 
 pub returns-clause-sealed : goal.returns-clause-sealed
 returns-clause-sealed g c =
@@ -202,11 +265,15 @@ returns-clause-sealed g c =
     let was = view_of_writer g.O.Sink.view c.args.writer.now in
     let mid = view_of_writer g.O.Sink.view c.pulls.writer in
     let now = view_of_writer g.O.Sink.view c.finish.new.writer in
-    let old = ports (g.S.Source.view c.args.reader.now.source.now) (g.O.Sink.view c.args.writer.now.sink.now) in
-    let new = ports (g.S.Source.view c.refill.new.source) (g.O.Sink.view c.finish.new.writer.sink.now) in
-    let out = last_whole seals n a b was mid now kept.text kept.goes.key (kept.goes.holds [] kept.fresh) kept.wrote l.out l.unwritten l.wrote l.blocks
+    let old = ports (g.S.Source.view c.args.reader.now.source.now)
+    (g.O.Sink.view c.args.writer.now.sink.now) in
+    let new = ports (g.S.Source.view c.refill.new.source)
+    (g.O.Sink.view c.finish.new.writer.sink.now) in
+    let out = last_whole seals n a b was mid now kept.text kept.goes.key
+    (kept.goes.holds [] kept.fresh) kept.wrote l.out l.unwritten l.wrote l.blocks
     l.answered.0 in
-    subst (λ k. SealsAll (seals k) n old new c.args.writer.now.tally.written c.finish.new.writer.tally.written c.pulls.plain)
+    let all_sealed = subst (λ k. SealsAll (seals k) n old new c.args.writer.now.tally.written
+    c.finish.new.writer.tally.written c.pulls.plain)
     (ap (λ v. v.key) c.new-sealer.ensures) (record {
       text = kept.text;
       few = omega (arith, l.limit, (kept.goes.holds [] kept.fresh).index);
@@ -214,4 +281,11 @@ returns-clause-sealed g c =
       at_end = r.answered.2;
       plain_is = kept.plain_is;
       none_failed = (r.answered.3 ∙ kept.read_failed, l.answered.1 ∙ kept.write_failed);
-    })
+    }) in
+    record {
+      done = all_sealed;
+      counted = refl;
+      fails = tt;
+      settled = c.in_ok-finish.ensures.settled;
+      named = out.named;
+    }

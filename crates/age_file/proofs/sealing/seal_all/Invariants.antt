@@ -15,15 +15,17 @@ invariant-pulls g l = record {
   same_reader : SameReader l.fn.reader l.reader;
   same_writer : SameWriter l.fn.writer l.writer;
   text : List ℕ;
-  pulled : Pulled (g.S.Source.view l.fn.reader.source.now).remaining (g.S.Source.view l.reader.source.now).remaining l.reader.intake.now.pulls text;
+  pulled : Pulled (g.S.Source.view l.fn.reader.source.now).remaining
+      (g.S.Source.view l.reader.source.now).remaining l.reader.intake.now.pulls text;
   unread : l.reader.intake.now.bytes ≡ [];
   plain_is : l.plain ≡ length text;
   goes : GoesOn seals chunk_length l.initial.sealer l.sealer text;
   wrote : Wrote (view_of_writer g.O.Sink.view l.fn.writer) (view_of_writer g.O.Sink.view l.writer)
       (front_of (seals l.initial.sealer.key) chunk_length text);
-  read_failed : (g.S.Source.view l.reader.source.now).failed ≡ (g.S.Source.view l.fn.reader.source.now).failed;
-  write_failed : (g.O.Sink.view l.writer.sink.now).failed ≡ (g.O.Sink.view l.fn.writer.sink.now).failed;
-  named : (g.O.Sink.view l.writer.sink.now).label ≡ (g.O.Sink.view l.fn.writer.sink.now).label;
+  read_failed : (g.S.Source.view l.reader.source.now).failed
+      ≡ (g.S.Source.view l.fn.reader.source.now).failed;
+  write_failed : (g.O.Sink.view l.writer.sink.now).failed
+      ≡ (g.O.Sink.view l.fn.writer.sink.now).failed;
 }
 
 abbrev pub decreases-pulls : goal.decreases-pulls

@@ -9,5 +9,6 @@ invariant-loop-block g l = record {
   same : SameReader l.fn.reader l.reader;
   passed : List ℕ;
   size : length passed ≡ l.block * block_length;
-  passes : Passes (view_of_reader g.S.Source.view l.fn.reader) (view_of_reader g.S.Source.view l.reader) passed;
+  passes : Passes (view_of_reader g.S.Source.view l.fn.reader)
+      (view_of_reader g.S.Source.view l.reader) passed;
 }

@@ -2,7 +2,8 @@ use Rattle.std.proofs.Common.{◌++◌, ◌∙◌, refl, take, ap, length, arith
 use Rattle.std.proofs.lemmas.List.{length-drop}
 use Rattle.std.proofs.lemmas.Result.{err_from_is_err_and}
 use Rattle.age_file.specs.Faults.{EndsInHeader}
-use Rattle.age_file.proofs.Bytes.{pull_fails, piece_fails, end_fails, stops_at, cut_pulled, head_pulled}
+use Rattle.age_file.proofs.Bytes.{pull_fails, piece_fails, end_fails, stops_at, cut_pulled}
+use Rattle.age_file.proofs.Bytes.{head_pulled}
 use Rattle.age_file.proofs.head.HeadReader.read.Goals as goal
 
 pub returns-clause-fails : goal.returns-clause-fails
@@ -12,9 +13,11 @@ returns-clause-fails g c =
     let new = g.S.Source.view c.refill.new.source in
     let r = rw c.if-branch.false at c.in_ok-refill.ensures.answered in
     let cuts = rw kept.front.parser_is at c.end.ensures in
-    let all = cut_pulled old.remaining new.remaining c.refill.new.self.pulls kept.held c.refill.new.self.bytes r.0
+    let all = cut_pulled old.remaining new.remaining c.refill.new.self.pulls kept.held
+    c.refill.new.self.bytes r.0
     (c.refill.ensures.pulled old.remaining kept.held kept.pulled) in
-    let inside : EndsInHeader kept.held = record { no_header = cuts.2; no_fault = cuts.3; short = kept.front.inside.short } in
+    let inside : EndsInHeader kept.held =
+    record { no_header = cuts.2; no_fault = cuts.3; short = kept.front.inside.short } in
     rw c.from.ensures (end_fails old new kept.held c.end.result all.consumed r.2 (inside, cuts.0))
 
 pub returns-in_err-refill-clause-fails : goal.returns-in_err-refill-clause-fails
@@ -24,9 +27,11 @@ returns-in_err-refill-clause-fails g c =
     let old = g.S.Source.view c.args.reader.now.source.now in
     let new = g.S.Source.view c.refill.new.source in
     let a = c.in_err-refill.ensures.answered in
-    let all = cut_pulled old.remaining new.remaining c.refill.new.self.pulls kept.held c.refill.new.self.bytes a.0
+    let all = cut_pulled old.remaining new.remaining c.refill.new.self.pulls kept.held
+    c.refill.new.self.bytes a.0
     (c.refill.ensures.pulled old.remaining kept.held kept.pulled) in
-    rw (p.1, p.2) (pull_fails old (g.S.Source.view c.pieces.reader.source.now) new c.pieces.reader.intake.now c.refill.new.self kept.held
+    rw (p.1, p.2) (pull_fails old (g.S.Source.view c.pieces.reader.source.now) new
+    c.pieces.reader.intake.now c.refill.new.self kept.held
     c.in_err-refill.field-0.0 kept.unfailed kept.front.inside all a.2)
 
 pub take-requires : goal.take-requires
@@ -34,14 +39,17 @@ take-requires g c = (c.pieces.invariant.held, c.pieces.invariant.front)
 
 pub returns-in_err-header-clause-fails : goal.returns-in_err-header-clause-fails
 returns-in_err-header-clause-fails g c =
-    let p = err_from_is_err_and c.from_residual-in_err-header.result c.from_residual-in_err-header.ensures.1 in
+    let p = err_from_is_err_and c.from_residual-in_err-header.result
+    c.from_residual-in_err-header.ensures.1 in
     let kept = c.pieces.invariant in
     let old = g.S.Source.view c.args.reader.now.source.now in
     let new = g.S.Source.view c.refill.new.source in
     let r = rw c.if-branch.true at c.in_ok-refill.ensures.answered in
     let all = c.refill.ensures.pulled old.remaining kept.held kept.pulled in
-    let stops = stops_at old.remaining new.remaining kept.held c.refill.new.self.bytes r.1 kept.front.inside all.consumed in
-    rw (p.1, p.2) (piece_fails old new kept.held c.refill.new.self.bytes c.in_err-header.field-0.0 stops all.consumed
+    let stops = stops_at old.remaining new.remaining kept.held c.refill.new.self.bytes r.1
+    kept.front.inside all.consumed in
+    rw (p.1, p.2) (piece_fails old new kept.held c.refill.new.self.bytes c.in_err-header.field-0.0
+    stops all.consumed
     (c.in_err-header.ensures kept.held kept.front))
 
 pub returns-in-Some-clause-found : goal.returns-in-Some-clause-found
@@ -59,8 +67,10 @@ returns-in-Some-clause-found g c =
       len_is = ends.len_is;
       hashed = ends.hashed;
       few = omega (arith, r.1, ap length ends.rest, length-drop ends.taken c.refill.new.self.bytes);
-      pulled = head_pulled old.remaining new.remaining c.refill.new.self c.take.new.intake kept.held bytes ends.taken ends.pulls refl ends.rest all;
-      last = stops_at old.remaining new.remaining kept.held bytes r.1 kept.front.inside all.consumed;
+      pulled = head_pulled old.remaining new.remaining c.refill.new.self c.take.new.intake kept.held
+          bytes ends.taken ends.pulls refl ends.rest all;
+      last = stops_at old.remaining new.remaining kept.held bytes r.1 kept.front.inside
+          all.consumed;
       unfailed = r.4 ∙ kept.unfailed;
     }
 

@@ -9,9 +9,11 @@ invariant-pieces g l = record {
   same : SameReader l.fn.reader l.reader;
   held : List ℕ;
   front : IsFront l.self held;
-  pulled : Pulled (g.S.Source.view l.fn.reader.source.now).remaining (g.S.Source.view l.reader.source.now).remaining l.reader.intake.now.pulls held;
+  pulled : Pulled (g.S.Source.view l.fn.reader.source.now).remaining
+      (g.S.Source.view l.reader.source.now).remaining l.reader.intake.now.pulls held;
   unread : l.reader.intake.now.bytes ≡ [];
-  unfailed : (g.S.Source.view l.reader.source.now).failed ≡ (g.S.Source.view l.fn.reader.source.now).failed;
+  unfailed : (g.S.Source.view l.reader.source.now).failed
+      ≡ (g.S.Source.view l.fn.reader.source.now).failed;
 }
 
 abbrev pub decreases-pieces : goal.decreases-pieces

@@ -1,4 +1,5 @@
-use Rattle.std.proofs.Common.{◌≡◌, ℕ, ◌+◌, ◌*◌, ◌^◌, ◌≤◌, List, [], ◌++◌, length, Option, refl, ap, rules, arith}
+use Rattle.std.proofs.Common.{◌≡◌, ℕ, ◌+◌, ◌*◌, ◌^◌, ◌≤◌, List, [], ◌++◌, length, Option, refl, ap}
+use Rattle.std.proofs.Common.{rules, arith}
 use Rattle.std.proofs.lemmas.List.{length-append}
 use Rattle.std.proofs.KnownBytes.{Consumes-nil, Consumes-kept, Consumes-trans}
 use Rattle.std.specs.Io.KnownBytes.{Consumes}
@@ -7,7 +8,8 @@ use Rattle.age_file.specs.Faults.{pull_room}
 use Rattle.age_file.proofs.intake.Intake.refill.Goals as goal
 
 -- the pulls go on with a piece, or stay where it is empty
-goes_on : (start old new : Option (List ℕ)) (pulls now : ℕ) (bytes piece : List ℕ) → Consumes old new piece → now ≤ pulls + length piece
+goes_on : (start old new : Option (List ℕ)) (pulls now : ℕ) (bytes piece : List ℕ)
+    → Consumes old new piece → now ≤ pulls + length piece
     → length piece + pull_room * pulls ≤ pull_room * now → now ≤ 2 ^ 63
     → Pulled start old pulls bytes → Pulled start new now (bytes ++ piece)
 goes_on start old new pulls now bytes piece read gave small most p = record {
@@ -27,7 +29,8 @@ returns-in-Err g c =
     record {
       answered = (refl {a = []}, same, search rules);
       pulled = λ start bytes p. goes_on start old new c.args.self.now.pulls pulls bytes []
-          (Consumes-kept old old new [] (Consumes-nil old) c.in-Err.ensures.bytes) (omega arith) (omega arith) most p;
+          (Consumes-kept old old new [] (Consumes-nil old) c.in-Err.ensures.bytes) (omega arith)
+          (omega arith) most p;
     }
 
 pub returns-in-Ok-eq0 : goal.returns-in-Ok-eq0
@@ -42,8 +45,14 @@ returns-in-Ok-eq0 g c =
       answered = (
         refl,
         same,
-        read.1 refl (omega (arith, c.pull.auto.into, ap length c.as_mut_slice.ensures.value, c.self.invariant)),
+        read.1 refl (omega (
+          arith,
+          c.pull.auto.into,
+          ap length c.as_mut_slice.ensures.value,
+          c.self.invariant,
+        )),
         c.in-Ok-eq0.ensures.counted,
       );
-      pulled = λ start bytes p. goes_on start old new c.args.self.now.pulls pulls bytes [] read.0 (omega arith) (omega arith) most p;
+      pulled = λ start bytes p. goes_on start old new c.args.self.now.pulls pulls bytes [] read.0
+          (omega arith) (omega arith) most p;
     }
