@@ -1,5 +1,6 @@
 -- What a list of calls does to a reader.
-use Rattle.std.proofs.Common.{inl, inr, ◌≡◌, ◌≢◌, ℕ, ◌<◌, ◌*◌, refl, ap, sym, subst, ◌∙◌, arith, List, [], ◌∷◌, ◌++◌, take}
+use Rattle.std.proofs.Common.{inl, inr, ◌≡◌, ◌≢◌, ℕ, ◌<◌, ◌*◌, refl, ap, sym, subst, ◌∙◌, arith}
+use Rattle.std.proofs.Common.{List, [], ◌∷◌, ◌++◌, take}
 use Rattle.std.proofs.Common.{Bool, true, false}
 use Rattle.std.specs.Prelude.{◌==◌, if◌then◌else◌}
 use Rattle.std.proofs.lemmas.List.{append_assoc, append-nil}
@@ -15,7 +16,8 @@ use Rattle.age_stream.proofs.PublicLaws.{released_is_written}
 use Rattle.age_c.specs.declared.reader.Reader.{Reader}
 use Rattle.age_c.specs.Numbers.{status_of, misused}
 use Rattle.age_c.specs.Readers.{IsAt, key_of, opens, text_of}
-use Rattle.age_c.specs.ReaderCalls.{Call, IsCall, AreCalls, CallsAreWritten, after_block, after_end, given_by, segment_from, texts_of, seals}
+use Rattle.age_c.specs.ReaderCalls.{Call, IsCall, AreCalls, CallsAreWritten, after_block, after_end}
+use Rattle.age_c.specs.ReaderCalls.{given_by, segment_from, texts_of, seals}
 use Rattle.age_c.proofs.ReaderSteps.{key_same, some_is}
 use Rattle.age_chunk.specs.Payload.{chunk_length}
 
@@ -25,7 +27,8 @@ start_piece : (a : ℕ) (b : List ℕ) (ended late : Bool) (piece : List ℕ)
 start_piece a b true late piece = refl
 start_piece a b false late piece = refl
 
-start_given : (is_end : Bool) (bytes : List ℕ) (s : Segment) → (if is_end then after_end bytes s else after_block bytes s).start ≡ s.start
+start_given : (is_end : Bool) (bytes : List ℕ) (s : Segment)
+    → (if is_end then after_end bytes s else after_block bytes s).start ≡ s.start
 start_given true bytes s = start_piece s.start s.bytes s.ended s.late bytes
 start_given false bytes s = start_piece s.start s.bytes s.ended s.late bytes
 
@@ -37,7 +40,8 @@ misused_next : (c : Call) (s : Segment) → c.answer ≡ misused → next c s �
 misused_next c s is = ap (λ (n : ℕ). if n == misused then s else given_by c s) is
 
 taken_next : (c : Call) (s : Segment) → c.answer ≢ misused → next c s ≡ given_by c s
-taken_next c s other = ap (λ (b : Bool). if b then s else given_by c s) (ne_eqb c.answer misused other)
+taken_next c s other = ap (λ (b : Bool). if b then s else given_by c s)
+    (ne_eqb c.answer misused other)
 
 -- where a reader stands after calls
 record After (r : Reader) (s next : Segment) (text : List ℕ) (last : Reader) : Type 0 where
@@ -46,14 +50,17 @@ record After (r : Reader) (s next : Segment) (text : List ℕ) (last : Reader) :
   pub start : next.start ≡ s.start
   pub text_is : text_of r next ≡ text_of r s ++ text
 
-one : (r : Reader) (c : Call) (s : Segment) → IsAt r s → IsCall r c → After r s (next c s) c.text c.after
+one : (r : Reader) (c : Call) (s : Segment) → IsAt r s → IsCall r c
+    → After r s (next c s) c.text c.after
 one r c s h (inl idle) =
     let is = misused_next c s idle.0 in
     record {
-      at = subst (λ (t : Segment). IsAt c.after t) (sym is) (subst (λ (r : Reader). IsAt r s) (sym idle.1) h);
+      at = subst (λ (t : Segment). IsAt c.after t) (sym is)
+          (subst (λ (r : Reader). IsAt r s) (sym idle.1) h);
       key = ap key_of idle.1;
       start = ap (λ (s : Segment). s.start) is;
-      text_is = ap (text_of r) is ∙ (sym (append-nil (text_of r s)) ∙ ap (λ (t : List ℕ). text_of r s ++ t) (sym idle.2));
+      text_is = ap (text_of r) is ∙ (sym (append-nil (text_of r s))
+          ∙ ap (λ (t : List ℕ). text_of r s ++ t) (sym idle.2));
     }
 one r c s h (inr taken) =
     let is = taken_next c s taken.0 in
@@ -69,23 +76,33 @@ abbrev pub last_reader : Reader → List Call → Reader
 last_reader r [] = r
 last_reader r (c ∷ calls) = last_reader c.after calls
 
-both : (r : Reader) (c : Call) (s : Segment) (calls : List Call) → After r s (next c s) c.text c.after
-    → After c.after (next c s) (segment_from (next c s) calls) (texts_of calls) (last_reader c.after calls)
-    → After r s (segment_from (next c s) calls) (c.text ++ texts_of calls) (last_reader c.after calls)
+both : (r : Reader) (c : Call) (s : Segment) (calls : List Call)
+    → After r s (next c s) c.text c.after
+    → After c.after (next c s) (segment_from (next c s) calls) (texts_of calls)
+    (last_reader c.after calls)
+    → After r s (segment_from (next c s) calls) (c.text ++ texts_of calls)
+    (last_reader c.after calls)
 both r c s calls first others =
     let there : text_of r (segment_from (next c s) calls) ≡ text_of r (next c s) ++ texts_of calls =
-    subst (λ (k : List ℕ). released (opens k) chunk_length (segment_from (next c s) calls) ≡ released (opens k) chunk_length (next c s) ++ texts_of calls)
+    subst (λ (k : List ℕ). released (opens k) chunk_length (segment_from (next c s) calls)
+    ≡ released (opens k) chunk_length (next c s) ++ texts_of calls)
     first.key others.text_is in
     record {
       at = others.at;
       key = others.key ∙ first.key;
       start = others.start ∙ first.start;
-      text_is = there ∙ (ap (λ (t : List ℕ). t ++ texts_of calls) first.text_is ∙ append_assoc (text_of r s) c.text (texts_of calls));
+      text_is = there ∙ (ap (λ (t : List ℕ). t ++ texts_of calls) first.text_is
+          ∙ append_assoc (text_of r s) c.text (texts_of calls));
     }
 
 all_calls : (calls : List Call) (r : Reader) (s : Segment) → IsAt r s → AreCalls r calls
     → After r s (segment_from s calls) (texts_of calls) (last_reader r calls)
-all_calls [] r s h are = record { at = h; key = refl; start = refl; text_is = sym (append-nil (text_of r s)) }
+all_calls [] r s h are = record {
+  at = h;
+  key = refl;
+  start = refl;
+  text_is = sym (append-nil (text_of r s));
+}
 all_calls (c ∷ calls) r s h are =
     let first = one r c s h are.0 in
     both r c s calls first (all_calls calls c.after (next c s) first.at are.1)
@@ -97,11 +114,14 @@ last_is [] last r are = (refl, are.0)
 last_is (c ∷ before) last r are = last_is before last c.after are.1
 
 -- an end that answers 0 leaves a reader that is done
-done_after : (r : Reader) (c : Call) → IsCall r c → c.is_end ≡ true → c.answer ≡ 0 → c.after.state ≡ 3
-done_after r c (inl idle) is_end zero = let e : 0 ≡ 255 = sym zero ∙ idle.0 in absurd (omega (arith, e))
+done_after : (r : Reader) (c : Call) → IsCall r c → c.is_end ≡ true → c.answer ≡ 0
+    → c.after.state ≡ 3
+done_after r c (inl idle) is_end zero = let e : 0 ≡ 255 =
+    sym zero ∙ idle.0 in absurd (omega (arith, e))
 done_after r c (inr taken) is_end zero = taken.2 is_end zero
 
-done_status : (r : Reader) (s : Segment) → IsAt r s → r.state ≡ 3 → (outcome (opens (key_of r)) chunk_length s).status ≡ Done
+done_status : (r : Reader) (s : Segment) → IsAt r s → r.state ≡ 3
+    → (outcome (opens (key_of r)) chunk_length s).status ≡ Done
 done_status r s h three = some_is (sym h.status ∙ ap (λ (n : ℕ). status_of n r.fault_chunk) three)
 
 pub calls_are_written : CallsAreWritten
@@ -113,16 +133,23 @@ calls_are_written r h calls are text few authentic =
       limit = omega (arith, after.start);
       within = omega (arith, ap (λ (n : ℕ). n * chunk_length) after.start);
     } in
-    let right = released_is_written (seals (key_of r)) (opens (key_of r)) (box_valid (key_of r)) chunk_length positive s text few reached authentic in
-    let none : take (s.start * chunk_length) text ≡ [] = ap (λ (n : ℕ). take (n * chunk_length) text) after.start in
-    let nothing : text_of r (fresh 0) ≡ [] = ap (λ (o : Outcome). flat_map (λ (t : List ℕ). t) o.texts) (fresh_outcome (opens (key_of r)) chunk_length 0) in
+    let right = released_is_written (seals (key_of r)) (opens (key_of r)) (box_valid (key_of r))
+    chunk_length positive s text few reached authentic in
+    let none : take (s.start * chunk_length) text ≡ [] =
+    ap (λ (n : ℕ). take (n * chunk_length) text) after.start in
+    let nothing : text_of r (fresh 0) ≡ [] =
+    ap (λ (o : Outcome). flat_map (λ (t : List ℕ). t) o.texts)
+    (fresh_outcome (opens (key_of r)) chunk_length 0) in
     let is : take (s.start * chunk_length) text ++ text_of r s ≡ texts_of calls =
-    ap (λ (t : List ℕ). t ++ text_of r s) none ∙ (after.text_is ∙ ap (λ (t : List ℕ). t ++ texts_of calls) nothing) in (
+    ap (λ (t : List ℕ). t ++ text_of r s) none
+    ∙ (after.text_is ∙ ap (λ (t : List ℕ). t ++ texts_of calls) nothing) in (
       (right.prefix.0, ap (λ (t : List ℕ). t ++ right.prefix.0) (sym is) ∙ right.prefix.1),
       λ before last parts is_end zero.
           let end = last_is before last r (subst (λ (cs : List Call). AreCalls r cs) parts are) in
           let reader : last_reader r calls ≡ last.after = ap (last_reader r) parts ∙ end.0 in
-          let three : (last_reader r calls).state ≡ 3 = ap (λ (r : Reader). r.state) reader ∙ done_after (last_reader r before) last end.1 is_end zero in
-          let status = subst (λ (k : List ℕ). (outcome (opens k) chunk_length s).status ≡ Done) after.key (done_status (last_reader r calls) s after.at three) in
+          let three : (last_reader r calls).state ≡ 3 = ap (λ (r : Reader). r.state) reader
+          ∙ done_after (last_reader r before) last end.1 is_end zero in
+          let status = subst (λ (k : List ℕ). (outcome (opens k) chunk_length s).status ≡ Done)
+          after.key (done_status (last_reader r calls) s after.at three) in
           sym is ∙ right.done status,
     )

@@ -4,3 +4,5 @@ pub mod Starts
 pub mod ReaderCalls
 pub mod Writers
 pub mod WriterCalls
+pub mod Answers
+pub mod inner

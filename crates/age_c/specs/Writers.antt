@@ -1,5 +1,5 @@
 -- What a writer's numbers stand for, and what one call does.
-use Rattle.std.specs.Prelude.{◌≡◌, ℕ, ◌+◌, ◌*◌, ◌<◌, ◌≤◌, false}
+use Rattle.std.specs.Prelude.{◌≡◌, ◌≢◌, ℕ, ◌+◌, ◌*◌, ◌<◌, ◌≤◌, false}
 use Rattle.std.specs.Prelude.{List, [], ◌++◌, length, take, drop, map}
 use Rattle.std.specs.List.{enumerate_from}
 use Rattle.std.specs.Simd.{first_chunks}
@@ -58,6 +58,16 @@ pub record SealsLast (rest : List ℕ) (old : Writer) (bytes : List ℕ) (new : 
       → chunk_count chunk_length (text ++ rest) ≤ chunk_limit
   pub finished : new.state ≡ 2
   pub same : SameFile old new
+
+-- what a call does that isn't misused: it writes its part of the file, or refuses
+pub record WritesOrRefuses (Writes : List ℕ → Writer → Type 0) (Refuses : ℕ → Type 0)
+    (old : Writer) (answer : ℕ) (bytes : List ℕ) (new : Writer) : Type 0 where
+  -- 0 says that the bytes are that part, and that the writer stands after it
+  pub wrote : answer ≡ 0 → Writes bytes new
+  -- any other answer says why it refused
+  pub refused : answer ≢ 0 → Refuses answer
+  -- after a refusal the writer is as it was
+  pub same : answer ≢ 0 → new ≡ old
 
 -- a call that isn't misused has a writer that can be used, a whole chunk, and room for its block
 pub record IsChunkCall (w : Writer) (chunk out : List ℕ) : Type 0 where

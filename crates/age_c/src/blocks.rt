@@ -1,16 +1,16 @@
 //! Opens the blocks of a payload.
 
-ghost use Rattle.std.specs.Prelude.{◌≡◌, ◌≢◌, ◌+◌, ◌<◌, ◌≤◌, ◌++◌, [], length, take, drop};
-ghost use Rattle.std.specs.Prelude.{IfSome, IfNone, Some, true, false};
-ghost use Rattle.age_chunk.specs.Nonce.{chunk_limit};
+ghost use Rattle.std.specs.Prelude.{◌≡◌, ◌≢◌, ◌+◌, ◌<◌, ◌≤◌, [], length, take, drop};
+ghost use Rattle.std.specs.Prelude.{IfSome, IfNone, Some, false};
 ghost use Rattle.age_stream.specs.Deliveries.{with_piece, with_end};
 ghost use Rattle.age_stream.specs.Lent.{chunk_bytes};
-ghost use Rattle.age_stream.specs.Opening.{Stands, has_failed};
-ghost use Rattle.age_stream.specs.Segment.{Segment, released};
+ghost use Rattle.age_stream.specs.Opening.{has_failed};
+ghost use Rattle.age_c.specs.Answers.{PutsFront};
 ghost use Rattle.age_c.specs.Numbers.{answer_of, status_of};
-ghost use Rattle.age_c.specs.ReaderCalls.{Takes, TakesEnd, after_block};
-ghost use Rattle.age_c.specs.Readers.{CanBeUsed, SameFile, opens};
+ghost use Rattle.age_c.specs.ReaderCalls.{IsBlockCall, IsEndCall, Takes, TakesEnd, after_block};
+ghost use Rattle.age_c.specs.Readers.{CanBeUsed};
 ghost use Rattle.age_c.specs.Readers.{key_of as key_in};
+ghost use Rattle.age_c.specs.inner.Blocks.{Keeps, PassesOn};
 ghost use Rattle.age_chunk.specs.Payload.{chunk_length, block_length};
 ghost use Rattle.age_chunk.specs.ChunkBoxes.{tag_length};
 
@@ -70,12 +70,7 @@ fn put_chunk(chunk: Option<&[u8]>, out: &mut [u8]) -> usize
 
 /// Keeps where an opener stands.
 fn keep(reader: &mut Reader, index: u64, status: Status)
-    ensures status { status_of reader.new.state reader.new.fault_chunk ≡ Some status }
-    ensures index { reader.new.chunk ≡ index }
-    ensures unfailed { has_failed status ≡ false → answer_of reader.new.state ≡ 0 }
-    ensures done { status ≡ Status.Done → reader.new.state ≡ 3 }
-    ensures failed { has_failed status ≡ true → answer_of reader.new.state ≢ 0 }
-    ensures same { SameFile reader.old reader.new }
+    ensures { Keeps index status reader.old reader.new }
 {
     let (state, fault_chunk) = numbers_of(status);
     reader.chunk = index;
@@ -88,16 +83,9 @@ fn feed_block(opener: &mut PayloadOpener<'_>, block: &[u8], out: &mut [u8]) -> u
     requires held { opener.old.held ≡ [] }
     requires block { length block.now ≡ block_length }
     requires room { chunk_length ≤ length out.old }
-    ensures key { opener.new.key ≡ opener.old.key }
-    ensures stands { (s : Segment) → Stands opens chunk_length opener.old s
-        → Stands opens chunk_length opener.new (with_piece s block.now) }
-    ensures text { (s : Segment) → Stands opens chunk_length opener.old s
-        → released (opens opener.old.key) chunk_length (with_piece s block.now)
-        ≡ released (opens opener.old.key) chunk_length s ++ take result out.new }
-    ensures nothing { has_failed opener.new.status ≡ true → result ≡ 0 }
-    ensures was_open { opener.new.status ≡ Status.Open → opener.old.status ≡ Status.Open }
-    ensures after { drop result out.new ≡ drop result out.old }
-    ensures most { result ≤ length out.new }
+    ensures passes { PassesOn (λ s. with_piece s block.now) opener.old opener.new
+        (take result out.new) }
+    ensures put { PutsFront result out.old out.new }
 {
     match opener.feed(block) {
         Ok(step) => put_chunk(step.chunk, out),
@@ -109,12 +97,7 @@ fn feed_block(opener: &mut PayloadOpener<'_>, block: &[u8], out: &mut [u8]) -> u
 fn feed_rest(opener: &mut PayloadOpener<'_>, rest: &[u8])
     requires held { opener.old.held ≡ [] }
     requires rest { length rest.now < block_length }
-    ensures key { opener.new.key ≡ opener.old.key }
-    ensures stands { (s : Segment) → Stands opens chunk_length opener.old s
-        → Stands opens chunk_length opener.new (with_piece s rest.now) }
-    ensures text { (s : Segment) → Stands opens chunk_length opener.old s
-        → released (opens opener.old.key) chunk_length (with_piece s rest.now)
-        ≡ released (opens opener.old.key) chunk_length s }
+    ensures passes { PassesOn (λ s. with_piece s rest.now) opener.old opener.new [] }
     ensures room { has_failed opener.new.status ≡ false
         → length opener.new.held ≤ length rest.now }
 {
@@ -128,17 +111,10 @@ fn feed_rest(opener: &mut PayloadOpener<'_>, rest: &[u8])
 fn end_opener(opener: &mut PayloadOpener<'_>, out: &mut [u8]) -> usize
     requires room { has_failed opener.old.status ≡ false
         → length opener.old.held ≤ length out.old + tag_length }
-    ensures key { opener.new.key ≡ opener.old.key }
-    ensures stands { (s : Segment) → Stands opens chunk_length opener.old s
-        → Stands opens chunk_length opener.new (with_end s) }
-    ensures text { (s : Segment) → Stands opens chunk_length opener.old s
-        → released (opens opener.old.key) chunk_length (with_end s)
-        ≡ released (opens opener.old.key) chunk_length s ++ take result out.new }
-    ensures nothing { has_failed opener.new.status ≡ true → result ≡ 0 }
+    ensures passes { PassesOn with_end opener.old opener.new (take result out.new) }
     ensures closed { opener.new.status ≢ Status.Open }
     ensures done { has_failed opener.new.status ≡ false → opener.new.status ≡ Status.Done }
-    ensures after { drop result out.new ≡ drop result out.old }
-    ensures most { result ≤ length out.new }
+    ensures put { PutsFront result out.old out.new }
 {
     match opener.end() {
         Ok(text) => put(text, out),
@@ -148,14 +124,11 @@ fn end_opener(opener: &mut PayloadOpener<'_>, out: &mut [u8]) -> usize
 
 /// Opens a whole block, and returns how many bytes of text it put into `out`.
 pub(crate) fn open_block(reader: &mut Reader, status: Status, block: &[u8], out: &mut [u8]) -> usize
+    requires call { IsBlockCall reader.old block.now out.old }
     requires status { status_of reader.old.state reader.old.fault_chunk ≡ Some status }
-    requires limit { reader.old.chunk < chunk_limit }
-    requires block { length block.now ≡ block_length }
-    requires room { chunk_length ≤ length out.old }
     ensures takes { Takes (after_block block.now) reader.old (answer_of reader.new.state)
         (take result out.new) reader.new }
-    ensures after { drop result out.new ≡ drop result out.old }
-    ensures most { result ≤ length out.new }
+    ensures put { PutsFront result out.old out.new }
 {
     let key = key_of(reader);
     let mut opener = PayloadOpener::between(&key, reader.chunk, status);
@@ -167,14 +140,11 @@ pub(crate) fn open_block(reader: &mut Reader, status: Status, block: &[u8], out:
 /// Opens what is left before the end, which is shorter than a block, and returns how many bytes of
 /// text it put into `out`.
 pub(crate) fn open_last(reader: &mut Reader, status: Status, rest: &[u8], out: &mut [u8]) -> usize
+    requires call { IsEndCall reader.old rest.now out.old }
     requires status { status_of reader.old.state reader.old.fault_chunk ≡ Some status }
-    requires limit { reader.old.chunk < chunk_limit }
-    requires rest { length rest.now < block_length }
-    requires room { chunk_length ≤ length out.old }
     ensures takes { TakesEnd rest.now reader.old (answer_of reader.new.state)
         (take result out.new) reader.new }
-    ensures after { drop result out.new ≡ drop result out.old }
-    ensures most { result ≤ length out.new }
+    ensures put { PutsFront result out.old out.new }
 {
     let key = key_of(reader);
     let mut opener = PayloadOpener::between(&key, reader.chunk, status);

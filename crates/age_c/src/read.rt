@@ -1,6 +1,6 @@
 //! The functions by which C reads a payload.
 
-ghost use Rattle.std.specs.Prelude.{◌≡◌, ◌≢◌, ◌≤◌, length, take, drop};
+ghost use Rattle.age_c.specs.Answers.{Answers};
 ghost use Rattle.age_c.specs.ReaderCalls.{IsBlockCall, IsEndCall, Takes, TakesEnd, after_block};
 
 use crate::MISUSED;
@@ -19,13 +19,9 @@ pub extern "C" fn age_c_block(
     out: &mut [u8],
     written: &mut usize,
 ) -> u32
-    ensures taken { result ≢ 255 → Takes (after_block block.now) reader.old result
-        (take written.new out.new) reader.new }
-    ensures after { drop written.new out.new ≡ drop written.new out.old }
-    ensures most { written.new ≤ length out.new }
-    ensures fits { IsBlockCall reader.old block.now out.old → result ≢ 255 }
-    ensures meant { result ≢ 255 → IsBlockCall reader.old block.now out.old }
-    ensures misused { result ≡ 255 → (reader.new ≡ reader.old) × (written.new ≡ 0) }
+    ensures { Answers (IsBlockCall reader.old block.now out.old)
+        (Takes (after_block block.now) reader.old)
+        reader.old reader.new result written.new out.old out.new }
 {
     *written = 0;
     let Some(status) = status_at(reader) else {
@@ -48,13 +44,8 @@ pub extern "C" fn age_c_end(
     out: &mut [u8],
     written: &mut usize,
 ) -> u32
-    ensures taken { result ≢ 255
-        → TakesEnd rest.now reader.old result (take written.new out.new) reader.new }
-    ensures after { drop written.new out.new ≡ drop written.new out.old }
-    ensures most { written.new ≤ length out.new }
-    ensures fits { IsEndCall reader.old rest.now out.old → result ≢ 255 }
-    ensures meant { result ≢ 255 → IsEndCall reader.old rest.now out.old }
-    ensures misused { result ≡ 255 → (reader.new ≡ reader.old) × (written.new ≡ 0) }
+    ensures { Answers (IsEndCall reader.old rest.now out.old) (TakesEnd rest.now reader.old)
+        reader.old reader.new result written.new out.old out.new }
 {
     *written = 0;
     let Some(status) = status_at(reader) else {

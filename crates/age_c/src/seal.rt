@@ -1,9 +1,10 @@
 //! The functions by which C writes a file.
 
-ghost use Rattle.std.specs.Prelude.{◌≡◌, ◌≢◌, ◌+◌, ◌≤◌, ◌↔◌, IsTrue, length, take, drop};
+ghost use Rattle.std.specs.Prelude.{◌≡◌, ◌+◌, ◌↔◌, IsTrue};
 ghost use Rattle.age_chunk.specs.Nonce.{chunk_limit};
-ghost use Rattle.age_c.specs.Writers.{BeginsFile, CanBeUsed, IsChunkCall, IsLastCall, IsStartCall};
-ghost use Rattle.age_c.specs.Writers.{SealsChunk, SealsLast};
+ghost use Rattle.age_c.specs.Answers.{Answers};
+ghost use Rattle.age_c.specs.Writers.{CanBeUsed, IsStartCall, IsChunkCall, IsLastCall};
+ghost use Rattle.age_c.specs.Writers.{WritesOrRefuses, BeginsFile, SealsChunk, SealsLast};
 
 use crate::MISUSED;
 use crate::blocks::put;
@@ -39,14 +40,9 @@ pub extern "C" fn age_c_seal_passphrase(
     written: &mut usize,
     writer: &mut Writer,
 ) -> u32
-    ensures begun { result ≡ 0
-        → BeginsFile pass.now work random.now (take written.new out.new) writer.new }
-    ensures after { drop written.new out.new ≡ drop written.new out.old }
-    ensures most { written.new ≤ length out.new }
-    ensures memory { result ≢ 0 → result ≢ 255 → result ≡ 28 }
-    ensures fits { IsStartCall pass.now work random.now out.old → result ≢ 255 }
-    ensures meant { result ≢ 255 → IsStartCall pass.now work random.now out.old }
-    ensures same { result ≢ 0 → (writer.new ≡ writer.old) × (written.new ≡ 0) }
+    ensures { Answers (IsStartCall pass.now work random.now out.old)
+        (WritesOrRefuses (BeginsFile pass.now work random.now) (λ answer. answer ≡ 28) writer.old)
+        writer.old writer.new result written.new out.old out.new }
 {
     *written = 0;
     let Some(random) = random.as_array::<48>() else {
@@ -76,15 +72,10 @@ pub extern "C" fn age_c_seal_block(
     out: &mut [u8],
     written: &mut usize,
 ) -> u32
-    ensures sealed { result ≡ 0
-        → SealsChunk text.now writer.old (take written.new out.new) writer.new }
-    ensures after { drop written.new out.new ≡ drop written.new out.old }
-    ensures most { written.new ≤ length out.new }
-    ensures too_many { result ≢ 0 → result ≢ 255
-        → (result ≡ 22) × (writer.old.chunk + 1 ≡ chunk_limit) }
-    ensures fits { IsChunkCall writer.old text.now out.old → result ≢ 255 }
-    ensures meant { result ≢ 255 → IsChunkCall writer.old text.now out.old }
-    ensures same { result ≢ 0 → (writer.new ≡ writer.old) × (written.new ≡ 0) }
+    ensures { Answers (IsChunkCall writer.old text.now out.old)
+        (WritesOrRefuses (SealsChunk text.now writer.old)
+        (λ answer. (answer ≡ 22) × (writer.old.chunk + 1 ≡ chunk_limit)) writer.old)
+        writer.old writer.new result written.new out.old out.new }
 {
     *written = 0;
     if !can_be_used(writer) || text.len() != CHUNK_LEN || out.len() < BLOCK_LEN {
@@ -106,14 +97,9 @@ pub extern "C" fn age_c_seal_end(
     out: &mut [u8],
     written: &mut usize,
 ) -> u32
-    ensures sealed { result ≡ 0
-        → SealsLast rest.now writer.old (take written.new out.new) writer.new }
-    ensures after { drop written.new out.new ≡ drop written.new out.old }
-    ensures most { written.new ≤ length out.new }
-    ensures answers { result ≢ 0 → result ≡ 255 }
-    ensures fits { IsLastCall writer.old rest.now out.old → result ≢ 255 }
-    ensures meant { result ≢ 255 → IsLastCall writer.old rest.now out.old }
-    ensures same { result ≢ 0 → (writer.new ≡ writer.old) × (written.new ≡ 0) }
+    ensures { Answers (IsLastCall writer.old rest.now out.old)
+        (WritesOrRefuses (SealsLast rest.now writer.old) (λ _. ⊥) writer.old)
+        writer.old writer.new result written.new out.old out.new }
 {
     *written = 0;
     if !can_be_used(writer) || rest.len() > CHUNK_LEN || (rest.is_empty() && writer.chunk > 0) {

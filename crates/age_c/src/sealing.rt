@@ -5,10 +5,11 @@ ghost use Rattle.age_cipher.specs.Aead.{sealing as sealing_with};
 ghost use Rattle.age_chunk.specs.Nonce.{chunk_limit, nonce_bytes};
 ghost use Rattle.age_keys.specs.Passphrase.{IsAllowed};
 ghost use Rattle.age_c.specs.Starts.{number_of};
-ghost use Rattle.age_c.specs.Writers.{CanBeUsed, IsFront, SealsChunk, SealsLast};
+ghost use Rattle.age_c.specs.Answers.{PutsFront};
+ghost use Rattle.age_c.specs.Writers.{IsChunkCall, IsFront, IsLastCall, SealsChunk, SealsLast};
 ghost use Rattle.age_c.specs.Writers.{key_in, nonce_in, salt_in};
 ghost use Rattle.age_c.specs.Writers.{key_of as key_of_writer};
-ghost use Rattle.age_chunk.specs.Payload.{chunk_length, block_length};
+ghost use Rattle.age_chunk.specs.Payload.{chunk_length};
 ghost use Rattle.age_chunk.specs.ChunkBoxes.{tag_length};
 
 use crate::start::StartFault;
@@ -109,13 +110,10 @@ fn seal_chunk(writer: &Writer, last: bool, text: &[u8], out: &mut [u8]) -> usize
 
 /// Seals a whole chunk that isn't the last into `out`, and returns the length of its block.
 pub(crate) fn seal_next(writer: &mut Writer, chunk: &[u8], out: &mut [u8]) -> usize
-    requires usable { CanBeUsed writer.old }
+    requires call { IsChunkCall writer.old chunk.now out.old }
     requires limit { writer.old.chunk + 1 < chunk_limit }
-    requires chunk { length chunk.now ≡ chunk_length }
-    requires room { block_length ≤ length out.old }
     ensures sealed { SealsChunk chunk.now writer.old (take result out.new) writer.new }
-    ensures after { drop result out.new ≡ drop result out.old }
-    ensures most { result ≤ length out.new }
+    ensures put { PutsFront result out.old out.new }
 {
     let len = seal_chunk(writer, false, chunk, out);
     writer.chunk += 1;
@@ -124,13 +122,9 @@ pub(crate) fn seal_next(writer: &mut Writer, chunk: &[u8], out: &mut [u8]) -> us
 
 /// Seals what is left as the last chunk into `out`, and returns the length of its block.
 pub(crate) fn seal_last(writer: &mut Writer, rest: &[u8], out: &mut [u8]) -> usize
-    requires usable { CanBeUsed writer.old }
-    requires rest { length rest.now ≤ chunk_length }
-    requires some { length rest.now ≡ 0 → writer.old.chunk ≡ 0 }
-    requires room { length rest.now + tag_length ≤ length out.old }
+    requires { IsLastCall writer.old rest.now out.old }
     ensures sealed { SealsLast rest.now writer.old (take result out.new) writer.new }
-    ensures after { drop result out.new ≡ drop result out.old }
-    ensures most { result ≤ length out.new }
+    ensures put { PutsFront result out.old out.new }
 {
     let len = seal_chunk(writer, true, rest, out);
     writer.state = 2;
