@@ -208,8 +208,16 @@ not_help words taken (inr version) = subst (λ (ks : Kinds). IsAmong DisplayVers
 same_text : (a b : Text) (o : Option Text) → Some a ≡ o → Some b ≡ o → a ≡ b
 same_text a b o p q = ap (λ (x : Option Text). option_map_or (λ t. t) x []) (p ∙ sym q)
 
+-- a rewriting of all four at once takes half a minute
+abbrev options_with : Option Text → Option Text → Option Text → ℕ → Options
+options_with pass file_key shared max_log = record { pass = pass; file_key = file_key; shared = shared; max_log = max_log }
+
 same_options : (rows : List Row) (u v : IdentityOptions) → IsIdentityOptions rows u → IsIdentityOptions rows v → options_asked u ≡ options_asked v
-same_options rows u v a b = rw (a.pass ∙ sym b.pass, a.file_key ∙ sym b.file_key, a.shared ∙ sym b.shared, a.max_log ∙ sym b.max_log) refl
+same_options rows u v a b =
+    ap (λ t. options_with t (text_of u.file_key) (text_of u.shared) u.max_log) (a.pass ∙ sym b.pass)
+    ∙ (ap (λ t. options_with (text_of v.pass) t (text_of u.shared) u.max_log) (a.file_key ∙ sym b.file_key)
+    ∙ (ap (λ t. options_with (text_of v.pass) (text_of v.file_key) t u.max_log) (a.shared ∙ sym b.shared)
+    ∙ ap (λ t. options_with (text_of v.pass) (text_of v.file_key) (text_of v.shared) t) (a.max_log ∙ sym b.max_log)))
 
 -- two requests that the same words make ask for the same
 pub record IsSame (d e : Decrypting) : Type 0 where
