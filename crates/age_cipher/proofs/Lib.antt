@@ -1,5 +1,7 @@
+pub mod ProductLemmas
 pub mod PolynomialLemmas
 pub mod BlockLemmas
+pub mod SumLemmas
 pub mod ByteLemmas
 pub mod WordLemmas
 pub mod PlaceLemmas
