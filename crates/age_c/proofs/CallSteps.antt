@@ -2,9 +2,10 @@
 use Rattle.std.proofs.Common.{inl, inr, ◌≡◌, ◌≢◌, ℕ, ◌<◌, ◌*◌, refl, ap, sym, subst, ◌∙◌, arith}
 use Rattle.std.proofs.Common.{List, [], ◌∷◌, ◌++◌, take}
 use Rattle.std.proofs.Common.{Bool, true, false}
-use Rattle.std.specs.Prelude.{◌==◌, if◌then◌else◌}
+use Rattle.std.specs.Prelude.{◌==◌, ◌⊎◌, if◌then◌else◌}
 use Rattle.std.proofs.lemmas.List.{append_assoc, append-nil}
-use Rattle.std.proofs.lemmas.Bool.{ne_eqb}
+use Rattle.std.proofs.lemmas.Bool.{ne_eqb, false≢true}
+use Rattle.age_stream.specs.Authentic.{IsSealable}
 use Rattle.age_keys.specs.inner.PayloadBox.{box_valid}
 use Rattle.std.specs.List.{flat_map}
 use Rattle.age_stream.proofs.Fresh.{fresh_outcome}
@@ -12,7 +13,11 @@ use Rattle.age_stream.specs.Segment.{Segment, Outcome, outcome, released}
 use Rattle.age_stream.specs.Deliveries.{with_piece, fresh}
 use Rattle.age_stream.specs.Headline.{IsReached}
 use Rattle.age_stream.specs.declared.step.Status.TheVariants.{Done}
-use Rattle.age_stream.proofs.PublicLaws.{released_is_written}
+use Rattle.age_stream.proofs.PublicLaws.{released_is_written, rest_is_authentic}
+use Rattle.age_stream.specs.Headline.{IsRest}
+use Rattle.age_c.specs.Answers.{Answers}
+use Rattle.age_c.specs.ReaderCalls.{Takes, AnswersAreCalls, CallsGiveBack, call_of}
+use Rattle.std.proofs.lemmas.Bool.Decides.{eqb_tells}
 use Rattle.age_c.specs.declared.reader.Reader.{Reader}
 use Rattle.age_c.specs.Numbers.{status_of, misused}
 use Rattle.age_c.specs.Readers.{IsAt, key_of, opens, text_of}
@@ -153,3 +158,56 @@ calls_are_written r h calls are text few authentic =
           after.key (done_status (last_reader r calls) s after.at three) in
           sym is ∙ right.done status,
     )
+
+-- ---- answers are calls
+
+a_call : (old new : Reader) (is_end : Bool) (bytes before after : List ℕ) (answer written : ℕ)
+    (Fits : Type 0) (Does : ℕ → List ℕ → Reader → Type 0)
+    → Answers Fits Does old new answer written before after
+    → (Does answer (take written after) new
+    → Takes (given_by (call_of is_end bytes answer written after new)) old answer
+    (take written after) new × (is_end ≡ true → answer ≡ 0 → new.state ≡ 3))
+    → ((answer == misused) ≡ true) × (answer ≡ misused)
+    ⊎ ((answer == misused) ≡ false) × (answer ≢ misused)
+    → IsCall old (call_of is_end bytes answer written after new)
+a_call old new is_end bytes before after answer written Fits Does it does (inl is) =
+    inl (is.1, it.idle is.1, ap (λ (n : ℕ). take n after) (it.nothing (λ zero. omega (arith, zero, is.1))))
+a_call old new is_end bytes before after answer written Fits Does it does (inr other) =
+    let did = does (it.taken other.1) in
+    inr (other.1, did.0, did.1)
+
+pub answers_are_calls : AnswersAreCalls
+answers_are_calls old new bytes before after answer written = (
+  λ it. a_call old new false bytes before after answer written _ _ it (λ takes. (takes, λ is. absurd (false≢true is))) (eqb_tells answer misused),
+  λ it. a_call old new true bytes before after answer written _ _ it (λ ends. (ends.takes, λ is zero. ends.done zero)) (eqb_tells answer misused),
+)
+
+pub calls_give_back : CallsGiveBack
+calls_give_back r h calls are text few closed whole =
+    let after = all_calls calls r (fresh 0) h are in
+    let s = segment_from (fresh 0) calls in
+    let positive : 0 < chunk_length = omega arith in
+    let start : s.start ≡ 0 = ap (λ (s : Segment). s.start) whole in
+    let rest : IsRest (seals (key_of r)) (opens (key_of r)) chunk_length text s = record {
+      below = omega (arith, start);
+      bytes = search;
+      ended = ap (λ (s : Segment). s.ended) whole;
+      timely = ap (λ (s : Segment). s.late) whole;
+    } in
+    let sealable : IsSealable (seals (key_of r)) (opens (key_of r)) chunk_length text = record { valid = box_valid (key_of r); some = positive; few = few; closed = closed } in
+    let authentic = rest_is_authentic (seals (key_of r)) (opens (key_of r)) chunk_length text sealable s rest in
+    let reached : IsReached (seals (key_of r)) (opens (key_of r)) chunk_length text s = record {
+      limit = omega (arith, after.start);
+      within = omega (arith, ap (λ (n : ℕ). n * chunk_length) after.start);
+    } in
+    let right = released_is_written (seals (key_of r)) (opens (key_of r)) (box_valid (key_of r))
+    chunk_length positive s text few reached authentic in
+    let none : take (s.start * chunk_length) text ≡ [] =
+    ap (λ (n : ℕ). take (n * chunk_length) text) after.start in
+    let nothing : text_of r (fresh 0) ≡ [] =
+    ap (λ (o : Outcome). flat_map (λ (t : List ℕ). t) o.texts)
+    (fresh_outcome (opens (key_of r)) chunk_length 0) in
+    let is : take (s.start * chunk_length) text ++ text_of r s ≡ texts_of calls =
+    ap (λ (t : List ℕ). t ++ text_of r s) none
+    ∙ (after.text_is ∙ ap (λ (t : List ℕ). t ++ texts_of calls) nothing) in
+    sym is ∙ (right.whole rest).0

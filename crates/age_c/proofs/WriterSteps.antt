@@ -20,7 +20,14 @@ use Rattle.age_c.specs.declared.writer.Writer.{Writer}
 use Rattle.age_c.specs.ReaderCalls.{seals}
 use Rattle.age_c.specs.Writers.{HasSealed, SealsChunk, SealsLast, SameFile, blocks_of, key_of}
 use Rattle.age_c.specs.WriterCalls.{SealCall, IsSealCall, AreSealCalls, CallsArePayload, taken_by}
-use Rattle.age_c.specs.WriterCalls.{writer_after, written_by}
+use Rattle.age_c.specs.WriterCalls.{writer_after, written_by, AnswersAreSealCalls, FilesAreWhole}
+use Rattle.age_c.specs.WriterCalls.{seal_call_of}
+use Rattle.age_c.specs.Answers.{Answers}
+use Rattle.age_c.specs.Numbers.{misused}
+use Rattle.age_c.specs.Writers.{WritesOrRefuses, nonce_in, key_in}
+use Rattle.age_keys.specs.Keys.{payload_key}
+use Rattle.std.proofs.lemmas.Bool.{false≢true}
+use Rattle.std.proofs.Common.{ap₂}
 
 key_same : (was now : Writer) → SameFile was now → key_of now ≡ key_of was
 key_same was now same = cc (same.file_key, same.nonce)
@@ -172,12 +179,16 @@ record After (w : Writer) (text more bytes : List ℕ) (last : Writer) : Type 0 
 abbrev taken : SealCall → List ℕ
 taken c = if c.answer == 0 then c.text else []
 
+not_end : (is_end : Bool) (answer : ℕ) → (is_end ≡ true → answer ≢ 0) → answer ≡ 0 → is_end ≡ false
+not_end true answer other zero = absurd (other refl zero)
+not_end false answer other zero = refl
+
 one_by : (w : Writer) (c : SealCall) (text : List ℕ) → HasSealed w text → IsSealCall w c
-    → c.is_end ≡ false
+    → (c.is_end ≡ true → c.answer ≢ 0)
     → ((c.answer == 0) ≡ true) × (c.answer ≡ 0) ⊎ ((c.answer == 0) ≡ false) × (c.answer ≢ 0)
     → After w text (taken c) c.bytes c.after
 one_by w c text h is middle (inl zero) =
-    let seals = is.1 zero.1 middle in
+    let seals = is.1 zero.1 (not_end c.is_end c.answer middle zero.1) in
     let t : taken c ≡ c.text = ap (λ (b : Bool). if b then c.text else []) zero.0 in
     record {
       sealed = subst (λ (more : List ℕ). HasSealed c.after (text ++ more)) (sym t)
@@ -236,3 +247,40 @@ calls_are_payload w h calls are last is is_end zero =
     sym (ap (λ (k : List ℕ). payload (seals k) chunk_length (taken_by calls ++ last.text))
     (sym after.key)
     ∙ (whole ∙ ap (λ (b : List ℕ). b ++ last.bytes) front))
+
+-- ---- answers are calls
+
+idle_or_did : (old new : Writer) (before after : List ℕ) (answer written : ℕ) (Fits : Type 0)
+    (Does : List ℕ → Writer → Type 0) (Why : ℕ → Type 0)
+    → Answers Fits (WritesOrRefuses Does Why old) old new answer written before after
+    → ((answer == misused) ≡ true) × (answer ≡ misused)
+    ⊎ ((answer == misused) ≡ false) × (answer ≢ misused)
+    → (answer ≢ 0 → (new ≡ old) × (take written after ≡ []))
+    × (answer ≡ 0 → Does (take written after) new)
+idle_or_did old new before after answer written Fits Does Why it (inl is) = (
+  λ some. (it.idle is.1, ap (λ (n : ℕ). take n after) (it.nothing some)),
+  λ zero. absurd (omega (arith, zero, is.1)),
+)
+idle_or_did old new before after answer written Fits Does Why it (inr other) = (
+  λ some. ((it.taken other.1).same some, ap (λ (n : ℕ). take n after) (it.nothing some)),
+  λ zero. (it.taken other.1).wrote zero,
+)
+
+pub answers_are_seal_calls : AnswersAreSealCalls
+answers_are_seal_calls old new text before after answer written = (
+  λ it. let both = idle_or_did old new before after answer written _ _ _ it (eqb_tells answer misused) in
+      (both.0, λ zero middle. both.1 zero, λ zero is. absurd (false≢true is)),
+  λ it. let both = idle_or_did old new before after answer written _ _ _ it (eqb_tells answer misused) in
+      (both.0, λ zero middle. absurd (false≢true (sym middle)), λ zero is. both.1 zero),
+)
+
+pub files_are_whole : FilesAreWhole
+files_are_whole pass work random front w begins calls are last is is_end zero =
+    let whole = calls_are_payload w begins.start calls are last is is_end zero in
+    let key : key_of w ≡ payload_key (key_in random) (nonce_in random) =
+    ap₂ payload_key begins.key begins.nonce in (
+      begins.front.front,
+      begins.front.head,
+      ap₂ (λ (a b : List ℕ). a ++ b) begins.front.parts
+          (whole ∙ ap (λ (k : List ℕ). payload (seals k) chunk_length (taken_by calls ++ last.text)) key),
+    )

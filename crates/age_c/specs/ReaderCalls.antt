@@ -1,15 +1,17 @@
 -- What one call does to a reader, and what a list of calls does.
-use Rattle.std.specs.Prelude.{◌≡◌, ◌≢◌, ◌⊎◌, ℕ, ◌<◌, ◌≤◌, ◌==◌, Bool, true}
-use Rattle.std.specs.Prelude.{List, [], ◌∷◌, ◌++◌, length, if◌then◌else◌}
+use Rattle.std.specs.Prelude.{◌≡◌, ◌≢◌, ◌⊎◌, ℕ, ◌<◌, ◌≤◌, ◌==◌, Bool, true, false}
+use Rattle.std.specs.Prelude.{List, [], ◌∷◌, ◌++◌, length, take, if◌then◌else◌}
 use Rattle.std.specs.List.{flat_map}
 use Rattle.age_cipher.specs.Aead.{sealing as sealing_with}
 use Rattle.age_chunk.specs.ChunkBoxes.{Seals}
 use Rattle.age_chunk.specs.Nonce.{chunk_limit}
-use Rattle.age_chunk.specs.Payload.{chunk_count, chunk_length, block_length}
+use Rattle.age_chunk.specs.Payload.{chunk_count, chunk_length, block_length, payload}
+use Rattle.age_stream.specs.Authentic.{IsClosed}
 use Rattle.age_stream.specs.Segment.{Segment}
 use Rattle.age_stream.specs.Deliveries.{with_piece, with_end, fresh}
 use Rattle.age_stream.specs.Headline.{IsAuthentic, IsPrefixOf}
 use Rattle.age_c.specs.declared.reader.Reader.{Reader}
+use Rattle.age_c.specs.Answers.{Answers}
 use Rattle.age_c.specs.Numbers.{answer_of, misused}
 use Rattle.age_c.specs.Readers.{CanBeUsed, IsAt, SameFile, key_of, opens, text_of}
 
@@ -98,3 +100,35 @@ CallsAreWritten = (r : Reader) → IsAt r (fresh 0) → (calls : List Call) → 
     → IsPrefixOf (texts_of calls) text
     × ((before : List Call) (last : Call) → calls ≡ before ++ last ∷ [] → last.is_end ≡ true
     → last.answer ≡ 0 → texts_of calls ≡ text)
+
+-- the call that such an answer makes
+abbrev pub call_of : Bool → List ℕ → ℕ → ℕ → List ℕ → Reader → Call
+call_of is_end bytes answer written out after = record {
+  is_end = is_end;
+  bytes = bytes;
+  answer = answer;
+  text = take written out;
+  after = after;
+}
+
+-- what the functions promise is that
+abbrev pub AnswersAreCalls : Type 0
+AnswersAreCalls = (old new : Reader) (bytes before after : List ℕ) (answer written : ℕ)
+    → (Answers (IsBlockCall old bytes before) (Takes (after_block bytes) old) old new answer written
+    before after → IsCall old (call_of false bytes answer written after new))
+    × (Answers (IsEndCall old bytes before) (TakesEnd bytes old) old new answer written before after
+    → IsCall old (call_of true bytes answer written after new))
+
+-- where the calls gave a reader a whole payload and its end, they wrote all of its text, and the
+-- reader is done
+abbrev pub CallsGiveBack : Type 0
+CallsGiveBack = (r : Reader) → IsAt r (fresh 0) → (calls : List Call) → AreCalls r calls
+    → (text : List ℕ) → chunk_count chunk_length text ≤ chunk_limit
+    → IsClosed (seals (key_of r)) (opens (key_of r)) chunk_length text
+    → segment_from (fresh 0) calls ≡ record {
+      start = 0;
+      bytes = payload (seals (key_of r)) chunk_length text;
+      ended = true;
+      late = false;
+    }
+    → texts_of calls ≡ text

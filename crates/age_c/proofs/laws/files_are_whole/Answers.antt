@@ -1,0 +1,5 @@
+use Rattle.age_c.proofs.WriterSteps.{files_are_whole}
+use Rattle.age_c.proofs.laws.files_are_whole.Goals as goal
+
+pub returns : goal.returns
+returns c = files_are_whole
