@@ -1,5 +1,5 @@
 -- What a command did, from what its steps did.
-use Rattle.std.proofs.Common.{◌≡◌, ◌∙◌, ◌++◌, ap, sym, inl, inr, Bool, true, false, true≢false, List}
+use Rattle.std.proofs.Common.{◌≡◌, ◌∙◌, ◌⊎◌, ◌++◌, None, ap, sym, inl, inr, Bool, true, false, true≢false, List}
 use Rattle.std.proofs.Common.{Result, OnOk, IfErr}
 use Rattle.std.specs.Prelude.{IsErr, IsErrAnd}
 use Rattle.age_file.specs.Ports.{Ports}
@@ -15,7 +15,7 @@ use Rattle.age_cli_common.specs.Names.{NamesTwice}
 use Rattle.age_cli_common.specs.Orders.{order_asked}
 use Rattle.age_cli_common.specs.Endings.{is_usage}
 use Rattle.age_cli_common.specs.declared.ending.Ending.{Ending}
-use Rattle.age_cli.specs.Acts.{Acts, EndsBefore, OfEngine, Spares, progress_of}
+use Rattle.age_cli.specs.Acts.{Acts, EndsBefore, GivesNone, OfEngine, Spares, progress_of}
 use Rattle.age_cli.specs.Outcomes.{IsUsage, by_result}
 use Rattle.age_cli.specs.Outputs.{Stops, Writes}
 use Rattle.age_cli.proofs.CommandSteps.{not_well, this_error, just_error}
@@ -32,7 +32,7 @@ spares_kept (Drill d) old new kept = λ q to save. ap (λ (f : Files). f q) kept
 
 -- what begins the order of a success begins the whole order
 pub whole_of : (asked : Request) (old new : List Event) → Follows (order_asked asked).done old new → Follows (order_asked asked).whole old new
-whole_of (Encrypt e) old new f = f
+whole_of (Encrypt e) old new f = longer _ (replacing None e.durability) old new f
 whole_of (Decrypt d) old new f = longer _ (replacing (text_of d.save) d.durability) old new f
 whole_of (Resume r) old new f = longer _ (replacing (text_of r.decrypting.save) r.decrypting.durability) old new f
 whole_of (Inspect file) old new f = f
@@ -43,15 +43,17 @@ module _ (IsPorts : Ports → Type 0) (shows : Bool) (asked : Request) (before a
   Acted = Acts IsPorts shows asked before after Unshown (by_result IsUsage r)
 
   -- a command ended early, with this ending
-  pub acts_early : (e : Ending) → IsErr r × IsErrAnd r (λ x. x ≡ e) → after.entries ≡ before.entries → EndsBefore asked e
+  pub acts_early : (e : Ending) → IsErr r × IsErrAnd r (λ x. x ≡ e) → after.entries ≡ before.entries → (shows ≡ true → EndsBefore asked before.entries e)
       → Follows (order_asked asked).done before.events after.events
       → (shows ≡ true → IsUsage e → Follows (order_asked asked).judged before.events after.events)
       → (NamesTwice (order_asked asked).apart → (after.events ≡ before.events) × IsUsage e)
+      → (shows ≡ true → IsUsage e → NamesTwice (order_asked asked).apart ⊎ GivesNone asked before.entries)
       → Unshown → Acted
-  acts_early e is kept early follows judged apart silent = record {
+  acts_early e is kept early follows judged apart blamed silent = record {
     done = not_well r e is _;
-    stops = λ shown. this_error r e is _ (inl (kept, early));
+    stops = λ shown. this_error r e is _ (inl (kept, early shown));
     usage = this_error r e is _ (λ usage. kept);
+    blamed = λ shown. this_error r e is _ (blamed shown);
     spares = λ shown. spares_kept asked before.entries after.entries kept;
     order = whole_of asked before.events after.events follows;
     order_done = not_well r e is _;
@@ -74,6 +76,7 @@ module _ (IsPorts : Ports → Type 0) (shows : Bool) (asked : Request) (before a
         done = done;
         stops = λ shown. IfErr-weaker r _ _ (λ e s. inr s) (stops shown);
         usage = impossible _;
+        blamed = λ shown. impossible _;
         spares = spares;
         order = order;
         order_done = finished;

@@ -4,17 +4,18 @@ use Rattle.std.proofs.Common.{Result, Ok, Err, IfOk, IfErr, OnOk}
 use Rattle.std.specs.Prelude.{IsErr, IsErrAnd, is_some, OnErr}
 use Rattle.std.specs.Io.KnownBytes.{Consumes, IsAtEnd}
 use Rattle.age_fault.specs.declared.fault.FileFault.{FileFault}
-use Rattle.age_fault.specs.declared.fault.FileFault.TheVariants.{Read, BadPosition}
-use Rattle.age_fileset.specs.FileSet.{IsMemoryOr, CreateFails}
-use Rattle.age_fileset.specs.declared.files.CreateFault.{CreateFault}
-use Rattle.age_fileset.specs.declared.files.CreateFault.TheVariants.{SameFile}
-use Rattle.age_fileset.specs.declared.files.CreateFault.TheVariants as create
+use Rattle.age_fault.specs.declared.fault.FileFault.TheVariants.{Read, Write, Memory, BadPosition}
+use Rattle.age_fileset.specs.FileSet.{IsMemoryOr, OpenFails}
+use Rattle.age_fileset.specs.declared.files.OpenFault.{OpenFault}
+use Rattle.age_fileset.specs.declared.files.OpenFault.TheVariants.{SameFile}
+use Rattle.age_fileset.specs.declared.files.OpenFault.TheVariants as create
 use Rattle.age_fileset.specs.Events.{Event}
 use Rattle.age_fileset.specs.FileSet.{FilesView}
 use Rattle.age_cli_common.specs.Endings.{EndsEarly, is_usage}
 use Rattle.age_cli_common.specs.inner.Endings.{ending_of}
 use Rattle.age_cli_common.specs.declared.ending.Ending.{Ending}
 use Rattle.age_cli_common.specs.declared.ending.Ending.TheVariants.{Fault}
+use Rattle.age_cli.specs.Resumptions.{HoldsNoPosition}
 use Rattle.age_cli.specs.inner.Openings.{Judges}
 
 -- what is so of a result that is this error
@@ -44,15 +45,26 @@ early_fault f (inl read) = inl read
 early_fault f (inr memory) = inr (inr memory)
 
 -- and so is one of an output that can't be made
-pub created_early : (shows : Bool) (f : CreateFault) → CreateFails shows f → EndsEarly (ending_of f)
+pub created_early : (shows : Bool) (f : OpenFault) → OpenFails shows Write f → EndsEarly (ending_of f)
 created_early shows SameFile fails = tt
 created_early shows (create.Fault f) (inl write) = inr (inl write)
 created_early shows (create.Fault f) (inr memory) = inr (inr memory)
 
+-- and one of a file that can't be opened to be read
+pub opened_early : (shows : Bool) (f : OpenFault) → OpenFails shows Read f → EndsEarly (ending_of f)
+opened_early shows SameFile fails = tt
+opened_early shows (create.Fault f) fails = early_fault f fails
+
+-- and a refusal of names of one stream
+pub streams_early : (shows : Bool) (f : OpenFault) → OpenFails shows Memory f → EndsEarly (ending_of f)
+streams_early shows SameFile fails = tt
+streams_early shows (create.Fault f) (inl memory) = inr (inr memory)
+streams_early shows (create.Fault f) (inr memory) = inr (inr memory)
+
 -- it isn't the command line's where contracts see the files
-pub created_fault : (shows : Bool) (f : CreateFault) → CreateFails shows f → shows ≡ true → is_usage (ending_of f) ≡ false
-created_fault shows SameFile fails shown = absurd (true≢false (sym shown ∙ fails))
-created_fault shows (create.Fault f) fails shown = refl
+pub created_fault : (shows : Bool) (other : FileFault) (f : OpenFault) → OpenFails shows other f → shows ≡ true → is_usage (ending_of f) ≡ false
+created_fault shows other SameFile fails shown = absurd (true≢false (sym shown ∙ fails))
+created_fault shows other (create.Fault f) fails shown = refl
 
 -- what was read from a file that is there is at its front
 pub front_read : (old new : Option (List ℕ)) (bytes : List ℕ) → is_some old ≡ true → Consumes old new bytes
@@ -68,9 +80,21 @@ whole_read (Some xs) None bytes there read ended = absurd read
 whole_read (Some xs) (Some ys) bytes there read ended = ap Some (read ∙ (ap (λ t. bytes ++ t) ended ∙ append-nil bytes))
 
 -- a fault of the position or of the old text ends `resume` before its output is made
-pub bad_position : (f : FileFault) → IsMemoryOr Read f ⊎ (f ≡ BadPosition) → EndsEarly (Fault f) ⊎ (Fault f ≡ Fault BadPosition)
-bad_position f (inl early) = inl (early_fault f early)
-bad_position f (inr bad) = inr (ap Fault bad)
+pub bad_position : (shows : Bool) (f : OpenFault) (held : Option (List ℕ)) → OpenFails shows Read f ⊎ (f ≡ create.Fault BadPosition)
+    → (f ≡ create.Fault BadPosition → HoldsNoPosition held) → EndsEarly (ending_of f) ⊎ ((ending_of f ≡ Fault BadPosition) × HoldsNoPosition held)
+bad_position shows f held (inl early) none = inl (opened_early shows f early)
+bad_position shows f held (inr bad) none = inr (ap ending_of bad, none bad)
+
+-- a file that can't be opened says nothing of a position
+pub not_bad : (shows : Bool) (f : OpenFault) → OpenFails shows Read f → f ≡ create.Fault BadPosition → ⊥
+not_bad shows SameFile fails bad = cc
+not_bad shows (create.Fault f) (inl read) bad = let same = ap create.Fault (sym read) ∙ bad in cc
+not_bad shows (create.Fault f) (inr memory) bad = let same = ap create.Fault (sym memory) ∙ bad in cc
+
+-- and isn't the command line's where contracts see the files
+pub position_fault : (shows : Bool) (f : OpenFault) → OpenFails shows Read f ⊎ (f ≡ create.Fault BadPosition) → shows ≡ true → is_usage (ending_of f) ≡ false
+position_fault shows f (inl early) shown = created_fault shows Read f early shown
+position_fault shows f (inr bad) shown = ap (λ (x : OpenFault). is_usage (ending_of x)) bad
 
 -- what follows from a result that is well and from one that isn't
 pub either_way : {T E : Type 0} (r : Result T E) (P Q R : Type 0) → OnOk r P → OnErr r Q → (P → R) → (Q → R) → R
@@ -78,6 +102,6 @@ either_way (Ok x) P Q R p q well bad = well p
 either_way (Err e) P Q R p q well bad = bad q
 
 -- what is asked of a choice is asked of what the options say
-pub in_order : {A : Type 0} (shows : Bool) (a b : List Event) (old new : FilesView) (IsRead : A → Type 0) (IsTwice : Type 0) (r : Result A Ending) → a ≡ b
-    → Judges shows a old new IsRead IsTwice r → Judges shows b old new IsRead IsTwice r
-in_order shows a b old new IsRead IsTwice r same judged = subst (λ (order : List Event). Judges shows order old new IsRead IsTwice r) same judged
+pub in_order : {A : Type 0} (shows : Bool) (a b : List Event) (old new : FilesView) (IsRead : A → Type 0) (IsTwice Blame : Type 0) (r : Result A Ending) → a ≡ b
+    → Judges shows a old new IsRead IsTwice Blame r → Judges shows b old new IsRead IsTwice Blame r
+in_order shows a b old new IsRead IsTwice Blame r same judged = subst (λ (order : List Event). Judges shows order old new IsRead IsTwice Blame r) same judged

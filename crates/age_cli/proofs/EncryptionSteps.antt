@@ -1,5 +1,6 @@
 -- What an encryption did, step by step.
-use Rattle.std.proofs.Common.{◌≡◌, ◌∙◌, ◌++◌, ap, sym, List, ℕ, length, Option, Some, append_assoc}
+use Rattle.std.proofs.Common.{◌≡◌, ◌<◌, ◌∙◌, ◌++◌, ap, sym, List, ℕ, length, Option, Some, append_assoc, arith}
+use Rattle.std.proofs.lemmas.List.{length-append}
 use Rattle.age_file.specs.Secrets.{SecretView}
 use Rattle.age_cli.specs.Encryptions.{IsRandomIn}
 use Rattle.age_cli.specs.inner.Randoms.{IsRandom}
@@ -23,3 +24,16 @@ random_in held bytes rest r s is random key salt nonce =
       salt_length = ap length salt ∙ random.salt_length;
       nonce_length = ap length nonce ∙ random.nonce_length;
     }
+
+-- a file with random bytes has 48 of them
+pub too_few : (s : SecretView) (held : Option (List ℕ)) (is : IsRandomIn held s) → length (s.key ++ (s.salt ++ (s.nonce ++ is.rest))) < 48 → ⊥
+too_few s held is few = absurd (omega (
+  arith,
+  few,
+  length-append s.key (s.salt ++ (s.nonce ++ is.rest)),
+  length-append s.salt (s.nonce ++ is.rest),
+  length-append s.nonce is.rest,
+  is.key_length,
+  is.salt_length,
+  is.nonce_length,
+))

@@ -86,7 +86,9 @@ module _ (IsPorts : Ports → Type 0) (engine : Engine) (shows : Bool) (p : Path
           ⊎_elim (λ same. inl same) (λ put. inr (put.0, k.touches put.1)) left,
         ))
     left_out (Ok done) k out_old out_new s (is, left) = inr (
-      ⊎_elim (λ same. inl same) (λ put. inr (ran engine.ends k.ends out_new put)) left,
+      after.sink.taken,
+      ran engine.ends k.ends after.sink.taken refl,
+      left,
       ap (λ (t : Stop). t.position) is,
       ap (λ (t : Stop). t.fault) is,
     )

@@ -28,7 +28,7 @@ use Rattle.age_cli_args.specs.declared.request.Request.{Request}
 use Rattle.age_cli_args.specs.declared.request.Request.TheVariants.{Encrypt, Decrypt, Resume}
 use Rattle.age_cli_common.specs.EventOrders.{Follows, identity_order, preparing, making, replacing}
 use Rattle.age_cli_common.specs.Files.{Files, SparesBoth}
-use Rattle.age_cli_common.specs.Identities.{OpensBy, options_asked, allows_by, refuses_by}
+use Rattle.age_cli_common.specs.Identities.{OpensBy, allows_by, refuses_by}
 use Rattle.age_cli_common.specs.Names.{NamesTwice}
 use Rattle.age_cli_common.specs.Orders.{order_asked, random_name}
 use Rattle.age_cli_common.specs.declared.ending.Ending.{Ending}
@@ -92,13 +92,13 @@ module _ (IsPorts : Ports → Type 0) (shows : Bool) (old opened new : FilesView
   encrypt_acts e secret sealed made found is ends fails named concludes noted apart silent =
       acts_of_engine IsPorts shows (Encrypt e) old opened new Unshown (sealing secret) (record { from = e.from.now; to = e.to.now; save = None }) e.durability
       before after end r (Opened e.pass.now ∷ Opened (random_name (text_of e.random)) ∷ []) (Opened e.from.now ∷ []) before_is after_is refl
-      (sym (append-nil _))
+      refl
       (λ shown P holds. (secret, made shown, holds)) (λ spared. spared) kept found named
       (λ shown empty. subst (λ (n : Result (Unit {0}) Stop). Kept (sealing secret) before after n) (sym is) (kept_sealing secret before after sealed ends fails empty))
       concludes noted apart (λ same. cc) silent
 
   pub decrypt_acts : (d : Decrypting) (keep : Positions) (identity : Identity) (decrypted : Result Done Stopped)
-      → (shows ≡ true → OpensBy old.entries (options_asked d.identity) identity) → (shows ≡ true → Found (paths_of d) old.entries before)
+      → (shows ≡ true → OpensBy old.entries d.identity identity) → (shows ≡ true → Found (paths_of d) old.entries before)
       → keep ≡ kept_for (text_of d.save) → end ≡ opening_end decrypted → Decrypts keep (allows_by identity) (refuses_by identity) before after decrypted
       → Concludes shows (text_of d.save) d.durability after.sink end opened new r
       → opened.events ≡ old.events ++ (identity_order (text_of d.identity.pass) (text_of d.identity.shared)
@@ -116,7 +116,7 @@ module _ (IsPorts : Ports → Type 0) (shows : Bool) (old opened new : FilesView
       (λ same. apart (inr (inl (inl (d.to.now, same, refl))))) silent
 
   pub resume_acts : (a : Resuming) (keep : Positions) (identity : Identity) (from : Position) (first last : SourceView) (resumed : Result Done Stopped)
-      → (shows ≡ true → OpensBy old.entries (options_asked a.decrypting.identity) identity)
+      → (shows ≡ true → OpensBy old.entries a.decrypting.identity identity)
       → (shows ≡ true → WasEarlier a from old.entries first)
       → IsPorts (ports first before.sink) → IsPorts (ports last after.sink)
       → (shows ≡ true → Found (paths_of a.decrypting) old.entries before)

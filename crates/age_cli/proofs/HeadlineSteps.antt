@@ -28,9 +28,10 @@ use Rattle.age_cli_args.specs.declared.request.Resuming.{Resuming}
 use Rattle.age_cli_args.specs.declared.request.Request.{Request}
 use Rattle.age_cli_args.specs.declared.request.Request.TheVariants.{Inspect, Encrypt, Decrypt, Resume, Drill}
 use Rattle.age_cli_args.proofs.Simple.{no_command}
+use Rattle.age_cli_args.proofs.Numbers.{one_number}
 use Rattle.age_cli_common.specs.Files.{Files}
 use Rattle.age_cli_common.specs.declared.identity.Identity.{Identity}
-use Rattle.age_cli_common.specs.Identities.{Options, OpensBy, options_asked, allows_by, refuses_by}
+use Rattle.age_cli_common.specs.Identities.{IsIdentity, OpensBy, allows_by, refuses_by}
 use Rattle.age_cli_common.specs.declared.ending.Ending.{Ending}
 use Rattle.age_cli.specs.Acts.{Acts, EndsBefore, OfEngine}
 use Rattle.age_cli.specs.Engines.{opening, resuming, Ran}
@@ -97,8 +98,8 @@ held_stop IsPorts keep identity input old new position fault text there auth (in
     let w = stop_wrote keep (allows_by identity) (refuses_by identity) s.before s.after stopped s.promise.1 s.promise.2 in
     let begins : IsPrefixOf w.0 text = w.2 text (λ r from is. auth r from (is_read identity input s.before s.after written r s.coming there is)) in
     ⊎_elim (λ same. inl same) (λ put. inr (w.0, put.0 ∙ (s.took ∙ appended s.before.sink.taken s.after.sink.taken w.0 s.empty w.1.0), begins)) left
-held_stop IsPorts keep identity input old new position fault text there auth (inr s) =
-    ⊎_elim (λ same. inl same) (λ whole. inr (text, whole_out IsPorts keep identity input new text there auth whole, ([], append-nil text))) s.0
+held_stop IsPorts keep identity input old new position fault text there auth (inr (taken, ran, left, none, write)) =
+    ⊎_elim (λ same. inl same) (λ put. inr (text, put ∙ whole_out IsPorts keep identity input taken text there auth ran, ([], append-nil text))) left
 
 -- ---- of a decryption that goes on from a position
 
@@ -187,8 +188,8 @@ module _ (identity : Identity) (p : Position) (input old_text : Option (List ℕ
       let front : IsPrefixOf w.0 text = w.2 text (begins_with before.old.remaining s.promise.4) (λ r from is. authentic_run before after written
       r s.coming s.promise.4 from is) in
       ⊎_elim (λ same. inl same) (λ put. inr (w.0, put.0 ∙ (s.took ∙ appended s.before.sink.taken s.after.sink.taken w.0 s.empty w.1.0), front)) left
-  resumed_stop IsPorts keep old new position fault (inr s) =
-      ⊎_elim (λ same. inl same) (λ whole. inr (text, whole_resumed IsPorts keep new whole, ([], append-nil text))) s.0
+  resumed_stop IsPorts keep old new position fault (inr (taken, ran, left, none, write)) =
+      ⊎_elim (λ same. inl same) (λ put. inr (text, put ∙ whole_resumed IsPorts keep taken ran, ([], append-nil text))) left
 
 -- ---- what the words ask for
 
@@ -208,26 +209,23 @@ not_help words taken (inr version) = subst (λ (ks : Kinds). IsAmong DisplayVers
 same_text : (a b : Text) (o : Option Text) → Some a ≡ o → Some b ≡ o → a ≡ b
 same_text a b o p q = ap (λ (x : Option Text). option_map_or (λ t. t) x []) (p ∙ sym q)
 
--- a rewriting of all four at once takes half a minute
-abbrev options_with : Option Text → Option Text → Option Text → ℕ → Options
-options_with pass file_key shared max_log = record { pass = pass; file_key = file_key; shared = shared; max_log = max_log }
-
-same_options : (rows : List Row) (u v : IdentityOptions) → IsIdentityOptions rows u → IsIdentityOptions rows v → options_asked u ≡ options_asked v
-same_options rows u v a b =
-    ap (λ t. options_with t (text_of u.file_key) (text_of u.shared) u.max_log) (a.pass ∙ sym b.pass)
-    ∙ (ap (λ t. options_with (text_of v.pass) t (text_of u.shared) u.max_log) (a.file_key ∙ sym b.file_key)
-    ∙ (ap (λ t. options_with (text_of v.pass) (text_of v.file_key) t u.max_log) (a.shared ∙ sym b.shared)
-    ∙ ap (λ t. options_with (text_of v.pass) (text_of v.file_key) (text_of v.shared) t) (a.max_log ∙ sym b.max_log)))
+same_opens : (rows : List Row) (u v : IdentityOptions) → IsIdentityOptions rows u → IsIdentityOptions rows v → (old : Files) (identity : Identity)
+    → OpensBy old u identity → OpensBy old v identity
+same_opens rows u v a b old identity opens =
+    subst (λ (n : ℕ). IsIdentity old (text_of v.pass) (text_of v.file_key) (text_of v.shared) n identity) (one_number 22 _ u.max_log v.max_log a.max_log b.max_log)
+    (subst (λ (t : Option Text). IsIdentity old (text_of v.pass) (text_of v.file_key) t u.max_log identity) (a.shared ∙ sym b.shared)
+    (subst (λ (t : Option Text). IsIdentity old (text_of v.pass) t (text_of u.shared) u.max_log identity) (a.file_key ∙ sym b.file_key)
+    (subst (λ (t : Option Text). IsIdentity old t (text_of u.file_key) (text_of u.shared) u.max_log identity) (a.pass ∙ sym b.pass) opens)))
 
 -- two requests that the same words make ask for the same
 pub record IsSame (d e : Decrypting) : Type 0 where
-  pub options : options_asked d.identity ≡ options_asked e.identity
+  pub opens : (old : Files) (identity : Identity) → OpensBy old d.identity identity → OpensBy old e.identity identity
   pub from : d.from.now ≡ e.from.now
   pub to : d.to.now ≡ e.to.now
 
 same_decrypting : (rows : List Row) (d e : Decrypting) → IsDecrypting rows d → IsDecrypting rows e → IsSame d e
 same_decrypting rows d e a b = record {
-  options = same_options rows d.identity e.identity a.identity b.identity;
+  opens = same_opens rows d.identity e.identity a.identity b.identity;
   from = same_text d.from.now e.from.now _ a.from b.from;
   to = same_text d.to.now e.to.now _ a.to b.to;
 }
@@ -288,7 +286,7 @@ kept_whole old new status text whole = record { safe = inr (text, whole, ([], ap
 kept_stopped : (old new : Option (List ℕ)) (status : ℕ) (text : List ℕ) → (status ≡ 0 → ⊥) → HoldsNoMore old new text → KeepsOut old new status text
 kept_stopped old new status text failed safe = record { safe = safe; whole = λ zero. absurd (failed zero) }
 
-module _ (words : List Text) (shows : Bool) (IsPorts : Ports → Type 0) (before after : Around) (Unprinted Unshown : Type 0) (status : ℕ) (text : List ℕ)
+module _ (words : List Text) (shows : Bool) (IsPorts : Ports → Type 0) (before after : Around) (Unread Unprinted Unshown : Type 0) (status : ℕ) (text : List ℕ)
     (shown : shows ≡ true) where
   abbrev pub old : Files
   old = before.files.entries
@@ -305,7 +303,7 @@ module _ (words : List Text) (shows : Bool) (IsPorts : Ports → Type 0) (before
   module _ (e : Decrypting) (auth : IsWritersInput e old text) where
     decrypted : (r : Result (Unit {0}) Ending) → OnErr r (status ≡ 0 → ⊥)
         → OnOk r (shows ≡ true → OfEngine IsPorts (Decrypt e) old (λ engine paths. Writes IsPorts engine paths old new))
-        → IfErr r (λ ending. ((new ≡ old) × EndsBefore (Decrypt e) ending)
+        → IfErr r (λ ending. ((new ≡ old) × EndsBefore (Decrypt e) old ending)
         ⊎ OfEngine IsPorts (Decrypt e) old (λ engine paths. Stops IsPorts engine paths old new ending))
         → KeepsOut (old e.to.now) (new e.to.now) status text
     decrypted (Ok done) failed wrote stopped =
@@ -321,7 +319,7 @@ module _ (words : List Text) (shows : Bool) (IsPorts : Ports → Type 0) (before
 
   -- of what is asked, whichever request was made of the words
   pub headline_of : (r : Result (Unit {0}) Ending) → OnErr r (status ≡ 0 → ⊥)
-      → Obeys words shows IsPorts before after Unprinted Unshown (by_result IsRefusal r) → (d : Decrypting) → Requests words (Decrypt d)
+      → Obeys words shows IsPorts before after Unread Unprinted Unshown (by_result IsRefusal r) → (d : Decrypting) → Requests words (Decrypt d)
       → IsWritersInput d old text → KeepsOut (old d.to.now) (new d.to.now) status text
   headline_of r failed (inl o) d (name, rows, asks, is) auth = absurd (no_command words name rows o.none asks)
   headline_of r failed (inr (inr o)) d (name, rows, asks, is) auth = declined r failed o.done asks.taken o.untouched d.to.now
@@ -330,14 +328,14 @@ module _ (words : List Text) (shows : Bool) (IsPorts : Ports → Type 0) (before
       let e = only.0 in
       let same = only.2 in
       let mine : IsWritersInput e old text = λ identity opens run from read.
-      auth identity (subst (λ (x : Options). OpensBy old x identity) same.options opens) run from (subst (λ (t : Text). IsRead identity (old t) run) same.from read) in
+      auth identity (same.opens old identity opens) run from (subst (λ (t : Text). IsRead identity (old t) run) same.from read) in
       let acts = subst (λ (q : Request). Acts IsPorts shows q before.files after.files Unshown (by_result IsRefusal r)) only.1 o.acts in
       subst (λ (t : Text). KeepsOut (old t) (new t) status text) same.to (decrypted e mine r failed acts.done (acts.stops shown))
 
   module _ (s : Resuming) (auth : IsWritersResumption s old text) where
     resumed : (r : Result (Unit {0}) Ending) → OnErr r (status ≡ 0 → ⊥)
         → OnOk r (shows ≡ true → OfEngine IsPorts (Resume s) old (λ engine paths. Writes IsPorts engine paths old new))
-        → IfErr r (λ ending. ((new ≡ old) × EndsBefore (Resume s) ending)
+        → IfErr r (λ ending. ((new ≡ old) × EndsBefore (Resume s) old ending)
         ⊎ OfEngine IsPorts (Resume s) old (λ engine paths. Stops IsPorts engine paths old new ending))
         → KeepsOut (old s.decrypting.to.now) (new s.decrypting.to.now) status text
     resumed (Ok done) failed wrote stopped =
@@ -359,7 +357,7 @@ module _ (words : List Text) (shows : Bool) (IsPorts : Ports → Type 0) (before
         IsPorts (kept_for (text_of d.save)) (old d.to.now) (new d.to.now) did.5.position did.5.fault did.5.output)
 
   pub resumed_headline_of : (r : Result (Unit {0}) Ending) → OnErr r (status ≡ 0 → ⊥)
-      → Obeys words shows IsPorts before after Unprinted Unshown (by_result IsRefusal r) → (a : Resuming) → Requests words (Resume a)
+      → Obeys words shows IsPorts before after Unread Unprinted Unshown (by_result IsRefusal r) → (a : Resuming) → Requests words (Resume a)
       → IsWritersResumption a old text → KeepsOut (old a.decrypting.to.now) (new a.decrypting.to.now) status text
   resumed_headline_of r failed (inl o) a (name, rows, asks, is) auth = absurd (no_command words name rows o.none asks)
   resumed_headline_of r failed (inr (inr o)) a (name, rows, asks, is) auth = declined r failed o.done asks.taken o.untouched a.decrypting.to.now
@@ -373,7 +371,7 @@ module _ (words : List Text) (shows : Bool) (IsPorts : Ports → Type 0) (before
       let mine : IsWritersResumption s old text = record {
         few = auth.few;
         old_text = λ p is all held. auth.old_text p (at p is) all (subst (λ (t : Text). old t ≡ Some all) same.old held);
-        rest = λ p is identity opens run from read. auth.rest p (at p is) identity (subst (λ (x : Options). OpensBy old x identity) d.options opens) run from
+        rest = λ p is identity opens run from read. auth.rest p (at p is) identity (d.opens old identity opens) run from
             (subst (λ (t : Text). IsRead identity (old t) run) d.from read);
       } in
       let acts = subst (λ (q : Request). Acts IsPorts shows q before.files after.files Unshown (by_result IsRefusal r)) only.1 o.acts in

@@ -9,3 +9,4 @@ pub mod FinalSteps
 pub mod HeadlineSteps
 pub mod ObeySteps
 pub mod RunSteps
+pub mod NameSteps

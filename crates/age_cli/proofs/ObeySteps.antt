@@ -1,5 +1,5 @@
 -- What each arm of the part that obeys the words promises, from what its callee does.
-use Rattle.std.proofs.Common.{◌≡◌, ◌∙◌, ◌++◌, ap, sym, subst, refl, inl, inr, List, [], Bool, true, false, true≢false, Option}
+use Rattle.std.proofs.Common.{◌≡◌, ◌∙◌, ◌++◌, ap, sym, subst, refl, inl, inr, List, [], ◌∷◌, Bool, true, false, true≢false, Option}
 use Rattle.std.proofs.Common.{Result, Ok, Err, length, rules}
 use Rattle.std.specs.Borrow.{Bor}
 use Rattle.std.specs.Prelude.{OnOk, IfErr, IsOk, IsErrAnd, ◌==◌}
@@ -21,7 +21,15 @@ use Rattle.age_cli_common.specs.EventOrders.{Follows}
 use Rattle.age_cli_common.specs.Orders.{order_asked}
 use Rattle.age_cli_common.specs.declared.ending.Ending.{Ending}
 use Rattle.age_cli.specs.Acts.{Acts}
-use Rattle.age_cli.specs.Obeying.{IsForHelp, IsRefusal}
+use Rattle.age_cli.specs.Obeying.{IsForHelp, IsRefusal, LacksMemory, Reported}
+use Rattle.age_cli.specs.Inspections.{FailsReport}
+use Rattle.age_cli_args.specs.Requests.{Requests}
+use Rattle.age_cli_args.specs.declared.request.Request.{Request}
+use Rattle.age_cli_common.specs.declared.ending.Ending.TheVariants.{Words, Usage, Fault, Unsaved}
+use Rattle.age_fault.specs.declared.fault.FileFault.TheVariants.{Write, Memory}
+use Rattle.clap.specs.Kinds.{Kinds}
+use Rattle.clap.specs.declared.error.kind.ErrorKind.TheVariants.{OutOfMemory}
+use Rattle.std.proofs.Common.{ℕ, ◌⊎◌}
 use Rattle.age_cli.specs.Outcomes.{IsUsage, by_result}
 use Rattle.age_cli.specs.inner.Endings.{IsForOutput}
 use Rattle.age_cli.proofs.ActSteps.{spares_kept}
@@ -31,6 +39,15 @@ use Rattle.age_cli.proofs.RunSteps.{Implies}
 -- whether there are words
 pub no_words : (ws : List (Bor Text)) (test : Bool) → test ≡ (length ws == 0) → test ≡ true → texts ws ≡ []
 no_words ws test is true_here = let short : length ws ≡ 0 = search rules in ap texts (nil_from_length ws short)
+
+some_texts : (ws : List (Bor Text)) → texts ws ≡ [] → length ws ≡ 0
+some_texts [] none = refl
+some_texts (w ∷ ws) none = cc
+
+pub some_words : (ws : List (Bor Text)) (test : Bool) → test ≡ (length ws == 0) → test ≡ false → texts ws ≡ [] → ⊥
+some_words ws test is false_here none =
+    let zero : (length ws == 0) ≡ true = rw (some_texts ws none) refl in
+    true≢false (sym zero ∙ (sym is ∙ false_here))
 
 -- help or the version is asked for where its text is the refusal
 pub for_help : (words : List Text) (e : Error) → HasKind (refusals words) e → IsForOutput (kind_of e) → IsForHelp words
@@ -55,6 +72,31 @@ refuses (Err e) usage = inl usage
 pub refuses_so : (r : Result (Unit {0}) Ending) → Implies (by_result IsUsage r) (by_result IsRefusal r)
 refuses_so r = record { done = λ P did. did; refused = λ P did. did; stopped = λ Ends did. did; declined = refuses r }
 
+-- words that make a request are refused only where memory was
+pub asked_fails : (words : List Text) (e : Error) → HasKind (refusals words) e → (asked : Request) → Requests words asked → kind_of e ≡ OutOfMemory
+asked_fails words e (inl memory) asked made = memory
+asked_fails words e (inr among) asked (name, rows, asks, is) = absurd (subst (λ (ks : Kinds). IsAmong (kind_of e) ks) asks.taken among)
+
+pub lacks : (r : Result (Unit {0}) Ending) → IsErrAnd r (λ e. e ≡ Fault Memory) → LacksMemory (by_result IsRefusal r)
+lacks (Ok x) is = absurd is
+lacks (Err e) is = (tt, λ usage. true≢false (sym usage ∙ ap is_usage is), is)
+
+-- a report that failed doesn't blame the command line
+pub report_fault : (held : Option (List ℕ)) (e : Ending) → FailsReport held e → is_usage e ≡ false
+report_fault held (Fault fault) fails = refl
+report_fault held (Words text) fails = absurd fails
+report_fault held (Usage usage) fails = absurd fails
+report_fault held (Unsaved fault second) fails = absurd fails
+
+pub reported_by : (r : Result (Unit {0}) Ending) (Report Unprinted : Type 0) (held : Option (List ℕ)) → OnOk r Report → IfErr r (FailsReport held)
+    → IfErr r (λ e. (e ≡ Fault Write) ⊎ Unprinted) → Reported (by_result IsRefusal r) Report Unprinted held
+reported_by r Report Unprinted held done fails unprinted = record {
+  done = done;
+  stops = fails;
+  unprinted = unprinted;
+  accepted = IfErr-weaker r _ _ (λ e f usage. true≢false (sym usage ∙ report_fault held e f)) fails;
+}
+
 always : {A : Type 0} (r : Result A Ending) (P : Type 0) → P → OnOk r P
 always (Ok x) P p = p
 always (Err e) P p = tt
@@ -72,6 +114,7 @@ module _ (IsPorts : Ports → Type 0) (shows : Bool) (before after : FilesView) 
     done = always r _ (λ shown. tt);
     stops = λ shown. every_fault r _ (λ e. inr tt);
     usage = every_fault r _ (λ e usage. kept);
+    blamed = λ shown. every_fault r _ (λ e usage. inr tt);
     spares = λ shown. spares_kept (Drill d) before.entries after.entries kept;
     order = whole;
     order_done = finished;
@@ -91,6 +134,7 @@ module _ (IsPorts : Ports → Type 0) (shows : Bool) (before after : FilesView) 
         done = always r _ (λ shown. tt);
         stops = λ shown. every_fault r _ (λ e. inr tt);
         usage = impossible _;
+        blamed = λ shown. impossible _;
         spares = λ shown. spares_kept (Inspect file) before.entries after.entries kept;
         order = followed before.events after.events _ noted;
         order_done = always r _ noted;

@@ -1,5 +1,5 @@
 -- A run keeps what the part that obeys the words does, whatever says how that ended.
-use Rattle.std.proofs.Common.{inl, inr, List, Bool}
+use Rattle.std.proofs.Common.{inl, inr, ℕ, List, Bool, Option, Some, None}
 use Rattle.clap.specs.Words.{Text}
 use Rattle.age_file.specs.Ports.{Ports}
 use Rattle.age_fileset.specs.FileSet.{FilesView}
@@ -7,7 +7,7 @@ use Rattle.age_cli_args.specs.declared.request.Request.{Request}
 use Rattle.age_cli_args.specs.declared.request.Request.TheVariants.{Inspect, Drill, Encrypt, Decrypt, Resume}
 use Rattle.age_cli_common.specs.declared.ending.Ending.{Ending}
 use Rattle.age_cli.specs.Acts.{Acts}
-use Rattle.age_cli.specs.Obeying.{Around, Answers, Obeys}
+use Rattle.age_cli.specs.Obeying.{Around, Answers, Obeys, Reported}
 use Rattle.age_cli.specs.Outcomes.{Outcome}
 
 -- what is so by one way of saying how it ended is so by another
@@ -23,6 +23,7 @@ acts_so IsPorts shows asked before after Unshown how other i a = record {
   done = i.done _ a.done;
   stops = λ shown. i.stopped _ (a.stops shown);
   usage = i.refused _ a.usage;
+  blamed = λ shown. i.refused _ (a.blamed shown);
   spares = a.spares;
   order = a.order;
   order_done = i.done _ a.order_done;
@@ -32,17 +33,26 @@ acts_so IsPorts shows asked before after Unshown how other i a = record {
   silent = a.silent;
 }
 
-module _ (words : List Text) (shows : Bool) (IsPorts : Ports → Type 0) (before after : Around) (Unprinted Unshown : Type 0) (how other : Outcome) where
-  answers_so : Implies how other → (asked : Request) → Answers words shows IsPorts before after Unprinted Unshown how asked
-      → Answers words shows IsPorts before after Unprinted Unshown other asked
-  answers_so i (Inspect file) a = i.done _ a
-  answers_so i (Drill d) a = λ both. let no = a both in (no.0, i.declined no.1)
+module _ (words : List Text) (shows : Bool) (IsPorts : Ports → Type 0) (before after : Around) (Unread Unprinted Unshown : Type 0) (how other : Outcome) where
+  reported_so : Implies how other → (Report : Type 0) (held : Option (List ℕ)) → Reported how Report Unprinted held → Reported other Report Unprinted held
+  reported_so i Report held r = record {
+    done = i.done _ r.done;
+    stops = i.stopped _ r.stops;
+    unprinted = i.stopped _ r.unprinted;
+    accepted = i.refused _ r.accepted;
+  }
+
+  answers_so : Implies how other → (asked : Request) → Answers words shows IsPorts before after Unread Unprinted Unshown how asked
+      → Answers words shows IsPorts before after Unread Unprinted Unshown other asked
+  answers_so i (Inspect None) a = reported_so i _ _ a
+  answers_so i (Inspect (Some name)) a = (a.0, reported_so i _ _ a.1)
+  answers_so i (Drill d) a = (a.0, λ both. let no = a.1 both in (no.0, i.declined no.1))
   answers_so i (Encrypt e) a = a
   answers_so i (Decrypt d) a = a
   answers_so i (Resume r) a = a
 
-  pub obeys_so : Implies how other → Obeys words shows IsPorts before after Unprinted Unshown how → Obeys words shows IsPorts before after Unprinted Unshown other
-  obeys_so i (inl o) = inl (record { none = o.none; report = i.done _ o.report; untouched = o.untouched; silent = o.silent })
+  pub obeys_so : Implies how other → Obeys words shows IsPorts before after Unread Unprinted Unshown how → Obeys words shows IsPorts before after Unread Unprinted Unshown other
+  obeys_so i (inl o) = inl (record { none = o.none; report = reported_so i _ _ o.report; untouched = o.untouched; silent = o.silent })
   obeys_so i (inr (inl o)) = inr (inl (record {
     asked = o.asked;
     made = o.made;
@@ -54,5 +64,8 @@ module _ (words : List Text) (shows : Bool) (IsPorts : Ports → Type 0) (before
     refused = λ no. i.declined (o.refused no);
     untouched = o.untouched;
     unprinted = o.unprinted;
+    unread = o.unread;
     silent = o.silent;
+    some = o.some;
+    unasked = λ asked made. let m = o.unasked asked made in (i.done _ m.0, i.refused _ m.1, i.stopped _ m.2);
   }))

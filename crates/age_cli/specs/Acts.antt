@@ -11,10 +11,11 @@ use Rattle.age_cli_args.specs.declared.request.ProgressOption.TheVariants.{Silen
 use Rattle.age_cli_args.specs.declared.request.Decrypting.{Decrypting}
 use Rattle.age_cli_args.specs.declared.request.Request.{Request}
 use Rattle.age_cli_args.specs.declared.request.Request.TheVariants.{Encrypt, Decrypt, Resume}
+use Rattle.age_cli_args.specs.declared.request.Request.TheVariants.{Inspect, Drill}
 use Rattle.age_cli_common.specs.Endings.{EndsEarly}
 use Rattle.age_cli_common.specs.EventOrders.{Follows}
 use Rattle.age_cli_common.specs.Files.{Files, SparesBoth}
-use Rattle.age_cli_common.specs.Identities.{OpensBy, options_asked}
+use Rattle.age_cli_common.specs.Identities.{OpensBy}
 use Rattle.age_cli_common.specs.Names.{NamesTwice}
 use Rattle.age_cli_common.specs.Orders.{order_asked}
 use Rattle.age_cli_common.specs.declared.ending.Ending.{Ending}
@@ -24,7 +25,7 @@ use Rattle.age_cli.specs.Encryptions.{MakesSecret}
 use Rattle.age_cli.specs.Engines.{Engine, sealing, opening, resuming}
 use Rattle.age_cli.specs.Outcomes.{Outcome}
 use Rattle.age_cli.specs.Outputs.{Paths, Stops, Writes, kept_for}
-use Rattle.age_cli.specs.Resumptions.{IsPositionIn, old_for}
+use Rattle.age_cli.specs.Resumptions.{HoldsNoPosition, IsPositionIn, old_for}
 
 abbrev pub paths_of : Decrypting → Paths
 paths_of d = record { from = d.from.now; to = d.to.now; save = text_of d.save }
@@ -45,9 +46,19 @@ progress_of (Resume r) = r.decrypting.progress
 progress_of other = Silent
 
 -- how a command ends before its output is written
-abbrev pub EndsBefore : Request → Ending → Type 0
-EndsBefore (Resume r) ending = EndsEarly ending ⊎ (ending ≡ Fault BadPosition)
-EndsBefore other ending = EndsEarly ending
+abbrev pub EndsBefore : Request → Files → Ending → Type 0
+EndsBefore (Resume r) old ending = EndsEarly ending
+    ⊎ ((ending ≡ Fault BadPosition) × HoldsNoPosition (old r.position.now))
+EndsBefore other old ending = EndsEarly ending
+
+-- the options and the files that they name give no secret, or nothing that opens the input; a drill
+-- may be refused for its script too, and `inspect` isn't
+abbrev pub GivesNone : Request → Files → Type 0
+GivesNone (Encrypt e) old = (secret : SecretView) → MakesSecret e old secret → ⊥
+GivesNone (Decrypt d) old = (identity : Identity) → OpensBy old d.identity identity → ⊥
+GivesNone (Resume r) old = (identity : Identity) → OpensBy old r.decrypting.identity identity → ⊥
+GivesNone (Drill d) old = Unit {0}
+GivesNone (Inspect file) old = ⊥
 
 module _ (IsPorts : Ports → Type 0) where
   -- what is asked and what the files hold make an engine, and this holds of it and of the names
@@ -56,11 +67,11 @@ module _ (IsPorts : Ports → Type 0) where
       (secret : SecretView) × MakesSecret e old secret
       × P (sealing secret) (record { from = e.from.now; to = e.to.now; save = None })
   OfEngine (Decrypt d) old P =
-      (identity : Identity) × OpensBy old (options_asked d.identity) identity
+      (identity : Identity) × OpensBy old d.identity identity
       × P (opening (kept_for (text_of d.save)) identity) (paths_of d)
   OfEngine (Resume r) old P =
       let d = r.decrypting in
-      (identity : Identity) × OpensBy old (options_asked d.identity) identity
+      (identity : Identity) × OpensBy old d.identity identity
       × (position : Position) × IsPositionIn (old r.position.now) position
       × (is_some (old_for position (old r.old.now)) ≡ true)
       × P (resuming IsPorts (kept_for (text_of d.save)) identity position
@@ -77,10 +88,13 @@ module _ (IsPorts : Ports → Type 0) where
     -- Nothing differs, or OUT holds what the engine promises for a stop, and the file of `--save`
     -- its position.
     pub stops : shows ≡ true → how.if_stopped (λ ending. ((after.entries ≡ before.entries)
-        × EndsBefore asked ending) ⊎ OfEngine asked before.entries
+        × EndsBefore asked before.entries ending) ⊎ OfEngine asked before.entries
         (λ engine paths. Stops IsPorts engine paths before.entries after.entries ending))
     -- A command line that is refused changes no file.
     pub usage : how.if_refused (after.entries ≡ before.entries)
+    -- Where contracts see the files, it is refused for this alone.
+    pub blamed : shows ≡ true → how.if_refused (NamesTwice (order_asked asked).apart
+        ⊎ GivesNone asked before.entries)
     -- However it ended, no file but OUT and that of `--save` differs.
     pub spares : shows ≡ true → Spares asked before.entries after.entries
     -- What is opened and made, also of the machine's files, is a beginning of the command's order.

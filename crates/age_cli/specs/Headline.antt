@@ -11,7 +11,7 @@ use Rattle.age_file.specs.Verdicts.{HasId, HasTag}
 use Rattle.age_file.specs.declared.position.Position.{Position}
 use Rattle.age_cli_common.specs.Files.{Files}
 use Rattle.age_cli_common.specs.declared.identity.Identity.{Identity}
-use Rattle.age_cli_common.specs.Identities.{allows_by, OpensBy, options_asked}
+use Rattle.age_cli_common.specs.Identities.{allows_by, OpensBy}
 use Rattle.age_cli_args.specs.declared.request.Decrypting.{Decrypting}
 use Rattle.age_cli_args.specs.declared.request.Resuming.{Resuming}
 use Rattle.age_cli.specs.Resumptions.{IsPositionIn}
@@ -32,7 +32,7 @@ pub record IsRead (identity : Identity) (input : Option (List ℕ)) (r : Run) : 
 -- no block of IN opens except as the writer of this text sealed it, however much of IN is read
 abbrev pub IsWritersInput : Decrypting → Files → List ℕ → Type 0
 IsWritersInput d old text =
-    (identity : Identity) → OpensBy old (options_asked d.identity) identity → (r : Run)
+    (identity : Identity) → OpensBy old d.identity identity → (r : Run)
     → IsFromStart r → IsRead identity (old d.from.now) r → IsAuthenticRun r text
 
 -- whatever the status, OUT is as it was or holds a beginning of the text; with status 0, all of it
@@ -52,7 +52,7 @@ pub record BeginsAt (p : Position) (r : Run) : Type 0 where
 -- of IN is read
 abbrev pub IsWritersRest : Decrypting → Files → Position → List ℕ → Type 0
 IsWritersRest d old p text =
-    (identity : Identity) → OpensBy old (options_asked d.identity) identity → (r : Run)
+    (identity : Identity) → OpensBy old d.identity identity → (r : Run)
     → BeginsAt p r → IsRead identity (old d.from.now) r → IsTexts text r
 
 -- the old text begins with the chunks of this text before the position. A chunk has 65,536 bytes.

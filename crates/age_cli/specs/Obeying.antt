@@ -1,17 +1,17 @@
 -- What a run does of what its words ask for.
-use Rattle.std.specs.Prelude.{◌≡◌, ◌⊎◌, ℕ, Bool, List, [], Option, is_some}
+use Rattle.std.specs.Prelude.{◌≡◌, ◌⊎◌, ℕ, Bool, List, [], Option, Some, None, is_some}
 use Rattle.clap.specs.Words.{Text}
 use Rattle.age_cli_args.specs.Asked.{AsksHelp, AsksVersion}
 use Rattle.age_cli_args.specs.Requests.{Requests, text_of}
 use Rattle.age_cli_args.specs.declared.request.Request.{Request}
 use Rattle.age_cli_args.specs.declared.request.Request.TheVariants.{Inspect, Drill}
 use Rattle.age_file.specs.Ports.{Ports}
-use Rattle.age_fault.specs.declared.fault.FileFault.TheVariants.{Memory}
+use Rattle.age_fault.specs.declared.fault.FileFault.TheVariants.{Write, Memory}
 use Rattle.age_fileset.specs.FileSet.{FilesView}
 use Rattle.age_cli_common.specs.declared.ending.Ending.{Ending}
 use Rattle.age_cli_common.specs.declared.ending.Ending.TheVariants.{Fault}
 use Rattle.age_cli.specs.Acts.{Acts}
-use Rattle.age_cli.specs.Inspections.{Reports, Inspects}
+use Rattle.age_cli.specs.Inspections.{Reports, ReportsFile, FailsReport, seen}
 use Rattle.age_cli.specs.Outcomes.{Outcome, IsUsage}
 
 -- what a run works with: the set of files, what the input still has to give, and what the output
@@ -28,33 +28,52 @@ around files input output = record { files = files; input = input; output = outp
 abbrev pub IsRefusal : Ending → Type 0
 IsRefusal ending = IsUsage ending ⊎ (ending ≡ Fault Memory)
 
+-- memory was refused, which is all that was amiss
+abbrev pub LacksMemory : Outcome → Type 0
+LacksMemory how = how.if_done ⊥ × how.if_refused ⊥ × how.if_stopped (λ e. e ≡ Fault Memory)
+
 -- help or the version is asked for
 abbrev pub IsForHelp : List Text → Type 0
 IsForHelp words = AsksHelp words ⊎ AsksVersion words
 
+-- a report was written; or it failed with a fault of what was to be reported, and unless writing did,
+-- nothing was written. The command line is not to blame.
+pub record Reported (how : Outcome) (Report Unprinted : Type 0) (held : Option (List ℕ)) : Type 0
+  where
+    pub done : how.if_done Report
+    pub stops : how.if_stopped (FailsReport held)
+    pub unprinted : how.if_stopped (λ e. (e ≡ Fault Write) ⊎ Unprinted)
+    pub accepted : how.if_refused ⊥
+
 -- `shows` says whether contracts see the files, and `IsPorts` which are the ports of those.
--- `Unprinted` and `Unshown` say that the output and the progress are as they were.
+-- `Unread`, `Unprinted` and `Unshown` say that the input, the output and the progress are as they
+-- were.
 module _ (words : List Text) (shows : Bool) (IsPorts : Ports → Type 0) (before after : Around)
-    (Unprinted Unshown : Type 0) (how : Outcome) where
+    (Unread Unprinted Unshown : Type 0) (how : Outcome) where
   -- Without words the input is reported.
   pub record ReportsInput : Type 0 where
     pub none : words ≡ []
-    -- It was read to its end, and its report and nothing else was written.
-    pub report : how.if_done (Reports before.input after.input before.output after.output)
+    -- It was read to its end, and its report was written.
+    pub report : Reported how (Reports before.input after.input before.output after.output)
+        Unprinted before.input
     -- No file was opened, made or changed.
     pub untouched : after.files ≡ before.files
     -- No progress was shown.
     pub silent : Unshown
 
-  -- `inspect` wrote the report of its file, or of the input, and nothing else. A drill with both or
-  -- neither of `--clear` and `--pass` is refused before a file is opened. Other commands write
-  -- nothing to the output.
+  -- `inspect` reported the input, or its file. A drill with both or neither of `--clear` and
+  -- `--pass` is refused before a file is opened. Other commands write nothing to the output, and
+  -- none of them reads the input.
   abbrev pub Answers : Request → Type 0
-  Answers (Inspect file) = how.if_done (Inspects (text_of file) shows before.files.entries
-      before.input after.input before.output after.output)
-  Answers (Drill d) = d.clear ≡ is_some (text_of d.pass)
-      → (after.files.events ≡ before.files.events) × how.is_refused
-  Answers other = Unprinted
+  Answers (Inspect None) =
+      Reported how (Reports before.input after.input before.output after.output) Unprinted
+      before.input
+  Answers (Inspect (Some name)) = Unread × Reported how (ReportsFile shows
+      (before.files.entries name.now) before.output after.output) Unprinted
+      (seen shows (before.files.entries name.now))
+  Answers (Drill d) = Unread × (d.clear ≡ is_some (text_of d.pass)
+      → (after.files.events ≡ before.files.events) × how.is_refused)
+  Answers other = Unread × Unprinted
 
   -- Words that make a request are obeyed.
   pub record DoesRequest : Type 0 where
@@ -74,8 +93,12 @@ module _ (words : List Text) (shows : Bool) (IsPorts : Ports → Type 0) (before
     pub untouched : after.files ≡ before.files
     -- Only help and the version are written to the output.
     pub unprinted : (IsForHelp words → ⊥) → Unprinted
-    -- No progress was shown.
+    -- The input wasn't read, and no progress was shown.
+    pub unread : Unread
     pub silent : Unshown
+    -- There are words; and they make no request, or memory was refused.
+    pub some : words ≡ [] → ⊥
+    pub unasked : (asked : Request) → Requests words asked → LacksMemory how
 
   -- A run did one of these, of its words.
   abbrev pub Obeys : Type 0

@@ -61,7 +61,8 @@ module _ (IsPorts : Ports → Type 0) (engine : Engine) where
 
   -- or it ended, and OUT could not be closed, and is as it was or whole
   abbrev pub IsUnclosed : Option Position → FileFault → (input old new : Option (List ℕ)) → Type 0
-  IsUnclosed position fault input old new = ((new ≡ old) ⊎ Ran IsPorts engine.ends input new)
+  IsUnclosed position fault input old new = (taken : Option (List ℕ))
+      × Ran IsPorts engine.ends input taken × ((new ≡ old) ⊎ (new ≡ taken))
       × (position ≡ None) × (fault ≡ Write)
 
   -- it stopped so, and then the position was saved

@@ -2,3 +2,4 @@ pub mod Endings
 pub mod Openings
 pub mod Files
 pub mod Randoms
+pub mod Names

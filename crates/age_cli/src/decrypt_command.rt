@@ -3,7 +3,7 @@
 ghost use Rattle.std.specs.Prelude.{◌≡◌, true, Some};
 ghost use Rattle.age_cli_args.specs.Requests.{text_of};
 ghost use Rattle.age_cli_args.specs.declared.request.Request.TheVariants.{Decrypt};
-ghost use Rattle.age_cli_common.specs.Choices.{IsSecretIn, bytes_of, file_of};
+ghost use Rattle.age_cli_common.specs.Choices.{IsEnough, IsSecretIn, bytes_of, file_of};
 ghost use Rattle.age_cli_common.specs.EventOrders.{opening};
 ghost use Rattle.age_cli_common.specs.Names.{NamesTwice};
 ghost use Rattle.age_cli_common.specs.Orders.{order_asked};
@@ -11,6 +11,7 @@ ghost use Rattle.age_cli.specs.Acts.{Acts};
 ghost use Rattle.age_cli.specs.Engines.{PortsOf};
 ghost use Rattle.age_cli.specs.Outcomes.{IsUsage, by_result};
 ghost use Rattle.age_cli.specs.Outputs.{kept_for};
+ghost use Rattle.age_cli.specs.inner.Names.{IsReadAs};
 ghost use Rattle.age_cli.specs.inner.Openings.{Judges};
 
 use crate::output::{Output, conclude, open_both, with_meter};
@@ -24,7 +25,8 @@ use std::alloc::Global;
 
 /// Whether a name is given, and stands for the same file as another.
 pub(crate) fn is_given_as<F: FileSet>(files: &F, given: Option<&str>, name: &str) -> bool
-    ensures { text_of given.entry ≡ Some name.now → result ≡ true }
+    ensures same { text_of given.entry ≡ Some name.now → result ≡ true }
+    ensures shown { F.shows_bytes ≡ true → result ≡ true → text_of given.entry ≡ Some name.now }
 {
     match given {
         Some(given) => files.is_same(given, name),
@@ -38,6 +40,7 @@ fn is_read<F: FileSet>(files: &F, asked: &Decrypting<'_>, name: &str) -> bool
     ensures from { asked.now.from.now ≡ name.now → result ≡ true }
     ensures pass { text_of asked.now.identity.pass ≡ Some name.now → result ≡ true }
     ensures shared { text_of asked.now.identity.shared ≡ Some name.now → result ≡ true }
+    ensures shown { F.shows_bytes ≡ true → result ≡ true → IsReadAs asked.now name.now }
 {
     files.is_same(asked.from, name)
         || is_given_as(files, asked.identity.pass, name)
@@ -47,7 +50,9 @@ fn is_read<F: FileSet>(files: &F, asked: &Decrypting<'_>, name: &str) -> bool
 /// Whether two files that have to differ are one: OUT must differ from each file that is read, and
 /// the file of `--save` from all of these and from OUT.
 pub(crate) fn names_a_file_twice<F: FileSet>(files: &F, asked: &Decrypting<'_>) -> bool
-    ensures { NamesTwice (order_asked (Decrypt asked.now)).apart → result ≡ true }
+    ensures twice { NamesTwice (order_asked (Decrypt asked.now)).apart → result ≡ true }
+    ensures shown { F.shows_bytes ≡ true → result ≡ true
+        → NamesTwice (order_asked (Decrypt asked.now)).apart }
 {
     if is_read(files, asked, asked.to) {
         return true;
@@ -72,20 +77,23 @@ pub(crate) fn positions_for(save: Option<&str>) -> Positions
 }
 
 /// The bytes of the file of what opens the input, if it has one. That isn't read if two files that
-/// have to differ are one.
+/// have to differ are one, or two of the names of what is read stand for one stream.
 pub(crate) fn read_secret<F: FileSet>(
     alloc: Global,
     files: &mut F,
     choice: &Choice<'_>,
     is_file_named_twice: bool,
+    read: &[Option<&str>],
 ) -> Result<Option<Vec<u8>>, Ending>
     ensures { Judges (F.shows_bytes) (opening (file_of choice.now)) (F.view files.old)
         (F.view files.new) (λ secret. IsSecretIn (F.view files.old).entries (file_of choice.now)
-        (bytes_of secret)) (is_file_named_twice ≡ true) result }
+        (bytes_of secret) × IsEnough (F.view files.old).entries choice.now (bytes_of secret))
+        (is_file_named_twice ≡ true) (is_file_named_twice ≡ true) result }
 {
     if is_file_named_twice {
         return Err(Ending::Usage(Usage::SameFile));
     }
+    files.check_streams(alloc, read)?;
     Ok(choice.read(alloc, files)?)
 }
 
@@ -102,7 +110,8 @@ pub fn decrypt_file<F: FileSet, P: Meter>(
 {
     let is_file_named_twice = names_a_file_twice(files, asked);
     let choice = Choice::of(&asked.identity)?;
-    let secret = read_secret(alloc, files, &choice, is_file_named_twice)?;
+    let read = [asked.identity.pass, asked.identity.shared, Some(asked.from)];
+    let secret = read_secret(alloc, files, &choice, is_file_named_twice, &read)?;
     let identity = choice.identity(&secret)?;
     let output = Output {
         to: asked.to,

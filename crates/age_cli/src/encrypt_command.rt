@@ -1,16 +1,18 @@
 //! The command that encrypts a file.
 
-ghost use Rattle.std.specs.Prelude.{◌≡◌, ◌++◌, [], ◌∷◌, ℕ, List, Some, true, IfOk, IfErr, IfSome};
+ghost use Rattle.std.specs.Prelude.{◌≡◌, ◌⊎◌, ◌<◌, ◌++◌, [], ◌∷◌, ℕ, List, length};
+ghost use Rattle.std.specs.Prelude.{Some, true, IfOk, IfErr, IfSome, IfNone};
 ghost use Rattle.std.specs.Io.KnownBytes.{Consumes};
 ghost use Rattle.age_fileset.specs.Events.{Opened};
 ghost use Rattle.age_cli_args.specs.Requests.{text_of};
 ghost use Rattle.age_cli_args.specs.declared.request.Request.TheVariants.{Encrypt};
-ghost use Rattle.age_cli_common.specs.Endings.{EndsEarly};
+ghost use Rattle.age_cli_common.specs.Endings.{EndsEarly, is_usage};
+ghost use Rattle.age_file.specs.Secrets.{SecretView};
 ghost use Rattle.age_cli_common.specs.Files.{Files};
 ghost use Rattle.age_cli_common.specs.Names.{NamesTwice};
 ghost use Rattle.age_cli_common.specs.Orders.{order_asked, random_name};
-ghost use Rattle.age_cli.specs.Acts.{Acts};
-ghost use Rattle.age_cli.specs.Encryptions.{MakesSecret};
+ghost use Rattle.age_cli.specs.Acts.{Acts, GivesNone};
+ghost use Rattle.age_cli.specs.Encryptions.{MakesSecret, IsRandomIn};
 ghost use Rattle.age_cli.specs.Engines.{PortsOf};
 ghost use Rattle.age_cli.specs.Outcomes.{IsUsage, by_result};
 ghost use Rattle.age_cli.specs.inner.Openings.{Judges};
@@ -38,7 +40,8 @@ struct Random {
 
 /// The random parts in bytes: file key, salt and payload nonce.
 fn random_of(bytes: &[u8]) -> Option<Random>
-    ensures { IfSome result (λ r. IsRandom bytes.now r) }
+    ensures parts { IfSome result (λ r. IsRandom bytes.now r) }
+    ensures none { IfNone result (length bytes.now < 48) }
 {
     let (file_key, rest) = bytes.split_first_chunk::<16>()?;
     let (salt, rest) = rest.split_first_chunk::<16>()?;
@@ -54,6 +57,8 @@ fn random_of(bytes: &[u8]) -> Option<Random>
 fn random_in<S: Source>(alloc: Global, source: &mut S) -> Result<Random, Ending>
     ensures read { IfOk result (λ r. (bytes : List ℕ) × Consumes (S.view source.old).remaining
         (S.view source.new).remaining bytes × IsRandom bytes r) }
+    ensures short { IfErr result (λ e. is_usage e ≡ true → (bytes : List ℕ)
+        → (S.view source.old).remaining ≡ Some bytes → length bytes < 48) }
     ensures early { IfErr result EndsEarly }
 {
     let bytes = read_first(alloc, source, 48)?;
@@ -69,6 +74,8 @@ fn read_random<F: FileSet>(alloc: Global, files: &mut F, name: &str) -> Result<R
     ensures read { IfOk result (λ r. F.shows_bytes ≡ true
         → (bytes : List ℕ) × (rest : List ℕ)
         × ((F.view files.old).entries name.now ≡ Some (bytes ++ rest)) × IsRandom bytes r) }
+    ensures short { F.shows_bytes ≡ true → IfErr result (λ e. is_usage e ≡ true
+        → (s : SecretView) → IsRandomIn ((F.view files.old).entries name.now) s → ⊥) }
     ensures noted { (F.view files.new).events ≡ (F.view files.old).events ++ Opened name.now ∷ [] }
     ensures early { IfErr result EndsEarly }
 {
@@ -95,7 +102,9 @@ fn random_name<'a>(asked: &Encrypting<'a>) -> &'a str
 
 /// Whether the output is one of the files that are read.
 fn names_out_twice<F: FileSet>(files: &F, asked: &Encrypting<'_>) -> bool
-    ensures { NamesTwice (order_asked (Encrypt asked.now)).apart → result ≡ true }
+    ensures twice { NamesTwice (order_asked (Encrypt asked.now)).apart → result ≡ true }
+    ensures shown { F.shows_bytes ≡ true → result ≡ true
+        → NamesTwice (order_asked (Encrypt asked.now)).apart }
 {
     files.is_same(asked.from, asked.to)
         || files.is_same(asked.pass, asked.to)
@@ -103,7 +112,7 @@ fn names_out_twice<F: FileSet>(files: &F, asked: &Encrypting<'_>) -> bool
 }
 
 /// What the secret is made of, from the files of the passphrase and of random bytes. These aren't
-/// read where the output is one of the files that are.
+/// read where the output is one of the files that are, or a stream would be read twice.
 fn read_material<F: FileSet>(
     alloc: Global,
     files: &mut F,
@@ -112,20 +121,29 @@ fn read_material<F: FileSet>(
     ensures { Judges (F.shows_bytes)
         (Opened asked.now.pass.now ∷ Opened (random_name (text_of asked.now.random)) ∷ [])
         (F.view files.old) (F.view files.new) (IsMaterialIn asked.now (F.view files.old).entries)
-        (NamesTwice (order_asked (Encrypt asked.now)).apart) result }
+        (NamesTwice (order_asked (Encrypt asked.now)).apart)
+        (NamesTwice (order_asked (Encrypt asked.now)).apart
+        ⊎ GivesNone (Encrypt asked.now) (F.view files.old).entries) result }
 {
     if names_out_twice(files, asked) {
         return Err(Ending::Usage(Usage::SameFile));
     }
+    let random_name = random_name(asked);
+    files.check_streams(
+        alloc,
+        &[Some(asked.pass), Some(random_name), Some(asked.from)],
+    )?;
     let pass = read_pass(alloc, files, asked.pass)?;
-    let random = read_random(alloc, files, random_name(asked))?;
+    let random = read_random(alloc, files, random_name)?;
     Ok(Material { pass, random })
 }
 
 /// The secret of a work factor and of what it is made of.
 fn secret_of<'a>(asked: &Encrypting<'_>, material: &'a Material) -> Result<Secret<'a>, Usage>
-    ensures { IfOk result (λ secret. (old : Files) → IsMaterialIn asked.now old material.now
+    ensures makes { IfOk result (λ secret. (old : Files) → IsMaterialIn asked.now old material.now
         → MakesSecret asked.now old secret) }
+    ensures none { IfErr result (λ _. (old : Files) → IsMaterialIn asked.now old material.now
+        → (secret : SecretView) → MakesSecret asked.now old secret → ⊥) }
 {
     match Secret::new(
         trimmed(material.pass.as_slice()),

@@ -1,14 +1,15 @@
 //! The command that reports what a file holds.
 
-ghost use Rattle.std.specs.Prelude.{◌≡◌, [], ◌∷◌, ◌++◌, true, false, OnOk, IfErr};
-ghost use Rattle.age_cli_common.specs.Endings.{is_usage};
+ghost use Rattle.std.specs.Prelude.{◌≡◌, ◌⊎◌, [], ◌∷◌, ◌++◌, OnOk, IfErr};
+ghost use Rattle.age_fault.specs.declared.fault.FileFault.TheVariants.{Write};
+ghost use Rattle.age_cli_common.specs.declared.ending.Ending.TheVariants.{Fault};
 ghost use Rattle.age_fileset.specs.Events.{Opened};
-ghost use Rattle.age_cli.specs.Inspections.{Reports, ReportsFile};
+ghost use Rattle.age_cli.specs.Inspections.{Reports, ReportsFile, FailsReport, seen};
 
 use crate::print::text_of;
 use age_cli_common::{Ending, put_bytes};
 use age_file::{FileFault, Sink, Source, flush_all, inspect};
-use age_fileset::FileSet;
+use age_fileset::{FileSet, OpenFault};
 use std::alloc::Global;
 
 /// Writes the report of what it reads, to the end.
@@ -17,9 +18,11 @@ fn write_report<I: Source, O: Sink>(
     input: &mut I,
     output: &mut O,
 ) -> Result<(), FileFault>
-    ensures { OnOk result
+    ensures done { OnOk result
         (Reports (I.view input.old).remaining (I.view input.new).remaining (O.view output.old).taken
         (O.view output.new).taken) }
+    ensures fails { IfErr result (λ f. FailsReport (I.view input.old).remaining (Fault f)) }
+    ensures unprinted { IfErr result (λ f. (f ≡ Write) ⊎ (output.new ≡ output.old)) }
 {
     let found = inspect(alloc, input)?;
     let text = text_of(alloc, &found)?;
@@ -36,7 +39,8 @@ pub(crate) fn report<I: Source, O: Sink>(
     ensures done { OnOk result
         (Reports (I.view input.old).remaining (I.view input.new).remaining (O.view output.old).taken
         (O.view output.new).taken) }
-    ensures fault { IfErr result (λ e. is_usage e ≡ false) }
+    ensures fails { IfErr result (FailsReport (I.view input.old).remaining) }
+    ensures unprinted { IfErr result (λ e. (e ≡ Fault Write) ⊎ (output.new ≡ output.old)) }
 {
     Ok(write_report(alloc, input, output)?)
 }
@@ -52,8 +56,15 @@ pub(crate) fn report_file<F: FileSet, O: Sink>(
     ensures noted { (F.view files.new).events ≡ (F.view files.old).events ++ Opened name.now ∷ [] }
     ensures done { OnOk result (ReportsFile (F.shows_bytes) ((F.view files.old).entries name.now)
         (O.view output.old).taken (O.view output.new).taken) }
-    ensures fault { IfErr result (λ e. is_usage e ≡ false) }
+    ensures fails { IfErr result (FailsReport
+        (seen (F.shows_bytes) ((F.view files.old).entries name.now))) }
+    ensures unprinted { IfErr result (λ e. (e ≡ Fault Write) ⊎ (output.new ≡ output.old)) }
 {
-    let mut source = files.open(alloc, name)?;
+    let mut source = match files.open(alloc, name) {
+        Ok(source) => source,
+        Err(OpenFault::Fault(fault)) => return Err(Ending::Fault(fault)),
+        // It was opened before this command, which names one file.
+        Err(OpenFault::SameFile) => return Err(Ending::Fault(FileFault::Read)),
+    };
     report(alloc, &mut source, output)
 }

@@ -21,7 +21,7 @@ mod program;
 mod resume_command;
 mod stop;
 
-pub use age_fileset::{CreateFault, FileSet, MemFiles};
+pub use age_fileset::{FileSet, MemFiles, OpenFault};
 pub use decrypt_command::decrypt_file;
 pub use encrypt_command::encrypt_file;
 pub use program::run;

@@ -1,6 +1,9 @@
 //! The program, over arguments, files, a source and sinks.
 
-ghost use Rattle.std.specs.Prelude.{◌≡◌, IfErr, IsOk};
+ghost use Rattle.std.specs.Prelude.{◌≡◌, IfErr, IsErrAnd, IsOk};
+ghost use Rattle.clap.specs.declared.error.kind.ErrorKind.TheVariants.{OutOfMemory};
+ghost use Rattle.age_fault.specs.declared.fault.FileFault.TheVariants.{Memory};
+ghost use Rattle.age_cli_common.specs.declared.ending.Ending.TheVariants.{Fault};
 ghost use Rattle.clap.specs.Words.{kind_of};
 ghost use Rattle.clap.specs.Walk.{texts};
 ghost use Rattle.age_cli_common.specs.Endings.{EndsEarly};
@@ -30,6 +33,7 @@ fn answer_refusal<O: Sink>(alloc: Global, error: Error, output: &mut O) -> Resul
     ensures kept { (IsForOutput (kind_of error) → ⊥) → output.new ≡ output.old }
     ensures refusal { (IsForOutput (kind_of error) → ⊥) → IfErr result IsRefusal }
     ensures early { IfErr result EndsEarly }
+    ensures memory { kind_of error ≡ OutOfMemory → IsErrAnd result (λ e. e ≡ Fault Memory) }
 {
     if error.kind() == ErrorKind::OutOfMemory {
         return Err(Ending::Fault(FileFault::Memory));
@@ -58,7 +62,8 @@ fn obey<F: FileSet, I: Source, O: Sink, P: Meter>(
     ensures { Obeys (texts words.now) (F.shows_bytes) (PortsOf F.In.view F.Out.view)
         (around (F.view files.old) (I.view input.old).remaining (O.view output.old).taken)
         (around (F.view files.new) (I.view input.new).remaining (O.view output.new).taken)
-        (output.new ≡ output.old) (progress.new ≡ progress.old) (by_result IsRefusal result) }
+        (input.new ≡ input.old) (output.new ≡ output.old) (progress.new ≡ progress.old)
+        (by_result IsRefusal result) }
 {
     if words.is_empty() {
         return report(alloc, input, output);
@@ -113,7 +118,7 @@ pub fn run<F: FileSet, I: Source, O: Sink, E: Sink, P: Meter>(
         (around (F.view files.old) (I.view input.old).remaining (O.view output.old).taken)
         (around (F.view files.new) (I.view input.new).remaining (O.view output.new).taken)
         (E.view faults.old) (E.view faults.new) (faults.new ≡ faults.old)
-        (output.new ≡ output.old) (progress.new ≡ progress.old) result }
+        (input.new ≡ input.old) (output.new ≡ output.old) (progress.new ≡ progress.old) result }
 {
     match obey(alloc, words, files, input, output, progress) {
         Ok(()) => 0,

@@ -3,7 +3,8 @@
 ghost use Rattle.std.specs.Prelude.{◌≡◌, ◌⊎◌, [], ◌∷◌, ◌++◌, true, is_some, IfOk, IfErr, OnOk};
 ghost use Rattle.age_fault.specs.declared.fault.FileFault.TheVariants.{Read, BadPosition};
 ghost use Rattle.age_fileset.specs.Events.{Opened};
-ghost use Rattle.age_fileset.specs.FileSet.{IsMemoryOr};
+ghost use Rattle.age_fileset.specs.FileSet.{OpenFails};
+ghost use Rattle.age_fileset.specs.declared.files.OpenFault.TheVariants as OpenFault;
 ghost use Rattle.age_cli_args.specs.declared.request.Request.TheVariants.{Resume};
 ghost use Rattle.age_cli_common.specs.EventOrders.{Follows};
 ghost use Rattle.age_cli_common.specs.Names.{NamesTwice};
@@ -11,7 +12,7 @@ ghost use Rattle.age_cli_common.specs.Orders.{order_asked};
 ghost use Rattle.age_cli.specs.Acts.{Acts};
 ghost use Rattle.age_cli.specs.Engines.{PortsOf};
 ghost use Rattle.age_cli.specs.Outcomes.{IsUsage, by_result};
-ghost use Rattle.age_cli.specs.Resumptions.{IsPositionIn, old_for};
+ghost use Rattle.age_cli.specs.Resumptions.{HoldsNoPosition, IsPositionIn, old_for};
 
 use crate::decrypt_command::{is_given_as, names_a_file_twice, positions_for, read_secret};
 use crate::output::{Output, conclude, open_both, with_meter};
@@ -19,7 +20,7 @@ use crate::stop::opening_end;
 use age_cli_args::{ProgressOption, Resuming};
 use age_cli_common::{Choice, Ending, read_file};
 use age_file::{FileFault, Position, resume_with};
-use age_fileset::FileSet;
+use age_fileset::{FileSet, OpenFault};
 use age_io::Meter;
 use std::alloc::Global;
 
@@ -31,30 +32,43 @@ fn read_position<F: FileSet>(
     alloc: Global,
     files: &mut F,
     name: &str,
-) -> Result<Position, FileFault>
+) -> Result<Position, OpenFault>
     ensures kept { (F.view files.new).entries ≡ (F.view files.old).entries }
     ensures read { IfOk result
         (λ p. F.shows_bytes ≡ true → IsPositionIn ((F.view files.old).entries name.now) p) }
     ensures noted { (F.view files.new).events ≡ (F.view files.old).events ++ Opened name.now ∷ [] }
-    ensures faults { IfErr result (λ f. IsMemoryOr Read f ⊎ (f ≡ BadPosition)) }
+    ensures faults { IfErr result
+        (λ f. OpenFails (F.shows_bytes) Read f ⊎ (f ≡ OpenFault.Fault BadPosition)) }
+    ensures bad { F.shows_bytes ≡ true → IfErr result (λ f. f ≡ OpenFault.Fault BadPosition
+        → HoldsNoPosition ((F.view files.old).entries name.now)) }
 {
     match read_file(alloc, files, name, POSITION_FILE_MAX)? {
-        Some(text) => Position::read(text.as_slice()),
-        None => Err(FileFault::BadPosition),
+        Some(text) => Ok(Position::read(text.as_slice())?),
+        None => Err(OpenFault::Fault(FileFault::BadPosition)),
     }
 }
 
 /// Whether two files that have to differ are one: those of a decryption; the earlier output must
 /// differ from IN, OUT and the file of `--save`, and OUT from the position.
 fn names_one_twice<F: FileSet>(files: &F, asked: &Resuming<'_>) -> bool
-    ensures { NamesTwice (order_asked (Resume asked.now)).apart → result ≡ true }
+    ensures twice { NamesTwice (order_asked (Resume asked.now)).apart → result ≡ true }
+    ensures shown { F.shows_bytes ≡ true → result ≡ true
+        → NamesTwice (order_asked (Resume asked.now)).apart }
 {
     let others = &asked.decrypting;
-    names_a_file_twice(files, others)
-        || files.is_same(asked.position, others.to)
-        || files.is_same(asked.old, others.from)
-        || files.is_same(asked.old, others.to)
-        || is_given_as(files, others.save, asked.old)
+    if names_a_file_twice(files, others) {
+        return true;
+    }
+    if files.is_same(asked.position, others.to) {
+        return true;
+    }
+    if is_given_as(files, others.save, asked.old) {
+        return true;
+    }
+    if files.is_same(asked.old, others.from) {
+        return true;
+    }
+    files.is_same(asked.old, others.to)
 }
 
 /// Opens the earlier output. Where the position has no chunk before it, a missing one counts as
@@ -64,13 +78,13 @@ fn open_old<F: FileSet>(
     files: &mut F,
     name: &str,
     position: &Position,
-) -> Result<F::In, FileFault>
+) -> Result<F::In, OpenFault>
     ensures kept { (F.view files.new).entries ≡ (F.view files.old).entries }
     ensures found { IfOk result (λ s. F.shows_bytes ≡ true
         → (is_some (old_for position.now ((F.view files.old).entries name.now)) ≡ true)
         × ((F.In.view s).remaining ≡ old_for position.now ((F.view files.old).entries name.now))) }
     ensures noted { (F.view files.new).events ≡ (F.view files.old).events ++ Opened name.now ∷ [] }
-    ensures faults { IfErr result (IsMemoryOr Read) }
+    ensures faults { IfErr result (OpenFails (F.shows_bytes) Read) }
 {
     if position.index == 0 {
         files.open_or_empty(alloc, name)
@@ -84,7 +98,7 @@ fn open_earlier<F: FileSet>(
     alloc: Global,
     files: &mut F,
     asked: &Resuming<'_>,
-) -> Result<(Position, F::In), FileFault>
+) -> Result<(Position, F::In), OpenFault>
     ensures kept { (F.view files.new).entries ≡ (F.view files.old).entries }
     ensures found { IfOk result (λ both. F.shows_bytes ≡ true
         → IsPositionIn ((F.view files.old).entries asked.now.position.now) both.0
@@ -95,7 +109,10 @@ fn open_earlier<F: FileSet>(
         ++ Opened asked.now.position.now ∷ Opened asked.now.old.now ∷ []) }
     ensures follows { Follows (Opened asked.now.position.now ∷ Opened asked.now.old.now ∷ [])
         (F.view files.old).events (F.view files.new).events }
-    ensures faults { IfErr result (λ f. IsMemoryOr Read f ⊎ (f ≡ BadPosition)) }
+    ensures faults { IfErr result
+        (λ f. OpenFails (F.shows_bytes) Read f ⊎ (f ≡ OpenFault.Fault BadPosition)) }
+    ensures bad { F.shows_bytes ≡ true → IfErr result (λ f. f ≡ OpenFault.Fault BadPosition
+        → HoldsNoPosition ((F.view files.old).entries asked.now.position.now)) }
 {
     let position = read_position(alloc, files, asked.position)?;
     let old = open_old(alloc, files, asked.old, &position)?;
@@ -116,7 +133,14 @@ pub fn resume_file<F: FileSet, P: Meter>(
     let wanted = &asked.decrypting;
     let is_file_named_twice = names_one_twice(files, asked);
     let choice = Choice::of(&wanted.identity)?;
-    let secret = read_secret(alloc, files, &choice, is_file_named_twice)?;
+    let read = [
+        Some(asked.position),
+        Some(asked.old),
+        wanted.identity.pass,
+        wanted.identity.shared,
+        Some(wanted.from),
+    ];
+    let secret = read_secret(alloc, files, &choice, is_file_named_twice, &read)?;
     let identity = choice.identity(&secret)?;
     let (position, mut old) = open_earlier(alloc, files, asked)?;
     let output = Output {

@@ -4,26 +4,24 @@ use Rattle.clap.specs.Words.{Row, Text, first_of, one_of}
 use Rattle.clap.proofs.OnLiterals.{clap_on_literals}
 use Rattle.age_cli_args.specs.Commands.{age_tool, encrypting, decrypting, resuming, inspecting, drilling}
 use Rattle.age_cli_args.specs.Asked.{refusals, named, is_given}
-use Rattle.age_cli_args.specs.Requests.{number_or}
-use Rattle.std.specs.Prelude.{ℕ}
 
 abbrev words : List Text
 words = codes "decrypt" ∷ codes "--pass=P" ∷ codes "--max-log" ∷ codes "9" ∷ codes "--progress" ∷ codes "A" ∷ codes "B" ∷ []
 
-abbrev parts_asked : Option (Text × List Row) → Option (Text × Option Text × Option Text × Bool × ℕ)
+abbrev parts_asked : Option (Text × List Row) → Option (Text × Option Text × Option Text × Bool × Option Text)
 parts_asked = option_map (λ p. (
   p.0,
   first_of (codes "OUT") p.1,
   first_of (codes "save") p.1,
   is_given (codes "progress") p.1,
-  number_or 22 (one_of (codes "max-log") p.1),
+  one_of (codes "max-log") p.1,
 ))
 
 pub words_are_taken : refusals words ≡ []
 unfolding refusals clap_on_literals age_tool encrypting decrypting resuming inspecting drilling
 words_are_taken = refl
 
-pub words_ask : parts_asked (named words) ≡ Some (codes "decrypt", Some (codes "B"), None, true, 9)
+pub words_ask : parts_asked (named words) ≡ Some (codes "decrypt", Some (codes "B"), None, true, Some (codes "9"))
 unfolding named clap_on_literals age_tool encrypting decrypting resuming inspecting drilling
 words_ask = refl
 

@@ -1,8 +1,8 @@
 -- What a command asks for, by what stands for each of its arguments.
-use Rattle.std.specs.Prelude.{◌≡◌, ℕ, List, Option, Some, codes, option_map, if◌then◌else◌}
+use Rattle.std.specs.Prelude.{◌≡◌, ◌≤◌, ℕ, List, Option, Some, None, codes, option_map}
+use Rattle.std.specs.Prelude.{if◌then◌else◌}
 use Rattle.std.specs.Borrow.{Bor}
-use Rattle.std.specs.Option.{option_map_or}
-use Rattle.std.specs.Str.Parse.{digits_value, without_leading_plus}
+use Rattle.std.specs.Str.Parse.{IsNumeral, digits_value, without_leading_plus}
 use Rattle.clap.specs.Words.{Row, Text, first_of, one_of}
 use Rattle.age_cli_args.specs.Asked.{Asks, is_given}
 use Rattle.age_io.specs.declared.durability.Durability.{Durability}
@@ -18,9 +18,11 @@ use Rattle.age_cli_args.specs.declared.request.Request.{Request}
 use Rattle.age_cli_args.specs.declared.request.Request.TheVariants.{Inspect, Decrypt, Resume}
 use Rattle.age_cli_args.specs.declared.request.Request.TheVariants.{Encrypt, Drill}
 
--- the number that a text spells, or this one where there is no text
-abbrev pub number_or : ℕ → Option Text → ℕ
-number_or default text = option_map_or (λ t. digits_value 10 (without_leading_plus t)) text default
+-- the number from 1 to 22 that a text spells, or this one where there is no text
+abbrev pub IsNumber : ℕ → Option Text → ℕ → Type 0
+IsNumber default None n = n ≡ default
+IsNumber default (Some text) n = IsNumeral 10 (without_leading_plus text)
+    × (n ≡ digits_value 10 (without_leading_plus text)) × (1 ≤ n) × (n ≤ 22)
 
 abbrev pub text_of : Option (Bor Text) → Option Text
 text_of = option_map (λ s. s.now)
@@ -35,7 +37,7 @@ IsProgress rows p = p ≡ (if is_given (codes "progress") rows then Shown else S
 
 pub record IsEncrypting (rows : List Row) (e : Encrypting) : Type 0 where
   pub pass : Some e.pass.now ≡ first_of (codes "pass") rows
-  pub log : e.log ≡ number_or 18 (one_of (codes "log") rows)
+  pub log : IsNumber 18 (one_of (codes "log") rows) e.log
   pub random : text_of e.random ≡ first_of (codes "random") rows
   pub durability : IsDurability rows e.durability
   pub progress : IsProgress rows e.progress
@@ -46,7 +48,7 @@ pub record IsIdentityOptions (rows : List Row) (u : IdentityOptions) : Type 0 wh
   pub pass : text_of u.pass ≡ first_of (codes "pass") rows
   pub file_key : text_of u.file_key ≡ first_of (codes "file-key") rows
   pub shared : text_of u.shared ≡ first_of (codes "shared") rows
-  pub max_log : u.max_log ≡ number_or 22 (one_of (codes "max-log") rows)
+  pub max_log : IsNumber 22 (one_of (codes "max-log") rows) u.max_log
 
 pub record IsDecrypting (rows : List Row) (d : Decrypting) : Type 0 where
   pub identity : IsIdentityOptions rows d.identity

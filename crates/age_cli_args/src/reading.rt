@@ -1,11 +1,17 @@
 //! Reads what the arguments ask for.
 
-ghost use Rattle.std.specs.Prelude.{◌≡◌, ◌≤◌, Some, IfOk, IfSome};
+ghost use Rattle.std.specs.Prelude.{◌≡◌, ◌≤◌, ℕ, None, Some, IfNone, IfOk, IfSome};
 ghost use Rattle.clap.specs.Words.{subcommand_rows_of, rows_of, found_of, one_of, first_of};
 ghost use Rattle.clap.specs.Words.{FailsBy};
 ghost use Rattle.clap.specs.Walk.{texts};
 ghost use Rattle.age_cli_args.specs.Asked.{refusals, is_given};
-ghost use Rattle.age_cli_args.specs.Requests.{number_or, text_of, IsDurability, IsProgress};
+ghost use Rattle.age_cli_args.specs.Requests.{IsNumber, text_of, IsDurability, IsProgress};
+ghost use Rattle.age_cli_args.specs.declared.request.Encrypting.{Encrypting};
+ghost use Rattle.age_cli_args.specs.declared.request.IdentityOptions.{IdentityOptions};
+ghost use Rattle.age_cli_args.specs.declared.request.Decrypting.{Decrypting};
+ghost use Rattle.age_cli_args.specs.declared.request.Resuming.{Resuming};
+ghost use Rattle.age_cli_args.specs.declared.request.Drilling.{Drilling};
+ghost use Rattle.age_cli_args.specs.declared.request.Request.{Request};
 ghost use Rattle.age_cli_args.specs.Requests.{IsEncrypting, IsIdentityOptions, IsDecrypting, IsResuming};
 ghost use Rattle.age_cli_args.specs.Requests.{IsDrilling, IsRequest, Requests};
 
@@ -17,20 +23,26 @@ use age_io::Durability;
 use clap::{ArgMatches, Error};
 use std::alloc::Global;
 
+/// A number, if it is from 1 to 22.
+fn within(n: u32) -> Option<u32>
+    ensures some { IfSome result (λ m. (m ≡ n) × (1 ≤ n) × (n ≤ 22)) }
+    ensures none { IfNone result (1 ≤ n → n ≤ 22 → ⊥) }
+{
+    if n >= 1 && n <= 22 { Some(n) } else { None }
+}
+
 /// A number from 1 to 22, or the default if it isn't given. The parser's contract says nothing of a
 /// number's range, so it is tested here.
 fn number(matches: &ArgMatches<'_>, id: &str, default: u32) -> Option<u32>
-    requires low { 1 ≤ default }
-    requires high { default ≤ 22 }
     ensures value { IfSome result
-        (λ n. n ≡ number_or default (one_of id.now (rows_of (found_of matches.now)))) }
-    ensures low { IfSome result (λ n. 1 ≤ n) }
-    ensures high { IfSome result (λ n. n ≤ 22) }
+        (IsNumber default (one_of id.now (rows_of (found_of matches.now)))) }
+    ensures none { IfNone result ((n : ℕ)
+        → IsNumber default (one_of id.now (rows_of (found_of matches.now))) n → ⊥) }
 {
     match matches.get_one::<u32>(id) {
-        Some(n) if n >= 1 && n <= 22 => Some(n),
-        None if !matches.contains_id(id) => Some(default),
-        _ => None,
+        Some(n) => within(n),
+        None if matches.get_str(id).is_none() => Some(default),
+        None => None,
     }
 }
 
@@ -72,14 +84,16 @@ fn progress(matches: &ArgMatches<'_>) -> ProgressOption
 
 /// The command that the arguments name, with its own matches.
 fn command_of<'m, 'a>(matches: &'m ArgMatches<'a>) -> Option<(&'a str, &'m ArgMatches<'a>)>
-    ensures { IfSome result
+    ensures some { IfSome result
         (λ p. subcommand_rows_of matches.now ≡ Some (p.0.now, rows_of (found_of p.1.now))) }
+    ensures none { IfNone result (subcommand_rows_of matches.now ≡ None) }
 {
     matches.subcommand()
 }
 
 fn encrypting<'a>(matches: &ArgMatches<'a>) -> Option<Encrypting<'a>>
-    ensures { IfSome result (IsEncrypting (rows_of (found_of matches.now))) }
+    ensures some { IfSome result (IsEncrypting (rows_of (found_of matches.now))) }
+    ensures none { IfNone result ((x : Encrypting) → IsEncrypting (rows_of (found_of matches.now)) x → ⊥) }
 {
     Some(Encrypting {
         pass: text(matches, "pass")?,
@@ -93,7 +107,8 @@ fn encrypting<'a>(matches: &ArgMatches<'a>) -> Option<Encrypting<'a>>
 }
 
 fn identity_options<'a>(matches: &ArgMatches<'a>) -> Option<IdentityOptions<'a>>
-    ensures { IfSome result (IsIdentityOptions (rows_of (found_of matches.now))) }
+    ensures some { IfSome result (IsIdentityOptions (rows_of (found_of matches.now))) }
+    ensures none { IfNone result ((x : IdentityOptions) → IsIdentityOptions (rows_of (found_of matches.now)) x → ⊥) }
 {
     Some(IdentityOptions {
         pass: text(matches, "pass"),
@@ -104,7 +119,8 @@ fn identity_options<'a>(matches: &ArgMatches<'a>) -> Option<IdentityOptions<'a>>
 }
 
 fn decrypting<'a>(matches: &ArgMatches<'a>) -> Option<Decrypting<'a>>
-    ensures { IfSome result (IsDecrypting (rows_of (found_of matches.now))) }
+    ensures some { IfSome result (IsDecrypting (rows_of (found_of matches.now))) }
+    ensures none { IfNone result ((x : Decrypting) → IsDecrypting (rows_of (found_of matches.now)) x → ⊥) }
 {
     Some(Decrypting {
         identity: identity_options(matches)?,
@@ -117,7 +133,8 @@ fn decrypting<'a>(matches: &ArgMatches<'a>) -> Option<Decrypting<'a>>
 }
 
 fn resuming<'a>(matches: &ArgMatches<'a>) -> Option<Resuming<'a>>
-    ensures { IfSome result (IsResuming (rows_of (found_of matches.now))) }
+    ensures some { IfSome result (IsResuming (rows_of (found_of matches.now))) }
+    ensures none { IfNone result ((x : Resuming) → IsResuming (rows_of (found_of matches.now)) x → ⊥) }
 {
     Some(Resuming {
         decrypting: decrypting(matches)?,
@@ -127,7 +144,8 @@ fn resuming<'a>(matches: &ArgMatches<'a>) -> Option<Resuming<'a>>
 }
 
 fn drilling<'a>(matches: &ArgMatches<'a>) -> Option<Drilling<'a>>
-    ensures { IfSome result (IsDrilling (rows_of (found_of matches.now))) }
+    ensures some { IfSome result (IsDrilling (rows_of (found_of matches.now))) }
+    ensures none { IfNone result ((x : Drilling) → IsDrilling (rows_of (found_of matches.now)) x → ⊥) }
 {
     Some(Drilling {
         clear: flag(matches, "clear"),
@@ -139,7 +157,9 @@ fn drilling<'a>(matches: &ArgMatches<'a>) -> Option<Drilling<'a>>
 
 /// What a command asks for, by its name and its matches.
 fn request_of<'a>(name: &str, matches: &ArgMatches<'a>) -> Option<Request<'a>>
-    ensures { IfSome result (IsRequest name.now (rows_of (found_of matches.now))) }
+    ensures some { IfSome result (IsRequest name.now (rows_of (found_of matches.now))) }
+    ensures none { IfNone result ((r : Request)
+        → IsRequest name.now (rows_of (found_of matches.now)) r → ⊥) }
 {
     match name {
         "encrypt" => encrypting(matches).map(Request::Encrypt),
@@ -159,6 +179,7 @@ fn request_of<'a>(name: &str, matches: &ArgMatches<'a>) -> Option<Request<'a>>
 /// 1 to 22 are refused. The parser of command lines doesn't promise this, so callers must handle it.
 pub fn read_request<'a>(alloc: Global, words: &'a [&'a str]) -> Result<Option<Request<'a>>, Error>
     ensures asked { IfOk result (λ o. IfSome o (Requests (texts words.now))) }
+    ensures unasked { IfOk result (λ o. IfNone o ((r : Request) → Requests (texts words.now) r → ⊥)) }
     ensures refusals { FailsBy (refusals (texts words.now)) result }
 {
     let matches = matches_of(alloc, words)?;

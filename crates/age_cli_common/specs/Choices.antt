@@ -11,7 +11,9 @@ use Rattle.age_cli_common.specs.declared.choice.Choice.TheVariants.{PassphraseFi
 use Rattle.age_cli_common.specs.declared.choice.Choice.TheVariants.{SharedFile}
 use Rattle.age_cli_common.specs.EventOrders.{opening, identity_order}
 use Rattle.age_cli_common.specs.Files.{Files}
-use Rattle.age_cli_common.specs.Identities.{Options, OpensBy}
+use Rattle.age_cli_args.specs.Requests.{text_of}
+use Rattle.age_cli_args.specs.declared.request.IdentityOptions.{IdentityOptions}
+use Rattle.age_cli_common.specs.Identities.{OpensBy}
 use Rattle.age_cli_common.specs.Identities.{IsPassphraseIn, IsSharedIn}
 
 -- the file that a choice names, where it names one
@@ -29,6 +31,11 @@ abbrev pub IsSecretIn : Files → Option Text → Option (List ℕ) → Type 0
 IsSecretIn old (Some name) (Some bytes) = old name ≡ Some bytes
 IsSecretIn old name bytes = Unit {0}
 
+-- what the file of this name holds, where a name is given
+abbrev pub held_for : Files → Option Text → Option (List ℕ)
+held_for old (Some name) = old name
+held_for old None = None
+
 -- what a choice makes of the bytes of its file
 abbrev pub Makes : Choice → Option (List ℕ) → Identity → Type 0
 Makes (PassphraseFile name max_log) held (ByPassphrase words) = IsPassphraseIn held words.pass
@@ -37,11 +44,19 @@ Makes (FileKey known) held (ByFileKey key) = key ≡ known
 Makes (SharedFile name) held (ByShared shared) = IsSharedIn held shared
 Makes choice held identity = ⊥
 
+-- of what was read of its file it makes all that it makes of the file
+abbrev pub IsEnough : Files → Choice → Option (List ℕ) → Type 0
+IsEnough old choice held = (identity : Identity)
+    → Makes choice (held_for old (file_of choice)) identity → Makes choice held identity
+
 -- a choice is what these options say
-pub record Chooses (options : Options) (choice : Choice) : Type 0 where
+pub record Chooses (options : IdentityOptions) (choice : Choice) : Type 0 where
   -- Its file is the one that the options name.
-  pub order : opening (file_of choice) ≡ identity_order options.pass options.shared
+  pub order : opening (file_of choice) ≡ identity_order (text_of options.pass) (text_of options.shared)
   -- What it makes of the bytes of its file is what the options and the files make.
   pub opens : (old : Files) (held : Option (List ℕ)) (identity : Identity)
       → IsSecretIn old (file_of choice) held → Makes choice held identity
       → OpensBy old options identity
+  -- What the options and the files make is what it makes of its file.
+  pub only : (old : Files) (identity : Identity) → OpensBy old options identity
+      → Makes choice (held_for old (file_of choice)) identity

@@ -51,22 +51,7 @@ IsIdentity old None (Some digits) None max_log (ByFileKey known) = SpellsKey dig
 IsIdentity old None None (Some name) max_log (ByShared shared) = IsSharedIn (old name) shared
 IsIdentity old pass file_key shared max_log identity = ⊥
 
--- the options that say what opens a file, as they are given
-pub record Options : Type 0 where
-  pub pass : Option Text
-  pub file_key : Option Text
-  pub shared : Option Text
-  pub max_log : ℕ
-
--- those of what is asked
-abbrev pub options_asked : IdentityOptions → Options
-options_asked u = record {
-  pass = text_of u.pass;
-  file_key = text_of u.file_key;
-  shared = text_of u.shared;
-  max_log = u.max_log;
-}
-
 -- the options, and the file that they name, make what opens the input
-abbrev pub OpensBy : Files → Options → Identity → Type 0
-OpensBy old o identity = IsIdentity old o.pass o.file_key o.shared o.max_log identity
+abbrev pub OpensBy : Files → IdentityOptions → Identity → Type 0
+OpensBy old u identity = IsIdentity old (text_of u.pass) (text_of u.file_key) (text_of u.shared)
+    u.max_log identity

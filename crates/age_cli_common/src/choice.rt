@@ -1,19 +1,22 @@
 //! What opens a file, as one of the options says.
 
-ghost use Rattle.std.specs.Prelude.{◌≡◌, ◌++◌, true, IfOk, IfErr, IfSome};
-ghost use Rattle.age_keys.specs.Passphrase.{IsAllowed};
+ghost use Rattle.std.specs.Prelude.{◌≡◌, ◌++◌, true, IfOk, IfErr, IfSome, IfNone};
+ghost use Rattle.age_keys.specs.Passphrase.{IsAllowed, PassphraseIdentity};
+ghost use Rattle.age_keys.specs.SharedSecret.{Shared};
 ghost use Rattle.age_fault.specs.declared.fault.FileFault.TheVariants.{Read};
-ghost use Rattle.age_fileset.specs.FileSet.{IsMemoryOr};
+ghost use Rattle.age_fileset.specs.FileSet.{OpenFails};
 ghost use Rattle.age_cli_common.specs.EventOrders.{opening};
-ghost use Rattle.age_cli_common.specs.Identities.{options_asked, IsPassphraseIn, IsSharedIn};
+ghost use Rattle.age_cli_common.specs.Identities.{IsPassphraseIn, IsSharedIn, OpensBy};
 ghost use Rattle.age_cli_common.specs.Choices.{file_of, bytes_of, IsSecretIn, Makes, Chooses};
+ghost use Rattle.age_cli_common.specs.Choices.{IsEnough};
+ghost use Rattle.age_cli_common.specs.Files.{Files};
+ghost use Rattle.age_cli_common.specs.declared.identity.Identity.{Identity};
 
 use crate::ending::Usage;
 use crate::first_bytes::read_file;
 use crate::identity::{Identity, PASSPHRASE_FILE_MAX, SHARED_FILE_LEN, shared_of, trimmed};
 use age_cli_args::IdentityOptions;
-use age_fault::FileFault;
-use age_fileset::FileSet;
+use age_fileset::{FileSet, OpenFault};
 use age_keys::{KnownKey, Passphrase, SharedSecret};
 use std::alloc::Global;
 
@@ -31,7 +34,9 @@ pub enum Choice<'a> {
 impl<'a> Choice<'a> {
     /// What the one option says that is given. Refuses none and more than one, and a bad file key.
     pub fn of(options: &IdentityOptions<'a>) -> Result<Choice<'a>, Usage>
-        ensures { IfOk result (Chooses (options_asked options.now)) }
+        ensures chooses { IfOk result (Chooses options.now) }
+        ensures none { IfErr result (λ _. (old : Files) (identity : Identity)
+            → OpensBy old options.now identity → ⊥) }
     {
         match (options.pass, options.file_key, options.shared) {
             (Some(name), None, None) => Ok(Choice::PassphraseFile(name, options.max_log)),
@@ -50,13 +55,15 @@ impl<'a> Choice<'a> {
         &self,
         alloc: Global,
         files: &mut F,
-    ) -> Result<Option<Vec<u8>>, FileFault>
+    ) -> Result<Option<Vec<u8>>, OpenFault>
         ensures kept { (F.view files.new).entries ≡ (F.view files.old).entries }
         ensures noted { (F.view files.new).events
             ≡ (F.view files.old).events ++ opening (file_of self.now) }
-        ensures faults { IfErr result (IsMemoryOr Read) }
+        ensures faults { IfErr result (OpenFails (F.shows_bytes) Read) }
         ensures read { IfOk result (λ o. F.shows_bytes ≡ true
             → IsSecretIn (F.view files.old).entries (file_of self.now) (bytes_of o)) }
+        ensures enough { IfOk result (λ o. F.shows_bytes ≡ true
+            → IsEnough (F.view files.old).entries self.now (bytes_of o)) }
     {
         match self {
             Choice::PassphraseFile(name, _) => read_file(alloc, files, name, PASSPHRASE_FILE_MAX),
@@ -68,7 +75,9 @@ impl<'a> Choice<'a> {
     /// What opens the file, given the bytes that `read` returned. Refuses those that hold no
     /// passphrase, or no shared secret with its recipient.
     pub fn identity<'s>(self, secret: &'s Option<Vec<u8>>) -> Result<Identity<'s>, Usage>
-        ensures { IfOk result (Makes self.entry (bytes_of secret.now)) }
+        ensures makes { IfOk result (Makes self.entry (bytes_of secret.now)) }
+        ensures none { IfErr result (λ _. (identity : Identity)
+            → Makes self.entry (bytes_of secret.now) identity → ⊥) }
     {
         match self {
             Choice::PassphraseFile(_, max_log) => match passphrase_in(secret, max_log) {
@@ -86,8 +95,11 @@ impl<'a> Choice<'a> {
 
 /// The passphrase in the bytes of its file.
 fn passphrase_in<'s>(secret: &'s Option<Vec<u8>>, max_log: u32) -> Option<Passphrase<'s>>
-    ensures { IfSome result (λ words. IsPassphraseIn (bytes_of secret.now) words.pass
+    ensures some { IfSome result (λ words. IsPassphraseIn (bytes_of secret.now) words.pass
         × (words.max_log ≡ max_log) × IsAllowed words.pass words.max_log) }
+    ensures none { IfNone result ((words : PassphraseIdentity)
+        → IsPassphraseIn (bytes_of secret.now) words.pass → words.max_log ≡ max_log
+        → IsAllowed words.pass words.max_log → ⊥) }
 {
     match secret {
         Some(bytes) => Passphrase::new(trimmed(bytes.as_slice()), max_log),
@@ -97,7 +109,8 @@ fn passphrase_in<'s>(secret: &'s Option<Vec<u8>>, max_log: u32) -> Option<Passph
 
 /// The shared secret and the recipient in the bytes of their file.
 fn shared_in(secret: &Option<Vec<u8>>) -> Option<SharedSecret>
-    ensures { IfSome result (IsSharedIn (bytes_of secret.now)) }
+    ensures some { IfSome result (IsSharedIn (bytes_of secret.now)) }
+    ensures none { IfNone result ((shared : Shared) → IsSharedIn (bytes_of secret.now) shared → ⊥) }
 {
     match secret {
         Some(bytes) => shared_of(bytes.as_slice()),

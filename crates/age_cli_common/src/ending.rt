@@ -6,7 +6,7 @@ ghost use Rattle.age_cli_common.specs.declared.ending.Ending.TheVariants.{Fault}
 ghost use Rattle.age_cli_common.specs.declared.ending.Ending.TheVariants.{Usage as UsageEnding};
 
 use age_fault::FileFault;
-use age_fileset::CreateFault;
+use age_fileset::OpenFault;
 
 /// What is wrong with a command line that the parser of command lines accepts.
 #[derive(Clone, Copy, Debug, PartialEq, Eq)]
@@ -56,13 +56,13 @@ impl From<FileFault> for Ending {
     }
 }
 
-impl From<CreateFault> for Ending {
+impl From<OpenFault> for Ending {
     ghost from_gives = { λ f e. e ≡ ending_of f };
 
-    fn from(fault: CreateFault) -> Ending {
+    fn from(fault: OpenFault) -> Ending {
         match fault {
-            CreateFault::SameFile => Ending::Usage(Usage::SameFile),
-            CreateFault::Fault(fault) => Ending::Fault(fault),
+            OpenFault::SameFile => Ending::Usage(Usage::SameFile),
+            OpenFault::Fault(fault) => Ending::Fault(fault),
         }
     }
 }

@@ -1,16 +1,16 @@
 //! The first bytes of a source or a file.
 
-ghost use Rattle.std.specs.Prelude.{◌≡◌, ◌^◌, ◌<◌, ◌≤◌, [], OnOk, IfOk, IfErr};
-ghost use Rattle.std.specs.Prelude.{IfSome, Some, true, ◌∷◌, ◌++◌};
+ghost use Rattle.std.specs.Prelude.{◌≡◌, ◌^◌, ◌<◌, ◌≤◌, [], ℕ, List, length, OnOk, IfOk, IfErr};
+ghost use Rattle.std.specs.Prelude.{IfSome, IfNone, Some, true, ◌∷◌, ◌++◌};
 ghost use Rattle.age_fileset.specs.Events.{Opened};
-ghost use Rattle.age_fileset.specs.FileSet.{IsMemoryOr};
+ghost use Rattle.age_fileset.specs.FileSet.{IsMemoryOr, OpenFails};
 ghost use Rattle.age_fault.specs.declared.fault.FileFault.TheVariants.{Read};
 ghost use Rattle.std.specs.Io.KnownBytes.{Consumes, IsAtEnd};
 ghost use Rattle.age_cli_common.specs.FirstBytes.{AreFirst};
 ghost use Rattle.age_cli_common.specs.inner.Pieces.{IsPiece};
 
 use age_fault::FileFault;
-use age_fileset::FileSet;
+use age_fileset::{FileSet, OpenFault};
 use age_io::Source;
 use std::alloc::Global;
 
@@ -83,6 +83,8 @@ pub fn read_up_to<S: Source>(
     ensures all { IfOk result (λ o. IfSome o
         (λ v. Consumes (S.view source.old).remaining (S.view source.new).remaining v.items
         × IsAtEnd (S.view source.new).remaining)) }
+    ensures long { IfOk result (λ o. IfNone o ((bytes : List ℕ)
+        → (S.view source.old).remaining ≡ Some bytes → most < length bytes)) }
     ensures faults { IfErr result (IsMemoryOr Read) }
 {
     let first = read_first(alloc, source, most + 1)?;
@@ -98,14 +100,16 @@ pub fn read_file<F: FileSet>(
     files: &mut F,
     name: &str,
     most: usize,
-) -> Result<Option<Vec<u8>>, FileFault>
+) -> Result<Option<Vec<u8>>, OpenFault>
     requires { most < 2 ^ 32 }
     ensures kept { (F.view files.new).entries ≡ (F.view files.old).entries }
     ensures noted { (F.view files.new).events ≡ (F.view files.old).events ++ Opened name.now ∷ [] }
     ensures all { IfOk result (λ o. IfSome o (λ v. F.shows_bytes ≡ true
         → (F.view files.old).entries name.now ≡ Some v.items)) }
-    ensures faults { IfErr result (IsMemoryOr Read) }
+    ensures long { IfOk result (λ o. IfNone o (F.shows_bytes ≡ true → (bytes : List ℕ)
+        → (F.view files.old).entries name.now ≡ Some bytes → most < length bytes)) }
+    ensures faults { IfErr result (OpenFails (F.shows_bytes) Read) }
 {
     let mut source = files.open(alloc, name)?;
-    read_up_to(alloc, &mut source, most)
+    Ok(read_up_to(alloc, &mut source, most)?)
 }

@@ -1,9 +1,11 @@
 //! What opens a file, and what the files of secrets hold.
 
-ghost use Rattle.std.specs.Prelude.{◌≡◌, [], ◌∷◌, ◌++◌, true, IfOk, IfErr, IfSome, Some};
+ghost use Rattle.std.specs.Prelude.{◌≡◌, [], ◌∷◌, ◌++◌, true, ℕ, List, IfOk, IfErr, IfSome, IfNone, Some};
 ghost use Rattle.age_fileset.specs.Events.{Opened};
-ghost use Rattle.age_cli_common.specs.Endings.{EndsEarly};
-ghost use Rattle.age_cli_common.specs.Identities.{without_line_feed, IsSharedIn};
+ghost use Rattle.age_keys.specs.Passphrase.{IsAllowed};
+ghost use Rattle.age_keys.specs.SharedSecret.{Shared};
+ghost use Rattle.age_cli_common.specs.Endings.{EndsEarly, is_usage};
+ghost use Rattle.age_cli_common.specs.Identities.{without_line_feed, IsPassphraseIn, IsSharedIn};
 
 use crate::ending::{Ending, Usage};
 use crate::first_bytes::read_file;
@@ -64,6 +66,9 @@ pub fn read_pass<F: FileSet>(alloc: Global, files: &mut F, name: &str) -> Result
     ensures early { IfErr result EndsEarly }
     ensures read { IfOk result
         (λ v. F.shows_bytes ≡ true → (F.view files.old).entries name.now ≡ Some v.items) }
+    ensures refused { F.shows_bytes ≡ true → IfErr result (λ e. is_usage e ≡ true
+        → (pass : List ℕ) (log : ℕ)
+        → IsPassphraseIn ((F.view files.old).entries name.now) pass → IsAllowed pass log → ⊥) }
 {
     let Some(bytes) = read_file(alloc, files, name, PASSPHRASE_FILE_MAX)? else {
         return Err(Ending::Usage(Usage::BadPassphraseFile));
@@ -77,7 +82,8 @@ pub fn read_pass<F: FileSet>(alloc: Global, files: &mut F, name: &str) -> Result
 
 /// The shared secret, and the recipient after it.
 pub(crate) fn shared_of(bytes: &[u8]) -> Option<SharedSecret>
-    ensures { IfSome result (IsSharedIn (Some bytes.now)) }
+    ensures some { IfSome result (IsSharedIn (Some bytes.now)) }
+    ensures none { IfNone result ((shared : Shared) → IsSharedIn (Some bytes.now) shared → ⊥) }
 {
     let (shared, recipient) = bytes.split_first_chunk::<32>()?;
     Some(SharedSecret::new(shared, recipient.as_array::<32>()?))

@@ -1,6 +1,7 @@
 //! Writes bytes whole.
 
-ghost use Rattle.std.specs.Prelude.{◌≡◌, OnOk, OnErr};
+ghost use Rattle.std.specs.Prelude.{◌≡◌, IfErr, OnOk, OnErr};
+ghost use Rattle.age_fault.specs.declared.fault.FileFault.TheVariants.{Write};
 ghost use Rattle.std.specs.Io.KnownBytes.{Appends};
 ghost use Rattle.age_fault.specs.Faults.{HasRisen};
 
@@ -12,6 +13,7 @@ pub fn put_bytes<O: Sink>(sink: &mut O, bytes: &[u8]) -> Result<(), FileFault>
     ensures ok { OnOk result (Appends (O.view sink.old).taken (O.view sink.new).taken bytes.now) }
     ensures same { OnOk result ((O.view sink.new).failed ≡ (O.view sink.old).failed) }
     ensures err { OnErr result (HasRisen (O.view sink.old).failed (O.view sink.new).failed) }
+    ensures fault { IfErr result (λ fault. fault ≡ Write) }
     ensures named { (O.view sink.new).label ≡ (O.view sink.old).label }
 {
     let mut written = 0;

@@ -17,7 +17,7 @@ use age_cli_common::{
     Ending, Usage, fill_first, put_bytes, read_file, read_pass, read_up_to, trimmed,
 };
 use age_fault::{FileFault, flush_all};
-use age_fileset::FileSet;
+use age_fileset::{FileSet, OpenFault};
 use age_io::{Sink, Source};
 use age_keys::{FileKey, KeyFault, Passphrase, PayloadKey, open_header, payload_key};
 use age_stanza::{HEAD_MAX, HeadParser, HeadStep, Header};
@@ -260,7 +260,7 @@ fn deliver_sealed<S: Source, O: Sink>(
 fn deliver_opened<S: Source + Drop, O: Sink>(
     alloc: Global,
     unlock: Option<&Passphrase<'_>>,
-    opened: Result<S, FileFault>,
+    opened: Result<S, OpenFault>,
     script: &[u8],
     output: &mut O,
 ) -> Result<(), Ending> {
@@ -328,9 +328,12 @@ pub fn drill_file<F: FileSet, O: Sink>(
     ensures one { asked.now.clear ≡ is_some (text_of asked.now.pass)
         → RefusesAtOnce (F.view files.old).events (F.view files.new).events result }
 {
-    match (asked.clear, asked.pass) {
-        (true, None) => drill(alloc, files, asked, None, output),
-        (false, Some(name)) => drill_sealed(alloc, files, asked, name, output),
-        _ => Err(Ending::Usage(Usage::GiveClearOrPass)),
+    if asked.clear == asked.pass.is_some() {
+        return Err(Ending::Usage(Usage::GiveClearOrPass));
+    }
+    files.check_streams(alloc, &[asked.pass, Some(asked.script), Some(asked.from)])?;
+    match asked.pass {
+        Some(name) => drill_sealed(alloc, files, asked, name, output),
+        None => drill(alloc, files, asked, None, output),
     }
 }

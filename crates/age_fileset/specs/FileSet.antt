@@ -2,10 +2,10 @@
 -- that may be missing.
 use Rattle.std.specs.Prelude.{◌≡◌, ◌⊎◌, ℕ, Bool, false, List, [], Option, Some, None}
 use Rattle.age_fault.specs.declared.fault.FileFault.{FileFault}
-use Rattle.age_fault.specs.declared.fault.FileFault.TheVariants.{Memory, Write}
+use Rattle.age_fault.specs.declared.fault.FileFault.TheVariants.{Memory}
 use Rattle.age_fileset.specs.Events.{Event}
-use Rattle.age_fileset.specs.declared.files.CreateFault.{CreateFault}
-use Rattle.age_fileset.specs.declared.files.CreateFault.TheVariants.{SameFile, Fault}
+use Rattle.age_fileset.specs.declared.files.OpenFault.{OpenFault}
+use Rattle.age_fileset.specs.declared.files.OpenFault.TheVariants.{SameFile, Fault}
 
 -- the bytes of the entry of each name, where there is one; and what was opened, prepared, created,
 -- replaced and closed, in order, whether it succeeded or not: that also where the entries aren't
@@ -18,11 +18,11 @@ pub record FilesView : Type 0 where
 abbrev pub IsMemoryOr : FileFault → FileFault → Type 0
 IsMemoryOr other fault = (fault ≡ other) ⊎ (fault ≡ Memory)
 
--- it can't be written, or want of memory; or it is open under another name, which never comes of a
--- set that shows its entries
-abbrev pub CreateFails : Bool → CreateFault → Type 0
-CreateFails shows SameFile = shows ≡ false
-CreateFails shows (Fault fault) = IsMemoryOr Write fault
+-- this fault, or want of memory; or it is in use and can't be shared, which never comes of a set that
+-- shows its entries
+abbrev pub OpenFails : Bool → FileFault → OpenFault → Type 0
+OpenFails shows other SameFile = shows ≡ false
+OpenFails shows other (Fault fault) = IsMemoryOr other fault
 
 -- what a file holds; nothing where there is none
 abbrev pub or_empty : Option (List ℕ) → Option (List ℕ)

@@ -4,28 +4,29 @@ ghost use Rattle.std.specs.Prelude.{◌≡◌, ◌≢◌, ◌⊎◌, ℕ, Bool, 
 ghost use Rattle.std.specs.Prelude.{◌++◌, Option};
 ghost use Rattle.std.specs.Prelude.{Some, IfOk, IfErr, IfSome, IsOkUnless, OnOk, OnErr, is_some};
 ghost use Rattle.std.specs.Prelude.{option_map, length};
-ghost use Rattle.age_fileset.specs.FileSet.{FilesView, IsMemoryOr, CreateFails, or_empty};
-ghost use Rattle.age_fileset.specs.declared.files.CreateFault.TheVariants.{Fault};
+ghost use Rattle.age_fileset.specs.FileSet.{FilesView, IsMemoryOr, OpenFails, or_empty};
+ghost use Rattle.age_fileset.specs.declared.files.OpenFault.TheVariants.{Fault};
 ghost use Rattle.age_fileset.specs.Events.{Opened, Prepared, Created, Replaced, Closed};
 
 use age_fault::FileFault;
 use age_io::{Durability, Sink, Source};
 use std::alloc::Global;
 
-/// Why a file could not be created, or prepared.
+/// Why a file could not be opened, prepared or created.
 #[derive(Clone, Copy, Debug, PartialEq, Eq)]
-pub enum CreateFault {
-    /// It is one of the files that were opened, prepared or created before, under another name.
+pub enum OpenFault {
+    /// It is one of the files that were opened, prepared or created before, whatever its name, and
+    /// can't be used twice.
     SameFile,
-    /// It can't be written (27), or memory was refused (28).
+    /// It can't be read (26) or written (27), or memory was refused (28).
     Fault(FileFault),
 }
 
-impl From<FileFault> for CreateFault {
+impl From<FileFault> for OpenFault {
     ghost from_gives = { λ f c. c ≡ Fault f };
 
-    fn from(fault: FileFault) -> CreateFault {
-        CreateFault::Fault(fault)
+    fn from(fault: FileFault) -> OpenFault {
+        OpenFault::Fault(fault)
     }
 }
 
@@ -37,6 +38,9 @@ impl From<FileFault> for CreateFault {
 ///   that takes some, or by `close`; from then on they may be seen by others.
 /// - a sink that is dropped without `close` or `discard` may leave the file with some of the bytes
 ///   that it took, with none, or as it was;
+/// - a stream, which gives each of its bytes once, isn't opened twice to be read, whatever its
+///   names: `check_streams` refuses them before the first is opened, or else `open` the second, before
+///   it opens what could wait for ever;
 /// - two names that are one file are refused as such, by `is_same` before the second is opened, or
 ///   else by `prepare` and `create`; and `replace` writes over none that was opened or created.
 pub trait FileSet {
@@ -44,7 +48,7 @@ pub trait FileSet {
     type In: Source + Drop;
 
     /// A file that is written.
-    type Out: Sink + Drop;
+    type Out: Sink;
 
     // Whether contracts see what the files hold, and so what their sources give and sinks take.
     ghost shows_bytes: { Bool };
@@ -61,23 +65,34 @@ pub trait FileSet {
         one == other
     }
 
-    /// Opens a file to be read. Refuses with `Read` (26) where it can't be, and with `Memory` (28).
-    fn open(&mut self, alloc: Global, name: &str) -> Result<Self::In, FileFault>
+    /// Refuses names of which two stand for one stream, which gives each of its bytes once: a pipe, a
+    /// socket or a terminal, or standard input, whatever it is. No entry that a set shows is one. It
+    /// opens nothing, and refuses with `Memory` (28) too.
+    fn check_streams(&self, _alloc: Global, _names: &[Option<&str>]) -> Result<(), OpenFault>
+        ensures { IfErr result (OpenFails shows_bytes FileFault.Memory) }
+    {
+        Ok(())
+    }
+
+    /// Opens a file to be read. Refuses with `Read` (26) where it can't be, with `Memory` (28), and
+    /// where it is a stream that was opened before, which never comes of a set that shows its
+    /// entries.
+    fn open(&mut self, alloc: Global, name: &str) -> Result<Self::In, OpenFault>
         ensures kept { (view self.new).entries ≡ (view self.old).entries }
         ensures noted { (view self.new).events ≡ (view self.old).events ++ Opened name.now ∷ [] }
         ensures found { IfOk result (λ s. shows_bytes ≡ true
             → (is_some ((view self.old).entries name.now) ≡ true)
             × ((Self.In.view s).remaining ≡ (view self.old).entries name.now)) }
-        ensures faults { IfErr result (IsMemoryOr FileFault.Read) };
+        ensures faults { IfErr result (OpenFails shows_bytes FileFault.Read) };
 
-    /// Opens a file to be read. One that isn't there counts as empty. Refuses with `Read` (26)
-    /// where it can't be opened, and with `Memory` (28).
-    fn open_or_empty(&mut self, alloc: Global, name: &str) -> Result<Self::In, FileFault>
+    /// Opens a file to be read. One that isn't there counts as empty. Refuses as `open` does, with
+    /// `Read` (26) where it is there and can't be opened.
+    fn open_or_empty(&mut self, alloc: Global, name: &str) -> Result<Self::In, OpenFault>
         ensures kept { (view self.new).entries ≡ (view self.old).entries }
         ensures noted { (view self.new).events ≡ (view self.old).events ++ Opened name.now ∷ [] }
         ensures found { IfOk result (λ s. shows_bytes ≡ true
             → (Self.In.view s).remaining ≡ or_empty ((view self.old).entries name.now)) }
-        ensures faults { IfErr result (IsMemoryOr FileFault.Read) };
+        ensures faults { IfErr result (OpenFails shows_bytes FileFault.Read) };
 
     /// How many bytes a file that was opened still has to give, where the set can say; none of a
     /// pipe or a terminal.
@@ -93,26 +108,21 @@ pub trait FileSet {
     /// `Memory` (28), and where it is one that was opened or created before, other than that of
     /// `spared`; which never comes of a set that shows its entries. A file that is created after
     /// this is refused where it is the prepared one.
-    fn prepare(
-        &mut self,
-        alloc: Global,
-        name: &str,
-        spared: Option<&str>,
-    ) -> Result<(), CreateFault>
+    fn prepare(&mut self, alloc: Global, name: &str, spared: Option<&str>) -> Result<(), OpenFault>
         ensures kept { (view self.new).entries ≡ (view self.old).entries }
         ensures noted { (view self.new).events ≡ (view self.old).events ++ Prepared name.now ∷ [] }
-        ensures faults { IfErr result (CreateFails shows_bytes) };
+        ensures faults { IfErr result (OpenFails shows_bytes FileFault.Write) };
 
     /// Opens a file to be written, and makes it where there is none. No entry changes until it is
     /// closed. Refuses with `Write` (27) where it can't be, with `Memory` (28), and where it is one
     /// that was opened, prepared or created before, which never comes of a set that shows its
     /// entries; a file that it made is gone again then.
-    fn create(&mut self, alloc: Global, name: &str) -> Result<Self::Out, CreateFault>
+    fn create(&mut self, alloc: Global, name: &str) -> Result<Self::Out, OpenFault>
         ensures kept { (view self.new).entries ≡ (view self.old).entries }
         ensures made { IfOk result (λ o. shows_bytes ≡ true
             → ((Self.Out.view o).taken ≡ Some []) × ((Self.Out.view o).label ≡ name.now)) }
         ensures noted { (view self.new).events ≡ (view self.old).events ++ Created name.now ∷ [] }
-        ensures faults { IfErr result (CreateFails shows_bytes) };
+        ensures faults { IfErr result (OpenFails shows_bytes FileFault.Write) };
 
     /// Whether a file that was created is that of standard error, to which lines of progress and
     /// faults go. None is in a set that shows its entries.

@@ -9,6 +9,6 @@ mod log;
 mod mem_entry;
 mod mem_files;
 
-pub use files::{CreateFault, FileSet};
+pub use files::{FileSet, OpenFault};
 pub use log::Log;
 pub use mem_files::{MemFiles, MemOut};

@@ -6,11 +6,11 @@ ghost use Rattle.std.specs.Prelude.{Contains, is_some, option_map, length};
 ghost use Rattle.std.specs.Io.KnownBytes.{WriteAppends, Keeps};
 ghost use Rattle.age_io.specs.Memory.{Puts, Flushes};
 ghost use Rattle.age_fileset.specs.Entries.{entry_of, empty_with, PutsEntry};
-ghost use Rattle.age_fileset.specs.FileSet.{IsMemoryOr, CreateFails, or_empty};
+ghost use Rattle.age_fileset.specs.FileSet.{IsMemoryOr, OpenFails, or_empty};
 ghost use Rattle.age_fileset.specs.Events.{Opened, Prepared, Created, Replaced, Closed};
-ghost use Rattle.age_fileset.specs.declared.files.CreateFault.TheVariants.{Fault};
+ghost use Rattle.age_fileset.specs.declared.files.OpenFault.TheVariants.{Fault};
 
-use crate::files::{CreateFault, FileSet};
+use crate::files::{FileSet, OpenFault};
 use crate::log::Log;
 use crate::mem_entry::{MemEntry, Name, bytes_of, put_entry};
 use age_fault::FileFault;
@@ -201,33 +201,33 @@ impl FileSet for MemFiles {
     ghost view = { λ f. record { entries = entry_of f.entries; events = f.events } };
 
     /// Opens a copy of a file's bytes. Refuses with `Read` (26) exactly where no file has the name.
-    fn open(&mut self, alloc: Global, name: &str) -> Result<MemSource, FileFault>
+    fn open(&mut self, alloc: Global, name: &str) -> Result<MemSource, OpenFault>
         ensures kept { self.new
             ≡ record self.old { events = self.old.events ++ Opened name.now ∷ [] } }
         ensures found { IfOk result (λ s. entry_of self.old.entries name.now ≡ Some s.left) }
-        ensures missing { IsErrOf result FileFault.Read
+        ensures missing { IsErrOf result (Fault FileFault.Read)
             ↔ (entry_of self.old.entries name.now ≡ None) }
-        ensures faults { IfErr result (IsMemoryOr FileFault.Read) }
+        ensures faults { IfErr result (OpenFails true FileFault.Read) }
     {
         self.log.opened(name);
         match bytes_of(self.entries.as_slice(), name) {
-            Some(bytes) => source_of(alloc, bytes),
-            None => Err(FileFault::Read),
+            Some(bytes) => Ok(source_of(alloc, bytes)?),
+            None => Err(OpenFault::Fault(FileFault::Read)),
         }
     }
 
     /// Opens a copy of a file's bytes, or of none where no file has the name.
-    fn open_or_empty(&mut self, alloc: Global, name: &str) -> Result<MemSource, FileFault>
+    fn open_or_empty(&mut self, alloc: Global, name: &str) -> Result<MemSource, OpenFault>
         ensures kept { self.new
             ≡ record self.old { events = self.old.events ++ Opened name.now ∷ [] } }
         ensures found { IfOk result
             (λ s. Some s.left ≡ or_empty (entry_of self.old.entries name.now)) }
-        ensures faults { OnErr result (result ≡ Err FileFault.Memory) }
+        ensures faults { OnErr result (result ≡ Err (Fault FileFault.Memory)) }
     {
         self.log.opened(name);
         match bytes_of(self.entries.as_slice(), name) {
-            Some(bytes) => source_of(alloc, bytes),
-            None => source_of(alloc, &[]),
+            Some(bytes) => Ok(source_of(alloc, bytes)?),
+            None => Ok(source_of(alloc, &[])?),
         }
     }
 
@@ -244,7 +244,7 @@ impl FileSet for MemFiles {
         _alloc: Global,
         name: &str,
         _spared: Option<&str>,
-    ) -> Result<(), CreateFault>
+    ) -> Result<(), OpenFault>
         ensures ok { IsOk result }
         ensures kept { self.new
             ≡ record self.old { events = self.old.events ++ Prepared name.now ∷ [] } }
@@ -255,18 +255,18 @@ impl FileSet for MemFiles {
 
     /// Gives a sink with the room that was given for it; the entry is made when it is closed.
     /// Refuses with `Write` (27) exactly where the name is one that can't be written.
-    fn create(&mut self, alloc: Global, name: &str) -> Result<MemOut, CreateFault>
+    fn create(&mut self, alloc: Global, name: &str) -> Result<MemOut, OpenFault>
         ensures made { IfOk result (λ o. o ≡ (name.now, empty_with self.old.room)) }
         ensures refused { IsErrOf result (Fault FileFault.Write)
             ↔ Contains self.old.refused name.now }
         ensures kept { self.new
             ≡ record self.old { events = self.old.events ++ Created name.now ∷ [] } }
-        ensures faults { IfErr result (CreateFails true) }
+        ensures faults { IfErr result (OpenFails true FileFault.Write) }
     {
         self.log.created(name);
         let refused = is_refused(self.refused.as_slice(), name);
         if refused {
-            return Err(CreateFault::Fault(FileFault::Write));
+            return Err(OpenFault::Fault(FileFault::Write));
         }
         Ok(new_out(alloc, name, self.room)?)
     }

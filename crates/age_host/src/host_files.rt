@@ -1,17 +1,18 @@
 //! The machine's files.
 
 ghost use Rattle.std.specs.Prelude.{◌≡◌, true, false, None, Some, Err, IfErr, IsErr, Contains};
-ghost use Rattle.age_fileset.specs.FileSet.{IsMemoryOr, CreateFails};
-ghost use Rattle.age_fileset.specs.declared.files.CreateFault.TheVariants.{SameFile};
+ghost use Rattle.age_fault.specs.declared.fault.FileFault.TheVariants.{Read, Write};
+ghost use Rattle.age_fileset.specs.FileSet.{IsMemoryOr, OpenFails};
+ghost use Rattle.age_fileset.specs.declared.files.OpenFault.TheVariants.{SameFile};
 ghost use Rattle.age_host.specs.declared.host_names.FileId.{FileId};
 
 use crate::host_in::HostIn;
-use crate::host_names::{FileId, Stream};
+use crate::host_names::{FileId, Stream, StreamId};
 use crate::host_out::HostOut;
 use crate::host_prepare::Prepared;
 use crate::host_replace::replace;
 use age_fault::FileFault;
-use age_fileset::{CreateFault, FileSet, Log};
+use age_fileset::{FileSet, Log, OpenFault};
 use age_io::Durability;
 use std::alloc::{AllocError, Global};
 use std::io;
@@ -21,11 +22,13 @@ use std::rt::HostRuntime;
 /// path; `/dev/stdin`, `/dev/stdout`, `/dev/stderr` and their names under `/dev/fd` and
 /// `/proc/self/fd` are the streams that the program was started with. Two regular files or pipes
 /// are one where device and inode say so, and two block devices where their number does. Character
-/// devices and sockets are open to all.
+/// devices and sockets are open to all that write. What is read and gives each of its bytes once is
+/// opened once: a pipe, a socket, a terminal and the like, and standard input, whatever it is.
 #[derive(Drop)]
 pub struct HostFiles<'r> {
     rt: &'r HostRuntime,
     open: Vec<FileId>,
+    streams: Vec<StreamId>,
     prepared: Vec<Prepared>,
     log: Log,
 }
@@ -36,8 +39,21 @@ impl<'r> HostFiles<'r> {
         HostFiles {
             rt,
             open: Vec::new(rt.alloc()),
+            streams: Vec::new(rt.alloc()),
             prepared: Vec::new(rt.alloc()),
             log: Log::new(),
+        }
+    }
+
+    /// Keeps a stream that is to be opened, before that is tried: it may wait for ever.
+    fn admit_stream(&mut self, alloc: Global, name: &str) -> Result<(), OpenFault>
+        ensures kept { self.new.log ≡ self.old.log }
+        ensures faults { IfErr result (OpenFails false Read) }
+    {
+        match StreamId::at(alloc, self.rt, name) {
+            Ok(Some(stream)) => keep_stream(&mut self.streams, stream),
+            Ok(None) => Ok(()),
+            Err(error) => Err(OpenFault::Fault(fault_of(error, FileFault::Read))),
         }
     }
 
@@ -45,16 +61,16 @@ impl<'r> HostFiles<'r> {
     fn admit_in(
         &mut self,
         opened: io::Result<(HostIn, Option<FileId>)>,
-    ) -> Result<HostIn, FileFault>
+    ) -> Result<HostIn, OpenFault>
         ensures kept { self.new.log ≡ self.old.log }
-        ensures faults { IfErr result (IsMemoryOr FileFault.Read) }
+        ensures faults { IfErr result (OpenFails false Read) }
     {
         match opened {
             Ok((file, id)) => match keep(&mut self.open, id) {
                 Ok(()) => Ok(file),
-                Err(_) => Err(FileFault::Memory),
+                Err(_) => Err(OpenFault::Fault(FileFault::Memory)),
             },
-            Err(error) => Err(fault_of(error, FileFault::Read)),
+            Err(error) => Err(OpenFault::Fault(fault_of(error, FileFault::Read))),
         }
     }
 
@@ -93,17 +109,17 @@ impl<'r> HostFiles<'r> {
     }
 
     /// Keeps a file that was prepared, where it is none of those that are open.
-    fn admit_prepared(&mut self, prepared: Prepared) -> Result<(), CreateFault>
+    fn admit_prepared(&mut self, prepared: Prepared) -> Result<(), OpenFault>
         ensures kept { self.new.log ≡ self.old.log }
-        ensures faults { IfErr result (CreateFails false) }
+        ensures faults { IfErr result (OpenFails false Write) }
     {
         let id = prepared.id(self.rt);
         if is_known(self.open.as_slice(), id) || is_for_faults(self.rt, id) {
-            return Err(CreateFault::SameFile);
+            return Err(OpenFault::SameFile);
         }
         match self.prepared.push(prepared) {
             Ok(()) => Ok(()),
-            Err(_) => Err(CreateFault::Fault(FileFault::Memory)),
+            Err(_) => Err(OpenFault::Fault(FileFault::Memory)),
         }
     }
 }
@@ -111,6 +127,53 @@ impl<'r> HostFiles<'r> {
 /// Whether this is the file to which standard error leads.
 fn is_for_faults(rt: &HostRuntime, id: Option<FileId>) -> bool {
     id.is_some() && id == FileId::of_stream(rt, Stream::Faults)
+}
+
+/// Keeps a stream, where it is none of those that were kept before.
+fn keep_stream(kept: &mut Vec<StreamId>, stream: StreamId) -> Result<(), OpenFault>
+    ensures { IfErr result (OpenFails false Read) }
+{
+    if kept.iter().any(|other| other.is_same(stream)) {
+        return Err(OpenFault::SameFile);
+    }
+    match kept.push(stream) {
+        Ok(()) => Ok(()),
+        Err(_) => Err(OpenFault::Fault(FileFault::Memory)),
+    }
+}
+
+/// Whether two names are given and lead to one stream.
+fn is_one_stream(
+    alloc: Global,
+    rt: &HostRuntime,
+    one: Option<&str>,
+    other: Option<&str>,
+) -> io::Result<bool> {
+    let (Some(one), Some(other)) = (one, other) else {
+        return Ok(false);
+    };
+    match (
+        StreamId::at(alloc, rt, one)?,
+        StreamId::at(alloc, rt, other)?,
+    ) {
+        (Some(one), Some(other)) => Ok(one.is_same(other)),
+        _ => Ok(false),
+    }
+}
+
+/// Whether a name and one of the others are given and lead to one stream.
+fn is_among(
+    alloc: Global,
+    rt: &HostRuntime,
+    others: &[Option<&str>],
+    name: Option<&str>,
+) -> io::Result<bool> {
+    for other in others.iter() {
+        if is_one_stream(alloc, rt, *other, name)? {
+            return Ok(true);
+        }
+    }
+    Ok(false)
 }
 
 /// Whether this is a file that was prepared.
@@ -137,17 +200,17 @@ fn keep(opened: &mut Vec<FileId>, id: Option<FileId>) -> Result<(), AllocError> 
 }
 
 /// Keeps which file was opened to be written, where it is none of those that were opened before.
-fn admit(opened: &mut Vec<FileId>, id: Option<FileId>) -> Result<(), CreateFault>
+fn admit(opened: &mut Vec<FileId>, id: Option<FileId>) -> Result<(), OpenFault>
     ensures apart { (one : FileId) → id ≡ Some one → Contains opened.old.items one
         → result ≡ Err SameFile }
-    ensures faults { IfErr result (CreateFails false) }
+    ensures faults { IfErr result (OpenFails false Write) }
 {
     if is_known(opened.as_slice(), id) {
-        return Err(CreateFault::SameFile);
+        return Err(OpenFault::SameFile);
     }
     match keep(opened, id) {
         Ok(()) => Ok(()),
-        Err(_) => Err(CreateFault::Fault(FileFault::Memory)),
+        Err(_) => Err(OpenFault::Fault(FileFault::Memory)),
     }
 }
 
@@ -158,11 +221,11 @@ fn admit_out(
     opened: &mut Vec<FileId>,
     prepared: &[Prepared],
     out: HostOut,
-) -> Result<HostOut, CreateFault>
-    ensures { IfErr result (CreateFails false) }
+) -> Result<HostOut, OpenFault>
+    ensures { IfErr result (OpenFails false Write) }
 {
     let admitted = if is_prepared(rt, prepared, out.id()) {
-        Err(CreateFault::SameFile)
+        Err(OpenFault::SameFile)
     } else {
         admit(opened, out.id())
     };
@@ -223,13 +286,26 @@ impl<'r> FileSet for HostFiles<'r> {
         one.is_some() && one == FileId::at(self.rt, other)
     }
 
-    fn open(&mut self, alloc: Global, name: &str) -> Result<HostIn, FileFault> {
+    fn check_streams(&self, alloc: Global, names: &[Option<&str>]) -> Result<(), OpenFault> {
+        for i in 0..names.len() {
+            match is_among(alloc, self.rt, &names[..i], names[i]) {
+                Ok(true) => return Err(OpenFault::SameFile),
+                Ok(false) => {}
+                Err(error) => return Err(OpenFault::Fault(fault_of(error, FileFault::Memory))),
+            }
+        }
+        Ok(())
+    }
+
+    fn open(&mut self, alloc: Global, name: &str) -> Result<HostIn, OpenFault> {
         self.log.opened(name);
+        self.admit_stream(alloc, name)?;
         self.admit_in(HostIn::open(alloc, self.rt, name))
     }
 
-    fn open_or_empty(&mut self, alloc: Global, name: &str) -> Result<HostIn, FileFault> {
+    fn open_or_empty(&mut self, alloc: Global, name: &str) -> Result<HostIn, OpenFault> {
         self.log.opened(name);
+        self.admit_stream(alloc, name)?;
         self.admit_in(HostIn::open_or_empty(alloc, self.rt, name))
     }
 
@@ -243,7 +319,7 @@ impl<'r> FileSet for HostFiles<'r> {
         alloc: Global,
         name: &str,
         spared: Option<&str>,
-    ) -> Result<(), CreateFault> {
+    ) -> Result<(), OpenFault> {
         self.log.prepared(name);
         let spared = match spared {
             Some(spared) => FileId::at(self.rt, spared),
@@ -251,15 +327,15 @@ impl<'r> FileSet for HostFiles<'r> {
         };
         match Prepared::new(alloc, self.rt, name, spared) {
             Ok(prepared) => self.admit_prepared(prepared),
-            Err(error) => Err(CreateFault::Fault(fault_of(error, FileFault::Write))),
+            Err(error) => Err(OpenFault::Fault(fault_of(error, FileFault::Write))),
         }
     }
 
-    fn create(&mut self, alloc: Global, name: &str) -> Result<HostOut, CreateFault> {
+    fn create(&mut self, alloc: Global, name: &str) -> Result<HostOut, OpenFault> {
         self.log.created(name);
         match HostOut::open(alloc, self.rt, name) {
             Ok(out) => admit_out(self.rt, &mut self.open, self.prepared.as_slice(), out),
-            Err(error) => Err(CreateFault::Fault(fault_of(error, FileFault::Write))),
+            Err(error) => Err(OpenFault::Fault(fault_of(error, FileFault::Write))),
         }
     }
 

@@ -88,8 +88,8 @@ impl HostIn {
             return Err(io::Error::from(io::ErrorKind::Unsupported));
         };
         stream.check(rt)?;
-        let input = HostIn::new(Origin::Input(rt.stdin()), None);
-        Ok((input, FileId::of_stream(rt, stream)))
+        let id = FileId::of_open_stream(rt, stream)?;
+        Ok((HostIn::new(Origin::Input(rt.stdin()), None), id))
     }
 
     fn open_path(rt: &HostRuntime, name: &str) -> io::Result<(HostIn, Option<FileId>)> {

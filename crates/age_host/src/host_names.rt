@@ -80,7 +80,7 @@ const LINKS_MAX: usize = 40;
 /// What a name stands for, at the end of its links.
 pub(crate) fn resolve(alloc: Global, rt: &HostRuntime, name: &str) -> io::Result<Resolved> {
     let mut path = PathBuf::from_str(alloc, name)?;
-    for _ in 0..LINKS_MAX {
+    for _ in 0..=LINKS_MAX {
         if let Some(stream) = Stream::named(path.as_str()) {
             return Ok(Resolved::Stream(stream));
         }
@@ -140,9 +140,87 @@ impl FileId {
         }
     }
 
-    /// The id of the file to which a stream leads.
+    /// The id of the file to which a stream leads that is open. Fails where the system doesn't show
+    /// that, as where there is no /proc: what is read could be overwritten.
+    pub(crate) fn of_open_stream(rt: &HostRuntime, stream: Stream) -> io::Result<Option<FileId>> {
+        Ok(FileId::of(&fs::metadata(rt, stream.path())?))
+    }
+
+    /// The id of the file to which a stream leads, where that is known.
     pub(crate) fn of_stream(rt: &HostRuntime, stream: Stream) -> Option<FileId> {
         FileId::at(rt, stream.path())
+    }
+}
+
+/// Identifies what gives each of its bytes once, whatever its names.
+#[derive(Clone, Copy, PartialEq, Eq)]
+pub(crate) enum StreamId {
+    /// Standard input, where it is a file that others can open: it is read on from where it stands.
+    Input,
+    /// A terminal, or another device that is read byte by byte, by its number.
+    Device(u64),
+    /// A pipe, a socket or another file of their kind, by its device and inode.
+    Pipe(u64, u64),
+}
+
+/// The number of `/dev/tty`, which is the same terminal as another device.
+const CONTROLLING_TERMINAL: u64 = 0x500;
+
+impl StreamId {
+    /// The stream to which a name leads, before it is opened: `None` for what can be read twice.
+    /// Fails where memory is refused.
+    pub(crate) fn at(alloc: Global, rt: &HostRuntime, name: &str) -> io::Result<Option<StreamId>> {
+        match resolve(alloc, rt, name) {
+            Ok(Resolved::Path(_)) => Ok(StreamId::found(rt, name)),
+            Ok(Resolved::Stream(Stream::Input)) => Ok(Some(StreamId::of_input(rt))),
+            Err(error) if error.kind() == io::ErrorKind::OutOfMemory => Err(error),
+            _ => Ok(None),
+        }
+    }
+
+    /// The stream that standard input is.
+    fn of_input(rt: &HostRuntime) -> StreamId {
+        match StreamId::found(rt, Stream::Input.path()) {
+            Some(id) => id,
+            None => StreamId::Input,
+        }
+    }
+
+    /// The stream that is found at a path.
+    fn found(rt: &HostRuntime, path: &str) -> Option<StreamId> {
+        match fs::metadata(rt, path) {
+            Ok(metadata) => StreamId::of(&metadata),
+            Err(_) => None,
+        }
+    }
+
+    fn of(metadata: &Metadata) -> Option<StreamId> {
+        let kind = metadata.file_type();
+        if kind.is_file() || kind.is_dir() || kind.is_block_device() {
+            None
+        } else if kind.is_char_device() {
+            StreamId::of_device(metadata.rdev())
+        } else {
+            Some(StreamId::Pipe(metadata.dev(), metadata.ino()))
+        }
+    }
+
+    /// `None` for the devices without an end or a state: `/dev/null`, `zero`, `full`, `random` and
+    /// `urandom`.
+    fn of_device(number: u64) -> Option<StreamId> {
+        match number {
+            0x103 | 0x105 | 0x107 | 0x108 | 0x109 => None,
+            _ => Some(StreamId::Device(number)),
+        }
+    }
+
+    /// Whether two are one stream, as far as can be told.
+    pub(crate) fn is_same(self, other: StreamId) -> bool {
+        match (self, other) {
+            (StreamId::Device(CONTROLLING_TERMINAL), StreamId::Device(_)) => true,
+            (StreamId::Device(_), StreamId::Device(CONTROLLING_TERMINAL)) => true,
+            _ => self == other,
+        }
     }
 }
 

@@ -11,6 +11,7 @@ use std::alloc::Global;
 use std::fs::{self, File, Metadata};
 use std::io::{self, Write};
 use std::marker::Model;
+use std::os::unix::fs::MetadataExt;
 use std::path::PathBuf;
 use std::rt::{HostRuntime, Stderr, Stdout};
 
@@ -20,6 +21,8 @@ struct OutFile {
     file: File,
     // The path at which opening made it, if that was so.
     made: Option<PathBuf>,
+    // It had a name when it was opened.
+    is_named: bool,
     // What it held is still there, beyond the bytes that were written.
     is_stale: bool,
     written: u64,
@@ -61,6 +64,12 @@ fn is_regular(file: &File) -> io::Result<bool> {
     Ok(file.metadata()?.is_file())
 }
 
+/// Whether a file has a name, wherever that is; a pipe or a device needs none.
+fn has_name(file: &File) -> io::Result<bool> {
+    let own = file.metadata()?;
+    Ok(!own.is_file() || own.nlink() > 0)
+}
+
 /// Whether a file is the one at a path, where no link is followed.
 fn is_at(rt: &HostRuntime, own: &Metadata, path: &PathBuf) -> bool {
     match fs::symlink_metadata(rt, path.as_str()) {
@@ -81,14 +90,21 @@ impl OutFile {
     /// Opens a file without emptying it, or makes it where there is none.
     fn open(rt: &HostRuntime, name: &str, path: PathBuf) -> io::Result<OutFile> {
         match open_to_write(rt, name)? {
-            Some(file) => Ok(OutFile {
-                file: above_streams(file)?,
-                made: None,
-                is_stale: true,
-                written: 0,
-            }),
+            Some(file) => OutFile::of_found(above_streams(file)?),
             None => OutFile::make(rt, path),
         }
+    }
+
+    /// A file that was there, in place of what it holds.
+    fn of_found(file: File) -> io::Result<OutFile> {
+        let is_named = has_name(&file)?;
+        Ok(OutFile {
+            file,
+            made: None,
+            is_named,
+            is_stale: true,
+            written: 0,
+        })
     }
 
     /// Makes a file at a path that is no link, and where there is none.
@@ -97,6 +113,7 @@ impl OutFile {
         Ok(OutFile {
             file,
             made: Some(path),
+            is_named: true,
             is_stale: false,
             written: 0,
         })
@@ -136,9 +153,13 @@ impl OutFile {
         }
     }
 
-    /// Ends it with what was written.
+    /// Ends it with what was written. Fails where its last name was removed meanwhile, as by
+    /// another run that had made it and stopped.
     fn finish(&mut self, rt: &HostRuntime, durability: Durability) -> io::Result<()> {
         self.cut()?;
+        if self.is_named && !has_name(&self.file)? {
+            return Err(io::Error::from(io::ErrorKind::NotFound));
+        }
         match durability {
             Durability::Synced => self.reach_disk(rt),
             Durability::Buffered => Ok(()),
@@ -201,12 +222,7 @@ impl HostOut {
 
     /// A file that is open to be written, in place of what it holds.
     pub(crate) fn over(file: File) -> io::Result<HostOut> {
-        HostOut::of_file(OutFile {
-            file,
-            made: None,
-            is_stale: true,
-            written: 0,
-        })
+        HostOut::of_file(OutFile::of_found(file)?)
     }
 
     /// A stream that can be written, from where it stands.
@@ -217,7 +233,7 @@ impl HostOut {
             Stream::Output => Target::Output(rt.stdout()),
             Stream::Faults => Target::Faults(rt.stderr()),
         };
-        Ok(HostOut::new(target, FileId::of_stream(rt, stream)))
+        Ok(HostOut::new(target, FileId::of_open_stream(rt, stream)?))
     }
 
     /// Which file it is, where that is known.

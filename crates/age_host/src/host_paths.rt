@@ -13,10 +13,18 @@ pub(crate) const OUTPUT_MODE: u32 = 0o666;
 /// against which guesses can be tried.
 pub(crate) const POSITION_MODE: u32 = 0o600;
 
-/// Opens a file to be written without emptying it; `None` where there is none.
+/// Opens a file to be written without emptying it; `None` where there is none. It is opened as one
+/// that may have to be made: so the system refuses a file or a pipe of somebody else's in a sticky
+/// folder, where it guards these.
 pub(crate) fn open_to_write(rt: &HostRuntime, name: &str) -> io::Result<Option<File>> {
-    match File::options().write(true).open(rt, name) {
-        Ok(file) => Ok(Some(file)),
+    match fs::metadata(rt, name) {
+        Ok(_) => Ok(Some(
+            File::options()
+                .write(true)
+                .create(true)
+                .mode(POSITION_MODE)
+                .open(rt, name)?,
+        )),
         Err(error) if error.kind() == io::ErrorKind::NotFound => Ok(None),
         Err(error) => Err(error),
     }

@@ -10,6 +10,7 @@ use age_io::Durability;
 use std::alloc::Global;
 use std::fs::{self, File, Metadata, Permissions};
 use std::io::{self, Write};
+use std::os::unix::fs::{MetadataExt, PermissionsExt};
 use std::path::PathBuf;
 use std::rt::HostRuntime;
 
@@ -70,9 +71,16 @@ impl Beside {
         }
     }
 
-    /// Gives it the permissions of another file, where that is allowed.
-    fn set_permissions(&self, permissions: Option<Permissions>) {
-        if let Some(permissions) = permissions {
+    /// Gives it the permissions of the file that it replaces, where that is allowed: all of them,
+    /// where it has the same owner and group, and otherwise the owner's, since the others' would be
+    /// for other people. It is never run, or run as its owner.
+    fn take_permissions(&self, replaced: Option<&Metadata>) {
+        if let Some(replaced) = replaced
+            && let Ok(own) = self.file.metadata()
+        {
+            let is_same = own.uid() == replaced.uid() && own.gid() == replaced.gid();
+            let kept = if is_same { 0o666 } else { 0o600 };
+            let permissions = Permissions::from_mode(replaced.mode() & kept);
             let _ = self.file.set_permissions(permissions);
         }
     }
@@ -99,12 +107,12 @@ fn replace_beside(
     alloc: Global,
     rt: &HostRuntime,
     path: &PathBuf,
-    permissions: Option<Permissions>,
+    replaced: Option<&Metadata>,
     bytes: &[u8],
     durability: Durability,
 ) -> Result<(), Unplaced> {
     let mut new = make_beside(alloc, rt, path)?;
-    new.set_permissions(permissions);
+    new.take_permissions(replaced);
     if let Err(unplaced) = new.place(rt, path, bytes, durability) {
         remove(rt, new.path.as_str());
         return Err(unplaced);
@@ -185,14 +193,7 @@ fn replace_found(
 ) -> io::Result<()> {
     let file = open_found(rt, path.as_str(), Node::of(found))?;
     if found.is_file() {
-        match replace_beside(
-            alloc,
-            rt,
-            path,
-            Some(found.permissions()),
-            bytes,
-            durability,
-        ) {
+        match replace_beside(alloc, rt, path, Some(found), bytes, durability) {
             Ok(()) => return Ok(()),
             Err(Unplaced::NotBeside) => {}
             Err(Unplaced::Failed(error)) => return Err(error),

@@ -6,11 +6,12 @@ use std::io;
 use std::path::PathBuf;
 use std::rt::HostRuntime;
 
-/// Whether an error says that the machine has no way to wait here.
+/// Whether an error says that the machine has no way to wait here. A file system that became
+/// read-only after a file was written says something else: that its disk failed.
 fn is_unsupported(error: &io::Error) -> bool {
     matches!(
         error.kind(),
-        io::ErrorKind::InvalidInput | io::ErrorKind::Unsupported | io::ErrorKind::ReadOnlyFilesystem
+        io::ErrorKind::InvalidInput | io::ErrorKind::Unsupported
     )
 }
 
@@ -45,13 +46,14 @@ pub(crate) fn folder_of(path: &PathBuf) -> &str {
 }
 
 /// Waits until what went to a stream has reached the disk, if it leads to a file that can. Another
-/// descriptor of that file serves, whether it can be read or written.
+/// descriptor of that file serves, whether it can be read or written. Fails where the system
+/// doesn't show where the stream leads.
 pub(crate) fn sync_stream(rt: &HostRuntime, stream: Stream) -> io::Result<()> {
     let path = stream.path();
-    match fs::metadata(rt, path) {
-        Ok(found) if is_on_disk(&found) => sync(&open_either_way(rt, path)?),
-        _ => Ok(()),
+    if is_on_disk(&fs::metadata(rt, path)?) {
+        sync(&open_either_way(rt, path)?)?;
     }
+    Ok(())
 }
 
 /// Opens a file to be read, or else to be written.

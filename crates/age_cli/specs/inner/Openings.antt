@@ -25,7 +25,7 @@ pub record Opens {A : Type 0} (shows : Bool) (order whole : List Event) (old new
 -- the files by which a command line is judged were opened, `order` being the events of that, and
 -- this was read of them; if names that have to differ are equal, none is
 pub record Judges {A : Type 0} (shows : Bool) (order : List Event) (old new : FilesView)
-    (IsRead : A → Type 0) (IsTwice : Type 0) (result : Result A Ending) : Type 0 where
+    (IsRead : A → Type 0) (IsTwice Blame : Type 0) (result : Result A Ending) : Type 0 where
   -- No entry differs.
   pub kept : new.entries ≡ old.entries
   -- What was read is what the files hold.
@@ -36,5 +36,7 @@ pub record Judges {A : Type 0} (shows : Bool) (order : List Event) (old new : Fi
   pub followed : Follows order old.events new.events
   -- Names that have to differ are refused before a file is opened.
   pub apart : IsTwice → RefusesAtOnce old.events new.events result
+  -- The command line is refused for this alone where contracts see the files.
+  pub blamed : shows ≡ true → IfErr result (λ ending. is_usage ending ≡ true → Blame)
   -- It ended early.
   pub early : IfErr result EndsEarly

@@ -1,7 +1,7 @@
 //! Sources, sinks and files over memory, by their plans of failures.
 
 use age_file::{Failed, FileFault, MemSink, MemSource, Reading, Sink, Source, Writing, write_all};
-use age_fileset::{CreateFault, FileSet, MemFiles};
+use age_fileset::{FileSet, MemFiles, OpenFault};
 use age_io::Durability;
 use std::alloc::Global;
 
@@ -125,11 +125,14 @@ fn holds(files: &MemFiles, name: &str, bytes: &[u8]) -> bool {
 
 /// Whether a file that isn't there can't be read.
 fn is_missing(alloc: Global, files: &mut MemFiles, name: &str) -> bool {
-    matches!(&files.open(alloc, name), Err(FileFault::Read))
+    matches!(
+        &files.open(alloc, name),
+        Err(OpenFault::Fault(FileFault::Read))
+    )
 }
 
 fn is_unwritable(alloc: Global, files: &mut MemFiles, name: &str) -> bool {
-    let unwritable = CreateFault::Fault(FileFault::Write);
+    let unwritable = OpenFault::Fault(FileFault::Write);
     matches!(&files.create(alloc, name), Err(fault) if *fault == unwritable)
 }
 

@@ -1,4 +1,4 @@
-use Rattle.std.proofs.Common.{◌∙◌, ◌++◌, ◌∷◌, [], refl, ap, sym, subst, true≢false, Some}
+use Rattle.std.proofs.Common.{◌∙◌, ◌++◌, ◌∷◌, [], inl, inr, refl, ap, sym, subst, true≢false, Some}
 use Rattle.age_file.specs.Ports.{ports}
 use Rattle.age_fileset.specs.Events.{Opened, Created}
 use Rattle.age_cli_args.specs.Requests.{text_of}
@@ -18,38 +18,43 @@ pub returns-in_err-choice : goal.returns-in_err-choice
 returns-in_err-choice g c =
     let d = c.args.asked.now in
     let e : Ending = Usage c.in_err-choice.field-0.0 in
-    acts_early _ _ (Decrypt d) _ _ _ c.from_residual.result e c.from_residual.ensures refl tt (none_done _ _) (λ shown usage. none_done _ _)
-    (λ twice. (refl, refl)) refl
+    acts_early _ _ (Decrypt d) _ _ _ c.from_residual.result e c.from_residual.ensures refl (λ shown. tt) (none_done _ _) (λ shown usage. none_done _ _)
+    (λ twice. (refl, refl))
+    (λ shown usage. inr (c.in_err-choice.ensures.none (g.F.FileSet.view c.args.files.now).entries)) refl
 
 pub returns-in_err-secret : goal.returns-in_err-secret
 returns-in_err-secret g c =
     let d = c.args.asked.now in
     let e : Ending = c.in_err-secret.field-0.0 in
-    let judged = in_order _ _ _ _ _ _ _ _ c.in_ok-choice.ensures.order c.in_err-secret.ensures in
-    acts_early _ _ (Decrypt d) _ _ _ c.from_residual-in_err-secret.result e c.from_residual-in_err-secret.ensures judged.kept judged.early
+    let judged = in_order _ _ _ _ _ _ _ _ _ c.in_ok-choice.ensures.chooses.order c.in_err-secret.ensures in
+    acts_early _ _ (Decrypt d) _ _ _ c.from_residual-in_err-secret.result e c.from_residual-in_err-secret.ensures judged.kept (λ shown. judged.early)
     (longer _ (Opened d.from.now ∷ (preparing (text_of d.save) ++ making (Some d.to.now) d.durability)) _ _ judged.followed) (λ shown usage. judged.followed)
-    (λ twice. judged.apart (c.names_a_file_twice-is_file_named_twice.ensures twice)) refl
+    (λ twice. judged.apart (c.names_a_file_twice-is_file_named_twice.ensures.twice twice))
+    (λ shown usage. inl (c.names_a_file_twice-is_file_named_twice.ensures.shown shown (judged.blamed shown usage))) refl
 
 pub returns-in_err-identity : goal.returns-in_err-identity
 returns-in_err-identity g c =
     let d = c.args.asked.now in
     let e : Ending = Usage c.in_err-identity.field-0.0 in
-    let judged = in_order _ _ _ _ _ _ _ _ c.in_ok-choice.ensures.order c.in_ok-secret.ensures in
-    acts_early _ _ (Decrypt d) _ _ _ c.from_residual-in_err-identity.result e c.from_residual-in_err-identity.ensures judged.kept tt
+    let judged = in_order _ _ _ _ _ _ _ _ _ c.in_ok-choice.ensures.chooses.order c.in_ok-secret.ensures in
+    acts_early _ _ (Decrypt d) _ _ _ c.from_residual-in_err-identity.result e c.from_residual-in_err-identity.ensures judged.kept (λ shown. tt)
     (longer _ (Opened d.from.now ∷ (preparing (text_of d.save) ++ making (Some d.to.now) d.durability)) _ _ judged.followed) (λ shown usage. judged.followed)
-    (λ twice. absurd (judged.apart (c.names_a_file_twice-is_file_named_twice.ensures twice)).1) refl
+    (λ twice. absurd (judged.apart (c.names_a_file_twice-is_file_named_twice.ensures.twice twice)).1)
+    (λ shown usage. inr (λ identity opens. c.in_err-identity.ensures.none identity
+    ((judged.read shown).1 identity (c.in_ok-choice.ensures.chooses.only (g.F.FileSet.view c.args.files.now).entries identity opens)))) refl
 
 pub returns-in_err-source : goal.returns-in_err-source
 returns-in_err-source g c =
     let d = c.args.asked.now in
     let e : Ending = c.in_err-source.field-0.0 in
-    let judged = in_order _ _ _ _ _ _ _ _ c.in_ok-choice.ensures.order c.in_ok-secret.ensures in
+    let judged = in_order _ _ _ _ _ _ _ _ _ c.in_ok-choice.ensures.chooses.order c.in_ok-secret.ensures in
     let both = c.in_err-source.ensures in
-    acts_early _ _ (Decrypt d) _ _ _ c.from_residual-in_err-source.result e c.from_residual-in_err-source.ensures (both.kept ∙ judged.kept) both.early
+    acts_early _ _ (Decrypt d) _ _ _ c.from_residual-in_err-source.result e c.from_residual-in_err-source.ensures (both.kept ∙ judged.kept) (λ shown. both.early)
     (then_follows _ _ _ (identity_order (text_of d.identity.pass) (text_of d.identity.shared))
     (Opened d.from.now ∷ (preparing (text_of d.save) ++ making (Some d.to.now) d.durability)) judged.noted both.followed)
     (λ shown usage. absurd (true≢false (sym usage ∙ both.fault shown)))
-    (λ twice. absurd (judged.apart (c.names_a_file_twice-is_file_named_twice.ensures twice)).1) refl
+    (λ twice. absurd (judged.apart (c.names_a_file_twice-is_file_named_twice.ensures.twice twice)).1)
+    (λ shown usage. absurd (true≢false (sym usage ∙ both.fault shown))) refl
 
 pub returns-in-Silent : goal.returns-in-Silent
 returns-in-Silent g c =
@@ -57,19 +62,19 @@ returns-in-Silent g c =
     let view = g.F.FileSet.view in
     let In = g.F.In.Source.view in
     let Out = g.F.Out.Sink.view in
-    let judged = in_order _ _ _ _ _ _ _ _ c.in_ok-choice.ensures.order c.in_ok-secret.ensures in
+    let judged = in_order _ _ _ _ _ _ _ _ _ c.in_ok-choice.ensures.chooses.order c.in_ok-secret.ensures in
     let both = c.in_ok-source.ensures in
     let run = c.decrypt_with-opened in
     let before = ports (In c.in_ok-source.source) (Out c.in_ok-source.out) in
     decrypt_acts _ _ (view c.args.files.now) (view c.open_both.new.files) (view c.conclude.new.files) _ before (ports (In run.new.reader) (Out run.new.writer))
     (record { source = c.in_ok-source.source; sink = c.in_ok-source.out; is = refl }) (record { source = run.new.reader; sink = run.new.writer; is = refl })
     c.opening_end.result c.conclude.result (both.kept ∙ judged.kept) d c.positions_for-positions.result c.in_ok-identity.identity run.result
-    (λ shown. c.in_ok-choice.ensures.opens (view c.args.files.now).entries _ _ (judged.read shown) c.in_ok-identity.ensures)
+    (λ shown. c.in_ok-choice.ensures.chooses.opens (view c.args.files.now).entries _ _ (judged.read shown).0 c.in_ok-identity.ensures.makes)
     (λ shown. subst (λ (f : Files). Found (paths_of d) f before) judged.kept (both.opened shown))
     c.positions_for-positions.ensures c.opening_end.ensures run.ensures c.conclude.ensures
     (then_did _ _ _ (identity_order (text_of d.identity.pass) (text_of d.identity.shared))
     (Opened d.from.now ∷ (preparing (text_of d.save) ++ Created d.to.now ∷ [])) judged.noted both.noted)
-    (λ twice. absurd (judged.apart (c.names_a_file_twice-is_file_named_twice.ensures twice)).1) (λ silent. refl)
+    (λ twice. absurd (judged.apart (c.names_a_file_twice-is_file_named_twice.ensures.twice twice)).1) (λ silent. refl)
 
 pub returns : goal.returns
 returns g c =
@@ -77,7 +82,7 @@ returns g c =
     let view = g.F.FileSet.view in
     let In = g.F.In.Source.view in
     let Out = g.F.Out.Sink.view in
-    let judged = in_order _ _ _ _ _ _ _ _ c.in_ok-choice.ensures.order c.in_ok-secret.ensures in
+    let judged = in_order _ _ _ _ _ _ _ _ _ c.in_ok-choice.ensures.chooses.order c.in_ok-secret.ensures in
     let both = c.in_ok-source.ensures in
     let run = c.decrypt_with-opened-in-Shown in
     let source = c.with_meter-metered.result.source in
@@ -85,10 +90,10 @@ returns g c =
     decrypt_acts _ _ (view c.args.files.now) (view c.open_both.new.files) (view c.conclude-in-Shown.new.files) _ before (ports (In run.new.reader.source) (Out run.new.writer))
     (record { source = source; sink = c.in_ok-source.out; is = refl }) (record { source = run.new.reader.source; sink = run.new.writer; is = refl })
     c.opening_end-in-Shown.result c.conclude-in-Shown.result (both.kept ∙ judged.kept) d c.positions_for-positions.result c.in_ok-identity.identity run.result
-    (λ shown. c.in_ok-choice.ensures.opens (view c.args.files.now).entries _ _ (judged.read shown) c.in_ok-identity.ensures)
+    (λ shown. c.in_ok-choice.ensures.chooses.opens (view c.args.files.now).entries _ _ (judged.read shown).0 c.in_ok-identity.ensures.makes)
     (λ shown. let f = both.opened shown in
     subst (λ (f : Files). Found (paths_of d) f before) judged.kept (f.0, ap (λ s. (In s).remaining) c.with_meter-metered.ensures ∙ f.1, f.2, f.3))
     c.positions_for-positions.ensures c.opening_end-in-Shown.ensures run.ensures c.conclude-in-Shown.ensures
     (then_did _ _ _ (identity_order (text_of d.identity.pass) (text_of d.identity.shared))
     (Opened d.from.now ∷ (preparing (text_of d.save) ++ Created d.to.now ∷ [])) judged.noted both.noted)
-    (λ twice. absurd (judged.apart (c.names_a_file_twice-is_file_named_twice.ensures twice)).1) (λ silent. absurd (shown_not_silent (sym c.in-Shown.is ∙ silent)))
+    (λ twice. absurd (judged.apart (c.names_a_file_twice-is_file_named_twice.ensures.twice twice)).1) (λ silent. absurd (shown_not_silent (sym c.in-Shown.is ∙ silent)))

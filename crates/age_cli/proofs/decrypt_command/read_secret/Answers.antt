@@ -1,8 +1,8 @@
 use Rattle.std.proofs.Common.{◌∙◌, refl, sym, true≢false}
 use Rattle.age_cli_common.specs.Endings.{EndsEarly}
 use Rattle.age_cli_common.specs.declared.ending.Ending.{Ending}
-use Rattle.age_cli_common.specs.declared.ending.Ending.TheVariants.{Fault}
-use Rattle.age_cli.proofs.CommandSteps.{no_value, not_well, this_error, early_fault}
+use Rattle.age_cli_common.specs.inner.Endings.{ending_of}
+use Rattle.age_cli.proofs.CommandSteps.{no_value, not_well, this_error, created_fault, opened_early, streams_early}
 use Rattle.age_cli_common.proofs.EventSteps.{followed, none_done}
 use Rattle.age_cli.proofs.decrypt_command.read_secret.Goals as goal
 
@@ -13,14 +13,31 @@ returns-then-is_file_named_twice g c = record {
   noted = tt;
   followed = none_done _ _;
   apart = λ twice. (refl, refl);
+  blamed = λ shown usage. c.if-is_file_named_twice.true;
   early = tt;
 }
 
+pub returns-in_err-check_streams : goal.returns-in_err-check_streams
+returns-in_err-check_streams g c =
+    let r = c.from_residual.result in
+    let e : Ending = ending_of c.in_err-check_streams.field-0.0 in
+    let is = c.from_residual.ensures in
+    let fails = c.in_err-check_streams.ensures in
+    record {
+      kept = refl;
+      read = no_value r e is _;
+      noted = not_well r e is _;
+      followed = none_done _ _;
+      apart = λ twice. absurd (true≢false (sym twice ∙ c.if-is_file_named_twice.false));
+      blamed = λ shown. this_error r e is _ (λ usage. absurd (true≢false (sym usage ∙ created_fault _ _ _ fails shown)));
+      early = this_error r e is EndsEarly (streams_early _ _ fails);
+    }
+
 pub returns-in_err-read : goal.returns-in_err-read
 returns-in_err-read g c =
-    let r = c.from_residual.result in
-    let e : Ending = Fault c.in_err-read.field-0.0 in
-    let is = c.from_residual.ensures in
+    let r = c.from_residual-in_err-read.result in
+    let e : Ending = ending_of c.in_err-read.field-0.0 in
+    let is = c.from_residual-in_err-read.ensures in
     let read = c.in_err-read.ensures in
     record {
       kept = read.kept;
@@ -28,7 +45,8 @@ returns-in_err-read g c =
       noted = not_well r e is _;
       followed = followed _ _ _ read.noted;
       apart = λ twice. absurd (true≢false (sym twice ∙ c.if-is_file_named_twice.false));
-      early = this_error r e is EndsEarly (early_fault _ read.faults);
+      blamed = λ shown. this_error r e is _ (λ usage. absurd (true≢false (sym usage ∙ created_fault _ _ _ read.faults shown)));
+      early = this_error r e is EndsEarly (opened_early _ _ read.faults);
     }
 
 pub returns : goal.returns
@@ -36,9 +54,10 @@ returns g c =
     let read = c.in_ok-read.ensures in
     record {
       kept = read.kept;
-      read = read.read;
+      read = λ shown. (read.read shown, read.enough shown);
       noted = read.noted;
       followed = followed _ _ _ read.noted;
       apart = λ twice. absurd (true≢false (sym twice ∙ c.if-is_file_named_twice.false));
+      blamed = λ shown. tt;
       early = tt;
     }

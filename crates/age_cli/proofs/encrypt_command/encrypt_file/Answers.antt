@@ -1,4 +1,4 @@
-use Rattle.std.proofs.Common.{◌∙◌, ◌∷◌, [], refl, ap, sym, subst, true≢false, Some, None}
+use Rattle.std.proofs.Common.{◌∙◌, ◌∷◌, [], inr, refl, ap, sym, subst, true≢false, Some, None}
 use Rattle.age_file.specs.Ports.{ports}
 use Rattle.age_fileset.specs.Events.{Opened, Created}
 use Rattle.age_cli_args.specs.Requests.{text_of}
@@ -19,18 +19,19 @@ returns-in_err-material g c =
     let a = c.args.asked.now in
     let e : Ending = c.in_err-material.field-0.0 in
     let judged = c.in_err-material.ensures in
-    acts_early _ _ (Encrypt a) _ _ _ c.from_residual.result e c.from_residual.ensures judged.kept judged.early
+    acts_early _ _ (Encrypt a) _ _ _ c.from_residual.result e c.from_residual.ensures judged.kept (λ shown. judged.early)
     (longer _ (Opened a.from.now ∷ making (Some a.to.now) a.durability) _ _ judged.followed) (λ shown usage. judged.followed)
-    (λ twice. judged.apart twice) refl
+    (λ twice. judged.apart twice) judged.blamed refl
 
 pub returns-in_err-secret : goal.returns-in_err-secret
 returns-in_err-secret g c =
     let a = c.args.asked.now in
     let e : Ending = Usage c.in_err-secret.field-0.0 in
     let judged = c.in_ok-material.ensures in
-    acts_early _ _ (Encrypt a) _ _ _ c.from_residual-in_err-secret.result e c.from_residual-in_err-secret.ensures judged.kept tt
+    acts_early _ _ (Encrypt a) _ _ _ c.from_residual-in_err-secret.result e c.from_residual-in_err-secret.ensures judged.kept (λ shown. tt)
     (longer _ (Opened a.from.now ∷ making (Some a.to.now) a.durability) _ _ judged.followed) (λ shown usage. judged.followed)
-    (λ twice. absurd (judged.apart twice).1) refl
+    (λ twice. absurd (judged.apart twice).1)
+    (λ shown usage. inr (λ secret makes. c.in_err-secret.ensures.none (g.F.FileSet.view c.args.files.now).entries (judged.read shown) secret makes)) refl
 
 pub returns-in_err-source : goal.returns-in_err-source
 returns-in_err-source g c =
@@ -38,11 +39,11 @@ returns-in_err-source g c =
     let e : Ending = c.in_err-source.field-0.0 in
     let judged = c.in_ok-material.ensures in
     let both = c.in_err-source.ensures in
-    acts_early _ _ (Encrypt a) _ _ _ c.from_residual-in_err-source.result e c.from_residual-in_err-source.ensures (both.kept ∙ judged.kept) both.early
+    acts_early _ _ (Encrypt a) _ _ _ c.from_residual-in_err-source.result e c.from_residual-in_err-source.ensures (both.kept ∙ judged.kept) (λ shown. both.early)
     (then_follows _ _ _ (Opened a.pass.now ∷ Opened (random_name (text_of a.random)) ∷ []) (Opened a.from.now ∷ making (Some a.to.now) a.durability)
     judged.noted both.followed)
     (λ shown usage. absurd (true≢false (sym usage ∙ both.fault shown)))
-    (λ twice. absurd (judged.apart twice).1) refl
+    (λ twice. absurd (judged.apart twice).1) (λ shown usage. absurd (true≢false (sym usage ∙ both.fault shown))) refl
 
 pub returns-in-Silent : goal.returns-in-Silent
 returns-in-Silent g c =
@@ -58,7 +59,7 @@ returns-in-Silent g c =
     encrypt_acts _ _ (view c.args.files.now) (view c.open_both.new.files) (view c.conclude.new.files) _ before (ports (In run.new.reader) (Out run.new.writer))
     (record { source = c.in_ok-source.source; sink = c.in_ok-source.out; is = refl }) (record { source = run.new.reader; sink = run.new.writer; is = refl })
     c.sealing_end.result c.conclude.result (both.kept ∙ judged.kept) a c.in_ok-secret.secret run.result
-    (λ shown. c.in_ok-secret.ensures (view c.args.files.now).entries (judged.read shown))
+    (λ shown. c.in_ok-secret.ensures.makes (view c.args.files.now).entries (judged.read shown))
     (λ shown. subst (λ (f : Files). Found paths f before) judged.kept (both.opened shown))
     c.sealing_end.ensures run.ensures.done run.ensures.fails run.ensures.named c.conclude.ensures
     (then_did _ _ _ (Opened a.pass.now ∷ Opened (random_name (text_of a.random)) ∷ []) (Opened a.from.now ∷ Created a.to.now ∷ []) judged.noted both.noted)
@@ -79,7 +80,7 @@ returns g c =
     encrypt_acts _ _ (view c.args.files.now) (view c.open_both.new.files) (view c.conclude-in-Shown.new.files) _ before (ports (In run.new.reader.source) (Out run.new.writer))
     (record { source = source; sink = c.in_ok-source.out; is = refl }) (record { source = run.new.reader.source; sink = run.new.writer; is = refl })
     c.sealing_end-in-Shown.result c.conclude-in-Shown.result (both.kept ∙ judged.kept) a c.in_ok-secret.secret run.result
-    (λ shown. c.in_ok-secret.ensures (view c.args.files.now).entries (judged.read shown))
+    (λ shown. c.in_ok-secret.ensures.makes (view c.args.files.now).entries (judged.read shown))
     (λ shown. let f = both.opened shown in
     subst (λ (f : Files). Found paths f before) judged.kept (f.0, ap (λ s. (In s).remaining) c.with_meter-metered.ensures ∙ f.1, f.2, f.3))
     c.sealing_end-in-Shown.ensures run.ensures.done run.ensures.fails run.ensures.named c.conclude-in-Shown.ensures

@@ -1,3 +1,4 @@
+use Rattle.std.proofs.Common.{sym, true≢false}
 use Rattle.age_cli_common.specs.Endings.{EndsEarly}
 use Rattle.age_cli_common.specs.declared.ending.Ending.{Ending}
 use Rattle.age_cli_common.specs.declared.ending.Ending.TheVariants.{Fault}
@@ -11,5 +12,6 @@ returns-in_err-bytes g c =
     let is = c.from_residual.ensures in
     record {
       read = no_value r e is _;
+      short = this_error r e is _ (λ usage. absurd (true≢false (sym usage)));
       early = this_error r e is EndsEarly (early_fault _ c.in_err-bytes.ensures.faults);
     }

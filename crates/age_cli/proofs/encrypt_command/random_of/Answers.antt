@@ -2,8 +2,8 @@ use Rattle.std.proofs.Common.{◌∙◌, ◌++◌, ap, arith, List, ℕ, drop, r
 use Rattle.age_cli_common.proofs.Cuts.{cut_in_two, front_length}
 use Rattle.age_cli.proofs.encrypt_command.random_of.Goals as goal
 
-pub returns : goal.returns
-returns c =
+pub returns-clause-parts : goal.returns-clause-parts
+returns-clause-parts c =
     let xs = c.args.bytes.now in
     let a = c.in_ok-file_key.ensures.cases in
     let b = c.in_ok-salt.ensures.cases in

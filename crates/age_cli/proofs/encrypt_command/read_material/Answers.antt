@@ -1,9 +1,13 @@
-use Rattle.std.proofs.Common.{◌∙◌, ◌++◌, ◌∷◌, [], refl, ap, sym, true≢false}
+use Rattle.std.proofs.Common.{◌∙◌, ◌++◌, ◌∷◌, [], refl, ap, sym, subst, inl, inr, true≢false}
 use Rattle.age_cli_args.specs.Requests.{text_of}
 use Rattle.age_fileset.specs.Events.{Opened}
 use Rattle.age_cli_common.specs.Endings.{EndsEarly}
+use Rattle.age_cli_common.specs.inner.Endings.{ending_of}
+use Rattle.age_cli_common.specs.declared.ending.Ending.{Ending}
 use Rattle.age_cli_common.specs.Orders.{random_name}
-use Rattle.age_cli.proofs.CommandSteps.{no_value, not_well, this_error}
+use Rattle.age_cli_common.specs.Files.{Files}
+use Rattle.age_cli.specs.Encryptions.{IsRandomIn}
+use Rattle.age_cli.proofs.CommandSteps.{no_value, not_well, this_error, created_fault, streams_early}
 use Rattle.age_cli_common.proofs.EventSteps.{followed, none_done, then_did}
 use Rattle.age_cli.proofs.encrypt_command.read_material.Goals as goal
 
@@ -14,15 +18,32 @@ returns-then-names_out_twice g c = record {
   noted = tt;
   followed = none_done _ _;
   apart = λ twice. (refl, refl);
+  blamed = λ shown usage. inl (c.names_out_twice.ensures.shown shown c.if-names_out_twice.true);
   early = tt;
 }
+
+pub returns-in_err-check_streams : goal.returns-in_err-check_streams
+returns-in_err-check_streams g c =
+    let r = c.from_residual.result in
+    let e : Ending = ending_of c.in_err-check_streams.field-0.0 in
+    let is = c.from_residual.ensures in
+    let fails = c.in_err-check_streams.ensures in
+    record {
+      kept = refl;
+      read = no_value r e is _;
+      noted = not_well r e is _;
+      followed = none_done _ _;
+      apart = λ twice. absurd (true≢false (sym (c.names_out_twice.ensures.twice twice) ∙ c.if-names_out_twice.false));
+      blamed = λ shown. this_error r e is _ (λ usage. absurd (true≢false (sym usage ∙ created_fault _ _ _ fails shown)));
+      early = this_error r e is EndsEarly (streams_early _ _ fails);
+    }
 
 pub returns-in_err-pass : goal.returns-in_err-pass
 returns-in_err-pass g c =
     let a = c.args.asked.now in
-    let r = c.from_residual.result in
+    let r = c.from_residual-in_err-pass.result in
     let e = c.in_err-pass.field-0.0 in
-    let is = c.from_residual.ensures in
+    let is = c.from_residual-in_err-pass.ensures in
     record {
       kept = c.in_err-pass.ensures.kept;
       read = no_value r e is _;
@@ -33,7 +54,9 @@ returns-in_err-pass g c =
         did = c.in_err-pass.ensures.noted;
         front = refl;
       };
-      apart = λ twice. absurd (true≢false (sym (c.names_out_twice.ensures twice) ∙ c.if-names_out_twice.false));
+      apart = λ twice. absurd (true≢false (sym (c.names_out_twice.ensures.twice twice) ∙ c.if-names_out_twice.false));
+      blamed = λ shown. this_error r e is _ (λ usage.
+          inr (λ s makes. c.in_err-pass.ensures.refused shown usage s.pass s.log makes.passphrase makes.within));
       early = this_error r e is EndsEarly c.in_err-pass.ensures.early;
     }
 
@@ -47,17 +70,20 @@ returns-in_err-random g c =
       kept = c.in_err-random.ensures.kept ∙ c.in_ok-pass.ensures.kept;
       read = no_value r e is _;
       noted = not_well r e is _;
-      followed = followed _ _ _ (then_did _ _ _ (Opened a.pass.now ∷ []) (Opened c.random_name.result.now ∷ []) c.in_ok-pass.ensures.noted
-          c.in_err-random.ensures.noted ∙ ap (λ n. (g.F.FileSet.view c.args.files.now).events ++ Opened a.pass.now ∷ Opened n ∷ []) c.random_name.ensures);
-      apart = λ twice. absurd (true≢false (sym (c.names_out_twice.ensures twice) ∙ c.if-names_out_twice.false));
+      followed = followed _ _ _ (then_did _ _ _ (Opened a.pass.now ∷ []) (Opened c.random_name-random_name.result.now ∷ []) c.in_ok-pass.ensures.noted
+          c.in_err-random.ensures.noted ∙ ap (λ n. (g.F.FileSet.view c.args.files.now).events ++ Opened a.pass.now ∷ Opened n ∷ []) c.random_name-random_name.ensures);
+      apart = λ twice. absurd (true≢false (sym (c.names_out_twice.ensures.twice twice) ∙ c.if-names_out_twice.false));
+      blamed = λ shown. this_error r e is _ (λ usage. inr (λ s makes. c.in_err-random.ensures.short shown usage s
+          (subst (λ n. IsRandomIn ((g.F.FileSet.view c.read_pass.new.files).entries n) s) (sym c.random_name-random_name.ensures)
+          (subst (λ (f : Files). IsRandomIn (f (random_name (text_of a.random))) s) (sym c.in_ok-pass.ensures.kept) makes.random_is))));
       early = this_error r e is EndsEarly c.in_err-random.ensures.early;
     }
 
 pub returns : goal.returns
 returns g c =
     let a = c.args.asked.now in
-    let name = c.random_name.ensures in
-    let events = then_did _ _ _ (Opened a.pass.now ∷ []) (Opened c.random_name.result.now ∷ []) c.in_ok-pass.ensures.noted c.in_ok-random.ensures.noted
+    let name = c.random_name-random_name.ensures in
+    let events = then_did _ _ _ (Opened a.pass.now ∷ []) (Opened c.random_name-random_name.result.now ∷ []) c.in_ok-pass.ensures.noted c.in_ok-random.ensures.noted
     ∙ ap (λ n. (g.F.FileSet.view c.args.files.now).events ++ Opened a.pass.now ∷ Opened n ∷ []) name in
     record {
       kept = c.in_ok-random.ensures.kept ∙ c.in_ok-pass.ensures.kept;
@@ -73,6 +99,7 @@ returns g c =
           };
       noted = events;
       followed = followed _ _ _ events;
-      apart = λ twice. absurd (true≢false (sym (c.names_out_twice.ensures twice) ∙ c.if-names_out_twice.false));
+      apart = λ twice. absurd (true≢false (sym (c.names_out_twice.ensures.twice twice) ∙ c.if-names_out_twice.false));
+      blamed = λ shown. tt;
       early = tt;
     }

@@ -5,8 +5,8 @@ use Rattle.age_cli_common.specs.Identities.{without_line_feed}
 use Rattle.age_cli.proofs.EncryptionSteps.{random_in}
 use Rattle.age_cli.proofs.encrypt_command.secret_of.Goals as goal
 
-pub returns-in-Some : goal.returns-in-Some
-returns-in-Some c = λ old of.
+pub returns-in-Some-clause-makes : goal.returns-in-Some-clause-makes
+returns-in-Some-clause-makes c = λ old of.
     let secret = c.in-Some.secret in
     let is = c.in-Some.ensures.1 in
     record {

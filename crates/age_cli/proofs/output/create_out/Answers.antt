@@ -25,7 +25,7 @@ returns-in_err-out g c =
         front = refl;
       });
       early = this_error r e is EndsEarly (created_early _ _ faults);
-      fault = λ shown. this_error r e is _ (created_fault _ _ faults shown);
+      fault = λ shown. this_error r e is _ (created_fault _ _ _ faults shown);
     }
 
 pub returns-then-shows_progress_in : goal.returns-then-shows_progress_in

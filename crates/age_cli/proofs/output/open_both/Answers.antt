@@ -4,8 +4,8 @@ use Rattle.age_cli_args.specs.Requests.{text_of}
 use Rattle.age_cli_common.specs.EventOrders.{preparing, making}
 use Rattle.age_cli_common.specs.Endings.{EndsEarly}
 use Rattle.age_cli_common.specs.declared.ending.Ending.{Ending}
-use Rattle.age_cli_common.specs.declared.ending.Ending.TheVariants.{Fault}
-use Rattle.age_cli.proofs.CommandSteps.{no_value, not_well, this_error, an_error, early_fault}
+use Rattle.age_cli_common.specs.inner.Endings.{ending_of}
+use Rattle.age_cli.proofs.CommandSteps.{no_value, not_well, this_error, an_error, created_fault, opened_early}
 use Rattle.age_cli_common.proofs.EventSteps.{followed, longer, then_did, then_follows}
 use Rattle.age_cli.proofs.output.open_both.Goals as goal
 
@@ -13,7 +13,7 @@ pub returns-in_err-source : goal.returns-in_err-source
 returns-in_err-source g c =
     let r = c.from_residual.result in
     let a = c.args.asked.now in
-    let e : Ending = Fault c.in_err-source.field-0.0 in
+    let e : Ending = ending_of c.in_err-source.field-0.0 in
     let is = c.from_residual.ensures in
     record {
       kept = c.in_err-source.ensures.kept;
@@ -21,8 +21,8 @@ returns-in_err-source g c =
       noted = not_well r e is _;
       followed = an_error r _ (longer (Opened c.args.from.now ∷ []) (preparing (text_of a.save) ++ making (Some a.to.now) a.durability) _ _
           (followed _ _ _ c.in_err-source.ensures.noted));
-      early = this_error r e is EndsEarly (early_fault _ c.in_err-source.ensures.faults);
-      fault = λ shown. this_error r e is _ refl;
+      early = this_error r e is EndsEarly (opened_early _ _ c.in_err-source.ensures.faults);
+      fault = λ shown. this_error r e is _ (created_fault _ _ _ c.in_err-source.ensures.faults shown);
     }
 
 pub returns-in_err-prepare_save : goal.returns-in_err-prepare_save

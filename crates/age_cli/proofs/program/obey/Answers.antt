@@ -1,15 +1,16 @@
 use Rattle.std.proofs.Common.{◌∙◌, ap, inl, inr, refl, sym, subst, Some, None, append-nil}
+use Rattle.std.proofs.lemmas.Result.{IfErr-weaker}
 use Rattle.clap.specs.Walk.{texts}
 use Rattle.age_cli_args.specs.Requests.{Requests}
 use Rattle.age_cli_args.specs.declared.request.Request.TheVariants.{Inspect, Encrypt, Decrypt, Resume, Drill}
-use Rattle.age_cli.proofs.ObeySteps.{no_words, for_help, help_done, no_help, refuses, refuses_so, drill_acts, inspect_acts}
+use Rattle.age_cli.proofs.ObeySteps.{no_words, some_words, asked_fails, lacks, report_fault, reported_by, for_help, help_done, no_help, refuses, refuses_so, drill_acts, inspect_acts}
 use Rattle.age_cli.proofs.RunSteps.{acts_so}
 use Rattle.age_cli.proofs.program.obey.Goals as goal
 
 pub returns-then-is_empty : goal.returns-then-is_empty
 returns-then-is_empty g c = inl (record {
   none = no_words c.args.words.now _ c.is_empty.ensures c.if-is_empty.true;
-  report = c.report.ensures.done;
+  report = reported_by c.report.result _ _ _ c.report.ensures.done c.report.ensures.fails c.report.ensures.unprinted;
   untouched = refl;
   silent = refl;
 })
@@ -20,7 +21,10 @@ returns-in-Ok-None g c = inr (inr (record {
   refused = λ no. inl refl;
   untouched = refl;
   unprinted = λ no. refl;
+  unread = refl;
   silent = refl;
+  some = λ none. some_words c.args.words.now _ c.is_empty.ensures c.if-is_empty.false none;
+  unasked = λ asked made. absurd ((rw c.in-Ok-None.field-0-is at c.in-Ok-None.ensures.unasked) asked made);
 }))
 
 pub returns-in-Err : goal.returns-in-Err
@@ -34,7 +38,10 @@ returns-in-Err g c =
       refused = λ no. no_help r (λ ok. help (did.asked ok)) no (did.refusal (λ asked. no (help asked)));
       untouched = refl;
       unprinted = λ no. did.kept (λ asked. no (help asked));
+      unread = refl;
       silent = refl;
+      some = λ none. some_words c.args.words.now _ c.is_empty.ensures c.if-is_empty.false none;
+      unasked = λ asked made. lacks r (did.memory (asked_fails w c.in-Err.error c.in-Err.ensures.refusals asked made));
     }))
 
 pub returns-in-Inspect-Some : goal.returns-in-Inspect-Some
@@ -44,8 +51,8 @@ returns-in-Inspect-Some g c =
     inr (inl (record {
       asked = Inspect (Some here.name);
       made = subst (Requests (texts c.args.words.now)) (here.is ∙ ap Inspect (rw here.is at here.field-0-is)) (rw c.in-Ok-Some.field-0-is at c.in-Ok-Some.ensures.asked);
-      acts = inspect_acts _ _ _ _ _ c.report_file.result did.kept refl (Some here.name) did.noted did.fault;
-      answers = did.done;
+      acts = inspect_acts _ _ _ _ _ c.report_file.result did.kept refl (Some here.name) did.noted (IfErr-weaker c.report_file.result _ _ (report_fault _) did.fails);
+      answers = (refl, reported_by c.report_file.result _ _ _ did.done did.fails did.unprinted);
     }))
 
 pub returns-in-Inspect-None : goal.returns-in-Inspect-None
@@ -55,8 +62,8 @@ returns-in-Inspect-None g c =
     inr (inl (record {
       asked = Inspect None;
       made = subst (Requests (texts c.args.words.now)) (here.is ∙ ap Inspect (rw here.is at here.field-0-is)) (rw c.in-Ok-Some.field-0-is at c.in-Ok-Some.ensures.asked);
-      acts = inspect_acts _ _ _ _ _ c.report-in-Inspect-None.result refl refl None (sym (append-nil _)) did.fault;
-      answers = did.done;
+      acts = inspect_acts _ _ _ _ _ c.report-in-Inspect-None.result refl refl None (sym (append-nil _)) (IfErr-weaker c.report-in-Inspect-None.result _ _ (report_fault _) did.fails);
+      answers = reported_by c.report-in-Inspect-None.result _ _ _ did.done did.fails did.unprinted;
     }))
 
 pub returns-in-Encrypt : goal.returns-in-Encrypt
@@ -66,7 +73,7 @@ returns-in-Encrypt g c =
       asked = Encrypt here.asked;
       made = subst (Requests (texts c.args.words.now)) here.is (rw c.in-Ok-Some.field-0-is at c.in-Ok-Some.ensures.asked);
       acts = acts_so _ _ _ _ _ _ _ _ (refuses_so c.encrypt_file.result) c.encrypt_file.ensures;
-      answers = refl;
+      answers = (refl, refl);
     }))
 
 pub returns-in-Decrypt : goal.returns-in-Decrypt
@@ -76,7 +83,7 @@ returns-in-Decrypt g c =
       asked = Decrypt here.asked;
       made = subst (Requests (texts c.args.words.now)) here.is (rw c.in-Ok-Some.field-0-is at c.in-Ok-Some.ensures.asked);
       acts = acts_so _ _ _ _ _ _ _ _ (refuses_so c.decrypt_file.result) c.decrypt_file.ensures;
-      answers = refl;
+      answers = (refl, refl);
     }))
 
 pub returns-in-Resume : goal.returns-in-Resume
@@ -86,7 +93,7 @@ returns-in-Resume g c =
       asked = Resume here.asked;
       made = subst (Requests (texts c.args.words.now)) here.is (rw c.in-Ok-Some.field-0-is at c.in-Ok-Some.ensures.asked);
       acts = acts_so _ _ _ _ _ _ _ _ (refuses_so c.resume_file.result) c.resume_file.ensures;
-      answers = refl;
+      answers = (refl, refl);
     }))
 
 pub returns-in-Drill : goal.returns-in-Drill
@@ -97,5 +104,5 @@ returns-in-Drill g c =
       asked = Drill here.asked;
       made = subst (Requests (texts c.args.words.now)) here.is (rw c.in-Ok-Some.field-0-is at c.in-Ok-Some.ensures.asked);
       acts = drill_acts _ _ _ _ _ c.drill_file.result did.kept refl here.asked did.order did.order_done;
-      answers = λ both. let no = did.one both in (no.0, refuses c.drill_file.result no.1);
+      answers = (refl, λ both. let no = did.one both in (no.0, refuses c.drill_file.result no.1));
     }))

@@ -2,7 +2,7 @@ use Rattle.std.proofs.Common.{◌∙◌, ◌∷◌, [], inl, refl, ap, sym}
 use Rattle.std.specs.Prelude.{is_some}
 use Rattle.age_fileset.specs.Events.{Opened}
 use Rattle.age_cli.specs.Resumptions.{old_for}
-use Rattle.age_cli.proofs.CommandSteps.{no_value, not_well, this_error}
+use Rattle.age_cli.proofs.CommandSteps.{no_value, not_well, this_error, not_bad}
 use Rattle.age_cli_common.proofs.EventSteps.{followed, then_did}
 use Rattle.age_cli.proofs.resume_command.open_earlier.Goals as goal
 
@@ -22,6 +22,7 @@ returns-in_err-position g c =
         front = refl;
       };
       faults = this_error r e is _ c.in_err-position.ensures.faults;
+      bad = λ shown. this_error r e is _ (c.in_err-position.ensures.bad shown);
     }
 
 pub returns-in_err-old : goal.returns-in_err-old
@@ -37,6 +38,7 @@ returns-in_err-old g c =
       follows = followed _ _ _ (then_did _ _ _ (Opened a.position.now ∷ []) (Opened a.old.now ∷ []) c.in_ok-position.ensures.noted
           c.in_err-old.ensures.noted);
       faults = this_error r e is _ (inl c.in_err-old.ensures.faults);
+      bad = λ shown. this_error r e is _ (λ bad. absurd (not_bad _ _ c.in_err-old.ensures.faults bad));
     }
 
 pub returns : goal.returns
@@ -53,4 +55,5 @@ returns g c =
       noted = events;
       follows = followed _ _ _ events;
       faults = tt;
+      bad = λ shown. tt;
     }

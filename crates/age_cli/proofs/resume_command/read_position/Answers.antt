@@ -1,5 +1,5 @@
 use Rattle.std.proofs.Common.{inl}
-use Rattle.age_cli.proofs.CommandSteps.{no_value, this_error}
+use Rattle.age_cli.proofs.CommandSteps.{no_value, this_error, not_bad}
 use Rattle.age_cli.proofs.resume_command.read_position.Goals as goal
 
 pub returns-in_err-text : goal.returns-in_err-text
@@ -12,4 +12,5 @@ returns-in_err-text g c =
       read = no_value r e is _;
       noted = c.in_err-text.ensures.noted;
       faults = this_error r e is _ (inl c.in_err-text.ensures.faults);
+      bad = λ shown. this_error r e is _ (λ bad. absurd (not_bad _ _ c.in_err-text.ensures.faults bad));
     }

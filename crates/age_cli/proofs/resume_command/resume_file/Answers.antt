@@ -1,4 +1,4 @@
-use Rattle.std.proofs.Common.{◌∙◌, ◌++◌, ◌∷◌, [], inl, refl, ap, sym, subst, true≢false, Some}
+use Rattle.std.proofs.Common.{◌≡◌, ◌∙◌, ◌++◌, ◌∷◌, [], inl, inr, refl, ap, sym, subst, true≢false, Some}
 use Rattle.age_file.specs.Ports.{ports}
 use Rattle.age_fileset.specs.Events.{Opened, Created}
 use Rattle.age_cli_args.specs.Requests.{text_of}
@@ -6,10 +6,14 @@ use Rattle.age_cli_args.specs.declared.request.Request.TheVariants.{Resume}
 use Rattle.age_cli_common.specs.EventOrders.{identity_order, preparing, making}
 use Rattle.age_cli_common.specs.Files.{Files}
 use Rattle.age_cli_common.specs.declared.ending.Ending.{Ending}
-use Rattle.age_cli_common.specs.declared.ending.Ending.TheVariants.{Fault, Usage}
+use Rattle.age_cli_common.specs.declared.ending.Ending.TheVariants.{Usage}
+use Rattle.age_cli_common.specs.inner.Endings.{ending_of}
+use Rattle.age_fault.specs.declared.fault.FileFault.TheVariants.{BadPosition}
+use Rattle.age_fileset.specs.declared.files.OpenFault.TheVariants as create
 use Rattle.age_cli.specs.Acts.{paths_of}
+use Rattle.age_cli.specs.Resumptions.{HoldsNoPosition}
 use Rattle.age_cli.proofs.ActSteps.{acts_early, shown_not_silent}
-use Rattle.age_cli.proofs.CommandSteps.{bad_position, in_order}
+use Rattle.age_cli.proofs.CommandSteps.{bad_position, in_order, position_fault}
 use Rattle.age_cli.proofs.FinalSteps.{Found, WasEarlier, resume_acts}
 use Rattle.age_cli_common.proofs.EventSteps.{longer, none_done, then_did, then_follows}
 use Rattle.age_cli.proofs.resume_command.resume_file.Goals as goal
@@ -19,61 +23,68 @@ returns-in_err-choice g c =
     let r = c.args.asked.now in
     let d = r.decrypting in
     let e : Ending = Usage c.in_err-choice.field-0.0 in
-    acts_early _ _ (Resume r) _ _ _ c.from_residual.result e c.from_residual.ensures refl (inl tt) (none_done _ _) (λ shown usage. none_done _ _)
-    (λ twice. (refl, refl)) refl
+    acts_early _ _ (Resume r) _ _ _ c.from_residual.result e c.from_residual.ensures refl (λ shown. inl tt) (none_done _ _) (λ shown usage. none_done _ _)
+    (λ twice. (refl, refl))
+    (λ shown usage. inr (c.in_err-choice.ensures.none (g.F.FileSet.view c.args.files.now).entries)) refl
 
 pub returns-in_err-secret : goal.returns-in_err-secret
 returns-in_err-secret g c =
     let r = c.args.asked.now in
     let d = r.decrypting in
     let e : Ending = c.in_err-secret.field-0.0 in
-    let judged = in_order _ _ _ _ _ _ _ _ c.in_ok-choice.ensures.order c.in_err-secret.ensures in
-    acts_early _ _ (Resume r) _ _ _ c.from_residual-in_err-secret.result e c.from_residual-in_err-secret.ensures judged.kept (inl judged.early)
+    let judged = in_order _ _ _ _ _ _ _ _ _ c.in_ok-choice.ensures.chooses.order c.in_err-secret.ensures in
+    acts_early _ _ (Resume r) _ _ _ c.from_residual-in_err-secret.result e c.from_residual-in_err-secret.ensures judged.kept (λ shown. inl judged.early)
     (longer _ (Opened r.position.now ∷ Opened r.old.now ∷ Opened d.from.now ∷ (preparing (text_of d.save) ++ making (Some d.to.now) d.durability)) _ _ judged.followed)
     (λ shown usage. judged.followed)
-    (λ twice. judged.apart (c.names_one_twice-is_file_named_twice.ensures twice)) refl
+    (λ twice. judged.apart (c.names_one_twice-is_file_named_twice.ensures.twice twice))
+    (λ shown usage. inl (c.names_one_twice-is_file_named_twice.ensures.shown shown (judged.blamed shown usage))) refl
 
 pub returns-in_err-identity : goal.returns-in_err-identity
 returns-in_err-identity g c =
     let r = c.args.asked.now in
     let d = r.decrypting in
     let e : Ending = Usage c.in_err-identity.field-0.0 in
-    let judged = in_order _ _ _ _ _ _ _ _ c.in_ok-choice.ensures.order c.in_ok-secret.ensures in
-    acts_early _ _ (Resume r) _ _ _ c.from_residual-in_err-identity.result e c.from_residual-in_err-identity.ensures judged.kept (inl tt)
+    let judged = in_order _ _ _ _ _ _ _ _ _ c.in_ok-choice.ensures.chooses.order c.in_ok-secret.ensures in
+    acts_early _ _ (Resume r) _ _ _ c.from_residual-in_err-identity.result e c.from_residual-in_err-identity.ensures judged.kept (λ shown. inl tt)
     (longer _ (Opened r.position.now ∷ Opened r.old.now ∷ Opened d.from.now ∷ (preparing (text_of d.save) ++ making (Some d.to.now) d.durability)) _ _ judged.followed)
     (λ shown usage. judged.followed)
-    (λ twice. absurd (judged.apart (c.names_one_twice-is_file_named_twice.ensures twice)).1) refl
+    (λ twice. absurd (judged.apart (c.names_one_twice-is_file_named_twice.ensures.twice twice)).1)
+    (λ shown usage. inr (λ identity opens. c.in_err-identity.ensures.none identity
+    ((judged.read shown).1 identity (c.in_ok-choice.ensures.chooses.only (g.F.FileSet.view c.args.files.now).entries identity opens)))) refl
 
 pub returns-in_err-position : goal.returns-in_err-position
 returns-in_err-position g c =
     let r = c.args.asked.now in
     let d = r.decrypting in
-    let e : Ending = Fault c.in_err-position.field-0.0 in
-    let judged = in_order _ _ _ _ _ _ _ _ c.in_ok-choice.ensures.order c.in_ok-secret.ensures in
+    let e : Ending = ending_of c.in_err-position.field-0.0 in
+    let judged = in_order _ _ _ _ _ _ _ _ _ c.in_ok-choice.ensures.chooses.order c.in_ok-secret.ensures in
     let earlier = c.in_err-position.ensures in
     acts_early _ _ (Resume r) _ _ _ c.from_residual-in_err-position.result e c.from_residual-in_err-position.ensures (earlier.kept ∙ judged.kept)
-    (bad_position _ earlier.faults)
+    (λ shown. bad_position _ _ _ earlier.faults (subst (λ (f : Files). c.in_err-position.field-0.0 ≡ create.Fault BadPosition → HoldsNoPosition (f r.position.now))
+    judged.kept (earlier.bad shown)))
     (then_follows _ _ _ (identity_order (text_of d.identity.pass) (text_of d.identity.shared)) (Opened r.position.now ∷ Opened r.old.now ∷ Opened d.from.now ∷ (preparing (text_of d.save) ++ making (Some d.to.now) d.durability)) judged.noted
     (longer (Opened r.position.now ∷ Opened r.old.now ∷ []) (Opened d.from.now ∷ (preparing (text_of d.save) ++ making (Some d.to.now) d.durability)) _ _
     earlier.follows))
-    (λ shown usage. absurd (true≢false (sym usage)))
-    (λ twice. absurd (judged.apart (c.names_one_twice-is_file_named_twice.ensures twice)).1) refl
+    (λ shown usage. absurd (true≢false (sym usage ∙ position_fault _ _ earlier.faults shown)))
+    (λ twice. absurd (judged.apart (c.names_one_twice-is_file_named_twice.ensures.twice twice)).1)
+    (λ shown usage. absurd (true≢false (sym usage ∙ position_fault _ _ earlier.faults shown))) refl
 
 pub returns-in_err-source : goal.returns-in_err-source
 returns-in_err-source g c =
     let r = c.args.asked.now in
     let d = r.decrypting in
     let e : Ending = c.in_err-source.field-0.0 in
-    let judged = in_order _ _ _ _ _ _ _ _ c.in_ok-choice.ensures.order c.in_ok-secret.ensures in
+    let judged = in_order _ _ _ _ _ _ _ _ _ c.in_ok-choice.ensures.chooses.order c.in_ok-secret.ensures in
     let earlier = c.in_ok-position.ensures in
     let both = c.in_err-source.ensures in
     acts_early _ _ (Resume r) _ _ _ c.from_residual-in_err-source.result e c.from_residual-in_err-source.ensures (both.kept ∙ (earlier.kept ∙ judged.kept))
-    (inl both.early)
+    (λ shown. inl both.early)
     (then_follows _ _ _ (identity_order (text_of d.identity.pass) (text_of d.identity.shared)) (Opened r.position.now ∷ Opened r.old.now ∷ Opened d.from.now ∷ (preparing (text_of d.save) ++ making (Some d.to.now) d.durability)) judged.noted
     (then_follows _ _ _ (Opened r.position.now ∷ Opened r.old.now ∷ [])
     (Opened d.from.now ∷ (preparing (text_of d.save) ++ making (Some d.to.now) d.durability)) earlier.noted both.followed))
     (λ shown usage. absurd (true≢false (sym usage ∙ both.fault shown)))
-    (λ twice. absurd (judged.apart (c.names_one_twice-is_file_named_twice.ensures twice)).1) refl
+    (λ twice. absurd (judged.apart (c.names_one_twice-is_file_named_twice.ensures.twice twice)).1)
+    (λ shown usage. absurd (true≢false (sym usage ∙ both.fault shown))) refl
 
 pub returns-in-Silent : goal.returns-in-Silent
 returns-in-Silent g c =
@@ -82,7 +93,7 @@ returns-in-Silent g c =
     let view = g.F.FileSet.view in
     let In = g.F.In.Source.view in
     let Out = g.F.Out.Sink.view in
-    let judged = in_order _ _ _ _ _ _ _ _ c.in_ok-choice.ensures.order c.in_ok-secret.ensures in
+    let judged = in_order _ _ _ _ _ _ _ _ _ c.in_ok-choice.ensures.chooses.order c.in_ok-secret.ensures in
     let earlier = c.in_ok-position.ensures in
     let both = c.in_ok-source.ensures in
     let run = c.resume_with-resumed in
@@ -92,7 +103,7 @@ returns-in-Silent g c =
     (record { source = c.in_ok-source.source; sink = c.in_ok-source.out; is = refl }) (record { source = run.new.reader; sink = run.new.writer; is = refl })
     c.opening_end.result c.conclude.result (both.kept ∙ (earlier.kept ∙ judged.kept)) r c.positions_for-positions.result c.in_ok-identity.identity
     c.in_ok-position.position (In first) (In run.new.old_reader) run.result
-    (λ shown. c.in_ok-choice.ensures.opens (view c.args.files.now).entries _ _ (judged.read shown) c.in_ok-identity.ensures)
+    (λ shown. c.in_ok-choice.ensures.chooses.opens (view c.args.files.now).entries _ _ (judged.read shown).0 c.in_ok-identity.ensures.makes)
     (λ shown. subst (λ (f : Files). WasEarlier r c.in_ok-position.position f (In first)) judged.kept (earlier.found shown))
     (record { source = first; sink = c.in_ok-source.out; is = refl }) (record { source = run.new.old_reader; sink = run.new.writer; is = refl })
     (λ shown. subst (λ (f : Files). Found (paths_of d) f before) (earlier.kept ∙ judged.kept) (both.opened shown))
@@ -101,7 +112,7 @@ returns-in-Silent g c =
     (Opened r.position.now ∷ Opened r.old.now ∷ Opened d.from.now ∷ (preparing (text_of d.save) ++ Created d.to.now ∷ [])) judged.noted
     (then_did _ _ _ (Opened r.position.now ∷ Opened r.old.now ∷ []) (Opened d.from.now ∷ (preparing (text_of d.save) ++ Created d.to.now ∷ [])) earlier.noted
     both.noted))
-    (λ twice. absurd (judged.apart (c.names_one_twice-is_file_named_twice.ensures twice)).1) (λ silent. refl)
+    (λ twice. absurd (judged.apart (c.names_one_twice-is_file_named_twice.ensures.twice twice)).1) (λ silent. refl)
 
 pub returns : goal.returns
 returns g c =
@@ -110,7 +121,7 @@ returns g c =
     let view = g.F.FileSet.view in
     let In = g.F.In.Source.view in
     let Out = g.F.Out.Sink.view in
-    let judged = in_order _ _ _ _ _ _ _ _ c.in_ok-choice.ensures.order c.in_ok-secret.ensures in
+    let judged = in_order _ _ _ _ _ _ _ _ _ c.in_ok-choice.ensures.chooses.order c.in_ok-secret.ensures in
     let earlier = c.in_ok-position.ensures in
     let both = c.in_ok-source.ensures in
     let run = c.resume_with-resumed-in-Shown in
@@ -121,7 +132,7 @@ returns g c =
     (record { source = source; sink = c.in_ok-source.out; is = refl }) (record { source = run.new.reader.source; sink = run.new.writer; is = refl })
     c.opening_end-in-Shown.result c.conclude-in-Shown.result (both.kept ∙ (earlier.kept ∙ judged.kept)) r c.positions_for-positions.result c.in_ok-identity.identity
     c.in_ok-position.position (In first) (In run.new.old_reader) run.result
-    (λ shown. c.in_ok-choice.ensures.opens (view c.args.files.now).entries _ _ (judged.read shown) c.in_ok-identity.ensures)
+    (λ shown. c.in_ok-choice.ensures.chooses.opens (view c.args.files.now).entries _ _ (judged.read shown).0 c.in_ok-identity.ensures.makes)
     (λ shown. subst (λ (f : Files). WasEarlier r c.in_ok-position.position f (In first)) judged.kept (earlier.found shown))
     (record { source = first; sink = c.in_ok-source.out; is = refl }) (record { source = run.new.old_reader; sink = run.new.writer; is = refl })
     (λ shown. let f = both.opened shown in
@@ -132,4 +143,4 @@ returns g c =
     (Opened r.position.now ∷ Opened r.old.now ∷ Opened d.from.now ∷ (preparing (text_of d.save) ++ Created d.to.now ∷ [])) judged.noted
     (then_did _ _ _ (Opened r.position.now ∷ Opened r.old.now ∷ []) (Opened d.from.now ∷ (preparing (text_of d.save) ++ Created d.to.now ∷ [])) earlier.noted
     both.noted))
-    (λ twice. absurd (judged.apart (c.names_one_twice-is_file_named_twice.ensures twice)).1) (λ silent. absurd (shown_not_silent (sym c.in-Shown.is ∙ silent)))
+    (λ twice. absurd (judged.apart (c.names_one_twice-is_file_named_twice.ensures.twice twice)).1) (λ silent. absurd (shown_not_silent (sym c.in-Shown.is ∙ silent)))

@@ -3,8 +3,8 @@ use Rattle.age_cli_common.specs.Identities.{IsSharedIn}
 use Rattle.age_cli_common.proofs.Cuts.{cut_in_two, front_length}
 use Rattle.age_cli_common.proofs.identity.shared_of.Goals as goal
 
-pub returns : goal.returns
-returns c =
+pub returns-clause-some : goal.returns-clause-some
+returns-clause-some c =
     let xs = c.args.bytes.now in
     let a = c.in_ok-shared.ensures.cases in
     let b = c.in_ok-as_array.ensures.cases in
