@@ -40,15 +40,29 @@
  *
  * POINTERS. No pointer may be null, not even with a length of 0. Each points to at least as many
  * bytes as the length after it says, and what a call writes to overlaps nothing else that the call
- * is given. The library can't check this. For anything else that is out of range, the numbers in a
- * reader or writer among them, a call returns AGE_C_MISUSED.
+ * is given. Bytes may stand at any address; a reader, a writer and `written` are aligned as their
+ * types are. The library can't check this.
  *
- * THREADS. Any number of calls may run at the same time, on different readers and writers.
+ * THREADS, SIGNALS, FORK. Any number of calls may run at the same time, on different readers and
+ * writers. The library takes no lock, and calls nothing but malloc, realloc, free, memcpy, memmove
+ * and memset. So a signal handler may call age_c_block, age_c_end, age_c_seal_block and
+ * age_c_seal_end, on a reader or writer that the interrupted code isn't using; it may not make the
+ * calls that allocate. After fork, both processes may go on with their copy of a reader, but only
+ * one of them with a writer; glibc's malloc, and so each call, works in the child of a process with
+ * threads too.
  *
- * ERRORS. A call returns 0, the number of a fault (age_c_fault_name; docs/FAULTS.md says what each
- * means), AGE_C_MORE or AGE_C_MISUSED. A call that doesn't return 0 has written no byte of `out`,
- * has set *written to 0, and has changed nothing else. Only a reader that was refused with 17 to 22
- * has changed: every later call on it returns the same fault.
+ * ERRORS. A call returns 0, the number of a fault (AGE_C_NOT_AGE and so on; docs/FAULTS.md says
+ * what each means), AGE_C_MORE or AGE_C_MISUSED. A call that doesn't return 0 has written no byte
+ * of `out`, has set *written to 0, and has changed nothing else, with one exception: a fault 17 to
+ * 22 of age_c_block or age_c_end is kept in the reader. Each later call of these two on it returns
+ * that fault again, unless it is misused. After age_c_end returned 0, it returns 0 again if it is
+ * given no bytes, and writes nothing; any other call of these two returns AGE_C_TRAILING, unless it
+ * is misused.
+ *
+ * MISUSE. A call returns AGE_C_MISUSED if, and only if, a length or a work factor isn't as the
+ * call's comment says, or it takes a block or chunk and its reader or writer can't be used: `chunk`
+ * is 2^48 or more, a reader's `state` is none of those listed below, or a writer's isn't 1. This is
+ * looked at before anything else.
  *
  * The library is for x86-64 Linux: glibc 2.34 or later, and a processor with the instructions of
  * x86-64-v2. Link libage_c.a, which holds all that it needs but the C library; or libage_c.so.
@@ -68,8 +82,31 @@ extern "C" {
 /* The bytes end inside the header or the payload's nonce: call again with more of the file. At the
  * end of a file it means that the file was cut there. */
 #define AGE_C_MORE 254u
-/* An argument is out of range, or the reader or writer can't be used. Nothing was changed. */
+/* The call was misused: see MISUSE above. Nothing was changed, but that *written is 0. */
 #define AGE_C_MISUSED 255u
+
+/* The faults that a call can return, as docs/FAULTS.md lists them. */
+#define AGE_C_NOT_AGE 1u
+#define AGE_C_ARMORED 2u
+#define AGE_C_BAD_STANZA_LINE 3u
+#define AGE_C_BAD_BODY 4u
+#define AGE_C_BAD_END_LINE 5u
+#define AGE_C_NO_STANZA 6u
+#define AGE_C_HEAD_TOO_LONG 7u
+#define AGE_C_SCRYPT_NOT_ALONE 9u
+#define AGE_C_BAD_SCRYPT 10u
+#define AGE_C_WORK_TOO_HIGH 11u
+#define AGE_C_NO_MATCH 12u
+#define AGE_C_WRONG_KEY 13u
+#define AGE_C_MAC_MISMATCH 14u
+#define AGE_C_BAD_X25519 15u
+#define AGE_C_CHUNK_DAMAGED 17u
+#define AGE_C_CHUNK_CUT 18u
+#define AGE_C_EMPTY_LAST 19u
+#define AGE_C_TRUNCATED 20u
+#define AGE_C_TRAILING 21u
+#define AGE_C_TOO_MANY_CHUNKS 22u
+#define AGE_C_MEMORY 28u
 
 #define AGE_C_CHUNK 65536u /* bytes of text in a whole chunk */
 #define AGE_C_BLOCK 65552u /* bytes of its block */
@@ -79,6 +116,15 @@ extern "C" {
 #define AGE_C_SEAL_FRONT 256u /* room that age_c_seal_passphrase asks for */
 #define AGE_C_PASS_MAX 65536u /* bytes of a passphrase; at least 1 */
 #define AGE_C_WORK_MAX 22u    /* the greatest work factor; at least 1 */
+
+/* What a call returns has to be looked at: a compiler warns if it isn't. */
+#ifndef AGE_C_MUST_CHECK
+#if defined __GNUC__
+#define AGE_C_MUST_CHECK __attribute__((warn_unused_result))
+#else
+#define AGE_C_MUST_CHECK
+#endif
+#endif
 
 /* Where a file is being read. Only the library writes to it. */
 typedef struct age_c_reader {
@@ -111,47 +157,57 @@ uint32_t age_c_version(void);
 
 /* ---- reading ---- */
 
-/* Opens the header that `front` begins with by a passphrase. Work factors above max_work are
- * refused with 11: an untrusted file may demand 4 GiB. `front` is the beginning of the file, of
- * any length. On 0 the reader is at the payload, which begins at reader->payload_at. */
+/* Opens the header that `front` begins with by a passphrase: pass_len is 1 to AGE_C_PASS_MAX. Work
+ * factors above max_work, which is 1 to AGE_C_WORK_MAX, are refused with AGE_C_WORK_TOO_HIGH: an
+ * untrusted file may demand 4 GiB. `front` is the beginning of the file, of any length. On 0 the
+ * reader is at the payload, which begins at reader->payload_at. */
+AGE_C_MUST_CHECK
 uint32_t age_c_open_passphrase(const uint8_t *front, size_t front_len, const uint8_t *pass,
                                size_t pass_len, uint32_t max_work, age_c_reader *reader);
 
 /* The same by the file key, 16 bytes. */
+AGE_C_MUST_CHECK
 uint32_t age_c_open_key(const uint8_t *front, size_t front_len, const uint8_t *file_key,
                         size_t file_key_len, age_c_reader *reader);
 
 /* The same by an X25519 shared secret and the recipient that it was computed for, 32 bytes each. */
+AGE_C_MUST_CHECK
 uint32_t age_c_open_shared(const uint8_t *front, size_t front_len, const uint8_t *secret,
                            size_t secret_len, const uint8_t *recipient, size_t recipient_len,
                            age_c_reader *reader);
 
 /* Opens the next block: block_len is AGE_C_BLOCK. `out` has room for AGE_C_CHUNK bytes or more;
  * *written of them are the text. */
+AGE_C_MUST_CHECK
 uint32_t age_c_block(age_c_reader *reader, const uint8_t *block, size_t block_len, uint8_t *out,
                      size_t out_len, size_t *written);
 
 /* The file ended after these bytes, fewer than AGE_C_BLOCK and maybe none. `out` as above. The
  * text is whole only if this returns 0. */
+AGE_C_MUST_CHECK
 uint32_t age_c_end(age_c_reader *reader, const uint8_t *rest, size_t rest_len, uint8_t *out,
                    size_t out_len, size_t *written);
 
 /* ---- writing ---- */
 
-/* Begins a file under a passphrase. `random` is 48 bytes, new ones for each file, as getrandom
- * gives them: the file key, the salt and the payload's nonce. `out` has room for AGE_C_SEAL_FRONT
- * bytes or more; *written of them begin the file. */
+/* Begins a file under a passphrase: pass_len is 1 to AGE_C_PASS_MAX, and work 1 to AGE_C_WORK_MAX.
+ * `random` is 48 bytes, new ones for each file, as getrandom gives them: the file key, the salt and
+ * the payload's nonce. `out` has room for AGE_C_SEAL_FRONT bytes or more; *written of them begin
+ * the file. */
+AGE_C_MUST_CHECK
 uint32_t age_c_seal_passphrase(const uint8_t *pass, size_t pass_len, uint32_t work,
                                const uint8_t *random, size_t random_len, uint8_t *out,
                                size_t out_len, size_t *written, age_c_writer *writer);
 
 /* Seals the next chunk, which isn't the last: text_len is AGE_C_CHUNK, and more text has to
  * follow. `out` has room for AGE_C_BLOCK bytes or more, and all of the block is written. */
+AGE_C_MUST_CHECK
 uint32_t age_c_seal_block(age_c_writer *writer, const uint8_t *text, size_t text_len, uint8_t *out,
                           size_t out_len, size_t *written);
 
 /* Seals the last chunk: 1 to AGE_C_CHUNK bytes, or none if the whole text has none. `out` has room
  * for 16 bytes more than it. What was written since age_c_seal_passphrase is then the file. */
+AGE_C_MUST_CHECK
 uint32_t age_c_seal_end(age_c_writer *writer, const uint8_t *rest, size_t rest_len, uint8_t *out,
                         size_t out_len, size_t *written);
 

@@ -48,12 +48,11 @@ static int reads(void) {
     before = reader;
     int is_end = (int)(next() % 2);
     uint32_t answer = is_end ? age_c_end(&reader, given, len, out, room, &written) : age_c_block(&reader, given, len, out, room, &written);
-    int state_fits = (reader.state >= 1 && reader.state <= 3) || (reader.state >= 17 && reader.state <= 22);
-    int right = written == 0 && is_untouched(out, room);
-    if (answer == AGE_C_MISUSED) right = right && memcmp(&reader, &before, sizeof reader) == 0;
-    else
-        right = right && state_fits && before.chunk < UINT64_C(1) << 48 && room >= 65536 && (is_end ? len < 65552 : len == 65552)
-            && (answer == 0 ? reader.state < 4 : answer == reader.state);
+    int state_fits = (before.state >= 1 && before.state <= 3) || (before.state >= 17 && before.state <= 22);
+    int fits = state_fits && before.chunk < UINT64_C(1) << 48 && room >= 65536 && (is_end ? len < 65552 : len == 65552);
+    int right = written == 0 && is_untouched(out, room) && (answer == AGE_C_MISUSED) == !fits;
+    if (!fits) right = right && memcmp(&reader, &before, sizeof reader) == 0;
+    else right = right && (answer == 0 ? reader.state < 4 : answer == reader.state);
     free(given);
     free(out);
     return right;

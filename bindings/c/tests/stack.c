@@ -20,16 +20,18 @@ static size_t len, written;
 static age_c_reader reader;
 static age_c_writer writer;
 
+static volatile uint32_t answer; /* (what it is doesn't matter here) */
+
 static void *call(void *which) {
     static const uint8_t pass[2] = {'p', 'w'};
     switch (*(int *)which) {
-    case 0: age_c_open_passphrase(file, len, pass, sizeof pass, 22, &reader); break;
-    case 1: age_c_open_key(file, len, key, 16, &reader); break;
-    case 2: age_c_open_shared(file, len, key, 32, key, 32, &reader); break;
-    case 3: age_c_block(&reader, file, AGE_C_BLOCK, out, sizeof out, &written); break;
-    case 4: age_c_end(&reader, file, 400, out, sizeof out, &written); break;
-    case 5: age_c_seal_passphrase(pass, sizeof pass, 1, noise, sizeof noise, out, sizeof out, &written, &writer); break;
-    default: age_c_seal_block(&writer, file, AGE_C_CHUNK, out, sizeof out, &written); break;
+    case 0: answer = age_c_open_passphrase(file, len, pass, sizeof pass, 22, &reader); break;
+    case 1: answer = age_c_open_key(file, len, key, 16, &reader); break;
+    case 2: answer = age_c_open_shared(file, len, key, 32, key, 32, &reader); break;
+    case 3: answer = age_c_block(&reader, file, AGE_C_BLOCK, out, sizeof out, &written); break;
+    case 4: answer = age_c_end(&reader, file, 400, out, sizeof out, &written); break;
+    case 5: answer = age_c_seal_passphrase(pass, sizeof pass, 1, noise, sizeof noise, out, sizeof out, &written, &writer); break;
+    default: answer = age_c_seal_block(&writer, file, AGE_C_CHUNK, out, sizeof out, &written); break;
     }
     return NULL;
 }
