@@ -16,17 +16,27 @@ Reading: no byte of a block is returned before the block was checked, and the en
 only once it was checked that nothing is missing. What is wrong raises AgeError. So a loop that
 reads to the end without an exception has seen the whole text; one that stops earlier may have seen
 the beginning of a file that was cut. A file that can't seek can be read, but not sought in; in one
-that can, seek() reads on to the place, from the beginning if it lies before.
+that can, seek() reads on to the place, from the beginning if it lies before. If the source doesn't
+block and has no more bytes yet, read() returns None, or what there is, as io.RawIOBase does: b""
+alone means the end. seek() raises BlockingIOError then. After a seek that failed the file stands
+where it stood.
 
 Writing: the file is whole once close() returned. A `with` block that is left by an exception
-abandons it: it then ends in a way that every reader reports.
+abandons it: it then ends in a way that every reader reports. A write that an exception interrupts
+makes the file one that can't be finished.
+
+Threads may share a file, as with open(): calls wait for each other, and a write is never mixed with
+another one. Text ("rt", "wt") is for one thread at a time, as io.TextIOWrapper is.
 """
 import builtins
 import ctypes
 import ctypes.util
+import errno
 import io
+import operator
 import os
 import pathlib
+import threading
 
 __all__ = ["open", "AgeError", "AgeReader", "AgeWriter"]
 
@@ -47,7 +57,7 @@ NAMES = {
 
 class AgeError(Exception):
     """A fault: `number` and `name` as docs/FAULTS.md lists them, and `place`, the number of the chunk, if it has one. 254 says that the
-    file ends in its header or in the 16 bytes after it, 255 that an argument is out of range, such as an empty passphrase."""
+    file ends in its header or in the 16 bytes after it, 255 that an argument is out of range, such as an empty passphrase, or that a read was interrupted."""
 
     def __init__(self, number, place=None):
         super().__init__(number, place)
@@ -126,49 +136,104 @@ def _given(it):
 
 
 def _secret(text):
-    return text.encode() if isinstance(text, str) else bytes(text)
+    return text.encode() if isinstance(text, str) else _raw(text)
+
+
+def _raw(given):
+    """Its bytes. (A number has none, though bytes() would make zeros of it.)"""
+    return bytes(memoryview(given))
+
+
+def _see_one(passphrase, file_key, shared):
+    given = sum(it is not None for it in (passphrase, file_key, shared))
+    if given == 0:
+        raise ValueError("a passphrase, a file_key or shared (secret, recipient) is needed")
+    if given > 1:
+        raise TypeError("give one of passphrase, file_key and shared")
+
+
+class _OneCall:
+    """Lets one call at a time work on a file, as BufferedWriter does: other threads wait, and a call from inside another one, such as a
+    signal handler's, is refused. (Its thread may take the lock again: with another kind it would wait for itself.)"""
+
+    def __init__(self):
+        self._lock, self._busy = threading.RLock(), False
+
+    def make(self, call, *words):
+        with self._lock:
+            if self._busy:
+                raise RuntimeError("a call on the file from inside another one")
+            try:
+                self._busy = True
+                return call(*words)
+            finally:
+                self._busy = False
+
+
+def _opening(passphrase, file_key, shared, max_work):
+    """The call that opens the bytes that a file begins with, by the one key that is given."""
+    _see_one(passphrase, file_key, shared)
+    if passphrase is not None:
+        call, keys, more = _C.age_c_open_passphrase, [_Bytes(_secret(passphrase))], [max_work]
+    elif file_key is not None:
+        call, keys, more = _C.age_c_open_key, [_Bytes(_raw(file_key))], []
+    else:
+        secret, recipient = shared
+        call, keys, more = _C.age_c_open_shared, [_Bytes(_raw(it)) for it in (secret, recipient)], []
+
+    def opened(front, state):
+        return call(*_given(_Bytes(front)), *(part for it in keys for part in _given(it)), *more, state)
+
+    return opened
 
 
 class AgeReader(io.RawIOBase):
-    """The text of an age file, raw: `open` puts a buffer around it. One thread at a time may use it."""
+    """The text of an age file, raw: `open` puts a buffer around it. If the file doesn't block and its header isn't there yet, the reads
+    go on with it, so that they raise what is wrong with it."""
 
     def __init__(self, file, passphrase=None, file_key=None, shared=None, max_work=22, owned=False):
         super().__init__()
-        self._file, self._owned = file, owned
+        self._file, self._owned, self._calls = file, owned, _OneCall()
         self._state = _ReaderState()
         self._block, self._text, self._written = _Bytes(BLOCK), _Bytes(CHUNK), ctypes.c_size_t()
         self._at = self._len = self._before = 0
+        self._back_to = None  # where a seek began that failed
         self._fault = None
         self._ended = False
-        self._rest = self._begin(passphrase, file_key, shared, max_work)
+        self._rest = bytearray()  # what was read and isn't used yet
         self._payload_at = self._begun = None
-        if hasattr(file, "seekable") and file.seekable():
-            self._payload_at, self._begun = file.tell() - len(self._rest), bytes(self._state)
+        self._opened = _opening(passphrase, file_key, shared, max_work)  # None once the header is open
+        self._begin()
 
-    def _begin(self, passphrase, file_key, shared, max_work):
-        """Opens the header, and returns what was read after it."""
-        front = bytearray()
-        while True:
-            piece = self._file.read(min(CHUNK, FRONT_MAX - len(front)))
-            front += piece or b""
-            given = _Bytes(front)
-            if passphrase is not None:
-                answer = _C.age_c_open_passphrase(*_given(given), *_given(_Bytes(_secret(passphrase))), max_work, self._state)
-            elif file_key is not None:
-                answer = _C.age_c_open_key(*_given(given), *_given(_Bytes(file_key)), self._state)
-            elif shared is not None:
-                answer = _C.age_c_open_shared(*_given(given), *_given(_Bytes(shared[0])), *_given(_Bytes(shared[1])), self._state)
-            else:
-                raise ValueError("a passphrase, a file_key or shared (secret, recipient) is needed")
+    def _begin(self):
+        """Opens the header, and leaves what was read after it. False if the file has no more bytes yet."""
+        while self._opened is not None:
+            piece = self._file.read(min(CHUNK, FRONT_MAX - len(self._rest)))
+            if piece is None:
+                return False
+            self._rest += piece
+            answer = self._opened(self._rest, self._state)
             if answer == 0:
-                return front[self._state.payload_at:]
-            if answer != MORE or not piece:
+                del self._rest[:self._state.payload_at]
+                self._opened = None
+                self._mark()
+            elif answer != MORE or not piece:
+                self._fault = (answer, None)
                 raise AgeError(answer)
+        return True
+
+    def _mark(self):
+        """Keeps the place after the header, if the file can be sought in."""
+        if hasattr(self._file, "seekable") and self._file.seekable():
+            self._payload_at, self._begun = self._file.tell() - len(self._rest), bytes(self._state)
 
     def _fill(self):
-        """Reads a block, or what is left of the file, and returns how many bytes that is. What came before a failed read is kept."""
+        """Reads a block, or what is left of the file, and returns how many bytes that is. What came before a failed read is kept. None if
+        the file has no more bytes yet."""
         while len(self._rest) < BLOCK:
             piece = self._file.read(BLOCK - len(self._rest))
+            if piece is None:
+                return None
             if not piece:
                 break
             self._rest += piece
@@ -178,14 +243,17 @@ class AgeReader(io.RawIOBase):
         return have
 
     def _next(self):
-        """Opens the next block. False once the end was checked."""
+        """Opens the next block. False once the end was checked, and None if the file has no more bytes yet."""
         if self._fault is not None:
             raise AgeError(*self._fault)
         if self._ended:
             return False
         self._before += self._len
         self._at = self._len = 0
-        have = self._fill()
+        have = self._fill() if self._begin() else None
+        if have is None:
+            return None
+        self._fault = (MISUSED, None)  # so that what an exception interrupts isn't read on
         call = _C.age_c_block if have == BLOCK else _C.age_c_end
         answer = call(self._state, self._block.place, have, *_given(self._text), self._written)
         if answer != 0:
@@ -193,50 +261,78 @@ class AgeReader(io.RawIOBase):
             raise AgeError(*self._fault)
         self._ended = have < BLOCK
         self._len = self._written.value
+        self._fault = None
         return True
 
     def readable(self):
         return True
 
     def readinto(self, room):
-        self._checkClosed()
-        room = memoryview(room).cast("B")
+        return self._calls.make(self._read_into, memoryview(room).cast("B"))
+
+    def _read_into(self, room):
+        self._check_open()
         if len(room) == 0:
             return 0
+        self._return()
         while self._at == self._len:
-            if not self._next():
-                return 0
+            if not (more := self._next()):
+                return None if more is None else 0
         n = min(len(room), self._len - self._at)
         room[:n] = self._text.view[self._at:self._at + n]
         self._at += n
         return n
 
     def tell(self):
-        return self._before + self._at
+        return self._calls.make(self._place)
+
+    def _place(self):
+        return self._before + self._at if self._back_to is None else self._back_to
 
     def seekable(self):
         return self._begun is not None
 
     def seek(self, offset, whence=io.SEEK_SET):
-        """Reads on to that place, or from the beginning if it lies before. Nothing is skipped unchecked."""
-        self._checkClosed()
+        """Reads on to that place, or from the beginning if it lies before. Nothing is skipped unchecked. A place after the end is the
+        end."""
+        if whence not in (io.SEEK_SET, io.SEEK_CUR, io.SEEK_END):
+            raise ValueError(f"bad whence {whence!r}")
+        return self._calls.make(self._seek, operator.index(offset), whence)
+
+    def _seek(self, offset, whence):
+        self._check_open()
         if not self.seekable():
             raise io.UnsupportedOperation("seek")
-        if whence == io.SEEK_END:
+        place = {io.SEEK_SET: 0, io.SEEK_CUR: self._place()}.get(whence)
+        self._back_to = self._place()
+        if place is None:
             while self._pass(CHUNK):
                 pass
-        target = max(0, offset + (0 if whence == io.SEEK_SET else self.tell()))
+            place = self._before + self._at
+        if place + offset < 0:
+            raise ValueError(f"negative place {place + offset}")
+        self._go(place + offset)
+        self._back_to = None
+        return self._place()
+
+    def _return(self):
+        """Goes back to where a seek began that failed: what is above, such as a BufferedReader, counts on it."""
+        if self._back_to is not None:
+            self._go(self._back_to)
+            self._back_to = None
+
+    def _go(self, target):
         if target < self._before:
             self._rewind()
-        if target < self.tell():
-            self._at = target - self._before
-        while self.tell() < target and self._pass(target - self.tell()):
+        self._at = min(self._at, max(0, target - self._before))
+        while self._before + self._at < target and self._pass(target - self._before - self._at):
             pass
-        return self.tell()
 
     def _pass(self, most):
         """Passes over at most so many bytes. False at the end."""
-        if self._at == self._len and not self._next():
+        if self._at == self._len and not (more := self._next()):
+            if more is None:
+                raise BlockingIOError(errno.EAGAIN, "the file has no more bytes yet")
             return False
         self._at += min(most, self._len - self._at)
         return True
@@ -248,11 +344,14 @@ class AgeReader(io.RawIOBase):
         self._at = self._len = self._before = 0
         self._fault, self._ended = None, False
 
-    def _checkClosed(self):
+    def _check_open(self):
         if self.closed:
             raise ValueError("the file is closed")
 
     def close(self):
+        self._calls.make(self._close)
+
+    def _close(self):
         if not self.closed:
             if self._owned:
                 self._file.close()
@@ -274,34 +373,39 @@ class AgeWriter(io.BufferedIOBase):
 
     def __init__(self, file, begun, owned=False):
         super().__init__()
-        self._file, self._owned = file, owned
+        self._file, self._owned, self._calls = file, owned, _OneCall()
         self._state, front = begun
         self._text, self._count = bytearray(), 0
         self._out, self._written = _Bytes(BLOCK), ctypes.c_size_t()
-        self._failed = False
+        self._failed = self._over = False
         self._write(front)
 
     def _write(self, out):
         while out:
             out = out[self._file.write(out) or 0:]
 
-    def _seal(self, call, text):
+    def _change(self):
+        """Begins what changes the file: until it is done, and if an exception ends it, the file can't be finished."""
         if self._failed:
             raise ValueError("a block couldn't be written: the file isn't whole")
-        self._failed = True  # until the block is written
+        self._failed = True
+
+    def _seal(self, call, text):
         answer = call(self._state, *_given(_Bytes(text)), *_given(self._out), self._written)
         if answer != 0:
             raise AgeError(answer)
         self._write(self._out.view[:self._written.value])
-        self._failed = False
 
     def writable(self):
         return True
 
     def write(self, data):
+        return self._calls.make(self._add, memoryview(data).cast("B"))
+
+    def _add(self, data):
         if self.closed:
             raise ValueError("the file is closed")
-        data = memoryview(data).cast("B")
+        self._change()
         self._text += data
         self._count += len(data)
         at = 0
@@ -309,6 +413,7 @@ class AgeWriter(io.BufferedIOBase):
             self._seal(_C.age_c_seal_block, self._text[at:at + CHUNK])
             at += CHUNK
         del self._text[:at]
+        self._failed = False
         return len(data)
 
     def tell(self):
@@ -316,27 +421,40 @@ class AgeWriter(io.BufferedIOBase):
 
     def flush(self):
         """Passes on what is sealed; a chunk that isn't full stays."""
-        if not self.closed and not getattr(self._file, "closed", False):
+        if not self._over:
+            self._calls.make(self._pass_on)
+
+    def _pass_on(self):
+        if not getattr(self._file, "closed", False):
             self._file.flush()
 
     def close(self):
         """Seals the last chunk, so that the file is whole."""
+        self._calls.make(self._finish)
+
+    def _finish(self):
         if self.closed:
             return
         try:
+            self._change()
             self._seal(_C.age_c_seal_end, self._text)
-            self.flush()
         finally:
-            self.abandon()
+            self._leave()
 
     def abandon(self):
         """Closes without the last chunk."""
-        if not self.closed:
-            try:
-                super().close()
-            finally:
-                if self._owned:
-                    self._file.close()
+        self._calls.make(self._leave)
+
+    def _leave(self):
+        if self.closed:
+            return
+        try:
+            self._pass_on()
+        finally:
+            self._over = True  # so that flush(), which close() of the base calls, does no more
+            super().close()
+            if self._owned:
+                self._file.close()
 
     def __exit__(self, kind, value, trace):
         if kind is None:
@@ -370,6 +488,7 @@ def open(file, mode="rb", *, passphrase=None, file_key=None, shared=None, work=1
         raise ValueError("encoding, errors and newline are for text alone")
     if mode[0] != "r" and passphrase is None:
         raise ValueError("a passphrase is needed")
+    _see_one(passphrase, file_key, shared)
     # what can't be begun leaves the file as it is
     begun = None if mode[0] == "r" else _begun(passphrase, work)
     owned = isinstance(file, (str, bytes, os.PathLike))
