@@ -14,7 +14,7 @@ use Rattle.age_keys.specs.Keys.{payload_key}
 use Rattle.age_fault.specs.Faults.{HasFailed}
 use Rattle.age_io.specs.Views.{SourceView, SinkView}
 use Rattle.age_file.specs.inner.Intakes.{Pulled}
-use Rattle.age_file.specs.AgeFile.{unbox}
+use Rattle.age_keys.specs.AgeFile.{unbox}
 use Rattle.age_file.specs.inner.Payloads.{DecryptsPayload, SegmentFails, SegmentDone}
 use Rattle.age_file.specs.inner.Readers.{Stage}
 use Rattle.age_file.specs.Starts.{StartFails}

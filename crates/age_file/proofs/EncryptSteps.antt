@@ -7,7 +7,7 @@ use Rattle.std.proofs.KnownBytes.{Consumes-nil}
 use Rattle.age_chunk.specs.Payload.{payload, chunk_length}
 use Rattle.age_keys.specs.Keys.{header_mac, IsMacOf}
 use Rattle.age_keys.specs.Scrypt.{scrypt_head}
-use Rattle.age_file.specs.AgeFile.{box}
+use Rattle.age_keys.specs.AgeFile.{box}
 use Rattle.age_file.specs.Encrypts.{AgeFile, Encrypts, EncryptsFront, EncryptFails, WhyStopped}
 use Rattle.age_file.specs.Encrypts.{without_last}
 use Rattle.age_file.specs.inner.Encrypts.{BeginsFile, FrontFails, WritesFront}

@@ -18,7 +18,7 @@ use Rattle.age_stream.specs.Headline.{IsPrefixOf}
 use Rattle.age_keys.specs.declared.fault.KeyFault.{KeyFault}
 use Rattle.age_file.specs.inner.Boxes.{opens}
 use Rattle.age_keys.specs.Keys.{payload_key, position_key}
-use Rattle.age_file.specs.AgeFile.{unbox}
+use Rattle.age_keys.specs.AgeFile.{unbox}
 use Rattle.age_file.specs.Bindings.{file_id, chain, position_tag}
 use Rattle.age_file.specs.inner.Bindings.{chain_if}
 use Rattle.age_file.specs.declared.position.Positions.TheVariants.{Kept, Dropped}

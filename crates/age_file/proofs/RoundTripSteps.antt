@@ -5,7 +5,7 @@ use Rattle.std.specs.Prelude.{Result, Ok, Err, MatchResult}
 use Rattle.age_stanza.specs.Laws.{OneHeader}
 use Rattle.age_chunk.specs.Payload.{chunk_count, chunk_length}
 use Rattle.age_stream.specs.Authentic.{IsClosed}
-use Rattle.age_file.specs.AgeFile.{box, unbox}
+use Rattle.age_keys.specs.AgeFile.{box, unbox}
 use Rattle.age_keys.specs.Laws.{PassphraseOpens}
 use Rattle.age_keys.specs.Passphrase.{PassphraseIdentity, IsPassphraseKey, PassphraseRefuses}
 use Rattle.age_keys.specs.Scrypt.{scrypt_head}

@@ -11,7 +11,7 @@ use Rattle.age_stream.specs.Headline.{IsPrefixOf, IsReached}
 use Rattle.age_stream.proofs.PublicLaws.{released_is_written}
 use Rattle.age_keys.specs.Keys.{payload_key, position_key}
 use Rattle.age_keys.specs.inner.PayloadBox.{box_valid}
-use Rattle.age_file.specs.AgeFile.{box, unbox}
+use Rattle.age_keys.specs.AgeFile.{box, unbox}
 use Rattle.age_file.specs.Bindings.{file_id, chain, position_tag}
 use Rattle.age_file.specs.inner.Bindings.{chain_if}
 use Rattle.age_file.specs.inner.Decrypts.{IsPositionAt, PositionAt}

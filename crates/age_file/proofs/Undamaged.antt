@@ -22,7 +22,7 @@ use Rattle.age_keys.specs.declared.fault.KeyFault.TheVariants.{MacMismatch, Memo
 use Rattle.age_keys.specs.Keys.{IsMacOf, payload_key}
 use Rattle.age_keys.specs.inner.PayloadBox.{box_valid}
 use Rattle.age_keys.specs.Opened.{Refuses, RefusesKey}
-use Rattle.age_file.specs.AgeFile.{box, unbox}
+use Rattle.age_keys.specs.AgeFile.{box, unbox}
 use Rattle.age_file.specs.Ports.{Ports}
 use Rattle.std.specs.Prelude.{IfSome}
 use Rattle.age_file.specs.Faults.{IsHeadFault, NeverEnds}

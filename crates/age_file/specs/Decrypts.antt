@@ -10,7 +10,7 @@ use Rattle.age_keys.specs.declared.fault.KeyFault.{KeyFault}
 use Rattle.age_keys.specs.declared.fault.KeyFault.TheVariants.{Memory as KeyMemory}
 use Rattle.age_keys.specs.Keys.{IsScryptNotAlone}
 use Rattle.age_file.specs.Faults.{NeverEnds}
-use Rattle.age_file.specs.AgeFile.{box, unbox, FileOf}
+use Rattle.age_keys.specs.AgeFile.{box, unbox, FileOf}
 use Rattle.age_file.specs.declared.position.Positions.{Positions}
 use Rattle.age_file.specs.Ports.{Ports, NoneFailed}
 use Rattle.age_file.specs.Starts.{StartFails}

@@ -6,7 +6,7 @@ use Rattle.age_chunk.specs.Nonce.{chunk_limit}
 use Rattle.age_chunk.specs.Payload.{chunk_count, chunk_length, sealed_before_last, block_bytes}
 use Rattle.age_stream.specs.Sealing.{too_many}
 use Rattle.age_keys.specs.Scrypt.{scrypt_head}
-use Rattle.age_file.specs.AgeFile.{box, FileOf}
+use Rattle.age_keys.specs.AgeFile.{box, FileOf}
 use Rattle.age_file.specs.Faults.{IsByAllPulls}
 use Rattle.age_file.specs.Ports.{Ports, NoneFailed, ReadFailed, WriteFailed}
 use Rattle.age_file.specs.Secrets.{SecretView}

@@ -1,6 +1,5 @@
 pub mod Faults
 pub mod Reports
-pub mod AgeFile
 pub mod Bindings
 pub mod PositionTexts
 pub mod Ports

@@ -6,7 +6,7 @@ use Rattle.age_stream.specs.Authentic.{IsClosed}
 use Rattle.age_chunk.specs.Nonce.{chunk_limit}
 use Rattle.age_keys.specs.Passphrase.{PassphraseIdentity, IsAllowed, IsPassphraseKey}
 use Rattle.age_keys.specs.Passphrase.{PassphraseRefuses}
-use Rattle.age_file.specs.AgeFile.{box, unbox}
+use Rattle.age_keys.specs.AgeFile.{box, unbox}
 use Rattle.age_file.specs.Ports.{Ports}
 use Rattle.age_file.specs.Runs.{Run}
 use Rattle.age_file.specs.Secrets.{SecretView}

@@ -1,3 +1,4 @@
+pub mod AgeFile
 pub mod FaultNumbers
 pub mod Keys
 pub mod Laws
