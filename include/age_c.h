@@ -29,6 +29,9 @@
  * WHAT HOLDS. Each text that a call writes was checked: while nobody forges a tag, the texts of
  * one reader, joined, are a prefix of what the file's writer wrote, and once age_c_end returned 0
  * they are all of it. Before that the text may be cut short: don't act on it as if it were whole.
+ * An undamaged payload gives all of its text, and each call returns 0. The first whole block that
+ * isn't the writer's is refused with 17, and `fault_chunk` is its number. What a writer wrote, from
+ * age_c_seal_passphrase to an age_c_seal_end that returned 0, is the age file of the text.
  *
  * OWNERSHIP. A reader or writer is 64 bytes of plain numbers in the caller's memory: there is
  * nothing to free, and it may be copied (a copy of a reader goes on from the same place; never go

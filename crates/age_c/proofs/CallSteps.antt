@@ -1,30 +1,22 @@
 -- What a list of calls does to a reader.
-use Rattle.std.proofs.Common.{inl, inr, ◌≡◌, ◌≢◌, ℕ, ◌<◌, ◌*◌, refl, ap, sym, subst, ◌∙◌, arith}
-use Rattle.std.proofs.Common.{List, [], ◌∷◌, ◌++◌, take}
-use Rattle.std.proofs.Common.{Bool, true, false}
-use Rattle.std.specs.Prelude.{◌==◌, ◌⊎◌, if◌then◌else◌}
+use Rattle.std.proofs.Common.{inl, inr, ◌≡◌, ◌≢◌, ℕ, refl, ap, sym, subst, ◌∙◌, arith}
+use Rattle.std.proofs.Common.{List, [], ◌∷◌, ◌++◌, take, Bool, true, false}
+use Rattle.std.specs.Prelude.{◌==◌, ◌⊎◌, if◌then◌else◌, Some}
 use Rattle.std.proofs.lemmas.List.{append_assoc, append-nil}
 use Rattle.std.proofs.lemmas.Bool.{ne_eqb, false≢true}
-use Rattle.age_stream.specs.Authentic.{IsSealable}
-use Rattle.age_keys.specs.inner.PayloadBox.{box_valid}
-use Rattle.std.specs.List.{flat_map}
-use Rattle.age_stream.proofs.Fresh.{fresh_outcome}
-use Rattle.age_stream.specs.Segment.{Segment, Outcome, outcome, released}
-use Rattle.age_stream.specs.Deliveries.{with_piece, fresh}
-use Rattle.age_stream.specs.Headline.{IsReached}
-use Rattle.age_stream.specs.declared.step.Status.TheVariants.{Done}
-use Rattle.age_stream.proofs.PublicLaws.{released_is_written, rest_is_authentic}
-use Rattle.age_stream.specs.Headline.{IsRest}
-use Rattle.age_c.specs.Answers.{Answers}
-use Rattle.age_c.specs.ReaderCalls.{Takes, AnswersAreCalls, CallsGiveBack, call_of}
 use Rattle.std.proofs.lemmas.Bool.Decides.{eqb_tells}
+use Rattle.age_chunk.specs.Payload.{chunk_length}
+use Rattle.age_stream.specs.Segment.{Segment, outcome, released}
+use Rattle.age_stream.specs.Deliveries.{with_piece}
+use Rattle.age_stream.specs.declared.step.Status.TheVariants.{Done}
+use Rattle.age_c.specs.Answers.{Answers}
 use Rattle.age_c.specs.declared.reader.Reader.{Reader}
 use Rattle.age_c.specs.Numbers.{status_of, misused}
-use Rattle.age_c.specs.Readers.{IsAt, key_of, opens, text_of}
-use Rattle.age_c.specs.ReaderCalls.{Call, IsCall, AreCalls, CallsAreWritten, after_block, after_end}
-use Rattle.age_c.specs.ReaderCalls.{given_by, segment_from, texts_of, seals}
+use Rattle.age_c.specs.Readers.{IsAt, text_of}
+use Rattle.age_c.specs.ReaderCalls.{Takes, AnswersAreCalls, call_of, Call, IsCall, AreCalls}
+use Rattle.age_c.specs.ReaderCalls.{after_block, after_end, given_by, segment_from, texts_of}
+use Rattle.age_c.specs.inner.Keys.{key_of_reader as key_of, opens}
 use Rattle.age_c.proofs.ReaderSteps.{key_same, some_is}
-use Rattle.age_chunk.specs.Payload.{chunk_length}
 
 -- a call leaves the segment's start
 start_piece : (a : ℕ) (b : List ℕ) (ended late : Bool) (piece : List ℕ)
@@ -41,21 +33,21 @@ start_given false bytes s = start_piece s.start s.bytes s.ended s.late bytes
 abbrev pub next : Call → Segment → Segment
 next c s = if c.answer == misused then s else given_by c s
 
-misused_next : (c : Call) (s : Segment) → c.answer ≡ misused → next c s ≡ s
+pub misused_next : (c : Call) (s : Segment) → c.answer ≡ misused → next c s ≡ s
 misused_next c s is = ap (λ (n : ℕ). if n == misused then s else given_by c s) is
 
-taken_next : (c : Call) (s : Segment) → c.answer ≢ misused → next c s ≡ given_by c s
+pub taken_next : (c : Call) (s : Segment) → c.answer ≢ misused → next c s ≡ given_by c s
 taken_next c s other = ap (λ (b : Bool). if b then s else given_by c s)
     (ne_eqb c.answer misused other)
 
 -- where a reader stands after calls
-record After (r : Reader) (s next : Segment) (text : List ℕ) (last : Reader) : Type 0 where
+pub record After (r : Reader) (s next : Segment) (text : List ℕ) (last : Reader) : Type 0 where
   pub at : IsAt last next
   pub key : key_of last ≡ key_of r
   pub start : next.start ≡ s.start
   pub text_is : text_of r next ≡ text_of r s ++ text
 
-one : (r : Reader) (c : Call) (s : Segment) → IsAt r s → IsCall r c
+pub one : (r : Reader) (c : Call) (s : Segment) → IsAt r s → IsCall r c
     → After r s (next c s) c.text c.after
 one r c s h (inl idle) =
     let is = misused_next c s idle.0 in
@@ -100,7 +92,7 @@ both r c s calls first others =
           ∙ append_assoc (text_of r s) c.text (texts_of calls));
     }
 
-all_calls : (calls : List Call) (r : Reader) (s : Segment) → IsAt r s → AreCalls r calls
+pub all_calls : (calls : List Call) (r : Reader) (s : Segment) → IsAt r s → AreCalls r calls
     → After r s (segment_from s calls) (texts_of calls) (last_reader r calls)
 all_calls [] r s h are = record {
   at = h;
@@ -112,52 +104,37 @@ all_calls (c ∷ calls) r s h are =
     let first = one r c s h are.0 in
     both r c s calls first (all_calls calls c.after (next c s) first.at are.1)
 
+-- a reader of this key was given this segment
+pub record StandsAt (k : List ℕ) (r : Reader) (s : Segment) : Type 0 where
+  pub key : key_of r ≡ k
+  pub at : IsAt r s
+
+pub one_more : (k : List ℕ) (r : Reader) (c : Call) (s : Segment) → StandsAt k r s → IsCall r c
+    → StandsAt k c.after (next c s)
+one_more k r c s stands is =
+    let after = one r c s stands.at is in record { at = after.at; key = after.key ∙ stands.key }
+
+pub status_at : (k : List ℕ) (r : Reader) (s : Segment) → StandsAt k r s
+    → status_of r.state r.fault_chunk ≡ Some (outcome (opens k) chunk_length s).status
+status_at k r s stands = subst (λ (k : List ℕ). status_of r.state r.fault_chunk
+    ≡ Some (outcome (opens k) chunk_length s).status) stands.key stands.at.status
+
 -- the last of some calls
-last_is : (before : List Call) (last : Call) (r : Reader) → AreCalls r (before ++ last ∷ [])
+pub last_is : (before : List Call) (last : Call) (r : Reader) → AreCalls r (before ++ last ∷ [])
     → (last_reader r (before ++ last ∷ []) ≡ last.after) × IsCall (last_reader r before) last
 last_is [] last r are = (refl, are.0)
 last_is (c ∷ before) last r are = last_is before last c.after are.1
 
 -- an end that answers 0 leaves a reader that is done
-done_after : (r : Reader) (c : Call) → IsCall r c → c.is_end ≡ true → c.answer ≡ 0
+pub done_after : (r : Reader) (c : Call) → IsCall r c → c.is_end ≡ true → c.answer ≡ 0
     → c.after.state ≡ 3
 done_after r c (inl idle) is_end zero = let e : 0 ≡ 255 =
     sym zero ∙ idle.0 in absurd (omega (arith, e))
 done_after r c (inr taken) is_end zero = taken.2 is_end zero
 
-done_status : (r : Reader) (s : Segment) → IsAt r s → r.state ≡ 3
+pub done_status : (r : Reader) (s : Segment) → IsAt r s → r.state ≡ 3
     → (outcome (opens (key_of r)) chunk_length s).status ≡ Done
 done_status r s h three = some_is (sym h.status ∙ ap (λ (n : ℕ). status_of n r.fault_chunk) three)
-
-pub calls_are_written : CallsAreWritten
-calls_are_written r h calls are text few authentic =
-    let after = all_calls calls r (fresh 0) h are in
-    let s = segment_from (fresh 0) calls in
-    let positive : 0 < chunk_length = omega arith in
-    let reached : IsReached (seals (key_of r)) (opens (key_of r)) chunk_length text s = record {
-      limit = omega (arith, after.start);
-      within = omega (arith, ap (λ (n : ℕ). n * chunk_length) after.start);
-    } in
-    let right = released_is_written (seals (key_of r)) (opens (key_of r)) (box_valid (key_of r))
-    chunk_length positive s text few reached authentic in
-    let none : take (s.start * chunk_length) text ≡ [] =
-    ap (λ (n : ℕ). take (n * chunk_length) text) after.start in
-    let nothing : text_of r (fresh 0) ≡ [] =
-    ap (λ (o : Outcome). flat_map (λ (t : List ℕ). t) o.texts)
-    (fresh_outcome (opens (key_of r)) chunk_length 0) in
-    let is : take (s.start * chunk_length) text ++ text_of r s ≡ texts_of calls =
-    ap (λ (t : List ℕ). t ++ text_of r s) none
-    ∙ (after.text_is ∙ ap (λ (t : List ℕ). t ++ texts_of calls) nothing) in (
-      (right.prefix.0, ap (λ (t : List ℕ). t ++ right.prefix.0) (sym is) ∙ right.prefix.1),
-      λ before last parts is_end zero.
-          let end = last_is before last r (subst (λ (cs : List Call). AreCalls r cs) parts are) in
-          let reader : last_reader r calls ≡ last.after = ap (last_reader r) parts ∙ end.0 in
-          let three : (last_reader r calls).state ≡ 3 = ap (λ (r : Reader). r.state) reader
-          ∙ done_after (last_reader r before) last end.1 is_end zero in
-          let status = subst (λ (k : List ℕ). (outcome (opens k) chunk_length s).status ≡ Done)
-          after.key (done_status (last_reader r calls) s after.at three) in
-          sym is ∙ right.done status,
-    )
 
 -- ---- answers are calls
 
@@ -171,43 +148,19 @@ a_call : (old new : Reader) (is_end : Bool) (bytes before after : List ℕ) (ans
     ⊎ ((answer == misused) ≡ false) × (answer ≢ misused)
     → IsCall old (call_of is_end bytes answer written after new)
 a_call old new is_end bytes before after answer written Fits Does it does (inl is) =
-    inl (is.1, it.idle is.1, ap (λ (n : ℕ). take n after) (it.nothing (λ zero. omega (arith, zero, is.1))))
+    inl (
+      is.1,
+      it.idle is.1,
+      ap (λ (n : ℕ). take n after) (it.nothing (λ zero. omega (arith, zero, is.1))),
+    )
 a_call old new is_end bytes before after answer written Fits Does it does (inr other) =
     let did = does (it.taken other.1) in
     inr (other.1, did.0, did.1)
 
 pub answers_are_calls : AnswersAreCalls
 answers_are_calls old new bytes before after answer written = (
-  λ it. a_call old new false bytes before after answer written _ _ it (λ takes. (takes, λ is. absurd (false≢true is))) (eqb_tells answer misused),
-  λ it. a_call old new true bytes before after answer written _ _ it (λ ends. (ends.takes, λ is zero. ends.done zero)) (eqb_tells answer misused),
+  λ it. a_call old new false bytes before after answer written _ _ it
+      (λ takes. (takes, λ is. absurd (false≢true is))) (eqb_tells answer misused),
+  λ it. a_call old new true bytes before after answer written _ _ it
+      (λ ends. (ends.takes, λ is zero. ends.done zero)) (eqb_tells answer misused),
 )
-
-pub calls_give_back : CallsGiveBack
-calls_give_back r h calls are text few closed whole =
-    let after = all_calls calls r (fresh 0) h are in
-    let s = segment_from (fresh 0) calls in
-    let positive : 0 < chunk_length = omega arith in
-    let start : s.start ≡ 0 = ap (λ (s : Segment). s.start) whole in
-    let rest : IsRest (seals (key_of r)) (opens (key_of r)) chunk_length text s = record {
-      below = omega (arith, start);
-      bytes = search;
-      ended = ap (λ (s : Segment). s.ended) whole;
-      timely = ap (λ (s : Segment). s.late) whole;
-    } in
-    let sealable : IsSealable (seals (key_of r)) (opens (key_of r)) chunk_length text = record { valid = box_valid (key_of r); some = positive; few = few; closed = closed } in
-    let authentic = rest_is_authentic (seals (key_of r)) (opens (key_of r)) chunk_length text sealable s rest in
-    let reached : IsReached (seals (key_of r)) (opens (key_of r)) chunk_length text s = record {
-      limit = omega (arith, after.start);
-      within = omega (arith, ap (λ (n : ℕ). n * chunk_length) after.start);
-    } in
-    let right = released_is_written (seals (key_of r)) (opens (key_of r)) (box_valid (key_of r))
-    chunk_length positive s text few reached authentic in
-    let none : take (s.start * chunk_length) text ≡ [] =
-    ap (λ (n : ℕ). take (n * chunk_length) text) after.start in
-    let nothing : text_of r (fresh 0) ≡ [] =
-    ap (λ (o : Outcome). flat_map (λ (t : List ℕ). t) o.texts)
-    (fresh_outcome (opens (key_of r)) chunk_length 0) in
-    let is : take (s.start * chunk_length) text ++ text_of r s ≡ texts_of calls =
-    ap (λ (t : List ℕ). t ++ text_of r s) none
-    ∙ (after.text_is ∙ ap (λ (t : List ℕ). t ++ texts_of calls) nothing) in
-    sym is ∙ (right.whole rest).0

@@ -1,4 +1,7 @@
 pub mod ReaderSteps
 pub mod CallSteps
+pub mod CallFaults
+pub mod FirstWrong
+pub mod CallsWritten
 pub mod WriterSteps
 pub mod FrontSize

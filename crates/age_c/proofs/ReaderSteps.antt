@@ -15,7 +15,8 @@ use Rattle.age_stream.specs.declared.step.Status.{Status}
 use Rattle.age_stream.specs.declared.step.Status.TheVariants.{Open}
 use Rattle.age_c.specs.declared.reader.Reader.{Reader}
 use Rattle.age_c.specs.Numbers.{status_of}
-use Rattle.age_c.specs.Readers.{IsAt, SameFile, key_of, opens}
+use Rattle.age_c.specs.Readers.{IsAt, SameFile}
+use Rattle.age_c.specs.inner.Keys.{key_of_reader as key_of, opens}
 use Rattle.age_chunk.specs.Payload.{chunk_length, block_length}
 
 pub some_is : {A : Type 0} {a b : A} → Some a ≡ Some b → a ≡ b

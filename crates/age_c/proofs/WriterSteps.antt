@@ -17,15 +17,16 @@ use Rattle.age_chunk.proofs.FirstChunks.{length-first_chunks}
 use Rattle.age_stream.proofs.Chunks.{enumerate_from_more}
 use Rattle.age_stream.proofs.Sealings.{last_index_is}
 use Rattle.age_c.specs.declared.writer.Writer.{Writer}
-use Rattle.age_c.specs.ReaderCalls.{seals}
-use Rattle.age_c.specs.Writers.{HasSealed, SealsChunk, SealsLast, SameFile, blocks_of, key_of}
+use Rattle.age_c.specs.inner.Keys.{key_of_writer as key_of, seals}
+use Rattle.age_c.specs.Writers.{HasSealed, SealsChunk, SealsLast, SameFile, blocks_of}
 use Rattle.age_c.specs.WriterCalls.{SealCall, IsSealCall, AreSealCalls, CallsArePayload, taken_by}
 use Rattle.age_c.specs.WriterCalls.{writer_after, written_by, AnswersAreSealCalls, FilesAreWhole}
-use Rattle.age_c.specs.WriterCalls.{seal_call_of}
 use Rattle.age_c.specs.Answers.{Answers}
 use Rattle.age_c.specs.Numbers.{misused}
-use Rattle.age_c.specs.Writers.{WritesOrRefuses, nonce_in, key_in}
-use Rattle.age_keys.specs.Keys.{payload_key}
+use Rattle.age_c.specs.Writers.{WritesOrRefuses, salt_in, key_in}
+use Rattle.age_keys.specs.AgeFile.{box}
+use Rattle.age_keys.specs.Keys.{header_mac, IsMacOf}
+use Rattle.age_keys.specs.Scrypt.{scrypt_head}
 use Rattle.std.proofs.lemmas.Bool.{false≢true}
 use Rattle.std.proofs.Common.{ap₂}
 
@@ -268,19 +269,34 @@ idle_or_did old new before after answer written Fits Does Why it (inr other) = (
 
 pub answers_are_seal_calls : AnswersAreSealCalls
 answers_are_seal_calls old new text before after answer written = (
-  λ it. let both = idle_or_did old new before after answer written _ _ _ it (eqb_tells answer misused) in
+  λ it.
+      let both = idle_or_did old new before after answer written _ _ _ it
+      (eqb_tells answer misused) in
       (both.0, λ zero middle. both.1 zero, λ zero is. absurd (false≢true is)),
-  λ it. let both = idle_or_did old new before after answer written _ _ _ it (eqb_tells answer misused) in
+  λ it.
+      let both = idle_or_did old new before after answer written _ _ _ it
+      (eqb_tells answer misused) in
       (both.0, λ zero middle. absurd (false≢true (sym middle)), λ zero is. both.1 zero),
 )
+
+-- ---- whole files
+
+mac_holds : (pass : List ℕ) (work : ℕ) (salt key : List ℕ) → IsMacOf (scrypt_head pass work salt key) key
+unfolding scrypt_head header_mac
+mac_holds pass work salt key = refl
 
 pub files_are_whole : FilesAreWhole
 files_are_whole pass work random front w begins calls are last is is_end zero =
     let whole = calls_are_payload w begins.start calls are last is is_end zero in
-    let key : key_of w ≡ payload_key (key_in random) (nonce_in random) =
-    ap₂ payload_key begins.key begins.nonce in (
-      begins.front.front,
-      begins.front.head,
-      ap₂ (λ (a b : List ℕ). a ++ b) begins.front.parts
-          (whole ∙ ap (λ (k : List ℕ). payload (seals k) chunk_length (taken_by calls ++ last.text)) key),
+    let after = all_calls calls w [] begins.start are in
+    let text = taken_by calls ++ last.text in (
+      record {
+        front = begins.front.front;
+        head = begins.front.head;
+        mac = mac_holds pass work (salt_in random) (key_in random);
+        size = begins.front.size;
+        parts = ap₂ (λ (a b : List ℕ). a ++ b) begins.front.parts
+            (whole ∙ ap₂ (λ (k n : List ℕ). payload (box k n) chunk_length text) begins.key begins.nonce);
+      },
+      (is.2 zero is_end).few (taken_by calls) after.sealed,
     )

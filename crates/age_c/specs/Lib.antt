@@ -2,6 +2,7 @@ pub mod Numbers
 pub mod Readers
 pub mod Starts
 pub mod ReaderCalls
+pub mod CallsWritten
 pub mod Writers
 pub mod WriterCalls
 pub mod Answers

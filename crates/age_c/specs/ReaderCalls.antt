@@ -2,22 +2,13 @@
 use Rattle.std.specs.Prelude.{◌≡◌, ◌≢◌, ◌⊎◌, ℕ, ◌<◌, ◌≤◌, ◌==◌, Bool, true, false}
 use Rattle.std.specs.Prelude.{List, [], ◌∷◌, ◌++◌, length, take, if◌then◌else◌}
 use Rattle.std.specs.List.{flat_map}
-use Rattle.age_cipher.specs.Aead.{sealing as sealing_with}
-use Rattle.age_chunk.specs.ChunkBoxes.{Seals}
-use Rattle.age_chunk.specs.Nonce.{chunk_limit}
-use Rattle.age_chunk.specs.Payload.{chunk_count, chunk_length, block_length, payload}
-use Rattle.age_stream.specs.Authentic.{IsClosed}
+use Rattle.age_chunk.specs.Payload.{chunk_length, block_length}
 use Rattle.age_stream.specs.Segment.{Segment}
-use Rattle.age_stream.specs.Deliveries.{with_piece, with_end, fresh}
-use Rattle.age_stream.specs.Headline.{IsAuthentic, IsPrefixOf}
+use Rattle.age_stream.specs.Deliveries.{with_piece, with_end}
 use Rattle.age_c.specs.declared.reader.Reader.{Reader}
 use Rattle.age_c.specs.Answers.{Answers}
 use Rattle.age_c.specs.Numbers.{answer_of, misused}
-use Rattle.age_c.specs.Readers.{CanBeUsed, IsAt, SameFile, key_of, opens, text_of}
-
--- how the payload's key seals a text at a nonce
-abbrev pub seals : List ℕ → Seals
-seals key nonce text = sealing_with key nonce [] text
+use Rattle.age_c.specs.Readers.{CanBeUsed, IsAt, SameFile, text_of}
 
 -- the segment after a block, and after the end
 abbrev pub after_block : List ℕ → Segment → Segment
@@ -63,18 +54,19 @@ pub record Call : Type 0 where
   pub text : List ℕ
   pub after : Reader
 
+-- the segment after a call that wasn't misused
 abbrev pub given_by : Call → Segment → Segment
 given_by c s = if c.is_end then after_end c.bytes s else after_block c.bytes s
 
--- what the functions promise of it: it was misused, and changed nothing, or it took what it was
--- given
+-- this is a call on the reader: it was misused, and changed and wrote nothing; or it took what it
+-- was given, and then, if it is an end that answered 0, the last chunk was opened
 abbrev pub IsCall : Reader → Call → Type 0
 IsCall r c =
     ((c.answer ≡ misused) × (c.after ≡ r) × (c.text ≡ []))
     ⊎ ((c.answer ≢ misused) × Takes (given_by c) r c.answer c.text c.after
     × (c.is_end ≡ true → c.answer ≡ 0 → c.after.state ≡ 3))
 
--- the calls were made one after the other
+-- the calls were made one after the other, and nothing else changed the reader
 abbrev pub AreCalls : Reader → List Call → Type 0
 AreCalls r [] = Unit {0}
 AreCalls r (c ∷ calls) = IsCall r c × AreCalls c.after calls
@@ -89,19 +81,8 @@ segment_from s (c ∷ calls) =
 abbrev pub texts_of : List Call → List ℕ
 texts_of calls = flat_map (λ (c : Call). c.text) calls
 
--- the headline for a caller: after any calls on a reader that was given nothing, while no block
--- opens except as the writer of a text sealed it, what was written is the beginning of that text,
--- and where the last call is an end that answered 0, all of it
-abbrev pub CallsAreWritten : Type 0
-CallsAreWritten = (r : Reader) → IsAt r (fresh 0) → (calls : List Call) → AreCalls r calls
-    → (text : List ℕ) → chunk_count chunk_length text ≤ chunk_limit
-    → IsAuthentic (seals (key_of r)) (opens (key_of r)) chunk_length text
-    (segment_from (fresh 0) calls)
-    → IsPrefixOf (texts_of calls) text
-    × ((before : List Call) (last : Call) → calls ≡ before ++ last ∷ [] → last.is_end ≡ true
-    → last.answer ≡ 0 → texts_of calls ≡ text)
-
--- the call that such an answer makes
+-- a call as its caller sees it: what it was given, the answer, how much it wrote, and its output
+-- and the reader after it
 abbrev pub call_of : Bool → List ℕ → ℕ → ℕ → List ℕ → Reader → Call
 call_of is_end bytes answer written out after = record {
   is_end = is_end;
@@ -111,24 +92,11 @@ call_of is_end bytes answer written out after = record {
   after = after;
 }
 
--- what the functions promise is that
+-- what `age_c_block` and `age_c_end` promise (`Answers`, with the same arguments as in their
+-- contracts) makes each of them a call on the reader: so a law about lists of calls holds of them
 abbrev pub AnswersAreCalls : Type 0
 AnswersAreCalls = (old new : Reader) (bytes before after : List ℕ) (answer written : ℕ)
     → (Answers (IsBlockCall old bytes before) (Takes (after_block bytes) old) old new answer written
     before after → IsCall old (call_of false bytes answer written after new))
     × (Answers (IsEndCall old bytes before) (TakesEnd bytes old) old new answer written before after
     → IsCall old (call_of true bytes answer written after new))
-
--- where the calls gave a reader a whole payload and its end, they wrote all of its text, and the
--- reader is done
-abbrev pub CallsGiveBack : Type 0
-CallsGiveBack = (r : Reader) → IsAt r (fresh 0) → (calls : List Call) → AreCalls r calls
-    → (text : List ℕ) → chunk_count chunk_length text ≤ chunk_limit
-    → IsClosed (seals (key_of r)) (opens (key_of r)) chunk_length text
-    → segment_from (fresh 0) calls ≡ record {
-      start = 0;
-      bytes = payload (seals (key_of r)) chunk_length text;
-      ended = true;
-      late = false;
-    }
-    → texts_of calls ≡ text

@@ -1,35 +1,28 @@
 -- What a reader's numbers stand for.
-use Rattle.std.specs.Prelude.{◌≡◌, ℕ, ◌<◌, IsSome, false, List, [], Some, Option}
-use Rattle.age_cipher.specs.Opening.{opening as opening_with}
-use Rattle.age_keys.specs.Keys.{payload_key}
+use Rattle.std.specs.Prelude.{◌≡◌, ℕ, ◌<◌, IsSome, false, List, [], Some}
+use Rattle.age_keys.specs.AgeFile.{unbox}
 use Rattle.age_stream.specs.declared.step.Status.TheVariants.{Open}
-use Rattle.age_stream.specs.Segment.{Segment, outcome, released, rest_bytes}
+use Rattle.age_stream.specs.Segment.{Segment, Outcome, outcome, released, rest_bytes}
 use Rattle.age_chunk.specs.Nonce.{chunk_limit}
 use Rattle.age_c.specs.declared.reader.Reader.{Reader}
 use Rattle.age_c.specs.Numbers.{status_of}
 use Rattle.age_chunk.specs.Payload.{chunk_length}
 
--- how the payload's key opens a block at a nonce
-abbrev pub opens : List ℕ → List ℕ → List ℕ → Option (List ℕ)
-opens key nonce block = opening_with key nonce [] block
-
--- the payload's key
-abbrev pub key_of : Reader → List ℕ
-key_of r = payload_key r.file_key r.nonce
+-- what a segment gives under the reader's keys
+abbrev pub outcome_of : Reader → Segment → Outcome
+outcome_of r s = outcome (unbox r.file_key r.nonce) chunk_length s
 
 -- the reader was given this segment: it stands where the outcome says, and was given whole blocks
 -- while it is open
 pub record IsAt (r : Reader) (s : Segment) : Type 0 where
-  pub status : status_of r.state r.fault_chunk
-      ≡ Some (outcome (opens (key_of r)) chunk_length s).status
-  pub index : r.chunk ≡ (outcome (opens (key_of r)) chunk_length s).index
-  pub whole : (outcome (opens (key_of r)) chunk_length s).status ≡ Open
-      → rest_bytes chunk_length s.bytes ≡ []
+  pub status : status_of r.state r.fault_chunk ≡ Some (outcome_of r s).status
+  pub index : r.chunk ≡ (outcome_of r s).index
+  pub whole : (outcome_of r s).status ≡ Open → rest_bytes chunk_length s.bytes ≡ []
   pub timely : s.ended ≡ false → s.late ≡ false
 
 -- the text that a reader of a segment releases
 abbrev pub text_of : Reader → Segment → List ℕ
-text_of r s = released (opens (key_of r)) chunk_length s
+text_of r s = released (unbox r.file_key r.nonce) chunk_length s
 
 -- the file and its keys are the same
 pub record SameFile (was now : Reader) : Type 0 where

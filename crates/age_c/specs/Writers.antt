@@ -4,19 +4,14 @@ use Rattle.std.specs.Prelude.{List, [], ◌++◌, length, take, drop, map}
 use Rattle.std.specs.List.{enumerate_from}
 use Rattle.std.specs.Simd.{first_chunks}
 use Rattle.age_stanza.specs.Grammar.{HeadText}
-use Rattle.age_keys.specs.Keys.{payload_key}
+use Rattle.age_keys.specs.AgeFile.{box}
 use Rattle.age_keys.specs.Passphrase.{IsAllowed}
 use Rattle.age_keys.specs.Scrypt.{scrypt_head}
 use Rattle.age_chunk.specs.Nonce.{chunk_limit}
 use Rattle.age_chunk.specs.Payload.{chunk_length, block_length, chunk_count}
 use Rattle.age_chunk.specs.Payload.{pair, block_bytes, payload}
 use Rattle.age_c.specs.declared.writer.Writer.{Writer}
-use Rattle.age_c.specs.ReaderCalls.{seals}
 use Rattle.age_chunk.specs.ChunkBoxes.{tag_length}
-
--- the payload's key
-abbrev pub key_of : Writer → List ℕ
-key_of w = payload_key w.file_key w.nonce
 
 -- the numbers are those of a writer that isn't finished, at a chunk that a payload may have
 pub record CanBeUsed (w : Writer) : Type 0 where
@@ -31,7 +26,7 @@ pub record HasSealed (w : Writer) (text : List ℕ) : Type 0 where
 -- the blocks of whole chunks, none of which is the last
 abbrev pub blocks_of : Writer → List ℕ → List ℕ
 blocks_of w text = block_bytes
-    (map (pair (seals (key_of w)) false)
+    (map (pair (box w.file_key w.nonce) false)
     (enumerate_from 0 (first_chunks chunk_length w.chunk text)))
 
 -- the file and its keys are the same
@@ -53,7 +48,8 @@ pub record SealsChunk (chunk : List ℕ) (old : Writer) (bytes : List ℕ) (new 
 pub record SealsLast (rest : List ℕ) (old : Writer) (bytes : List ℕ) (new : Writer)
     : Type 0 where
   pub payload_is : (text : List ℕ) → HasSealed old text
-      → payload (seals (key_of old)) chunk_length (text ++ rest) ≡ blocks_of old text ++ bytes
+      → payload (box old.file_key old.nonce) chunk_length (text ++ rest)
+      ≡ blocks_of old text ++ bytes
   pub few : (text : List ℕ) → HasSealed old text
       → chunk_count chunk_length (text ++ rest) ≤ chunk_limit
   pub finished : new.state ≡ 2

@@ -9,8 +9,8 @@ ghost use Rattle.age_c.specs.Answers.{PutsFront};
 ghost use Rattle.age_c.specs.Numbers.{answer_of, status_of};
 ghost use Rattle.age_c.specs.ReaderCalls.{IsBlockCall, IsEndCall, Takes, TakesEnd, after_block};
 ghost use Rattle.age_c.specs.Readers.{CanBeUsed};
-ghost use Rattle.age_c.specs.Readers.{key_of as key_in};
 ghost use Rattle.age_c.specs.inner.Blocks.{Keeps, PassesOn};
+ghost use Rattle.age_c.specs.inner.Keys.{key_of_reader};
 ghost use Rattle.age_chunk.specs.Payload.{chunk_length, block_length};
 ghost use Rattle.age_chunk.specs.ChunkBoxes.{tag_length};
 
@@ -38,7 +38,7 @@ pub(crate) fn status_at(reader: &Reader) -> Option<Status>
 
 /// The payload key of a reader.
 fn key_of(reader: &Reader) -> PayloadKey
-    ensures { result ≡ key_in reader.now }
+    ensures { result ≡ key_of_reader reader.now }
 {
     payload_key(&FileKey::new(reader.file_key), &reader.nonce)
 }

@@ -1,12 +1,15 @@
-//! What lists of calls do.
+//! What any list of calls does. A reader and a writer that take turns, or several of either, need
+//! no law: each call takes its reader or writer by reference, and the library keeps nothing else.
 
-ghost use Rattle.age_c.specs.ReaderCalls.{AnswersAreCalls, CallsAreWritten, CallsGiveBack};
+ghost use Rattle.age_c.specs.CallsWritten.{CallsAreWritten};
+ghost use Rattle.age_c.specs.ReaderCalls.{AnswersAreCalls};
 ghost use Rattle.age_c.specs.WriterCalls.{AnswersAreSealCalls, CallsArePayload, FilesAreWhole};
 
-/// After any calls of [`age_c_block`](crate::age_c_block) and [`age_c_end`](crate::age_c_end) on
-/// a reader that was just begun, while no block opens except as the writer of a text sealed it,
-/// what was written is the beginning of that text, and where the last call is an end that answered
-/// 0, all of it.
+/// The headline for a caller: after any calls of [`age_c_block`](crate::age_c_block) and
+/// [`age_c_end`](crate::age_c_end) on a reader that was just begun, while no block opens except as
+/// the writer of a text sealed it, what was written is the beginning of that text, and all of it
+/// if the last call is an end that answered 0. An undamaged payload gives all of it, and 0 each
+/// time. The first block that isn't the writer's is refused with 17.
 pub fn calls_are_written()
     ensures { CallsAreWritten }
 {}
@@ -18,22 +21,21 @@ pub fn calls_are_payload()
     ensures { CallsArePayload }
 {}
 
-/// What the functions answer are such calls.
+/// The same with what [`age_c_seal_passphrase`](crate::age_c_seal_passphrase) wrote before them:
+/// all of it is the age file of the text.
+pub fn files_are_whole()
+    ensures { FilesAreWhole }
+{}
+
+/// What [`age_c_block`](crate::age_c_block) and [`age_c_end`](crate::age_c_end) promise makes each
+/// use of them one of the calls that [`calls_are_written`] speaks of.
 pub fn answers_are_calls()
     ensures { AnswersAreCalls }
 {}
 
-/// Whole.
-pub fn calls_give_back()
-    ensures { CallsGiveBack }
-{}
-
-/// What the functions answer are such calls.
+/// What [`age_c_seal_block`](crate::age_c_seal_block) and
+/// [`age_c_seal_end`](crate::age_c_seal_end) promise makes each use of them one of the calls that
+/// [`calls_are_payload`] and [`files_are_whole`] speak of.
 pub fn answers_are_seal_calls()
     ensures { AnswersAreSealCalls }
-{}
-
-/// Whole.
-pub fn files_are_whole()
-    ensures { FilesAreWhole }
 {}

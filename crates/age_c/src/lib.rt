@@ -23,7 +23,7 @@ mod writer;
 
 pub use laws::{
     answers_are_calls, answers_are_seal_calls, calls_are_payload, calls_are_written,
-    calls_give_back, files_are_whole,
+    files_are_whole,
 };
 pub use open::{age_c_open_key, age_c_open_passphrase, age_c_open_shared, age_c_version};
 pub use read::{age_c_block, age_c_end};

@@ -8,7 +8,7 @@ ghost use Rattle.age_c.specs.Starts.{number_of};
 ghost use Rattle.age_c.specs.Answers.{PutsFront};
 ghost use Rattle.age_c.specs.Writers.{IsChunkCall, IsFront, IsLastCall, SealsChunk, SealsLast};
 ghost use Rattle.age_c.specs.Writers.{key_in, nonce_in, salt_in};
-ghost use Rattle.age_c.specs.Writers.{key_of as key_of_writer};
+ghost use Rattle.age_c.specs.inner.Keys.{key_of_writer};
 ghost use Rattle.age_chunk.specs.Payload.{chunk_length};
 ghost use Rattle.age_chunk.specs.ChunkBoxes.{tag_length};
 

@@ -7,7 +7,8 @@ use Rattle.age_stream.specs.Segment.{Segment, released}
 use Rattle.age_chunk.specs.Payload.{chunk_length}
 use Rattle.age_c.specs.declared.reader.Reader.{Reader}
 use Rattle.age_c.specs.Numbers.{answer_of, status_of}
-use Rattle.age_c.specs.Readers.{SameFile, opens}
+use Rattle.age_c.specs.Readers.{SameFile}
+use Rattle.age_c.specs.inner.Keys.{opens}
 
 -- an opener was given what makes each segment the next one, and passed on this text
 pub record PassesOn (next : Segment → Segment) (old new : OpenerView (List ℕ)) (text : List ℕ)

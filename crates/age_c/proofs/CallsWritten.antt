@@ -1,0 +1,228 @@
+-- What a caller may rely on after any calls on one reader.
+use Rattle.std.proofs.Common.{inl, inr, ◌≡◌, ◌≢◌, ℕ, ◌<◌, ◌≤◌, ◌*◌, refl, ap, sym, subst, ◌∙◌, arith}
+use Rattle.std.proofs.Common.{List, [], ◌∷◌, ◌++◌, take, drop, Bool, true, false}
+use Rattle.std.specs.Prelude.{◌==◌, ◌⊎◌, if◌then◌else◌, Some}
+use Rattle.std.specs.List.{flat_map, AllByRecursion}
+use Rattle.std.proofs.lemmas.Bool.Decides.{eqb_tells}
+use Rattle.age_chunk.specs.Nonce.{chunk_limit}
+use Rattle.age_chunk.specs.Payload.{block_length, chunk_count, chunk_length, payload}
+use Rattle.age_chunk.specs.declared.fault.StreamKind.TheVariants.{ChunkDamaged, TooManyChunks}
+use Rattle.age_keys.specs.inner.PayloadBox.{box_valid}
+use Rattle.age_stream.specs.Authentic.{IsClosed, IsSealable}
+use Rattle.age_stream.specs.Deliveries.{fresh}
+use Rattle.age_stream.specs.Headline.{IsPrefixOf, IsReached, IsReleasedRight, IsRest}
+use Rattle.age_stream.specs.Places.{IsFirstWrong}
+use Rattle.age_stream.specs.Segment.{Segment, Outcome, outcome, failed}
+use Rattle.age_stream.specs.declared.step.Status.{Status}
+use Rattle.age_stream.specs.declared.step.Status.TheVariants.{Done, Failed}
+use Rattle.age_stream.proofs.Fresh.{fresh_outcome}
+use Rattle.age_stream.proofs.PublicLaws.{released_is_written, rest_is_authentic}
+use Rattle.age_c.specs.declared.reader.Reader.{Reader}
+use Rattle.age_c.specs.Numbers.{answer_of, misused, status_of}
+use Rattle.age_c.specs.Readers.{IsAt, text_of}
+use Rattle.age_c.specs.ReaderCalls.{Call, IsCall, AreCalls, segment_from, texts_of}
+use Rattle.age_c.specs.ReaderCalls.{after_block, after_end}
+use Rattle.age_c.specs.CallsWritten.{given, AllAnswer, AreAuthentic, AreUndamaged}
+use Rattle.age_c.specs.CallsWritten.{CallsAreWritten, GiveBlocks, GivesWrong, IsRefusedAt}
+use Rattle.age_c.specs.inner.Keys.{key_of_reader as key_of, opens, seals}
+use Rattle.age_c.proofs.CallFaults.{IsKnown, all_known, all_map, all_refused, answer_by, damaged_is}
+use Rattle.age_c.proofs.CallFaults.{known_fault, known_state}
+use Rattle.age_c.proofs.CallSteps.{After, StandsAt, all_calls, done_after, done_status, last_is}
+use Rattle.age_c.proofs.CallSteps.{last_reader, next, one_more, status_at, taken_next}
+use Rattle.age_c.proofs.FirstWrong.{IsOpen, blocks_more, block_refused, Grows, grows, rest_refused}
+
+-- calls before and after one
+calls_parts : (before : List Call) (one : Call) (later : List Call) (r : Reader)
+    → AreCalls r (before ++ one ∷ later)
+    → AreCalls r before × IsCall (last_reader r before) one × AreCalls one.after later
+calls_parts [] one later r are = (tt, are.0, are.1)
+calls_parts (c ∷ before) one later r are =
+    let rest = calls_parts before one later c.after are.1 in ((are.0, rest.0), rest.1, rest.2)
+
+segment_parts : (before : List Call) (one : Call) (later : List Call) (s : Segment)
+    → segment_from s (before ++ one ∷ later)
+    ≡ segment_from (next one (segment_from s before)) later
+segment_parts [] one later s = refl
+segment_parts (c ∷ before) one later s = segment_parts before one later (next c s)
+
+module _ (r : Reader) (h : IsAt r (fresh 0)) (calls : List Call) (are : AreCalls r calls)
+    (text : List ℕ) (few : chunk_count chunk_length text ≤ chunk_limit) where
+  abbrev k : List ℕ
+  k = key_of r
+
+  abbrev s : Segment
+  s = given calls
+
+  abbrev status : Status
+  status = (outcome (opens k) chunk_length s).status
+
+  after : After r (fresh 0) s (texts_of calls) (last_reader r calls)
+  after = all_calls calls r (fresh 0) h are
+
+  right : AreAuthentic r text calls
+      → IsReleasedRight (seals k) (opens k) chunk_length text s (text_of r s) status
+  right authentic =
+      let positive : 0 < chunk_length = omega arith in
+      let reached : IsReached (seals k) (opens k) chunk_length text s = record {
+        limit = omega (arith, after.start);
+        within = omega (arith, ap (λ (n : ℕ). n * chunk_length) after.start);
+      } in
+      released_is_written (seals k) (opens k) (box_valid k) chunk_length positive s text few
+      reached authentic
+
+  written : take (s.start * chunk_length) text ++ text_of r s ≡ texts_of calls
+  written =
+      let none : take (s.start * chunk_length) text ≡ [] =
+      ap (λ (n : ℕ). take (n * chunk_length) text) after.start in
+      let nothing : text_of r (fresh 0) ≡ [] =
+      ap (λ (o : Outcome). flat_map (λ (t : List ℕ). t) o.texts)
+      (fresh_outcome (opens k) chunk_length 0) in
+      ap (λ (t : List ℕ). t ++ text_of r s) none
+      ∙ (after.text_is ∙ ap (λ (t : List ℕ). t ++ texts_of calls) nothing)
+
+  begins : AreAuthentic r text calls → IsPrefixOf (texts_of calls) text
+  begins authentic =
+      let prefix = (right authentic).prefix in
+      (prefix.0, ap (λ (t : List ℕ). t ++ prefix.0) (sym written) ∙ prefix.1)
+
+  all_written : AreAuthentic r text calls → (before : List Call) (last : Call)
+      → calls ≡ before ++ last ∷ [] → last.is_end ≡ true → last.answer ≡ 0
+      → texts_of calls ≡ text
+  all_written authentic before last parts is_end zero =
+      let end = last_is before last r (subst (λ (cs : List Call). AreCalls r cs) parts are) in
+      let reader : last_reader r calls ≡ last.after = ap (last_reader r) parts ∙ end.0 in
+      let three : (last_reader r calls).state ≡ 3 = ap (λ (r : Reader). r.state) reader
+      ∙ done_after (last_reader r before) last end.1 is_end zero in
+      let done =
+      subst (λ (k : List ℕ). (outcome (opens k) chunk_length s).status ≡ Done) after.key
+      (done_status (last_reader r calls) s after.at three) in
+      sym written ∙ (right authentic).done done
+
+  fresh_stands : StandsAt k r (fresh 0)
+  fresh_stands = record { key = refl; at = h }
+
+  known : AllByRecursion (IsKnown k s) calls
+  known = all_known k calls r (fresh 0) fresh_stands are
+
+  -- ---- the undamaged payload
+
+  zero_by : status ≡ Done → (c : Call) → IsKnown k s c
+      → ((c.answer == 0) ≡ true) × (c.answer ≡ 0) ⊎ ((c.answer == 0) ≡ false) × (c.answer ≢ 0)
+      → c.answer ≢ misused → c.answer ≡ 0
+  zero_by done c is (inl zero) other = zero.1
+  zero_by done c is (inr some) other =
+      let fault = known_fault k s c is other some.1 in
+      let no : Done ≡ Failed fault.0 = sym done ∙ fault.1 in
+      cc
+
+  undamaged : IsClosed (seals k) (opens k) chunk_length text → AreUndamaged r text calls
+      → (texts_of calls ≡ text) × AllAnswer 0 calls
+  undamaged closed are_whole =
+      let positive : 0 < chunk_length = omega arith in
+      let rest : IsRest (seals k) (opens k) chunk_length text s = record {
+        below = omega (arith, after.start);
+        bytes = ap (λ (s : Segment). s.bytes) are_whole
+            ∙ sym (ap (λ (n : ℕ). drop n (payload (seals k) chunk_length text))
+            (ap (λ (n : ℕ). n * block_length) after.start));
+        ended = ap (λ (s : Segment). s.ended) are_whole;
+        timely = ap (λ (s : Segment). s.late) are_whole;
+      } in
+      let sealable : IsSealable (seals k) (opens k) chunk_length text =
+      record { valid = box_valid k; some = positive; few = few; closed = closed } in
+      let authentic = rest_is_authentic (seals k) (opens k) chunk_length text sealable s rest in
+      let whole = (right authentic).whole rest in (
+        sym written ∙ whole.0,
+        all_map (IsKnown k s) (λ (c : Call). c.answer ≢ misused → c.answer ≡ 0)
+            (λ c is. zero_by whole.1 c is (eqb_tells c.answer 0)) calls known,
+      )
+
+  -- ---- what refusals say
+
+  damaged_at : AreAuthentic r text calls → (c : Call) → IsKnown k s c → c.answer ≡ 17
+      → IsFirstWrong (seals k) chunk_length text s c.after.fault_chunk
+  damaged_at authentic c is seventeen =
+      let state = known_state k s c is (λ e. omega (arith, e, seventeen))
+      (λ e. omega (arith, e, seventeen)) ∙ seventeen in
+      (right authentic).place.damaged c.after.fault_chunk
+      (is.fault (record { kind = ChunkDamaged; chunk = c.after.fault_chunk })
+      (ap (λ (n : ℕ). status_of n c.after.fault_chunk) state))
+
+  never_many : AreAuthentic r text calls → (c : Call) → IsKnown k s c → c.answer ≢ 22
+  never_many authentic c is many =
+      let state = known_state k s c is (λ e. omega (arith, e, many)) (λ e. omega (arith, e, many))
+      ∙ many in
+      (right authentic).place.few c.after.fault_chunk
+      (is.fault (record { kind = TooManyChunks; chunk = c.after.fault_chunk })
+      (ap (λ (n : ℕ). status_of n c.after.fault_chunk) state))
+
+  -- ---- the first wrong block
+
+  module _ (authentic : AreAuthentic r text calls) (i : ℕ) (before : List Call) (wrong : Call)
+      (later : List Call) (parts : calls ≡ before ++ wrong ∷ later)
+      (blocks : GiveBlocks r text 0 before i) (bad : GivesWrong r text i wrong) where
+    here : AreCalls r before × IsCall (last_reader r before) wrong × AreCalls wrong.after later
+    here = calls_parts before wrong later r (subst (λ (cs : List Call). AreCalls r cs) parts are)
+
+    abbrev s0 : Segment
+    s0 = segment_from (fresh 0) before
+
+    begun : IsOpen r text few r (fresh 0) 0
+    begun =
+        let is = fresh_outcome (opens k) chunk_length 0 in
+        record {
+          stands = fresh_stands;
+          is_open = ap (λ (o : Outcome). o.status) is;
+          index = ap (λ (o : Outcome). o.index) is;
+          small = omega arith;
+        }
+
+    reached_wrong : IsOpen r text few (last_reader r before) s0 i × AllAnswer 0 before
+    reached_wrong = blocks_more r text few before r (fresh 0) 0 i begun here.0 blocks
+
+    whole_is : s ≡ segment_from (next wrong s0) later
+    whole_is = ap (segment_from (fresh 0)) parts ∙ segment_parts before wrong later (fresh 0)
+
+    refused_by : (is_end : Bool) → wrong.is_end ≡ is_end
+        → (outcome (opens k) chunk_length (next wrong s0)).status ≡ failed ChunkDamaged i
+    refused_by true is =
+        let to : next wrong s0 ≡ after_end wrong.bytes s0 = taken_next wrong s0 bad.taken
+        ∙ ap (λ (b : Bool). if b then after_end wrong.bytes s0 else after_block wrong.bytes s0) is in
+        let grown : Grows (after_end wrong.bytes s0) s =
+        subst (Grows (after_end wrong.bytes s0)) (sym (whole_is ∙ ap (λ (t : Segment). segment_from t later) to))
+        (grows later (after_end wrong.bytes s0)) in
+        let size = bad.rest is in
+        ap (λ (t : Segment). (outcome (opens k) chunk_length t).status) to
+        ∙ rest_refused r text few (last_reader r before) s0 s i reached_wrong.0 authentic wrong.bytes bad.wrong size.0 size.1 grown
+    refused_by false is =
+        let to : next wrong s0 ≡ after_block wrong.bytes s0 = taken_next wrong s0 bad.taken
+        ∙ ap (λ (b : Bool). if b then after_end wrong.bytes s0 else after_block wrong.bytes s0) is in
+        let grown : Grows (after_block wrong.bytes s0) s =
+        subst (Grows (after_block wrong.bytes s0)) (sym (whole_is ∙ ap (λ (t : Segment). segment_from t later) to))
+        (grows later (after_block wrong.bytes s0)) in
+        ap (λ (t : Segment). (outcome (opens k) chunk_length t).status) to
+        ∙ block_refused r text few (last_reader r before) s0 s i reached_wrong.0 authentic wrong.bytes bad.wrong (bad.block is) grown
+
+    first_refused : IsRefusedAt i before wrong later
+    first_refused =
+        let is = refused_by wrong.is_end refl in
+        let stands = one_more k (last_reader r before) wrong s0 reached_wrong.0.stands here.1 in
+        let numbers = damaged_is wrong.after.state wrong.after.fault_chunk i
+        (status_at k wrong.after (next wrong s0) stands ∙ ap Some is) in
+        record {
+          zero = reached_wrong.1;
+          there = answer_by (last_reader r before) wrong here.1 bad.taken ∙ ap answer_of numbers.0;
+          chunk = numbers.1;
+          stays = all_refused k i later wrong.after (next wrong s0) stands is here.2;
+        }
+
+pub calls_are_written : CallsAreWritten
+calls_are_written r h calls are text few = record {
+  prefix = begins r h calls are text few;
+  done = all_written r h calls are text few;
+  whole = undamaged r h calls are text few;
+  refused = first_refused r h calls are text few;
+  damaged = λ authentic. all_map (IsKnown (key_of r) (given calls)) _
+      (damaged_at r h calls are text few authentic) calls (known r h calls are text few);
+  few = λ authentic. all_map (IsKnown (key_of r) (given calls)) _
+      (never_many r h calls are text few authentic) calls (known r h calls are text few);
+}

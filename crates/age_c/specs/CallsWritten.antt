@@ -1,0 +1,112 @@
+-- What a caller may rely on after any calls on one reader.
+use Rattle.std.specs.Prelude.{◌≡◌, ◌≢◌, ◌⊎◌, ℕ, ◌+◌, ◌<◌, ◌≤◌, Bool, true, false}
+use Rattle.std.specs.Prelude.{List, [], ◌∷◌, ◌++◌, length, Contains}
+use Rattle.std.specs.List.{AllByRecursion}
+use Rattle.age_chunk.specs.ChunkBoxes.{tag_length}
+use Rattle.age_chunk.specs.Nonce.{chunk_limit, nonce_bytes}
+use Rattle.age_chunk.specs.Payload.{chunk_count, chunk_length, block_length, sealed, payload}
+use Rattle.age_keys.specs.AgeFile.{box, unbox}
+use Rattle.age_stream.specs.Authentic.{IsClosed}
+use Rattle.age_stream.specs.Deliveries.{fresh}
+use Rattle.age_stream.specs.Headline.{IsAuthentic, IsPrefixOf}
+use Rattle.age_stream.specs.Places.{IsFirstWrong}
+use Rattle.age_stream.specs.Segment.{Segment}
+use Rattle.age_c.specs.declared.reader.Reader.{Reader}
+use Rattle.age_c.specs.Numbers.{misused}
+use Rattle.age_c.specs.ReaderCalls.{Call, AreCalls, segment_from, texts_of}
+use Rattle.age_c.specs.Readers.{IsAt}
+
+-- what calls gave to a reader that was given nothing before
+abbrev pub given : List Call → Segment
+given calls = segment_from (fresh 0) calls
+
+-- each of the calls that wasn't misused has this answer
+abbrev pub AllAnswer : ℕ → List Call → Type 0
+AllAnswer answer calls = AllByRecursion (λ (c : Call). c.answer ≢ misused → c.answer ≡ answer) calls
+
+-- the reader stays refused with 17 at this block
+pub record StaysRefused (i : ℕ) (c : Call) : Type 0 where
+  pub answer : c.answer ≢ misused → c.answer ≡ 17
+  pub chunk : c.after.fault_chunk ≡ i
+
+-- the first call that gave a wrong block, block number i, was refused for it, and no other call
+pub record IsRefusedAt (i : ℕ) (before : List Call) (wrong : Call) (later : List Call)
+    : Type 0 where
+  -- the calls before it answered 0
+  pub zero : AllAnswer 0 before
+  -- it answered 17
+  pub there : wrong.answer ≡ 17
+  -- the reader after it says which block it was
+  pub chunk : wrong.after.fault_chunk ≡ i
+  -- so it stays
+  pub stays : AllByRecursion (StaysRefused i) later
+
+-- a text that was sealed for this reader's file
+module _ (r : Reader) (text : List ℕ) where
+  -- the writer of the text sealed this block as number i, and as the last or not
+  abbrev pub IsBlock : ℕ → Bool → List ℕ → Type 0
+  IsBlock i last block =
+      Contains (sealed (box r.file_key r.nonce) chunk_length text) (nonce_bytes i last, block)
+
+  -- no block that the calls gave opens except as the writer of the text sealed it
+  abbrev pub AreAuthentic : List Call → Type 0
+  AreAuthentic calls =
+      IsAuthentic (box r.file_key r.nonce) (unbox r.file_key r.nonce) chunk_length text
+      (given calls)
+
+  -- the calls gave the payload of the text as the writer sealed it, and its end, and no more; they
+  -- may be misused in between
+  abbrev pub AreUndamaged : List Call → Type 0
+  AreUndamaged calls = given calls ≡ record {
+    start = 0;
+    bytes = payload (box r.file_key r.nonce) chunk_length text;
+    ended = true;
+    late = false;
+  }
+
+  -- the calls gave the writer's blocks from number i up to number j, none of them the last; they
+  -- may be misused in between
+  abbrev pub GiveBlocks : ℕ → List Call → ℕ → Type 0
+  GiveBlocks i [] j = i ≡ j
+  GiveBlocks i (c ∷ calls) j =
+      ((c.answer ≡ misused) × GiveBlocks i calls j)
+      ⊎ ((c.answer ≢ misused) × (c.is_end ≡ false) × IsBlock i false c.bytes
+      × GiveBlocks (i + 1) calls j)
+
+  -- the call gave a block that the writer didn't seal as number i: a whole one, or what is left at
+  -- the end, if that is more than a tag
+  pub record GivesWrong (i : ℕ) (c : Call) : Type 0 where
+    pub taken : c.answer ≢ misused
+    pub block : c.is_end ≡ false → length c.bytes ≡ block_length
+    pub rest : c.is_end ≡ true
+        → (tag_length < length c.bytes) × (length c.bytes < block_length)
+    pub wrong : (last : Bool) → ¬ IsBlock i last c.bytes
+
+  -- what a caller may rely on
+  pub record AreRight (calls : List Call) : Type 0 where
+    -- what was written is the beginning of the text
+    pub prefix : AreAuthentic calls → IsPrefixOf (texts_of calls) text
+    -- where the last call is an end that answered 0, it is all of the text
+    pub done : AreAuthentic calls → (before : List Call) (last : Call)
+        → calls ≡ before ++ last ∷ [] → last.is_end ≡ true → last.answer ≡ 0
+        → texts_of calls ≡ text
+    -- an undamaged payload gives all of the text, and 0 each time
+    pub whole : IsClosed (box r.file_key r.nonce) (unbox r.file_key r.nonce) chunk_length text
+        → AreUndamaged calls → (texts_of calls ≡ text) × AllAnswer 0 calls
+    -- the first block that isn't the writer's is refused with 17
+    pub refused : AreAuthentic calls → (i : ℕ) (before : List Call) (wrong : Call)
+        (later : List Call) → calls ≡ before ++ wrong ∷ later → GiveBlocks 0 before i
+        → GivesWrong i wrong → IsRefusedAt i before wrong later
+    -- 17 says that a block isn't the writer's, the one whose number the reader has, and that those
+    -- before it are
+    pub damaged : AreAuthentic calls → AllByRecursion (λ (c : Call). c.answer ≡ 17
+        → IsFirstWrong (box r.file_key r.nonce) chunk_length text (given calls)
+        c.after.fault_chunk) calls
+    -- 22 never comes
+    pub few : AreAuthentic calls → AllByRecursion (λ (c : Call). c.answer ≢ 22) calls
+
+-- the headline for a caller: so it is after any calls on a reader that was just begun, for every
+-- text of at most 2^48 chunks
+abbrev pub CallsAreWritten : Type 0
+CallsAreWritten = (r : Reader) → IsAt r (fresh 0) → (calls : List Call) → AreCalls r calls
+    → (text : List ℕ) → chunk_count chunk_length text ≤ chunk_limit → AreRight r text calls
