@@ -1,3 +1,4 @@
+pub mod CountLemmas
 pub mod PartLemmas
 pub mod PassphraseLemmas
 pub mod ScryptLemmas

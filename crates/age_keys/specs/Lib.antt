@@ -1,4 +1,5 @@
 pub mod AgeFile
+pub mod Counts
 pub mod FaultNumbers
 pub mod Keys
 pub mod Laws

@@ -1,5 +1,5 @@
 -- What a passphrase finds in a header, and what it refuses.
-use Rattle.std.specs.Prelude.{◌≡◌, ◌≢◌, ℕ, ◌<◌, ◌≤◌, true, false, List, length}
+use Rattle.std.specs.Prelude.{◌≡◌, ◌≢◌, ℕ, ◌*◌, ◌^◌, ◌<◌, ◌≤◌, true, false, List, length}
 use Rattle.age_stanza.specs.declared.header.Header.{Header}
 use Rattle.age_scrypt.specs.Scrypt.{work_factor_limit}
 use Rattle.age_keys.specs.declared.fault.KeyFault.{KeyFault}
@@ -42,3 +42,7 @@ PassphraseRefuses w h Memory = (only : OnlyScrypt h) × (only.log ≤ w.max_log)
 PassphraseRefuses w h WrongKey = (only : OnlyScrypt h) × (only.log ≤ w.max_log)
     × ((key : List ℕ) → only.body ≢ wrapped_key (wrap_key w.pass only.salt only.log) key)
 PassphraseRefuses w h other = ⊥
+
+-- the steps of scrypt at the greatest work factor
+abbrev pub passphrase_steps : PassphraseIdentity → ℕ
+passphrase_steps w = 2 * 2 ^ w.max_log

@@ -1,6 +1,7 @@
 //! Why a header wasn't opened.
 
 ghost use Rattle.std.specs.Prelude.{◌≡◌, None};
+ghost use Rattle.age_keys.specs.Counts.{is_before_work};
 ghost use Rattle.age_keys.specs.FaultNumbers.{number_of};
 
 use thiserror::Error;
@@ -49,6 +50,21 @@ impl KeyFault {
             KeyFault::MacMismatch => 14,
             KeyFault::BadX25519 => 15,
             KeyFault::Memory => 28,
+        }
+    }
+
+    /// Whether it is found by looking at the header, before a body is tried: then no step of
+    /// scrypt was made.
+    pub fn is_before_work(&self) -> bool
+        ensures { result ≡ is_before_work self.now }
+    {
+        match self {
+            KeyFault::ScryptNotAlone
+            | KeyFault::BadScrypt
+            | KeyFault::WorkTooHigh
+            | KeyFault::NoMatch
+            | KeyFault::BadX25519 => true,
+            KeyFault::WrongKey | KeyFault::MacMismatch | KeyFault::Memory => false,
         }
     }
 

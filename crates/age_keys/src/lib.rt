@@ -20,6 +20,7 @@ mod unlock;
 mod wrap;
 mod x25519;
 
+pub use age_scrypt::Steps;
 pub use fault::KeyFault;
 pub use key::FileKey;
 pub use laws::passphrase_opens;

@@ -4,6 +4,7 @@ ghost use Rattle.std.specs.Prelude.{◌≡◌, IfOk, IfErr};
 ghost use Rattle.std.specs.List.{list_any};
 ghost use Rattle.base64.specs.GeneralPurpose.{IsBytes};
 ghost use Rattle.age_stanza.specs.Grammar.{HasText};
+ghost use Rattle.age_keys.specs.Counts.{Counts};
 ghost use Rattle.age_keys.specs.Keys.{has_type, is_scrypt, scrypt_not_alone, header_mac};
 ghost use Rattle.age_keys.specs.Opened.{Opens, Refuses};
 ghost use Rattle.age_keys.specs.declared.fault.KeyFault.TheVariants.{Memory};
@@ -11,6 +12,7 @@ ghost use Rattle.age_keys.specs.declared.fault.KeyFault.TheVariants.{Memory};
 use crate::fault::KeyFault;
 use crate::key::FileKey;
 use crate::unlock::Unlock;
+use age_scrypt::Steps;
 use age_stanza::{Header, Stanza};
 use std::alloc::Global;
 
@@ -68,21 +70,25 @@ pub(crate) fn mac_of(alloc: Global, header: &Header, key: &FileKey) -> Result<[u
 ///
 /// It refuses, in this order, a scrypt stanza beside another stanza ([`KeyFault::ScryptNotAlone`]),
 /// whatever the unlocker refuses, running out of memory for the text that the MAC covers, and a MAC
-/// that isn't that of the key ([`KeyFault::MacMismatch`]).
+/// that isn't that of the key ([`KeyFault::MacMismatch`]). The unlocker's steps of scrypt are
+/// counted, and there is none before a fault that
+/// [is found before any work](KeyFault::is_before_work).
 pub fn open_header<U: Unlock>(
     alloc: Global,
     header: &Header,
     unlock: &U,
+    steps: &mut Steps,
 ) -> Result<FileKey, KeyFault>
     requires { HasText header.now }
     ensures key { IfOk result (Opens (U.allows unlock.now) header.now) }
     ensures refused { IfErr result
         (Refuses (U.allows unlock.now) (U.refuses unlock.now) header.now) }
+    ensures counted { Counts (U.most_steps unlock.now) result steps.old steps.new }
 {
     if scrypt_not_alone(header) {
         return Err(KeyFault::ScryptNotAlone);
     }
-    let key = unlock.unlock(alloc, header)?;
+    let key = unlock.unlock(alloc, header, steps)?;
     let mac = mac_of(alloc, header, &key)?;
     if header.mac != mac {
         return Err(KeyFault::MacMismatch);

@@ -2,6 +2,7 @@
 
 ghost use Rattle.std.specs.Option.{SomeIff};
 ghost use Rattle.age_keys.specs.Passphrase.{IsAllowed, IsPassphraseKey, PassphraseRefuses};
+ghost use Rattle.age_keys.specs.Passphrase.{passphrase_steps};
 
 use crate::fault::KeyFault;
 use crate::key::FileKey;
@@ -9,7 +10,7 @@ use crate::open::has_scrypt;
 use crate::scrypt::{ScryptStanza, wrap_key};
 use crate::unlock::Unlock;
 use crate::wrap::unwrapped_key;
-use age_scrypt::WORK_FACTOR_LIMIT;
+use age_scrypt::{Steps, WORK_FACTOR_LIMIT};
 use age_stanza::Header;
 use std::alloc::Global;
 use std::marker::Model;
@@ -65,7 +66,14 @@ impl<'a> Unlock for Passphrase<'a> {
 
     ghost refuses = { PassphraseRefuses };
 
-    fn unlock(&self, alloc: Global, header: &Header) -> Result<FileKey, KeyFault> {
+    ghost most_steps = { passphrase_steps };
+
+    fn unlock(
+        &self,
+        alloc: Global,
+        header: &Header,
+        steps: &mut Steps,
+    ) -> Result<FileKey, KeyFault> {
         let stanzas = header.stanzas.as_slice();
         if !has_scrypt(stanzas) {
             return Err(KeyFault::NoMatch);
@@ -79,7 +87,7 @@ impl<'a> Unlock for Passphrase<'a> {
         if read.log > self.max_log {
             return Err(KeyFault::WorkTooHigh);
         }
-        let wrap_key = wrap_key(alloc, self.bytes, &read.salt, read.log)?;
+        let wrap_key = wrap_key(alloc, self.bytes, &read.salt, read.log, steps)?;
         unwrapped_key(&wrap_key, &read.body).ok_or(KeyFault::WrongKey)
     }
 }

@@ -1,8 +1,8 @@
 //! The scrypt stanza (<https://c2sp.org/age#scrypt-recipient-stanza>): read and written.
 
-ghost use Rattle.std.specs.Prelude.{◌≡◌, ◌≤◌, ◌↔◌, ℕ, List, [], ◌∷◌, min};
+ghost use Rattle.std.specs.Prelude.{◌≡◌, ◌≤◌, ◌↔◌, ℕ, ◌+◌, ◌*◌, ◌^◌, List, [], ◌∷◌, min};
 ghost use Rattle.std.specs.Prelude.{IsTrue, IfSome};
-ghost use Rattle.std.specs.Prelude.{IfNone, IfOk, IfErr, OnOk, ◌++◌, codes};
+ghost use Rattle.std.specs.Prelude.{IfNone, IfOk, IfErr, OnOk, OnErr, ◌++◌, codes};
 ghost use Rattle.std.specs.Char.{is_ascii_digit};
 ghost use Rattle.std.specs.Fmt.{decimal};
 ghost use Rattle.std.specs.List.{list_all};
@@ -34,16 +34,19 @@ pub(crate) fn wrap_key(
     pass: &[u8],
     salt: &[u8; 16],
     log: u32,
+    steps: &mut Steps,
 ) -> Result<[u8; 32], KeyFault>
     requires least { 1 ≤ log }
     requires most { log ≤ work_factor_limit }
     ensures key { IfOk result (λ key. key ≡ wrap_key pass.now salt.now log) }
     ensures memory { IfErr result (λ fault. fault ≡ Memory) }
+    ensures counted { OnOk result (steps.new ≡ steps.old + 2 * 2 ^ log) }
+    ensures refused { OnErr result (steps.new ≡ steps.old) }
 {
     let mut labelled = [0; 44];
     labelled[..28].copy_from_slice(LABEL);
     labelled[28..].copy_from_slice(salt);
-    match age_scrypt::derive(alloc, pass, &labelled, log, &mut Steps::new()) {
+    match age_scrypt::derive(alloc, pass, &labelled, log, steps) {
         Ok(key) => Ok(key),
         Err(_) => Err(KeyFault::Memory),
     }
@@ -200,7 +203,7 @@ pub fn scrypt_header(
     ensures text { IfOk result HasText }
     ensures memory { IfErr result (λ fault. fault ≡ Memory) }
 {
-    let wrap_key = wrap_key(alloc, pass, salt, log)?;
+    let wrap_key = wrap_key(alloc, pass, salt, log, &mut Steps::new())?;
     let Ok(mut header) = header_of(alloc, salt, log, &wrapped_key(&wrap_key, key)) else {
         return Err(KeyFault::Memory);
     };

@@ -12,6 +12,7 @@ use crate::key::FileKey;
 use crate::unlock::Unlock;
 use crate::wrap::unwrapped_key;
 use crate::x25519::{X25519Stanza, is_x25519};
+use age_scrypt::Steps;
 use age_stanza::{Header, Stanza};
 use std::alloc::Global;
 use std::marker::Model;
@@ -128,7 +129,14 @@ impl Unlock for SharedSecret {
 
     ghost refuses = { SharedRefuses };
 
-    fn unlock(&self, _alloc: Global, header: &Header) -> Result<FileKey, KeyFault> {
+    ghost most_steps = { λ _. 0 };
+
+    fn unlock(
+        &self,
+        _alloc: Global,
+        header: &Header,
+        _steps: &mut Steps,
+    ) -> Result<FileKey, KeyFault> {
         let stanzas = header.stanzas.as_slice();
         if !has_x25519(stanzas) {
             return Err(KeyFault::NoMatch);

@@ -3,10 +3,12 @@
 ghost use Rattle.std.specs.Prelude.{◌≡◌, ℕ, List, MatchResult, IfSome, IfNone};
 ghost use Rattle.age_stanza.specs.declared.header.Header.{Header as HeaderValue};
 ghost use Rattle.age_keys.specs.declared.fault.KeyFault.{KeyFault as Fault};
+ghost use Rattle.age_keys.specs.Counts.{Counts};
 ghost use Rattle.age_keys.specs.Keys.{SpellsKey};
 
 use crate::fault::KeyFault;
 use crate::key::FileKey;
+use age_scrypt::Steps;
 use age_stanza::Header;
 use hex::FromHex;
 use std::alloc::Global;
@@ -14,8 +16,9 @@ use std::marker::Model;
 
 /// Finds the file key in the stanzas of a header, or refuses it.
 ///
-/// An implementation states two relations: which key it may return for a header, and which fault.
-/// [`open_header`](crate::open_header) states its contract in these terms.
+/// An implementation states two relations, which key it may return for a header and which fault,
+/// and how many steps of scrypt it makes at most. [`open_header`](crate::open_header) states its
+/// contract in these terms.
 pub trait Unlock {
     /// The keys that it may return for a header.
     ghost allows: { Self → HeaderValue → List ℕ → Type 0 };
@@ -23,10 +26,15 @@ pub trait Unlock {
     /// The faults that it may return for a header.
     ghost refuses: { Self → HeaderValue → Fault → Type 0 };
 
-    /// The file key of a header. Nothing is changed.
-    fn unlock(&self, alloc: Global, header: &Header) -> Result<FileKey, KeyFault>
-        ensures { MatchResult result (λ key. allows self.now header.now key)
-            (refuses self.now header.now) };
+    /// The most steps that it makes for a header.
+    ghost most_steps: { Self → ℕ };
+
+    /// The file key of a header. Nothing is changed but the count of steps, and it isn't if the
+    /// fault [is found before any work](KeyFault::is_before_work).
+    fn unlock(&self, alloc: Global, header: &Header, steps: &mut Steps) -> Result<FileKey, KeyFault>
+        ensures answer { MatchResult result (λ key. allows self.now header.now key)
+            (refuses self.now header.now) }
+        ensures counted { Counts (most_steps self.now) result steps.old steps.new };
 }
 
 /// A file key that is known: it is returned for every header. A contract sees the list of its
@@ -68,7 +76,14 @@ impl Unlock for KnownKey {
 
     ghost refuses = { λ _ _ _. ⊥ };
 
-    fn unlock(&self, _alloc: Global, _header: &Header) -> Result<FileKey, KeyFault> {
+    ghost most_steps = { λ _. 0 };
+
+    fn unlock(
+        &self,
+        _alloc: Global,
+        _header: &Header,
+        _steps: &mut Steps,
+    ) -> Result<FileKey, KeyFault> {
         Ok(FileKey::new(self.0))
     }
 }

@@ -1,13 +1,15 @@
-use Rattle.std.proofs.Common.{◌≡◌, ◌∙◌, sym, ap, arith}
+use Rattle.std.proofs.Common.{◌≡◌, ◌≤◌, ◌^◌, ◌∙◌, sym, ap, arith}
 use Rattle.std.proofs.lemmas.Result.{err_from_is_err_and}
+use Rattle.std.proofs.Math.Pow.{pow_mono}
 use Rattle.age_keys.specs.Scrypt.{wrap_key}
+use Rattle.age_keys.proofs.CountLemmas.{was_tried}
 use Rattle.age_keys.proofs.PassphraseLemmas.{only_scrypt, found_or_wrong}
 use Rattle.age_keys.proofs.StanzaLemmas.{only_one, not_beside}
 use Rattle.age_keys.proofs.WorkFactorLemmas.{work_factor_some}
 use Rattle.age_keys.proofs.passphrase.PassphraseUnlock.unlock.Goals as goal
 
-pub returns-in_default-read : goal.returns-in_default-read
-returns-in_default-read c =
+pub returns-in_default-read-clause-answer : goal.returns-in_default-read-clause-answer
+returns-in_default-read-clause-answer c =
     let slice = c.as_slice-stanzas.ensures in
     let one = only_one c.args.header.now.stanzas c.stanza-item.result (rw slice at c.in-len1.len_at_least) (rw slice at c.in-len1.len_below)
     (rw slice at c.stanza-item.is) in (
@@ -26,8 +28,8 @@ wrap_key-requires-clause-least c =
     let log = read.1 in
     omega arith
 
-pub returns-then-read-self : goal.returns-then-read-self
-returns-then-read-self c =
+pub returns-then-read-self-clause-answer : goal.returns-then-read-self-clause-answer
+returns-then-read-self-clause-answer c =
     let slice = c.as_slice-stanzas.ensures in
     let one = only_one c.args.header.now.stanzas c.stanza-item.result (rw slice at c.in-len1.len_at_least) (rw slice at c.in-len1.len_below)
     (rw slice at c.stanza-item.is) in
@@ -36,8 +38,8 @@ returns-then-read-self c =
     let above = c.if-read-self.true in
     rw (← c.self.view_is) (only_scrypt c.args.header.now c.stanza-item.result c.in-Some.read.salt read.0 c.in-Some.read.body one read.2, omega arith)
 
-pub returns-in_err-wrap_key : goal.returns-in_err-wrap_key
-returns-in_err-wrap_key c =
+pub returns-in_err-wrap_key-clause-answer : goal.returns-in_err-wrap_key-clause-answer
+returns-in_err-wrap_key-clause-answer c =
     let slice = c.as_slice-stanzas.ensures in
     let one = only_one c.args.header.now.stanzas c.stanza-item.result (rw slice at c.in-len1.len_at_least) (rw slice at c.in-len1.len_below)
     (rw slice at c.stanza-item.is) in
@@ -49,8 +51,8 @@ returns-in_err-wrap_key c =
     rw (p.1, p.2, c.in_err-wrap_key.ensures.memory, ← c.self.view_is)
     (only_scrypt c.args.header.now c.stanza-item.result c.in-Some.read.salt read.0 c.in-Some.read.body one read.2, omega arith)
 
-pub returns : goal.returns
-returns c =
+pub returns-clause-answer : goal.returns-clause-answer
+returns-clause-answer c =
     let slice = c.as_slice-stanzas.ensures in
     let one = only_one c.args.header.now.stanzas c.stanza-item.result (rw slice at c.in-len1.len_at_least) (rw slice at c.in-len1.len_below)
     (rw slice at c.stanza-item.is) in
@@ -64,3 +66,11 @@ returns c =
     (found_or_wrong _ c.args.header.now only c.in_ok-wrap_key.wrap_key c.unwrapped_key.result c.ok_or.result (omega arith)
     (c.in_ok-wrap_key.ensures.key ∙ ap (wrap_key c.self.inside.bytes.now c.in-Some.read.salt) log_is) c.unwrapped_key.ensures.key c.unwrapped_key.ensures.none
     c.ok_or.ensures.value)
+
+pub returns-clause-counted : goal.returns-clause-counted
+returns-clause-counted c =
+    let within = c.if-read-self.false in
+    let fewer : 2 ^ c.in-Some.read.log ≤ 2 ^ c.self.inside.max_log = pow_mono (omega arith) in
+    let counted = c.in_ok-wrap_key.ensures.counted in
+    rw (← c.self.view_is)
+    (was_tried _ c.unwrapped_key.result c.ok_or.result c.args.steps.now c.wrap_key.new.steps (omega arith) c.ok_or.ensures.value)
