@@ -1,8 +1,13 @@
-"""A library, loaded before the C library's, that refuses allocations: number REFUSED from 1, and with ON all after it.
-With COUNT it makes that file once it has refused one."""
+"""Libraries that are loaded before the C library's.
+
+REFUSING refuses allocations: number REFUSED from 1, and with ON all after it. With COUNT it makes that file once it has refused one.
+
+RECORDING appends to the file RECORD each call that succeeded and changes what a regular file holds or which names a folder has, or
+waits for the disk. A line has the name of the call and its arguments, with tabs between them: an inode where a file is meant, and a
+path from the root where a name is. What was written follows its line."""
 import subprocess
 
-SHIM = r"""
+REFUSING = r"""
 #include <errno.h>
 #include <fcntl.h>
 #include <stdlib.h>
@@ -23,9 +28,141 @@ void *calloc(size_t n, size_t m) { return is_refused() ? NULL : __libc_calloc(n,
 void *realloc(void *p, size_t n) { return is_refused() ? NULL : __libc_realloc(p, n); }
 """
 
+RECORDING = r"""
+#define _GNU_SOURCE
+#include <dlfcn.h>
+#include <fcntl.h>
+#include <limits.h>
+#include <stdarg.h>
+#include <stdio.h>
+#include <stdlib.h>
+#include <sys/stat.h>
+#include <sys/uio.h>
+#include <unistd.h>
+#define NEXT(name) ((__typeof__(&name))dlsym(RTLD_NEXT, #name))
+#define MODE(flags) \
+    mode_t mode = 0; \
+    if ((flags) & (O_CREAT | __O_TMPFILE)) { \
+        va_list more; \
+        va_start(more, flags); \
+        mode = va_arg(more, mode_t); \
+        va_end(more); \
+    }
+/* Its descriptor is none that the program would have got. */
+static int record(void) {
+    static int fd = -1;
+    if (fd < 0) {
+        int made = NEXT(open)(getenv("RECORD"), O_WRONLY | O_APPEND | O_CLOEXEC);
+        fd = fcntl(made, F_DUPFD_CLOEXEC, 500);
+        close(made);
+    }
+    return fd;
+}
+static void note(const char *format, ...) {
+    va_list more;
+    va_start(more, format);
+    vdprintf(record(), format, more);
+    va_end(more);
+}
+static ino_t regular(int fd) {
+    struct stat it;
+    return fstat(fd, &it) == 0 && S_ISREG(it.st_mode) ? it.st_ino : 0;
+}
+/* Where a descriptor or the working folder is, followed by a path unless that begins at the root. */
+struct path { char text[2 * PATH_MAX]; };
+static struct path path(int folder, const char *name) {
+    struct path it;
+    char link[64] = "/proc/self/cwd";
+    ssize_t n = 0;
+    if (folder != AT_FDCWD) snprintf(link, sizeof link, "/proc/self/fd/%d", folder);
+    if (*name != '/') n = readlink(link, it.text, PATH_MAX);
+    snprintf(it.text + n, PATH_MAX, *name == '/' ? "%s" : "/%s", name);
+    return it;
+}
 
-def built(room):
-    """Builds the library in a folder, and returns its path."""
-    (room / "shim.c").write_text(SHIM)
-    subprocess.run(["cc", "-O2", "-shared", "-fPIC", "-o", room / "shim.so", room / "shim.c"], check=True)
+static int opened(int folder, const char *name, int flags, mode_t mode) {
+    struct stat it;
+    int is_new = (flags & O_CREAT) && fstatat(folder, name, &it, 0) != 0;
+    int fd = NEXT(openat)(folder, name, flags, mode);
+    ino_t file = fd >= 0 ? regular(fd) : 0;
+    if (file && (flags & O_TMPFILE) == O_TMPFILE) note("make\t%lu\n", file);
+    else if (file && is_new) note("make\t%lu\nlink\t%lu\t%s\n", file, file, path(folder, name).text);
+    else if (file && (flags & O_TRUNC)) note("cut\t%lu\t0\n", file);
+    return fd;
+}
+int open(const char *name, int flags, ...) { MODE(flags) return opened(AT_FDCWD, name, flags, mode); }
+int open64(const char *name, int flags, ...) { MODE(flags) return opened(AT_FDCWD, name, flags, mode); }
+int openat(int folder, const char *name, int flags, ...) { MODE(flags) return opened(folder, name, flags, mode); }
+int openat64(int folder, const char *name, int flags, ...) { MODE(flags) return opened(folder, name, flags, mode); }
+int creat(const char *name, mode_t mode) { return opened(AT_FDCWD, name, O_CREAT | O_WRONLY | O_TRUNC, mode); }
+int creat64(const char *name, mode_t mode) { return creat(name, mode); }
+
+static ssize_t wrote(int fd, const void *bytes, ssize_t n, off_t at) {
+    ino_t file = n > 0 ? regular(fd) : 0;
+    if (file) {
+        note("write\t%lu\t%ld\t%zd\n", file, at, n);
+        NEXT(write)(record(), bytes, n);
+    }
+    return n;
+}
+ssize_t write(int fd, const void *bytes, size_t size) {
+    ssize_t n = NEXT(write)(fd, bytes, size);
+    return n > 0 ? wrote(fd, bytes, n, lseek(fd, 0, SEEK_CUR) - n) : n;
+}
+ssize_t pwrite(int fd, const void *bytes, size_t size, off_t at) { return wrote(fd, bytes, NEXT(pwrite)(fd, bytes, size, at), at); }
+ssize_t pwrite64(int fd, const void *bytes, size_t size, off_t at) { return pwrite(fd, bytes, size, at); }
+ssize_t writev(int fd, const struct iovec *parts, int count) {
+    ssize_t n = NEXT(writev)(fd, parts, count), left = n;
+    off_t at = n > 0 ? lseek(fd, 0, SEEK_CUR) - n : 0;
+    for (int i = 0; left > 0; i++) {
+        ssize_t size = left < (ssize_t)parts[i].iov_len ? left : (ssize_t)parts[i].iov_len;
+        at += wrote(fd, parts[i].iov_base, size, at);
+        left -= size;
+    }
+    return n;
+}
+int ftruncate(int fd, off_t length) {
+    int ended = NEXT(ftruncate)(fd, length);
+    if (ended == 0) note("cut\t%lu\t%ld\n", regular(fd), length);
+    return ended;
+}
+int ftruncate64(int fd, off_t length) { return ftruncate(fd, length); }
+
+static int synced(int fd, int ended) {
+    struct stat it;
+    if (ended || fstat(fd, &it)) return ended;
+    if (S_ISREG(it.st_mode)) note("sync\t%lu\n", it.st_ino);
+    if (S_ISDIR(it.st_mode)) note("sync-names\t%s\n", path(fd, ".").text);
+    return 0;
+}
+int fsync(int fd) { return synced(fd, NEXT(fsync)(fd)); }
+int fdatasync(int fd) { return synced(fd, NEXT(fdatasync)(fd)); }
+
+int renameat2(int folder, const char *name, int other, const char *to, unsigned flags) {
+    int ended = NEXT(renameat2)(folder, name, other, to, flags);
+    if (ended == 0) note("rename\t%s\t%s\n", path(folder, name).text, path(other, to).text);
+    return ended;
+}
+int renameat(int folder, const char *name, int other, const char *to) { return renameat2(folder, name, other, to, 0); }
+int rename(const char *name, const char *to) { return renameat2(AT_FDCWD, name, AT_FDCWD, to, 0); }
+int linkat(int folder, const char *name, int other, const char *to, int flags) {
+    struct stat it;
+    int ended = NEXT(linkat)(folder, name, other, to, flags);
+    if (ended == 0 && fstatat(other, to, &it, AT_SYMLINK_NOFOLLOW) == 0) note("link\t%lu\t%s\n", it.st_ino, path(other, to).text);
+    return ended;
+}
+int link(const char *name, const char *to) { return linkat(AT_FDCWD, name, AT_FDCWD, to, 0); }
+int unlinkat(int folder, const char *name, int flags) {
+    int ended = NEXT(unlinkat)(folder, name, flags);
+    if (ended == 0) note("unlink\t%s\n", path(folder, name).text);
+    return ended;
+}
+int unlink(const char *name) { return unlinkat(AT_FDCWD, name, 0); }
+"""
+
+
+def built(room, source=REFUSING):
+    """Builds a library in a folder, and returns its path."""
+    (room / "shim.c").write_text(source)
+    subprocess.run(["cc", "-O2", "-shared", "-fPIC", "-o", room / "shim.so", room / "shim.c", "-ldl"], check=True)
     return room / "shim.so"
