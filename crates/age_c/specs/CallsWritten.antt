@@ -29,7 +29,8 @@ pub record StaysRefused (i : ℕ) (c : Call) : Type 0 where
   pub answer : c.answer ≢ misused → c.answer ≡ 17
   pub chunk : c.after.fault_chunk ≡ i
 
--- the first call that gave a wrong block, block number i, was refused for it, and no other call
+-- the first call that gave a wrong block, block number i, is refused for it, none before it is, and
+-- each one after it is
 pub record IsRefusedAt (i : ℕ) (before : List Call) (wrong : Call) (later : List Call)
     : Type 0 where
   -- the calls before it answered 0
@@ -54,7 +55,7 @@ module _ (r : Reader) (text : List ℕ) where
       IsAuthentic (box r.file_key r.nonce) (unbox r.file_key r.nonce) chunk_length text
       (given calls)
 
-  -- the calls gave the payload of the text as the writer sealed it, and its end, and no more; they
+  -- the calls gave the payload of the text as the writer sealed it, and its end, and no more; calls
   -- may be misused in between
   abbrev pub AreUndamaged : List Call → Type 0
   AreUndamaged calls = given calls ≡ record {
@@ -64,8 +65,8 @@ module _ (r : Reader) (text : List ℕ) where
     late = false;
   }
 
-  -- the calls gave the writer's blocks from number i up to number j, none of them the last; they
-  -- may be misused in between
+  -- the calls gave the writer's blocks from number i up to the one before j, none of them the last;
+  -- calls may be misused in between
   abbrev pub GiveBlocks : ℕ → List Call → ℕ → Type 0
   GiveBlocks i [] j = i ≡ j
   GiveBlocks i (c ∷ calls) j =
