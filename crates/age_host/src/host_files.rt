@@ -1,16 +1,18 @@
 //! The machine's files.
 
-ghost use Rattle.std.specs.Prelude.{◌≡◌, true, false, None, Some, Err, IfErr, IsErr, Contains};
-ghost use Rattle.age_fault.specs.declared.fault.FileFault.TheVariants.{Read, Write};
+ghost use Rattle.std.specs.Prelude.{◌≡◌, true, false, None, Some, Err, IfErr, IsErr, IsErrAnd, Contains};
+ghost use Rattle.age_fault.specs.declared.fault.FileFault.TheVariants.{Read, Write, Memory};
 ghost use Rattle.age_fileset.specs.FileSet.{IsMemoryOr, OpenFails};
 ghost use Rattle.age_fileset.specs.declared.files.OpenFault.TheVariants.{SameFile};
 ghost use Rattle.age_host.specs.declared.host_names.FileId.{FileId};
 
+use crate::failures::{Action, Failures};
 use crate::host_in::HostIn;
-use crate::host_names::{FileId, Stream, StreamId};
+use crate::host_names::{FileId, Stream, StreamId, found_at};
 use crate::host_out::HostOut;
 use crate::host_prepare::Prepared;
 use crate::host_replace::replace;
+use crate::watched::{WatchedIn, WatchedOut};
 use age_fault::FileFault;
 use age_fileset::{FileSet, Log, OpenFault};
 use age_io::Durability;
@@ -31,17 +33,19 @@ pub struct HostFiles<'r> {
     streams: Vec<StreamId>,
     prepared: Vec<Prepared>,
     log: Log,
+    failures: &'r Failures<'r>,
 }
 
 impl<'r> HostFiles<'r> {
-    /// The files that the machine reaches.
-    pub fn new(rt: &'r HostRuntime) -> HostFiles<'r> {
+    /// The files that the machine reaches. What fails is kept in `failures`.
+    pub fn new(rt: &'r HostRuntime, failures: &'r Failures<'r>) -> HostFiles<'r> {
         HostFiles {
             rt,
             open: Vec::new(rt.alloc()),
             streams: Vec::new(rt.alloc()),
             prepared: Vec::new(rt.alloc()),
             log: Log::new(),
+            failures,
         }
     }
 
@@ -51,7 +55,10 @@ impl<'r> HostFiles<'r> {
         ensures faults { IfErr result (OpenFails false Read) }
     {
         match StreamId::at(alloc, self.rt, name) {
-            Ok(Some(stream)) => keep_stream(&mut self.streams, stream),
+            Ok(Some(stream)) => {
+                let kept = keep_stream(&mut self.streams, stream);
+                note_same(self.failures, name, kept)
+            }
             Ok(None) => Ok(()),
             Err(error) => Err(OpenFault::Fault(fault_of(error, FileFault::Read))),
         }
@@ -60,17 +67,50 @@ impl<'r> HostFiles<'r> {
     /// Keeps a file that was opened to be read.
     fn admit_in(
         &mut self,
+        name: &str,
         opened: io::Result<(HostIn, Option<FileId>)>,
-    ) -> Result<HostIn, OpenFault>
+    ) -> Result<WatchedIn<'r>, OpenFault>
         ensures kept { self.new.log ≡ self.old.log }
         ensures faults { IfErr result (OpenFails false Read) }
     {
         match opened {
             Ok((file, id)) => match keep(&mut self.open, id) {
-                Ok(()) => Ok(file),
+                Ok(()) => Ok(WatchedIn::new(file, name, self.failures)),
                 Err(_) => Err(OpenFault::Fault(FileFault::Memory)),
             },
-            Err(error) => Err(OpenFault::Fault(fault_of(error, FileFault::Read))),
+            Err(error) => {
+                self.failures
+                    .note(Action::Open, self.failures.word(name), error);
+                Err(OpenFault::Fault(fault_of(error, FileFault::Read)))
+            }
+        }
+    }
+
+    /// Keeps why a file can't be written, which is the fault.
+    fn refuse_output<T>(&self, name: &str, error: io::Error) -> Result<T, OpenFault>
+        ensures { IsErrAnd result (OpenFails false Write) }
+    {
+        let action = opening(self.rt, name);
+        self.failures.note(action, self.failures.word(name), error);
+        Err(OpenFault::Fault(fault_of(error, FileFault::Write)))
+    }
+
+    /// Refuses a name that leads to the same stream as one of the others, and keeps both.
+    fn check_stream(
+        &self,
+        alloc: Global,
+        others: &[Option<&str>],
+        name: &str,
+    ) -> Result<(), OpenFault>
+        ensures { IfErr result (OpenFails false Memory) }
+    {
+        match find_same(alloc, self.rt, others, name) {
+            Ok(Some(other)) => {
+                self.failures.note_twice(other, name);
+                Err(OpenFault::SameFile)
+            }
+            Ok(None) => Ok(()),
+            Err(error) => Err(OpenFault::Fault(fault_of(error, FileFault::Memory))),
         }
     }
 
@@ -114,7 +154,9 @@ impl<'r> HostFiles<'r> {
         ensures faults { IfErr result (OpenFails false Write) }
     {
         let id = prepared.id(self.rt);
-        if is_known(self.open.as_slice(), id) || is_for_faults(self.rt, id) {
+        let is_for_faults = is_for_faults(self.rt, id);
+        if is_known(self.open.as_slice(), id) || is_for_faults {
+            self.failures.note_used(prepared.name(), is_for_faults);
             return Err(OpenFault::SameFile);
         }
         match self.prepared.push(prepared) {
@@ -124,9 +166,37 @@ impl<'r> HostFiles<'r> {
     }
 }
 
+/// Keeps the name of what was refused, where that is a file of another name too.
+fn note_same(
+    failures: &Failures<'_>,
+    name: &str,
+    kept: Result<(), OpenFault>,
+) -> Result<(), OpenFault>
+    ensures { result ≡ kept }
+{
+    if let Err(OpenFault::SameFile) = kept {
+        failures.note_used(name, false);
+    }
+    kept
+}
+
 /// Whether this is the file to which standard error leads.
 fn is_for_faults(rt: &HostRuntime, id: Option<FileId>) -> bool {
     id.is_some() && id == FileId::of_stream(rt, Stream::Faults)
+}
+
+/// What is done to open an output: one is made where there is none.
+fn opening(rt: &HostRuntime, name: &str) -> Action {
+    match found_at(rt, name) {
+        Ok(None) => Action::Create,
+        _ => Action::Write,
+    }
+}
+
+/// Whether two paths lead to one file.
+fn is_one_file(rt: &HostRuntime, one: &str, other: &str) -> bool {
+    let one = FileId::at(rt, one);
+    one.is_some() && one == FileId::at(rt, other)
 }
 
 /// Keeps a stream, where it is none of those that were kept before.
@@ -142,16 +212,8 @@ fn keep_stream(kept: &mut Vec<StreamId>, stream: StreamId) -> Result<(), OpenFau
     }
 }
 
-/// Whether two names are given and lead to one stream.
-fn is_one_stream(
-    alloc: Global,
-    rt: &HostRuntime,
-    one: Option<&str>,
-    other: Option<&str>,
-) -> io::Result<bool> {
-    let (Some(one), Some(other)) = (one, other) else {
-        return Ok(false);
-    };
+/// Whether two names lead to one stream.
+fn is_one_stream(alloc: Global, rt: &HostRuntime, one: &str, other: &str) -> io::Result<bool> {
     match (
         StreamId::at(alloc, rt, one)?,
         StreamId::at(alloc, rt, other)?,
@@ -161,24 +223,30 @@ fn is_one_stream(
     }
 }
 
-/// Whether a name and one of the others are given and lead to one stream.
-fn is_among(
+/// The name among those that are given that leads to the same stream as this one.
+fn find_same<'n>(
     alloc: Global,
     rt: &HostRuntime,
-    others: &[Option<&str>],
-    name: Option<&str>,
-) -> io::Result<bool> {
+    others: &[Option<&'n str>],
+    name: &str,
+) -> io::Result<Option<&'n str>> {
     for other in others.iter() {
-        if is_one_stream(alloc, rt, *other, name)? {
-            return Ok(true);
+        if let Some(other) = *other
+            && is_one_stream(alloc, rt, other, name)?
+        {
+            return Ok(Some(other));
         }
     }
-    Ok(false)
+    Ok(None)
 }
 
-/// Whether this is a file that was prepared.
-fn is_prepared(rt: &HostRuntime, prepared: &[Prepared], id: Option<FileId>) -> bool {
-    id.is_some() && prepared.iter().any(|p| p.id(rt) == id)
+/// The file that was prepared and is this one.
+fn find_prepared<'p>(
+    rt: &HostRuntime,
+    prepared: &'p [Prepared],
+    id: Option<FileId>,
+) -> Option<&'p Prepared> {
+    prepared.iter().find(|p| id.is_some() && p.id(rt) == id)
 }
 
 /// Whether this is a file that was opened.
@@ -216,15 +284,16 @@ fn admit(opened: &mut Vec<FileId>, id: Option<FileId>) -> Result<(), OpenFault>
 
 /// Keeps a file that was opened to be written, where it is none of those that were opened or
 /// prepared before; otherwise it is as it was before.
-fn admit_out(
+fn admit_out<'r>(
     rt: &HostRuntime,
     opened: &mut Vec<FileId>,
     prepared: &[Prepared],
-    out: HostOut,
-) -> Result<HostOut, OpenFault>
+    out: WatchedOut<'r>,
+) -> Result<WatchedOut<'r>, OpenFault>
     ensures { IfErr result (OpenFails false Write) }
 {
-    let admitted = if is_prepared(rt, prepared, out.id()) {
+    let other = find_prepared(rt, prepared, out.id());
+    let admitted = if other.is_some() {
         Err(OpenFault::SameFile)
     } else {
         admit(opened, out.id())
@@ -232,6 +301,7 @@ fn admit_out(
     match admitted {
         Ok(()) => Ok(out),
         Err(fault) => {
+            out.note_same(other);
             out.discard(rt, Durability::Buffered);
             Err(fault)
         }
@@ -269,9 +339,9 @@ fn fault_of(error: io::Error, other: FileFault) -> FileFault
 }
 
 impl<'r> FileSet for HostFiles<'r> {
-    type In = HostIn;
+    type In = WatchedIn<'r>;
 
-    type Out = HostOut;
+    type Out = WatchedOut<'r>;
 
     ghost shows_bytes = { false };
 
@@ -280,37 +350,39 @@ impl<'r> FileSet for HostFiles<'r> {
     /// Two paths of one file are the same too, so that no link destroys what is read.
     fn is_same(&self, one: &str, other: &str) -> bool {
         if one == other {
+            self.failures.note_twice(one, other);
             return true;
         }
-        let one = FileId::at(self.rt, one);
-        one.is_some() && one == FileId::at(self.rt, other)
+        let is_same = is_one_file(self.rt, one, other);
+        if is_same {
+            self.failures.note_twice(one, other);
+        }
+        is_same
     }
 
     fn check_streams(&self, alloc: Global, names: &[Option<&str>]) -> Result<(), OpenFault> {
         for i in 0..names.len() {
-            match is_among(alloc, self.rt, &names[..i], names[i]) {
-                Ok(true) => return Err(OpenFault::SameFile),
-                Ok(false) => {}
-                Err(error) => return Err(OpenFault::Fault(fault_of(error, FileFault::Memory))),
+            if let Some(name) = names[i] {
+                self.check_stream(alloc, &names[..i], name)?;
             }
         }
         Ok(())
     }
 
-    fn open(&mut self, alloc: Global, name: &str) -> Result<HostIn, OpenFault> {
+    fn open(&mut self, alloc: Global, name: &str) -> Result<WatchedIn<'r>, OpenFault> {
         self.log.opened(name);
         self.admit_stream(alloc, name)?;
-        self.admit_in(HostIn::open(alloc, self.rt, name))
+        self.admit_in(name, HostIn::open(alloc, self.rt, name))
     }
 
-    fn open_or_empty(&mut self, alloc: Global, name: &str) -> Result<HostIn, OpenFault> {
+    fn open_or_empty(&mut self, alloc: Global, name: &str) -> Result<WatchedIn<'r>, OpenFault> {
         self.log.opened(name);
         self.admit_stream(alloc, name)?;
-        self.admit_in(HostIn::open_or_empty(alloc, self.rt, name))
+        self.admit_in(name, HostIn::open_or_empty(alloc, self.rt, name))
     }
 
     /// The length of a regular file. Standard input has none.
-    fn length(&self, source: &HostIn) -> Option<u64> {
+    fn length(&self, source: &WatchedIn<'r>) -> Option<u64> {
         source.length()
     }
 
@@ -327,23 +399,26 @@ impl<'r> FileSet for HostFiles<'r> {
         };
         match Prepared::new(alloc, self.rt, name, spared) {
             Ok(prepared) => self.admit_prepared(prepared),
-            Err(error) => Err(OpenFault::Fault(fault_of(error, FileFault::Write))),
+            Err(error) => self.refuse_output(name, error),
         }
     }
 
-    fn create(&mut self, alloc: Global, name: &str) -> Result<HostOut, OpenFault> {
+    fn create(&mut self, alloc: Global, name: &str) -> Result<WatchedOut<'r>, OpenFault> {
         self.log.created(name);
         match HostOut::open(alloc, self.rt, name) {
-            Ok(out) => admit_out(self.rt, &mut self.open, self.prepared.as_slice(), out),
-            Err(error) => Err(OpenFault::Fault(fault_of(error, FileFault::Write))),
+            Ok(out) => {
+                let out = WatchedOut::new(out, name, self.failures);
+                admit_out(self.rt, &mut self.open, self.prepared.as_slice(), out)
+            }
+            Err(error) => self.refuse_output(name, error),
         }
     }
 
-    fn is_for_faults(&self, out: &HostOut) -> bool {
+    fn is_for_faults(&self, out: &WatchedOut<'r>) -> bool {
         out.is_for_faults(self.rt)
     }
 
-    fn close(&mut self, out: HostOut, durability: Durability) -> Result<(), FileFault> {
+    fn close(&mut self, out: WatchedOut<'r>, durability: Durability) -> Result<(), FileFault> {
         self.log.closed(durability);
         match out.close(self.rt, durability) {
             Ok(()) => Ok(()),
@@ -351,7 +426,7 @@ impl<'r> FileSet for HostFiles<'r> {
         }
     }
 
-    fn discard(&mut self, out: HostOut, durability: Durability) {
+    fn discard(&mut self, out: WatchedOut<'r>, durability: Durability) {
         self.log.closed(durability);
         out.discard(self.rt, durability);
     }
@@ -366,7 +441,10 @@ impl<'r> FileSet for HostFiles<'r> {
         self.log.replaced(name, durability);
         match self.replace_named(alloc, name, bytes, durability) {
             Ok(()) => Ok(()),
-            Err(error) => Err(fault_of(error, FileFault::Write)),
+            Err(error) => {
+                self.failures.note_unsaved(name, error);
+                Err(fault_of(error, FileFault::Write))
+            }
         }
     }
 }

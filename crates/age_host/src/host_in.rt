@@ -31,6 +31,8 @@ pub struct HostIn {
     left: Option<u64>,
     failed: u64,
     failing: bool,
+    // What the machine answered to the last pull that failed.
+    error: io::Error,
 }
 
 impl Model for HostIn {
@@ -75,7 +77,13 @@ impl HostIn {
             left,
             failed: 0,
             failing: false,
+            error: io::Error::from(io::ErrorKind::Other),
         }
+    }
+
+    /// What the machine answered to the last pull that failed.
+    pub(crate) fn error(&self) -> io::Error {
+        self.error
     }
 
     /// How many bytes a regular file still has to give, by its length as it was opened.
@@ -134,7 +142,8 @@ impl Source for HostIn {
                 }
                 Ok(n)
             }
-            Err(_) => {
+            Err(error) => {
+                self.error = error;
                 self.failed = self.failed.saturating_add(1);
                 self.failing = true;
                 Err(Failed)

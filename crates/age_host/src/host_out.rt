@@ -49,6 +49,8 @@ pub struct HostOut {
     id: Option<FileId>,
     failed: u64,
     failing: bool,
+    // What the machine answered to the last put that failed.
+    error: io::Error,
 }
 
 impl Model for HostOut {
@@ -203,7 +205,13 @@ impl HostOut {
             id,
             failed: 0,
             failing: false,
+            error: io::Error::from(io::ErrorKind::Other),
         }
+    }
+
+    /// What the machine answered to the last put that failed.
+    pub(crate) fn error(&self) -> io::Error {
+        self.error
     }
 
     /// Opens what a name stands for without emptying it, or makes a file where there is none.
@@ -289,6 +297,14 @@ impl HostOut {
     }
 }
 
+/// What the machine answered where it took no byte.
+fn error_of(put: io::Result<usize>) -> io::Error {
+    match put {
+        Ok(_) => io::Error::from(io::ErrorKind::WriteZero),
+        Err(error) => error,
+    }
+}
+
 /// Ends what went to a stream.
 fn finish_stream(rt: &HostRuntime, stream: Stream, durability: Durability) -> io::Result<()> {
     match durability {
@@ -312,7 +328,8 @@ impl Sink for HostOut {
                 self.failing = false;
                 Ok(n)
             }
-            _ => {
+            other => {
+                self.error = error_of(other);
                 self.failed = self.failed.saturating_add(1);
                 self.failing = true;
                 Err(Failed)

@@ -56,6 +56,11 @@ impl Prepared {
         }
     }
 
+    /// The name under which it was prepared.
+    pub(crate) fn name(&self) -> &str {
+        self.name.as_str()
+    }
+
     /// Whether it was prepared under this name.
     pub(crate) fn is_named(&self, name: &str) -> bool {
         self.name.as_str() == name

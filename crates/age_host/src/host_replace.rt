@@ -132,10 +132,11 @@ fn fill_directly(
 ) -> io::Result<()> {
     let mut written = 0;
     let put = write_all(&mut out, bytes, &mut written);
+    let error = out.error();
     out.close(rt, durability)?;
     match put {
         Ok(()) => Ok(()),
-        Err(_) => Err(io::Error::from(io::ErrorKind::Other)),
+        Err(_) => Err(error),
     }
 }
 

@@ -1,11 +1,17 @@
-//! The machine's files, and the line on a terminal that shows how far a run is: what the program
-//! alone uses.
+//! The machine's files, the line on a terminal that shows how far a run is, and what people are
+//! told after a fault: what the program alone uses.
 //!
 //! `HostFiles` is a set of files of which contracts see what was opened, created, replaced and
 //! ended, and none of the bytes. A `ProgressLine` is a meter that shows how many bytes were read on
-//! one line, which it writes over and over into a sink.
+//! one line, which it writes over and over into a sink. `Failures` keeps what the machine answered
+//! where something failed, and `explain` says it after the fault that it became.
 #![tactic(auto)]
 
+mod escaped;
+mod explaining;
+mod failures;
+mod heard;
+mod hints;
 mod host_files;
 mod host_in;
 mod host_names;
@@ -17,8 +23,13 @@ mod host_sync;
 mod line;
 mod progress_line;
 mod text;
+mod unread;
+mod watched;
 
+pub use explaining::explain;
+pub use failures::Failures;
+pub use heard::Heard;
 pub use host_files::HostFiles;
-pub use host_in::HostIn;
-pub use host_out::HostOut;
 pub use progress_line::ProgressLine;
+pub use unread::{announce_reading, explain_words};
+pub use watched::{Watched, WatchedIn, WatchedOut};

@@ -1,10 +1,13 @@
 //! Reads and writes age files: passes its arguments, the machine's files and its standard streams
-//! to `age_cli::run`, and exits with the status that this returns.
+//! to `age_cli::run`, says what the machine answered where that is why it failed, and exits with
+//! the status that it returns.
 #![tactic(auto)]
 
 use age_cli::run;
 use age_file::{Reading, Writing};
-use age_host::{HostFiles, ProgressLine};
+use age_host::{
+    Failures, Heard, HostFiles, ProgressLine, Watched, announce_reading, explain, explain_words,
+};
 use std::alloc::Global;
 use std::io;
 use std::process::ExitCode;
@@ -30,18 +33,23 @@ fn unread(rt: &HostRuntime, error: &io::Error) -> ExitCode {
         return ExitCode::from(1);
     }
     let _ = eprintln!(rt; "age_tool: bad command line");
+    explain_words(rt);
     ExitCode::from(2)
 }
 
 /// Runs the program on the words after its name, over the machine's files and its own standard
 /// streams.
 fn run_words(rt: &HostRuntime, words: &[&str]) -> ExitCode {
-    let mut files = HostFiles::new(rt);
-    let mut input = Reading::new(rt.reader());
-    let mut output = Writing::new(io::writer(rt));
-    let mut faults = Writing::new(rt.stderr());
+    let failures = Failures::new(words);
+    let mut files = HostFiles::new(rt, &failures);
+    let mut input = Reading::new(Watched::new(rt.reader(), &failures));
+    let mut output = Writing::new(Watched::new(io::writer(rt), &failures));
+    let mut faults = Heard::new(Writing::new(rt.stderr()));
     let mut progress = ProgressLine::new(Writing::new(rt.stderr()));
-    ExitCode::from(run(
+    if words.is_empty() {
+        announce_reading(rt);
+    }
+    let status = run(
         rt.alloc(),
         words,
         &mut files,
@@ -49,7 +57,9 @@ fn run_words(rt: &HostRuntime, words: &[&str]) -> ExitCode {
         &mut output,
         &mut faults,
         &mut progress,
-    ))
+    );
+    explain(rt, &faults, &failures);
+    ExitCode::from(status)
 }
 
 fn main(rt: HostRuntime) -> ExitCode {

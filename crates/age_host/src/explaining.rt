@@ -1,0 +1,102 @@
+//! What people are told after a run, besides the line of its fault.
+
+use crate::escaped::Escaped;
+use crate::failures::{Amount, Failure, Failures};
+use crate::heard::Heard;
+use crate::hints::hint_of;
+use age_io::Sink;
+use std::io::{Eprint, IsTerminal};
+use std::rt::HostRuntime;
+
+/// The fault that a line reports.
+#[derive(Clone, Copy)]
+struct Reported {
+    number: u8,
+    is_first_line: bool,
+}
+
+/// The fault that a line reports, if it does.
+fn fault_in(line: &str) -> Option<Reported> {
+    let (number, rest) = line.strip_prefix("age_tool: ")?.split_once(' ')?;
+    match number.parse::<u8>() {
+        Ok(number) => Some(Reported {
+            number,
+            is_first_line: rest.ends_with(" line 1"),
+        }),
+        Err(_) => None,
+    }
+}
+
+/// Says on standard error what the machine answered, if that is why a run stopped; which files were
+/// one; and what is wrong with a file that was refused. At a terminal it adds what to do.
+pub fn explain<O: Sink>(rt: &HostRuntime, heard: &Heard<O>, failures: &Failures<'_>) {
+    let mut lines = heard.text().lines();
+    let Some(line) = lines.next() else {
+        return;
+    };
+    match fault_in(line) {
+        Some(first) => {
+            explain_fault(rt, first, failures.first());
+            if let Some(second) = lines.next().and_then(fault_in) {
+                explain_fault(rt, second, failures.unsaved());
+            }
+            give_hint(rt, first);
+        }
+        None => explain_refusal(rt, line, failures),
+    }
+}
+
+/// Says what the machine answered, if the fault is that of the failure.
+fn explain_fault(rt: &HostRuntime, fault: Reported, failure: Option<Failure<'_>>) {
+    if let Some(failure) = failure
+        && failure.action.fault_number() == fault.number
+    {
+        let _ = eprintln!(rt; "age_tool: {failure}");
+    }
+}
+
+/// Says what to do after a fault, at a terminal.
+fn give_hint(rt: &HostRuntime, fault: Reported) {
+    if rt.stderr().is_terminal()
+        && let Some(hint) = hint_of(fault.number, fault.is_first_line)
+    {
+        let _ = eprintln!(rt; "age_tool: hint: {hint} (more: man age_tool)");
+    }
+}
+
+/// Says which files were one, or what is wrong with one that was refused.
+fn explain_refusal(rt: &HostRuntime, line: &str, failures: &Failures<'_>) {
+    let last = failures.last_read();
+    match line {
+        "age_tool: same file named twice" => {
+            if let Some(twice) = failures.twice() {
+                let _ = eprintln!(rt; "age_tool: {twice}");
+            }
+        }
+        "age_tool: bad passphrase file" => explain_passphrase(rt, last),
+        "age_tool: bad shared file" => explain_length(rt, last, 64),
+        "age_tool: bad random file" => explain_length(rt, last, 48),
+        _ => {}
+    }
+}
+
+/// Says what is wrong with the file of a passphrase. It was read until it was too long.
+fn explain_passphrase(rt: &HostRuntime, last: Amount<'_>) {
+    let name = Escaped(last.name.as_bytes());
+    let _ = match last.bytes {
+        0 => eprintln!(rt; "age_tool: {name} is empty"),
+        1 => eprintln!(rt; "age_tool: {name} holds nothing but a line feed"),
+        _ => eprintln!(rt; "age_tool: {name} holds more than 65,536 bytes"),
+    };
+}
+
+/// Says what is wrong with a file of a wanted length. It was read until it was too long.
+fn explain_length(rt: &HostRuntime, last: Amount<'_>, wanted: u64) {
+    let name = Escaped(last.name.as_bytes());
+    let bytes = last.bytes;
+    let _ = if bytes > wanted {
+        eprintln!(rt; "age_tool: {name} holds more than {wanted} bytes")
+    } else {
+        eprintln!(rt; "age_tool: {name} holds {bytes} of {wanted} bytes")
+    };
+}

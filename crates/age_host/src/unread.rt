@@ -1,0 +1,41 @@
+//! What people are told of a command line that says too little, or can't be read.
+
+use crate::escaped::Escaped;
+use std::env::{Env, FillError};
+use std::io::{Eprint, IsTerminal};
+use std::rt::HostRuntime;
+
+/// How many bytes of a word are looked at.
+const WORD_MAX: usize = 8192;
+
+/// Says on standard error which word of the command line isn't UTF-8. One that is longer than any
+/// path isn't shown.
+pub fn explain_words(rt: &HostRuntime) {
+    let mut word = [0; WORD_MAX];
+    for i in 1..=u16::MAX {
+        match rt.arg(i as usize, &mut word) {
+            Ok(n) if show_unread(rt, &word[..n]) => return,
+            Err(FillError::NotPresent) => return,
+            _ => {}
+        }
+    }
+}
+
+/// Says that a word isn't UTF-8, if so.
+fn show_unread(rt: &HostRuntime, word: &[u8]) -> bool {
+    if str::from_utf8(word).is_ok() {
+        return false;
+    }
+    let word = Escaped(word);
+    let _ = eprintln!(rt; "age_tool: {word} isn't UTF-8, as a name must be");
+    true
+}
+
+/// Says at a terminal that a header is read from there, and where to find help.
+pub fn announce_reading(rt: &HostRuntime) {
+    if rt.stdin().is_terminal() {
+        let _ = eprintln!(rt;
+            "age_tool: reading a header from standard input; for help, age_tool --help"
+        );
+    }
+}

@@ -1,0 +1,192 @@
+//! Files and streams of which each failure is kept.
+
+ghost use Rattle.std.specs.Prelude.{[], None, true};
+
+use crate::failures::{Action, Failures};
+use crate::host_in::HostIn;
+use crate::host_names::FileId;
+use crate::host_out::HostOut;
+use crate::host_prepare::Prepared;
+use age_io::{Durability, Failed, Sink, Source};
+use std::io::{self, Read, Write};
+use std::rt::HostRuntime;
+
+/// A file of the machine that is read, under the name that the command line has for it.
+#[derive(Drop)]
+pub struct WatchedIn<'r> {
+    source: HostIn,
+    name: &'r str,
+    failures: &'r Failures<'r>,
+}
+
+impl<'r> WatchedIn<'r> {
+    pub(crate) fn new(source: HostIn, name: &str, failures: &'r Failures<'r>) -> WatchedIn<'r> {
+        let name = failures.word(name);
+        failures.begin_reading(name);
+        WatchedIn {
+            source,
+            name,
+            failures,
+        }
+    }
+
+    /// How many bytes a regular file still has to give.
+    pub(crate) fn length(&self) -> Option<u64> {
+        self.source.length()
+    }
+}
+
+impl<'r> Source for WatchedIn<'r> {
+    ghost view = { λ s. record {
+      remaining = None;
+      failed = s.source.0;
+      failing = s.source.1;
+    } };
+
+    fn pull(&mut self, into: &mut [u8]) -> Result<usize, Failed> {
+        let pulled = self.source.pull(into);
+        match pulled {
+            Ok(n) => self.failures.count(self.name, n as u64),
+            Err(_) => self
+                .failures
+                .note(Action::Read, self.name, self.source.error()),
+        }
+        pulled
+    }
+
+    fn failures(&self) -> u64 {
+        self.source.failures()
+    }
+}
+
+/// A file of the machine that is written, under the name that the command line has for it.
+#[derive(Drop)]
+pub struct WatchedOut<'r> {
+    sink: HostOut,
+    name: &'r str,
+    failures: &'r Failures<'r>,
+}
+
+impl<'r> WatchedOut<'r> {
+    pub(crate) fn new(sink: HostOut, name: &str, failures: &'r Failures<'r>) -> WatchedOut<'r> {
+        WatchedOut {
+            sink,
+            name: failures.word(name),
+            failures,
+        }
+    }
+
+    /// Which file it is, where that is known.
+    pub(crate) fn id(&self) -> Option<FileId> {
+        self.sink.id()
+    }
+
+    /// Keeps its name, and that of the file that was prepared and is the same, if it is one.
+    pub(crate) fn note_same(&self, other: Option<&Prepared>) {
+        match other {
+            Some(other) => self.failures.note_twice(other.name(), self.name),
+            None => self.failures.note_used(self.name, false),
+        }
+    }
+
+    /// Whether it is the file to which standard error leads; its name is kept then.
+    pub(crate) fn is_for_faults(&self, rt: &HostRuntime) -> bool {
+        let is_for_faults = self.sink.is_for_faults(rt);
+        if is_for_faults {
+            self.failures.note_used(self.name, true);
+        }
+        is_for_faults
+    }
+
+    /// Ends it with what was written.
+    pub(crate) fn close(self, rt: &HostRuntime, durability: Durability) -> io::Result<()> {
+        let WatchedOut {
+            sink,
+            name,
+            failures,
+        } = self;
+        let closed = sink.close(rt, durability);
+        if let Err(error) = closed {
+            failures.note(closing(durability), name, error);
+        }
+        closed
+    }
+
+    /// Ends it where nothing was written.
+    pub(crate) fn discard(self, rt: &HostRuntime, durability: Durability) {
+        self.sink.discard(rt, durability);
+    }
+}
+
+/// What is done when a file is closed.
+fn closing(durability: Durability) -> Action {
+    match durability {
+        Durability::Synced => Action::Sync,
+        Durability::Buffered => Action::Write,
+    }
+}
+
+impl<'r> Sink for WatchedOut<'r> {
+    ghost view = { λ s. record {
+      taken = None;
+      failed = s.sink.0;
+      failing = s.sink.1;
+      label = [];
+      settled = true;
+    } };
+
+    fn put(&mut self, from: &[u8]) -> Result<usize, Failed> {
+        let put = self.sink.put(from);
+        if put.is_err() {
+            self.failures
+                .note(Action::Write, self.name, self.sink.error());
+        }
+        put
+    }
+
+    fn flush(&mut self) -> Result<(), Failed> {
+        self.sink.flush()
+    }
+
+    fn failures(&self) -> u64 {
+        self.sink.failures()
+    }
+}
+
+/// A standard stream, whose failures are kept.
+#[derive(Drop)]
+pub struct Watched<'r, T> {
+    stream: T,
+    failures: &'r Failures<'r>,
+}
+
+impl<'r, T> Watched<'r, T> {
+    /// A stream whose failures are kept.
+    pub fn new(stream: T, failures: &'r Failures<'r>) -> Watched<'r, T> {
+        Watched { stream, failures }
+    }
+}
+
+impl<'r, R: Read> Read for Watched<'r, R> {
+    fn read(&mut self, into: &mut [u8]) -> io::Result<usize> {
+        let read = self.stream.read(into);
+        if let Err(error) = read {
+            self.failures.note(Action::Read, "standard input", error);
+        }
+        read
+    }
+}
+
+impl<'r, W: Write> Write for Watched<'r, W> {
+    fn write(&mut self, from: &[u8]) -> io::Result<usize> {
+        let written = self.stream.write(from);
+        if let Err(error) = written {
+            self.failures.note(Action::Write, "standard output", error);
+        }
+        written
+    }
+
+    fn flush(&mut self) -> io::Result<()> {
+        self.stream.flush()
+    }
+}
