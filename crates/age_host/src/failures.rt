@@ -1,5 +1,7 @@
 //! What the machine answered where a run failed, for a line that says so.
 
+ghost use Rattle.std.specs.Prelude.{◌≡◌, ◌⊎◌, codes, IfSome};
+
 use crate::escaped::Escaped;
 use arrayvec::ArrayString;
 use std::cell::Cell;
@@ -150,7 +152,9 @@ impl<'w> Failures<'w> {
     }
 
     /// The same name, as it ends a word of the command line.
-    pub(crate) fn word(&self, name: &str) -> &'w str {
+    pub(crate) fn word(&self, name: &str) -> &'w str
+        ensures { (result.now ≡ name.now) ⊎ (result.now ≡ codes "/dev/urandom") }
+    {
         for word in self.words {
             if let Some(end) = end_of(word, name) {
                 return end;
@@ -229,7 +233,9 @@ impl<'w> Failures<'w> {
 }
 
 /// The end of a word, if it is this name.
-fn end_of<'w>(word: &'w str, name: &str) -> Option<&'w str> {
+fn end_of<'w>(word: &'w str, name: &str) -> Option<&'w str>
+    ensures { IfSome result (λ end. end.now ≡ name.now) }
+{
     let at = word.len().checked_sub(name.len())?;
     let end = word.get(at..)?;
     if end == name { Some(end) } else { None }
