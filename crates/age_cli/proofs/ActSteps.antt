@@ -13,6 +13,7 @@ use Rattle.age_cli_common.specs.EventOrders.{Follows, replacing}
 use Rattle.age_cli_common.specs.Files.{Files}
 use Rattle.age_cli_common.specs.Names.{NamesTwice}
 use Rattle.age_cli_common.specs.Orders.{order_asked}
+use Rattle.age_cli_common.specs.Reasons.{HasReason}
 use Rattle.age_cli_common.specs.Endings.{is_usage}
 use Rattle.age_cli_common.specs.declared.ending.Ending.{Ending}
 use Rattle.age_cli.specs.Acts.{Acts, EndsBefore, GivesNone, OfEngine, Spares, progress_of}
@@ -38,20 +39,21 @@ whole_of (Resume r) old new f = longer _ (replacing (text_of r.decrypting.save) 
 whole_of (Inspect file) old new f = f
 whole_of (Drill d) old new f = f
 
-module _ (IsPorts : Ports → Type 0) (shows : Bool) (asked : Request) (before after : FilesView) (Unshown : Type 0) (r : Result (Unit {0}) Ending) where
+module _ (IsPorts : Ports → Type 0) (shows : Bool) (asked : Request) (before after : FilesView) (Failed Unshown : Type 0) (r : Result (Unit {0}) Ending) where
   abbrev pub Acted : Type 0
-  Acted = Acts IsPorts shows asked before after Unshown (by_result IsUsage r)
+  Acted = Acts IsPorts shows asked before after Failed Unshown (by_result IsUsage r)
 
   -- a command ended early, with this ending
   pub acts_early : (e : Ending) → IsErr r × IsErrAnd r (λ x. x ≡ e) → after.entries ≡ before.entries → (shows ≡ true → EndsBefore asked before.entries e)
+      → (shows ≡ true → HasReason before.entries after.events Failed e)
       → Follows (order_asked asked).done before.events after.events
       → (shows ≡ true → IsUsage e → Follows (order_asked asked).judged before.events after.events)
       → (NamesTwice (order_asked asked).apart → (after.events ≡ before.events) × IsUsage e)
       → (shows ≡ true → IsUsage e → NamesTwice (order_asked asked).apart ⊎ GivesNone asked before.entries)
       → Unshown → Acted
-  acts_early e is kept early follows judged apart blamed silent = record {
+  acts_early e is kept early reason follows judged apart blamed silent = record {
     done = not_well r e is _;
-    stops = λ shown. this_error r e is _ (inl (kept, early shown));
+    stops = λ shown. this_error r e is _ (inl (kept, early shown, reason shown));
     usage = this_error r e is _ (λ usage. kept);
     blamed = λ shown. this_error r e is _ (blamed shown);
     spares = λ shown. spares_kept asked before.entries after.entries kept;

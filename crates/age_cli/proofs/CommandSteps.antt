@@ -1,5 +1,5 @@
 -- What is so where a command or a step of one ends early, and of what a step read.
-use Rattle.std.proofs.Common.{◌≡◌, ◌∙◌, ◌⊎◌, ◌++◌, inl, inr, ap, sym, subst, refl, Bool, true, false, true≢false, append-nil, List, ℕ, Option, Some, None}
+use Rattle.std.proofs.Common.{◌≡◌, ◌∙◌, ◌⊎◌, ◌++◌, ◌∷◌, [], inl, inr, ap, sym, subst, refl, Bool, true, false, true≢false, append-nil, List, ℕ, Option, Some, None}
 use Rattle.std.proofs.Common.{Result, Ok, Err, IfOk, IfErr, OnOk}
 use Rattle.std.specs.Prelude.{IsErr, IsErrAnd, is_some, OnErr}
 use Rattle.std.specs.Io.KnownBytes.{Consumes, IsAtEnd}
@@ -9,9 +9,12 @@ use Rattle.age_fileset.specs.FileSet.{IsMemoryOr, OpenFails}
 use Rattle.age_fileset.specs.declared.files.OpenFault.{OpenFault}
 use Rattle.age_fileset.specs.declared.files.OpenFault.TheVariants.{SameFile}
 use Rattle.age_fileset.specs.declared.files.OpenFault.TheVariants as create
-use Rattle.age_fileset.specs.Events.{Event}
+use Rattle.age_fileset.specs.Events.{Event, Opened}
 use Rattle.age_fileset.specs.FileSet.{FilesView}
 use Rattle.age_cli_common.specs.Endings.{EndsEarly, is_usage}
+use Rattle.age_cli_common.specs.Files.{Files}
+use Rattle.age_cli_common.specs.Reasons.{HasReason, IsUnmade, IsUnread}
+use Rattle.clap.specs.Words.{Text}
 use Rattle.age_cli_common.specs.inner.Endings.{ending_of}
 use Rattle.age_cli_common.specs.declared.ending.Ending.{Ending}
 use Rattle.age_cli_common.specs.declared.ending.Ending.TheVariants.{Fault}
@@ -61,6 +64,45 @@ streams_early shows SameFile fails = tt
 streams_early shows (create.Fault f) (inl memory) = inr (inr memory)
 streams_early shows (create.Fault f) (inr memory) = inr (inr memory)
 
+module _ (old : Files) (events : List Event) (Failed : Type 0) where
+  -- a fault of a source has a reason, and so have those of files that can't be opened, made or told apart
+  pub source_reason : (f : FileFault) → IsMemoryOr Read f → (f ≡ Read → Failed) → HasReason old events Failed (Fault f)
+  source_reason f (inl read) failed = subst (λ (x : FileFault). HasReason old events Failed (Fault x)) (sym read) (inr (failed read))
+  source_reason f (inr memory) failed = subst (λ (x : FileFault). HasReason old events Failed (Fault x)) (sym memory) tt
+
+  pub open_reason : (shows : Bool) (f : OpenFault) → OpenFails shows Read f → (f ≡ create.Fault Read → IsUnread old events Failed) → HasReason old events Failed (ending_of f)
+  open_reason shows SameFile fails unread = tt
+  open_reason shows (create.Fault f) (inl read) unread =
+      subst (λ (x : FileFault). HasReason old events Failed (Fault x)) (sym read) (unread (ap create.Fault read))
+  open_reason shows (create.Fault f) (inr memory) unread = subst (λ (x : FileFault). HasReason old events Failed (Fault x)) (sym memory) tt
+
+  pub made_reason : (shows : Bool) (f : OpenFault) → OpenFails shows Write f → IsUnmade events → HasReason old events Failed (ending_of f)
+  made_reason shows SameFile fails unmade = tt
+  made_reason shows (create.Fault f) (inl write) unmade = subst (λ (x : FileFault). HasReason old events Failed (Fault x)) (sym write) unmade
+  made_reason shows (create.Fault f) (inr memory) unmade = subst (λ (x : FileFault). HasReason old events Failed (Fault x)) (sym memory) tt
+
+  pub memory_reason : (f : OpenFault) → f ≡ create.Fault Memory → HasReason old events Failed (ending_of f)
+  memory_reason f is = subst (λ (x : OpenFault). HasReason old events Failed (ending_of x)) (sym is) tt
+
+  pub streams_reason : (shows : Bool) (f : OpenFault) → OpenFails shows Memory f → HasReason old events Failed (ending_of f)
+  streams_reason shows SameFile fails = tt
+  streams_reason shows (create.Fault f) (inl memory) = subst (λ (x : FileFault). HasReason old events Failed (Fault x)) (sym memory) tt
+  streams_reason shows (create.Fault f) (inr memory) = subst (λ (x : FileFault). HasReason old events Failed (Fault x)) (sym memory) tt
+
+  pub position_reason : (shows : Bool) (f : OpenFault) → OpenFails shows Read f ⊎ (f ≡ create.Fault BadPosition)
+      → (f ≡ create.Fault Read → IsUnread old events Failed) → HasReason old events Failed (ending_of f)
+  position_reason shows f (inl early) unread = open_reason shows f early unread
+  position_reason shows f (inr bad) unread = subst (λ (x : OpenFault). HasReason old events Failed (ending_of x)) (sym bad) tt
+
+-- a reason is one of the same files under another name
+pub reason_at : (old now : Files) (events : List Event) (Failed : Type 0) (e : Ending) → now ≡ old → HasReason now events Failed e → HasReason old events Failed e
+reason_at old now events Failed e kept reason = subst (λ (f : Files). HasReason f events Failed e) kept reason
+
+-- a file that is opened last and isn't there can't be read
+pub last_missing : (old : Files) (Failed : Type 0) (before after : List Event) (name : Text) → after ≡ before ++ Opened name ∷ [] → old name ≡ None
+    → IsUnread old after Failed
+last_missing old Failed before after name last missing = inl (record { front = before; name = name; last = last; missing = missing })
+
 -- it isn't the command line's where contracts see the files
 pub created_fault : (shows : Bool) (other : FileFault) (f : OpenFault) → OpenFails shows other f → shows ≡ true → is_usage (ending_of f) ≡ false
 created_fault shows other SameFile fails shown = absurd (true≢false (sym shown ∙ fails))
@@ -102,6 +144,6 @@ either_way (Ok x) P Q R p q well bad = well p
 either_way (Err e) P Q R p q well bad = bad q
 
 -- what is asked of a choice is asked of what the options say
-pub in_order : {A : Type 0} (shows : Bool) (a b : List Event) (old new : FilesView) (IsRead : A → Type 0) (IsTwice Blame : Type 0) (r : Result A Ending) → a ≡ b
-    → Judges shows a old new IsRead IsTwice Blame r → Judges shows b old new IsRead IsTwice Blame r
-in_order shows a b old new IsRead IsTwice Blame r same judged = subst (λ (order : List Event). Judges shows order old new IsRead IsTwice Blame r) same judged
+pub in_order : {A : Type 0} (shows : Bool) (a b : List Event) (old new : FilesView) (IsRead : A → Type 0) (IsTwice Blame Failed : Type 0) (r : Result A Ending) → a ≡ b
+    → Judges shows a old new IsRead IsTwice Blame Failed r → Judges shows b old new IsRead IsTwice Blame Failed r
+in_order shows a b old new IsRead IsTwice Blame Failed r same judged = subst (λ (order : List Event). Judges shows order old new IsRead IsTwice Blame Failed r) same judged

@@ -54,7 +54,7 @@ abbrev pub WasEarlier : Resuming → Position → Files → SourceView → Type 
 WasEarlier a from old first = IsPositionIn (old a.position.now) from × (is_some (old_for from (old a.old.now)) ≡ true)
     × (first.remaining ≡ old_for from (old a.old.now))
 
-module _ (IsPorts : Ports → Type 0) (shows : Bool) (asked : Request) (old opened new : FilesView) (Unshown : Type 0) (engine : Engine) (p : Paths)
+module _ (IsPorts : Ports → Type 0) (shows : Bool) (asked : Request) (old opened new : FilesView) (Failed Unshown : Type 0) (engine : Engine) (p : Paths)
     (durability : Durability) (before after : Ports) (end : Result (Unit {0}) Stop) (r : Result (Unit {0}) Ending) (xs ys : List Event) where
   acts_of_engine : IsPorts before → IsPorts after → (order_asked asked).done ≡ xs ++ (ys ++ making (Some p.to) durability)
       → (order_asked asked).whole ≡ (xs ++ (ys ++ making (Some p.to) durability)) ++ replacing p.save durability
@@ -63,9 +63,9 @@ module _ (IsPorts : Ports → Type 0) (shows : Bool) (asked : Request) (old open
       → opened.entries ≡ old.entries → (shows ≡ true → Found p old.entries before) → after.sink.label ≡ before.sink.label
       → (shows ≡ true → before.sink.taken ≡ Some [] → Kept engine before after end) → Concludes shows p.save durability after.sink end opened new r
       → opened.events ≡ old.events ++ (xs ++ (ys ++ Created p.to ∷ [])) → (NamesTwice (order_asked asked).apart → ⊥) → (p.save ≡ Some p.to → ⊥)
-      → (progress_of asked ≡ Silent → Unshown) → Acts IsPorts shows asked old new Unshown (by_result IsUsage r)
+      → (progress_of asked ≡ Silent → Unshown) → Acts IsPorts shows asked old new Failed Unshown (by_result IsUsage r)
   acts_of_engine before_is after_is done_is whole_is of spares kept found named promise concludes noted apart unsaved silent =
-      acts_concluded IsPorts shows asked old new Unshown r
+      acts_concluded IsPorts shows asked old new Failed Unshown r
       (on_ok_weaker r (λ wrote shown. of shown (λ e q. Writes IsPorts e q old.entries new.entries) (wrote shown))
       (wrote_out IsPorts engine shows p durability old opened new before after before_is after_is end r kept found named promise concludes))
       (λ shown. IfErr-weaker r _ _ (λ e stops. of shown (λ n q. Stops IsPorts n q old.entries new.entries e) stops)
@@ -79,7 +79,7 @@ module _ (IsPorts : Ports → Type 0) (shows : Bool) (asked : Request) (old open
       concludes.order_done)
       apart silent
 
-module _ (IsPorts : Ports → Type 0) (shows : Bool) (old opened new : FilesView) (Unshown : Type 0) (before after : Ports) (before_is : IsPorts before)
+module _ (IsPorts : Ports → Type 0) (shows : Bool) (old opened new : FilesView) (Failed Unshown : Type 0) (before after : Ports) (before_is : IsPorts before)
     (after_is : IsPorts after) (end : Result (Unit {0}) Stop) (r : Result (Unit {0}) Ending) (kept : opened.entries ≡ old.entries) where
   pub encrypt_acts : (e : Encrypting) (secret : SecretView) (sealed : Result Written FileFault) → (shows ≡ true → MakesSecret e old.entries secret)
       → (shows ≡ true → Found (record { from = e.from.now; to = e.to.now; save = None }) old.entries before) → end ≡ sealing_end sealed
@@ -88,9 +88,9 @@ module _ (IsPorts : Ports → Type 0) (shows : Bool) (old opened new : FilesView
       → opened.events ≡ old.events
       ++ ((Opened e.pass.now ∷ Opened (random_name (text_of e.random)) ∷ []) ++ (Opened e.from.now ∷ Created e.to.now ∷ []))
       → (NamesTwice (order_asked (Encrypt e)).apart → ⊥) → (e.progress ≡ Silent → Unshown)
-      → Acts IsPorts shows (Encrypt e) old new Unshown (by_result IsUsage r)
+      → Acts IsPorts shows (Encrypt e) old new Failed Unshown (by_result IsUsage r)
   encrypt_acts e secret sealed made found is ends fails named concludes noted apart silent =
-      acts_of_engine IsPorts shows (Encrypt e) old opened new Unshown (sealing secret) (record { from = e.from.now; to = e.to.now; save = None }) e.durability
+      acts_of_engine IsPorts shows (Encrypt e) old opened new Failed Unshown (sealing secret) (record { from = e.from.now; to = e.to.now; save = None }) e.durability
       before after end r (Opened e.pass.now ∷ Opened (random_name (text_of e.random)) ∷ []) (Opened e.from.now ∷ []) before_is after_is refl
       refl
       (λ shown P holds. (secret, made shown, holds)) (λ spared. spared) kept found named
@@ -104,11 +104,11 @@ module _ (IsPorts : Ports → Type 0) (shows : Bool) (old opened new : FilesView
       → opened.events ≡ old.events ++ (identity_order (text_of d.identity.pass) (text_of d.identity.shared)
       ++ ((Opened d.from.now ∷ preparing (text_of d.save)) ++ Created d.to.now ∷ []))
       → (NamesTwice (order_asked (Decrypt d)).apart → ⊥) → (d.progress ≡ Silent → Unshown)
-      → Acts IsPorts shows (Decrypt d) old new Unshown (by_result IsUsage r)
+      → Acts IsPorts shows (Decrypt d) old new Failed Unshown (by_result IsUsage r)
   decrypt_acts d keep identity decrypted opens found keep_is is promise concludes noted apart silent =
       let k = kept_for (text_of d.save) in
       let did = subst (λ (x : Positions). Decrypts x (allows_by identity) (refuses_by identity) before after decrypted) keep_is promise in
-      acts_of_engine IsPorts shows (Decrypt d) old opened new Unshown (opening k identity) (paths_of d) d.durability before after end r
+      acts_of_engine IsPorts shows (Decrypt d) old opened new Failed Unshown (opening k identity) (paths_of d) d.durability before after end r
       (identity_order (text_of d.identity.pass) (text_of d.identity.shared)) (Opened d.from.now ∷ preparing (text_of d.save)) before_is after_is refl refl
       (λ shown P holds. (identity, opens shown, holds)) (λ spared. spared) kept found did.named
       (λ shown empty. subst (λ (n : Result (Unit {0}) Stop). Kept (opening k identity) before after n) (sym is)
@@ -126,14 +126,14 @@ module _ (IsPorts : Ports → Type 0) (shows : Bool) (old opened new : FilesView
       → opened.events ≡ old.events ++ (identity_order (text_of a.decrypting.identity.pass) (text_of a.decrypting.identity.shared)
       ++ ((Opened a.position.now ∷ Opened a.old.now ∷ Opened a.decrypting.from.now ∷ preparing (text_of a.decrypting.save)) ++ Created a.decrypting.to.now ∷ []))
       → (NamesTwice (order_asked (Resume a)).apart → ⊥) → (a.decrypting.progress ≡ Silent → Unshown)
-      → Acts IsPorts shows (Resume a) old new Unshown (by_result IsUsage r)
+      → Acts IsPorts shows (Resume a) old new Failed Unshown (by_result IsUsage r)
   resume_acts a keep identity from first last resumed opens earlier first_is last_is found keep_is is promise concludes noted apart silent =
       let d = a.decrypting in
       let k = kept_for (text_of d.save) in
       let engine = resuming IsPorts k identity from (old_for from (old.entries a.old.now)) in
       let did = subst (λ (x : Positions). ResumesText x (allows_by identity) (refuses_by identity) from (resume_ports before first) (resume_ports after last)
       resumed) keep_is promise in
-      acts_of_engine IsPorts shows (Resume a) old opened new Unshown engine (paths_of d) d.durability before after end r
+      acts_of_engine IsPorts shows (Resume a) old opened new Failed Unshown engine (paths_of d) d.durability before after end r
       (identity_order (text_of d.identity.pass) (text_of d.identity.shared))
       (Opened a.position.now ∷ Opened a.old.now ∷ Opened d.from.now ∷ preparing (text_of d.save)) before_is after_is refl refl
       (λ shown P holds. (identity, opens shown, from, (earlier shown).0, (earlier shown).1, holds)) (λ spared. spared) kept found did.named

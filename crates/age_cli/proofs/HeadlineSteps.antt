@@ -37,7 +37,8 @@ use Rattle.age_cli.specs.Acts.{Acts, EndsBefore, OfEngine}
 use Rattle.age_cli.specs.Engines.{opening, resuming, Ran}
 use Rattle.age_cli.specs.Outputs.{IsLeft, IsUnclosed, Stops, Writes, kept_for}
 use Rattle.age_cli.specs.Outcomes.{by_result}
-use Rattle.age_cli.specs.Obeying.{Around, IsForHelp, IsRefusal, Obeys}
+use Rattle.age_cli.specs.Obeying.{Around, IsForHelp, IsRefusal, Obeys, Prints}
+use Rattle.age_cli_common.specs.Reasons.{HasReason}
 use Rattle.age_cli.specs.Resumptions.{IsPositionIn, old_for}
 use Rattle.age_cli.proofs.CommandStopSteps.{stop_wrote, resume_wrote}
 use Rattle.age_cli.specs.Headline.{IsRead, IsWritersInput, KeepsOut, BeginsAt, IsWritersResumption}
@@ -286,7 +287,7 @@ kept_whole old new status text whole = record { safe = inr (text, whole, ([], ap
 kept_stopped : (old new : Option (List ℕ)) (status : ℕ) (text : List ℕ) → (status ≡ 0 → ⊥) → HoldsNoMore old new text → KeepsOut old new status text
 kept_stopped old new status text failed safe = record { safe = safe; whole = λ zero. absurd (failed zero) }
 
-module _ (words : List Text) (shows : Bool) (IsPorts : Ports → Type 0) (before after : Around) (Unread Unprinted Unshown : Type 0) (status : ℕ) (text : List ℕ)
+module _ (words : List Text) (shows : Bool) (IsPorts : Ports → Type 0) (before after : Around) (Failed Unread Unprinted Unshown : Type 0) (status : ℕ) (text : List ℕ)
     (shown : shows ≡ true) where
   abbrev pub old : Files
   old = before.files.entries
@@ -295,15 +296,15 @@ module _ (words : List Text) (shows : Bool) (IsPorts : Ports → Type 0) (before
   new = after.files.entries
 
   -- with no request nothing differs, and with status 0 help was asked for
-  declined : (r : Result (Unit {0}) Ending) → OnErr r (status ≡ 0 → ⊥) → OnOk r (IsForHelp words) → refusals words ≡ [] → after.files ≡ before.files → (to : Text)
+  declined : (r : Result (Unit {0}) Ending) → OnErr r (status ≡ 0 → ⊥) → OnOk r (IsForHelp words × Prints before.output after.output) → refusals words ≡ [] → after.files ≡ before.files → (to : Text)
       → KeepsOut (old to) (new to) status text
-  declined (Ok done) failed help taken same to = absurd (not_help words taken help)
+  declined (Ok done) failed help taken same to = absurd (not_help words taken help.0)
   declined (Err e) failed help taken same to = kept_stopped (old to) (new to) status text failed (inl (ap (λ (v : FilesView). v.entries to) same))
 
   module _ (e : Decrypting) (auth : IsWritersInput e old text) where
     decrypted : (r : Result (Unit {0}) Ending) → OnErr r (status ≡ 0 → ⊥)
         → OnOk r (shows ≡ true → OfEngine IsPorts (Decrypt e) old (λ engine paths. Writes IsPorts engine paths old new))
-        → IfErr r (λ ending. ((new ≡ old) × EndsBefore (Decrypt e) old ending)
+        → IfErr r (λ ending. ((new ≡ old) × EndsBefore (Decrypt e) old ending × HasReason old after.files.events Failed ending)
         ⊎ OfEngine IsPorts (Decrypt e) old (λ engine paths. Stops IsPorts engine paths old new ending))
         → KeepsOut (old e.to.now) (new e.to.now) status text
     decrypted (Ok done) failed wrote stopped =
@@ -319,7 +320,7 @@ module _ (words : List Text) (shows : Bool) (IsPorts : Ports → Type 0) (before
 
   -- of what is asked, whichever request was made of the words
   pub headline_of : (r : Result (Unit {0}) Ending) → OnErr r (status ≡ 0 → ⊥)
-      → Obeys words shows IsPorts before after Unread Unprinted Unshown (by_result IsRefusal r) → (d : Decrypting) → Requests words (Decrypt d)
+      → Obeys words shows IsPorts before after Failed Unread Unprinted Unshown (by_result IsRefusal r) → (d : Decrypting) → Requests words (Decrypt d)
       → IsWritersInput d old text → KeepsOut (old d.to.now) (new d.to.now) status text
   headline_of r failed (inl o) d (name, rows, asks, is) auth = absurd (no_command words name rows o.none asks)
   headline_of r failed (inr (inr o)) d (name, rows, asks, is) auth = declined r failed o.done asks.taken o.untouched d.to.now
@@ -329,13 +330,13 @@ module _ (words : List Text) (shows : Bool) (IsPorts : Ports → Type 0) (before
       let same = only.2 in
       let mine : IsWritersInput e old text = λ identity opens run from read.
       auth identity (same.opens old identity opens) run from (subst (λ (t : Text). IsRead identity (old t) run) same.from read) in
-      let acts = subst (λ (q : Request). Acts IsPorts shows q before.files after.files Unshown (by_result IsRefusal r)) only.1 o.acts in
+      let acts = subst (λ (q : Request). Acts IsPorts shows q before.files after.files Failed Unshown (by_result IsRefusal r)) only.1 o.acts in
       subst (λ (t : Text). KeepsOut (old t) (new t) status text) same.to (decrypted e mine r failed acts.done (acts.stops shown))
 
   module _ (s : Resuming) (auth : IsWritersResumption s old text) where
     resumed : (r : Result (Unit {0}) Ending) → OnErr r (status ≡ 0 → ⊥)
         → OnOk r (shows ≡ true → OfEngine IsPorts (Resume s) old (λ engine paths. Writes IsPorts engine paths old new))
-        → IfErr r (λ ending. ((new ≡ old) × EndsBefore (Resume s) old ending)
+        → IfErr r (λ ending. ((new ≡ old) × EndsBefore (Resume s) old ending × HasReason old after.files.events Failed ending)
         ⊎ OfEngine IsPorts (Resume s) old (λ engine paths. Stops IsPorts engine paths old new ending))
         → KeepsOut (old s.decrypting.to.now) (new s.decrypting.to.now) status text
     resumed (Ok done) failed wrote stopped =
@@ -357,7 +358,7 @@ module _ (words : List Text) (shows : Bool) (IsPorts : Ports → Type 0) (before
         IsPorts (kept_for (text_of d.save)) (old d.to.now) (new d.to.now) did.5.position did.5.fault did.5.output)
 
   pub resumed_headline_of : (r : Result (Unit {0}) Ending) → OnErr r (status ≡ 0 → ⊥)
-      → Obeys words shows IsPorts before after Unread Unprinted Unshown (by_result IsRefusal r) → (a : Resuming) → Requests words (Resume a)
+      → Obeys words shows IsPorts before after Failed Unread Unprinted Unshown (by_result IsRefusal r) → (a : Resuming) → Requests words (Resume a)
       → IsWritersResumption a old text → KeepsOut (old a.decrypting.to.now) (new a.decrypting.to.now) status text
   resumed_headline_of r failed (inl o) a (name, rows, asks, is) auth = absurd (no_command words name rows o.none asks)
   resumed_headline_of r failed (inr (inr o)) a (name, rows, asks, is) auth = declined r failed o.done asks.taken o.untouched a.decrypting.to.now
@@ -374,5 +375,5 @@ module _ (words : List Text) (shows : Bool) (IsPorts : Ports → Type 0) (before
         rest = λ p is identity opens run from read. auth.rest p (at p is) identity (d.opens old identity opens) run from
             (subst (λ (t : Text). IsRead identity (old t) run) d.from read);
       } in
-      let acts = subst (λ (q : Request). Acts IsPorts shows q before.files after.files Unshown (by_result IsRefusal r)) only.1 o.acts in
+      let acts = subst (λ (q : Request). Acts IsPorts shows q before.files after.files Failed Unshown (by_result IsRefusal r)) only.1 o.acts in
       subst (λ (t : Text). KeepsOut (old t) (new t) status text) d.to (resumed s mine r failed acts.done (acts.stops shown))

@@ -21,7 +21,8 @@ use Rattle.age_cli_common.specs.EventOrders.{Follows}
 use Rattle.age_cli_common.specs.Orders.{order_asked}
 use Rattle.age_cli_common.specs.declared.ending.Ending.{Ending}
 use Rattle.age_cli.specs.Acts.{Acts}
-use Rattle.age_cli.specs.Obeying.{IsForHelp, IsRefusal, LacksMemory, Reported}
+use Rattle.age_cli.specs.Obeying.{FailsWriting, IsForHelp, IsRefusal, LacksMemory, Prints, Reported}
+use Rattle.age_io.specs.Views.{SinkView}
 use Rattle.age_cli.specs.Inspections.{FailsReport}
 use Rattle.age_cli_args.specs.Requests.{Requests}
 use Rattle.age_cli_args.specs.declared.request.Request.{Request}
@@ -56,9 +57,16 @@ for_help words e (inl memory) (inr version) = let no = sym memory ∙ version in
 for_help words e (inr among) (inl help) = inl (subst (λ (k : ErrorKind). IsAmong k (refusals words)) help among)
 for_help words e (inr among) (inr version) = inr (subst (λ (k : ErrorKind). IsAmong k (refusals words)) version among)
 
-pub help_done : {A P : Type 0} (r : Result A Ending) → (IsOk r → P) → OnOk r P
-help_done (Ok x) asked = asked refl
-help_done (Err e) asked = tt
+pub help_done : {A P : Type 0} (r : Result A Ending) (Q : Type 0) → (IsOk r → P) → OnOk r Q → OnOk r (P × Q)
+help_done (Ok x) Q asked printed = (asked refl, printed)
+help_done (Err e) Q asked printed = tt
+
+-- what is refused wasn't printed
+pub refused_unprinted : (r : Result (Unit {0}) Ending) (Unprinted : Type 0) (old new : SinkView)
+    → IfErr r (λ e. (IsRefusal e × Unprinted) ⊎ FailsWriting old new e) → IfErr r (λ e. IsUsage e → Unprinted)
+refused_unprinted (Ok x) Unprinted old new fails = tt
+refused_unprinted (Err e) Unprinted old new (inl (refused, unprinted)) = λ usage. unprinted
+refused_unprinted (Err e) Unprinted old new (inr writing) = λ usage. absurd (true≢false (sym usage ∙ ap is_usage writing.0))
 
 pub no_help : {A P : Type 0} (r : Result A Ending) → (IsOk r → P) → (P → ⊥) → IfErr r IsRefusal → IsErrAnd r IsRefusal
 no_help (Ok x) asked unasked refusal = absurd (unasked (asked refl))
@@ -88,10 +96,11 @@ report_fault held (Words text) fails = absurd fails
 report_fault held (Usage usage) fails = absurd fails
 report_fault held (Unsaved fault second) fails = absurd fails
 
-pub reported_by : (r : Result (Unit {0}) Ending) (Report Unprinted : Type 0) (held : Option (List ℕ)) → OnOk r Report → IfErr r (FailsReport held)
-    → IfErr r (λ e. (e ≡ Fault Write) ⊎ Unprinted) → Reported (by_result IsRefusal r) Report Unprinted held
-reported_by r Report Unprinted held done fails unprinted = record {
+pub reported_by : (r : Result (Unit {0}) Ending) (Report Unprinted : Type 0) (held : Option (List ℕ)) (old new : SinkView) → OnOk r Report → OnOk r (new.settled ≡ true)
+    → IfErr r (FailsReport held) → IfErr r (λ e. FailsWriting old new e ⊎ Unprinted) → Reported (by_result IsRefusal r) Report Unprinted held old new
+reported_by r Report Unprinted held old new done sent fails unprinted = record {
   done = done;
+  sent = sent;
   stops = fails;
   unprinted = unprinted;
   accepted = IfErr-weaker r _ _ (λ e f usage. true≢false (sym usage ∙ report_fault held e f)) fails;
@@ -105,11 +114,11 @@ every_fault : {A : Type 0} (r : Result A Ending) (P : Ending → Type 0) → ((e
 every_fault (Ok x) P h = tt
 every_fault (Err e) P h = h e
 
-module _ (IsPorts : Ports → Type 0) (shows : Bool) (before after : FilesView) (Unshown : Type 0) (r : Result (Unit {0}) Ending)
+module _ (IsPorts : Ports → Type 0) (shows : Bool) (before after : FilesView) (Failed Unshown : Type 0) (r : Result (Unit {0}) Ending)
     (kept : after.entries ≡ before.entries) (silent : Unshown) where
   -- of a drill
   pub drill_acts : (d : Drilling) → Follows (order_asked (Drill d)).whole before.events after.events
-      → OnOk r (after.events ≡ before.events ++ (order_asked (Drill d)).done) → Acts IsPorts shows (Drill d) before after Unshown (by_result IsRefusal r)
+      → OnOk r (after.events ≡ before.events ++ (order_asked (Drill d)).done) → Acts IsPorts shows (Drill d) before after Failed Unshown (by_result IsRefusal r)
   drill_acts d whole finished = record {
     done = always r _ (λ shown. tt);
     stops = λ shown. every_fault r _ (λ e. inr tt);
@@ -126,7 +135,7 @@ module _ (IsPorts : Ports → Type 0) (shows : Bool) (before after : FilesView) 
 
   -- of a report: a file is opened, or none, and no fault is one of the words
   pub inspect_acts : (file : Option (Bor Text)) → after.events ≡ before.events ++ (order_asked (Inspect file)).done → IfErr r (λ e. is_usage e ≡ false)
-      → Acts IsPorts shows (Inspect file) before after Unshown (by_result IsRefusal r)
+      → Acts IsPorts shows (Inspect file) before after Failed Unshown (by_result IsRefusal r)
   inspect_acts file noted fault =
       let impossible : (P : Type 0) → IfErr r (λ e. IsUsage e → P) =
       λ P. IfErr-weaker r _ _ (λ e no usage. absurd (true≢false (sym usage ∙ no))) fault in

@@ -17,9 +17,9 @@ pub record Implies (how other : Outcome) : Type 1 where
   pub stopped : (Ends : Ending → Type 0) → how.if_stopped Ends → other.if_stopped Ends
   pub declined : how.is_refused → other.is_refused
 
-pub acts_so : (IsPorts : Ports → Type 0) (shows : Bool) (asked : Request) (before after : FilesView) (Unshown : Type 0) (how other : Outcome)
-    → Implies how other → Acts IsPorts shows asked before after Unshown how → Acts IsPorts shows asked before after Unshown other
-acts_so IsPorts shows asked before after Unshown how other i a = record {
+pub acts_so : (IsPorts : Ports → Type 0) (shows : Bool) (asked : Request) (before after : FilesView) (Failed Unshown : Type 0) (how other : Outcome)
+    → Implies how other → Acts IsPorts shows asked before after Failed Unshown how → Acts IsPorts shows asked before after Failed Unshown other
+acts_so IsPorts shows asked before after Failed Unshown how other i a = record {
   done = i.done _ a.done;
   stops = λ shown. i.stopped _ (a.stops shown);
   usage = i.refused _ a.usage;
@@ -33,17 +33,19 @@ acts_so IsPorts shows asked before after Unshown how other i a = record {
   silent = a.silent;
 }
 
-module _ (words : List Text) (shows : Bool) (IsPorts : Ports → Type 0) (before after : Around) (Unread Unprinted Unshown : Type 0) (how other : Outcome) where
-  reported_so : Implies how other → (Report : Type 0) (held : Option (List ℕ)) → Reported how Report Unprinted held → Reported other Report Unprinted held
+module _ (words : List Text) (shows : Bool) (IsPorts : Ports → Type 0) (before after : Around) (Failed Unread Unprinted Unshown : Type 0) (how other : Outcome) where
+  reported_so : Implies how other → (Report : Type 0) (held : Option (List ℕ)) → Reported how Report Unprinted held before.output after.output
+      → Reported other Report Unprinted held before.output after.output
   reported_so i Report held r = record {
     done = i.done _ r.done;
+    sent = i.done _ r.sent;
     stops = i.stopped _ r.stops;
     unprinted = i.stopped _ r.unprinted;
     accepted = i.refused _ r.accepted;
   }
 
-  answers_so : Implies how other → (asked : Request) → Answers words shows IsPorts before after Unread Unprinted Unshown how asked
-      → Answers words shows IsPorts before after Unread Unprinted Unshown other asked
+  answers_so : Implies how other → (asked : Request) → Answers words shows IsPorts before after Failed Unread Unprinted Unshown how asked
+      → Answers words shows IsPorts before after Failed Unread Unprinted Unshown other asked
   answers_so i (Inspect None) a = reported_so i _ _ a
   answers_so i (Inspect (Some name)) a = (a.0, reported_so i _ _ a.1)
   answers_so i (Drill d) a = (a.0, λ both. let no = a.1 both in (no.0, i.declined no.1))
@@ -51,19 +53,21 @@ module _ (words : List Text) (shows : Bool) (IsPorts : Ports → Type 0) (before
   answers_so i (Decrypt d) a = a
   answers_so i (Resume r) a = a
 
-  pub obeys_so : Implies how other → Obeys words shows IsPorts before after Unread Unprinted Unshown how → Obeys words shows IsPorts before after Unread Unprinted Unshown other
+  pub obeys_so : Implies how other → Obeys words shows IsPorts before after Failed Unread Unprinted Unshown how → Obeys words shows IsPorts before after Failed Unread Unprinted Unshown other
   obeys_so i (inl o) = inl (record { none = o.none; report = reported_so i _ _ o.report; untouched = o.untouched; silent = o.silent })
   obeys_so i (inr (inl o)) = inr (inl (record {
     asked = o.asked;
     made = o.made;
-    acts = acts_so IsPorts shows o.asked before.files after.files Unshown how other i o.acts;
+    acts = acts_so IsPorts shows o.asked before.files after.files Failed Unshown how other i o.acts;
     answers = answers_so i o.asked o.answers;
   }))
   obeys_so i (inr (inr o)) = inr (inr (record {
     done = i.done _ o.done;
+    stops = i.stopped _ o.stops;
     refused = λ no. i.declined (o.refused no);
     untouched = o.untouched;
     unprinted = o.unprinted;
+    unprinted_usage = i.refused _ o.unprinted_usage;
     unread = o.unread;
     silent = o.silent;
     some = o.some;

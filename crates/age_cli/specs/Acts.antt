@@ -18,6 +18,7 @@ use Rattle.age_cli_common.specs.Files.{Files, SparesBoth}
 use Rattle.age_cli_common.specs.Identities.{OpensBy}
 use Rattle.age_cli_common.specs.Names.{NamesTwice}
 use Rattle.age_cli_common.specs.Orders.{order_asked}
+use Rattle.age_cli_common.specs.Reasons.{HasReason}
 use Rattle.age_cli_common.specs.declared.ending.Ending.{Ending}
 use Rattle.age_cli_common.specs.declared.ending.Ending.TheVariants.{Fault}
 use Rattle.age_cli_common.specs.declared.identity.Identity.{Identity}
@@ -78,17 +79,18 @@ module _ (IsPorts : Ports → Type 0) where
       (old_for position (old r.old.now))) (paths_of d)
   OfEngine other old P = Unit {0}
 
-  -- What stands before and after a command; `shows` says whether contracts see the files, and
-  -- `Unshown` that the progress is as it was.
-  pub record Acts (shows : Bool) (asked : Request) (before after : FilesView) (Unshown : Type 0)
-      (how : Outcome) : Type 0 where
+  -- What stands before and after a command; `shows` says whether contracts see the files, `Failed`
+  -- that a source of these failed, and `Unshown` that the progress is as it was.
+  pub record Acts (shows : Bool) (asked : Request) (before after : FilesView)
+      (Failed Unshown : Type 0) (how : Outcome) : Type 0 where
     -- OUT holds what the engine promises for what the names stood for at the call.
     pub done : how.if_done (shows ≡ true → OfEngine asked before.entries
         (λ engine paths. Writes IsPorts engine paths before.entries after.entries))
-    -- Nothing differs, or OUT holds what the engine promises for a stop, and the file of `--save`
-    -- its position.
+    -- Nothing differs, and 26 and 27 have a reason; or OUT holds what the engine promises for a
+    -- stop, and the file of `--save` its position.
     pub stops : shows ≡ true → how.if_stopped (λ ending. ((after.entries ≡ before.entries)
-        × EndsBefore asked before.entries ending) ⊎ OfEngine asked before.entries
+        × EndsBefore asked before.entries ending
+        × HasReason before.entries after.events Failed ending) ⊎ OfEngine asked before.entries
         (λ engine paths. Stops IsPorts engine paths before.entries after.entries ending))
     -- A command line that is refused changes no file.
     pub usage : how.if_refused (after.entries ≡ before.entries)

@@ -1,11 +1,14 @@
 -- What a run does of what its words ask for.
-use Rattle.std.specs.Prelude.{◌≡◌, ◌⊎◌, ℕ, Bool, List, [], Option, Some, None, is_some}
+use Rattle.std.specs.Prelude.{◌≡◌, ◌⊎◌, ℕ, Bool, true, List, [], Option, Some, None, is_some}
+use Rattle.std.specs.Io.KnownBytes.{Appends}
 use Rattle.clap.specs.Words.{Text}
 use Rattle.age_cli_args.specs.Asked.{AsksHelp, AsksVersion}
 use Rattle.age_cli_args.specs.Requests.{Requests, text_of}
 use Rattle.age_cli_args.specs.declared.request.Request.{Request}
 use Rattle.age_cli_args.specs.declared.request.Request.TheVariants.{Inspect, Drill}
+use Rattle.age_io.specs.Views.{SinkView}
 use Rattle.age_file.specs.Ports.{Ports}
+use Rattle.age_fault.specs.Faults.{HasRisen}
 use Rattle.age_fault.specs.declared.fault.FileFault.TheVariants.{Write, Memory}
 use Rattle.age_fileset.specs.FileSet.{FilesView}
 use Rattle.age_cli_common.specs.declared.ending.Ending.{Ending}
@@ -14,14 +17,13 @@ use Rattle.age_cli.specs.Acts.{Acts}
 use Rattle.age_cli.specs.Inspections.{Reports, ReportsFile, FailsReport, seen}
 use Rattle.age_cli.specs.Outcomes.{Outcome, IsUsage}
 
--- what a run works with: the set of files, what the input still has to give, and what the output
--- took
+-- what a run works with: the set of files, what the input still has to give, and the output
 pub record Around : Type 0 where
   pub files : FilesView
   pub input : Option (List ℕ)
-  pub output : Option (List ℕ)
+  pub output : SinkView
 
-abbrev pub around : FilesView → Option (List ℕ) → Option (List ℕ) → Around
+abbrev pub around : FilesView → Option (List ℕ) → SinkView → Around
 around files input output = record { files = files; input = input; output = output }
 
 -- words are refused; or memory was, while they were read
@@ -36,26 +38,36 @@ LacksMemory how = how.if_done ⊥ × how.if_refused ⊥ × how.if_stopped (λ e.
 abbrev pub IsForHelp : List Text → Type 0
 IsForHelp words = AsksHelp words ⊎ AsksVersion words
 
--- a report was written; or it failed with a fault of what was to be reported, and unless writing did,
--- nothing was written. The command line is not to blame.
-pub record Reported (how : Outcome) (Report Unprinted : Type 0) (held : Option (List ℕ)) : Type 0
-  where
-    pub done : how.if_done Report
-    pub stops : how.if_stopped (FailsReport held)
-    pub unprinted : how.if_stopped (λ e. (e ≡ Fault Write) ⊎ Unprinted)
-    pub accepted : how.if_refused ⊥
+-- writing to the output failed, as it says itself
+abbrev pub FailsWriting : (old new : SinkView) → Ending → Type 0
+FailsWriting old new ending = (ending ≡ Fault Write) × HasRisen old.failed new.failed
 
--- `shows` says whether contracts see the files, and `IsPorts` which are the ports of those.
--- `Unread`, `Unprinted` and `Unshown` say that the input, the output and the progress are as they
--- were.
+-- a text was put to the output, and sent on
+abbrev pub Prints : (old new : SinkView) → Type 0
+Prints old new = (text : List ℕ) × Appends old.taken new.taken text × (new.settled ≡ true)
+
+-- a report was written, and sent on; or it failed with a fault of what was to be reported, and
+-- nothing was written, unless writing failed. The command line is not to blame.
+pub record Reported (how : Outcome) (Report Unprinted : Type 0) (held : Option (List ℕ))
+    (output_old output_new : SinkView) : Type 0 where
+  pub done : how.if_done Report
+  pub sent : how.if_done (output_new.settled ≡ true)
+  pub stops : how.if_stopped (FailsReport held)
+  pub unprinted : how.if_stopped (λ e. FailsWriting output_old output_new e ⊎ Unprinted)
+  pub accepted : how.if_refused ⊥
+
+-- `shows` says whether contracts see the files, `IsPorts` which are the ports of those, and `Failed`
+-- that a source of them failed. `Unread`, `Unprinted` and `Unshown` say that the input, the output
+-- and the progress are as they were.
 module _ (words : List Text) (shows : Bool) (IsPorts : Ports → Type 0) (before after : Around)
-    (Unread Unprinted Unshown : Type 0) (how : Outcome) where
+    (Failed Unread Unprinted Unshown : Type 0) (how : Outcome) where
   -- Without words the input is reported.
   pub record ReportsInput : Type 0 where
     pub none : words ≡ []
     -- It was read to its end, and its report was written.
-    pub report : Reported how (Reports before.input after.input before.output after.output)
-        Unprinted before.input
+    pub report : Reported how
+        (Reports before.input after.input before.output.taken after.output.taken) Unprinted
+        before.input before.output after.output
     -- No file was opened, made or changed.
     pub untouched : after.files ≡ before.files
     -- No progress was shown.
@@ -66,11 +78,11 @@ module _ (words : List Text) (shows : Bool) (IsPorts : Ports → Type 0) (before
   -- none of them reads the input.
   abbrev pub Answers : Request → Type 0
   Answers (Inspect None) =
-      Reported how (Reports before.input after.input before.output after.output) Unprinted
-      before.input
+      Reported how (Reports before.input after.input before.output.taken after.output.taken)
+      Unprinted before.input before.output after.output
   Answers (Inspect (Some name)) = Unread × Reported how (ReportsFile shows
-      (before.files.entries name.now) before.output after.output) Unprinted
-      (seen shows (before.files.entries name.now))
+      (before.files.entries name.now) before.output.taken after.output.taken) Unprinted
+      (seen shows (before.files.entries name.now)) before.output after.output
   Answers (Drill d) = Unread × (d.clear ≡ is_some (text_of d.pass)
       → (after.files.events ≡ before.files.events) × how.is_refused)
   Answers other = Unread × Unprinted
@@ -80,19 +92,23 @@ module _ (words : List Text) (shows : Bool) (IsPorts : Ports → Type 0) (before
     pub asked : Request
     pub made : Requests words asked
     -- What was done with files.
-    pub acts : Acts IsPorts shows asked before.files after.files Unshown how
+    pub acts : Acts IsPorts shows asked before.files after.files Failed Unshown how
     -- What was written to the output.
     pub answers : Answers asked
 
   -- Other words are refused, unless help or the version is asked for.
   pub record Declines : Type 0 where
     -- That is all that is done of them.
-    pub done : how.if_done (IsForHelp words)
+    pub done : how.if_done (IsForHelp words × Prints before.output after.output)
+    -- If that fails, either nothing was written, or writing failed.
+    pub stops : how.if_stopped (λ e. (IsRefusal e × Unprinted)
+        ⊎ FailsWriting before.output after.output e)
     pub refused : (IsForHelp words → ⊥) → how.is_refused
     -- No file was opened, made or changed.
     pub untouched : after.files ≡ before.files
     -- Only help and the version are written to the output.
     pub unprinted : (IsForHelp words → ⊥) → Unprinted
+    pub unprinted_usage : how.if_refused Unprinted
     -- The input wasn't read, and no progress was shown.
     pub unread : Unread
     pub silent : Unshown

@@ -12,11 +12,11 @@ use Rattle.age_cli.specs.Obeying.{Around, IsRefusal, Obeys}
 use Rattle.age_cli.specs.Outcomes.{StopsReported, by_status}
 
 -- What stands before and after a run with this status, of its words, and what was put to `faults`.
--- `Quiet`, `Unread`, `Unprinted` and `Unshown` say that `faults`, the input, the output and the
--- progress are as they were.
+-- `Failed` says that a source of the files failed; `Quiet`, `Unread`, `Unprinted` and `Unshown` say
+-- that `faults`, the input, the output and the progress are as they were.
 pub record Runs (words : List Text) (shows : Bool) (IsPorts : Ports → Type 0)
     (before after : Around) (faults_old faults_new : SinkView)
-    (Quiet Unread Unprinted Unshown : Type 0) (status : ℕ) : Type 0 where
+    (Failed Quiet Unread Unprinted Unshown : Type 0) (status : ℕ) : Type 0 where
   pub within : status ≤ 2
   -- With 0 nothing goes to `faults`.
   pub quiet : status ≡ 0 → Quiet
@@ -24,7 +24,7 @@ pub record Runs (words : List Text) (shows : Bool) (IsPorts : Ports → Type 0)
   pub reported : status ≡ 1 → StopsReported (λ ending. Unit {0}) faults_old faults_new
   -- 0 means that all was done, 2 that the words are refused, and 1 that it stopped: by the fault
   -- whose line was reported.
-  pub obeys : Obeys words shows IsPorts before after Unread Unprinted Unshown
+  pub obeys : Obeys words shows IsPorts before after Failed Unread Unprinted Unshown
       (by_status IsRefusal status faults_old faults_new)
   -- The headline: whatever the status, OUT is as it was or holds a beginning of the plaintext,
   -- while no block of IN opens except as its writer sealed it; and 0 means all of the plaintext.

@@ -7,6 +7,7 @@ ghost use Rattle.age_cli_common.specs.Choices.{IsEnough, IsSecretIn, bytes_of, f
 ghost use Rattle.age_cli_common.specs.EventOrders.{opening};
 ghost use Rattle.age_cli_common.specs.Names.{NamesTwice};
 ghost use Rattle.age_cli_common.specs.Orders.{order_asked};
+ghost use Rattle.age_cli_common.specs.Reasons.{SourceFails};
 ghost use Rattle.age_cli.specs.Acts.{Acts};
 ghost use Rattle.age_cli.specs.Engines.{PortsOf};
 ghost use Rattle.age_cli.specs.Outcomes.{IsUsage, by_result};
@@ -14,7 +15,7 @@ ghost use Rattle.age_cli.specs.Outputs.{kept_for};
 ghost use Rattle.age_cli.specs.inner.Names.{IsReadAs};
 ghost use Rattle.age_cli.specs.inner.Openings.{Judges};
 
-use crate::output::{Output, conclude, open_both, with_meter};
+use crate::output::{Content, Output, conclude, open_both, with_meter};
 use crate::stop::opening_end;
 use age_cli_args::{Decrypting, ProgressOption};
 use age_cli_common::{Choice, Ending, Usage};
@@ -88,7 +89,7 @@ pub(crate) fn read_secret<F: FileSet>(
     ensures { Judges (F.shows_bytes) (opening (file_of choice.now)) (F.view files.old)
         (F.view files.new) (λ secret. IsSecretIn (F.view files.old).entries (file_of choice.now)
         (bytes_of secret) × IsEnough (F.view files.old).entries choice.now (bytes_of secret))
-        (is_file_named_twice ≡ true) (is_file_named_twice ≡ true) result }
+        (is_file_named_twice ≡ true) (is_file_named_twice ≡ true) (SourceFails F.In.view) result }
 {
     if is_file_named_twice {
         return Err(Ending::Usage(Usage::SameFile));
@@ -105,8 +106,8 @@ pub fn decrypt_file<F: FileSet, P: Meter>(
     progress: &mut P,
 ) -> Result<(), Ending>
     ensures { Acts (PortsOf F.In.view F.Out.view) (F.shows_bytes) (Decrypt asked.now)
-        (F.view files.old) (F.view files.new) (progress.new ≡ progress.old)
-        (by_result IsUsage result) }
+        (F.view files.old) (F.view files.new) (SourceFails F.In.view)
+        (progress.new ≡ progress.old) (by_result IsUsage result) }
 {
     let is_file_named_twice = names_a_file_twice(files, asked);
     let choice = Choice::of(&asked.identity)?;
@@ -118,7 +119,7 @@ pub fn decrypt_file<F: FileSet, P: Meter>(
         save: asked.save,
         position: None,
         durability: asked.durability,
-        progress: asked.progress,
+        content: Content::Plaintext,
     };
     let (mut source, mut out) = open_both(alloc, files, asked.from, &output)?;
     let positions = positions_for(asked.save);

@@ -3,7 +3,7 @@
 ghost use Rattle.std.specs.Prelude.{◌≡◌, ◌⊎◌, ◌<◌, ◌++◌, [], ◌∷◌, ℕ, List, length};
 ghost use Rattle.std.specs.Prelude.{Some, true, IfOk, IfErr, IfSome, IfNone};
 ghost use Rattle.std.specs.Io.KnownBytes.{Consumes};
-ghost use Rattle.age_fileset.specs.Events.{Opened};
+ghost use Rattle.age_fileset.specs.Events.{Event, Opened};
 ghost use Rattle.age_cli_args.specs.Requests.{text_of};
 ghost use Rattle.age_cli_args.specs.declared.request.Request.TheVariants.{Encrypt};
 ghost use Rattle.age_cli_common.specs.Endings.{EndsEarly, is_usage};
@@ -11,6 +11,9 @@ ghost use Rattle.age_file.specs.Secrets.{SecretView};
 ghost use Rattle.age_cli_common.specs.Files.{Files};
 ghost use Rattle.age_cli_common.specs.Names.{NamesTwice};
 ghost use Rattle.age_cli_common.specs.Orders.{order_asked, random_name};
+ghost use Rattle.age_cli_common.specs.Reasons.{SourceFails, HasReason};
+ghost use Rattle.age_cli_common.specs.Identities.{IsPassphraseIn};
+ghost use Rattle.age_keys.specs.Passphrase.{IsAllowed};
 ghost use Rattle.age_cli.specs.Acts.{Acts, GivesNone};
 ghost use Rattle.age_cli.specs.Encryptions.{MakesSecret, IsRandomIn};
 ghost use Rattle.age_cli.specs.Engines.{PortsOf};
@@ -18,10 +21,10 @@ ghost use Rattle.age_cli.specs.Outcomes.{IsUsage, by_result};
 ghost use Rattle.age_cli.specs.inner.Openings.{Judges};
 ghost use Rattle.age_cli.specs.inner.Randoms.{IsRandom, IsMaterialIn};
 
-use crate::output::{Output, conclude, open_both, with_meter};
+use crate::output::{Content, Output, conclude, open_both, with_meter};
 use crate::stop::sealing_end;
 use age_cli_args::{Encrypting, ProgressOption};
-use age_cli_common::{Ending, Usage, read_first, read_pass, trimmed};
+use age_cli_common::{Choice, Ending, Usage, read_first, trimmed};
 use age_file::{Secret, Source, encrypt};
 use age_fileset::FileSet;
 use age_io::Meter;
@@ -60,6 +63,8 @@ fn random_in<S: Source>(alloc: Global, source: &mut S) -> Result<Random, Ending>
     ensures short { IfErr result (λ e. is_usage e ≡ true → (bytes : List ℕ)
         → (S.view source.old).remaining ≡ Some bytes → length bytes < 48) }
     ensures early { IfErr result EndsEarly }
+    ensures reason { IfErr result (λ e. (old : Files) (events : List Event)
+        → HasReason old events (SourceFails S.view) e) }
 {
     let bytes = read_first(alloc, source, 48)?;
     match random_of(bytes.as_slice()) {
@@ -78,9 +83,38 @@ fn read_random<F: FileSet>(alloc: Global, files: &mut F, name: &str) -> Result<R
         → (s : SecretView) → IsRandomIn ((F.view files.old).entries name.now) s → ⊥) }
     ensures noted { (F.view files.new).events ≡ (F.view files.old).events ++ Opened name.now ∷ [] }
     ensures early { IfErr result EndsEarly }
+    ensures reason { F.shows_bytes ≡ true → IfErr result (HasReason (F.view files.old).entries
+        (F.view files.new).events (SourceFails F.In.view)) }
 {
     let mut source = files.open(alloc, name)?;
     random_in(alloc, &mut source)
+}
+
+/// The bytes of the file of the passphrase. Refuses those that hold none.
+fn read_pass<F: FileSet>(
+    alloc: Global,
+    files: &mut F,
+    asked: &Encrypting<'_>,
+) -> Result<Vec<u8>, Ending>
+    ensures kept { (F.view files.new).entries ≡ (F.view files.old).entries }
+    ensures noted { (F.view files.new).events
+        ≡ (F.view files.old).events ++ Opened asked.now.pass.now ∷ [] }
+    ensures early { IfErr result EndsEarly }
+    ensures reason { F.shows_bytes ≡ true → IfErr result (HasReason (F.view files.old).entries
+        (F.view files.new).events (SourceFails F.In.view)) }
+    ensures read { IfOk result
+        (λ v. F.shows_bytes ≡ true → (F.view files.old).entries asked.now.pass.now ≡ Some v.items) }
+    ensures refused { F.shows_bytes ≡ true → IfErr result (λ e. is_usage e ≡ true
+        → (pass : List ℕ) → IsPassphraseIn ((F.view files.old).entries asked.now.pass.now) pass
+        → IsAllowed pass asked.now.log → ⊥) }
+{
+    let choice = Choice::PassphraseFile(asked.pass, asked.log);
+    let held = choice.read(alloc, files)?;
+    choice.identity(&held)?;
+    match held {
+        Some(pass) => Ok(pass),
+        None => Err(Ending::Usage(Usage::BadPassphraseFile)),
+    }
 }
 
 /// What a secret is made of: the bytes of the file of the passphrase, and the random parts.
@@ -123,7 +157,8 @@ fn read_material<F: FileSet>(
         (F.view files.old) (F.view files.new) (IsMaterialIn asked.now (F.view files.old).entries)
         (NamesTwice (order_asked (Encrypt asked.now)).apart)
         (NamesTwice (order_asked (Encrypt asked.now)).apart
-        ⊎ GivesNone (Encrypt asked.now) (F.view files.old).entries) result }
+        ⊎ GivesNone (Encrypt asked.now) (F.view files.old).entries) (SourceFails F.In.view)
+        result }
 {
     if names_out_twice(files, asked) {
         return Err(Ending::Usage(Usage::SameFile));
@@ -133,7 +168,7 @@ fn read_material<F: FileSet>(
         alloc,
         &[Some(asked.pass), Some(random_name), Some(asked.from)],
     )?;
-    let pass = read_pass(alloc, files, asked.pass)?;
+    let pass = read_pass(alloc, files, asked)?;
     let random = read_random(alloc, files, random_name)?;
     Ok(Material { pass, random })
 }
@@ -165,8 +200,8 @@ pub fn encrypt_file<F: FileSet, P: Meter>(
     progress: &mut P,
 ) -> Result<(), Ending>
     ensures { Acts (PortsOf F.In.view F.Out.view) (F.shows_bytes) (Encrypt asked.now)
-        (F.view files.old) (F.view files.new) (progress.new ≡ progress.old)
-        (by_result IsUsage result) }
+        (F.view files.old) (F.view files.new) (SourceFails F.In.view)
+        (progress.new ≡ progress.old) (by_result IsUsage result) }
 {
     let material = read_material(alloc, files, asked)?;
     let secret = secret_of(asked, &material)?;
@@ -175,7 +210,7 @@ pub fn encrypt_file<F: FileSet, P: Meter>(
         save: None,
         position: None,
         durability: asked.durability,
-        progress: asked.progress,
+        content: Content::AgeFile,
     };
     let (mut source, mut out) = open_both(alloc, files, asked.from, &output)?;
     match asked.progress {

@@ -1,10 +1,10 @@
 //! The command that reports what a file holds.
 
-ghost use Rattle.std.specs.Prelude.{◌≡◌, ◌⊎◌, [], ◌∷◌, ◌++◌, OnOk, IfErr};
-ghost use Rattle.age_fault.specs.declared.fault.FileFault.TheVariants.{Write};
+ghost use Rattle.std.specs.Prelude.{◌≡◌, ◌⊎◌, [], ◌∷◌, ◌++◌, true, OnOk, IfErr};
 ghost use Rattle.age_cli_common.specs.declared.ending.Ending.TheVariants.{Fault};
 ghost use Rattle.age_fileset.specs.Events.{Opened};
 ghost use Rattle.age_cli.specs.Inspections.{Reports, ReportsFile, FailsReport, seen};
+ghost use Rattle.age_cli.specs.Obeying.{FailsWriting};
 
 use crate::print::text_of;
 use age_cli_common::{Ending, put_bytes};
@@ -22,7 +22,9 @@ fn write_report<I: Source, O: Sink>(
         (Reports (I.view input.old).remaining (I.view input.new).remaining (O.view output.old).taken
         (O.view output.new).taken) }
     ensures fails { IfErr result (λ f. FailsReport (I.view input.old).remaining (Fault f)) }
-    ensures unprinted { IfErr result (λ f. (f ≡ Write) ⊎ (output.new ≡ output.old)) }
+    ensures sent { OnOk result ((O.view output.new).settled ≡ true) }
+    ensures unprinted { IfErr result (λ f. FailsWriting (O.view output.old) (O.view output.new) (Fault f)
+        ⊎ (output.new ≡ output.old)) }
 {
     let found = inspect(alloc, input)?;
     let text = text_of(alloc, &found)?;
@@ -40,7 +42,9 @@ pub(crate) fn report<I: Source, O: Sink>(
         (Reports (I.view input.old).remaining (I.view input.new).remaining (O.view output.old).taken
         (O.view output.new).taken) }
     ensures fails { IfErr result (FailsReport (I.view input.old).remaining) }
-    ensures unprinted { IfErr result (λ e. (e ≡ Fault Write) ⊎ (output.new ≡ output.old)) }
+    ensures sent { OnOk result ((O.view output.new).settled ≡ true) }
+    ensures unprinted { IfErr result (λ e. FailsWriting (O.view output.old) (O.view output.new) e
+        ⊎ (output.new ≡ output.old)) }
 {
     Ok(write_report(alloc, input, output)?)
 }
@@ -58,7 +62,9 @@ pub(crate) fn report_file<F: FileSet, O: Sink>(
         (O.view output.old).taken (O.view output.new).taken) }
     ensures fails { IfErr result (FailsReport
         (seen (F.shows_bytes) ((F.view files.old).entries name.now))) }
-    ensures unprinted { IfErr result (λ e. (e ≡ Fault Write) ⊎ (output.new ≡ output.old)) }
+    ensures sent { OnOk result ((O.view output.new).settled ≡ true) }
+    ensures unprinted { IfErr result (λ e. FailsWriting (O.view output.old) (O.view output.new) e
+        ⊎ (output.new ≡ output.old)) }
 {
     let mut source = match files.open(alloc, name) {
         Ok(source) => source,

@@ -1,20 +1,30 @@
 //! How the input and the output of a command are opened, and how the output is ended.
 
-ghost use Rattle.std.specs.Prelude.{◌≡◌, ◌⊎◌, [], ◌∷◌, ◌++◌, Some, true, false, is_some, IfErr};
+ghost use Rattle.std.specs.Prelude.{◌≡◌, ◌⊎◌, [], ◌∷◌, ◌++◌, Some, None, true, false, is_some};
+ghost use Rattle.std.specs.Prelude.{IfErr};
 ghost use Rattle.age_cli_common.specs.Endings.{EndsEarly, is_usage};
 ghost use Rattle.age_fileset.specs.Events.{Opened, Created, Closed};
 ghost use Rattle.age_cli_args.specs.Requests.{text_of};
 ghost use Rattle.age_cli_common.specs.EventOrders.{preparing, making};
 ghost use Rattle.age_cli_common.specs.Files.{SparesBut};
+ghost use Rattle.age_cli_common.specs.Reasons.{SourceFails, HasReason};
 ghost use Rattle.age_cli.specs.inner.Endings.{Concludes, EndsOut};
 ghost use Rattle.age_cli.specs.inner.Openings.{Opens};
 
 use crate::stop::{Stop, end_of};
-use age_cli_args::ProgressOption;
 use age_cli_common::{Ending, Usage};
 use age_fileset::FileSet;
 use age_io::{Durability, Meter, Metered};
 use std::alloc::Global;
+
+/// What an output holds.
+#[derive(Clone, Copy)]
+pub(crate) enum Content {
+    /// The text that was encrypted, which may go to a terminal.
+    Plaintext,
+    /// An age file, whose bytes a terminal can't show.
+    AgeFile,
+}
 
 /// What a command is to write.
 #[derive(Clone, Copy)]
@@ -27,22 +37,24 @@ pub(crate) struct Output<'a> {
     pub(crate) position: Option<&'a str>,
     /// When what was written reaches the disk.
     pub(crate) durability: Durability,
-    /// Whether progress is shown, on standard error.
-    pub(crate) progress: ProgressOption,
+    /// What the output is to hold.
+    pub(crate) content: Content,
 }
 
-/// Whether progress would go to the output.
-fn shows_progress_in<F: FileSet>(files: &F, out: &F::Out, progress: ProgressOption) -> bool
-    ensures { F.shows_bytes ≡ true → result ≡ false }
+/// Why what was opened can't be the output: it is a terminal, which is no place for an age file, or
+/// progress and faults go there.
+fn refusal_of<F: FileSet>(files: &F, out: &F::Out, content: Content) -> Option<Usage>
+    ensures { F.shows_bytes ≡ true → result ≡ None }
 {
-    match progress {
-        ProgressOption::Shown => files.is_for_faults(out),
-        ProgressOption::Silent => false,
+    match content {
+        Content::AgeFile if files.is_terminal(out) => Some(Usage::OutIsTerminal),
+        _ if files.is_for_faults(out) => Some(Usage::SameFile),
+        _ => None,
     }
 }
 
-/// Opens the output, unless it turns out to be a file that is read, that of `save`, or one to which
-/// progress goes.
+/// Opens the output, unless it turns out to be a file that is read or that of `save`, or can't be
+/// the output for another reason.
 fn create_out<F: FileSet>(
     alloc: Global,
     files: &mut F,
@@ -51,14 +63,16 @@ fn create_out<F: FileSet>(
     ensures { Opens (F.shows_bytes) (Created asked.now.to.now ∷ [])
         (making (Some asked.now.to.now) asked.now.durability) (F.view files.old)
         (F.view files.new) (λ o. ((F.Out.view o).taken ≡ Some [])
-        × ((F.Out.view o).label ≡ asked.now.to.now)) result }
+        × ((F.Out.view o).label ≡ asked.now.to.now)) (SourceFails F.In.view) result }
 {
     let out = files.create(alloc, asked.to)?;
-    if shows_progress_in(files, &out, asked.progress) {
-        files.discard(out, asked.durability);
-        return Err(Ending::Usage(Usage::SameFile));
+    match refusal_of(files, &out, asked.content) {
+        Some(usage) => {
+            files.discard(out, asked.durability);
+            Err(Ending::Usage(usage))
+        }
+        None => Ok(out),
     }
-    Ok(out)
 }
 
 /// Prepares the file of `save`, if there is one, unless it turns out to be a file that is read,
@@ -68,6 +82,8 @@ fn prepare_save<F: FileSet>(alloc: Global, files: &mut F, asked: &Output<'_>) ->
     ensures noted { (F.view files.new).events
         ≡ (F.view files.old).events ++ preparing (text_of asked.now.save) }
     ensures early { IfErr result EndsEarly }
+    ensures reason { F.shows_bytes ≡ true → IfErr result (HasReason (F.view files.old).entries
+        (F.view files.new).events (SourceFails F.In.view)) }
     ensures fault { F.shows_bytes ≡ true → IfErr result (λ e. is_usage e ≡ false) }
 {
     match asked.save {
@@ -92,7 +108,7 @@ pub(crate) fn open_both<F: FileSet>(
         (λ both. (is_some ((F.view files.old).entries from.now) ≡ true)
         × ((F.In.view both.0).remaining ≡ (F.view files.old).entries from.now)
         × ((F.Out.view both.1).taken ≡ Some [])
-        × ((F.Out.view both.1).label ≡ asked.now.to.now)) result }
+        × ((F.Out.view both.1).label ≡ asked.now.to.now)) (SourceFails F.In.view) result }
 {
     let source = files.open(alloc, from)?;
     prepare_save(alloc, files, asked)?;

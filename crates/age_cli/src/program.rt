@@ -1,14 +1,14 @@
 //! The program, over arguments, files, a source and sinks.
 
-ghost use Rattle.std.specs.Prelude.{◌≡◌, IfErr, IsErrAnd, IsOk};
+ghost use Rattle.std.specs.Prelude.{◌≡◌, ◌⊎◌, IfErr, IsErrAnd, IsOk, OnOk};
 ghost use Rattle.clap.specs.declared.error.kind.ErrorKind.TheVariants.{OutOfMemory};
 ghost use Rattle.age_fault.specs.declared.fault.FileFault.TheVariants.{Memory};
 ghost use Rattle.age_cli_common.specs.declared.ending.Ending.TheVariants.{Fault};
 ghost use Rattle.clap.specs.Words.{kind_of};
 ghost use Rattle.clap.specs.Walk.{texts};
-ghost use Rattle.age_cli_common.specs.Endings.{EndsEarly};
 ghost use Rattle.age_cli.specs.Engines.{PortsOf};
-ghost use Rattle.age_cli.specs.Obeying.{around, IsRefusal, Obeys};
+ghost use Rattle.age_cli.specs.Obeying.{around, IsRefusal, Obeys, Prints, FailsWriting};
+ghost use Rattle.age_cli_common.specs.Reasons.{SourceFails};
 ghost use Rattle.age_cli.specs.Outcomes.{by_result, status_of};
 ghost use Rattle.age_cli.specs.Runs.{Runs};
 ghost use Rattle.age_cli.specs.inner.Endings.{IsForOutput};
@@ -18,9 +18,9 @@ use crate::encrypt_command::encrypt_file;
 use crate::inspect_command::{report, report_file};
 use crate::resume_command::resume_file;
 use age_cli_args::{Request, read_request};
-use age_cli_common::{Ending, Usage, report_ending};
+use age_cli_common::{Ending, Usage, put_bytes, report_ending};
 use age_drill::drill_file;
-use age_file::{FileFault, Sink, Source, flush_all, write_all};
+use age_file::{FileFault, Sink, Source, flush_all};
 use age_fileset::FileSet;
 use age_io::Meter;
 use clap::Error;
@@ -32,7 +32,9 @@ fn answer_refusal<O: Sink>(alloc: Global, error: Error, output: &mut O) -> Resul
     ensures asked { IsOk result → IsForOutput (kind_of error) }
     ensures kept { (IsForOutput (kind_of error) → ⊥) → output.new ≡ output.old }
     ensures refusal { (IsForOutput (kind_of error) → ⊥) → IfErr result IsRefusal }
-    ensures early { IfErr result EndsEarly }
+    ensures prints { OnOk result (Prints (O.view output.old) (O.view output.new)) }
+    ensures fails { IfErr result (λ e. (IsRefusal e × (output.new ≡ output.old))
+        ⊎ FailsWriting (O.view output.old) (O.view output.new) e) }
     ensures memory { kind_of error ≡ OutOfMemory → IsErrAnd result (λ e. e ≡ Fault Memory) }
 {
     if error.kind() == ErrorKind::OutOfMemory {
@@ -44,10 +46,8 @@ fn answer_refusal<O: Sink>(alloc: Global, error: Error, output: &mut O) -> Resul
     if error.kind() != ErrorKind::DisplayHelp && error.kind() != ErrorKind::DisplayVersion {
         return Err(Ending::Words(text));
     }
-    let mut written = 0;
-    write_all(output, text.as_bytes(), &mut written)?;
-    flush_all(output)?;
-    Ok(())
+    put_bytes(output, text.as_bytes())?;
+    Ok(flush_all(output)?)
 }
 
 /// Does what the words ask for.
@@ -60,10 +60,10 @@ fn obey<F: FileSet, I: Source, O: Sink, P: Meter>(
     progress: &mut P,
 ) -> Result<(), Ending>
     ensures { Obeys (texts words.now) (F.shows_bytes) (PortsOf F.In.view F.Out.view)
-        (around (F.view files.old) (I.view input.old).remaining (O.view output.old).taken)
-        (around (F.view files.new) (I.view input.new).remaining (O.view output.new).taken)
-        (input.new ≡ input.old) (output.new ≡ output.old) (progress.new ≡ progress.old)
-        (by_result IsRefusal result) }
+        (around (F.view files.old) (I.view input.old).remaining (O.view output.old))
+        (around (F.view files.new) (I.view input.new).remaining (O.view output.new))
+        (SourceFails F.In.view) (input.new ≡ input.old) (output.new ≡ output.old)
+        (progress.new ≡ progress.old) (by_result IsRefusal result) }
 {
     if words.is_empty() {
         return report(alloc, input, output);
@@ -115,9 +115,9 @@ pub fn run<F: FileSet, I: Source, O: Sink, E: Sink, P: Meter>(
     progress: &mut P,
 ) -> u8
     ensures { Runs (texts words.now) (F.shows_bytes) (PortsOf F.In.view F.Out.view)
-        (around (F.view files.old) (I.view input.old).remaining (O.view output.old).taken)
-        (around (F.view files.new) (I.view input.new).remaining (O.view output.new).taken)
-        (E.view faults.old) (E.view faults.new) (faults.new ≡ faults.old)
+        (around (F.view files.old) (I.view input.old).remaining (O.view output.old))
+        (around (F.view files.new) (I.view input.new).remaining (O.view output.new))
+        (E.view faults.old) (E.view faults.new) (SourceFails F.In.view) (faults.new ≡ faults.old)
         (input.new ≡ input.old) (output.new ≡ output.old) (progress.new ≡ progress.old) result }
 {
     match obey(alloc, words, files, input, output, progress) {

@@ -9,13 +9,14 @@ ghost use Rattle.age_cli_args.specs.declared.request.Request.TheVariants.{Resume
 ghost use Rattle.age_cli_common.specs.EventOrders.{Follows};
 ghost use Rattle.age_cli_common.specs.Names.{NamesTwice};
 ghost use Rattle.age_cli_common.specs.Orders.{order_asked};
+ghost use Rattle.age_cli_common.specs.Reasons.{SourceFails, IsUnread};
 ghost use Rattle.age_cli.specs.Acts.{Acts};
 ghost use Rattle.age_cli.specs.Engines.{PortsOf};
 ghost use Rattle.age_cli.specs.Outcomes.{IsUsage, by_result};
 ghost use Rattle.age_cli.specs.Resumptions.{HoldsNoPosition, IsPositionIn, old_for};
 
 use crate::decrypt_command::{is_given_as, names_a_file_twice, positions_for, read_secret};
-use crate::output::{Output, conclude, open_both, with_meter};
+use crate::output::{Content, Output, conclude, open_both, with_meter};
 use crate::stop::opening_end;
 use age_cli_args::{ProgressOption, Resuming};
 use age_cli_common::{Choice, Ending, read_file};
@@ -41,6 +42,8 @@ fn read_position<F: FileSet>(
         (λ f. OpenFails (F.shows_bytes) Read f ⊎ (f ≡ OpenFault.Fault BadPosition)) }
     ensures bad { F.shows_bytes ≡ true → IfErr result (λ f. f ≡ OpenFault.Fault BadPosition
         → HoldsNoPosition ((F.view files.old).entries name.now)) }
+    ensures reason { F.shows_bytes ≡ true → IfErr result (λ f. f ≡ OpenFault.Fault Read
+        → IsUnread (F.view files.old).entries (F.view files.new).events (SourceFails F.In.view)) }
 {
     match read_file(alloc, files, name, POSITION_FILE_MAX)? {
         Some(text) => Ok(Position::read(text.as_slice())?),
@@ -85,6 +88,8 @@ fn open_old<F: FileSet>(
         × ((F.In.view s).remaining ≡ old_for position.now ((F.view files.old).entries name.now))) }
     ensures noted { (F.view files.new).events ≡ (F.view files.old).events ++ Opened name.now ∷ [] }
     ensures faults { IfErr result (OpenFails (F.shows_bytes) Read) }
+    ensures reason { F.shows_bytes ≡ true → IfErr result (λ f. f ≡ OpenFault.Fault Read
+        → IsUnread (F.view files.old).entries (F.view files.new).events (SourceFails F.In.view)) }
 {
     if position.index == 0 {
         files.open_or_empty(alloc, name)
@@ -113,6 +118,8 @@ fn open_earlier<F: FileSet>(
         (λ f. OpenFails (F.shows_bytes) Read f ⊎ (f ≡ OpenFault.Fault BadPosition)) }
     ensures bad { F.shows_bytes ≡ true → IfErr result (λ f. f ≡ OpenFault.Fault BadPosition
         → HoldsNoPosition ((F.view files.old).entries asked.now.position.now)) }
+    ensures reason { F.shows_bytes ≡ true → IfErr result (λ f. f ≡ OpenFault.Fault Read
+        → IsUnread (F.view files.old).entries (F.view files.new).events (SourceFails F.In.view)) }
 {
     let position = read_position(alloc, files, asked.position)?;
     let old = open_old(alloc, files, asked.old, &position)?;
@@ -127,8 +134,8 @@ pub fn resume_file<F: FileSet, P: Meter>(
     progress: &mut P,
 ) -> Result<(), Ending>
     ensures { Acts (PortsOf F.In.view F.Out.view) (F.shows_bytes) (Resume asked.now)
-        (F.view files.old) (F.view files.new) (progress.new ≡ progress.old)
-        (by_result IsUsage result) }
+        (F.view files.old) (F.view files.new) (SourceFails F.In.view)
+        (progress.new ≡ progress.old) (by_result IsUsage result) }
 {
     let wanted = &asked.decrypting;
     let is_file_named_twice = names_one_twice(files, asked);
@@ -148,7 +155,7 @@ pub fn resume_file<F: FileSet, P: Meter>(
         save: wanted.save,
         position: Some(asked.position),
         durability: wanted.durability,
-        progress: wanted.progress,
+        content: Content::Plaintext,
     };
     let (mut source, mut out) = open_both(alloc, files, wanted.from, &output)?;
     let positions = positions_for(wanted.save);

@@ -7,4 +7,5 @@ pub mod EventOrders
 pub mod Choices
 pub mod Names
 pub mod Orders
+pub mod Reasons
 pub mod inner

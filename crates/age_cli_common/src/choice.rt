@@ -9,6 +9,8 @@ ghost use Rattle.age_cli_common.specs.EventOrders.{opening};
 ghost use Rattle.age_cli_common.specs.Identities.{IsPassphraseIn, IsSharedIn, OpensBy};
 ghost use Rattle.age_cli_common.specs.Choices.{file_of, bytes_of, IsSecretIn, Makes, Chooses};
 ghost use Rattle.age_cli_common.specs.Choices.{IsEnough};
+ghost use Rattle.age_cli_common.specs.Reasons.{SourceFails, IsUnread};
+ghost use Rattle.age_fileset.specs.declared.files.OpenFault.TheVariants.{Fault};
 ghost use Rattle.age_cli_common.specs.Files.{Files};
 ghost use Rattle.age_cli_common.specs.declared.identity.Identity.{Identity};
 
@@ -60,6 +62,9 @@ impl<'a> Choice<'a> {
         ensures noted { (F.view files.new).events
             ≡ (F.view files.old).events ++ opening (file_of self.now) }
         ensures faults { IfErr result (OpenFails (F.shows_bytes) Read) }
+        ensures reason { F.shows_bytes ≡ true → IfErr result (λ f. f ≡ Fault Read
+            → IsUnread (F.view files.old).entries (F.view files.new).events
+            (SourceFails F.In.view)) }
         ensures read { IfOk result (λ o. F.shows_bytes ≡ true
             → IsSecretIn (F.view files.old).entries (file_of self.now) (bytes_of o)) }
         ensures enough { IfOk result (λ o. F.shows_bytes ≡ true

@@ -17,6 +17,8 @@ pub enum Usage {
     BadFileKey,
     /// Two files that have to differ are one.
     SameFile,
+    /// The output of an encryption is a terminal.
+    OutIsTerminal,
     /// The passphrase file doesn't hold 1 to 65,536 bytes, not counting a trailing newline.
     BadPassphraseFile,
     /// The shared-secret file isn't 64 bytes long.

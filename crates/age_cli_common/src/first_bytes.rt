@@ -6,7 +6,9 @@ ghost use Rattle.age_fileset.specs.Events.{Opened};
 ghost use Rattle.age_fileset.specs.FileSet.{IsMemoryOr, OpenFails};
 ghost use Rattle.age_fault.specs.declared.fault.FileFault.TheVariants.{Read};
 ghost use Rattle.std.specs.Io.KnownBytes.{Consumes, IsAtEnd};
+ghost use Rattle.age_fileset.specs.declared.files.OpenFault.TheVariants.{Fault};
 ghost use Rattle.age_cli_common.specs.FirstBytes.{AreFirst};
+ghost use Rattle.age_cli_common.specs.Reasons.{SourceFails, IsUnread};
 ghost use Rattle.age_cli_common.specs.inner.Pieces.{IsPiece};
 
 use age_fault::FileFault;
@@ -28,6 +30,7 @@ fn pull_some<S: Source>(
     ensures piece { IfOk result (λ n.
         IsPiece (S.view source.old).remaining (S.view source.new).remaining most n buffer.new) }
     ensures fault { IfErr result (λ f. f ≡ Read) }
+    ensures failed { IfErr result (λ _. SourceFails S.view) }
 {
     match source.pull(&mut buffer[..most]) {
         Ok(n) => Ok(n),
@@ -46,6 +49,7 @@ pub fn fill_first<S: Source>(
     ensures first { OnOk result
         (AreFirst (S.view source.old).remaining (S.view source.new).remaining most held.new.items) }
     ensures faults { IfErr result (IsMemoryOr Read) }
+    ensures failed { IfErr result (λ f. f ≡ Read → SourceFails S.view) }
 {
     let mut buffer = [0; ROOM];
     'pieces: while held.len() < most {
@@ -67,6 +71,7 @@ pub fn read_first<S: Source>(
     ensures first { IfOk result
         (λ v. AreFirst (S.view source.old).remaining (S.view source.new).remaining most v.items) }
     ensures faults { IfErr result (IsMemoryOr Read) }
+    ensures failed { IfErr result (λ f. f ≡ Read → SourceFails S.view) }
 {
     let mut held = Vec::new(alloc);
     fill_first(source, &mut held, most)?;
@@ -86,6 +91,7 @@ pub fn read_up_to<S: Source>(
     ensures long { IfOk result (λ o. IfNone o ((bytes : List ℕ)
         → (S.view source.old).remaining ≡ Some bytes → most < length bytes)) }
     ensures faults { IfErr result (IsMemoryOr Read) }
+    ensures failed { IfErr result (λ f. f ≡ Read → SourceFails S.view) }
 {
     let first = read_first(alloc, source, most + 1)?;
     if first.len() > most {
@@ -109,6 +115,8 @@ pub fn read_file<F: FileSet>(
     ensures long { IfOk result (λ o. IfNone o (F.shows_bytes ≡ true → (bytes : List ℕ)
         → (F.view files.old).entries name.now ≡ Some bytes → most < length bytes)) }
     ensures faults { IfErr result (OpenFails (F.shows_bytes) Read) }
+    ensures reason { F.shows_bytes ≡ true → IfErr result (λ f. f ≡ Fault Read
+        → IsUnread (F.view files.old).entries (F.view files.new).events (SourceFails F.In.view)) }
 {
     let mut source = files.open(alloc, name)?;
     Ok(read_up_to(alloc, &mut source, most)?)

@@ -117,6 +117,7 @@ fn usage_text(usage: Usage) -> &'static str {
         Usage::GiveOneIdentity => "give one of --pass, --file-key and --shared",
         Usage::BadFileKey => "bad file key",
         Usage::SameFile => "same file named twice",
+        Usage::OutIsTerminal => "the output is a terminal",
         Usage::BadPassphraseFile => "bad passphrase file",
         Usage::BadSharedFile => "bad shared file",
         Usage::BadRandomFile => "bad random file",

@@ -1,7 +1,7 @@
 //! Files by their names.
 
 ghost use Rattle.std.specs.Prelude.{◌≡◌, ◌≢◌, ◌⊎◌, ℕ, Bool, true, false, List, [], ◌∷◌};
-ghost use Rattle.std.specs.Prelude.{◌++◌, Option};
+ghost use Rattle.std.specs.Prelude.{◌++◌, Option, None};
 ghost use Rattle.std.specs.Prelude.{Some, IfOk, IfErr, IfSome, IsOkUnless, OnOk, OnErr, is_some};
 ghost use Rattle.std.specs.Prelude.{option_map, length};
 ghost use Rattle.age_fileset.specs.FileSet.{FilesView, IsMemoryOr, OpenFails, or_empty};
@@ -76,22 +76,26 @@ pub trait FileSet {
 
     /// Opens a file to be read. Refuses with `Read` (26) where it can't be, with `Memory` (28), and
     /// where it is a stream that was opened before, which never comes of a set that shows its
-    /// entries.
+    /// entries: that refuses with `Read` only where there is none.
     fn open(&mut self, alloc: Global, name: &str) -> Result<Self::In, OpenFault>
         ensures kept { (view self.new).entries ≡ (view self.old).entries }
         ensures noted { (view self.new).events ≡ (view self.old).events ++ Opened name.now ∷ [] }
         ensures found { IfOk result (λ s. shows_bytes ≡ true
             → (is_some ((view self.old).entries name.now) ≡ true)
             × ((Self.In.view s).remaining ≡ (view self.old).entries name.now)) }
+        ensures missing { shows_bytes ≡ true → IfErr result (λ f. f ≡ Fault FileFault.Read
+            → (view self.old).entries name.now ≡ None) }
         ensures faults { IfErr result (OpenFails shows_bytes FileFault.Read) };
 
     /// Opens a file to be read. One that isn't there counts as empty. Refuses as `open` does, with
-    /// `Read` (26) where it is there and can't be opened.
+    /// `Read` (26) where it is there and can't be opened; a set that shows its entries refuses with
+    /// `Memory` (28) alone.
     fn open_or_empty(&mut self, alloc: Global, name: &str) -> Result<Self::In, OpenFault>
         ensures kept { (view self.new).entries ≡ (view self.old).entries }
         ensures noted { (view self.new).events ≡ (view self.old).events ++ Opened name.now ∷ [] }
         ensures found { IfOk result (λ s. shows_bytes ≡ true
             → (Self.In.view s).remaining ≡ or_empty ((view self.old).entries name.now)) }
+        ensures shown { shows_bytes ≡ true → IfErr result (λ f. f ≡ Fault FileFault.Memory) }
         ensures faults { IfErr result (OpenFails shows_bytes FileFault.Read) };
 
     /// How many bytes a file that was opened still has to give, where the set can say; none of a
@@ -106,11 +110,12 @@ pub trait FileSet {
     /// Prepares that a file is replaced later, once the files to be read are open: tries, as far as
     /// this changes nothing, whether it can be. Refuses with `Write` (27) where it can't, with
     /// `Memory` (28), and where it is one that was opened or created before, other than that of
-    /// `spared`; which never comes of a set that shows its entries. A file that is created after
-    /// this is refused where it is the prepared one.
+    /// `spared`; a set that shows its entries refuses with `Memory` alone. A file that is created
+    /// after this is refused where it is the prepared one.
     fn prepare(&mut self, alloc: Global, name: &str, spared: Option<&str>) -> Result<(), OpenFault>
         ensures kept { (view self.new).entries ≡ (view self.old).entries }
         ensures noted { (view self.new).events ≡ (view self.old).events ++ Prepared name.now ∷ [] }
+        ensures shown { shows_bytes ≡ true → IfErr result (λ f. f ≡ Fault FileFault.Memory) }
         ensures faults { IfErr result (OpenFails shows_bytes FileFault.Write) };
 
     /// Opens a file to be written, and makes it where there is none. No entry changes until it is
@@ -127,6 +132,13 @@ pub trait FileSet {
     /// Whether a file that was created is that of standard error, to which lines of progress and
     /// faults go. None is in a set that shows its entries.
     fn is_for_faults(&self, _out: &Self::Out) -> bool
+        ensures shown { shows_bytes ≡ true → result ≡ false }
+    {
+        false
+    }
+
+    /// Whether a file that was created is a terminal. None is in a set that shows its entries.
+    fn is_terminal(&self, _out: &Self::Out) -> bool
         ensures shown { shows_bytes ≡ true → result ≡ false }
     {
         false

@@ -418,6 +418,10 @@ impl<'r> FileSet for HostFiles<'r> {
         out.is_for_faults(self.rt)
     }
 
+    fn is_terminal(&self, out: &WatchedOut<'r>) -> bool {
+        out.is_terminal()
+    }
+
     fn close(&mut self, out: WatchedOut<'r>, durability: Durability) -> Result<(), FileFault> {
         self.log.closed(durability);
         match out.close(self.rt, durability) {

@@ -9,7 +9,7 @@ use crate::host_sync::{sync_file, sync_folder, sync_stream};
 use age_io::{Durability, Failed, Sink};
 use std::alloc::Global;
 use std::fs::{self, File, Metadata};
-use std::io::{self, Write};
+use std::io::{self, IsTerminal, Write};
 use std::marker::Model;
 use std::os::unix::fs::MetadataExt;
 use std::path::PathBuf;
@@ -254,6 +254,15 @@ impl HostOut {
         match &self.target {
             Target::Faults(_) => true,
             _ => { self.id.is_some() && self.id == FileId::of_stream(rt, Stream::Faults) }
+        }
+    }
+
+    /// Whether it is a terminal.
+    pub(crate) fn is_terminal(&self) -> bool {
+        match &self.target {
+            Target::File(out) => out.file.is_terminal(),
+            Target::Output(output) => output.is_terminal(),
+            Target::Faults(faults) => faults.is_terminal(),
         }
     }
 

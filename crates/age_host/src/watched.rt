@@ -98,6 +98,11 @@ impl<'r> WatchedOut<'r> {
         is_for_faults
     }
 
+    /// Whether it is a terminal.
+    pub(crate) fn is_terminal(&self) -> bool {
+        self.sink.is_terminal()
+    }
+
     /// Ends it with what was written.
     pub(crate) fn close(self, rt: &HostRuntime, durability: Durability) -> io::Result<()> {
         let WatchedOut {

@@ -4,11 +4,12 @@ use Rattle.age_fileset.specs.Events.{Event}
 use Rattle.age_fileset.specs.FileSet.{FilesView}
 use Rattle.age_cli_common.specs.Endings.{EndsEarly, RefusesAtOnce, is_usage}
 use Rattle.age_cli_common.specs.EventOrders.{Follows}
+use Rattle.age_cli_common.specs.Reasons.{HasReason}
 use Rattle.age_cli_common.specs.declared.ending.Ending.{Ending}
 
 -- the files of `order` were opened or made, and this holds of them; or it ended early, in `whole`
 pub record Opens {A : Type 0} (shows : Bool) (order whole : List Event) (old new : FilesView)
-    (IsOpened : A → Type 0) (result : Result A Ending) : Type 0 where
+    (IsOpened : A → Type 0) (Failed : Type 0) (result : Result A Ending) : Type 0 where
   -- No entry differs.
   pub kept : new.entries ≡ old.entries
   -- What was opened is as it should be.
@@ -19,13 +20,15 @@ pub record Opens {A : Type 0} (shows : Bool) (order whole : List Event) (old new
   pub followed : OnErr result (Follows whole old.events new.events)
   -- It ended early.
   pub early : IfErr result EndsEarly
+  -- It had a reason.
+  pub reason : shows ≡ true → IfErr result (HasReason old.entries new.events Failed)
   -- The command line is not to blame where contracts see the files.
   pub fault : shows ≡ true → IfErr result (λ ending. is_usage ending ≡ false)
 
 -- the files by which a command line is judged were opened, `order` being the events of that, and
 -- this was read of them; if names that have to differ are equal, none is
 pub record Judges {A : Type 0} (shows : Bool) (order : List Event) (old new : FilesView)
-    (IsRead : A → Type 0) (IsTwice Blame : Type 0) (result : Result A Ending) : Type 0 where
+    (IsRead : A → Type 0) (IsTwice Blame Failed : Type 0) (result : Result A Ending) : Type 0 where
   -- No entry differs.
   pub kept : new.entries ≡ old.entries
   -- What was read is what the files hold.
@@ -40,3 +43,5 @@ pub record Judges {A : Type 0} (shows : Bool) (order : List Event) (old new : Fi
   pub blamed : shows ≡ true → IfErr result (λ ending. is_usage ending ≡ true → Blame)
   -- It ended early.
   pub early : IfErr result EndsEarly
+  -- It had a reason.
+  pub reason : shows ≡ true → IfErr result (HasReason old.entries new.events Failed)

@@ -5,10 +5,11 @@ use Rattle.age_cli_args.specs.Requests.{text_of}
 use Rattle.age_cli_args.specs.declared.request.Request.TheVariants.{Decrypt}
 use Rattle.age_cli_common.specs.EventOrders.{identity_order, preparing, making}
 use Rattle.age_cli_common.specs.Files.{Files}
+use Rattle.age_cli_common.specs.Reasons.{SourceFails}
 use Rattle.age_cli_common.specs.declared.ending.Ending.{Ending}
 use Rattle.age_cli_common.specs.declared.ending.Ending.TheVariants.{Usage}
 use Rattle.age_cli.specs.Acts.{paths_of}
-use Rattle.age_cli.proofs.CommandSteps.{in_order}
+use Rattle.age_cli.proofs.CommandSteps.{in_order, reason_at}
 use Rattle.age_cli.proofs.ActSteps.{acts_early, shown_not_silent}
 use Rattle.age_cli.proofs.FinalSteps.{Found, decrypt_acts}
 use Rattle.age_cli_common.proofs.EventSteps.{longer, none_done, then_did, then_follows}
@@ -18,7 +19,7 @@ pub returns-in_err-choice : goal.returns-in_err-choice
 returns-in_err-choice g c =
     let d = c.args.asked.now in
     let e : Ending = Usage c.in_err-choice.field-0.0 in
-    acts_early _ _ (Decrypt d) _ _ _ c.from_residual.result e c.from_residual.ensures refl (λ shown. tt) (none_done _ _) (λ shown usage. none_done _ _)
+    acts_early _ _ (Decrypt d) _ _ _ _ c.from_residual.result e c.from_residual.ensures refl (λ shown. tt) (λ shown. tt) (none_done _ _) (λ shown usage. none_done _ _)
     (λ twice. (refl, refl))
     (λ shown usage. inr (c.in_err-choice.ensures.none (g.F.FileSet.view c.args.files.now).entries)) refl
 
@@ -26,8 +27,8 @@ pub returns-in_err-secret : goal.returns-in_err-secret
 returns-in_err-secret g c =
     let d = c.args.asked.now in
     let e : Ending = c.in_err-secret.field-0.0 in
-    let judged = in_order _ _ _ _ _ _ _ _ _ c.in_ok-choice.ensures.chooses.order c.in_err-secret.ensures in
-    acts_early _ _ (Decrypt d) _ _ _ c.from_residual-in_err-secret.result e c.from_residual-in_err-secret.ensures judged.kept (λ shown. judged.early)
+    let judged = in_order _ _ _ _ _ _ _ _ _ _ c.in_ok-choice.ensures.chooses.order c.in_err-secret.ensures in
+    acts_early _ _ (Decrypt d) _ _ _ _ c.from_residual-in_err-secret.result e c.from_residual-in_err-secret.ensures judged.kept (λ shown. judged.early) judged.reason
     (longer _ (Opened d.from.now ∷ (preparing (text_of d.save) ++ making (Some d.to.now) d.durability)) _ _ judged.followed) (λ shown usage. judged.followed)
     (λ twice. judged.apart (c.names_a_file_twice-is_file_named_twice.ensures.twice twice))
     (λ shown usage. inl (c.names_a_file_twice-is_file_named_twice.ensures.shown shown (judged.blamed shown usage))) refl
@@ -36,8 +37,8 @@ pub returns-in_err-identity : goal.returns-in_err-identity
 returns-in_err-identity g c =
     let d = c.args.asked.now in
     let e : Ending = Usage c.in_err-identity.field-0.0 in
-    let judged = in_order _ _ _ _ _ _ _ _ _ c.in_ok-choice.ensures.chooses.order c.in_ok-secret.ensures in
-    acts_early _ _ (Decrypt d) _ _ _ c.from_residual-in_err-identity.result e c.from_residual-in_err-identity.ensures judged.kept (λ shown. tt)
+    let judged = in_order _ _ _ _ _ _ _ _ _ _ c.in_ok-choice.ensures.chooses.order c.in_ok-secret.ensures in
+    acts_early _ _ (Decrypt d) _ _ _ _ c.from_residual-in_err-identity.result e c.from_residual-in_err-identity.ensures judged.kept (λ shown. tt) (λ shown. tt)
     (longer _ (Opened d.from.now ∷ (preparing (text_of d.save) ++ making (Some d.to.now) d.durability)) _ _ judged.followed) (λ shown usage. judged.followed)
     (λ twice. absurd (judged.apart (c.names_a_file_twice-is_file_named_twice.ensures.twice twice)).1)
     (λ shown usage. inr (λ identity opens. c.in_err-identity.ensures.none identity
@@ -47,9 +48,10 @@ pub returns-in_err-source : goal.returns-in_err-source
 returns-in_err-source g c =
     let d = c.args.asked.now in
     let e : Ending = c.in_err-source.field-0.0 in
-    let judged = in_order _ _ _ _ _ _ _ _ _ c.in_ok-choice.ensures.chooses.order c.in_ok-secret.ensures in
+    let judged = in_order _ _ _ _ _ _ _ _ _ _ c.in_ok-choice.ensures.chooses.order c.in_ok-secret.ensures in
     let both = c.in_err-source.ensures in
-    acts_early _ _ (Decrypt d) _ _ _ c.from_residual-in_err-source.result e c.from_residual-in_err-source.ensures (both.kept ∙ judged.kept) (λ shown. both.early)
+    acts_early _ _ (Decrypt d) _ _ _ _ c.from_residual-in_err-source.result e c.from_residual-in_err-source.ensures (both.kept ∙ judged.kept) (λ shown. both.early)
+    (λ shown. reason_at _ _ (g.F.FileSet.view c.open_both.new.files).events (SourceFails g.F.In.Source.view) e judged.kept (both.reason shown))
     (then_follows _ _ _ (identity_order (text_of d.identity.pass) (text_of d.identity.shared))
     (Opened d.from.now ∷ (preparing (text_of d.save) ++ making (Some d.to.now) d.durability)) judged.noted both.followed)
     (λ shown usage. absurd (true≢false (sym usage ∙ both.fault shown)))
@@ -62,11 +64,11 @@ returns-in-Silent g c =
     let view = g.F.FileSet.view in
     let In = g.F.In.Source.view in
     let Out = g.F.Out.Sink.view in
-    let judged = in_order _ _ _ _ _ _ _ _ _ c.in_ok-choice.ensures.chooses.order c.in_ok-secret.ensures in
+    let judged = in_order _ _ _ _ _ _ _ _ _ _ c.in_ok-choice.ensures.chooses.order c.in_ok-secret.ensures in
     let both = c.in_ok-source.ensures in
     let run = c.decrypt_with-opened in
     let before = ports (In c.in_ok-source.source) (Out c.in_ok-source.out) in
-    decrypt_acts _ _ (view c.args.files.now) (view c.open_both.new.files) (view c.conclude.new.files) _ before (ports (In run.new.reader) (Out run.new.writer))
+    decrypt_acts _ _ (view c.args.files.now) (view c.open_both.new.files) (view c.conclude.new.files) _ _ before (ports (In run.new.reader) (Out run.new.writer))
     (record { source = c.in_ok-source.source; sink = c.in_ok-source.out; is = refl }) (record { source = run.new.reader; sink = run.new.writer; is = refl })
     c.opening_end.result c.conclude.result (both.kept ∙ judged.kept) d c.positions_for-positions.result c.in_ok-identity.identity run.result
     (λ shown. c.in_ok-choice.ensures.chooses.opens (view c.args.files.now).entries _ _ (judged.read shown).0 c.in_ok-identity.ensures.makes)
@@ -82,12 +84,12 @@ returns g c =
     let view = g.F.FileSet.view in
     let In = g.F.In.Source.view in
     let Out = g.F.Out.Sink.view in
-    let judged = in_order _ _ _ _ _ _ _ _ _ c.in_ok-choice.ensures.chooses.order c.in_ok-secret.ensures in
+    let judged = in_order _ _ _ _ _ _ _ _ _ _ c.in_ok-choice.ensures.chooses.order c.in_ok-secret.ensures in
     let both = c.in_ok-source.ensures in
     let run = c.decrypt_with-opened-in-Shown in
     let source = c.with_meter-metered.result.source in
     let before = ports (In source) (Out c.in_ok-source.out) in
-    decrypt_acts _ _ (view c.args.files.now) (view c.open_both.new.files) (view c.conclude-in-Shown.new.files) _ before (ports (In run.new.reader.source) (Out run.new.writer))
+    decrypt_acts _ _ (view c.args.files.now) (view c.open_both.new.files) (view c.conclude-in-Shown.new.files) _ _ before (ports (In run.new.reader.source) (Out run.new.writer))
     (record { source = source; sink = c.in_ok-source.out; is = refl }) (record { source = run.new.reader.source; sink = run.new.writer; is = refl })
     c.opening_end-in-Shown.result c.conclude-in-Shown.result (both.kept ∙ judged.kept) d c.positions_for-positions.result c.in_ok-identity.identity run.result
     (λ shown. c.in_ok-choice.ensures.chooses.opens (view c.args.files.now).entries _ _ (judged.read shown).0 c.in_ok-identity.ensures.makes)

@@ -2,7 +2,7 @@ use Rattle.std.proofs.Common.{◌∙◌, refl, sym, true≢false}
 use Rattle.age_cli_common.specs.Endings.{EndsEarly}
 use Rattle.age_cli_common.specs.declared.ending.Ending.{Ending}
 use Rattle.age_cli_common.specs.inner.Endings.{ending_of}
-use Rattle.age_cli.proofs.CommandSteps.{no_value, not_well, this_error, created_fault, opened_early, streams_early}
+use Rattle.age_cli.proofs.CommandSteps.{no_value, not_well, this_error, created_fault, opened_early, open_reason, streams_early, streams_reason}
 use Rattle.age_cli_common.proofs.EventSteps.{followed, none_done}
 use Rattle.age_cli.proofs.decrypt_command.read_secret.Goals as goal
 
@@ -15,6 +15,7 @@ returns-then-is_file_named_twice g c = record {
   apart = λ twice. (refl, refl);
   blamed = λ shown usage. c.if-is_file_named_twice.true;
   early = tt;
+  reason = λ shown. tt;
 }
 
 pub returns-in_err-check_streams : goal.returns-in_err-check_streams
@@ -31,6 +32,7 @@ returns-in_err-check_streams g c =
       apart = λ twice. absurd (true≢false (sym twice ∙ c.if-is_file_named_twice.false));
       blamed = λ shown. this_error r e is _ (λ usage. absurd (true≢false (sym usage ∙ created_fault _ _ _ fails shown)));
       early = this_error r e is EndsEarly (streams_early _ _ fails);
+      reason = λ shown. this_error r e is _ (streams_reason _ _ _ _ _ fails);
     }
 
 pub returns-in_err-read : goal.returns-in_err-read
@@ -47,6 +49,7 @@ returns-in_err-read g c =
       apart = λ twice. absurd (true≢false (sym twice ∙ c.if-is_file_named_twice.false));
       blamed = λ shown. this_error r e is _ (λ usage. absurd (true≢false (sym usage ∙ created_fault _ _ _ read.faults shown)));
       early = this_error r e is EndsEarly (opened_early _ _ read.faults);
+      reason = λ shown. this_error r e is _ (open_reason _ _ _ _ _ read.faults (read.reason shown));
     }
 
 pub returns : goal.returns
@@ -60,4 +63,5 @@ returns g c =
       apart = λ twice. absurd (true≢false (sym twice ∙ c.if-is_file_named_twice.false));
       blamed = λ shown. tt;
       early = tt;
+      reason = λ shown. tt;
     }

@@ -5,10 +5,12 @@ use Rattle.age_cli_args.specs.Requests.{text_of}
 use Rattle.age_cli_args.specs.declared.request.Request.TheVariants.{Encrypt}
 use Rattle.age_cli_common.specs.EventOrders.{making}
 use Rattle.age_cli_common.specs.Files.{Files}
+use Rattle.age_cli_common.specs.Reasons.{SourceFails}
 use Rattle.age_cli_common.specs.Orders.{random_name}
 use Rattle.age_cli_common.specs.declared.ending.Ending.{Ending}
 use Rattle.age_cli_common.specs.declared.ending.Ending.TheVariants.{Usage}
 use Rattle.age_cli.specs.Outputs.{Paths}
+use Rattle.age_cli.proofs.CommandSteps.{reason_at}
 use Rattle.age_cli.proofs.ActSteps.{acts_early, shown_not_silent}
 use Rattle.age_cli.proofs.FinalSteps.{Found, encrypt_acts}
 use Rattle.age_cli_common.proofs.EventSteps.{longer, then_did, then_follows}
@@ -19,7 +21,7 @@ returns-in_err-material g c =
     let a = c.args.asked.now in
     let e : Ending = c.in_err-material.field-0.0 in
     let judged = c.in_err-material.ensures in
-    acts_early _ _ (Encrypt a) _ _ _ c.from_residual.result e c.from_residual.ensures judged.kept (λ shown. judged.early)
+    acts_early _ _ (Encrypt a) _ _ _ _ c.from_residual.result e c.from_residual.ensures judged.kept (λ shown. judged.early) judged.reason
     (longer _ (Opened a.from.now ∷ making (Some a.to.now) a.durability) _ _ judged.followed) (λ shown usage. judged.followed)
     (λ twice. judged.apart twice) judged.blamed refl
 
@@ -28,7 +30,7 @@ returns-in_err-secret g c =
     let a = c.args.asked.now in
     let e : Ending = Usage c.in_err-secret.field-0.0 in
     let judged = c.in_ok-material.ensures in
-    acts_early _ _ (Encrypt a) _ _ _ c.from_residual-in_err-secret.result e c.from_residual-in_err-secret.ensures judged.kept (λ shown. tt)
+    acts_early _ _ (Encrypt a) _ _ _ _ c.from_residual-in_err-secret.result e c.from_residual-in_err-secret.ensures judged.kept (λ shown. tt) (λ shown. tt)
     (longer _ (Opened a.from.now ∷ making (Some a.to.now) a.durability) _ _ judged.followed) (λ shown usage. judged.followed)
     (λ twice. absurd (judged.apart twice).1)
     (λ shown usage. inr (λ secret makes. c.in_err-secret.ensures.none (g.F.FileSet.view c.args.files.now).entries (judged.read shown) secret makes)) refl
@@ -39,7 +41,8 @@ returns-in_err-source g c =
     let e : Ending = c.in_err-source.field-0.0 in
     let judged = c.in_ok-material.ensures in
     let both = c.in_err-source.ensures in
-    acts_early _ _ (Encrypt a) _ _ _ c.from_residual-in_err-source.result e c.from_residual-in_err-source.ensures (both.kept ∙ judged.kept) (λ shown. both.early)
+    acts_early _ _ (Encrypt a) _ _ _ _ c.from_residual-in_err-source.result e c.from_residual-in_err-source.ensures (both.kept ∙ judged.kept) (λ shown. both.early)
+    (λ shown. reason_at _ _ (g.F.FileSet.view c.open_both.new.files).events (SourceFails g.F.In.Source.view) e judged.kept (both.reason shown))
     (then_follows _ _ _ (Opened a.pass.now ∷ Opened (random_name (text_of a.random)) ∷ []) (Opened a.from.now ∷ making (Some a.to.now) a.durability)
     judged.noted both.followed)
     (λ shown usage. absurd (true≢false (sym usage ∙ both.fault shown)))
@@ -56,7 +59,7 @@ returns-in-Silent g c =
     let both = c.in_ok-source.ensures in
     let run = c.encrypt-sealed in
     let before = ports (In c.in_ok-source.source) (Out c.in_ok-source.out) in
-    encrypt_acts _ _ (view c.args.files.now) (view c.open_both.new.files) (view c.conclude.new.files) _ before (ports (In run.new.reader) (Out run.new.writer))
+    encrypt_acts _ _ (view c.args.files.now) (view c.open_both.new.files) (view c.conclude.new.files) _ _ before (ports (In run.new.reader) (Out run.new.writer))
     (record { source = c.in_ok-source.source; sink = c.in_ok-source.out; is = refl }) (record { source = run.new.reader; sink = run.new.writer; is = refl })
     c.sealing_end.result c.conclude.result (both.kept ∙ judged.kept) a c.in_ok-secret.secret run.result
     (λ shown. c.in_ok-secret.ensures.makes (view c.args.files.now).entries (judged.read shown))
@@ -77,7 +80,7 @@ returns g c =
     let run = c.encrypt-sealed-in-Shown in
     let source = c.with_meter-metered.result.source in
     let before = ports (In source) (Out c.in_ok-source.out) in
-    encrypt_acts _ _ (view c.args.files.now) (view c.open_both.new.files) (view c.conclude-in-Shown.new.files) _ before (ports (In run.new.reader.source) (Out run.new.writer))
+    encrypt_acts _ _ (view c.args.files.now) (view c.open_both.new.files) (view c.conclude-in-Shown.new.files) _ _ before (ports (In run.new.reader.source) (Out run.new.writer))
     (record { source = source; sink = c.in_ok-source.out; is = refl }) (record { source = run.new.reader.source; sink = run.new.writer; is = refl })
     c.sealing_end-in-Shown.result c.conclude-in-Shown.result (both.kept ∙ judged.kept) a c.in_ok-secret.secret run.result
     (λ shown. c.in_ok-secret.ensures.makes (view c.args.files.now).entries (judged.read shown))

@@ -2,7 +2,7 @@ use Rattle.std.proofs.Common.{sym, true≢false}
 use Rattle.age_cli_common.specs.Endings.{EndsEarly}
 use Rattle.age_cli_common.specs.declared.ending.Ending.{Ending}
 use Rattle.age_cli_common.specs.declared.ending.Ending.TheVariants.{Fault}
-use Rattle.age_cli.proofs.CommandSteps.{no_value, this_error, early_fault}
+use Rattle.age_cli.proofs.CommandSteps.{no_value, this_error, early_fault, source_reason}
 use Rattle.age_cli.proofs.encrypt_command.random_in.Goals as goal
 
 pub returns-in_err-bytes : goal.returns-in_err-bytes
@@ -14,4 +14,5 @@ returns-in_err-bytes g c =
       read = no_value r e is _;
       short = this_error r e is _ (λ usage. absurd (true≢false (sym usage)));
       early = this_error r e is EndsEarly (early_fault _ c.in_err-bytes.ensures.faults);
+      reason = this_error r e is _ (λ old events. source_reason _ _ _ _ c.in_err-bytes.ensures.faults c.in_err-bytes.ensures.failed);
     }

@@ -6,8 +6,10 @@ use Rattle.age_cli_common.specs.inner.Endings.{ending_of}
 use Rattle.age_cli_common.specs.declared.ending.Ending.{Ending}
 use Rattle.age_cli_common.specs.Orders.{random_name}
 use Rattle.age_cli_common.specs.Files.{Files}
+use Rattle.age_cli_common.specs.Reasons.{SourceFails}
+use Rattle.age_keys.specs.Passphrase.{IsAllowed}
 use Rattle.age_cli.specs.Encryptions.{IsRandomIn}
-use Rattle.age_cli.proofs.CommandSteps.{no_value, not_well, this_error, created_fault, streams_early}
+use Rattle.age_cli.proofs.CommandSteps.{no_value, not_well, this_error, created_fault, streams_early, streams_reason, reason_at}
 use Rattle.age_cli_common.proofs.EventSteps.{followed, none_done, then_did}
 use Rattle.age_cli.proofs.encrypt_command.read_material.Goals as goal
 
@@ -20,6 +22,7 @@ returns-then-names_out_twice g c = record {
   apart = λ twice. (refl, refl);
   blamed = λ shown usage. inl (c.names_out_twice.ensures.shown shown c.if-names_out_twice.true);
   early = tt;
+  reason = λ shown. tt;
 }
 
 pub returns-in_err-check_streams : goal.returns-in_err-check_streams
@@ -36,6 +39,7 @@ returns-in_err-check_streams g c =
       apart = λ twice. absurd (true≢false (sym (c.names_out_twice.ensures.twice twice) ∙ c.if-names_out_twice.false));
       blamed = λ shown. this_error r e is _ (λ usage. absurd (true≢false (sym usage ∙ created_fault _ _ _ fails shown)));
       early = this_error r e is EndsEarly (streams_early _ _ fails);
+      reason = λ shown. this_error r e is _ (streams_reason _ _ _ _ _ fails);
     }
 
 pub returns-in_err-pass : goal.returns-in_err-pass
@@ -56,8 +60,9 @@ returns-in_err-pass g c =
       };
       apart = λ twice. absurd (true≢false (sym (c.names_out_twice.ensures.twice twice) ∙ c.if-names_out_twice.false));
       blamed = λ shown. this_error r e is _ (λ usage.
-          inr (λ s makes. c.in_err-pass.ensures.refused shown usage s.pass s.log makes.passphrase makes.within));
+          inr (λ s makes. c.in_err-pass.ensures.refused shown usage s.pass makes.passphrase (subst (IsAllowed s.pass) makes.log_is makes.within)));
       early = this_error r e is EndsEarly c.in_err-pass.ensures.early;
+      reason = λ shown. this_error r e is _ (c.in_err-pass.ensures.reason shown);
     }
 
 pub returns-in_err-random : goal.returns-in_err-random
@@ -77,6 +82,7 @@ returns-in_err-random g c =
           (subst (λ n. IsRandomIn ((g.F.FileSet.view c.read_pass.new.files).entries n) s) (sym c.random_name-random_name.ensures)
           (subst (λ (f : Files). IsRandomIn (f (random_name (text_of a.random))) s) (sym c.in_ok-pass.ensures.kept) makes.random_is))));
       early = this_error r e is EndsEarly c.in_err-random.ensures.early;
+      reason = λ shown. this_error r e is _ (reason_at _ _ (g.F.FileSet.view c.read_random.new.files).events (SourceFails g.F.In.Source.view) e c.in_ok-pass.ensures.kept (c.in_err-random.ensures.reason shown));
     }
 
 pub returns : goal.returns
@@ -102,4 +108,5 @@ returns g c =
       apart = λ twice. absurd (true≢false (sym (c.names_out_twice.ensures.twice twice) ∙ c.if-names_out_twice.false));
       blamed = λ shown. tt;
       early = tt;
+      reason = λ shown. tt;
     }

@@ -4,7 +4,7 @@ use Rattle.std.proofs.lemmas.Result.{IfOk-weaker, IfErr-weaker}
 use Rattle.age_cli_common.specs.Endings.{EndsEarly}
 use Rattle.age_cli_common.specs.declared.ending.Ending.{Ending}
 use Rattle.age_cli_common.specs.inner.Endings.{ending_of}
-use Rattle.age_cli.proofs.CommandSteps.{no_value, this_error, created_fault, opened_early, front_read}
+use Rattle.age_cli.proofs.CommandSteps.{no_value, this_error, created_fault, last_missing, opened_early, open_reason, front_read}
 use Rattle.age_cli.proofs.EncryptionSteps.{too_few}
 use Rattle.age_cli.proofs.encrypt_command.read_random.Goals as goal
 
@@ -19,6 +19,8 @@ returns-in_err-source g c =
       short = λ shown. this_error r e is _ (λ usage. absurd (true≢false (sym usage ∙ created_fault _ _ _ c.in_err-source.ensures.faults shown)));
       noted = c.in_err-source.ensures.noted;
       early = this_error r e is EndsEarly (opened_early _ _ c.in_err-source.ensures.faults);
+      reason = λ shown. this_error r e is _ (open_reason _ _ _ _ _ c.in_err-source.ensures.faults
+          (λ read. last_missing _ _ _ _ _ c.in_err-source.ensures.noted (c.in_err-source.ensures.missing shown read)));
     }
 
 pub returns : goal.returns
@@ -32,4 +34,5 @@ returns g c = record {
       too_few secret _ held (short usage _ ((c.in_ok-source.ensures.found shown).1 ∙ held.bytes))) c.random_in.ensures.short;
   noted = c.in_ok-source.ensures.noted;
   early = c.random_in.ensures.early;
+  reason = λ shown. IfErr-weaker c.random_in.result _ _ (λ e so. so _ _) c.random_in.ensures.reason;
 }

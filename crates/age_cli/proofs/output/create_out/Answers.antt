@@ -1,9 +1,9 @@
-use Rattle.std.proofs.Common.{◌∙◌, ◌∷◌, true≢false, refl, []}
+use Rattle.std.proofs.Common.{◌∙◌, ◌∷◌, refl, sym, []}
 use Rattle.age_fileset.specs.Events.{Created, Closed}
 use Rattle.age_cli_common.specs.Endings.{EndsEarly}
 use Rattle.age_cli_common.specs.inner.Endings.{ending_of}
 use Rattle.age_cli_common.specs.declared.ending.Ending.{Ending}
-use Rattle.age_cli.proofs.CommandSteps.{no_value, not_well, this_error, an_error, created_early, created_fault}
+use Rattle.age_cli.proofs.CommandSteps.{no_value, not_well, this_error, an_error, created_early, created_fault, made_reason}
 use Rattle.age_cli_common.proofs.EventSteps.{followed, then_did}
 use Rattle.age_cli.proofs.output.create_out.Goals as goal
 
@@ -25,11 +25,12 @@ returns-in_err-out g c =
         front = refl;
       });
       early = this_error r e is EndsEarly (created_early _ _ faults);
+      reason = λ shown. this_error r e is _ (made_reason _ _ _ _ _ faults (record { front = _; name = a.to.now; last = c.in_err-out.ensures.noted }));
       fault = λ shown. this_error r e is _ (created_fault _ _ _ faults shown);
     }
 
-pub returns-then-shows_progress_in : goal.returns-then-shows_progress_in
-returns-then-shows_progress_in g c =
+pub returns-in-Some : goal.returns-in-Some
+returns-in-Some g c =
     let created = c.in_ok-out.ensures in
     let a = c.args.asked.now in
     record {
@@ -38,15 +39,17 @@ returns-then-shows_progress_in g c =
       noted = tt;
       followed = followed _ _ _ (then_did _ _ _ (Created a.to.now ∷ []) (Closed a.durability ∷ []) created.noted c.discard.ensures.noted);
       early = tt;
-      fault = λ shown. absurd (true≢false (c.if-shows_progress_in.ensures shown));
+      reason = λ shown. tt;
+      fault = λ shown. let never = sym c.in-Some.is ∙ c.refusal_of.ensures shown in cc;
     }
 
-pub returns : goal.returns
-returns g c = record {
+pub returns-in-None : goal.returns-in-None
+returns-in-None g c = record {
   kept = c.in_ok-out.ensures.kept;
   opened = c.in_ok-out.ensures.made;
   noted = c.in_ok-out.ensures.noted;
   followed = tt;
   early = tt;
+  reason = λ shown. tt;
   fault = λ shown. tt;
 }

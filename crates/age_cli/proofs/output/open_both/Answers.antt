@@ -1,11 +1,13 @@
-use Rattle.std.proofs.Common.{◌∙◌, ◌++◌, ◌∷◌, [], refl, Some}
+use Rattle.std.proofs.Common.{◌∙◌, ◌++◌, ◌∷◌, [], refl, Some, subst}
 use Rattle.age_fileset.specs.Events.{Opened, Created}
 use Rattle.age_cli_args.specs.Requests.{text_of}
 use Rattle.age_cli_common.specs.EventOrders.{preparing, making}
 use Rattle.age_cli_common.specs.Endings.{EndsEarly}
 use Rattle.age_cli_common.specs.declared.ending.Ending.{Ending}
 use Rattle.age_cli_common.specs.inner.Endings.{ending_of}
-use Rattle.age_cli.proofs.CommandSteps.{no_value, not_well, this_error, an_error, created_fault, opened_early}
+use Rattle.age_cli_common.specs.Files.{Files}
+use Rattle.age_cli_common.specs.Reasons.{SourceFails}
+use Rattle.age_cli.proofs.CommandSteps.{no_value, not_well, this_error, an_error, created_fault, last_missing, opened_early, open_reason, reason_at}
 use Rattle.age_cli_common.proofs.EventSteps.{followed, longer, then_did, then_follows}
 use Rattle.age_cli.proofs.output.open_both.Goals as goal
 
@@ -22,6 +24,8 @@ returns-in_err-source g c =
       followed = an_error r _ (longer (Opened c.args.from.now ∷ []) (preparing (text_of a.save) ++ making (Some a.to.now) a.durability) _ _
           (followed _ _ _ c.in_err-source.ensures.noted));
       early = this_error r e is EndsEarly (opened_early _ _ c.in_err-source.ensures.faults);
+      reason = λ shown. this_error r e is _ (open_reason _ _ _ _ _ c.in_err-source.ensures.faults
+          (λ read. last_missing _ _ _ _ _ c.in_err-source.ensures.noted (c.in_err-source.ensures.missing shown read)));
       fault = λ shown. this_error r e is _ (created_fault _ _ _ c.in_err-source.ensures.faults shown);
     }
 
@@ -39,6 +43,7 @@ returns-in_err-prepare_save g c =
       followed = an_error r _ (then_follows _ _ _ (Opened c.args.from.now ∷ []) (preparing (text_of a.save) ++ making (Some a.to.now) a.durability)
           c.in_ok-source.ensures.noted (longer (preparing (text_of a.save)) (making (Some a.to.now) a.durability) _ _ (followed _ _ _ prepared.noted)));
       early = this_error r e is EndsEarly prepared.early;
+      reason = λ shown. this_error r e is _ (reason_at _ _ (g.F.FileSet.view c.prepare_save.new.files).events (SourceFails g.F.In.Source.view) e c.in_ok-source.ensures.kept (prepared.reason shown));
       fault = λ shown. this_error r e is _ (prepared.fault shown);
     }
 
@@ -57,6 +62,7 @@ returns-in_err-out g c =
       followed = an_error r _ (then_follows _ _ _ (Opened c.args.from.now ∷ []) (preparing (text_of a.save) ++ making (Some a.to.now) a.durability)
           c.in_ok-source.ensures.noted (then_follows _ _ _ (preparing (text_of a.save)) (making (Some a.to.now) a.durability) prepared.noted out.followed));
       early = this_error r e is EndsEarly out.early;
+      reason = λ shown. this_error r e is _ (reason_at _ _ (g.F.FileSet.view c.create_out.new.files).events (SourceFails g.F.In.Source.view) e (prepared.kept ∙ c.in_ok-source.ensures.kept) (out.reason shown));
       fault = λ shown. this_error r e is _ (out.fault shown);
     }
 
@@ -75,5 +81,6 @@ returns g c =
           (then_did _ _ _ (preparing (text_of a.save)) (Created a.to.now ∷ []) prepared.noted out.noted);
       followed = tt;
       early = tt;
+      reason = λ shown. tt;
       fault = λ shown. tt;
     }

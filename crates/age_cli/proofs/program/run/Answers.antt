@@ -11,14 +11,14 @@ returns-in-Ok g c =
       within = omega arith;
       quiet = λ zero. refl;
       reported = λ one. absurd (omega (arith, one));
-      obeys = obeys_so _ _ _ _ _ _ _ _ _ _ (record {
+      obeys = obeys_so _ _ _ _ _ _ _ _ _ _ _ (record {
         done = λ P did zero. did;
         refused = λ P did two. absurd (omega (arith, two));
         stopped = λ Ends did one. absurd (omega (arith, one));
         declined = λ no. absurd no;
       }) o;
-      headline = λ d text made shown auth. headline_of _ _ _ _ _ _ _ _ 0 text shown (Ok tt) tt o d made auth;
-      headline_resumed = λ r text made shown auth. resumed_headline_of _ _ _ _ _ _ _ _ 0 text shown (Ok tt) tt o r made auth;
+      headline = λ d text made shown auth. headline_of _ _ _ _ _ _ _ _ _ 0 text shown (Ok tt) tt o d made auth;
+      headline_resumed = λ r text made shown auth. resumed_headline_of _ _ _ _ _ _ _ _ _ 0 text shown (Ok tt) tt o r made auth;
     }
 
 pub returns-in-Err : goal.returns-in-Err
@@ -31,12 +31,12 @@ returns-in-Err g c =
       within = subst (λ (n : ℕ). n ≤ 2) is (status_within e);
       quiet = λ zero. absurd (failed zero);
       reported = λ one. record { ending = e; status = is ∙ one; ends = tt; reported = c.report_ending.ensures };
-      obeys = obeys_so _ _ _ _ _ _ _ _ _ _ (record {
+      obeys = obeys_so _ _ _ _ _ _ _ _ _ _ _ (record {
         done = λ P did zero. absurd (failed zero);
         refused = λ P did two. did (usage_status e (is ∙ two));
         stopped = λ Ends did one. record { ending = e; status = is ∙ one; ends = did; reported = c.report_ending.ensures };
         declined = λ no. (failed, λ one. record { ending = e; status = is ∙ one; ends = no; reported = c.report_ending.ensures });
       }) o;
-      headline = λ d text made shown auth. headline_of _ _ _ _ _ _ _ _ c.status.result text shown (Err e) failed o d made auth;
-      headline_resumed = λ r text made shown auth. resumed_headline_of _ _ _ _ _ _ _ _ c.status.result text shown (Err e) failed o r made auth;
+      headline = λ d text made shown auth. headline_of _ _ _ _ _ _ _ _ _ c.status.result text shown (Err e) failed o d made auth;
+      headline_resumed = λ r text made shown auth. resumed_headline_of _ _ _ _ _ _ _ _ _ c.status.result text shown (Err e) failed o r made auth;
     }

@@ -1,7 +1,9 @@
-use Rattle.std.proofs.Common.{◌∙◌, ◌∷◌, [], inl, refl, ap, sym}
+use Rattle.std.proofs.Common.{◌∙◌, ◌∷◌, [], inl, refl, ap, sym, subst}
 use Rattle.std.specs.Prelude.{is_some}
 use Rattle.age_fileset.specs.Events.{Opened}
 use Rattle.age_cli.specs.Resumptions.{old_for}
+use Rattle.age_cli_common.specs.Files.{Files}
+use Rattle.age_cli_common.specs.Reasons.{IsUnread, SourceFails}
 use Rattle.age_cli.proofs.CommandSteps.{no_value, not_well, this_error, not_bad}
 use Rattle.age_cli_common.proofs.EventSteps.{followed, then_did}
 use Rattle.age_cli.proofs.resume_command.open_earlier.Goals as goal
@@ -23,6 +25,7 @@ returns-in_err-position g c =
       };
       faults = this_error r e is _ c.in_err-position.ensures.faults;
       bad = λ shown. this_error r e is _ (c.in_err-position.ensures.bad shown);
+      reason = λ shown. this_error r e is _ (c.in_err-position.ensures.reason shown);
     }
 
 pub returns-in_err-old : goal.returns-in_err-old
@@ -39,6 +42,7 @@ returns-in_err-old g c =
           c.in_err-old.ensures.noted);
       faults = this_error r e is _ (inl c.in_err-old.ensures.faults);
       bad = λ shown. this_error r e is _ (λ bad. absurd (not_bad _ _ c.in_err-old.ensures.faults bad));
+      reason = λ shown. this_error r e is _ (λ read. subst (λ (f : Files). IsUnread f (g.F.FileSet.view c.open_old.new.files).events (SourceFails g.F.In.Source.view)) c.in_ok-position.ensures.kept (c.in_err-old.ensures.reason shown read));
     }
 
 pub returns : goal.returns
@@ -56,4 +60,5 @@ returns g c =
       follows = followed _ _ _ events;
       faults = tt;
       bad = λ shown. tt;
+      reason = λ shown. tt;
     }

@@ -13,4 +13,5 @@ returns-in_err-text g c =
       noted = c.in_err-text.ensures.noted;
       faults = this_error r e is _ (inl c.in_err-text.ensures.faults);
       bad = λ shown. this_error r e is _ (λ bad. absurd (not_bad _ _ c.in_err-text.ensures.faults bad));
+      reason = λ shown. this_error r e is _ (c.in_err-text.ensures.reason shown);
     }

@@ -5,6 +5,7 @@ use Rattle.age_cli_args.specs.Requests.{text_of}
 use Rattle.age_cli_args.specs.declared.request.Request.TheVariants.{Resume}
 use Rattle.age_cli_common.specs.EventOrders.{identity_order, preparing, making}
 use Rattle.age_cli_common.specs.Files.{Files}
+use Rattle.age_cli_common.specs.Reasons.{SourceFails}
 use Rattle.age_cli_common.specs.declared.ending.Ending.{Ending}
 use Rattle.age_cli_common.specs.declared.ending.Ending.TheVariants.{Usage}
 use Rattle.age_cli_common.specs.inner.Endings.{ending_of}
@@ -13,7 +14,7 @@ use Rattle.age_fileset.specs.declared.files.OpenFault.TheVariants as create
 use Rattle.age_cli.specs.Acts.{paths_of}
 use Rattle.age_cli.specs.Resumptions.{HoldsNoPosition}
 use Rattle.age_cli.proofs.ActSteps.{acts_early, shown_not_silent}
-use Rattle.age_cli.proofs.CommandSteps.{bad_position, in_order, position_fault}
+use Rattle.age_cli.proofs.CommandSteps.{bad_position, in_order, position_fault, position_reason, reason_at}
 use Rattle.age_cli.proofs.FinalSteps.{Found, WasEarlier, resume_acts}
 use Rattle.age_cli_common.proofs.EventSteps.{longer, none_done, then_did, then_follows}
 use Rattle.age_cli.proofs.resume_command.resume_file.Goals as goal
@@ -23,7 +24,7 @@ returns-in_err-choice g c =
     let r = c.args.asked.now in
     let d = r.decrypting in
     let e : Ending = Usage c.in_err-choice.field-0.0 in
-    acts_early _ _ (Resume r) _ _ _ c.from_residual.result e c.from_residual.ensures refl (λ shown. inl tt) (none_done _ _) (λ shown usage. none_done _ _)
+    acts_early _ _ (Resume r) _ _ _ _ c.from_residual.result e c.from_residual.ensures refl (λ shown. inl tt) (λ shown. tt) (none_done _ _) (λ shown usage. none_done _ _)
     (λ twice. (refl, refl))
     (λ shown usage. inr (c.in_err-choice.ensures.none (g.F.FileSet.view c.args.files.now).entries)) refl
 
@@ -32,8 +33,8 @@ returns-in_err-secret g c =
     let r = c.args.asked.now in
     let d = r.decrypting in
     let e : Ending = c.in_err-secret.field-0.0 in
-    let judged = in_order _ _ _ _ _ _ _ _ _ c.in_ok-choice.ensures.chooses.order c.in_err-secret.ensures in
-    acts_early _ _ (Resume r) _ _ _ c.from_residual-in_err-secret.result e c.from_residual-in_err-secret.ensures judged.kept (λ shown. inl judged.early)
+    let judged = in_order _ _ _ _ _ _ _ _ _ _ c.in_ok-choice.ensures.chooses.order c.in_err-secret.ensures in
+    acts_early _ _ (Resume r) _ _ _ _ c.from_residual-in_err-secret.result e c.from_residual-in_err-secret.ensures judged.kept (λ shown. inl judged.early) judged.reason
     (longer _ (Opened r.position.now ∷ Opened r.old.now ∷ Opened d.from.now ∷ (preparing (text_of d.save) ++ making (Some d.to.now) d.durability)) _ _ judged.followed)
     (λ shown usage. judged.followed)
     (λ twice. judged.apart (c.names_one_twice-is_file_named_twice.ensures.twice twice))
@@ -44,8 +45,8 @@ returns-in_err-identity g c =
     let r = c.args.asked.now in
     let d = r.decrypting in
     let e : Ending = Usage c.in_err-identity.field-0.0 in
-    let judged = in_order _ _ _ _ _ _ _ _ _ c.in_ok-choice.ensures.chooses.order c.in_ok-secret.ensures in
-    acts_early _ _ (Resume r) _ _ _ c.from_residual-in_err-identity.result e c.from_residual-in_err-identity.ensures judged.kept (λ shown. inl tt)
+    let judged = in_order _ _ _ _ _ _ _ _ _ _ c.in_ok-choice.ensures.chooses.order c.in_ok-secret.ensures in
+    acts_early _ _ (Resume r) _ _ _ _ c.from_residual-in_err-identity.result e c.from_residual-in_err-identity.ensures judged.kept (λ shown. inl tt) (λ shown. tt)
     (longer _ (Opened r.position.now ∷ Opened r.old.now ∷ Opened d.from.now ∷ (preparing (text_of d.save) ++ making (Some d.to.now) d.durability)) _ _ judged.followed)
     (λ shown usage. judged.followed)
     (λ twice. absurd (judged.apart (c.names_one_twice-is_file_named_twice.ensures.twice twice)).1)
@@ -57,11 +58,12 @@ returns-in_err-position g c =
     let r = c.args.asked.now in
     let d = r.decrypting in
     let e : Ending = ending_of c.in_err-position.field-0.0 in
-    let judged = in_order _ _ _ _ _ _ _ _ _ c.in_ok-choice.ensures.chooses.order c.in_ok-secret.ensures in
+    let judged = in_order _ _ _ _ _ _ _ _ _ _ c.in_ok-choice.ensures.chooses.order c.in_ok-secret.ensures in
     let earlier = c.in_err-position.ensures in
-    acts_early _ _ (Resume r) _ _ _ c.from_residual-in_err-position.result e c.from_residual-in_err-position.ensures (earlier.kept ∙ judged.kept)
+    acts_early _ _ (Resume r) _ _ _ _ c.from_residual-in_err-position.result e c.from_residual-in_err-position.ensures (earlier.kept ∙ judged.kept)
     (λ shown. bad_position _ _ _ earlier.faults (subst (λ (f : Files). c.in_err-position.field-0.0 ≡ create.Fault BadPosition → HoldsNoPosition (f r.position.now))
     judged.kept (earlier.bad shown)))
+    (λ shown. reason_at _ _ (g.F.FileSet.view c.open_earlier.new.files).events (SourceFails g.F.In.Source.view) e judged.kept (position_reason _ _ _ _ _ earlier.faults (earlier.reason shown)))
     (then_follows _ _ _ (identity_order (text_of d.identity.pass) (text_of d.identity.shared)) (Opened r.position.now ∷ Opened r.old.now ∷ Opened d.from.now ∷ (preparing (text_of d.save) ++ making (Some d.to.now) d.durability)) judged.noted
     (longer (Opened r.position.now ∷ Opened r.old.now ∷ []) (Opened d.from.now ∷ (preparing (text_of d.save) ++ making (Some d.to.now) d.durability)) _ _
     earlier.follows))
@@ -74,11 +76,12 @@ returns-in_err-source g c =
     let r = c.args.asked.now in
     let d = r.decrypting in
     let e : Ending = c.in_err-source.field-0.0 in
-    let judged = in_order _ _ _ _ _ _ _ _ _ c.in_ok-choice.ensures.chooses.order c.in_ok-secret.ensures in
+    let judged = in_order _ _ _ _ _ _ _ _ _ _ c.in_ok-choice.ensures.chooses.order c.in_ok-secret.ensures in
     let earlier = c.in_ok-position.ensures in
     let both = c.in_err-source.ensures in
-    acts_early _ _ (Resume r) _ _ _ c.from_residual-in_err-source.result e c.from_residual-in_err-source.ensures (both.kept ∙ (earlier.kept ∙ judged.kept))
+    acts_early _ _ (Resume r) _ _ _ _ c.from_residual-in_err-source.result e c.from_residual-in_err-source.ensures (both.kept ∙ (earlier.kept ∙ judged.kept))
     (λ shown. inl both.early)
+    (λ shown. reason_at _ _ (g.F.FileSet.view c.open_both.new.files).events (SourceFails g.F.In.Source.view) e (earlier.kept ∙ judged.kept) (both.reason shown))
     (then_follows _ _ _ (identity_order (text_of d.identity.pass) (text_of d.identity.shared)) (Opened r.position.now ∷ Opened r.old.now ∷ Opened d.from.now ∷ (preparing (text_of d.save) ++ making (Some d.to.now) d.durability)) judged.noted
     (then_follows _ _ _ (Opened r.position.now ∷ Opened r.old.now ∷ [])
     (Opened d.from.now ∷ (preparing (text_of d.save) ++ making (Some d.to.now) d.durability)) earlier.noted both.followed))
@@ -93,13 +96,13 @@ returns-in-Silent g c =
     let view = g.F.FileSet.view in
     let In = g.F.In.Source.view in
     let Out = g.F.Out.Sink.view in
-    let judged = in_order _ _ _ _ _ _ _ _ _ c.in_ok-choice.ensures.chooses.order c.in_ok-secret.ensures in
+    let judged = in_order _ _ _ _ _ _ _ _ _ _ c.in_ok-choice.ensures.chooses.order c.in_ok-secret.ensures in
     let earlier = c.in_ok-position.ensures in
     let both = c.in_ok-source.ensures in
     let run = c.resume_with-resumed in
     let first = c.in_ok-position.old in
     let before = ports (In c.in_ok-source.source) (Out c.in_ok-source.out) in
-    resume_acts _ _ (view c.args.files.now) (view c.open_both.new.files) (view c.conclude.new.files) _ before (ports (In run.new.reader) (Out run.new.writer))
+    resume_acts _ _ (view c.args.files.now) (view c.open_both.new.files) (view c.conclude.new.files) _ _ before (ports (In run.new.reader) (Out run.new.writer))
     (record { source = c.in_ok-source.source; sink = c.in_ok-source.out; is = refl }) (record { source = run.new.reader; sink = run.new.writer; is = refl })
     c.opening_end.result c.conclude.result (both.kept ∙ (earlier.kept ∙ judged.kept)) r c.positions_for-positions.result c.in_ok-identity.identity
     c.in_ok-position.position (In first) (In run.new.old_reader) run.result
@@ -121,14 +124,14 @@ returns g c =
     let view = g.F.FileSet.view in
     let In = g.F.In.Source.view in
     let Out = g.F.Out.Sink.view in
-    let judged = in_order _ _ _ _ _ _ _ _ _ c.in_ok-choice.ensures.chooses.order c.in_ok-secret.ensures in
+    let judged = in_order _ _ _ _ _ _ _ _ _ _ c.in_ok-choice.ensures.chooses.order c.in_ok-secret.ensures in
     let earlier = c.in_ok-position.ensures in
     let both = c.in_ok-source.ensures in
     let run = c.resume_with-resumed-in-Shown in
     let first = c.in_ok-position.old in
     let source = c.with_meter-metered.result.source in
     let before = ports (In source) (Out c.in_ok-source.out) in
-    resume_acts _ _ (view c.args.files.now) (view c.open_both.new.files) (view c.conclude-in-Shown.new.files) _ before (ports (In run.new.reader.source) (Out run.new.writer))
+    resume_acts _ _ (view c.args.files.now) (view c.open_both.new.files) (view c.conclude-in-Shown.new.files) _ _ before (ports (In run.new.reader.source) (Out run.new.writer))
     (record { source = source; sink = c.in_ok-source.out; is = refl }) (record { source = run.new.reader.source; sink = run.new.writer; is = refl })
     c.opening_end-in-Shown.result c.conclude-in-Shown.result (both.kept ∙ (earlier.kept ∙ judged.kept)) r c.positions_for-positions.result c.in_ok-identity.identity
     c.in_ok-position.position (In first) (In run.new.old_reader) run.result
