@@ -16,7 +16,7 @@ use Rattle.age_cli_common.specs.Orders.{order_asked}
 use Rattle.age_cli_common.specs.Reasons.{HasReason}
 use Rattle.age_cli_common.specs.Endings.{is_usage}
 use Rattle.age_cli_common.specs.declared.ending.Ending.{Ending}
-use Rattle.age_cli.specs.Acts.{Acts, EndsBefore, GivesNone, OfEngine, Spares, progress_of}
+use Rattle.age_cli.specs.Acts.{Acts, EndsBefore, GivesNone, HasEnded, OfEngine, OfSomeEngine, Spares, progress_of}
 use Rattle.age_cli.specs.Outcomes.{IsUsage, by_result}
 use Rattle.age_cli.specs.Outputs.{Stops, Writes}
 use Rattle.age_cli.proofs.CommandSteps.{not_well, this_error, just_error}
@@ -53,6 +53,7 @@ module _ (IsPorts : Ports → Type 0) (shows : Bool) (asked : Request) (before a
       → Unshown → Acted
   acts_early e is kept early reason follows judged apart blamed silent = record {
     done = not_well r e is _;
+    ran = not_well r e is _;
     stops = λ shown. this_error r e is _ (inl (kept, early shown, reason shown));
     usage = this_error r e is _ (λ usage. kept);
     blamed = λ shown. this_error r e is _ (blamed shown);
@@ -67,15 +68,16 @@ module _ (IsPorts : Ports → Type 0) (shows : Bool) (asked : Request) (before a
 
   -- a command ended once its engine had run
   pub acts_concluded : OnOk r (shows ≡ true → OfEngine IsPorts asked before.entries (λ engine paths. Writes IsPorts engine paths before.entries after.entries))
-      → (shows ≡ true → IfErr r (λ e. OfEngine IsPorts asked before.entries (λ engine paths. Stops IsPorts engine paths before.entries after.entries e)))
+      → OnOk r (OfSomeEngine IsPorts asked (HasEnded IsPorts)) → (shows ≡ true → IfErr r (λ e. OfEngine IsPorts asked before.entries (λ engine paths. Stops IsPorts engine paths before.entries after.entries e)))
       → IfErr r (λ e. is_usage e ≡ false) → (shows ≡ true → Spares asked before.entries after.entries)
       → Follows (order_asked asked).whole before.events after.events → OnOk r (after.events ≡ before.events ++ (order_asked asked).done)
       → (NamesTwice (order_asked asked).apart → ⊥) → (progress_of asked ≡ Silent → Unshown) → Acted
-  acts_concluded done stops fault spares order finished apart silent =
+  acts_concluded done ran stops fault spares order finished apart silent =
       let impossible : (P : Type 0) → IfErr r (λ e. IsUsage e → P) =
       λ P. IfErr-weaker r _ _ (λ e no usage. absurd (true≢false (sym usage ∙ no))) fault in
       record {
         done = done;
+        ran = ran;
         stops = λ shown. IfErr-weaker r _ _ (λ e s. inr s) (stops shown);
         usage = impossible _;
         blamed = λ shown. impossible _;

@@ -12,7 +12,12 @@ use Rattle.age_fileset.specs.declared.files.OpenFault.TheVariants as create
 use Rattle.age_fileset.specs.Events.{Event, Opened}
 use Rattle.age_fileset.specs.FileSet.{FilesView}
 use Rattle.age_cli_common.specs.Endings.{EndsEarly, is_usage}
+use Rattle.age_cli_common.specs.Choices.{Chooses, IsSecretIn, Makes, file_of}
 use Rattle.age_cli_common.specs.Files.{Files}
+use Rattle.age_cli_common.specs.Identities.{OpensBy}
+use Rattle.age_cli_common.specs.declared.choice.Choice.{Choice}
+use Rattle.age_cli_common.specs.declared.identity.Identity.{Identity}
+use Rattle.age_cli_args.specs.declared.request.IdentityOptions.{IdentityOptions}
 use Rattle.age_cli_common.specs.Reasons.{HasReason, IsUnmade, IsUnread}
 use Rattle.clap.specs.Words.{Text}
 use Rattle.age_cli_common.specs.inner.Endings.{ending_of}
@@ -147,3 +152,13 @@ either_way (Err e) P Q R p q well bad = bad q
 pub in_order : {A : Type 0} (shows : Bool) (a b : List Event) (old new : FilesView) (IsRead : A → Type 0) (IsTwice Blame Failed : Type 0) (r : Result A Ending) → a ≡ b
     → Judges shows a old new IsRead IsTwice Blame Failed r → Judges shows b old new IsRead IsTwice Blame Failed r
 in_order shows a b old new IsRead IsTwice Blame Failed r same judged = subst (λ (order : List Event). Judges shows order old new IsRead IsTwice Blame Failed r) same judged
+
+secret_in : (name : Option Text) (held : Option (List ℕ)) → IsSecretIn (λ q. held) name held
+secret_in (Some name) (Some bytes) = refl
+secret_in (Some name) None = tt
+secret_in None held = tt
+
+-- what a choice made is what the options and some files make
+pub some_files : (options : IdentityOptions) (choice : Choice) (held : Option (List ℕ)) (identity : Identity) → Chooses options choice → Makes choice held identity
+    → (files : Files) × OpensBy files options identity
+some_files options choice held identity chooses makes = (λ q. held, chooses.opens (λ q. held) held identity (secret_in (file_of choice) held) makes)

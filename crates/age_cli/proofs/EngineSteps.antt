@@ -43,7 +43,7 @@ pub left_as : (untouched : Bool) (taken old new : Option (List ℕ)) → (untouc
 left_as true taken old new kept left = inl (kept refl)
 left_as false taken old new kept left = ⊎_elim (λ same. inl same) (λ put. inr (put, refl)) (left refl)
 
-ends_so : {P : Type 0} (end : Result (Unit {0}) Stop) → OnOk end P → IsOk end → P
+pub ends_so : {P : Type 0} (end : Result (Unit {0}) Stop) → OnOk end P → IsOk end → P
 ends_so (Ok done) ends ok = ends
 ends_so (Err stop) ends ok = absurd (true≢false (sym ok))
 

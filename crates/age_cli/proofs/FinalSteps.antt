@@ -1,6 +1,6 @@
 -- What a command did whose engine ran.
 use Rattle.std.proofs.Common.{◌≡◌, ◌∙◌, ◌++◌, ◌∷◌, ap, sym, subst, refl, inl, inr, true, List, [], Bool, Some, None, append-nil}
-use Rattle.std.proofs.Common.{Result, IfOk, IfErr}
+use Rattle.std.proofs.Common.{Result, Ok, Err, OnOk, IfOk, IfErr}
 use Rattle.std.specs.Prelude.{is_some}
 use Rattle.std.proofs.lemmas.Result.{on_ok_weaker, IfErr-weaker}
 use Rattle.age_io.specs.Views.{SourceView}
@@ -33,7 +33,7 @@ use Rattle.age_cli_common.specs.Names.{NamesTwice}
 use Rattle.age_cli_common.specs.Orders.{order_asked, random_name}
 use Rattle.age_cli_common.specs.declared.ending.Ending.{Ending}
 use Rattle.age_cli_common.specs.declared.identity.Identity.{Identity}
-use Rattle.age_cli.specs.Acts.{Acts, OfEngine, Spares, paths_of, progress_of}
+use Rattle.age_cli.specs.Acts.{Acts, HasEnded, OfEngine, OfSomeEngine, Spares, paths_of, progress_of}
 use Rattle.age_cli.specs.Encryptions.{MakesSecret}
 use Rattle.age_cli.specs.Engines.{Engine, sealing, opening, resuming}
 use Rattle.age_cli.specs.Outcomes.{IsUsage, by_result}
@@ -42,12 +42,22 @@ use Rattle.age_cli.specs.Resumptions.{IsPositionIn, old_for}
 use Rattle.age_cli.specs.declared.stop.Stop.{Stop}
 use Rattle.age_cli.specs.inner.Endings.{Concludes, sealing_end, opening_end}
 use Rattle.age_cli.proofs.ActSteps.{acts_concluded}
-use Rattle.age_cli.proofs.EngineSteps.{Kept, kept_sealing, kept_opening, kept_resuming, wrote_out, stopped_out, spared_out}
+use Rattle.age_cli.proofs.CommandStopSteps.{the_run}
+use Rattle.age_cli.proofs.EngineSteps.{Kept, ends_so, kept_sealing, kept_opening, kept_resuming, wrote_out, stopped_out, spared_out}
 use Rattle.age_cli.proofs.EventSteps.{then_concluded, then_closed}
 
 -- IN and OUT were found so
 abbrev pub Found : Paths → Files → Ports → Type 0
 Found p old before = (is_some (old p.from) ≡ true) × (before.source.remaining ≡ old p.from) × (before.sink.taken ≡ Some []) × (before.sink.label ≡ p.to)
+
+-- what follows from an engine that ended
+sealing_ran : {P : Type 0} {Q : Written → Type 0} (r : Result Written FileFault) → ((x : Written) → Q x → P) → IfOk r Q → OnOk (sealing_end r) P
+sealing_ran (Ok x) so q = so x q
+sealing_ran (Err f) so q = tt
+
+opening_ran : {P : Type 0} {Q : Done → Type 0} (r : Result Done Stopped) → ((x : Done) → Q x → P) → IfOk r Q → OnOk (opening_end r) P
+opening_ran (Ok x) so q = so x q
+opening_ran (Err s) so q = tt
 
 -- and so the position and the old text
 abbrev pub WasEarlier : Resuming → Position → Files → SourceView → Type 0
@@ -59,15 +69,17 @@ module _ (IsPorts : Ports → Type 0) (shows : Bool) (asked : Request) (old open
   acts_of_engine : IsPorts before → IsPorts after → (order_asked asked).done ≡ xs ++ (ys ++ making (Some p.to) durability)
       → (order_asked asked).whole ≡ (xs ++ (ys ++ making (Some p.to) durability)) ++ replacing p.save durability
       → (shows ≡ true → (P : Engine → Paths → Type 0) → P engine p → OfEngine IsPorts asked old.entries P)
+      → OnOk end (OfSomeEngine IsPorts asked (HasEnded IsPorts))
       → (SparesBoth (Some p.to) p.save old.entries new.entries → Spares asked old.entries new.entries)
       → opened.entries ≡ old.entries → (shows ≡ true → Found p old.entries before) → after.sink.label ≡ before.sink.label
       → (shows ≡ true → before.sink.taken ≡ Some [] → Kept engine before after end) → Concludes shows p.save durability after.sink end opened new r
       → opened.events ≡ old.events ++ (xs ++ (ys ++ Created p.to ∷ [])) → (NamesTwice (order_asked asked).apart → ⊥) → (p.save ≡ Some p.to → ⊥)
       → (progress_of asked ≡ Silent → Unshown) → Acts IsPorts shows asked old new Failed Unshown (by_result IsUsage r)
-  acts_of_engine before_is after_is done_is whole_is of spares kept found named promise concludes noted apart unsaved silent =
+  acts_of_engine before_is after_is done_is whole_is of ran spares kept found named promise concludes noted apart unsaved silent =
       acts_concluded IsPorts shows asked old new Failed Unshown r
       (on_ok_weaker r (λ wrote shown. of shown (λ e q. Writes IsPorts e q old.entries new.entries) (wrote shown))
       (wrote_out IsPorts engine shows p durability old opened new before after before_is after_is end r kept found named promise concludes))
+      (on_ok_weaker r (λ done. ends_so end ran done.0) concludes.done)
       (λ shown. IfErr-weaker r _ _ (λ e stops. of shown (λ n q. Stops IsPorts n q old.entries new.entries e) stops)
       (stopped_out IsPorts engine shows p durability old opened new before after before_is after_is end r kept found named promise concludes unsaved shown))
       concludes.fault
@@ -93,11 +105,14 @@ module _ (IsPorts : Ports → Type 0) (shows : Bool) (old opened new : FilesView
       acts_of_engine IsPorts shows (Encrypt e) old opened new Failed Unshown (sealing secret) (record { from = e.from.now; to = e.to.now; save = None }) e.durability
       before after end r (Opened e.pass.now ∷ Opened (random_name (text_of e.random)) ∷ []) (Opened e.from.now ∷ []) before_is after_is refl
       refl
-      (λ shown P holds. (secret, made shown, holds)) (λ spared. spared) kept found named
+      (λ shown P holds. (secret, made shown, holds))
+      (subst (λ (n : Result (Unit {0}) Stop). OnOk n (OfSomeEngine IsPorts (Encrypt e) (HasEnded IsPorts))) (sym is)
+      (sealing_ran sealed (λ written sealed_so. (secret, (before, after, before_is, after_is, (written, sealed_so)))) ends)) (λ spared. spared) kept found named
       (λ shown empty. subst (λ (n : Result (Unit {0}) Stop). Kept (sealing secret) before after n) (sym is) (kept_sealing secret before after sealed ends fails empty))
       concludes noted apart (λ same. cc) silent
 
   pub decrypt_acts : (d : Decrypting) (keep : Positions) (identity : Identity) (decrypted : Result Done Stopped)
+      → ((files : Files) × OpensBy files d.identity identity)
       → (shows ≡ true → OpensBy old.entries d.identity identity) → (shows ≡ true → Found (paths_of d) old.entries before)
       → keep ≡ kept_for (text_of d.save) → end ≡ opening_end decrypted → Decrypts keep (allows_by identity) (refuses_by identity) before after decrypted
       → Concludes shows (text_of d.save) d.durability after.sink end opened new r
@@ -105,17 +120,21 @@ module _ (IsPorts : Ports → Type 0) (shows : Bool) (old opened new : FilesView
       ++ ((Opened d.from.now ∷ preparing (text_of d.save)) ++ Created d.to.now ∷ []))
       → (NamesTwice (order_asked (Decrypt d)).apart → ⊥) → (d.progress ≡ Silent → Unshown)
       → Acts IsPorts shows (Decrypt d) old new Failed Unshown (by_result IsUsage r)
-  decrypt_acts d keep identity decrypted opens found keep_is is promise concludes noted apart silent =
+  decrypt_acts d keep identity decrypted by opens found keep_is is promise concludes noted apart silent =
       let k = kept_for (text_of d.save) in
       let did = subst (λ (x : Positions). Decrypts x (allows_by identity) (refuses_by identity) before after decrypted) keep_is promise in
       acts_of_engine IsPorts shows (Decrypt d) old opened new Failed Unshown (opening k identity) (paths_of d) d.durability before after end r
       (identity_order (text_of d.identity.pass) (text_of d.identity.shared)) (Opened d.from.now ∷ preparing (text_of d.save)) before_is after_is refl refl
-      (λ shown P holds. (identity, opens shown, holds)) (λ spared. spared) kept found did.named
+      (λ shown P holds. (identity, opens shown, holds))
+      (subst (λ (n : Result (Unit {0}) Stop). OnOk n (OfSomeEngine IsPorts (Decrypt d) (HasEnded IsPorts))) (sym is)
+      (opening_ran decrypted (λ done so. let of = the_run did.run so in
+      (identity, by, (before, after, before_is, after_is, (done, of.0, of.1)))) did.done)) (λ spared. spared) kept found did.named
       (λ shown empty. subst (λ (n : Result (Unit {0}) Stop). Kept (opening k identity) before after n) (sym is)
       (kept_opening k identity before after did.run decrypted did.done did.stopped empty)) concludes noted apart
       (λ same. apart (inr (inl (inl (d.to.now, same, refl))))) silent
 
   pub resume_acts : (a : Resuming) (keep : Positions) (identity : Identity) (from : Position) (first last : SourceView) (resumed : Result Done Stopped)
+      → ((files : Files) × OpensBy files a.decrypting.identity identity)
       → (shows ≡ true → OpensBy old.entries a.decrypting.identity identity)
       → (shows ≡ true → WasEarlier a from old.entries first)
       → IsPorts (ports first before.sink) → IsPorts (ports last after.sink)
@@ -127,7 +146,7 @@ module _ (IsPorts : Ports → Type 0) (shows : Bool) (old opened new : FilesView
       ++ ((Opened a.position.now ∷ Opened a.old.now ∷ Opened a.decrypting.from.now ∷ preparing (text_of a.decrypting.save)) ++ Created a.decrypting.to.now ∷ []))
       → (NamesTwice (order_asked (Resume a)).apart → ⊥) → (a.decrypting.progress ≡ Silent → Unshown)
       → Acts IsPorts shows (Resume a) old new Failed Unshown (by_result IsUsage r)
-  resume_acts a keep identity from first last resumed opens earlier first_is last_is found keep_is is promise concludes noted apart silent =
+  resume_acts a keep identity from first last resumed by opens earlier first_is last_is found keep_is is promise concludes noted apart silent =
       let d = a.decrypting in
       let k = kept_for (text_of d.save) in
       let engine = resuming IsPorts k identity from (old_for from (old.entries a.old.now)) in
@@ -136,7 +155,11 @@ module _ (IsPorts : Ports → Type 0) (shows : Bool) (old opened new : FilesView
       acts_of_engine IsPorts shows (Resume a) old opened new Failed Unshown engine (paths_of d) d.durability before after end r
       (identity_order (text_of d.identity.pass) (text_of d.identity.shared))
       (Opened a.position.now ∷ Opened a.old.now ∷ Opened d.from.now ∷ preparing (text_of d.save)) before_is after_is refl refl
-      (λ shown P holds. (identity, opens shown, from, (earlier shown).0, (earlier shown).1, holds)) (λ spared. spared) kept found did.named
+      (λ shown P holds. (identity, opens shown, from, (earlier shown).0, (earlier shown).1, holds))
+      (subst (λ (n : Result (Unit {0}) Stop). OnOk n (OfSomeEngine IsPorts (Resume a) (HasEnded IsPorts))) (sym is)
+      (opening_ran resumed (λ done so. let of = the_run did.run so in
+      (identity, by, from, first.remaining, (before, after, before_is, after_is, (first, last, first_is, last_is, refl, (done, of.0, of.1)))))
+      did.done)) (λ spared. spared) kept found did.named
       (λ shown empty. subst (λ (n : Result (Unit {0}) Stop). Kept engine before after n) (sym is)
       (kept_resuming IsPorts k identity from (old_for from (old.entries a.old.now)) before after first last did.run resumed first_is last_is (sym (earlier shown).2)
       did.done did.stopped empty)) concludes noted apart

@@ -21,6 +21,7 @@ pub acts_so : (IsPorts : Ports → Type 0) (shows : Bool) (asked : Request) (bef
     → Implies how other → Acts IsPorts shows asked before after Failed Unshown how → Acts IsPorts shows asked before after Failed Unshown other
 acts_so IsPorts shows asked before after Failed Unshown how other i a = record {
   done = i.done _ a.done;
+  ran = i.done _ a.ran;
   stops = λ shown. i.stopped _ (a.stops shown);
   usage = i.refused _ a.usage;
   blamed = λ shown. i.refused _ (a.blamed shown);

@@ -1,5 +1,5 @@
 -- What a command does of what it is asked.
-use Rattle.std.specs.Prelude.{◌≡◌, ◌⊎◌, Bool, true, ◌++◌, is_some, Some, None}
+use Rattle.std.specs.Prelude.{◌≡◌, ◌⊎◌, ℕ, Bool, true, List, ◌++◌, is_some, Option, Some, None}
 use Rattle.age_file.specs.Ports.{Ports}
 use Rattle.age_file.specs.Secrets.{SecretView}
 use Rattle.age_file.specs.declared.position.Position.{Position}
@@ -79,6 +79,23 @@ module _ (IsPorts : Ports → Type 0) where
       (old_for position (old r.old.now))) (paths_of d)
   OfEngine other old P = Unit {0}
 
+  -- what is asked makes an engine, whatever the files hold, and this holds of it
+  abbrev pub OfSomeEngine : Request → (Engine → Type 0) → Type 0
+  OfSomeEngine (Encrypt e) P = (secret : SecretView) × P (sealing secret)
+  OfSomeEngine (Decrypt d) P = (identity : Identity) × ((old : Files) × OpensBy old d.identity identity)
+      × P (opening (kept_for (text_of d.save)) identity)
+  OfSomeEngine (Resume r) P =
+      let d = r.decrypting in
+      (identity : Identity) × ((old : Files) × OpensBy old d.identity identity)
+      × (position : Position) × (old_text : Option (List ℕ))
+      × P (resuming IsPorts (kept_for (text_of d.save)) identity position old_text)
+  OfSomeEngine other P = Unit {0}
+
+  -- it ended, over a source and a sink of the files
+  abbrev pub HasEnded : Engine → Type 0
+  HasEnded engine = (before : Ports) × (after : Ports) × IsPorts before × IsPorts after
+      × engine.ends before after
+
   -- What stands before and after a command; `shows` says whether contracts see the files, `Failed`
   -- that a source of these failed, and `Unshown` that the progress is as it was.
   pub record Acts (shows : Bool) (asked : Request) (before after : FilesView)
@@ -86,6 +103,8 @@ module _ (IsPorts : Ports → Type 0) where
     -- OUT holds what the engine promises for what the names stood for at the call.
     pub done : how.if_done (shows ≡ true → OfEngine asked before.entries
         (λ engine paths. Writes IsPorts engine paths before.entries after.entries))
+    -- The engine ran, also where contracts don't see the files.
+    pub ran : how.if_done (OfSomeEngine asked HasEnded)
     -- Nothing differs, and 26 and 27 have a reason; or OUT holds what the engine promises for a
     -- stop, and the file of `--save` its position.
     pub stops : shows ≡ true → how.if_stopped (λ ending. ((after.entries ≡ before.entries)

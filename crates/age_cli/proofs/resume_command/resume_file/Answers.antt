@@ -14,7 +14,7 @@ use Rattle.age_fileset.specs.declared.files.OpenFault.TheVariants as create
 use Rattle.age_cli.specs.Acts.{paths_of}
 use Rattle.age_cli.specs.Resumptions.{HoldsNoPosition}
 use Rattle.age_cli.proofs.ActSteps.{acts_early, shown_not_silent}
-use Rattle.age_cli.proofs.CommandSteps.{bad_position, in_order, position_fault, position_reason, reason_at}
+use Rattle.age_cli.proofs.CommandSteps.{bad_position, in_order, position_fault, position_reason, reason_at, some_files}
 use Rattle.age_cli.proofs.FinalSteps.{Found, WasEarlier, resume_acts}
 use Rattle.age_cli_common.proofs.EventSteps.{longer, none_done, then_did, then_follows}
 use Rattle.age_cli.proofs.resume_command.resume_file.Goals as goal
@@ -106,6 +106,7 @@ returns-in-Silent g c =
     (record { source = c.in_ok-source.source; sink = c.in_ok-source.out; is = refl }) (record { source = run.new.reader; sink = run.new.writer; is = refl })
     c.opening_end.result c.conclude.result (both.kept ∙ (earlier.kept ∙ judged.kept)) r c.positions_for-positions.result c.in_ok-identity.identity
     c.in_ok-position.position (In first) (In run.new.old_reader) run.result
+    (some_files _ _ _ _ c.in_ok-choice.ensures.chooses c.in_ok-identity.ensures.makes)
     (λ shown. c.in_ok-choice.ensures.chooses.opens (view c.args.files.now).entries _ _ (judged.read shown).0 c.in_ok-identity.ensures.makes)
     (λ shown. subst (λ (f : Files). WasEarlier r c.in_ok-position.position f (In first)) judged.kept (earlier.found shown))
     (record { source = first; sink = c.in_ok-source.out; is = refl }) (record { source = run.new.old_reader; sink = run.new.writer; is = refl })
@@ -135,6 +136,7 @@ returns g c =
     (record { source = source; sink = c.in_ok-source.out; is = refl }) (record { source = run.new.reader.source; sink = run.new.writer; is = refl })
     c.opening_end-in-Shown.result c.conclude-in-Shown.result (both.kept ∙ (earlier.kept ∙ judged.kept)) r c.positions_for-positions.result c.in_ok-identity.identity
     c.in_ok-position.position (In first) (In run.new.old_reader) run.result
+    (some_files _ _ _ _ c.in_ok-choice.ensures.chooses c.in_ok-identity.ensures.makes)
     (λ shown. c.in_ok-choice.ensures.chooses.opens (view c.args.files.now).entries _ _ (judged.read shown).0 c.in_ok-identity.ensures.makes)
     (λ shown. subst (λ (f : Files). WasEarlier r c.in_ok-position.position f (In first)) judged.kept (earlier.found shown))
     (record { source = first; sink = c.in_ok-source.out; is = refl }) (record { source = run.new.old_reader; sink = run.new.writer; is = refl })
