@@ -79,7 +79,7 @@ has at most 1,000 lines and 1,048,576 bytes, a payload at most 16,777,216 bytes.
 
 pub(crate) const PASS: &str = "File with the passphrase, 1 to 65,536 bytes. The
 passphrase is the file's contents; one trailing newline
-is ignored";
+is ignored. From /dev/tty it is shown as it is typed";
 
 pub(crate) const LOG: &str = "Work factor, 1 to 22 [default: 18]. Opening the file
 takes 2^N KiB of memory; each step doubles the time";
@@ -102,7 +102,8 @@ read or written, except that of --position. Makes
 decryption slower. Best on a disk that OUT can't fill";
 
 pub(crate) const NO_SYNC: &str = "Don't wait until OUT, a regular file or a block device,
-has reached the disk";
+has reached the disk. What is refused late (NFS, a
+quota) isn't noticed then";
 
 pub(crate) const PROGRESS: &str = "Show on standard error, which must not go to OUT, how
 much of IN was read";
