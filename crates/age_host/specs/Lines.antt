@@ -1,5 +1,5 @@
 -- The lines that show how far a run is.
-use Rattle.std.specs.Prelude.{◌≡◌, ◌⊎◌, ℕ, ◌-◌, ◌*◌, ◌/◌, ◌%◌, ◌^◌, min}
+use Rattle.std.specs.Prelude.{◌≡◌, ◌⊎◌, ℕ, ◌+◌, ◌-◌, ◌*◌, ◌/◌, ◌%◌, ◌^◌, min}
 use Rattle.std.specs.Prelude.{Bool, List, ◌++◌, length}
 use Rattle.std.specs.Prelude.{take, codes, decimal, nat_eq, nat_lt, nat_le, Option, None, Some}
 use Rattle.std.specs.Prelude.{if◌then◌else◌}
@@ -33,20 +33,28 @@ amount size bytes = if nat_eq size 1 then decimal bytes
 abbrev pub padded : ℕ → List ℕ → List ℕ
 padded width text = take (width - length text) (codes "      ") ++ text
 
--- the line for a count of bytes, of a length where that is known; it ends in a carriage return, so
--- that the next one is written over it
+-- the line for a count of bytes, with its end
+abbrev pub count_line : List ℕ → ℕ → List ℕ
+count_line end count = padded 6 (amount (measure_of count).size count)
+    ++ (codes " " ++ ((measure_of count).name ++ end))
+
+-- the line for a count of bytes, of a length where that is known and no less; it ends in a carriage
+-- return, so that the next one is written over it, and covers a longer line that it is written over
 abbrev pub line : Option ℕ → ℕ → List ℕ
-line None count = padded 6 (amount (measure_of count).size count)
-    ++ (codes " " ++ ((measure_of count).name ++ codes "\r"))
-line (Some length) count = padded 3 (decimal (percentage length count))
+line None count = count_line (codes "\r") count
+line (Some length) count = if nat_lt length count
+    then count_line (codes "                    \r") count
+    else padded 3 (decimal (percentage length count))
     ++ (codes " %  " ++ (amount (measure_of length).size count
     ++ (codes " of " ++ (amount (measure_of length).size length
     ++ (codes " " ++ ((measure_of length).name ++ codes "\r"))))))
 
--- the percentage, or how often 64 MiB were read where no length is known
+-- the percentage, or how often 64 MiB were read where no length is known, or after all percentages
+-- where more than the length was read
 abbrev pub mark : Option ℕ → ℕ → ℕ
 mark None count = count / 2 ^ 26
-mark (Some length) count = percentage length count
+mark (Some length) count = if nat_lt length count then 101 + count / 2 ^ 26
+    else percentage length count
 
 -- the mark of the first line
 abbrev pub first_mark : Option ℕ → ℕ

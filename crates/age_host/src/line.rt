@@ -2,7 +2,8 @@
 
 ghost use Rattle.std.specs.Prelude.{◌≡◌, ℕ, ◌+◌, ◌-◌, ◌^◌, ◌≤◌, ◌<◌, ◌++◌};
 ghost use Rattle.std.specs.Prelude.{[], Option, length, decimal};
-ghost use Rattle.age_host.specs.Lines.{percentage, measure_of, amount, padded, line, mark};
+ghost use Rattle.age_host.specs.Lines.{percentage, measure_of, amount, padded, count_line, line};
+ghost use Rattle.age_host.specs.Lines.{mark};
 
 use arrayvec::ArrayVec;
 use itoa::Buffer;
@@ -85,16 +86,17 @@ fn push_padded(line: &mut Line, width: usize, text: &[u8])
     push(line, text);
 }
 
-/// The line for a count of bytes where no length is known.
-fn count_line(count: u64) -> Line
-    ensures { result.items ≡ line None count }
+/// The line for a count of bytes, with its end.
+fn count_line(end: &[u8], count: u64) -> Line
+    requires { length end.now ≤ 30 }
+    ensures { result.items ≡ count_line end.now count }
 {
     let measure = measure_of(count);
     let mut line = Line::new();
     push_padded(&mut line, 6, amount_in(measure.size, count).as_slice());
     push(&mut line, b" ");
     push(&mut line, measure.name.as_bytes());
-    push(&mut line, b"\r");
+    push(&mut line, end);
     line
 }
 
@@ -109,6 +111,7 @@ fn percentage(length: u64, count: u64) -> u64
 
 /// The line for a count of bytes out of so many.
 fn share_line(length: u64, count: u64) -> Line
+    requires { count ≤ length }
     ensures { result.items ≡ line (Some length) count }
 {
     let measure = measure_of(length);
@@ -134,18 +137,22 @@ pub(crate) fn line_of(length: Option<u64>, count: u64) -> Line
     ensures { result.items ≡ line length count }
 {
     match length {
-        Some(length) => share_line(length, count),
-        None => count_line(count),
+        Some(length) if count <= length => share_line(length, count),
+        Some(_) => count_line(b"                    \r", count),
+        None => count_line(b"\r", count),
     }
 }
 
-/// The percentage, or how often 64 MiB were read where no length is known.
+/// The percentage, or how often 64 MiB were read where no length is known, or after all percentages
+/// where more than the length was read.
 pub(crate) fn mark_of(length: Option<u64>, count: u64) -> u64
     ensures mark { result ≡ mark length count }
-    ensures small { result ≤ 2 ^ 38 }
+    ensures small { result ≤ 2 ^ 39 }
 {
+    let rounds = count / (64 << 20);
     match length {
-        Some(length) => percentage(length, count),
-        None => count / (64 << 20),
+        Some(length) if count <= length => percentage(length, count),
+        Some(_) => 101 + rounds,
+        None => rounds,
     }
 }

@@ -12,7 +12,8 @@ use age_io::{Meter, Sink};
 /// A meter that shows how far a run is on one line of a sink, which each later line is written
 /// over, as it ends in a carriage return.
 ///
-/// Where the length is known a line is due as the percentage rises, and otherwise with each 64 MiB.
+/// Where the length is known a line is due as the percentage rises, and otherwise, or after more was
+/// read than that, with each 64 MiB.
 /// A contract sees the sink, the length, how many bytes were read, the percentage or the number of
 /// times 64 MiB at which the next line is due, and whether there is a line to end. What the sink
 /// fails to take is left out.
