@@ -126,6 +126,7 @@ impl<'r> HostFiles<'r> {
             Some(prepared) => self.replace_prepared(alloc, prepared, bytes, durability),
             None => {
                 let prepared = Prepared::new(alloc, self.rt, name, None)?;
+                prepared.claim()?;
                 self.replace_prepared(alloc, &prepared, bytes, durability)
             }
         }
@@ -141,7 +142,7 @@ impl<'r> HostFiles<'r> {
         durability: Durability,
     ) -> io::Result<()> {
         let id = prepared.id(self.rt);
-        if !prepared.is_in_place(self.rt)? || is_for_faults(self.rt, id) {
+        if !prepared.is_in_place(self.rt) || is_for_faults(self.rt, id) {
             return Err(io::Error::from(io::ErrorKind::AlreadyExists));
         }
         let opened = self.open.as_slice();
@@ -158,6 +159,9 @@ impl<'r> HostFiles<'r> {
         if is_known(self.open.as_slice(), id) || is_for_faults {
             self.failures.note_used(prepared.name(), is_for_faults);
             return Err(OpenFault::SameFile);
+        }
+        if let Err(error) = prepared.claim() {
+            return self.refuse_output(prepared.name(), error);
         }
         match self.prepared.push(prepared) {
             Ok(()) => Ok(()),
@@ -308,6 +312,20 @@ fn admit_out<'r>(
     }
 }
 
+/// A file that was opened to be written, taken for this run alone.
+fn claimed<'r>(
+    rt: &HostRuntime,
+    out: WatchedOut<'r>,
+    name: &str,
+) -> Result<WatchedOut<'r>, OpenFault>
+    ensures { IfErr result (OpenFails false Write) }
+{
+    match out.claim(rt, name) {
+        Ok(()) => Ok(out),
+        Err(error) => Err(OpenFault::Fault(fault_of(error, FileFault::Write))),
+    }
+}
+
 /// Replaces a file that was prepared, unless it is one that was opened.
 fn replace_apart(
     alloc: Global,
@@ -408,7 +426,8 @@ impl<'r> FileSet for HostFiles<'r> {
         match HostOut::open(alloc, self.rt, name) {
             Ok(out) => {
                 let out = WatchedOut::new(out, name, self.failures);
-                admit_out(self.rt, &mut self.open, self.prepared.as_slice(), out)
+                let out = admit_out(self.rt, &mut self.open, self.prepared.as_slice(), out)?;
+                claimed(self.rt, out, name)
             }
             Err(error) => self.refuse_output(name, error),
         }

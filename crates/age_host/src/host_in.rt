@@ -3,13 +3,18 @@
 ghost use Rattle.std.specs.Prelude.{◌≡◌, None};
 ghost use Rattle.std.specs.Io.{ReadsAtMost};
 
-use crate::host_names::{FileId, Resolved, Stream, above_streams, resolve};
+use crate::host_names::{FileId, Resolved, Stream, above_streams, is_random, resolve};
+use crate::host_retry::{TRIES, is_to_retry, too_many_tries};
 use age_io::{Failed, Source};
 use std::alloc::Global;
-use std::fs::File;
+use std::fs::{File, Metadata};
 use std::io::{self, Read};
 use std::marker::Model;
 use std::rt::{HostRuntime, Stdin};
+
+/// The name of the machine's random bytes. What is read under it is no file that somebody filled:
+/// two runs would take the same keys from it.
+const RANDOM: &str = "/dev/urandom";
 
 /// Where its bytes come from.
 #[derive(Drop)]
@@ -22,10 +27,36 @@ enum Origin {
     Nothing,
 }
 
+impl Origin {
+    /// Reads, and tries again where the machine says to.
+    fn read(&mut self, rt: &HostRuntime, into: &mut [u8]) -> io::Result<usize>
+        ensures { ReadsAtMost result into.new }
+    {
+        for _ in 0..TRIES {
+            match self.read_once(into) {
+                Err(error) if is_to_retry(rt, &error) => {}
+                read => return read,
+            }
+        }
+        Err(too_many_tries())
+    }
+
+    fn read_once(&mut self, into: &mut [u8]) -> io::Result<usize>
+        ensures { ReadsAtMost result into.new }
+    {
+        match self {
+            Origin::File(file) => file.read(into),
+            Origin::Input(input) => input.read(into),
+            Origin::Nothing => Ok(0),
+        }
+    }
+}
+
 /// A file of the machine that is read, or standard input. A contract sees none of its bytes, only
 /// how many pulls have failed and whether the last one did.
 #[derive(Drop)]
 pub struct HostIn {
+    rt: HostRuntime,
     origin: Origin,
     // How many bytes are still to come of a regular file.
     left: Option<u64>,
@@ -65,14 +96,15 @@ impl HostIn {
     ) -> io::Result<(HostIn, Option<FileId>)> {
         match HostIn::open(alloc, rt, name) {
             Err(error) if error.kind() == io::ErrorKind::NotFound => {
-                Ok((HostIn::new(Origin::Nothing, Some(0)), None))
+                Ok((HostIn::new(rt, Origin::Nothing, Some(0)), None))
             }
             opened => opened,
         }
     }
 
-    fn new(origin: Origin, left: Option<u64>) -> HostIn {
+    fn new(rt: &HostRuntime, origin: Origin, left: Option<u64>) -> HostIn {
         HostIn {
+            rt: *rt,
             origin,
             left,
             failed: 0,
@@ -97,36 +129,38 @@ impl HostIn {
         };
         stream.check(rt)?;
         let id = FileId::of_open_stream(rt, stream)?;
-        Ok((HostIn::new(Origin::Input(rt.stdin()), None), id))
+        Ok((HostIn::new(rt, Origin::Input(rt.stdin()), None), id))
     }
 
     fn open_path(rt: &HostRuntime, name: &str) -> io::Result<(HostIn, Option<FileId>)> {
-        HostIn::of_file(above_streams(File::open(rt, name)?)?)
-    }
-
-    fn of_file(file: File) -> io::Result<(HostIn, Option<FileId>)> {
+        let file = above_streams(File::open(rt, name)?)?;
         let metadata = file.metadata()?;
         if metadata.is_dir() {
             return Err(io::Error::from(io::ErrorKind::IsADirectory));
         }
+        if name == RANDOM && !is_random(&metadata) {
+            return Err(io::Error::from(io::ErrorKind::InvalidInput));
+        }
+        Ok(HostIn::of_file(rt, file, &metadata))
+    }
+
+    fn of_file(rt: &HostRuntime, file: File, metadata: &Metadata) -> (HostIn, Option<FileId>) {
         let left = if metadata.is_file() {
             Some(metadata.len())
         } else {
             None
         };
-        let id = FileId::of(&metadata);
-        Ok((HostIn::new(Origin::File(file), left), id))
+        (
+            HostIn::new(rt, Origin::File(file), left),
+            FileId::of(metadata),
+        )
     }
 
     fn read(&mut self, into: &mut [u8]) -> io::Result<usize>
         ensures bound { ReadsAtMost result into.new }
         ensures counted { self.new ≡ self.old }
     {
-        match &mut self.origin {
-            Origin::File(file) => file.read(into),
-            Origin::Input(input) => input.read(into),
-            Origin::Nothing => Ok(0),
-        }
+        self.origin.read(&self.rt, into)
     }
 }
 

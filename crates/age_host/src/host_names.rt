@@ -246,6 +246,11 @@ pub(crate) fn is_on_disk(metadata: &Metadata) -> bool {
     kind.is_file() || kind.is_block_device()
 }
 
+/// Whether a file is the machine's generator of random bytes.
+pub(crate) fn is_random(metadata: &Metadata) -> bool {
+    metadata.file_type().is_char_device() && matches!(metadata.rdev(), 0x108 | 0x109)
+}
+
 /// The metadata of what is at a path, also of a link; `None` if nothing is there.
 pub(crate) fn found_at(rt: &HostRuntime, path: &str) -> io::Result<Option<Metadata>> {
     match fs::symlink_metadata(rt, path) {

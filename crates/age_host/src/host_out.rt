@@ -3,12 +3,14 @@
 ghost use Rattle.std.specs.Prelude.{◌≡◌, [], None, true};
 ghost use Rattle.std.specs.Io.{WritesAtMost};
 
+use crate::host_lock::{lock, remove_own};
 use crate::host_names::{FileId, Resolved, Stream, above_streams, resolve};
-use crate::host_paths::{OUTPUT_MODE, make_file, open_to_write, remove};
+use crate::host_paths::{OUTPUT_MODE, make_file, open_to_write};
+use crate::host_retry::{TRIES, is_to_retry, too_many_tries};
 use crate::host_sync::{sync_file, sync_folder, sync_stream};
 use age_io::{Durability, Failed, Sink};
 use std::alloc::Global;
-use std::fs::{self, File, Metadata};
+use std::fs::File;
 use std::io::{self, IsTerminal, Write};
 use std::marker::Model;
 use std::os::unix::fs::MetadataExt;
@@ -39,11 +41,37 @@ enum Target {
     Faults(Stderr),
 }
 
+impl Target {
+    /// Writes, and tries again where the machine says to.
+    fn write(&mut self, rt: &HostRuntime, from: &[u8]) -> io::Result<usize>
+        ensures { WritesAtMost result from.now }
+    {
+        for _ in 0..TRIES {
+            match self.write_once(from) {
+                Err(error) if is_to_retry(rt, &error) => {}
+                written => return written,
+            }
+        }
+        Err(too_many_tries())
+    }
+
+    fn write_once(&mut self, from: &[u8]) -> io::Result<usize>
+        ensures { WritesAtMost result from.now }
+    {
+        match self {
+            Target::File(out) => out.write(from),
+            Target::Output(output) => output.write(from),
+            Target::Faults(faults) => faults.write(from),
+        }
+    }
+}
+
 /// A file of the machine that is written, or standard output or error. A regular file keeps its
 /// bytes until a put takes some. A contract sees none of them, only how many puts have failed and
 /// whether the last call did.
 #[derive(Drop)]
 pub struct HostOut {
+    rt: HostRuntime,
     target: Target,
     // Which file it is, where that is known.
     id: Option<FileId>,
@@ -66,28 +94,6 @@ fn is_regular(file: &File) -> io::Result<bool> {
     Ok(file.metadata()?.is_file())
 }
 
-/// Whether a file has a name, wherever that is; a pipe or a device needs none.
-fn has_name(file: &File) -> io::Result<bool> {
-    let own = file.metadata()?;
-    Ok(!own.is_file() || own.nlink() > 0)
-}
-
-/// Whether a file is the one at a path, where no link is followed.
-fn is_at(rt: &HostRuntime, own: &Metadata, path: &PathBuf) -> bool {
-    match fs::symlink_metadata(rt, path.as_str()) {
-        Ok(there) => FileId::of(own) == FileId::of(&there),
-        Err(_) => false,
-    }
-}
-
-/// Whether a file is still the one at a path, and still empty.
-fn is_empty_at(rt: &HostRuntime, file: &File, path: &PathBuf) -> bool {
-    match file.metadata() {
-        Ok(own) => own.len() == 0 && is_at(rt, &own, path),
-        Err(_) => false,
-    }
-}
-
 impl OutFile {
     /// Opens a file without emptying it, or makes it where there is none.
     fn open(rt: &HostRuntime, name: &str, path: PathBuf) -> io::Result<OutFile> {
@@ -99,7 +105,7 @@ impl OutFile {
 
     /// A file that was there, in place of what it holds.
     fn of_found(file: File) -> io::Result<OutFile> {
-        let is_named = has_name(&file)?;
+        let is_named = file.metadata()?.nlink() > 0;
         Ok(OutFile {
             file,
             made: None,
@@ -155,17 +161,38 @@ impl OutFile {
         }
     }
 
-    /// Ends it with what was written. Fails where its last name was removed meanwhile, as by
-    /// another run that had made it and stopped.
-    fn finish(&mut self, rt: &HostRuntime, durability: Durability) -> io::Result<()> {
-        self.cut()?;
-        if self.is_named && !has_name(&self.file)? {
+    /// Takes it for this run alone. Fails where another run has it, or where its name leads to it no
+    /// longer, as when another run that had made it has removed it.
+    fn claim(&self, rt: &HostRuntime, name: &str) -> io::Result<()> {
+        lock(&self.file)?;
+        if is_regular(&self.file)? && FileId::at(rt, name) != FileId::of(&self.file.metadata()?) {
             return Err(io::Error::from(io::ErrorKind::NotFound));
         }
-        match durability {
-            Durability::Synced => self.reach_disk(rt),
-            Durability::Buffered => Ok(()),
+        Ok(())
+    }
+
+    /// Ends it with what was written.
+    fn finish(&mut self, rt: &HostRuntime, durability: Durability) -> io::Result<()> {
+        self.cut()?;
+        if durability == Durability::Synced {
+            self.reach_disk(rt)?;
         }
+        self.check_whole()
+    }
+
+    /// Fails where another program has removed its last name meanwhile, or changed its length.
+    fn check_whole(&self) -> io::Result<()> {
+        let own = self.file.metadata()?;
+        if !own.is_file() {
+            return Ok(());
+        }
+        if self.is_named && own.nlink() == 0 {
+            return Err(io::Error::new(io::ErrorKind::NotFound, "it was removed meanwhile"));
+        }
+        if own.len() != self.written {
+            return Err(io::Error::other("another program changed its length"));
+        }
+        Ok(())
     }
 
     /// Waits until it, and its name where opening made it, have reached the disk.
@@ -177,15 +204,22 @@ impl OutFile {
         }
     }
 
-    /// Removes it, if opening made it, it is still the one at its path, and still empty.
+    /// Whether it is empty.
+    fn is_empty(&self) -> bool {
+        match self.file.metadata() {
+            Ok(own) => own.len() == 0,
+            Err(_) => false,
+        }
+    }
+
+    /// Removes it, if opening made it, this run alone has it, and it is still empty.
     fn remove_made(&self, rt: &HostRuntime, durability: Durability) {
         if let Some(path) = &self.made
-            && is_empty_at(rt, &self.file, path)
+            && self.is_empty()
+            && remove_own(rt, &self.file, path.as_str())
+            && durability == Durability::Synced
         {
-            remove(rt, path.as_str());
-            if durability == Durability::Synced {
-                let _ = sync_folder(rt, path);
-            }
+            let _ = sync_folder(rt, path);
         }
     }
 }
@@ -199,8 +233,9 @@ fn cut_file(file: &File, len: u64) -> io::Result<()> {
 }
 
 impl HostOut {
-    fn new(target: Target, id: Option<FileId>) -> HostOut {
+    fn new(rt: &HostRuntime, target: Target, id: Option<FileId>) -> HostOut {
         HostOut {
+            rt: *rt,
             target,
             id,
             failed: 0,
@@ -218,19 +253,19 @@ impl HostOut {
     /// Nothing can be written to standard input.
     pub(crate) fn open(alloc: Global, rt: &HostRuntime, name: &str) -> io::Result<HostOut> {
         match resolve(alloc, rt, name)? {
-            Resolved::Path(path) => HostOut::of_file(OutFile::open(rt, name, path)?),
+            Resolved::Path(path) => HostOut::of_file(rt, OutFile::open(rt, name, path)?),
             Resolved::Stream(stream) => HostOut::of_stream(rt, stream),
         }
     }
 
-    fn of_file(out: OutFile) -> io::Result<HostOut> {
+    fn of_file(rt: &HostRuntime, out: OutFile) -> io::Result<HostOut> {
         let id = FileId::of(&out.file.metadata()?);
-        Ok(HostOut::new(Target::File(out), id))
+        Ok(HostOut::new(rt, Target::File(out), id))
     }
 
     /// A file that is open to be written, in place of what it holds.
-    pub(crate) fn over(file: File) -> io::Result<HostOut> {
-        HostOut::of_file(OutFile::of_found(file)?)
+    pub(crate) fn over(rt: &HostRuntime, file: File) -> io::Result<HostOut> {
+        HostOut::of_file(rt, OutFile::of_found(file)?)
     }
 
     /// A stream that can be written, from where it stands.
@@ -241,7 +276,16 @@ impl HostOut {
             Stream::Output => Target::Output(rt.stdout()),
             Stream::Faults => Target::Faults(rt.stderr()),
         };
-        Ok(HostOut::new(target, FileId::of_open_stream(rt, stream)?))
+        let id = FileId::of_open_stream(rt, stream)?;
+        Ok(HostOut::new(rt, target, id))
+    }
+
+    /// Takes a file for this run alone, so that no two runs write to one.
+    pub(crate) fn claim(&self, rt: &HostRuntime, name: &str) -> io::Result<()> {
+        match &self.target {
+            Target::File(out) => out.claim(rt, name),
+            _ => Ok(()),
+        }
     }
 
     /// Which file it is, where that is known.
@@ -270,11 +314,7 @@ impl HostOut {
         ensures bound { WritesAtMost result from.now }
         ensures counted { self.new ≡ self.old }
     {
-        match &mut self.target {
-            Target::File(out) => out.write(from),
-            Target::Output(output) => output.write(from),
-            Target::Faults(faults) => faults.write(from),
-        }
+        self.target.write(&self.rt, from)
     }
 
     /// Whether puts were tried, and none took a byte.

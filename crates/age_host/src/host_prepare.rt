@@ -1,23 +1,64 @@
 //! A file of the machine that is to be replaced later.
 
-use crate::host_names::{FileId, Node, Resolved, Stream, found_at, is_on_disk, resolve};
+use crate::host_lock::lock;
+use crate::host_names::{
+    FileId, Node, Resolved, Stream, above_streams, found_at, is_on_disk, resolve,
+};
 use crate::host_paths::open_to_write;
 use crate::host_sync::folder_of;
 use std::alloc::Global;
-use std::fs::{self, Metadata};
+use std::fs::{self, File, Metadata};
 use std::io;
 use std::path::PathBuf;
 use std::rt::HostRuntime;
+
+/// What was found where a name leads.
+#[derive(Drop)]
+enum Found {
+    /// Nothing, or a standard stream.
+    Nothing,
+    /// A file that can be written, kept open.
+    File(File),
+    /// A pipe or a character device.
+    Device(Node),
+}
+
+/// A folder that a path leads into.
+#[derive(Drop)]
+enum Folder {
+    /// Its path, without links.
+    Path(PathBuf),
+    /// What it is, where it has no such path, as where that is longer than the system takes.
+    Node(Node),
+}
+
+impl Folder {
+    /// The folder that a path leads into. Fails where that isn't known.
+    fn of(rt: &HostRuntime, path: &PathBuf) -> io::Result<Folder> {
+        match fs::canonicalize(rt, folder_of(path)) {
+            Ok(folder) => Ok(Folder::Path(folder)),
+            Err(error) if error.kind() == io::ErrorKind::OutOfMemory => Err(error),
+            Err(_) => Ok(Folder::Node(Node::of(&fs::metadata(rt, folder_of(path))?))),
+        }
+    }
+
+    fn is_same(&self, other: &Folder) -> bool {
+        match (self, other) {
+            (Folder::Path(one), Folder::Path(other)) => one.as_str() == other.as_str(),
+            (Folder::Node(one), Folder::Node(other)) => one == other,
+            _ => false,
+        }
+    }
+}
 
 /// A file that is to be replaced later: where its name led when that was judged.
 #[derive(Drop)]
 pub(crate) struct Prepared {
     name: String,
     resolved: Resolved,
-    // The folder of its path, without links; `None` where that isn't known.
-    folder: Option<PathBuf>,
-    // The pipe or the device to which the name led, where it was one.
-    device: Option<Node>,
+    // The folder that its path leads into, where a path leads to it.
+    folder: Option<Folder>,
+    found: Found,
     // A file that it may be although that is open.
     spared: Option<FileId>,
 }
@@ -33,26 +74,43 @@ impl Prepared {
         spared: Option<FileId>,
     ) -> io::Result<Prepared> {
         let resolved = resolve(alloc, rt, name)?;
-        let device = match &resolved {
+        let found = match &resolved {
             Resolved::Stream(stream) => check_stream(rt, *stream)?,
             Resolved::Path(path) => check_path(rt, name, path)?,
         };
-        let folder = folder_in(rt, &resolved)?;
+        let folder = folder_in(rt, &resolved, &found)?;
         Ok(Prepared {
             name: String::from_str(alloc, name)?,
             resolved,
             folder,
-            device,
+            found,
             spared,
         })
     }
 
-    /// Whether its path still leads to the same folder, so that no new link is followed.
-    pub(crate) fn is_in_place(&self, rt: &HostRuntime) -> io::Result<bool> {
-        match (&self.folder, folder_in(rt, &self.resolved)?) {
-            (Some(before), Some(now)) => Ok(before.as_str() == now.as_str()),
-            (None, None) => Ok(true),
-            _ => Ok(false),
+    /// Takes the file that was found for this run alone. Fails where another run has it.
+    pub(crate) fn claim(&self) -> io::Result<()> {
+        match &self.found {
+            Found::File(file) => lock(file),
+            _ => Ok(()),
+        }
+    }
+
+    /// Whether this is the file that was found, and so one that this run has claimed.
+    pub(crate) fn has_claimed(&self, node: Node) -> bool {
+        match &self.found {
+            Found::File(file) => matches!(file.metadata(), Ok(own) if Node::of(&own) == node),
+            _ => false,
+        }
+    }
+
+    /// Whether its path still leads into the same folder. What is done there next goes by its path
+    /// again, so somebody who may rename that folder has the moment between.
+    pub(crate) fn is_in_place(&self, rt: &HostRuntime) -> bool {
+        match (&self.folder, folder_in(rt, &self.resolved, &self.found)) {
+            (Some(before), Ok(Some(now))) => before.is_same(&now),
+            (None, Ok(None)) => true,
+            _ => false,
         }
     }
 
@@ -69,9 +127,9 @@ impl Prepared {
     /// The pipe or the device to which the name led, where it was one, with that name: no path may
     /// lead to it, as where the name is that of a descriptor.
     pub(crate) fn device(&self) -> Option<(&str, Node)> {
-        match self.device {
-            Some(node) => Some((self.name.as_str(), node)),
-            None => None,
+        match self.found {
+            Found::Device(node) => Some((self.name.as_str(), node)),
+            _ => None,
         }
     }
 
@@ -82,23 +140,19 @@ impl Prepared {
 
     /// Which file is there now, where that is known, unless it may be open.
     pub(crate) fn id(&self, rt: &HostRuntime) -> Option<FileId> {
-        let found = match self.device {
-            Some(_) => FileId::at(rt, self.name.as_str()),
-            None => id_in(rt, &self.resolved),
+        let found = match self.found {
+            Found::Device(_) => FileId::at(rt, self.name.as_str()),
+            _ => id_in(rt, &self.resolved),
         };
         if found == self.spared { None } else { found }
     }
 }
 
-/// The folder of a path, without links, where that is known.
-fn folder_in(rt: &HostRuntime, resolved: &Resolved) -> io::Result<Option<PathBuf>> {
-    let Resolved::Path(path) = resolved else {
-        return Ok(None);
-    };
-    match fs::canonicalize(rt, folder_of(path)) {
-        Ok(folder) => Ok(Some(folder)),
-        Err(error) if error.kind() == io::ErrorKind::OutOfMemory => Err(error),
-        Err(_) => Ok(None),
+/// The folder that a path leads into; `None` for what no path need lead to.
+fn folder_in(rt: &HostRuntime, resolved: &Resolved, found: &Found) -> io::Result<Option<Folder>> {
+    match (resolved, found) {
+        (Resolved::Stream(_), _) | (_, Found::Device(_)) => Ok(None),
+        (Resolved::Path(path), _) => Ok(Some(Folder::of(rt, path)?)),
     }
 }
 
@@ -114,22 +168,21 @@ fn id_in(rt: &HostRuntime, resolved: &Resolved) -> Option<FileId> {
 }
 
 /// Fails where a stream can't be written.
-fn check_stream(rt: &HostRuntime, stream: Stream) -> io::Result<Option<Node>> {
+fn check_stream(rt: &HostRuntime, stream: Stream) -> io::Result<Found> {
     if let Stream::Input = stream {
         return Err(io::Error::from(io::ErrorKind::Unsupported));
     }
     stream.check(rt)?;
-    Ok(None)
+    Ok(Found::Nothing)
 }
 
-/// Fails where a file can't be written, by the name that leads to it and by its path; says which
-/// pipe or device it is, if it is one.
-fn check_path(rt: &HostRuntime, name: &str, path: &PathBuf) -> io::Result<Option<Node>> {
+/// Fails where a file can't be written, by the name that leads to it and by its path.
+fn check_path(rt: &HostRuntime, name: &str, path: &PathBuf) -> io::Result<Found> {
     match fs::metadata(rt, name) {
         Ok(found) => check_found(rt, name, path, &found),
         Err(error) if error.kind() == io::ErrorKind::NotFound => {
             check_folder(rt, path)?;
-            Ok(None)
+            Ok(Found::Nothing)
         }
         Err(error) => Err(error),
     }
@@ -141,19 +194,21 @@ fn check_found(
     name: &str,
     path: &PathBuf,
     found: &Metadata,
-) -> io::Result<Option<Node>> {
+) -> io::Result<Found> {
     if found.is_dir() {
         return Err(io::Error::from(io::ErrorKind::IsADirectory));
     }
     if !is_on_disk(found) {
-        return Ok(Some(Node::of(found)));
+        return Ok(Found::Device(Node::of(found)));
     }
     match found_at(rt, path.as_str())? {
         Some(there) if FileId::of(&there) == FileId::of(found) => {}
         _ => return Err(io::Error::from(io::ErrorKind::NotFound)),
     }
-    open_to_write(rt, name)?;
-    Ok(None)
+    match open_to_write(rt, name)? {
+        Some(file) => Ok(Found::File(above_streams(file)?)),
+        None => Ok(Found::Nothing),
+    }
 }
 
 /// Fails where no file can be made at a path, since it has no name or its folder isn't there.

@@ -1,8 +1,9 @@
 //! Replaces a file of the machine as a whole.
 
-use crate::host_names::{Node, Resolved, found_at};
+use crate::host_lock::{lock, remove_at, remove_own};
+use crate::host_names::{Node, Resolved, found_at, is_on_disk};
 use crate::host_out::HostOut;
-use crate::host_paths::{POSITION_MODE, make_file, open_to_write, remove};
+use crate::host_paths::{POSITION_MODE, make_file, open_to_write};
 use crate::host_prepare::Prepared;
 use crate::host_sync::{sync, sync_folder};
 use age_fault::write_all;
@@ -10,7 +11,7 @@ use age_io::Durability;
 use std::alloc::Global;
 use std::fs::{self, File, Metadata, Permissions};
 use std::io::{self, Write};
-use std::os::unix::fs::{MetadataExt, PermissionsExt};
+use std::os::unix::fs::{FileTypeExt, MetadataExt, PermissionsExt};
 use std::path::PathBuf;
 use std::rt::HostRuntime;
 
@@ -85,15 +86,20 @@ impl Beside {
         }
     }
 
-    /// Fills it, and puts it in the place of the file at a path.
+    /// Fills it, and puts it in the place of the file at a path. Fails where it isn't in the folder
+    /// that was prepared, as where its path has come to lead elsewhere before it was made.
     fn place(
         &mut self,
         rt: &HostRuntime,
+        prepared: &Prepared,
         path: &PathBuf,
         bytes: &[u8],
         durability: Durability,
     ) -> Result<(), Unplaced> {
         self.fill(bytes, durability)?;
+        if !prepared.is_in_place(rt) {
+            return Err(Unplaced::Failed(io::Error::from(io::ErrorKind::AlreadyExists)));
+        }
         match fs::rename(rt, self.path.as_str(), path.as_str()) {
             Ok(()) => Ok(()),
             Err(_) => Err(Unplaced::NotBeside),
@@ -106,6 +112,7 @@ impl Beside {
 fn replace_beside(
     alloc: Global,
     rt: &HostRuntime,
+    prepared: &Prepared,
     path: &PathBuf,
     replaced: Option<&Metadata>,
     bytes: &[u8],
@@ -113,8 +120,8 @@ fn replace_beside(
 ) -> Result<(), Unplaced> {
     let mut new = make_beside(alloc, rt, path)?;
     new.take_permissions(replaced);
-    if let Err(unplaced) = new.place(rt, path, bytes, durability) {
-        remove(rt, new.path.as_str());
+    if let Err(unplaced) = new.place(rt, prepared, path, bytes, durability) {
+        remove_at(rt, &new.file, new.path.as_str());
         return Err(unplaced);
     }
     match durability {
@@ -147,9 +154,11 @@ fn make_directly(
     bytes: &[u8],
     durability: Durability,
 ) -> io::Result<()> {
-    let out = HostOut::over(make_file(rt, path.as_str(), POSITION_MODE)?)?;
+    let file = make_file(rt, path.as_str(), POSITION_MODE)?;
+    lock(&file)?;
+    let out = HostOut::over(rt, file.try_clone()?)?;
     if let Err(error) = fill_directly(rt, out, bytes, durability) {
-        remove(rt, path.as_str());
+        remove_own(rt, &file, path.as_str());
         return Err(error);
     }
     match durability {
@@ -167,44 +176,80 @@ fn open_found(rt: &HostRuntime, name: &str, found: Node) -> io::Result<File> {
     }
 }
 
+/// The pipe or the device that was found at a name, open to be written. A pipe isn't waited for: it
+/// is open to be read too for a moment, and what is written then fails where nobody else reads it.
+/// Of a pipe that this run may not read, a reader is waited for.
+fn open_device(rt: &HostRuntime, name: &str, found: Node) -> io::Result<File> {
+    if !fs::metadata(rt, name)?.file_type().is_fifo() {
+        return open_found(rt, name, found);
+    }
+    let reader = File::options().read(true).write(true).open(rt, name);
+    let opened = open_found(rt, name, found);
+    drop(reader);
+    opened
+}
+
 /// Makes a file of these bytes at a path where there is none, or a link, which it replaces.
 fn make_at(
     alloc: Global,
     rt: &HostRuntime,
+    prepared: &Prepared,
     path: &PathBuf,
     bytes: &[u8],
     durability: Durability,
 ) -> io::Result<()> {
-    match replace_beside(alloc, rt, path, None, bytes, durability) {
+    match replace_beside(alloc, rt, prepared, path, None, bytes, durability) {
         Ok(()) => Ok(()),
         Err(Unplaced::NotBeside) => make_directly(rt, path, bytes, durability),
         Err(Unplaced::Failed(error)) => Err(error),
     }
 }
 
-/// Replaces the file that was found at a path. What is no regular file is written directly, and so
-/// is one that no other can replace.
+/// Replaces the file that was found at a path. One that no other can replace is written directly.
 fn replace_found(
     alloc: Global,
     rt: &HostRuntime,
+    prepared: &Prepared,
     path: &PathBuf,
     found: &Metadata,
     bytes: &[u8],
     durability: Durability,
 ) -> io::Result<()> {
     let file = open_found(rt, path.as_str(), Node::of(found))?;
+    if !prepared.has_claimed(Node::of(found)) {
+        lock(&file)?;
+    }
     if found.is_file() {
-        match replace_beside(alloc, rt, path, Some(found), bytes, durability) {
+        match replace_beside(alloc, rt, prepared, path, Some(found), bytes, durability) {
             Ok(()) => return Ok(()),
             Err(Unplaced::NotBeside) => {}
             Err(Unplaced::Failed(error)) => return Err(error),
         }
     }
-    fill_directly(rt, HostOut::over(file)?, bytes, durability)
+    fill_directly(rt, HostOut::over(rt, file)?, bytes, durability)
 }
 
-/// Puts a file of these bytes where a name led, without following a link that has come there. A
-/// regular file stays as it is until the new one is whole, where its folder allows that.
+/// Puts a file of these bytes where a path led, without following a link that has come there. What
+/// is no file is refused: a pipe that has come there could be waited for for ever.
+fn replace_at(
+    alloc: Global,
+    rt: &HostRuntime,
+    prepared: &Prepared,
+    path: &PathBuf,
+    bytes: &[u8],
+    durability: Durability,
+) -> io::Result<()> {
+    match found_at(rt, path.as_str())? {
+        Some(found) if is_on_disk(&found) => {
+            replace_found(alloc, rt, prepared, path, &found, bytes, durability)
+        }
+        Some(found) if !found.is_symlink() => { Err(io::Error::from(io::ErrorKind::AlreadyExists)) }
+        _ => make_at(alloc, rt, prepared, path, bytes, durability),
+    }
+}
+
+/// Puts a file of these bytes where a name led. A regular file stays as it is until the new one is
+/// whole, where its folder allows that.
 pub(crate) fn replace(
     alloc: Global,
     rt: &HostRuntime,
@@ -213,18 +258,13 @@ pub(crate) fn replace(
     durability: Durability,
 ) -> io::Result<()> {
     if let Some((name, device)) = prepared.device() {
-        let file = open_found(rt, name, device)?;
-        return fill_directly(rt, HostOut::over(file)?, bytes, durability);
+        let file = open_device(rt, name, device)?;
+        return fill_directly(rt, HostOut::over(rt, file)?, bytes, durability);
     }
     match prepared.resolved() {
         Resolved::Stream(stream) => {
             fill_directly(rt, HostOut::of_stream(rt, *stream)?, bytes, durability)
         }
-        Resolved::Path(path) => match found_at(rt, path.as_str())? {
-            Some(found) if !found.is_symlink() => {
-                replace_found(alloc, rt, path, &found, bytes, durability)
-            }
-            _ => make_at(alloc, rt, path, bytes, durability),
-        },
+        Resolved::Path(path) => replace_at(alloc, rt, prepared, path, bytes, durability),
     }
 }

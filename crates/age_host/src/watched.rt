@@ -98,6 +98,15 @@ impl<'r> WatchedOut<'r> {
         is_for_faults
     }
 
+    /// Takes it for this run alone.
+    pub(crate) fn claim(&self, rt: &HostRuntime, name: &str) -> io::Result<()> {
+        let claimed = self.sink.claim(rt, name);
+        if let Err(error) = claimed {
+            self.failures.note(Action::Write, self.name, error);
+        }
+        claimed
+    }
+
     /// Whether it is a terminal.
     pub(crate) fn is_terminal(&self) -> bool {
         self.sink.is_terminal()
