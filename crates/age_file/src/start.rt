@@ -13,7 +13,7 @@ use crate::position::file_id;
 use crate::reader::Reader;
 use age_fault::FileFault;
 use age_io::Source;
-use age_keys::{FileKey, Unlock, open_header};
+use age_keys::{FileKey, Steps, Unlock, open_header};
 use sha2::Sha256;
 use std::alloc::Global;
 
@@ -104,6 +104,6 @@ pub(crate) fn start<U: Unlock, S: Source>(
     ensures same { SameReader reader.old reader.new }
 {
     let head = read_head(alloc, reader)?;
-    let key = open_header(alloc, &head.header, unlock)?;
+    let key = open_header(alloc, &head.header, unlock, &mut Steps::new())?;
     read_nonce(key, head.digest, reader)
 }
