@@ -8,7 +8,7 @@ ghost use Rattle.age_c.specs.Starts.{IsStarted, IsRefusal};
 use crate::MISUSED;
 use crate::reader::Reader;
 use crate::start::{settle, start};
-use age_keys::{KnownKey, Passphrase, SharedSecret};
+use age_keys::{KnownKey, Passphrase, SharedSecret, Steps};
 use std::alloc::Global;
 
 /// The version of this library: 10,000 times the first number, 100 times the second, and the third.
@@ -41,7 +41,7 @@ pub extern "C" fn age_c_open_passphrase(
     let Some(unlock) = Passphrase::new(pass, max_work) else {
         return MISUSED;
     };
-    settle(start(alloc, &unlock, front), reader)
+    settle(start(alloc, &unlock, front, &mut Steps::new()), reader)
 }
 
 /// Opens the header that `front` begins with by the file's own key, 16 bytes.
@@ -63,7 +63,8 @@ pub extern "C" fn age_c_open_key(
     let Some(key) = file_key.as_array::<16>() else {
         return MISUSED;
     };
-    settle(start(alloc, &KnownKey::new(*key), front), reader)
+    let unlock = KnownKey::new(*key);
+    settle(start(alloc, &unlock, front, &mut Steps::new()), reader)
 }
 
 /// Opens the header that `front` begins with by an X25519 shared secret and the recipient that it
@@ -93,8 +94,6 @@ pub extern "C" fn age_c_open_shared(
     let Some(recipient) = recipient.as_array::<32>() else {
         return MISUSED;
     };
-    settle(
-        start(alloc, &SharedSecret::new(secret, recipient), front),
-        reader,
-    )
+    let unlock = SharedSecret::new(secret, recipient);
+    settle(start(alloc, &unlock, front, &mut Steps::new()), reader)
 }

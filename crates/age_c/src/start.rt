@@ -4,10 +4,11 @@ ghost use Rattle.std.specs.Prelude.{◌≡◌, ◌≢◌, ◌+◌, ◌≤◌, le
 ghost use Rattle.age_stream.specs.Deliveries.{fresh};
 ghost use Rattle.age_c.specs.Readers.{IsAt};
 ghost use Rattle.age_c.specs.Starts.{HasFront, HeadRefuses, IsStarted, StartRefuses, number_of};
+ghost use Rattle.age_c.specs.inner.Counts.{StartCounts};
 
 use crate::MORE;
 use crate::reader::Reader;
-use age_keys::{FileKey, KeyFault, Unlock, open_header};
+use age_keys::{FileKey, KeyFault, Steps, Unlock, open_header};
 use age_stanza::{HeadFault, HeadParser, HeadStep, Header};
 use std::alloc::Global;
 
@@ -83,21 +84,24 @@ fn reader_after(key: &FileKey, front: &[u8], len: usize) -> Reader
     }
 }
 
-/// Opens the header that the bytes begin with, and reads the nonce after it.
+/// Opens the header that the bytes begin with, and reads the nonce after it. The steps of scrypt
+/// are counted, and there is none before a fault that is found by looking at the header.
 pub(crate) fn start<U: Unlock>(
     alloc: Global,
     unlock: &U,
     front: &[u8],
+    steps: &mut Steps,
 ) -> Result<Reader, StartFault>
     ensures started { IfOk result (IsStarted (U.allows unlock.now) front.now) }
     ensures refused { IfErr result
         (StartRefuses (U.allows unlock.now) (U.refuses unlock.now) front.now) }
+    ensures counted { StartCounts (U.most_steps unlock.now) result steps.old steps.new }
 {
     let head = match read_head(alloc, front) {
         Ok(head) => head,
         Err(fault) => return Err(fault),
     };
-    match open_header(alloc, &head.header, unlock) {
+    match open_header(alloc, &head.header, unlock, steps) {
         Ok(key) => Ok(reader_after(&key, front, head.len)),
         Err(fault) => Err(StartFault::Key(fault)),
     }
