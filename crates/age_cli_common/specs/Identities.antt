@@ -6,6 +6,7 @@ use Rattle.age_stanza.specs.declared.header.Header.{Header}
 use Rattle.age_keys.specs.declared.fault.KeyFault.{KeyFault}
 use Rattle.age_keys.specs.Keys.{SpellsKey}
 use Rattle.age_keys.specs.Passphrase.{IsAllowed, IsPassphraseKey, PassphraseRefuses}
+use Rattle.age_keys.specs.Passphrase.{passphrase_steps}
 use Rattle.age_keys.specs.SharedSecret.{Shared, IsSharedKey, SharedRefuses}
 use Rattle.age_cli_common.specs.declared.identity.Identity.{Identity}
 use Rattle.age_cli_common.specs.declared.identity.Identity.TheVariants.{ByPassphrase, ByFileKey}
@@ -25,6 +26,12 @@ abbrev pub refuses_by : Identity → Header → KeyFault → Type 0
 refuses_by (ByPassphrase words) h fault = PassphraseRefuses words h fault
 refuses_by (ByFileKey known) h fault = ⊥
 refuses_by (ByShared shared) h fault = SharedRefuses shared h fault
+
+-- the most steps of scrypt for a header
+abbrev pub steps_by : Identity → ℕ
+steps_by (ByPassphrase words) = passphrase_steps words
+steps_by (ByFileKey known) = 0
+steps_by (ByShared shared) = 0
 
 -- the bytes without one line feed at their end
 abbrev pub without_line_feed : List ℕ → List ℕ

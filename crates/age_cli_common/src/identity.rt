@@ -10,7 +10,9 @@ ghost use Rattle.age_cli_common.specs.Identities.{without_line_feed, IsPassphras
 use crate::ending::{Ending, Usage};
 use crate::first_bytes::read_file;
 use age_fileset::FileSet;
-use age_keys::{FileKey, KeyFault, KnownKey, PASSPHRASE_LIMIT, Passphrase, SharedSecret, Unlock};
+use age_keys::{
+    FileKey, KeyFault, KnownKey, PASSPHRASE_LIMIT, Passphrase, SharedSecret, Steps, Unlock,
+};
 use age_stanza::Header;
 use std::alloc::Global;
 
@@ -26,17 +28,24 @@ pub enum Identity<'a> {
 }
 
 impl<'a> Unlock for Identity<'a> {
-    ghost use Rattle.age_cli_common.specs.Identities.{allows_by, refuses_by};
+    ghost use Rattle.age_cli_common.specs.Identities.{allows_by, refuses_by, steps_by};
 
     ghost allows = { allows_by };
 
     ghost refuses = { refuses_by };
 
-    fn unlock(&self, alloc: Global, header: &Header) -> Result<FileKey, KeyFault> {
+    ghost most_steps = { steps_by };
+
+    fn unlock(
+        &self,
+        alloc: Global,
+        header: &Header,
+        steps: &mut Steps,
+    ) -> Result<FileKey, KeyFault> {
         match self {
-            Identity::ByPassphrase(pass) => pass.unlock(alloc, header),
-            Identity::ByFileKey(key) => key.unlock(alloc, header),
-            Identity::ByShared(shared) => shared.unlock(alloc, header),
+            Identity::ByPassphrase(pass) => pass.unlock(alloc, header, steps),
+            Identity::ByFileKey(key) => key.unlock(alloc, header, steps),
+            Identity::ByShared(shared) => shared.unlock(alloc, header, steps),
         }
     }
 }
