@@ -19,7 +19,7 @@ use age_cli_common::{
 use age_fault::{FileFault, flush_all};
 use age_fileset::{FileSet, OpenFault};
 use age_io::{Sink, Source};
-use age_keys::{FileKey, KeyFault, Passphrase, PayloadKey, open_header, payload_key};
+use age_keys::{FileKey, KeyFault, Passphrase, PayloadKey, Steps, open_header, payload_key};
 use age_stanza::{HEAD_MAX, HeadParser, HeadStep, Header};
 use age_stream::{ClearBox, Delivery, Replay, Status, StreamFault};
 use std::alloc::{AllocError, Global};
@@ -109,7 +109,8 @@ fn open_payload(
     ensures { IfOk result (λ p. p.1 ≤ length bytes.now) }
 {
     let (header, len) = read_header(alloc, bytes, read)?;
-    payload_after(open_header(alloc, &header, unlock), len, bytes, read)
+    let key = open_header(alloc, &header, unlock, &mut Steps::new());
+    payload_after(key, len, bytes, read)
 }
 
 /// The word for where a replay stands, or its fault.

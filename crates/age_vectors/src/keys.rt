@@ -7,7 +7,7 @@ ghost use Rattle.age_keys.specs.Scrypt.{scrypt_head};
 ghost use Rattle.age_vectors.specs.Keys.{OpensIn};
 
 use crate::header::parsed;
-use age_keys::{FileKey, KnownKey, Passphrase, Unlock, open_header, scrypt_header};
+use age_keys::{FileKey, KnownKey, Passphrase, Steps, Unlock, open_header, scrypt_header};
 use age_stanza::{
     Argument, Arguments, Bytes, HEAD_MAX, Header, Stanza, Stanzas, encode_head, is_header,
 };
@@ -42,7 +42,7 @@ fn answer<U: Unlock>(alloc: Global, header: &Header, unlock: &U) -> Result<[u8; 
     if !is_header(header) {
         return Err(0);
     }
-    match open_header(alloc, header, unlock) {
+    match open_header(alloc, header, unlock, &mut Steps::new()) {
         Ok(key) => Ok(*key.bytes()),
         Err(fault) => Err(fault.number()),
     }

@@ -2,8 +2,8 @@ ghost use Rattle.std.specs.Prelude.{◌≤◌, length};
 ghost use Rattle.age_keys.specs.Passphrase.{passphrase_limit};
 
 use age_keys::{
-    FileKey, KeyFault, KnownKey, Passphrase, PayloadKey, X25519Stanza, open_header, payload_key,
-    position_key, scrypt_header,
+    FileKey, KeyFault, KnownKey, Passphrase, PayloadKey, Steps, X25519Stanza, open_header,
+    payload_key, position_key, scrypt_header,
 };
 use age_stanza::{HeadParser, HeadStep, Header, is_header};
 use age_stream::ChunkBox;
@@ -43,7 +43,7 @@ fn header_in(alloc: Global, text: &[u8]) -> Option<Header> {
 
 fn is_opened(alloc: Global, header: &Header, known: &KnownKey) -> bool {
     is_header(header)
-        && match open_header(alloc, header, known) {
+        && match open_header(alloc, header, known, &mut Steps::new()) {
             Ok(key) => is_known(&key),
             Err(_) => false,
         }
@@ -66,7 +66,7 @@ fn is_sealed(key: &PayloadKey) -> bool {
 fn is_refused(alloc: Global, header: &Header, known: &KnownKey) -> bool {
     is_header(header)
         && matches!(
-            &open_header(alloc, header, known),
+            &open_header(alloc, header, known, &mut Steps::new()),
             Err(KeyFault::MacMismatch)
         )
 }
@@ -120,7 +120,7 @@ fn opened(alloc: Global, pass: &[u8]) -> Result<[u8; 16], KeyFault>
         return Err(KeyFault::WrongKey);
     };
     let header = scrypt_header(alloc, pass, 1, &[9; 16], &FileKey::new([7; 16]))?;
-    let key = open_header(alloc, &header, &passphrase)?;
+    let key = open_header(alloc, &header, &passphrase, &mut Steps::new())?;
     Ok(*key.bytes())
 }
 
