@@ -1,13 +1,17 @@
 //! An unlocker of one's own.
 
-ghost use Rattle.std.specs.Prelude.{◌≡◌, ◌⊎◌};
+ghost use Rattle.std.specs.Prelude.{◌≡◌, ◌⊎◌, ◌+◌};
+ghost use Rattle.std.specs.Bool.{MatchBool};
+ghost use Rattle.age_keys.specs.Counts.{is_before_work};
+ghost use Rattle.age_keys.specs.declared.fault.KeyFault.{KeyFault as Fault};
 
-use age_keys::{FileKey, KeyFault, Unlock};
+use age_keys::{FileKey, KeyFault, Steps, Unlock};
 use age_stanza::Header;
 use std::alloc::Global;
 
 /// Two ways to open a file, such as a new passphrase and the one before it: the first that finds a
-/// key counts. What the second refuses is reported.
+/// key counts. What the second refuses is reported, or what the first did if the second only looked
+/// at the header.
 #[derive(Drop)]
 pub struct Either<A: Unlock, B: Unlock> {
     pub first: A,
@@ -17,12 +21,28 @@ pub struct Either<A: Unlock, B: Unlock> {
 impl<A: Unlock, B: Unlock> Unlock for Either<A, B> {
     ghost allows = { λ e header key. A.allows e.first header key ⊎ B.allows e.second header key };
 
-    ghost refuses = { λ e header fault. B.refuses e.second header fault };
+    ghost refuses = { λ e header fault. (second : Fault) × B.refuses e.second header second
+        × MatchBool (is_before_work second) (A.refuses e.first header fault) (fault ≡ second) };
 
-    fn unlock(&self, alloc: Global, header: &Header) -> Result<FileKey, KeyFault> {
-        if let Ok(key) = self.first.unlock(alloc, header) {
-            return Ok(key);
+    ghost most_steps = { λ e. A.most_steps e.first + B.most_steps e.second };
+
+    fn unlock(
+        &self,
+        alloc: Global,
+        header: &Header,
+        steps: &mut Steps,
+    ) -> Result<FileKey, KeyFault> {
+        let first = match self.first.unlock(alloc, header, steps) {
+            Ok(key) => return Ok(key),
+            Err(fault) => fault,
+        };
+        let second = match self.second.unlock(alloc, header, steps) {
+            Ok(key) => return Ok(key),
+            Err(fault) => fault,
+        };
+        if second.is_before_work() {
+            return Err(first);
         }
-        self.second.unlock(alloc, header)
+        Err(second)
     }
 }
