@@ -1,6 +1,6 @@
 //! A file of the machine that is written.
 
-ghost use Rattle.std.specs.Prelude.{◌≡◌, [], None, true};
+ghost use Rattle.std.specs.Prelude.{◌≡◌, [], None, true, false};
 ghost use Rattle.std.specs.Io.{WritesAtMost};
 
 use crate::host_lock::{lock, remove_own};
@@ -233,7 +233,9 @@ fn cut_file(file: &File, len: u64) -> io::Result<()> {
 }
 
 impl HostOut {
-    fn new(rt: &HostRuntime, target: Target, id: Option<FileId>) -> HostOut {
+    fn new(rt: &HostRuntime, target: Target, id: Option<FileId>) -> HostOut
+        ensures { result ≡ (0, false) }
+    {
         HostOut {
             rt: *rt,
             target,
@@ -247,6 +249,13 @@ impl HostOut {
     /// What the machine answered to the last put that failed.
     pub(crate) fn error(&self) -> io::Error {
         self.error
+    }
+
+    /// Standard error, for the lines of faults. Puts fail where the program was started without it.
+    pub fn faults(rt: &HostRuntime) -> HostOut
+        ensures { result ≡ (0, false) }
+    {
+        HostOut::new(rt, Target::Faults(rt.stderr()), None)
     }
 
     /// Opens what a name stands for without emptying it, or makes a file where there is none.

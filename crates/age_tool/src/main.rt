@@ -6,7 +6,8 @@
 use age_cli::run;
 use age_file::{Reading, Writing};
 use age_host::{
-    Failures, Heard, HostFiles, ProgressLine, Watched, announce_reading, explain, explain_words,
+    Failures, Heard, HostFiles, HostOut, ProgressLine, Watched, announce_reading, explain,
+    explain_words,
 };
 use std::alloc::Global;
 use std::io;
@@ -39,12 +40,12 @@ fn unread(rt: &HostRuntime, error: &io::Error) -> ExitCode {
 
 /// Runs the program on the words after its name, over the machine's files and its own standard
 /// streams.
-fn run_words(rt: &HostRuntime, words: &[&str]) -> ExitCode {
+fn run_words<'x>(rt: &'x HostRuntime, words: &'x [&'x str]) -> ExitCode {
     let failures = Failures::new(words);
     let mut files = HostFiles::new(rt, &failures);
     let mut input = Reading::new(Watched::new(rt.reader(), &failures));
     let mut output = Writing::new(Watched::new(io::writer(rt), &failures));
-    let mut faults = Heard::new(Writing::new(rt.stderr()));
+    let mut faults = Heard::new(HostOut::faults(rt));
     let mut progress = ProgressLine::new(Writing::new(rt.stderr()));
     if words.is_empty() {
         announce_reading(rt);
