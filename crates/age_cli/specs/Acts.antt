@@ -82,7 +82,8 @@ module _ (IsPorts : Ports → Type 0) where
   -- what is asked makes an engine, whatever the files hold, and this holds of it
   abbrev pub OfSomeEngine : Request → (Engine → Type 0) → Type 0
   OfSomeEngine (Encrypt e) P = (secret : SecretView) × P (sealing secret)
-  OfSomeEngine (Decrypt d) P = (identity : Identity) × ((old : Files) × OpensBy old d.identity identity)
+  OfSomeEngine (Decrypt d) P =
+      (identity : Identity) × ((old : Files) × OpensBy old d.identity identity)
       × P (opening (kept_for (text_of d.save)) identity)
   OfSomeEngine (Resume r) P =
       let d = r.decrypting in

@@ -56,9 +56,9 @@ pub record Reported (how : Outcome) (Report Unprinted : Type 0) (held : Option (
   pub unprinted : how.if_stopped (λ e. FailsWriting output_old output_new e ⊎ Unprinted)
   pub accepted : how.if_refused ⊥
 
--- `shows` says whether contracts see the files, `IsPorts` which are the ports of those, and `Failed`
--- that a source of them failed. `Unread`, `Unprinted` and `Unshown` say that the input, the output
--- and the progress are as they were.
+-- `shows` says whether contracts see the files, `IsPorts` which are the ports of those, and
+-- `Failed` that a source of them failed. `Unread`, `Unprinted` and `Unshown` say that the input, the
+-- output and the progress are as they were.
 module _ (words : List Text) (shows : Bool) (IsPorts : Ports → Type 0) (before after : Around)
     (Failed Unread Unprinted Unshown : Type 0) (how : Outcome) where
   -- Without words the input is reported.

@@ -23,7 +23,8 @@ fn write_report<I: Source, O: Sink>(
         (O.view output.new).taken) }
     ensures fails { IfErr result (λ f. FailsReport (I.view input.old).remaining (Fault f)) }
     ensures sent { OnOk result ((O.view output.new).settled ≡ true) }
-    ensures unprinted { IfErr result (λ f. FailsWriting (O.view output.old) (O.view output.new) (Fault f)
+    ensures unprinted { IfErr result (λ f.
+        FailsWriting (O.view output.old) (O.view output.new) (Fault f)
         ⊎ (output.new ≡ output.old)) }
 {
     let found = inspect(alloc, input)?;

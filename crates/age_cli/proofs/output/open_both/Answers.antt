@@ -1,11 +1,10 @@
-use Rattle.std.proofs.Common.{◌∙◌, ◌++◌, ◌∷◌, [], refl, Some, subst}
+use Rattle.std.proofs.Common.{◌∙◌, ◌++◌, ◌∷◌, [], refl, Some}
 use Rattle.age_fileset.specs.Events.{Opened, Created}
 use Rattle.age_cli_args.specs.Requests.{text_of}
 use Rattle.age_cli_common.specs.EventOrders.{preparing, making}
 use Rattle.age_cli_common.specs.Endings.{EndsEarly}
 use Rattle.age_cli_common.specs.declared.ending.Ending.{Ending}
 use Rattle.age_cli_common.specs.inner.Endings.{ending_of}
-use Rattle.age_cli_common.specs.Files.{Files}
 use Rattle.age_cli_common.specs.Reasons.{SourceFails}
 use Rattle.age_cli.proofs.CommandSteps.{no_value, not_well, this_error, an_error, created_fault, last_missing, opened_early, open_reason, reason_at}
 use Rattle.age_cli_common.proofs.EventSteps.{followed, longer, then_did, then_follows}
