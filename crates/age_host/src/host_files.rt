@@ -1,6 +1,6 @@
 //! The machine's files.
 
-ghost use Rattle.std.specs.Prelude.{◌≡◌, true, false, None, Some, Err, IfErr, IsErr, IsErrAnd, Contains};
+ghost use Rattle.std.specs.Prelude.{◌≡◌, true, false, None, Some, Err, IfErr, IsErr, Contains};
 ghost use Rattle.age_fault.specs.declared.fault.FileFault.TheVariants.{Read, Write, Memory};
 ghost use Rattle.age_fileset.specs.FileSet.{IsMemoryOr, OpenFails};
 ghost use Rattle.age_fileset.specs.declared.files.OpenFault.TheVariants.{SameFile};
@@ -27,18 +27,18 @@ use std::rt::HostRuntime;
 /// devices and sockets are open to all that write. What is read and gives each of its bytes once is
 /// opened once: a pipe, a socket, a terminal and the like, and standard input, whatever it is.
 #[derive(Drop)]
-pub struct HostFiles<'r> {
+pub struct HostFiles<'r, 'w> {
     rt: &'r HostRuntime,
     open: Vec<FileId>,
     streams: Vec<StreamId>,
     prepared: Vec<Prepared>,
     log: Log,
-    failures: &'r Failures<'r>,
+    failures: &'r Failures<'w>,
 }
 
-impl<'r> HostFiles<'r> {
+impl<'r, 'w> HostFiles<'r, 'w> {
     /// The files that the machine reaches. What fails is kept in `failures`.
-    pub fn new(rt: &'r HostRuntime, failures: &'r Failures<'r>) -> HostFiles<'r> {
+    pub fn new(rt: &'r HostRuntime, failures: &'r Failures<'w>) -> HostFiles<'r, 'w> {
         HostFiles {
             rt,
             open: Vec::new(rt.alloc()),
@@ -69,7 +69,7 @@ impl<'r> HostFiles<'r> {
         &mut self,
         name: &str,
         opened: io::Result<(HostIn, Option<FileId>)>,
-    ) -> Result<WatchedIn<'r>, OpenFault>
+    ) -> Result<WatchedIn<'r, 'w>, OpenFault>
         ensures kept { self.new.log ≡ self.old.log }
         ensures faults { IfErr result (OpenFails false Read) }
     {
@@ -86,13 +86,23 @@ impl<'r> HostFiles<'r> {
         }
     }
 
+    /// Keeps a file that was opened to be written, under its name, and takes it for this run alone.
+    fn admit_created(&mut self, name: &str, out: HostOut) -> Result<WatchedOut<'r, 'w>, OpenFault>
+        ensures kept { self.new.log ≡ self.old.log }
+        ensures faults { IfErr result (OpenFails false Write) }
+    {
+        let out = WatchedOut::new(out, name, self.failures);
+        let out = admit_out(self.rt, &mut self.open, self.prepared.as_slice(), out)?;
+        claimed(self.rt, out, name)
+    }
+
     /// Keeps why a file can't be written, which is the fault.
-    fn refuse_output<T>(&self, name: &str, error: io::Error) -> Result<T, OpenFault>
-        ensures { IsErrAnd result (OpenFails false Write) }
+    fn refusal(&self, name: &str, error: io::Error) -> OpenFault
+        ensures { OpenFails false Write result }
     {
         let action = opening(self.rt, name);
         self.failures.note(action, self.failures.word(name), error);
-        Err(OpenFault::Fault(fault_of(error, FileFault::Write)))
+        OpenFault::Fault(fault_of(error, FileFault::Write))
     }
 
     /// Refuses a name that leads to the same stream as one of the others, and keeps both.
@@ -161,7 +171,7 @@ impl<'r> HostFiles<'r> {
             return Err(OpenFault::SameFile);
         }
         if let Err(error) = prepared.claim() {
-            return self.refuse_output(prepared.name(), error);
+            return Err(self.refusal(prepared.name(), error));
         }
         match self.prepared.push(prepared) {
             Ok(()) => Ok(()),
@@ -288,12 +298,12 @@ fn admit(opened: &mut Vec<FileId>, id: Option<FileId>) -> Result<(), OpenFault>
 
 /// Keeps a file that was opened to be written, where it is none of those that were opened or
 /// prepared before; otherwise it is as it was before.
-fn admit_out<'r>(
+fn admit_out<'r, 'w>(
     rt: &HostRuntime,
     opened: &mut Vec<FileId>,
     prepared: &[Prepared],
-    out: WatchedOut<'r>,
-) -> Result<WatchedOut<'r>, OpenFault>
+    out: WatchedOut<'r, 'w>,
+) -> Result<WatchedOut<'r, 'w>, OpenFault>
     ensures { IfErr result (OpenFails false Write) }
 {
     let other = find_prepared(rt, prepared, out.id());
@@ -313,11 +323,11 @@ fn admit_out<'r>(
 }
 
 /// A file that was opened to be written, taken for this run alone.
-fn claimed<'r>(
+fn claimed<'r, 'w>(
     rt: &HostRuntime,
-    out: WatchedOut<'r>,
+    out: WatchedOut<'r, 'w>,
     name: &str,
-) -> Result<WatchedOut<'r>, OpenFault>
+) -> Result<WatchedOut<'r, 'w>, OpenFault>
     ensures { IfErr result (OpenFails false Write) }
 {
     match out.claim(rt, name) {
@@ -356,10 +366,10 @@ fn fault_of(error: io::Error, other: FileFault) -> FileFault
     }
 }
 
-impl<'r> FileSet for HostFiles<'r> {
-    type In = WatchedIn<'r>;
+impl<'r, 'w> FileSet for HostFiles<'r, 'w> {
+    type In = WatchedIn<'r, 'w>;
 
-    type Out = WatchedOut<'r>;
+    type Out = WatchedOut<'r, 'w>;
 
     ghost shows_bytes = { false };
 
@@ -387,20 +397,20 @@ impl<'r> FileSet for HostFiles<'r> {
         Ok(())
     }
 
-    fn open(&mut self, alloc: Global, name: &str) -> Result<WatchedIn<'r>, OpenFault> {
+    fn open(&mut self, alloc: Global, name: &str) -> Result<WatchedIn<'r, 'w>, OpenFault> {
         self.log.opened(name);
         self.admit_stream(alloc, name)?;
         self.admit_in(name, HostIn::open(alloc, self.rt, name))
     }
 
-    fn open_or_empty(&mut self, alloc: Global, name: &str) -> Result<WatchedIn<'r>, OpenFault> {
+    fn open_or_empty(&mut self, alloc: Global, name: &str) -> Result<WatchedIn<'r, 'w>, OpenFault> {
         self.log.opened(name);
         self.admit_stream(alloc, name)?;
         self.admit_in(name, HostIn::open_or_empty(alloc, self.rt, name))
     }
 
     /// The length of a regular file. Standard input has none.
-    fn length(&self, source: &WatchedIn<'r>) -> Option<u64> {
+    fn length(&self, source: &WatchedIn<'r, 'w>) -> Option<u64> {
         source.length()
     }
 
@@ -417,31 +427,27 @@ impl<'r> FileSet for HostFiles<'r> {
         };
         match Prepared::new(alloc, self.rt, name, spared) {
             Ok(prepared) => self.admit_prepared(prepared),
-            Err(error) => self.refuse_output(name, error),
+            Err(error) => Err(self.refusal(name, error)),
         }
     }
 
-    fn create(&mut self, alloc: Global, name: &str) -> Result<WatchedOut<'r>, OpenFault> {
+    fn create(&mut self, alloc: Global, name: &str) -> Result<WatchedOut<'r, 'w>, OpenFault> {
         self.log.created(name);
         match HostOut::open(alloc, self.rt, name) {
-            Ok(out) => {
-                let out = WatchedOut::new(out, name, self.failures);
-                let out = admit_out(self.rt, &mut self.open, self.prepared.as_slice(), out)?;
-                claimed(self.rt, out, name)
-            }
-            Err(error) => self.refuse_output(name, error),
+            Ok(out) => self.admit_created(name, out),
+            Err(error) => Err(self.refusal(name, error)),
         }
     }
 
-    fn is_for_faults(&self, out: &WatchedOut<'r>) -> bool {
+    fn is_for_faults(&self, out: &WatchedOut<'r, 'w>) -> bool {
         out.is_for_faults(self.rt)
     }
 
-    fn is_terminal(&self, out: &WatchedOut<'r>) -> bool {
+    fn is_terminal(&self, out: &WatchedOut<'r, 'w>) -> bool {
         out.is_terminal()
     }
 
-    fn close(&mut self, out: WatchedOut<'r>, durability: Durability) -> Result<(), FileFault> {
+    fn close(&mut self, out: WatchedOut<'r, 'w>, durability: Durability) -> Result<(), FileFault> {
         self.log.closed(durability);
         match out.close(self.rt, durability) {
             Ok(()) => Ok(()),
@@ -449,7 +455,7 @@ impl<'r> FileSet for HostFiles<'r> {
         }
     }
 
-    fn discard(&mut self, out: WatchedOut<'r>, durability: Durability) {
+    fn discard(&mut self, out: WatchedOut<'r, 'w>, durability: Durability) {
         self.log.closed(durability);
         out.discard(self.rt, durability);
     }

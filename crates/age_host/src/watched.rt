@@ -13,14 +13,14 @@ use std::rt::HostRuntime;
 
 /// A file of the machine that is read, under the name that the command line has for it.
 #[derive(Drop)]
-pub struct WatchedIn<'r> {
+pub struct WatchedIn<'r, 'w> {
     source: HostIn,
-    name: &'r str,
-    failures: &'r Failures<'r>,
+    name: &'w str,
+    failures: &'r Failures<'w>,
 }
 
-impl<'r> WatchedIn<'r> {
-    pub(crate) fn new(source: HostIn, name: &str, failures: &'r Failures<'r>) -> WatchedIn<'r> {
+impl<'r, 'w> WatchedIn<'r, 'w> {
+    pub(crate) fn new(source: HostIn, name: &str, failures: &'r Failures<'w>) -> WatchedIn<'r, 'w> {
         let name = failures.word(name);
         failures.begin_reading(name);
         WatchedIn {
@@ -36,7 +36,7 @@ impl<'r> WatchedIn<'r> {
     }
 }
 
-impl<'r> Source for WatchedIn<'r> {
+impl<'r, 'w> Source for WatchedIn<'r, 'w> {
     ghost view = { λ s. record {
       remaining = None;
       failed = s.source.0;
@@ -61,14 +61,14 @@ impl<'r> Source for WatchedIn<'r> {
 
 /// A file of the machine that is written, under the name that the command line has for it.
 #[derive(Drop)]
-pub struct WatchedOut<'r> {
+pub struct WatchedOut<'r, 'w> {
     sink: HostOut,
-    name: &'r str,
-    failures: &'r Failures<'r>,
+    name: &'w str,
+    failures: &'r Failures<'w>,
 }
 
-impl<'r> WatchedOut<'r> {
-    pub(crate) fn new(sink: HostOut, name: &str, failures: &'r Failures<'r>) -> WatchedOut<'r> {
+impl<'r, 'w> WatchedOut<'r, 'w> {
+    pub(crate) fn new(sink: HostOut, name: &str, failures: &'r Failures<'w>) -> WatchedOut<'r, 'w> {
         WatchedOut {
             sink,
             name: failures.word(name),
@@ -140,7 +140,7 @@ fn closing(durability: Durability) -> Action {
     }
 }
 
-impl<'r> Sink for WatchedOut<'r> {
+impl<'r, 'w> Sink for WatchedOut<'r, 'w> {
     ghost view = { λ s. record {
       taken = None;
       failed = s.sink.0;
@@ -169,19 +169,19 @@ impl<'r> Sink for WatchedOut<'r> {
 
 /// A standard stream, whose failures are kept.
 #[derive(Drop)]
-pub struct Watched<'r, T> {
+pub struct Watched<'r, 'w, T> {
     stream: T,
-    failures: &'r Failures<'r>,
+    failures: &'r Failures<'w>,
 }
 
-impl<'r, T> Watched<'r, T> {
+impl<'r, 'w, T> Watched<'r, 'w, T> {
     /// A stream whose failures are kept.
-    pub fn new(stream: T, failures: &'r Failures<'r>) -> Watched<'r, T> {
+    pub fn new(stream: T, failures: &'r Failures<'w>) -> Watched<'r, 'w, T> {
         Watched { stream, failures }
     }
 }
 
-impl<'r, R: Read> Read for Watched<'r, R> {
+impl<'r, 'w, R: Read> Read for Watched<'r, 'w, R> {
     fn read(&mut self, into: &mut [u8]) -> io::Result<usize> {
         let read = self.stream.read(into);
         if let Err(error) = read {
@@ -191,7 +191,7 @@ impl<'r, R: Read> Read for Watched<'r, R> {
     }
 }
 
-impl<'r, W: Write> Write for Watched<'r, W> {
+impl<'r, 'w, W: Write> Write for Watched<'r, 'w, W> {
     fn write(&mut self, from: &[u8]) -> io::Result<usize> {
         let written = self.stream.write(from);
         if let Err(error) = written {

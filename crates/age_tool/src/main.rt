@@ -40,7 +40,7 @@ fn unread(rt: &HostRuntime, error: &io::Error) -> ExitCode {
 
 /// Runs the program on the words after its name, over the machine's files and its own standard
 /// streams.
-fn run_words<'x>(rt: &'x HostRuntime, words: &'x [&'x str]) -> ExitCode {
+fn run_words<'a>(rt: &'a HostRuntime, words: &'a [&'a str]) -> ExitCode {
     let failures = Failures::new(words);
     let mut files = HostFiles::new(rt, &failures);
     let mut input = Reading::new(Watched::new(rt.reader(), &failures));
