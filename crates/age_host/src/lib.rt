@@ -32,6 +32,7 @@ pub use explaining::explain;
 pub use failures::Failures;
 pub use heard::Heard;
 pub use host_files::HostFiles;
+pub use host_out::HostOut;
 pub use progress_line::ProgressLine;
 pub use unread::{announce_reading, explain_words};
 pub use watched::{Watched, WatchedIn, WatchedOut};
