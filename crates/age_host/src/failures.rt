@@ -68,7 +68,7 @@ impl<'w> fmt::Display for Failure<'w> {
 fn kind_text(kind: io::ErrorKind) -> Option<&'static str> {
     match kind {
         io::ErrorKind::NotFound => Some("No such file or directory"),
-        io::ErrorKind::AlreadyExists => Some("this run uses the file, or its folder has changed"),
+        io::ErrorKind::AlreadyExists => Some("this run uses the file"),
         io::ErrorKind::NotADirectory => Some("Not a directory"),
         io::ErrorKind::IsADirectory => Some("Is a directory"),
         io::ErrorKind::FilesystemLoop => Some("Too many levels of symbolic links"),

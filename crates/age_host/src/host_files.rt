@@ -152,7 +152,8 @@ impl<'r, 'w> HostFiles<'r, 'w> {
         durability: Durability,
     ) -> io::Result<()> {
         let id = prepared.id(self.rt);
-        if !prepared.is_in_place(self.rt) || is_for_faults(self.rt, id) {
+        prepared.check_folder(self.rt)?;
+        if is_for_faults(self.rt, id) {
             return Err(io::Error::from(io::ErrorKind::AlreadyExists));
         }
         let opened = self.open.as_slice();

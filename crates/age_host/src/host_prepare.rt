@@ -104,13 +104,14 @@ impl Prepared {
         }
     }
 
-    /// Whether its path still leads into the same folder. What is done there next goes by its path
-    /// again, so somebody who may rename that folder has the moment between.
-    pub(crate) fn is_in_place(&self, rt: &HostRuntime) -> bool {
+    /// Fails if its path no longer leads into the same folder. What is done there next goes by its
+    /// path again, so somebody who may rename that folder has the moment between.
+    pub(crate) fn check_folder(&self, rt: &HostRuntime) -> io::Result<()> {
         match (&self.folder, folder_in(rt, &self.resolved, &self.found)) {
-            (Some(before), Ok(Some(now))) => before.is_same(&now),
-            (None, Ok(None)) => true,
-            _ => false,
+            (Some(before), Ok(Some(now))) if before.is_same(&now) => Ok(()),
+            (None, Ok(None)) => Ok(()),
+            (_, Err(error)) if error.kind() == io::ErrorKind::OutOfMemory => Err(error),
+            _ => Err(io::Error::other("its folder has changed")),
         }
     }
 

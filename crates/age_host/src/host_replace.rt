@@ -97,9 +97,7 @@ impl Beside {
         durability: Durability,
     ) -> Result<(), Unplaced> {
         self.fill(bytes, durability)?;
-        if !prepared.is_in_place(rt) {
-            return Err(Unplaced::Failed(io::Error::from(io::ErrorKind::AlreadyExists)));
-        }
+        prepared.check_folder(rt)?;
         match fs::rename(rt, self.path.as_str(), path.as_str()) {
             Ok(()) => Ok(()),
             Err(_) => Err(Unplaced::NotBeside),
@@ -243,7 +241,7 @@ fn replace_at(
         Some(found) if is_on_disk(&found) => {
             replace_found(alloc, rt, prepared, path, &found, bytes, durability)
         }
-        Some(found) if !found.is_symlink() => { Err(io::Error::from(io::ErrorKind::AlreadyExists)) }
+        Some(found) if !found.is_symlink() => { Err(io::Error::other("it is no file any more")) }
         _ => make_at(alloc, rt, prepared, path, bytes, durability),
     }
 }

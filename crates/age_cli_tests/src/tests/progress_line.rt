@@ -37,10 +37,10 @@ const ROWS: &[(Runs<'static>, &str)] = &[
     (&[(None, &[64 * MIB - 1])], ""),
     // Nothing is to be read.
     (&[(Some(0), &[0, 0])], "100 %  0 of 0 B\r\n"),
-    // A file grew.
+    // A file grew: no part of its length is shown any more, and the longer line is covered.
     (
         &[(Some(2048), &[1024, 4096, 4096])],
-        " 50 %  1.0 of 2.0 KiB\r100 %  5.0 of 2.0 KiB\r\n",
+        " 50 %  1.0 of 2.0 KiB\r   5.0 KiB                    \r\n",
     ),
     // It begins anew.
     (
