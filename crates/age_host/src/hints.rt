@@ -51,8 +51,8 @@ fn hint_of_payload(number: u8) -> Option<&'static str> {
     match number {
         16 => Some("the file ends after its header: fetch all of it"),
         17 => Some(
-            "the file is damaged or cut off here: fetch it again; \
-             resume goes on from a position that --save saved",
+            "the file is damaged or cut off here, or something was appended to it: \
+             fetch it again; resume goes on from a position that --save saved",
         ),
         18 | 20 => Some(
             "the file is cut off here: fetch the rest; \

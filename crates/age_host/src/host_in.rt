@@ -139,7 +139,7 @@ impl HostIn {
             return Err(io::Error::from(io::ErrorKind::IsADirectory));
         }
         if name == RANDOM && !is_random(&metadata) {
-            return Err(io::Error::from(io::ErrorKind::InvalidInput));
+            return Err(io::Error::other("it isn't the system's random device"));
         }
         Ok(HostIn::of_file(rt, file, &metadata))
     }
