@@ -29,6 +29,9 @@
  * WHAT HOLDS. Each text that a call writes was checked: while nobody forges a tag, the texts of
  * one reader, joined, are a prefix of what the file's writer wrote, and once age_c_end returned 0
  * they are all of it. Before that the text may be cut short: don't act on it as if it were whole.
+ * After age_c_seek the same holds from that chunk on: the texts since then are a prefix of what
+ * follows in the writer's text from the chunk's first byte, and once age_c_end returned 0 they are
+ * all that follows, so that the length of the text is known.
  * An undamaged payload gives all of its text, and each call returns 0. The first whole block that
  * isn't the writer's is refused with 17, and `fault_chunk` is its number. What a writer wrote, from
  * age_c_seal_passphrase to an age_c_seal_end that returned 0, is the age file of the text.
@@ -48,7 +51,7 @@
  *
  * THREADS, SIGNALS, FORK. Any number of calls may run at the same time, on different readers and
  * writers. The library takes no lock, and calls nothing but malloc, realloc, free, memcpy, memmove
- * and memset. So a signal handler may call age_c_block, age_c_end, age_c_seal_block and
+ * and memset. So a signal handler may call age_c_block, age_c_end, age_c_seek, age_c_seal_block and
  * age_c_seal_end, on a reader or writer that the interrupted code isn't using; it may not make the
  * calls that allocate. After fork, both processes may go on with their copy of a reader, but only
  * one of them with a writer; glibc's malloc, and so each call, works in the child of a process with
@@ -60,12 +63,12 @@
  * 22 of age_c_block or age_c_end is kept in the reader. Each later call of these two on it returns
  * that fault again, unless it is misused. After age_c_end returned 0, it returns 0 again if it is
  * given no bytes, and writes nothing; any other call of these two returns AGE_C_TRAILING, unless it
- * is misused.
+ * is misused. age_c_seek ends both: the reader goes on as one that was just begun, at that chunk.
  *
- * MISUSE. A call returns AGE_C_MISUSED if, and only if, a length or a work factor isn't as the
- * call's comment says, or it takes a block or chunk and its reader or writer can't be used: `chunk`
- * is 2^48 or more, a reader's `state` is none of those listed below, or a writer's isn't 1. This is
- * looked at before anything else.
+ * MISUSE. A call returns AGE_C_MISUSED if, and only if, a length, a work factor or a chunk's number
+ * isn't as the call's comment says, or it takes a block or chunk, or goes to one, and its reader or
+ * writer can't be used: `chunk` is 2^48 or more, a reader's `state` is none of those listed below,
+ * or a writer's isn't 1. This is looked at before anything else.
  *
  * The library is for x86-64 Linux: glibc 2.34 or later, and a processor with the instructions of
  * x86-64-v2. Link libage_c.a, which holds all that it needs but the C library; or libage_c.so.
@@ -190,6 +193,13 @@ uint32_t age_c_block(age_c_reader *reader, const uint8_t *block, size_t block_le
 AGE_C_MUST_CHECK
 uint32_t age_c_end(age_c_reader *reader, const uint8_t *rest, size_t rest_len, uint8_t *out,
                    size_t out_len, size_t *written);
+
+/* Goes to a chunk by its number, below 2^48: the next block is that of this chunk. Its text begins
+ * at chunk * AGE_C_CHUNK of the whole text, and its block at reader->payload_at + chunk *
+ * AGE_C_BLOCK of the file. What the reader was given before is forgotten, a fault and an end too.
+ * It isn't known here how many chunks the file has: past the last, no block opens. */
+AGE_C_MUST_CHECK
+uint32_t age_c_seek(age_c_reader *reader, uint64_t chunk);
 
 /* ---- writing ---- */
 

@@ -4,7 +4,7 @@ use Rattle.std.specs.Prelude.{List, [], ◌∷◌, ◌++◌, length, take, if◌
 use Rattle.std.specs.List.{flat_map}
 use Rattle.age_chunk.specs.Payload.{chunk_length, block_length}
 use Rattle.age_stream.specs.Segment.{Segment}
-use Rattle.age_stream.specs.Deliveries.{with_piece, with_end}
+use Rattle.age_stream.specs.Deliveries.{fresh, with_piece, with_end}
 use Rattle.age_c.specs.declared.reader.Reader.{Reader}
 use Rattle.age_c.specs.Answers.{Answers}
 use Rattle.age_c.specs.Numbers.{answer_of, misused}
@@ -32,6 +32,13 @@ pub record TakesEnd (rest : List ℕ) (old : Reader) (answer : ℕ) (text : List
     (new : Reader) : Type 0 where
   pub takes : Takes (after_end rest) old answer text new
   pub done : answer ≡ 0 → new.state ≡ 3
+
+-- the reader is at a chunk as if it had been given nothing: what it was given before, a fault and an
+-- end are forgotten
+pub record GoesTo (chunk : ℕ) (old new : Reader) : Type 0 where
+  pub at : IsAt new (fresh chunk)
+  pub unrefused : new.fault_chunk ≡ 0
+  pub same : SameFile old new
 
 -- the call isn't misused: the reader can be used, and there is a whole block, and room for its text
 pub record IsBlockCall (r : Reader) (block out : List ℕ) : Type 0 where

@@ -18,6 +18,7 @@ mod read;
 mod reader;
 mod seal;
 mod sealing;
+mod seek;
 mod start;
 mod writer;
 
@@ -29,6 +30,7 @@ pub use open::{age_c_open_key, age_c_open_passphrase, age_c_open_shared, age_c_v
 pub use read::{age_c_block, age_c_end};
 pub use reader::Reader;
 pub use seal::{age_c_seal_block, age_c_seal_end, age_c_seal_passphrase};
+pub use seek::age_c_seek;
 pub use writer::Writer;
 
 /// The bytes end inside the header or the payload's nonce: more of the file is needed.
