@@ -1,6 +1,13 @@
 //! Uses: age_cipher
 //!
 //! ChaCha20, Poly1305 and their AEAD over texts of 64 KiB, in place.
+//!
+//! What was tried: the generator asks at every word whether its blocks are used up. `draw_blocks` draws eight words at a
+//! time, so that the compiler can answer. A plain loop over 64 words took a quarter more time; `chunks_exact_mut(8)`, or
+//! four calls for sixteen words each, a fifth. A new generator for every four blocks, an array of words by value, and an
+//! exclusive or of eight words at a time were no better. Poly1305 waits for one product after another, so the two halves
+//! of a part of 4,096 bytes or more are summed at once, which takes two thirds of the time. Two blocks in a turn with the
+//! multiplier's square, which isn't clamped, were no faster, nor were limbs of 44 bits, or three parts.
 #![tactic(auto)]
 
 ghost use Rattle.std.specs.Prelude.{◌≡◌, vec_len, IfOk};

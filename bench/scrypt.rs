@@ -1,6 +1,7 @@
 //! Uses: age_scrypt
 //!
-//! A key at the work factors 14 and 18.
+//! A key at the work factors 14 and 18. The look-up writes the exclusive or of two blocks, and BlockMix reads it again: to
+//! join them would need a second BlockMix, and wasn't done.
 #![tactic(auto)]
 
 ghost use Rattle.std.specs.Prelude.{◌≤◌};
