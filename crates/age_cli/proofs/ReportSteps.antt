@@ -1,10 +1,16 @@
 -- What the status says of an ending.
 use Rattle.std.proofs.Common.{◌≡◌, ◌≤◌, ◌⊎◌, inl, inr, arith, refl, sym, subst, ℕ, Bool, true, false, List, Option, None}
+use Rattle.std.proofs.Common.{Result, Ok, Err}
+use Rattle.age_fault.proofs.Bytes.{Appends-then}
+use Rattle.age_fault.specs.Faults.{HasRisen}
 use Rattle.age_cli_common.specs.Endings.{is_usage}
+use Rattle.age_cli_common.specs.FaultLines.{Announces, ReportsEnding, ReportsRest, Takes, Tells, fault_line}
+use Rattle.age_cli_common.specs.declared.ending.Announcement.{Announcement}
+use Rattle.age_cli_common.specs.declared.ending.Announcement.TheVariants.{Unmade, Made, Failed}
 use Rattle.age_cli.specs.Outcomes.{status_of}
 use Rattle.age_cli_common.specs.declared.ending.Ending.{Ending}
 use Rattle.age_cli_common.specs.declared.ending.Ending.TheVariants.{Words, Usage, Fault, Unsaved}
-use Rattle.age_io.specs.Views.{SourceView}
+use Rattle.age_io.specs.Views.{SinkView, SourceView}
 use Rattle.age_file.specs.Faults.{HeadFails, NoHeadFault}
 use Rattle.age_fault.specs.declared.fault.FileFault.{FileFault}
 use Rattle.age_fault.specs.declared.fault.FileFault.TheVariants.{Head, Key, NonceCut, Stream}
@@ -33,6 +39,45 @@ usage_status (Fault fault) two = absurd (omega (arith, two))
 usage_status (Unsaved fault second) two = absurd (omega (arith, two))
 usage_status (Words text) two = refl
 usage_status (Usage usage) two = refl
+
+-- where nothing is announced, the sink is as it was
+pub unmade : {A : Type 0} (r : Result A Ending) (old new : SinkView) (Quiet : Type 0) → Quiet → Tells Unmade r old new Quiet
+unmade (Ok done) old new Quiet quiet = quiet
+unmade (Err ending) old new Quiet quiet = quiet
+
+-- what is always announced
+pub announced_so : (a : Announcement) (e : Ending) (old new : SinkView) (Quiet : Type 0) → Announces a e old new ⊥ → Announces a e old new Quiet
+announced_so Unmade e old new Quiet h = absurd h
+announced_so Made (Fault fault) old new Quiet h = h
+announced_so Made (Unsaved fault second) old new Quiet h = h
+announced_so Made (Words text) old new Quiet h = absurd h
+announced_so Made (Usage usage) old new Quiet h = absurd h
+announced_so Failed e old new Quiet h = h
+
+-- what an ending leaves of these two views
+abbrev pub Leaves : Ending → SinkView → SinkView → Type 0
+Leaves e old new = ReportsEnding e old.taken new.taken old.failed new.failed
+
+failed_whole : (e : Ending) (old new : SinkView) → HasRisen old.failed new.failed → Leaves e old new
+failed_whole (Fault fault) old new risen = inr risen
+failed_whole (Unsaved fault second) old new risen = inr risen
+failed_whole (Words text) old new risen = tt
+failed_whole (Usage usage) old new risen = tt
+
+second_whole : (fault second : FileFault) (old mid new : SinkView) → Takes fault old mid → Takes second mid new ⊎ HasRisen mid.failed new.failed
+    → Leaves (Unsaved fault second) old new
+second_whole fault second old mid new first (inl took) = inl (Appends-then old.taken mid.taken new.taken (fault_line fault) (fault_line second) first.0 took.0)
+second_whole fault second old mid new first (inr risen) = inr (subst (λ (n : ℕ). HasRisen n new.failed) first.1 risen)
+
+-- what was announced and the rest are the whole report
+pub reported_whole : (a : Announcement) (e : Ending) (old mid new : SinkView) (Quiet : Type 0) → (Quiet → mid ≡ old) → Announces a e old mid Quiet
+    → ReportsRest a e mid new → Leaves e old new
+reported_whole Unmade e old mid new Quiet same quiet rest = subst (λ (s : SinkView). Leaves e s new) (same quiet) rest
+reported_whole Made (Fault fault) old mid new Quiet same first rest = subst (λ (s : SinkView). Leaves (Fault fault) old s) (sym rest) (inl first.0)
+reported_whole Made (Unsaved fault second) old mid new Quiet same first rest = second_whole fault second old mid new first rest
+reported_whole Made (Words text) old mid new Quiet same first rest = tt
+reported_whole Made (Usage usage) old mid new Quiet same first rest = tt
+reported_whole Failed e old mid new Quiet same risen rest = subst (λ (s : SinkView). Leaves e old s) (sym rest) (failed_whole e old mid risen)
 
 -- a report that fails has the fault of what was read
 pub report_fails : (old new : SourceView) (f : FileFault) → HeadFails NoHeadFault old new f → FailsReport old.remaining (Fault f)

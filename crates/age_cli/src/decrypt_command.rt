@@ -5,6 +5,7 @@ ghost use Rattle.age_cli_args.specs.Requests.{text_of};
 ghost use Rattle.age_cli_args.specs.declared.request.Request.TheVariants.{Decrypt};
 ghost use Rattle.age_cli_common.specs.Choices.{IsEnough, IsSecretIn, bytes_of, file_of};
 ghost use Rattle.age_cli_common.specs.EventOrders.{opening};
+ghost use Rattle.age_cli_common.specs.FaultLines.{Tells};
 ghost use Rattle.age_cli_common.specs.Names.{NamesTwice};
 ghost use Rattle.age_cli_common.specs.Orders.{order_asked};
 ghost use Rattle.age_cli_common.specs.Reasons.{SourceFails};
@@ -18,10 +19,10 @@ ghost use Rattle.age_cli.specs.inner.Openings.{Judges};
 use crate::output::{Content, Output, conclude, open_both, with_meter};
 use crate::stop::opening_end;
 use age_cli_args::{Decrypting, ProgressOption};
-use age_cli_common::{Choice, Ending, Usage};
+use age_cli_common::{Announcement, Choice, Ending, Usage};
 use age_file::{Positions, decrypt_with};
 use age_fileset::FileSet;
-use age_io::Meter;
+use age_io::{Meter, Sink};
 use std::alloc::Global;
 
 /// Whether a name is given, and stands for the same file as another.
@@ -98,17 +99,23 @@ pub(crate) fn read_secret<F: FileSet>(
     Ok(choice.read(alloc, files)?)
 }
 
-/// Decrypts a file as asked. If it stops, its position is saved.
-pub fn decrypt_file<F: FileSet, P: Meter>(
+/// Decrypts a file as asked. If it stops, the line of its fault is put to `faults`, and then its
+/// position is saved. What `told` says isn't reported is left to `report_ending`.
+pub fn decrypt_file<F: FileSet, E: Sink, P: Meter>(
     alloc: Global,
     files: &mut F,
     asked: &Decrypting<'_>,
+    faults: &mut E,
+    told: &mut Announcement,
     progress: &mut P,
 ) -> Result<(), Ending>
-    ensures { Acts (PortsOf F.In.view F.Out.view) (F.shows_bytes) (Decrypt asked.now)
+    ensures announced { Tells told.new result (E.view faults.old) (E.view faults.new)
+        (faults.new ≡ faults.old) }
+    ensures acts { Acts (PortsOf F.In.view F.Out.view) (F.shows_bytes) (Decrypt asked.now)
         (F.view files.old) (F.view files.new) (SourceFails F.In.view)
         (progress.new ≡ progress.old) (by_result IsUsage result) }
 {
+    *told = Announcement::Unmade;
     let is_file_named_twice = names_a_file_twice(files, asked);
     let choice = Choice::of(&asked.identity)?;
     let read = [asked.identity.pass, asked.identity.shared, Some(asked.from)];
@@ -126,14 +133,30 @@ pub fn decrypt_file<F: FileSet, P: Meter>(
     match asked.progress {
         ProgressOption::Silent => {
             let opened = decrypt_with(alloc, positions, &identity, &mut source, &mut out);
-            conclude(alloc, files, out, &output, opening_end(opened))
+            conclude(
+                alloc,
+                files,
+                out,
+                &output,
+                faults,
+                told,
+                opening_end(opened),
+            )
         }
         ProgressOption::Shown => {
             let mut metered = with_meter(files, source, &mut *progress);
             let opened = decrypt_with(alloc, positions, &identity, &mut metered, &mut out);
             drop(metered);
             progress.end();
-            conclude(alloc, files, out, &output, opening_end(opened))
+            conclude(
+                alloc,
+                files,
+                out,
+                &output,
+                faults,
+                told,
+                opening_end(opened),
+            )
         }
     }
 }

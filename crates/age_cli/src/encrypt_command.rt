@@ -9,6 +9,7 @@ ghost use Rattle.age_cli_args.specs.declared.request.Request.TheVariants.{Encryp
 ghost use Rattle.age_cli_common.specs.Endings.{EndsEarly, is_usage};
 ghost use Rattle.age_file.specs.Secrets.{SecretView};
 ghost use Rattle.age_cli_common.specs.Files.{Files};
+ghost use Rattle.age_cli_common.specs.FaultLines.{Tells};
 ghost use Rattle.age_cli_common.specs.Names.{NamesTwice};
 ghost use Rattle.age_cli_common.specs.Orders.{order_asked, random_name};
 ghost use Rattle.age_cli_common.specs.Reasons.{SourceFails, HasReason};
@@ -24,10 +25,10 @@ ghost use Rattle.age_cli.specs.inner.Randoms.{IsRandom, IsMaterialIn};
 use crate::output::{Content, Output, conclude, open_both, with_meter};
 use crate::stop::sealing_end;
 use age_cli_args::{Encrypting, ProgressOption};
-use age_cli_common::{Choice, Ending, Usage, read_first, trimmed};
+use age_cli_common::{Announcement, Choice, Ending, Usage, read_first, trimmed};
 use age_file::{Secret, Source, encrypt};
 use age_fileset::FileSet;
-use age_io::Meter;
+use age_io::{Meter, Sink};
 use std::alloc::Global;
 
 /// Where random bytes come from if no file is named.
@@ -192,17 +193,23 @@ fn secret_of<'a>(asked: &Encrypting<'_>, material: &'a Material) -> Result<Secre
     }
 }
 
-/// Encrypts a file as asked.
-pub fn encrypt_file<F: FileSet, P: Meter>(
+/// Encrypts a file as asked. If it stops, the line of its fault is put to `faults`. What
+/// `told` says isn't reported is left to `report_ending`.
+pub fn encrypt_file<F: FileSet, E: Sink, P: Meter>(
     alloc: Global,
     files: &mut F,
     asked: &Encrypting<'_>,
+    faults: &mut E,
+    told: &mut Announcement,
     progress: &mut P,
 ) -> Result<(), Ending>
-    ensures { Acts (PortsOf F.In.view F.Out.view) (F.shows_bytes) (Encrypt asked.now)
+    ensures announced { Tells told.new result (E.view faults.old) (E.view faults.new)
+        (faults.new ≡ faults.old) }
+    ensures acts { Acts (PortsOf F.In.view F.Out.view) (F.shows_bytes) (Encrypt asked.now)
         (F.view files.old) (F.view files.new) (SourceFails F.In.view)
         (progress.new ≡ progress.old) (by_result IsUsage result) }
 {
+    *told = Announcement::Unmade;
     let material = read_material(alloc, files, asked)?;
     let secret = secret_of(asked, &material)?;
     let output = Output {
@@ -216,14 +223,30 @@ pub fn encrypt_file<F: FileSet, P: Meter>(
     match asked.progress {
         ProgressOption::Silent => {
             let sealed = encrypt(alloc, &secret, &mut source, &mut out);
-            conclude(alloc, files, out, &output, sealing_end(sealed))
+            conclude(
+                alloc,
+                files,
+                out,
+                &output,
+                faults,
+                told,
+                sealing_end(sealed),
+            )
         }
         ProgressOption::Shown => {
             let mut metered = with_meter(files, source, &mut *progress);
             let sealed = encrypt(alloc, &secret, &mut metered, &mut out);
             drop(metered);
             progress.end();
-            conclude(alloc, files, out, &output, sealing_end(sealed))
+            conclude(
+                alloc,
+                files,
+                out,
+                &output,
+                faults,
+                told,
+                sealing_end(sealed),
+            )
         }
     }
 }

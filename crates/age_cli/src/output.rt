@@ -6,15 +6,16 @@ ghost use Rattle.age_cli_common.specs.Endings.{EndsEarly, is_usage};
 ghost use Rattle.age_fileset.specs.Events.{Opened, Created, Closed};
 ghost use Rattle.age_cli_args.specs.Requests.{text_of};
 ghost use Rattle.age_cli_common.specs.EventOrders.{preparing, making};
+ghost use Rattle.age_cli_common.specs.FaultLines.{Tells};
 ghost use Rattle.age_cli_common.specs.Files.{SparesBut};
 ghost use Rattle.age_cli_common.specs.Reasons.{SourceFails, HasReason};
 ghost use Rattle.age_cli.specs.inner.Endings.{Concludes, EndsOut};
 ghost use Rattle.age_cli.specs.inner.Openings.{Opens};
 
 use crate::stop::{Stop, end_of};
-use age_cli_common::{Ending, Usage};
+use age_cli_common::{Announcement, Ending, Usage};
 use age_fileset::FileSet;
-use age_io::{Durability, Meter, Metered};
+use age_io::{Durability, Meter, Metered, Sink};
 use std::alloc::Global;
 
 /// What an output holds.
@@ -169,19 +170,31 @@ fn end_out<F: FileSet>(
     }
 }
 
-/// Ends the output once the engine returned, and saves the position of a stop.
-pub(crate) fn conclude<F: FileSet>(
+/// Ends the output once the engine returned, announces the fault of a stop, and saves its position.
+pub(crate) fn conclude<F: FileSet, E: Sink>(
     alloc: Global,
     files: &mut F,
     out: F::Out,
     asked: &Output<'_>,
+    faults: &mut E,
+    told: &mut Announcement,
     engine: Result<(), Stop>,
 ) -> Result<(), Ending>
-    ensures { Concludes (F.shows_bytes) (text_of asked.now.save) asked.now.durability
+    ensures announced { Tells told.new result (E.view faults.old) (E.view faults.new)
+        (faults.new ≡ faults.old) }
+    ensures concludes { Concludes (F.shows_bytes) (text_of asked.now.save) asked.now.durability
         (F.Out.view out) engine (F.view files.old) (F.view files.new) result }
 {
     match end_out(files, out, asked.durability, engine) {
         Ok(()) => Ok(()),
-        Err(stop) => Err(end_of(alloc, files, asked.save, stop, asked.durability)),
+        Err(stop) => Err(end_of(
+            alloc,
+            files,
+            asked.save,
+            stop,
+            asked.durability,
+            faults,
+            told,
+        )),
     }
 }

@@ -8,6 +8,7 @@ ghost use Rattle.clap.specs.Words.{kind_of};
 ghost use Rattle.clap.specs.Walk.{texts};
 ghost use Rattle.age_cli.specs.Engines.{PortsOf};
 ghost use Rattle.age_cli.specs.Obeying.{around, IsRefusal, Obeys, Prints, FailsWriting};
+ghost use Rattle.age_cli_common.specs.FaultLines.{Tells};
 ghost use Rattle.age_cli_common.specs.Reasons.{SourceFails};
 ghost use Rattle.age_cli.specs.Outcomes.{by_result, status_of};
 ghost use Rattle.age_cli.specs.Runs.{Runs};
@@ -18,7 +19,7 @@ use crate::encrypt_command::encrypt_file;
 use crate::inspect_command::{report, report_file};
 use crate::resume_command::resume_file;
 use age_cli_args::{Request, read_request};
-use age_cli_common::{Ending, Usage, put_bytes, report_ending};
+use age_cli_common::{Announcement, Ending, Usage, put_bytes, report_ending};
 use age_drill::drill_file;
 use age_file::{FileFault, Sink, Source, flush_all};
 use age_fileset::FileSet;
@@ -51,20 +52,25 @@ fn answer_refusal<O: Sink>(alloc: Global, error: Error, output: &mut O) -> Resul
 }
 
 /// Does what the words ask for.
-fn obey<F: FileSet, I: Source, O: Sink, P: Meter>(
+fn obey<F: FileSet, I: Source, O: Sink, E: Sink, P: Meter>(
     alloc: Global,
     words: &[&str],
     files: &mut F,
     input: &mut I,
     output: &mut O,
+    faults: &mut E,
+    told: &mut Announcement,
     progress: &mut P,
 ) -> Result<(), Ending>
-    ensures { Obeys (texts words.now) (F.shows_bytes) (PortsOf F.In.view F.Out.view)
+    ensures announced { Tells told.new result (E.view faults.old) (E.view faults.new)
+        (faults.new ≡ faults.old) }
+    ensures obeys { Obeys (texts words.now) (F.shows_bytes) (PortsOf F.In.view F.Out.view)
         (around (F.view files.old) (I.view input.old).remaining (O.view output.old))
         (around (F.view files.new) (I.view input.new).remaining (O.view output.new))
         (SourceFails F.In.view) (input.new ≡ input.old) (output.new ≡ output.old)
         (progress.new ≡ progress.old) (by_result IsRefusal result) }
 {
+    *told = Announcement::Unmade;
     if words.is_empty() {
         return report(alloc, input, output);
     }
@@ -76,9 +82,9 @@ fn obey<F: FileSet, I: Source, O: Sink, P: Meter>(
     match &request {
         Request::Inspect(Some(name)) => report_file(alloc, files, name, output),
         Request::Inspect(None) => report(alloc, input, output),
-        Request::Encrypt(asked) => encrypt_file(alloc, files, asked, progress),
-        Request::Decrypt(asked) => decrypt_file(alloc, files, asked, progress),
-        Request::Resume(asked) => resume_file(alloc, files, asked, progress),
+        Request::Encrypt(asked) => encrypt_file(alloc, files, asked, faults, told, progress),
+        Request::Decrypt(asked) => decrypt_file(alloc, files, asked, faults, told, progress),
+        Request::Resume(asked) => resume_file(alloc, files, asked, faults, told, progress),
         Request::Drill(asked) => drill_file(alloc, files, asked, output),
     }
 }
@@ -120,10 +126,13 @@ pub fn run<F: FileSet, I: Source, O: Sink, E: Sink, P: Meter>(
         (E.view faults.old) (E.view faults.new) (SourceFails F.In.view) (faults.new ≡ faults.old)
         (input.new ≡ input.old) (output.new ≡ output.old) (progress.new ≡ progress.old) result }
 {
-    match obey(alloc, words, files, input, output, progress) {
+    let mut told = Announcement::Unmade;
+    match obey(
+        alloc, words, files, input, output, faults, &mut told, progress,
+    ) {
         Ok(()) => 0,
         Err(ending) => {
-            report_ending(faults, &ending);
+            report_ending(faults, &ending, told);
             status(&ending)
         }
     }

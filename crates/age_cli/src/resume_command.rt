@@ -7,6 +7,7 @@ ghost use Rattle.age_fileset.specs.FileSet.{OpenFails};
 ghost use Rattle.age_fileset.specs.declared.files.OpenFault.TheVariants as OpenFault;
 ghost use Rattle.age_cli_args.specs.declared.request.Request.TheVariants.{Resume};
 ghost use Rattle.age_cli_common.specs.EventOrders.{Follows};
+ghost use Rattle.age_cli_common.specs.FaultLines.{Tells};
 ghost use Rattle.age_cli_common.specs.Names.{NamesTwice};
 ghost use Rattle.age_cli_common.specs.Orders.{order_asked};
 ghost use Rattle.age_cli_common.specs.Reasons.{SourceFails, IsUnread};
@@ -19,10 +20,10 @@ use crate::decrypt_command::{is_given_as, names_a_file_twice, positions_for, rea
 use crate::output::{Content, Output, conclude, open_both, with_meter};
 use crate::stop::opening_end;
 use age_cli_args::{ProgressOption, Resuming};
-use age_cli_common::{Choice, Ending, read_file};
+use age_cli_common::{Announcement, Choice, Ending, read_file};
 use age_file::{FileFault, Position, resume_with};
 use age_fileset::{FileSet, OpenFault};
-use age_io::Meter;
+use age_io::{Meter, Sink};
 use std::alloc::Global;
 
 /// A position's file has fewer bytes.
@@ -126,17 +127,23 @@ fn open_earlier<F: FileSet>(
     Ok((position, old))
 }
 
-/// Continues a decryption as asked. If it stops, its position is saved.
-pub fn resume_file<F: FileSet, P: Meter>(
+/// Continues a decryption as asked. If it stops, the line of its fault is put to `faults`, and then
+/// its position is saved. What `told` says isn't reported is left to `report_ending`.
+pub fn resume_file<F: FileSet, E: Sink, P: Meter>(
     alloc: Global,
     files: &mut F,
     asked: &Resuming<'_>,
+    faults: &mut E,
+    told: &mut Announcement,
     progress: &mut P,
 ) -> Result<(), Ending>
-    ensures { Acts (PortsOf F.In.view F.Out.view) (F.shows_bytes) (Resume asked.now)
+    ensures announced { Tells told.new result (E.view faults.old) (E.view faults.new)
+        (faults.new ≡ faults.old) }
+    ensures acts { Acts (PortsOf F.In.view F.Out.view) (F.shows_bytes) (Resume asked.now)
         (F.view files.old) (F.view files.new) (SourceFails F.In.view)
         (progress.new ≡ progress.old) (by_result IsUsage result) }
 {
+    *told = Announcement::Unmade;
     let wanted = &asked.decrypting;
     let is_file_named_twice = names_one_twice(files, asked);
     let choice = Choice::of(&wanted.identity)?;
@@ -170,7 +177,15 @@ pub fn resume_file<F: FileSet, P: Meter>(
                 &mut old,
                 &mut out,
             );
-            conclude(alloc, files, out, &output, opening_end(resumed))
+            conclude(
+                alloc,
+                files,
+                out,
+                &output,
+                faults,
+                told,
+                opening_end(resumed),
+            )
         }
         ProgressOption::Shown => {
             let mut metered = with_meter(files, source, &mut *progress);
@@ -185,7 +200,15 @@ pub fn resume_file<F: FileSet, P: Meter>(
             );
             drop(metered);
             progress.end();
-            conclude(alloc, files, out, &output, opening_end(resumed))
+            conclude(
+                alloc,
+                files,
+                out,
+                &output,
+                faults,
+                told,
+                opening_end(resumed),
+            )
         }
     }
 }

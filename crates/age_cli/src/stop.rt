@@ -5,14 +5,15 @@ ghost use Rattle.age_cli_args.specs.Requests.{text_of};
 ghost use Rattle.age_cli_common.specs.Endings.{is_usage};
 ghost use Rattle.age_cli.specs.Outputs.{SaveFails, EndsOf};
 ghost use Rattle.age_cli_common.specs.EventOrders.{Follows, replacing};
+ghost use Rattle.age_cli_common.specs.FaultLines.{Announces};
 ghost use Rattle.age_cli_common.specs.Files.{SparesBoth};
 ghost use Rattle.age_cli.specs.inner.Endings.{is_memory, sealing_end, opening_end};
 ghost use Rattle.age_cli.specs.inner.Files.{Saves};
 
-use age_cli_common::Ending;
+use age_cli_common::{Announcement, Ending, announce};
 use age_file::{Done, FileFault, Position, Stopped, Written};
 use age_fileset::FileSet;
-use age_io::Durability;
+use age_io::{Durability, Sink};
 use std::alloc::Global;
 
 /// Why a command stopped, and what it leaves.
@@ -97,14 +98,18 @@ fn save<F: FileSet>(
     files.replace(alloc, name, text.as_slice(), durability)
 }
 
-/// How a command ends that stopped, once its position is saved.
-pub(crate) fn end_of<F: FileSet>(
+/// How a command ends that stopped, once its position is saved. The line of its fault is put before
+/// that, since what the position goes to may block.
+pub(crate) fn end_of<F: FileSet, E: Sink>(
     alloc: Global,
     files: &mut F,
     name: Option<&str>,
     stop: Stop,
     durability: Durability,
+    faults: &mut E,
+    told: &mut Announcement,
 ) -> Ending
+    ensures announced { Announces told.new result (E.view faults.old) (E.view faults.new) ⊥ }
     ensures fault { is_usage result ≡ false }
     ensures ends { F.shows_bytes ≡ true → EndsOf stop.fault (text_of name.entry) stop.position
         (F.view files.old).entries (F.view files.new).entries result }
@@ -113,6 +118,7 @@ pub(crate) fn end_of<F: FileSet>(
     ensures others { F.shows_bytes ≡ true → SparesBoth None (text_of name.entry)
         (F.view files.old).entries (F.view files.new).entries }
 {
+    *told = announce(faults, stop.fault);
     match save(alloc, files, name, stop.position, durability) {
         Ok(()) => Ending::Fault(stop.fault),
         Err(second) => Ending::Unsaved(stop.fault, second),

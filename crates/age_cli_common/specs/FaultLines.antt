@@ -1,11 +1,15 @@
 -- The lines in which faults are reported.
-use Rattle.std.specs.Prelude.{◌⊎◌, ℕ, List, [], ◌++◌, codes, decimal, nat_le, Option, Some, None}
+use Rattle.std.specs.Prelude.{◌≡◌, ◌⊎◌, ℕ, List, [], ◌++◌, codes, decimal, nat_le, Option, Some, None}
+use Rattle.std.specs.Prelude.{Result, Ok, Err}
 use Rattle.std.specs.Prelude.{if◌then◌else◌}
 use Rattle.std.specs.Io.KnownBytes.{Appends}
+use Rattle.age_io.specs.Views.{SinkView}
 use Rattle.age_fault.specs.Faults.{number_of, name_of, place_of, HasRisen}
 use Rattle.age_fault.specs.declared.fault.FileFault.{FileFault}
 use Rattle.age_cli_common.specs.declared.ending.Ending.{Ending}
 use Rattle.age_cli_common.specs.declared.ending.Ending.TheVariants.{Words, Usage, Fault, Unsaved}
+use Rattle.age_cli_common.specs.declared.ending.Announcement.{Announcement}
+use Rattle.age_cli_common.specs.declared.ending.Announcement.TheVariants.{Unmade, Made, Failed}
 
 -- ` line L` of a header's fault, ` chunk I` of a payload's
 abbrev pub place_text : ℕ → Option ℕ → List ℕ
@@ -31,3 +35,31 @@ ReportsEnding (Unsaved fault second) old new failed_old failed_new =
     TakesOrFails old new failed_old failed_new (fault_line fault ++ fault_line second)
 ReportsEnding (Words text) old new failed_old failed_new = Unit {0}
 ReportsEnding (Usage usage) old new failed_old failed_new = Unit {0}
+
+-- a sink took the line of a fault, and counted no failure
+abbrev pub Takes : FileFault → (old new : SinkView) → Type 0
+Takes fault old new = Appends old.taken new.taken (fault_line fault) × (new.failed ≡ old.failed)
+
+-- what an announcement left: nothing, if it wasn't made, which is what `Quiet` says; the line of the
+-- fault that ended the run; or a sink that failed
+abbrev pub Announces : Announcement → Ending → (old new : SinkView) → (Quiet : Type 0) → Type 0
+Announces Unmade ending old new Quiet = Quiet
+Announces Made (Fault fault) old new Quiet = Takes fault old new
+Announces Made (Unsaved fault second) old new Quiet = Takes fault old new
+Announces Made other old new Quiet = ⊥
+Announces Failed ending old new Quiet = HasRisen old.failed new.failed
+
+-- and what was reported after it: the ending, if it wasn't made; and otherwise the line of a second
+-- fault, unless the first couldn't be put
+abbrev pub ReportsRest : Announcement → Ending → (old new : SinkView) → Type 0
+ReportsRest Unmade ending old new = ReportsEnding ending old.taken new.taken old.failed new.failed
+ReportsRest Made (Unsaved fault second) old new = Takes second old new
+    ⊎ HasRisen old.failed new.failed
+ReportsRest Made other old new = new ≡ old
+ReportsRest Failed ending old new = new ≡ old
+
+-- what a command announced, by its result
+abbrev pub Tells : {A : Type 0} → Announcement → Result A Ending → (old new : SinkView)
+    → (Quiet : Type 0) → Type 0
+Tells announcement (Ok done) old new Quiet = Quiet
+Tells announcement (Err ending) old new Quiet = Announces announcement ending old new Quiet

@@ -13,8 +13,8 @@ mod put;
 mod reporting;
 
 pub use choice::Choice;
-pub use ending::{Ending, Usage};
+pub use ending::{Announcement, Ending, Usage};
 pub use first_bytes::{fill_first, read_file, read_first, read_up_to};
 pub use identity::{Identity, read_pass, trimmed};
 pub use put::put_bytes;
-pub use reporting::report_ending;
+pub use reporting::{announce, report_ending};

@@ -3,9 +3,12 @@
 ghost use Rattle.std.specs.Prelude.{◌≡◌, ◌++◌, [], decimal, Some, true};
 ghost use Rattle.age_fault.specs.Faults.{number_of, place_of};
 ghost use Rattle.age_cli_common.specs.FaultLines.{place_text, fault_line, ReportsEnding};
+ghost use Rattle.age_cli_common.specs.FaultLines.{Announces, ReportsRest};
+ghost use Rattle.age_cli_common.specs.declared.ending.Ending.TheVariants.{Fault};
+ghost use Rattle.age_cli_common.specs.declared.ending.Announcement.TheVariants.{Made};
 ghost use Rattle.age_cli_common.specs.inner.Puts.{PutsAll};
 
-use crate::ending::{Ending, Usage};
+use crate::ending::{Announcement, Ending, Usage};
 use crate::put::put_bytes;
 use age_fault::{FileFault, flush_all};
 use age_io::{Failed, Sink};
@@ -164,10 +167,45 @@ fn put_ending<E: Sink>(faults: &mut E, ending: &Ending) -> Result<(), FileFault>
     flush_all(faults)
 }
 
-/// Reports why a run ended, where the sink takes it.
-pub fn report_ending<E: Sink>(faults: &mut E, ending: &Ending)
-    ensures { ReportsEnding ending.now (E.view faults.old).taken (E.view faults.new).taken
-        (E.view faults.old).failed (E.view faults.new).failed }
+/// One line, sent on.
+fn send_fault<E: Sink>(faults: &mut E, fault: FileFault) -> Result<(), FileFault>
+    ensures { PutsAll (fault_line fault) (E.view faults.old) (E.view faults.new) result }
 {
-    let _ = put_ending(faults, ending);
+    put_fault(faults, fault)?;
+    flush_all(faults)
+}
+
+/// Puts the line of the fault that ended a run, before a position is saved, which may wait.
+pub fn announce<E: Sink>(faults: &mut E, fault: FileFault) -> Announcement
+    ensures { Announces result (Fault fault) (E.view faults.old) (E.view faults.new) ⊥ }
+{
+    match send_fault(faults, fault) {
+        Ok(()) => Announcement::Made,
+        Err(_) => Announcement::Failed,
+    }
+}
+
+/// Reports that a position couldn't be saved, if that is so.
+fn report_second<E: Sink>(faults: &mut E, ending: &Ending)
+    ensures { ReportsRest Made ending.now (E.view faults.old) (E.view faults.new) }
+{
+    match ending {
+        Ending::Words(_) | Ending::Usage(_) | Ending::Fault(_) => {}
+        Ending::Unsaved(_, second) => {
+            let _ = send_fault(faults, *second);
+        }
+    }
+}
+
+/// Reports why a run ended, where the sink takes it, apart from what is announced.
+pub fn report_ending<E: Sink>(faults: &mut E, ending: &Ending, announcement: Announcement)
+    ensures { ReportsRest announcement ending.now (E.view faults.old) (E.view faults.new) }
+{
+    match announcement {
+        Announcement::Unmade => {
+            let _ = put_ending(faults, ending);
+        }
+        Announcement::Made => report_second(faults, ending),
+        Announcement::Failed => {}
+    }
 }

@@ -11,13 +11,14 @@ use Rattle.age_cli_common.specs.declared.ending.Ending.{Ending}
 use Rattle.age_cli_common.specs.declared.ending.Ending.TheVariants.{Usage}
 use Rattle.age_cli.specs.Outputs.{Paths}
 use Rattle.age_cli.proofs.CommandSteps.{reason_at}
+use Rattle.age_cli.proofs.ReportSteps.{unmade}
 use Rattle.age_cli.proofs.ActSteps.{acts_early, shown_not_silent}
 use Rattle.age_cli.proofs.FinalSteps.{Found, encrypt_acts}
 use Rattle.age_cli_common.proofs.EventSteps.{longer, then_did, then_follows}
 use Rattle.age_cli.proofs.encrypt_command.encrypt_file.Goals as goal
 
-pub returns-in_err-material : goal.returns-in_err-material
-returns-in_err-material g c =
+pub returns-in_err-material-clause-acts : goal.returns-in_err-material-clause-acts
+returns-in_err-material-clause-acts g c =
     let a = c.args.asked.now in
     let e : Ending = c.in_err-material.field-0.0 in
     let judged = c.in_err-material.ensures in
@@ -25,8 +26,11 @@ returns-in_err-material g c =
     (longer _ (Opened a.from.now ∷ making (Some a.to.now) a.durability) _ _ judged.followed) (λ shown usage. judged.followed)
     (λ twice. judged.apart twice) judged.blamed refl
 
-pub returns-in_err-secret : goal.returns-in_err-secret
-returns-in_err-secret g c =
+pub returns-in_err-material-clause-announced : goal.returns-in_err-material-clause-announced
+returns-in_err-material-clause-announced g c = unmade c.from_residual.result _ _ _ refl
+
+pub returns-in_err-secret-clause-acts : goal.returns-in_err-secret-clause-acts
+returns-in_err-secret-clause-acts g c =
     let a = c.args.asked.now in
     let e : Ending = Usage c.in_err-secret.field-0.0 in
     let judged = c.in_ok-material.ensures in
@@ -35,8 +39,11 @@ returns-in_err-secret g c =
     (λ twice. absurd (judged.apart twice).1)
     (λ shown usage. inr (λ secret makes. c.in_err-secret.ensures.none (g.F.FileSet.view c.args.files.now).entries (judged.read shown) secret makes)) refl
 
-pub returns-in_err-source : goal.returns-in_err-source
-returns-in_err-source g c =
+pub returns-in_err-secret-clause-announced : goal.returns-in_err-secret-clause-announced
+returns-in_err-secret-clause-announced g c = unmade c.from_residual-in_err-secret.result _ _ _ refl
+
+pub returns-in_err-source-clause-acts : goal.returns-in_err-source-clause-acts
+returns-in_err-source-clause-acts g c =
     let a = c.args.asked.now in
     let e : Ending = c.in_err-source.field-0.0 in
     let judged = c.in_ok-material.ensures in
@@ -48,8 +55,11 @@ returns-in_err-source g c =
     (λ shown usage. absurd (true≢false (sym usage ∙ both.fault shown)))
     (λ twice. absurd (judged.apart twice).1) (λ shown usage. absurd (true≢false (sym usage ∙ both.fault shown))) refl
 
-pub returns-in-Silent : goal.returns-in-Silent
-returns-in-Silent g c =
+pub returns-in_err-source-clause-announced : goal.returns-in_err-source-clause-announced
+returns-in_err-source-clause-announced g c = unmade c.from_residual-in_err-source.result _ _ _ refl
+
+pub returns-in-Silent-clause-acts : goal.returns-in-Silent-clause-acts
+returns-in-Silent-clause-acts g c =
     let a = c.args.asked.now in
     let paths : Paths = record { from = a.from.now; to = a.to.now; save = None } in
     let view = g.F.FileSet.view in
@@ -64,12 +74,15 @@ returns-in-Silent g c =
     c.sealing_end.result c.conclude.result (both.kept ∙ judged.kept) a c.in_ok-secret.secret run.result
     (λ shown. c.in_ok-secret.ensures.makes (view c.args.files.now).entries (judged.read shown))
     (λ shown. subst (λ (f : Files). Found paths f before) judged.kept (both.opened shown))
-    c.sealing_end.ensures run.ensures.done run.ensures.fails run.ensures.named c.conclude.ensures
+    c.sealing_end.ensures run.ensures.done run.ensures.fails run.ensures.named c.conclude.ensures.concludes
     (then_did _ _ _ (Opened a.pass.now ∷ Opened (random_name (text_of a.random)) ∷ []) (Opened a.from.now ∷ Created a.to.now ∷ []) judged.noted both.noted)
     (λ twice. absurd (judged.apart twice).1) (λ silent. refl)
 
-pub returns : goal.returns
-returns g c =
+pub returns-in-Silent-clause-announced : goal.returns-in-Silent-clause-announced
+returns-in-Silent-clause-announced g c = c.conclude.ensures.announced
+
+pub returns-clause-acts : goal.returns-clause-acts
+returns-clause-acts g c =
     let a = c.args.asked.now in
     let paths : Paths = record { from = a.from.now; to = a.to.now; save = None } in
     let view = g.F.FileSet.view in
@@ -86,6 +99,9 @@ returns g c =
     (λ shown. c.in_ok-secret.ensures.makes (view c.args.files.now).entries (judged.read shown))
     (λ shown. let f = both.opened shown in
     subst (λ (f : Files). Found paths f before) judged.kept (f.0, ap (λ s. (In s).remaining) c.with_meter-metered.ensures ∙ f.1, f.2, f.3))
-    c.sealing_end-in-Shown.ensures run.ensures.done run.ensures.fails run.ensures.named c.conclude-in-Shown.ensures
+    c.sealing_end-in-Shown.ensures run.ensures.done run.ensures.fails run.ensures.named c.conclude-in-Shown.ensures.concludes
     (then_did _ _ _ (Opened a.pass.now ∷ Opened (random_name (text_of a.random)) ∷ []) (Opened a.from.now ∷ Created a.to.now ∷ []) judged.noted both.noted)
     (λ twice. absurd (judged.apart twice).1) (λ silent. absurd (shown_not_silent (sym c.in-Shown.is ∙ silent)))
+
+pub returns-clause-announced : goal.returns-clause-announced
+returns-clause-announced g c = c.conclude-in-Shown.ensures.announced

@@ -4,11 +4,12 @@ use Rattle.age_cli_args.specs.Requests.{text_of}
 use Rattle.age_cli_common.specs.EventOrders.{replacing}
 use Rattle.age_cli.specs.inner.Endings.{Left}
 use Rattle.age_cli.proofs.CommandStopSteps.{ends_from}
+use Rattle.age_cli.proofs.ReportSteps.{announced_so}
 use Rattle.age_cli_common.proofs.EventSteps.{followed, longer, then_follows}
 use Rattle.age_cli.proofs.output.conclude.Goals as goal
 
-pub returns-in-Ok : goal.returns-in-Ok
-returns-in-Ok g c =
+pub returns-in-Ok-clause-concludes : goal.returns-in-Ok-clause-concludes
+returns-in-Ok-clause-concludes g c =
     let out = c.in-Ok.ensures in
     let a = c.args.asked.now in
     record {
@@ -20,8 +21,8 @@ returns-in-Ok g c =
       order_done = out.noted;
     }
 
-pub returns-in-Err : goal.returns-in-Err
-returns-in-Err g c =
+pub returns-in-Err-clause-concludes : goal.returns-in-Err-clause-concludes
+returns-in-Err-clause-concludes g c =
     let out = c.in-Err.ensures in
     let ended = c.end_of.ensures in
     let a = c.args.asked.now in
@@ -44,3 +45,6 @@ returns-in-Err g c =
       order = then_follows _ _ _ (Closed a.durability ∷ []) (replacing (text_of a.save) a.durability) out.noted ended.noted;
       order_done = tt;
     }
+
+pub returns-in-Err-clause-announced : goal.returns-in-Err-clause-announced
+returns-in-Err-clause-announced g c = announced_so _ _ _ _ _ c.end_of.ensures.announced

@@ -4,19 +4,23 @@ use Rattle.clap.specs.Walk.{texts}
 use Rattle.age_cli_args.specs.Requests.{Requests}
 use Rattle.age_cli_args.specs.declared.request.Request.TheVariants.{Inspect, Encrypt, Decrypt, Resume, Drill}
 use Rattle.age_cli.proofs.ObeySteps.{no_words, some_words, asked_fails, lacks, report_fault, reported_by, for_help, help_done, no_help, refused_unprinted, refuses, refuses_so, drill_acts, inspect_acts}
+use Rattle.age_cli.proofs.ReportSteps.{unmade}
 use Rattle.age_cli.proofs.RunSteps.{acts_so}
 use Rattle.age_cli.proofs.program.obey.Goals as goal
 
-pub returns-then-is_empty : goal.returns-then-is_empty
-returns-then-is_empty g c = inl (record {
+pub returns-then-is_empty-clause-obeys : goal.returns-then-is_empty-clause-obeys
+returns-then-is_empty-clause-obeys g c = inl (record {
   none = no_words c.args.words.now _ c.is_empty.ensures c.if-is_empty.true;
   report = reported_by c.report.result _ _ _ _ _ c.report.ensures.done c.report.ensures.sent c.report.ensures.fails c.report.ensures.unprinted;
   untouched = refl;
   silent = refl;
 })
 
-pub returns-in-Ok-None : goal.returns-in-Ok-None
-returns-in-Ok-None g c = inr (inr (record {
+pub returns-then-is_empty-clause-announced : goal.returns-then-is_empty-clause-announced
+returns-then-is_empty-clause-announced g c = unmade c.report.result _ _ _ refl
+
+pub returns-in-Ok-None-clause-obeys : goal.returns-in-Ok-None-clause-obeys
+returns-in-Ok-None-clause-obeys g c = inr (inr (record {
   done = tt;
   stops = inl (inl refl, refl);
   refused = λ no. inl refl;
@@ -29,8 +33,11 @@ returns-in-Ok-None g c = inr (inr (record {
   unasked = λ asked made. absurd ((rw c.in-Ok-None.field-0-is at c.in-Ok-None.ensures.unasked) asked made);
 }))
 
-pub returns-in-Err : goal.returns-in-Err
-returns-in-Err g c =
+pub returns-in-Ok-None-clause-announced : goal.returns-in-Ok-None-clause-announced
+returns-in-Ok-None-clause-announced g c = refl
+
+pub returns-in-Err-clause-obeys : goal.returns-in-Err-clause-obeys
+returns-in-Err-clause-obeys g c =
     let w = texts c.args.words.now in
     let did = c.answer_refusal.ensures in
     let r = c.answer_refusal.result in
@@ -48,8 +55,11 @@ returns-in-Err g c =
       unasked = λ asked made. lacks r (did.memory (asked_fails w c.in-Err.error c.in-Err.ensures.refusals asked made));
     }))
 
-pub returns-in-Inspect-Some : goal.returns-in-Inspect-Some
-returns-in-Inspect-Some g c =
+pub returns-in-Err-clause-announced : goal.returns-in-Err-clause-announced
+returns-in-Err-clause-announced g c = unmade c.answer_refusal.result _ _ _ refl
+
+pub returns-in-Inspect-Some-clause-obeys : goal.returns-in-Inspect-Some-clause-obeys
+returns-in-Inspect-Some-clause-obeys g c =
     let here = c.in-Inspect-Some in
     let did = c.report_file.ensures in
     inr (inl (record {
@@ -59,8 +69,11 @@ returns-in-Inspect-Some g c =
       answers = (refl, reported_by c.report_file.result _ _ _ _ _ did.done did.sent did.fails did.unprinted);
     }))
 
-pub returns-in-Inspect-None : goal.returns-in-Inspect-None
-returns-in-Inspect-None g c =
+pub returns-in-Inspect-Some-clause-announced : goal.returns-in-Inspect-Some-clause-announced
+returns-in-Inspect-Some-clause-announced g c = unmade c.report_file.result _ _ _ refl
+
+pub returns-in-Inspect-None-clause-obeys : goal.returns-in-Inspect-None-clause-obeys
+returns-in-Inspect-None-clause-obeys g c =
     let here = c.in-Inspect-None in
     let did = c.report-in-Inspect-None.ensures in
     inr (inl (record {
@@ -70,38 +83,50 @@ returns-in-Inspect-None g c =
       answers = reported_by c.report-in-Inspect-None.result _ _ _ _ _ did.done did.sent did.fails did.unprinted;
     }))
 
-pub returns-in-Encrypt : goal.returns-in-Encrypt
-returns-in-Encrypt g c =
+pub returns-in-Inspect-None-clause-announced : goal.returns-in-Inspect-None-clause-announced
+returns-in-Inspect-None-clause-announced g c = unmade c.report-in-Inspect-None.result _ _ _ refl
+
+pub returns-in-Encrypt-clause-obeys : goal.returns-in-Encrypt-clause-obeys
+returns-in-Encrypt-clause-obeys g c =
     let here = c.in-Encrypt in
     inr (inl (record {
       asked = Encrypt here.asked;
       made = subst (Requests (texts c.args.words.now)) here.is (rw c.in-Ok-Some.field-0-is at c.in-Ok-Some.ensures.asked);
-      acts = acts_so _ _ _ _ _ _ _ _ _ (refuses_so c.encrypt_file.result) c.encrypt_file.ensures;
+      acts = acts_so _ _ _ _ _ _ _ _ _ (refuses_so c.encrypt_file.result) c.encrypt_file.ensures.acts;
       answers = (refl, refl);
     }))
 
-pub returns-in-Decrypt : goal.returns-in-Decrypt
-returns-in-Decrypt g c =
+pub returns-in-Encrypt-clause-announced : goal.returns-in-Encrypt-clause-announced
+returns-in-Encrypt-clause-announced g c = c.encrypt_file.ensures.announced
+
+pub returns-in-Decrypt-clause-obeys : goal.returns-in-Decrypt-clause-obeys
+returns-in-Decrypt-clause-obeys g c =
     let here = c.in-Decrypt in
     inr (inl (record {
       asked = Decrypt here.asked;
       made = subst (Requests (texts c.args.words.now)) here.is (rw c.in-Ok-Some.field-0-is at c.in-Ok-Some.ensures.asked);
-      acts = acts_so _ _ _ _ _ _ _ _ _ (refuses_so c.decrypt_file.result) c.decrypt_file.ensures;
+      acts = acts_so _ _ _ _ _ _ _ _ _ (refuses_so c.decrypt_file.result) c.decrypt_file.ensures.acts;
       answers = (refl, refl);
     }))
 
-pub returns-in-Resume : goal.returns-in-Resume
-returns-in-Resume g c =
+pub returns-in-Decrypt-clause-announced : goal.returns-in-Decrypt-clause-announced
+returns-in-Decrypt-clause-announced g c = c.decrypt_file.ensures.announced
+
+pub returns-in-Resume-clause-obeys : goal.returns-in-Resume-clause-obeys
+returns-in-Resume-clause-obeys g c =
     let here = c.in-Resume in
     inr (inl (record {
       asked = Resume here.asked;
       made = subst (Requests (texts c.args.words.now)) here.is (rw c.in-Ok-Some.field-0-is at c.in-Ok-Some.ensures.asked);
-      acts = acts_so _ _ _ _ _ _ _ _ _ (refuses_so c.resume_file.result) c.resume_file.ensures;
+      acts = acts_so _ _ _ _ _ _ _ _ _ (refuses_so c.resume_file.result) c.resume_file.ensures.acts;
       answers = (refl, refl);
     }))
 
-pub returns-in-Drill : goal.returns-in-Drill
-returns-in-Drill g c =
+pub returns-in-Resume-clause-announced : goal.returns-in-Resume-clause-announced
+returns-in-Resume-clause-announced g c = c.resume_file.ensures.announced
+
+pub returns-in-Drill-clause-obeys : goal.returns-in-Drill-clause-obeys
+returns-in-Drill-clause-obeys g c =
     let here = c.in-Drill in
     let did = c.drill_file.ensures in
     inr (inl (record {
@@ -110,3 +135,6 @@ returns-in-Drill g c =
       acts = drill_acts _ _ _ _ _ _ c.drill_file.result did.kept refl here.asked did.order did.order_done;
       answers = (refl, λ both. let no = did.one both in (no.0, refuses c.drill_file.result no.1));
     }))
+
+pub returns-in-Drill-clause-announced : goal.returns-in-Drill-clause-announced
+returns-in-Drill-clause-announced g c = unmade c.drill_file.result _ _ _ refl

@@ -13,14 +13,15 @@ use Rattle.age_fault.specs.declared.fault.FileFault.TheVariants.{BadPosition}
 use Rattle.age_fileset.specs.declared.files.OpenFault.TheVariants as create
 use Rattle.age_cli.specs.Acts.{paths_of}
 use Rattle.age_cli.specs.Resumptions.{HoldsNoPosition}
+use Rattle.age_cli.proofs.ReportSteps.{unmade}
 use Rattle.age_cli.proofs.ActSteps.{acts_early, shown_not_silent}
 use Rattle.age_cli.proofs.CommandSteps.{bad_position, in_order, position_fault, position_reason, reason_at, some_files}
 use Rattle.age_cli.proofs.FinalSteps.{Found, WasEarlier, resume_acts}
 use Rattle.age_cli_common.proofs.EventSteps.{longer, none_done, then_did, then_follows}
 use Rattle.age_cli.proofs.resume_command.resume_file.Goals as goal
 
-pub returns-in_err-choice : goal.returns-in_err-choice
-returns-in_err-choice g c =
+pub returns-in_err-choice-clause-acts : goal.returns-in_err-choice-clause-acts
+returns-in_err-choice-clause-acts g c =
     let r = c.args.asked.now in
     let d = r.decrypting in
     let e : Ending = Usage c.in_err-choice.field-0.0 in
@@ -28,8 +29,11 @@ returns-in_err-choice g c =
     (λ twice. (refl, refl))
     (λ shown usage. inr (c.in_err-choice.ensures.none (g.F.FileSet.view c.args.files.now).entries)) refl
 
-pub returns-in_err-secret : goal.returns-in_err-secret
-returns-in_err-secret g c =
+pub returns-in_err-choice-clause-announced : goal.returns-in_err-choice-clause-announced
+returns-in_err-choice-clause-announced g c = unmade c.from_residual.result _ _ _ refl
+
+pub returns-in_err-secret-clause-acts : goal.returns-in_err-secret-clause-acts
+returns-in_err-secret-clause-acts g c =
     let r = c.args.asked.now in
     let d = r.decrypting in
     let e : Ending = c.in_err-secret.field-0.0 in
@@ -40,8 +44,11 @@ returns-in_err-secret g c =
     (λ twice. judged.apart (c.names_one_twice-is_file_named_twice.ensures.twice twice))
     (λ shown usage. inl (c.names_one_twice-is_file_named_twice.ensures.shown shown (judged.blamed shown usage))) refl
 
-pub returns-in_err-identity : goal.returns-in_err-identity
-returns-in_err-identity g c =
+pub returns-in_err-secret-clause-announced : goal.returns-in_err-secret-clause-announced
+returns-in_err-secret-clause-announced g c = unmade c.from_residual-in_err-secret.result _ _ _ refl
+
+pub returns-in_err-identity-clause-acts : goal.returns-in_err-identity-clause-acts
+returns-in_err-identity-clause-acts g c =
     let r = c.args.asked.now in
     let d = r.decrypting in
     let e : Ending = Usage c.in_err-identity.field-0.0 in
@@ -53,8 +60,11 @@ returns-in_err-identity g c =
     (λ shown usage. inr (λ identity opens. c.in_err-identity.ensures.none identity
     ((judged.read shown).1 identity (c.in_ok-choice.ensures.chooses.only (g.F.FileSet.view c.args.files.now).entries identity opens)))) refl
 
-pub returns-in_err-position : goal.returns-in_err-position
-returns-in_err-position g c =
+pub returns-in_err-identity-clause-announced : goal.returns-in_err-identity-clause-announced
+returns-in_err-identity-clause-announced g c = unmade c.from_residual-in_err-identity.result _ _ _ refl
+
+pub returns-in_err-position-clause-acts : goal.returns-in_err-position-clause-acts
+returns-in_err-position-clause-acts g c =
     let r = c.args.asked.now in
     let d = r.decrypting in
     let e : Ending = ending_of c.in_err-position.field-0.0 in
@@ -71,8 +81,11 @@ returns-in_err-position g c =
     (λ twice. absurd (judged.apart (c.names_one_twice-is_file_named_twice.ensures.twice twice)).1)
     (λ shown usage. absurd (true≢false (sym usage ∙ position_fault _ _ earlier.faults shown))) refl
 
-pub returns-in_err-source : goal.returns-in_err-source
-returns-in_err-source g c =
+pub returns-in_err-position-clause-announced : goal.returns-in_err-position-clause-announced
+returns-in_err-position-clause-announced g c = unmade c.from_residual-in_err-position.result _ _ _ refl
+
+pub returns-in_err-source-clause-acts : goal.returns-in_err-source-clause-acts
+returns-in_err-source-clause-acts g c =
     let r = c.args.asked.now in
     let d = r.decrypting in
     let e : Ending = c.in_err-source.field-0.0 in
@@ -89,8 +102,11 @@ returns-in_err-source g c =
     (λ twice. absurd (judged.apart (c.names_one_twice-is_file_named_twice.ensures.twice twice)).1)
     (λ shown usage. absurd (true≢false (sym usage ∙ both.fault shown))) refl
 
-pub returns-in-Silent : goal.returns-in-Silent
-returns-in-Silent g c =
+pub returns-in_err-source-clause-announced : goal.returns-in_err-source-clause-announced
+returns-in_err-source-clause-announced g c = unmade c.from_residual-in_err-source.result _ _ _ refl
+
+pub returns-in-Silent-clause-acts : goal.returns-in-Silent-clause-acts
+returns-in-Silent-clause-acts g c =
     let r = c.args.asked.now in
     let d = r.decrypting in
     let view = g.F.FileSet.view in
@@ -111,15 +127,18 @@ returns-in-Silent g c =
     (λ shown. subst (λ (f : Files). WasEarlier r c.in_ok-position.position f (In first)) judged.kept (earlier.found shown))
     (record { source = first; sink = c.in_ok-source.out; is = refl }) (record { source = run.new.old_reader; sink = run.new.writer; is = refl })
     (λ shown. subst (λ (f : Files). Found (paths_of d) f before) (earlier.kept ∙ judged.kept) (both.opened shown))
-    c.positions_for-positions.ensures c.opening_end.ensures run.ensures c.conclude.ensures
+    c.positions_for-positions.ensures c.opening_end.ensures run.ensures c.conclude.ensures.concludes
     (then_did _ _ _ (identity_order (text_of d.identity.pass) (text_of d.identity.shared))
     (Opened r.position.now ∷ Opened r.old.now ∷ Opened d.from.now ∷ (preparing (text_of d.save) ++ Created d.to.now ∷ [])) judged.noted
     (then_did _ _ _ (Opened r.position.now ∷ Opened r.old.now ∷ []) (Opened d.from.now ∷ (preparing (text_of d.save) ++ Created d.to.now ∷ [])) earlier.noted
     both.noted))
     (λ twice. absurd (judged.apart (c.names_one_twice-is_file_named_twice.ensures.twice twice)).1) (λ silent. refl)
 
-pub returns : goal.returns
-returns g c =
+pub returns-in-Silent-clause-announced : goal.returns-in-Silent-clause-announced
+returns-in-Silent-clause-announced g c = c.conclude.ensures.announced
+
+pub returns-clause-acts : goal.returns-clause-acts
+returns-clause-acts g c =
     let r = c.args.asked.now in
     let d = r.decrypting in
     let view = g.F.FileSet.view in
@@ -143,9 +162,12 @@ returns g c =
     (λ shown. let f = both.opened shown in
     subst (λ (f : Files). Found (paths_of d) f before) (earlier.kept ∙ judged.kept)
     (f.0, ap (λ s. (In s).remaining) c.with_meter-metered.ensures ∙ f.1, f.2, f.3))
-    c.positions_for-positions.ensures c.opening_end-in-Shown.ensures run.ensures c.conclude-in-Shown.ensures
+    c.positions_for-positions.ensures c.opening_end-in-Shown.ensures run.ensures c.conclude-in-Shown.ensures.concludes
     (then_did _ _ _ (identity_order (text_of d.identity.pass) (text_of d.identity.shared))
     (Opened r.position.now ∷ Opened r.old.now ∷ Opened d.from.now ∷ (preparing (text_of d.save) ++ Created d.to.now ∷ [])) judged.noted
     (then_did _ _ _ (Opened r.position.now ∷ Opened r.old.now ∷ []) (Opened d.from.now ∷ (preparing (text_of d.save) ++ Created d.to.now ∷ [])) earlier.noted
     both.noted))
     (λ twice. absurd (judged.apart (c.names_one_twice-is_file_named_twice.ensures.twice twice)).1) (λ silent. absurd (shown_not_silent (sym c.in-Shown.is ∙ silent)))
+
+pub returns-clause-announced : goal.returns-clause-announced
+returns-clause-announced g c = c.conclude-in-Shown.ensures.announced
