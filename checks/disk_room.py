@@ -23,7 +23,8 @@ SHIM = r"""
 #include <unistd.h>
 /* What FSYNC, FTRUNCATE, FLOCK and RENAME name fails with that error. ONLY says of which kind of file: d, f or b. SYNCED gets a line for
    each file that is synced. Each call number EVERY of read and write is interrupted; WRITE fails with that error from call number AT on.
-   TRIGGER gets a 1 before the first sync. SWAP lets `folder` lead to `other` before a file .new-0 is opened. */
+   TRIGGER gets a 1 before the first sync. SWAP lets `folder` lead to `other` before a file .new-0 is opened. Before open number PIPED of
+   `saved` to be written a pipe takes its place. */
 static int fails(const char *name) {
     const char *error = getenv(name);
     if (!error) return 0;
@@ -52,12 +53,18 @@ static void swap(const char *path) {
     size_t n = strlen(path);
     if (getenv("SWAP") && n > 6 && !strcmp(path + n - 6, ".new-0") && (rename("folder", "moved") || symlink("other", "folder"))) abort();
 }
+static void pipe_up(const char *path) {
+    static long count;
+    size_t n = strlen(path);
+    if (number("PIPED") && n >= 5 && !strcmp(path + n - 5, "saved") && ++count == number("PIPED") && (unlink(path) || mkfifo(path, 0600))) abort();
+}
 int open(const char *path, int flags, ...) {
     va_list rest;
     va_start(rest, flags);
     mode_t mode = flags & O_CREAT ? va_arg(rest, mode_t) : 0;
     va_end(rest);
     swap(path);
+    if (flags & O_ACCMODE) pipe_up(path);
     return ((int (*)(const char *, int, ...))dlsym(RTLD_NEXT, "open"))(path, flags, mode);
 }
 int open64(const char *path, int flags, ...) {

@@ -28,6 +28,9 @@ struct OutFile {
     // What it held is still there, beyond the bytes that were written.
     is_stale: bool,
     written: u64,
+    // Its length is that of what was written, as long as nobody else changes it. What the system
+    // makes up, as files of /proc, says another.
+    has_length: bool,
 }
 
 /// Where its bytes go.
@@ -112,6 +115,7 @@ impl OutFile {
             is_named,
             is_stale: true,
             written: 0,
+            has_length: true,
         })
     }
 
@@ -124,6 +128,7 @@ impl OutFile {
             is_named: true,
             is_stale: false,
             written: 0,
+            has_length: true,
         })
     }
 
@@ -144,13 +149,37 @@ impl OutFile {
     {
         if self.written > 0 {
             self.cut()?;
+            self.check_kept()?;
         }
+        let is_first = self.written == 0;
         let n = self.file.write(from)?;
         self.written = self.written.saturating_add(n as u64);
         if self.written > 0 {
             let _ = self.cut();
         }
+        if is_first {
+            self.see_length();
+        }
         Ok(n)
+    }
+
+    /// Sees whether its length is that of the first bytes that were written.
+    fn see_length(&mut self) {
+        if let Ok(own) = self.file.metadata()
+            && !self.is_stale
+        {
+            self.has_length = own.len() == self.written;
+        }
+    }
+
+    /// Fails where it is shorter than what was written: the next bytes would leave a hole before
+    /// them.
+    fn check_kept(&self) -> io::Result<()> {
+        let own = self.file.metadata()?;
+        if own.is_file() && self.has_length && own.len() < self.written {
+            return Err(changed_length());
+        }
+        Ok(())
     }
 
     /// Whether it still holds what it held, or nothing where it was made.
@@ -189,8 +218,8 @@ impl OutFile {
         if self.is_named && own.nlink() == 0 {
             return Err(io::Error::new(io::ErrorKind::NotFound, "it was removed meanwhile"));
         }
-        if own.len() != self.written {
-            return Err(io::Error::other("another program changed its length"));
+        if self.has_length && own.len() != self.written {
+            return Err(changed_length());
         }
         Ok(())
     }
@@ -222,6 +251,11 @@ impl OutFile {
             let _ = sync_folder(rt, path);
         }
     }
+}
+
+/// What is reported of a file that was cut off, or made longer, meanwhile.
+fn changed_length() -> io::Error {
+    io::Error::other("another program changed its length")
 }
 
 /// Cuts off what a regular file holds after so many bytes.

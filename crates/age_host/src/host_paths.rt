@@ -17,9 +17,23 @@ pub(crate) const POSITION_MODE: u32 = 0o600;
 /// that may have to be made: so the system refuses a file or a pipe of somebody else's in a sticky
 /// folder, where it guards these.
 pub(crate) fn open_to_write(rt: &HostRuntime, name: &str) -> io::Result<Option<File>> {
+    open_there(rt, name, false)
+}
+
+/// Opens it to be read too, where that is allowed: then a pipe that has come to its place isn't
+/// waited for.
+pub(crate) fn open_at_once(rt: &HostRuntime, name: &str) -> io::Result<Option<File>> {
+    match open_there(rt, name, true) {
+        Err(error) if error.kind() == io::ErrorKind::PermissionDenied => open_to_write(rt, name),
+        opened => opened,
+    }
+}
+
+fn open_there(rt: &HostRuntime, name: &str, is_read: bool) -> io::Result<Option<File>> {
     match fs::metadata(rt, name) {
         Ok(_) => Ok(Some(
             File::options()
+                .read(is_read)
                 .write(true)
                 .create(true)
                 .mode(POSITION_MODE)

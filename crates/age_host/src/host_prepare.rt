@@ -4,7 +4,7 @@ use crate::host_lock::lock;
 use crate::host_names::{
     FileId, Node, Resolved, Stream, above_streams, found_at, is_on_disk, resolve,
 };
-use crate::host_paths::open_to_write;
+use crate::host_paths::open_at_once;
 use crate::host_sync::folder_of;
 use std::alloc::Global;
 use std::fs::{self, File, Metadata};
@@ -206,7 +206,7 @@ fn check_found(
         Some(there) if FileId::of(&there) == FileId::of(found) => {}
         _ => return Err(io::Error::from(io::ErrorKind::NotFound)),
     }
-    match open_to_write(rt, name)? {
+    match open_at_once(rt, name)? {
         Some(file) => Ok(Found::File(above_streams(file)?)),
         None => Ok(Found::Nothing),
     }

@@ -3,15 +3,15 @@
 use crate::host_lock::{lock, remove_at, remove_own};
 use crate::host_names::{Node, Resolved, found_at, is_on_disk};
 use crate::host_out::HostOut;
-use crate::host_paths::{POSITION_MODE, make_file, open_to_write};
+use crate::host_paths::{POSITION_MODE, make_file, open_at_once, open_to_write};
 use crate::host_prepare::Prepared;
 use crate::host_sync::{sync, sync_folder};
 use age_fault::write_all;
 use age_io::Durability;
 use std::alloc::Global;
-use std::fs::{self, File, Metadata, Permissions};
+use std::fs::{self, File, Metadata};
 use std::io::{self, Write};
-use std::os::unix::fs::{FileTypeExt, MetadataExt, PermissionsExt};
+use std::os::unix::fs::FileTypeExt;
 use std::path::PathBuf;
 use std::rt::HostRuntime;
 
@@ -72,20 +72,6 @@ impl Beside {
         }
     }
 
-    /// Gives it the permissions of the file that it replaces, where that is allowed: all of them,
-    /// where it has the same owner and group, and otherwise the owner's, since the others' would be
-    /// for other people. It is never run, or run as its owner.
-    fn take_permissions(&self, replaced: Option<&Metadata>) {
-        if let Some(replaced) = replaced
-            && let Ok(own) = self.file.metadata()
-        {
-            let is_same = own.uid() == replaced.uid() && own.gid() == replaced.gid();
-            let kept = if is_same { 0o666 } else { 0o600 };
-            let permissions = Permissions::from_mode(replaced.mode() & kept);
-            let _ = self.file.set_permissions(permissions);
-        }
-    }
-
     /// Fills it, and puts it in the place of the file at a path. Fails where it isn't in the folder
     /// that was prepared, as where its path has come to lead elsewhere before it was made.
     fn place(
@@ -106,18 +92,17 @@ impl Beside {
 }
 
 /// Puts a new file of these bytes in the place of the one at a path, which stays as it is until the
-/// new one is whole.
+/// new one is whole. The new one is its owner's alone, whoever may read the old one: what lets others
+/// do that can't all be seen.
 fn replace_beside(
     alloc: Global,
     rt: &HostRuntime,
     prepared: &Prepared,
     path: &PathBuf,
-    replaced: Option<&Metadata>,
     bytes: &[u8],
     durability: Durability,
 ) -> Result<(), Unplaced> {
     let mut new = make_beside(alloc, rt, path)?;
-    new.take_permissions(replaced);
     if let Err(unplaced) = new.place(rt, prepared, path, bytes, durability) {
         remove_at(rt, &new.file, new.path.as_str());
         return Err(unplaced);
@@ -165,10 +150,9 @@ fn make_directly(
     }
 }
 
-/// The file that was found at a name, open to be written. Fails where another is opened there, so
-/// that no new link is followed.
-fn open_found(rt: &HostRuntime, name: &str, found: Node) -> io::Result<File> {
-    match open_to_write(rt, name)? {
+/// What was opened, if it is the file that was found at a name: so no new link is followed.
+fn if_found(opened: Option<File>, found: Node) -> io::Result<File> {
+    match opened {
         Some(file) if Node::of(&file.metadata()?) == found => Ok(file),
         _ => Err(io::Error::from(io::ErrorKind::NotFound)),
     }
@@ -176,15 +160,16 @@ fn open_found(rt: &HostRuntime, name: &str, found: Node) -> io::Result<File> {
 
 /// The pipe or the device that was found at a name, open to be written. A pipe isn't waited for: it
 /// is open to be read too for a moment, and what is written then fails where nobody else reads it.
-/// Of a pipe that this run may not read, a reader is waited for.
+/// Of a pipe that this run may not read a reader is waited for: the system opens it in no other way
+/// without one.
 fn open_device(rt: &HostRuntime, name: &str, found: Node) -> io::Result<File> {
     if !fs::metadata(rt, name)?.file_type().is_fifo() {
-        return open_found(rt, name, found);
+        return if_found(open_to_write(rt, name)?, found);
     }
     let reader = File::options().read(true).write(true).open(rt, name);
-    let opened = open_found(rt, name, found);
+    let opened = open_to_write(rt, name);
     drop(reader);
-    opened
+    if_found(opened?, found)
 }
 
 /// Makes a file of these bytes at a path where there is none, or a link, which it replaces.
@@ -196,7 +181,7 @@ fn make_at(
     bytes: &[u8],
     durability: Durability,
 ) -> io::Result<()> {
-    match replace_beside(alloc, rt, prepared, path, None, bytes, durability) {
+    match replace_beside(alloc, rt, prepared, path, bytes, durability) {
         Ok(()) => Ok(()),
         Err(Unplaced::NotBeside) => make_directly(rt, path, bytes, durability),
         Err(Unplaced::Failed(error)) => Err(error),
@@ -213,12 +198,12 @@ fn replace_found(
     bytes: &[u8],
     durability: Durability,
 ) -> io::Result<()> {
-    let file = open_found(rt, path.as_str(), Node::of(found))?;
+    let file = if_found(open_at_once(rt, path.as_str())?, Node::of(found))?;
     if !prepared.has_claimed(Node::of(found)) {
         lock(&file)?;
     }
     if found.is_file() {
-        match replace_beside(alloc, rt, prepared, path, Some(found), bytes, durability) {
+        match replace_beside(alloc, rt, prepared, path, bytes, durability) {
             Ok(()) => return Ok(()),
             Err(Unplaced::NotBeside) => {}
             Err(Unplaced::Failed(error)) => return Err(error),
