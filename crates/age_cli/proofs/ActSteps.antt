@@ -17,7 +17,7 @@ use Rattle.age_cli_common.specs.Reasons.{HasReason}
 use Rattle.age_cli_common.specs.Endings.{is_usage}
 use Rattle.age_cli_common.specs.declared.ending.Ending.{Ending}
 use Rattle.age_cli.specs.Acts.{Acts, EndsBefore, GivesNone, HasEnded, OfEngine, OfSomeEngine, Spares, progress_of}
-use Rattle.age_cli.specs.Outcomes.{IsUsage, by_result}
+use Rattle.age_cli.specs.Outcomes.{IsUsage}
 use Rattle.age_cli.specs.Outputs.{Stops, Writes}
 use Rattle.age_cli.proofs.CommandSteps.{not_well, this_error, just_error}
 use Rattle.age_cli_common.proofs.EventSteps.{longer}
@@ -41,7 +41,7 @@ whole_of (Drill d) old new f = f
 
 module _ (IsPorts : Ports → Type 0) (shows : Bool) (asked : Request) (before after : FilesView) (Failed Unshown : Type 0) (r : Result (Unit {0}) Ending) where
   abbrev pub Acted : Type 0
-  Acted = Acts IsPorts shows asked before after Failed Unshown (by_result IsUsage r)
+  Acted = Acts IsPorts shows asked before after Failed Unshown r
 
   -- a command ended early, with this ending
   pub acts_early : (e : Ending) → IsErr r × IsErrAnd r (λ x. x ≡ e) → after.entries ≡ before.entries → (shows ≡ true → EndsBefore asked before.entries e)

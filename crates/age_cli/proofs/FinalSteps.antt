@@ -36,7 +36,6 @@ use Rattle.age_cli_common.specs.declared.identity.Identity.{Identity}
 use Rattle.age_cli.specs.Acts.{Acts, HasEnded, OfEngine, OfSomeEngine, Spares, paths_of, progress_of}
 use Rattle.age_cli.specs.Encryptions.{MakesSecret}
 use Rattle.age_cli.specs.Engines.{Engine, sealing, opening, resuming}
-use Rattle.age_cli.specs.Outcomes.{IsUsage, by_result}
 use Rattle.age_cli.specs.Outputs.{Paths, Stops, Writes, kept_for}
 use Rattle.age_cli.specs.Resumptions.{IsPositionIn, old_for}
 use Rattle.age_cli.specs.declared.stop.Stop.{Stop}
@@ -74,7 +73,7 @@ module _ (IsPorts : Ports → Type 0) (shows : Bool) (asked : Request) (old open
       → opened.entries ≡ old.entries → (shows ≡ true → Found p old.entries before) → after.sink.label ≡ before.sink.label
       → (shows ≡ true → before.sink.taken ≡ Some [] → Kept engine before after end) → Concludes shows p.save durability after.sink end opened new r
       → opened.events ≡ old.events ++ (xs ++ (ys ++ Created p.to ∷ [])) → (NamesTwice (order_asked asked).apart → ⊥) → (p.save ≡ Some p.to → ⊥)
-      → (progress_of asked ≡ Silent → Unshown) → Acts IsPorts shows asked old new Failed Unshown (by_result IsUsage r)
+      → (progress_of asked ≡ Silent → Unshown) → Acts IsPorts shows asked old new Failed Unshown r
   acts_of_engine before_is after_is done_is whole_is of ran spares kept found named promise concludes noted apart unsaved silent =
       acts_concluded IsPorts shows asked old new Failed Unshown r
       (on_ok_weaker r (λ wrote shown. of shown (λ e q. Writes IsPorts e q old.entries new.entries) (wrote shown))
@@ -100,7 +99,7 @@ module _ (IsPorts : Ports → Type 0) (shows : Bool) (old opened new : FilesView
       → opened.events ≡ old.events
       ++ ((Opened e.pass.now ∷ Opened (random_name (text_of e.random)) ∷ []) ++ (Opened e.from.now ∷ Created e.to.now ∷ []))
       → (NamesTwice (order_asked (Encrypt e)).apart → ⊥) → (e.progress ≡ Silent → Unshown)
-      → Acts IsPorts shows (Encrypt e) old new Failed Unshown (by_result IsUsage r)
+      → Acts IsPorts shows (Encrypt e) old new Failed Unshown r
   encrypt_acts e secret sealed made found is ends fails named concludes noted apart silent =
       acts_of_engine IsPorts shows (Encrypt e) old opened new Failed Unshown (sealing secret) (record { from = e.from.now; to = e.to.now; save = None }) e.durability
       before after end r (Opened e.pass.now ∷ Opened (random_name (text_of e.random)) ∷ []) (Opened e.from.now ∷ []) before_is after_is refl
@@ -119,7 +118,7 @@ module _ (IsPorts : Ports → Type 0) (shows : Bool) (old opened new : FilesView
       → opened.events ≡ old.events ++ (identity_order (text_of d.identity.pass) (text_of d.identity.shared)
       ++ ((Opened d.from.now ∷ preparing (text_of d.save)) ++ Created d.to.now ∷ []))
       → (NamesTwice (order_asked (Decrypt d)).apart → ⊥) → (d.progress ≡ Silent → Unshown)
-      → Acts IsPorts shows (Decrypt d) old new Failed Unshown (by_result IsUsage r)
+      → Acts IsPorts shows (Decrypt d) old new Failed Unshown r
   decrypt_acts d keep identity decrypted by opens found keep_is is promise concludes noted apart silent =
       let k = kept_for (text_of d.save) in
       let did = subst (λ (x : Positions). Decrypts x (allows_by identity) (refuses_by identity) before after decrypted) keep_is promise in
@@ -145,7 +144,7 @@ module _ (IsPorts : Ports → Type 0) (shows : Bool) (old opened new : FilesView
       → opened.events ≡ old.events ++ (identity_order (text_of a.decrypting.identity.pass) (text_of a.decrypting.identity.shared)
       ++ ((Opened a.position.now ∷ Opened a.old.now ∷ Opened a.decrypting.from.now ∷ preparing (text_of a.decrypting.save)) ++ Created a.decrypting.to.now ∷ []))
       → (NamesTwice (order_asked (Resume a)).apart → ⊥) → (a.decrypting.progress ≡ Silent → Unshown)
-      → Acts IsPorts shows (Resume a) old new Failed Unshown (by_result IsUsage r)
+      → Acts IsPorts shows (Resume a) old new Failed Unshown r
   resume_acts a keep identity from first last resumed by opens earlier first_is last_is found keep_is is promise concludes noted apart silent =
       let d = a.decrypting in
       let k = kept_for (text_of d.save) in

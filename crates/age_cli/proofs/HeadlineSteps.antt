@@ -36,7 +36,6 @@ use Rattle.age_cli_common.specs.declared.ending.Ending.{Ending}
 use Rattle.age_cli.specs.Acts.{Acts, EndsBefore, OfEngine}
 use Rattle.age_cli.specs.Engines.{opening, resuming, Ran}
 use Rattle.age_cli.specs.Outputs.{IsLeft, IsUnclosed, Stops, Writes, kept_for}
-use Rattle.age_cli.specs.Outcomes.{by_result}
 use Rattle.age_cli.specs.Obeying.{Around, IsForHelp, IsRefusal, Obeys, Prints}
 use Rattle.age_cli_common.specs.Reasons.{HasReason}
 use Rattle.age_cli.specs.Resumptions.{IsPositionIn, old_for}
@@ -320,7 +319,7 @@ module _ (words : List Text) (shows : Bool) (IsPorts : Ports → Type 0) (before
 
   -- of what is asked, whichever request was made of the words
   pub headline_of : (r : Result (Unit {0}) Ending) → OnErr r (status ≡ 0 → ⊥)
-      → Obeys words shows IsPorts before after Failed Unread Unprinted Unshown (by_result IsRefusal r) → (d : Decrypting) → Requests words (Decrypt d)
+      → Obeys words shows IsPorts before after Failed Unread Unprinted Unshown r → (d : Decrypting) → Requests words (Decrypt d)
       → IsWritersInput d old text → KeepsOut (old d.to.now) (new d.to.now) status text
   headline_of r failed (inl o) d (name, rows, asks, is) auth = absurd (no_command words name rows o.none asks)
   headline_of r failed (inr (inr o)) d (name, rows, asks, is) auth = declined r failed o.done asks.taken o.untouched d.to.now
@@ -330,7 +329,7 @@ module _ (words : List Text) (shows : Bool) (IsPorts : Ports → Type 0) (before
       let same = only.2 in
       let mine : IsWritersInput e old text = λ identity opens run from read.
       auth identity (same.opens old identity opens) run from (subst (λ (t : Text). IsRead identity (old t) run) same.from read) in
-      let acts = subst (λ (q : Request). Acts IsPorts shows q before.files after.files Failed Unshown (by_result IsRefusal r)) only.1 o.acts in
+      let acts = subst (λ (q : Request). Acts IsPorts shows q before.files after.files Failed Unshown r) only.1 o.acts in
       subst (λ (t : Text). KeepsOut (old t) (new t) status text) same.to (decrypted e mine r failed acts.done (acts.stops shown))
 
   module _ (s : Resuming) (auth : IsWritersResumption s old text) where
@@ -358,7 +357,7 @@ module _ (words : List Text) (shows : Bool) (IsPorts : Ports → Type 0) (before
         IsPorts (kept_for (text_of d.save)) (old d.to.now) (new d.to.now) did.5.position did.5.fault did.5.output)
 
   pub resumed_headline_of : (r : Result (Unit {0}) Ending) → OnErr r (status ≡ 0 → ⊥)
-      → Obeys words shows IsPorts before after Failed Unread Unprinted Unshown (by_result IsRefusal r) → (a : Resuming) → Requests words (Resume a)
+      → Obeys words shows IsPorts before after Failed Unread Unprinted Unshown r → (a : Resuming) → Requests words (Resume a)
       → IsWritersResumption a old text → KeepsOut (old a.decrypting.to.now) (new a.decrypting.to.now) status text
   resumed_headline_of r failed (inl o) a (name, rows, asks, is) auth = absurd (no_command words name rows o.none asks)
   resumed_headline_of r failed (inr (inr o)) a (name, rows, asks, is) auth = declined r failed o.done asks.taken o.untouched a.decrypting.to.now
@@ -375,5 +374,5 @@ module _ (words : List Text) (shows : Bool) (IsPorts : Ports → Type 0) (before
         rest = λ p is identity opens run from read. auth.rest p (at p is) identity (d.opens old identity opens) run from
             (subst (λ (t : Text). IsRead identity (old t) run) d.from read);
       } in
-      let acts = subst (λ (q : Request). Acts IsPorts shows q before.files after.files Failed Unshown (by_result IsRefusal r)) only.1 o.acts in
+      let acts = subst (λ (q : Request). Acts IsPorts shows q before.files after.files Failed Unshown r) only.1 o.acts in
       subst (λ (t : Text). KeepsOut (old t) (new t) status text) d.to (resumed s mine r failed acts.done (acts.stops shown))

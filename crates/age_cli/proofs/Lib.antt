@@ -8,5 +8,4 @@ pub mod ActSteps
 pub mod FinalSteps
 pub mod HeadlineSteps
 pub mod ObeySteps
-pub mod RunSteps
 pub mod NameSteps

@@ -21,7 +21,7 @@ use Rattle.age_cli_common.specs.EventOrders.{Follows}
 use Rattle.age_cli_common.specs.Orders.{order_asked}
 use Rattle.age_cli_common.specs.declared.ending.Ending.{Ending}
 use Rattle.age_cli.specs.Acts.{Acts}
-use Rattle.age_cli.specs.Obeying.{FailsWriting, IsForHelp, IsRefusal, LacksMemory, Prints, Reported}
+use Rattle.age_cli.specs.Obeying.{FailsWriting, IsForHelp, IsRefusal, Prints, Reported}
 use Rattle.age_io.specs.Views.{SinkView}
 use Rattle.age_cli.specs.Inspections.{FailsReport}
 use Rattle.age_cli_args.specs.Requests.{Requests}
@@ -31,11 +31,10 @@ use Rattle.age_fault.specs.declared.fault.FileFault.TheVariants.{Write, Memory}
 use Rattle.clap.specs.Kinds.{Kinds}
 use Rattle.clap.specs.declared.error.kind.ErrorKind.TheVariants.{OutOfMemory}
 use Rattle.std.proofs.Common.{ℕ, ◌⊎◌}
-use Rattle.age_cli.specs.Outcomes.{IsUsage, by_result}
+use Rattle.age_cli.specs.Outcomes.{IsUsage}
 use Rattle.age_cli.specs.inner.Endings.{IsForOutput}
 use Rattle.age_cli.proofs.ActSteps.{spares_kept}
 use Rattle.age_cli_common.proofs.EventSteps.{followed}
-use Rattle.age_cli.proofs.RunSteps.{Implies}
 
 -- whether there are words
 pub no_words : (ws : List (Bor Text)) (test : Bool) → test ≡ (length ws == 0) → test ≡ true → texts ws ≡ []
@@ -61,33 +60,31 @@ pub help_done : {A P : Type 0} (r : Result A Ending) (Q : Type 0) → (IsOk r �
 help_done (Ok x) Q asked printed = (asked refl, printed)
 help_done (Err e) Q asked printed = tt
 
--- what is refused wasn't printed
-pub refused_unprinted : (r : Result (Unit {0}) Ending) (Unprinted : Type 0) (old new : SinkView)
-    → IfErr r (λ e. (IsRefusal e × Unprinted) ⊎ FailsWriting old new e) → IfErr r (λ e. IsUsage e → Unprinted)
-refused_unprinted (Ok x) Unprinted old new fails = tt
-refused_unprinted (Err e) Unprinted old new (inl (refused, unprinted)) = λ usage. unprinted
-refused_unprinted (Err e) Unprinted old new (inr writing) = λ usage. absurd (true≢false (sym usage ∙ ap is_usage writing.0))
+-- and so where it can't be written
+pub help_fails : (r : Result (Unit {0}) Ending) (Unprinted Asked Help : Type 0) (old new : SinkView) → (Asked → Help)
+    → IfErr r (λ e. (IsRefusal e × Unprinted) ⊎ (Asked × FailsWriting old new e)) → IfErr r (λ e. (IsRefusal e × Unprinted) ⊎ (Help × FailsWriting old new e))
+help_fails (Ok x) Unprinted Asked Help old new help fails = tt
+help_fails (Err e) Unprinted Asked Help old new help (inl refused) = inl refused
+help_fails (Err e) Unprinted Asked Help old new help (inr (asked, writing)) = inr (help asked, writing)
 
-pub no_help : {A P : Type 0} (r : Result A Ending) → (IsOk r → P) → (P → ⊥) → IfErr r IsRefusal → IsErrAnd r IsRefusal
-no_help (Ok x) asked unasked refusal = absurd (unasked (asked refl))
-no_help (Err e) asked unasked refusal = refusal
+-- what is refused isn't printed
+pub refused_unprinted : (r : Result (Unit {0}) Ending) (Help Unprinted : Type 0) (old new : SinkView)
+    → IfErr r (λ e. (IsRefusal e × Unprinted) ⊎ (Help × FailsWriting old new e)) → IfErr r (λ e. IsUsage e → Unprinted)
+refused_unprinted (Ok x) Help Unprinted old new fails = tt
+refused_unprinted (Err e) Help Unprinted old new (inl (refused, unprinted)) = λ usage. unprinted
+refused_unprinted (Err e) Help Unprinted old new (inr (help, writing)) = λ usage. absurd (true≢false (sym usage ∙ ap is_usage writing.0))
 
--- a command that refuses its command line refuses
-pub refuses : {A : Type 0} (r : Result A Ending) → IsErrAnd r IsUsage → IsErrAnd r IsRefusal
-refuses (Ok x) usage = absurd usage
-refuses (Err e) usage = inl usage
-
-pub refuses_so : (r : Result (Unit {0}) Ending) → Implies (by_result IsUsage r) (by_result IsRefusal r)
-refuses_so r = record { done = λ P did. did; refused = λ P did. did; stopped = λ Ends did. did; declined = refuses r }
+-- and without a call for help all is refused
+pub no_help : (r : Result (Unit {0}) Ending) (Help Printed Unprinted : Type 0) (old new : SinkView) → OnOk r (Help × Printed)
+    → IfErr r (λ e. (IsRefusal e × Unprinted) ⊎ (Help × FailsWriting old new e)) → (Help → ⊥) → IsErrAnd r IsRefusal × Unprinted
+no_help (Ok x) Help Printed Unprinted old new done fails unasked = absurd (unasked done.0)
+no_help (Err e) Help Printed Unprinted old new done (inl refused) unasked = refused
+no_help (Err e) Help Printed Unprinted old new done (inr (help, writing)) unasked = absurd (unasked help)
 
 -- words that make a request are refused only where memory was
 pub asked_fails : (words : List Text) (e : Error) → HasKind (refusals words) e → (asked : Request) → Requests words asked → kind_of e ≡ OutOfMemory
 asked_fails words e (inl memory) asked made = memory
 asked_fails words e (inr among) asked (name, rows, asks, is) = absurd (subst (λ (ks : Kinds). IsAmong (kind_of e) ks) asks.taken among)
-
-pub lacks : (r : Result (Unit {0}) Ending) → IsErrAnd r (λ e. e ≡ Fault Memory) → LacksMemory (by_result IsRefusal r)
-lacks (Ok x) is = absurd is
-lacks (Err e) is = (tt, λ usage. true≢false (sym usage ∙ ap is_usage is), is)
 
 -- a report that failed doesn't blame the command line
 pub report_fault : (held : Option (List ℕ)) (e : Ending) → FailsReport held e → is_usage e ≡ false
@@ -96,15 +93,13 @@ report_fault held (Words text) fails = absurd fails
 report_fault held (Usage usage) fails = absurd fails
 report_fault held (Unsaved fault second) fails = absurd fails
 
-pub reported_by : (r : Result (Unit {0}) Ending) (Report Unprinted : Type 0) (held : Option (List ℕ)) (old new : SinkView) → OnOk r Report → OnOk r (new.settled ≡ true)
-    → IfErr r (FailsReport held) → IfErr r (λ e. FailsWriting old new e ⊎ Unprinted) → Reported (by_result IsRefusal r) Report Unprinted held old new
-reported_by r Report Unprinted held old new done sent fails unprinted = record {
-  done = done;
-  sent = sent;
-  stops = fails;
-  unprinted = unprinted;
-  accepted = IfErr-weaker r _ _ (λ e f usage. true≢false (sym usage ∙ report_fault held e f)) fails;
-}
+pub both_done : (P Q : Type 0) (r : Result (Unit {0}) Ending) → OnOk r P → OnOk r Q → OnOk r (P × Q)
+both_done P Q (Ok x) p q = (p, q)
+both_done P Q (Err e) p q = tt
+
+-- a report doesn't blame the command line
+pub reported_accepts : (r : Result (Unit {0}) Ending) (held : Option (List ℕ)) → IfErr r (FailsReport held) → IfErr r (λ e. IsUsage e → ⊥)
+reported_accepts r held fails = IfErr-weaker r _ _ (λ e f usage. true≢false (sym usage ∙ report_fault held e f)) fails
 
 always : {A : Type 0} (r : Result A Ending) (P : Type 0) → P → OnOk r P
 always (Ok x) P p = p
@@ -118,7 +113,7 @@ module _ (IsPorts : Ports → Type 0) (shows : Bool) (before after : FilesView) 
     (kept : after.entries ≡ before.entries) (silent : Unshown) where
   -- of a drill
   pub drill_acts : (d : Drilling) → Follows (order_asked (Drill d)).whole before.events after.events
-      → OnOk r (after.events ≡ before.events ++ (order_asked (Drill d)).done) → Acts IsPorts shows (Drill d) before after Failed Unshown (by_result IsRefusal r)
+      → OnOk r (after.events ≡ before.events ++ (order_asked (Drill d)).done) → Acts IsPorts shows (Drill d) before after Failed Unshown r
   drill_acts d whole finished = record {
     done = always r _ (λ shown. tt);
     ran = always r _ tt;
@@ -136,7 +131,7 @@ module _ (IsPorts : Ports → Type 0) (shows : Bool) (before after : FilesView) 
 
   -- of a report: a file is opened, or none, and no fault is one of the words
   pub inspect_acts : (file : Option (Bor Text)) → after.events ≡ before.events ++ (order_asked (Inspect file)).done → IfErr r (λ e. is_usage e ≡ false)
-      → Acts IsPorts shows (Inspect file) before after Failed Unshown (by_result IsRefusal r)
+      → Acts IsPorts shows (Inspect file) before after Failed Unshown r
   inspect_acts file noted fault =
       let impossible : (P : Type 0) → IfErr r (λ e. IsUsage e → P) =
       λ P. IfErr-weaker r _ _ (λ e no usage. absurd (true≢false (sym usage ∙ no))) fault in

@@ -1,13 +1,14 @@
 -- What the status says of an ending.
-use Rattle.std.proofs.Common.{◌≡◌, ◌≤◌, ◌⊎◌, inl, inr, arith, refl, sym, subst, ℕ, Bool, true, false, List, Option, None}
+use Rattle.std.proofs.Common.{◌≡◌, ◌∙◌, ◌⊎◌, inl, inr, arith, refl, sym, subst, ℕ, Bool, true, false, List, Option, None}
 use Rattle.std.proofs.Common.{Result, Ok, Err}
+use Rattle.std.specs.Prelude.{OnErr}
 use Rattle.age_fault.proofs.Bytes.{Appends-then}
 use Rattle.age_fault.specs.Faults.{HasRisen}
 use Rattle.age_cli_common.specs.Endings.{is_usage}
 use Rattle.age_cli_common.specs.FaultLines.{Announces, ReportsEnding, ReportsRest, Takes, Tells, fault_line}
 use Rattle.age_cli_common.specs.declared.ending.Announcement.{Announcement}
 use Rattle.age_cli_common.specs.declared.ending.Announcement.TheVariants.{Unmade, Made, Failed}
-use Rattle.age_cli.specs.Outcomes.{status_of}
+use Rattle.age_cli.specs.Outcomes.{status_by, status_of}
 use Rattle.age_cli_common.specs.declared.ending.Ending.{Ending}
 use Rattle.age_cli_common.specs.declared.ending.Ending.TheVariants.{Words, Usage, Fault, Unsaved}
 use Rattle.age_io.specs.Views.{SinkView, SourceView}
@@ -20,12 +21,6 @@ use Rattle.age_fault.specs.declared.fault.FileFault.TheVariants.{PositionForged,
 use Rattle.age_fileset.specs.FileSet.{IsMemoryOr}
 use Rattle.age_cli.specs.Inspections.{FailsReport, seen}
 
-pub status_within : (e : Ending) → status_of e ≤ 2
-status_within (Fault fault) = omega arith
-status_within (Unsaved fault second) = omega arith
-status_within (Words text) = omega arith
-status_within (Usage usage) = omega arith
-
 -- an ending has another status than success
 pub failed_status : (e : Ending) → status_of e ≡ 0 → ⊥
 failed_status (Fault fault) zero = absurd (omega (arith, zero))
@@ -33,12 +28,9 @@ failed_status (Unsaved fault second) zero = absurd (omega (arith, zero))
 failed_status (Words text) zero = absurd (omega (arith, zero))
 failed_status (Usage usage) zero = absurd (omega (arith, zero))
 
--- status 2 is that of a refused command line
-pub usage_status : (e : Ending) → status_of e ≡ 2 → is_usage e ≡ true
-usage_status (Fault fault) two = absurd (omega (arith, two))
-usage_status (Unsaved fault second) two = absurd (omega (arith, two))
-usage_status (Words text) two = refl
-usage_status (Usage usage) two = refl
+pub failed_by : (r : Result (Unit {0}) Ending) (status : ℕ) → status ≡ status_by r → OnErr r (status ≡ 0 → ⊥)
+failed_by (Ok done) status is = tt
+failed_by (Err e) status is = λ zero. failed_status e (sym is ∙ zero)
 
 -- where nothing is announced, the sink is as it was
 pub unmade : {A : Type 0} (r : Result A Ending) (old new : SinkView) (Quiet : Type 0) → Quiet → Tells Unmade r old new Quiet

@@ -1,5 +1,6 @@
 -- What a command does of what it is asked.
 use Rattle.std.specs.Prelude.{◌≡◌, ◌⊎◌, ℕ, Bool, true, List, ◌++◌, is_some, Option, Some, None}
+use Rattle.std.specs.Prelude.{Result, OnOk, IfErr, IsErrAnd}
 use Rattle.age_file.specs.Ports.{Ports}
 use Rattle.age_file.specs.Secrets.{SecretView}
 use Rattle.age_file.specs.declared.position.Position.{Position}
@@ -24,7 +25,7 @@ use Rattle.age_cli_common.specs.declared.ending.Ending.TheVariants.{Fault}
 use Rattle.age_cli_common.specs.declared.identity.Identity.{Identity}
 use Rattle.age_cli.specs.Encryptions.{MakesSecret}
 use Rattle.age_cli.specs.Engines.{Engine, sealing, opening, resuming}
-use Rattle.age_cli.specs.Outcomes.{Outcome}
+use Rattle.age_cli.specs.Outcomes.{IsUsage}
 use Rattle.age_cli.specs.Outputs.{Paths, Stops, Writes, kept_for}
 use Rattle.age_cli.specs.Resumptions.{HoldsNoPosition, IsPositionIn, old_for}
 
@@ -100,38 +101,38 @@ module _ (IsPorts : Ports → Type 0) where
   -- What stands before and after a command; `shows` says whether contracts see the files, `Failed`
   -- that a source of these failed, and `Unshown` that the progress is as it was.
   pub record Acts (shows : Bool) (asked : Request) (before after : FilesView)
-      (Failed Unshown : Type 0) (how : Outcome) : Type 0 where
+      (Failed Unshown : Type 0) (ended : Result (Unit {0}) Ending) : Type 0 where
     -- OUT holds what the engine promises for what the names stood for at the call.
-    pub done : how.if_done (shows ≡ true → OfEngine asked before.entries
+    pub done : OnOk ended (shows ≡ true → OfEngine asked before.entries
         (λ engine paths. Writes IsPorts engine paths before.entries after.entries))
     -- The engine ran, also where contracts don't see the files.
-    pub ran : how.if_done (OfSomeEngine asked HasEnded)
+    pub ran : OnOk ended (OfSomeEngine asked HasEnded)
     -- Nothing differs, and 26 and 27 have a reason; or OUT holds what the engine promises for a
     -- stop, and the file of `--save` its position.
-    pub stops : shows ≡ true → how.if_stopped (λ ending. ((after.entries ≡ before.entries)
+    pub stops : shows ≡ true → IfErr ended (λ ending. ((after.entries ≡ before.entries)
         × EndsBefore asked before.entries ending
         × HasReason before.entries after.events Failed ending) ⊎ OfEngine asked before.entries
         (λ engine paths. Stops IsPorts engine paths before.entries after.entries ending))
     -- A command line that is refused changes no file.
-    pub usage : how.if_refused (after.entries ≡ before.entries)
+    pub usage : IfErr ended (λ e. IsUsage e → after.entries ≡ before.entries)
     -- Where contracts see the files, it is refused for this alone.
-    pub blamed : shows ≡ true → how.if_refused (NamesTwice (order_asked asked).apart
-        ⊎ GivesNone asked before.entries)
+    pub blamed : shows ≡ true → IfErr ended (λ e. IsUsage e
+        → NamesTwice (order_asked asked).apart ⊎ GivesNone asked before.entries)
     -- However it ended, no file but OUT and that of `--save` differs.
     pub spares : shows ≡ true → Spares asked before.entries after.entries
     -- What is opened and made, also of the machine's files, is a beginning of the command's order.
     pub order : Follows (order_asked asked).whole before.events after.events
     -- If all is done, it is all of it but what a stop adds.
-    pub order_done : how.if_done (after.events ≡ before.events ++ (order_asked asked).done)
+    pub order_done : OnOk ended (after.events ≡ before.events ++ (order_asked asked).done)
     -- If the command line is refused, it is a beginning of that.
-    pub order_usage : how.if_refused
-        (Follows (order_asked asked).done before.events after.events)
+    pub order_usage : IfErr ended
+        (λ e. IsUsage e → Follows (order_asked asked).done before.events after.events)
     -- Where contracts see the files it is then only what the words are judged by: the output has to
     -- be opened to find that it is another file.
-    pub order_shown : shows ≡ true → how.if_refused
-        (Follows (order_asked asked).judged before.events after.events)
+    pub order_shown : shows ≡ true → IfErr ended
+        (λ e. IsUsage e → Follows (order_asked asked).judged before.events after.events)
     -- Names that have to differ are refused before a file is opened.
     pub apart : NamesTwice (order_asked asked).apart
-        → (after.events ≡ before.events) × how.is_refused
+        → (after.events ≡ before.events) × IsErrAnd ended IsUsage
     -- Without `--progress` no progress is shown.
     pub silent : progress_of asked ≡ Silent → Unshown

@@ -1,20 +1,27 @@
 -- The headline for OUT: it holds nothing but what the file's writer wrote.
 use Rattle.std.specs.Prelude.{◌≡◌, ◌⊎◌, ℕ, ◌*◌, ◌≤◌, true, List, [], ◌++◌, length}
 use Rattle.std.specs.Prelude.{take, Option, Some}
+use Rattle.clap.specs.Words.{Text}
 use Rattle.age_stanza.specs.Grammar.{HeadText}
 use Rattle.age_chunk.specs.Payload.{chunk_count, chunk_length, block_length}
 use Rattle.age_stream.specs.Headline.{IsPrefixOf}
 use Rattle.age_chunk.specs.Nonce.{chunk_limit}
 use Rattle.age_keys.specs.Opened.{Opens}
+use Rattle.age_io.specs.Views.{SinkView}
+use Rattle.age_file.specs.Ports.{Ports}
 use Rattle.age_file.specs.Runs.{Run, IsFromStart, IsTexts, IsAuthenticRun}
 use Rattle.age_file.specs.Verdicts.{HasId, HasTag}
 use Rattle.age_file.specs.declared.position.Position.{Position}
 use Rattle.age_cli_common.specs.Files.{Files}
 use Rattle.age_cli_common.specs.declared.identity.Identity.{Identity}
 use Rattle.age_cli_common.specs.Identities.{allows_by, OpensBy}
+use Rattle.age_cli_args.specs.Requests.{Requests}
 use Rattle.age_cli_args.specs.declared.request.Decrypting.{Decrypting}
 use Rattle.age_cli_args.specs.declared.request.Resuming.{Resuming}
+use Rattle.age_cli_args.specs.declared.request.Request.TheVariants.{Decrypt, Resume}
+use Rattle.age_cli.specs.Obeying.{Around}
 use Rattle.age_cli.specs.Resumptions.{IsPositionIn}
+use Rattle.age_cli.specs.Runs.{Runs}
 
 -- a beginning of the input, as a run may have read it: a header that opens, the payload nonce, the
 -- blocks before the run's first chunk, and bytes after them; and all of the input where it was read
@@ -67,3 +74,33 @@ pub record IsWritersResumption (asked : Resuming) (old : Files) (text : List ℕ
       → IsWritersOld (old asked.old.now) p text
   pub rest : (p : Position) → IsPositionIn (old asked.position.now) p
       → IsWritersRest asked.decrypting old p text
+
+-- ---- of a run
+
+-- Whatever the status, OUT is as it was or holds a beginning of the plaintext, while no block of IN
+-- opens except as its writer sealed it; and 0 means all of the plaintext.
+abbrev pub DecryptKeepsOut : List Text → (before after : Around) → ℕ → Type 0
+DecryptKeepsOut words before after status =
+    (d : Decrypting) (text : List ℕ) → Requests words (Decrypt d)
+    → IsWritersInput d before.files.entries text
+    → KeepsOut (before.files.entries d.to.now) (after.files.entries d.to.now) status text
+
+-- The same of `resume`, while the old text begins with the chunks of the plaintext before the
+-- position.
+abbrev pub ResumeKeepsOut : List Text → (before after : Around) → ℕ → Type 0
+ResumeKeepsOut words before after status =
+    (r : Resuming) (text : List ℕ) → Requests words (Resume r)
+    → IsWritersResumption r before.files.entries text
+    → KeepsOut (before.files.entries r.decrypting.to.now)
+    (after.files.entries r.decrypting.to.now) status text
+
+-- A run over files that contracts see does so: of these ports, with a meter and sinks and a source
+-- of these types.
+abbrev pub RunsKeepOut : (Ports → Type 0) → (Failed Input Output Faults Progress : Type 0) → Type 0
+RunsKeepOut IsPorts Failed Input Output Faults Progress =
+    (words : List Text) (before after : Around) (faults_old faults_new : SinkView)
+    (input : Input × Input) (output : Output × Output) (faults : Faults × Faults)
+    (progress : Progress × Progress) (status : ℕ)
+    → Runs words true IsPorts before after faults_old faults_new Failed (faults.1 ≡ faults.0)
+    (input.1 ≡ input.0) (output.1 ≡ output.0) (progress.1 ≡ progress.0) status
+    → DecryptKeepsOut words before after status × ResumeKeepsOut words before after status

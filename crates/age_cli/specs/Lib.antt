@@ -6,7 +6,8 @@ pub mod Outcomes
 pub mod ReportTexts
 pub mod Inspections
 pub mod Acts
-pub mod Headline
 pub mod Obeying
 pub mod Runs
+pub mod Headline
+pub mod Laws
 pub mod inner

@@ -1,5 +1,6 @@
 -- What a run does of what its words ask for.
 use Rattle.std.specs.Prelude.{◌≡◌, ◌⊎◌, ℕ, Bool, true, List, [], Option, Some, None, is_some}
+use Rattle.std.specs.Prelude.{Result, OnOk, IfErr, IsErrAnd}
 use Rattle.std.specs.Io.KnownBytes.{Appends}
 use Rattle.clap.specs.Words.{Text}
 use Rattle.age_cli_args.specs.Asked.{AsksHelp, AsksVersion}
@@ -15,7 +16,7 @@ use Rattle.age_cli_common.specs.declared.ending.Ending.{Ending}
 use Rattle.age_cli_common.specs.declared.ending.Ending.TheVariants.{Fault}
 use Rattle.age_cli.specs.Acts.{Acts}
 use Rattle.age_cli.specs.Inspections.{Reports, ReportsFile, FailsReport, seen}
-use Rattle.age_cli.specs.Outcomes.{Outcome, IsUsage}
+use Rattle.age_cli.specs.Outcomes.{IsUsage}
 
 -- what a run works with: the set of files, what the input still has to give, and the output
 pub record Around : Type 0 where
@@ -30,10 +31,6 @@ around files input output = record { files = files; input = input; output = outp
 abbrev pub IsRefusal : Ending → Type 0
 IsRefusal ending = IsUsage ending ⊎ (ending ≡ Fault Memory)
 
--- memory was refused, which is all that was amiss
-abbrev pub LacksMemory : Outcome → Type 0
-LacksMemory how = how.if_done ⊥ × how.if_refused ⊥ × how.if_stopped (λ e. e ≡ Fault Memory)
-
 -- help or the version is asked for
 abbrev pub IsForHelp : List Text → Type 0
 IsForHelp words = AsksHelp words ⊎ AsksVersion words
@@ -47,25 +44,23 @@ abbrev pub Prints : (old new : SinkView) → Type 0
 Prints old new = (text : List ℕ) × Appends old.taken new.taken text × (new.settled ≡ true)
 
 -- a report was written, and sent on; or it failed with a fault of what was to be reported, and
--- nothing was written, unless writing failed. The command line is not to blame.
-pub record Reported (how : Outcome) (Report Unprinted : Type 0) (held : Option (List ℕ))
-    (output_old output_new : SinkView) : Type 0 where
-  pub done : how.if_done Report
-  pub sent : how.if_done (output_new.settled ≡ true)
-  pub stops : how.if_stopped (FailsReport held)
-  pub unprinted : how.if_stopped (λ e. FailsWriting output_old output_new e ⊎ Unprinted)
-  pub accepted : how.if_refused ⊥
+-- nothing was written, unless writing failed
+pub record Reported (ended : Result (Unit {0}) Ending) (Report Unprinted : Type 0)
+    (held : Option (List ℕ)) (output_old output_new : SinkView) : Type 0 where
+  pub done : OnOk ended (Report × (output_new.settled ≡ true))
+  pub stops : IfErr ended (FailsReport held)
+  pub unprinted : IfErr ended (λ e. FailsWriting output_old output_new e ⊎ Unprinted)
 
 -- `shows` says whether contracts see the files, `IsPorts` which are the ports of those, and
 -- `Failed` that a source of them failed. `Unread`, `Unprinted` and `Unshown` say that the input, the
 -- output and the progress are as they were.
 module _ (words : List Text) (shows : Bool) (IsPorts : Ports → Type 0) (before after : Around)
-    (Failed Unread Unprinted Unshown : Type 0) (how : Outcome) where
+    (Failed Unread Unprinted Unshown : Type 0) (ended : Result (Unit {0}) Ending) where
   -- Without words the input is reported.
   pub record ReportsInput : Type 0 where
     pub none : words ≡ []
     -- It was read to its end, and its report was written.
-    pub report : Reported how
+    pub report : Reported ended
         (Reports before.input after.input before.output.taken after.output.taken) Unprinted
         before.input before.output after.output
     -- No file was opened, made or changed.
@@ -78,13 +73,13 @@ module _ (words : List Text) (shows : Bool) (IsPorts : Ports → Type 0) (before
   -- none of them reads the input.
   abbrev pub Answers : Request → Type 0
   Answers (Inspect None) =
-      Reported how (Reports before.input after.input before.output.taken after.output.taken)
+      Reported ended (Reports before.input after.input before.output.taken after.output.taken)
       Unprinted before.input before.output after.output
-  Answers (Inspect (Some name)) = Unread × Reported how (ReportsFile shows
+  Answers (Inspect (Some name)) = Unread × Reported ended (ReportsFile shows
       (before.files.entries name.now) before.output.taken after.output.taken) Unprinted
       (seen shows (before.files.entries name.now)) before.output after.output
   Answers (Drill d) = Unread × (d.clear ≡ is_some (text_of d.pass)
-      → (after.files.events ≡ before.files.events) × how.is_refused)
+      → (after.files.events ≡ before.files.events) × IsErrAnd ended IsUsage)
   Answers other = Unread × Unprinted
 
   -- Words that make a request are obeyed.
@@ -92,29 +87,26 @@ module _ (words : List Text) (shows : Bool) (IsPorts : Ports → Type 0) (before
     pub asked : Request
     pub made : Requests words asked
     -- What was done with files.
-    pub acts : Acts IsPorts shows asked before.files after.files Failed Unshown how
+    pub acts : Acts IsPorts shows asked before.files after.files Failed Unshown ended
     -- What was written to the output.
     pub answers : Answers asked
 
   -- Other words are refused, unless help or the version is asked for.
   pub record Declines : Type 0 where
     -- That is all that is done of them.
-    pub done : how.if_done (IsForHelp words × Prints before.output after.output)
-    -- If that fails, either nothing was written, or writing failed.
-    pub stops : how.if_stopped (λ e. (IsRefusal e × Unprinted)
-        ⊎ FailsWriting before.output after.output e)
-    pub refused : (IsForHelp words → ⊥) → how.is_refused
+    pub done : OnOk ended (IsForHelp words × Prints before.output after.output)
+    -- Otherwise nothing was written; or help or the version was asked for, and writing failed.
+    pub stops : IfErr ended (λ e. (IsRefusal e × Unprinted)
+        ⊎ (IsForHelp words × FailsWriting before.output after.output e))
     -- No file was opened, made or changed.
     pub untouched : after.files ≡ before.files
-    -- Only help and the version are written to the output.
-    pub unprinted : (IsForHelp words → ⊥) → Unprinted
-    pub unprinted_usage : how.if_refused Unprinted
     -- The input wasn't read, and no progress was shown.
     pub unread : Unread
     pub silent : Unshown
     -- There are words; and they make no request, or memory was refused.
     pub some : words ≡ [] → ⊥
-    pub unasked : (asked : Request) → Requests words asked → LacksMemory how
+    pub unasked : (asked : Request) → Requests words asked
+        → IsErrAnd ended (λ e. e ≡ Fault Memory)
 
   -- A run did one of these, of its words.
   abbrev pub Obeys : Type 0

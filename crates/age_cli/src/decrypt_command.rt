@@ -11,7 +11,6 @@ ghost use Rattle.age_cli_common.specs.Orders.{order_asked};
 ghost use Rattle.age_cli_common.specs.Reasons.{SourceFails};
 ghost use Rattle.age_cli.specs.Acts.{Acts};
 ghost use Rattle.age_cli.specs.Engines.{PortsOf};
-ghost use Rattle.age_cli.specs.Outcomes.{IsUsage, by_result};
 ghost use Rattle.age_cli.specs.Outputs.{kept_for};
 ghost use Rattle.age_cli.specs.inner.Names.{IsReadAs};
 ghost use Rattle.age_cli.specs.inner.Openings.{Judges};
@@ -113,7 +112,7 @@ pub fn decrypt_file<F: FileSet, E: Sink, P: Meter>(
         (faults.new ≡ faults.old) }
     ensures acts { Acts (PortsOf F.In.view F.Out.view) (F.shows_bytes) (Decrypt asked.now)
         (F.view files.old) (F.view files.new) (SourceFails F.In.view)
-        (progress.new ≡ progress.old) (by_result IsUsage result) }
+        (progress.new ≡ progress.old) result }
 {
     *told = Announcement::Unmade;
     let is_file_named_twice = names_a_file_twice(files, asked);

@@ -18,7 +18,6 @@ ghost use Rattle.age_keys.specs.Passphrase.{IsAllowed};
 ghost use Rattle.age_cli.specs.Acts.{Acts, GivesNone};
 ghost use Rattle.age_cli.specs.Encryptions.{MakesSecret, IsRandomIn};
 ghost use Rattle.age_cli.specs.Engines.{PortsOf};
-ghost use Rattle.age_cli.specs.Outcomes.{IsUsage, by_result};
 ghost use Rattle.age_cli.specs.inner.Openings.{Judges};
 ghost use Rattle.age_cli.specs.inner.Randoms.{IsRandom, IsMaterialIn};
 
@@ -207,7 +206,7 @@ pub fn encrypt_file<F: FileSet, E: Sink, P: Meter>(
         (faults.new ≡ faults.old) }
     ensures acts { Acts (PortsOf F.In.view F.Out.view) (F.shows_bytes) (Encrypt asked.now)
         (F.view files.old) (F.view files.new) (SourceFails F.In.view)
-        (progress.new ≡ progress.old) (by_result IsUsage result) }
+        (progress.new ≡ progress.old) result }
 {
     *told = Announcement::Unmade;
     let material = read_material(alloc, files, asked)?;

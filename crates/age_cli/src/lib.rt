@@ -15,6 +15,7 @@
 mod decrypt_command;
 mod encrypt_command;
 mod inspect_command;
+mod laws;
 mod output;
 mod print;
 mod program;
@@ -24,5 +25,6 @@ mod stop;
 pub use age_fileset::{FileSet, MemFiles, OpenFault};
 pub use decrypt_command::decrypt_file;
 pub use encrypt_command::encrypt_file;
+pub use laws::{refusals_are_silent, runs_keep_out};
 pub use program::run;
 pub use resume_command::resume_file;

@@ -10,7 +10,7 @@ ghost use Rattle.age_cli.specs.Engines.{PortsOf};
 ghost use Rattle.age_cli.specs.Obeying.{around, IsRefusal, Obeys, Prints, FailsWriting};
 ghost use Rattle.age_cli_common.specs.FaultLines.{Tells};
 ghost use Rattle.age_cli_common.specs.Reasons.{SourceFails};
-ghost use Rattle.age_cli.specs.Outcomes.{by_result, status_of};
+ghost use Rattle.age_cli.specs.Outcomes.{status_of};
 ghost use Rattle.age_cli.specs.Runs.{Runs};
 ghost use Rattle.age_cli.specs.inner.Endings.{IsForOutput};
 
@@ -31,11 +31,9 @@ use std::alloc::Global;
 /// Help and the version go to the output where they are asked for; other arguments are refused.
 fn answer_refusal<O: Sink>(alloc: Global, error: Error, output: &mut O) -> Result<(), Ending>
     ensures asked { IsOk result → IsForOutput (kind_of error) }
-    ensures kept { (IsForOutput (kind_of error) → ⊥) → output.new ≡ output.old }
-    ensures refusal { (IsForOutput (kind_of error) → ⊥) → IfErr result IsRefusal }
     ensures prints { OnOk result (Prints (O.view output.old) (O.view output.new)) }
     ensures fails { IfErr result (λ e. (IsRefusal e × (output.new ≡ output.old))
-        ⊎ FailsWriting (O.view output.old) (O.view output.new) e) }
+        ⊎ (IsForOutput (kind_of error) × FailsWriting (O.view output.old) (O.view output.new) e)) }
     ensures memory { kind_of error ≡ OutOfMemory → IsErrAnd result (λ e. e ≡ Fault Memory) }
 {
     if error.kind() == ErrorKind::OutOfMemory {
@@ -68,7 +66,7 @@ fn obey<F: FileSet, I: Source, O: Sink, E: Sink, P: Meter>(
         (around (F.view files.old) (I.view input.old).remaining (O.view output.old))
         (around (F.view files.new) (I.view input.new).remaining (O.view output.new))
         (SourceFails F.In.view) (input.new ≡ input.old) (output.new ≡ output.old)
-        (progress.new ≡ progress.old) (by_result IsRefusal result) }
+        (progress.new ≡ progress.old) result }
 {
     *told = Announcement::Unmade;
     if words.is_empty() {

@@ -3,15 +3,14 @@ use Rattle.std.proofs.lemmas.Result.{IfErr-weaker}
 use Rattle.clap.specs.Walk.{texts}
 use Rattle.age_cli_args.specs.Requests.{Requests}
 use Rattle.age_cli_args.specs.declared.request.Request.TheVariants.{Inspect, Encrypt, Decrypt, Resume, Drill}
-use Rattle.age_cli.proofs.ObeySteps.{no_words, some_words, asked_fails, lacks, report_fault, reported_by, for_help, help_done, no_help, refused_unprinted, refuses, refuses_so, drill_acts, inspect_acts}
+use Rattle.age_cli.proofs.ObeySteps.{no_words, some_words, asked_fails, report_fault, for_help, help_done, help_fails, both_done, drill_acts, inspect_acts}
 use Rattle.age_cli.proofs.ReportSteps.{unmade}
-use Rattle.age_cli.proofs.RunSteps.{acts_so}
 use Rattle.age_cli.proofs.program.obey.Goals as goal
 
 pub returns-then-is_empty-clause-obeys : goal.returns-then-is_empty-clause-obeys
 returns-then-is_empty-clause-obeys g c = inl (record {
   none = no_words c.args.words.now _ c.is_empty.ensures c.if-is_empty.true;
-  report = reported_by c.report.result _ _ _ _ _ c.report.ensures.done c.report.ensures.sent c.report.ensures.fails c.report.ensures.unprinted;
+  report = record { done = both_done _ _ c.report.result c.report.ensures.done c.report.ensures.sent; stops = c.report.ensures.fails; unprinted = c.report.ensures.unprinted };
   untouched = refl;
   silent = refl;
 })
@@ -23,10 +22,7 @@ pub returns-in-Ok-None-clause-obeys : goal.returns-in-Ok-None-clause-obeys
 returns-in-Ok-None-clause-obeys g c = inr (inr (record {
   done = tt;
   stops = inl (inl refl, refl);
-  refused = λ no. inl refl;
   untouched = refl;
-  unprinted = λ no. refl;
-  unprinted_usage = λ usage. refl;
   unread = refl;
   silent = refl;
   some = λ none. some_words c.args.words.now _ c.is_empty.ensures c.if-is_empty.false none;
@@ -44,15 +40,12 @@ returns-in-Err-clause-obeys g c =
     let help = for_help w c.in-Err.error c.in-Err.ensures.refusals in
     inr (inr (record {
       done = help_done r _ (λ ok. help (did.asked ok)) did.prints;
-      stops = did.fails;
-      refused = λ no. no_help r (λ ok. help (did.asked ok)) no (did.refusal (λ asked. no (help asked)));
+      stops = help_fails r _ _ _ (g.O.Sink.view c.args.output.now) (g.O.Sink.view c.answer_refusal.new.output) help did.fails;
       untouched = refl;
-      unprinted = λ no. did.kept (λ asked. no (help asked));
-      unprinted_usage = refused_unprinted r _ (g.O.Sink.view c.args.output.now) (g.O.Sink.view c.answer_refusal.new.output) did.fails;
       unread = refl;
       silent = refl;
       some = λ none. some_words c.args.words.now _ c.is_empty.ensures c.if-is_empty.false none;
-      unasked = λ asked made. lacks r (did.memory (asked_fails w c.in-Err.error c.in-Err.ensures.refusals asked made));
+      unasked = λ asked made. did.memory (asked_fails w c.in-Err.error c.in-Err.ensures.refusals asked made);
     }))
 
 pub returns-in-Err-clause-announced : goal.returns-in-Err-clause-announced
@@ -66,7 +59,7 @@ returns-in-Inspect-Some-clause-obeys g c =
       asked = Inspect (Some here.name);
       made = subst (Requests (texts c.args.words.now)) (here.is ∙ ap Inspect (rw here.is at here.field-0-is)) (rw c.in-Ok-Some.field-0-is at c.in-Ok-Some.ensures.asked);
       acts = inspect_acts _ _ _ _ _ _ c.report_file.result did.kept refl (Some here.name) did.noted (IfErr-weaker c.report_file.result _ _ (report_fault _) did.fails);
-      answers = (refl, reported_by c.report_file.result _ _ _ _ _ did.done did.sent did.fails did.unprinted);
+      answers = (refl, record { done = both_done _ _ c.report_file.result did.done did.sent; stops = did.fails; unprinted = did.unprinted });
     }))
 
 pub returns-in-Inspect-Some-clause-announced : goal.returns-in-Inspect-Some-clause-announced
@@ -80,7 +73,7 @@ returns-in-Inspect-None-clause-obeys g c =
       asked = Inspect None;
       made = subst (Requests (texts c.args.words.now)) (here.is ∙ ap Inspect (rw here.is at here.field-0-is)) (rw c.in-Ok-Some.field-0-is at c.in-Ok-Some.ensures.asked);
       acts = inspect_acts _ _ _ _ _ _ c.report-in-Inspect-None.result refl refl None (sym (append-nil _)) (IfErr-weaker c.report-in-Inspect-None.result _ _ (report_fault _) did.fails);
-      answers = reported_by c.report-in-Inspect-None.result _ _ _ _ _ did.done did.sent did.fails did.unprinted;
+      answers = record { done = both_done _ _ c.report-in-Inspect-None.result did.done did.sent; stops = did.fails; unprinted = did.unprinted };
     }))
 
 pub returns-in-Inspect-None-clause-announced : goal.returns-in-Inspect-None-clause-announced
@@ -92,7 +85,7 @@ returns-in-Encrypt-clause-obeys g c =
     inr (inl (record {
       asked = Encrypt here.asked;
       made = subst (Requests (texts c.args.words.now)) here.is (rw c.in-Ok-Some.field-0-is at c.in-Ok-Some.ensures.asked);
-      acts = acts_so _ _ _ _ _ _ _ _ _ (refuses_so c.encrypt_file.result) c.encrypt_file.ensures.acts;
+      acts = c.encrypt_file.ensures.acts;
       answers = (refl, refl);
     }))
 
@@ -105,7 +98,7 @@ returns-in-Decrypt-clause-obeys g c =
     inr (inl (record {
       asked = Decrypt here.asked;
       made = subst (Requests (texts c.args.words.now)) here.is (rw c.in-Ok-Some.field-0-is at c.in-Ok-Some.ensures.asked);
-      acts = acts_so _ _ _ _ _ _ _ _ _ (refuses_so c.decrypt_file.result) c.decrypt_file.ensures.acts;
+      acts = c.decrypt_file.ensures.acts;
       answers = (refl, refl);
     }))
 
@@ -118,7 +111,7 @@ returns-in-Resume-clause-obeys g c =
     inr (inl (record {
       asked = Resume here.asked;
       made = subst (Requests (texts c.args.words.now)) here.is (rw c.in-Ok-Some.field-0-is at c.in-Ok-Some.ensures.asked);
-      acts = acts_so _ _ _ _ _ _ _ _ _ (refuses_so c.resume_file.result) c.resume_file.ensures.acts;
+      acts = c.resume_file.ensures.acts;
       answers = (refl, refl);
     }))
 
@@ -133,7 +126,7 @@ returns-in-Drill-clause-obeys g c =
       asked = Drill here.asked;
       made = subst (Requests (texts c.args.words.now)) here.is (rw c.in-Ok-Some.field-0-is at c.in-Ok-Some.ensures.asked);
       acts = drill_acts _ _ _ _ _ _ c.drill_file.result did.kept refl here.asked did.order did.order_done;
-      answers = (refl, λ both. let no = did.one both in (no.0, refuses c.drill_file.result no.1));
+      answers = (refl, did.one);
     }))
 
 pub returns-in-Drill-clause-announced : goal.returns-in-Drill-clause-announced

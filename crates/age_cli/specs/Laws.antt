@@ -1,0 +1,25 @@
+-- What follows of a run from what its parts promise.
+use Rattle.std.specs.Prelude.{◌≡◌, ℕ, Bool, List, Option, Result, IfErr, IsErrAnd}
+use Rattle.clap.specs.Words.{Text}
+use Rattle.age_file.specs.Ports.{Ports}
+use Rattle.age_cli_common.specs.declared.ending.Ending.{Ending}
+use Rattle.age_cli.specs.Inspections.{FailsReport}
+use Rattle.age_cli.specs.Obeying.{Around, Declines, IsForHelp, IsRefusal}
+use Rattle.age_cli.specs.Outcomes.{IsUsage}
+
+-- Words that ask neither for help nor for the version are refused, or memory is, and nothing is
+-- written; nor is it with any other words that are refused.
+abbrev pub RefusesInSilence : Bool → (Ports → Type 0) → (Failed Input Output Progress : Type 0)
+    → Type 0
+RefusesInSilence shows IsPorts Failed Input Output Progress =
+    (words : List Text) (before after : Around) (input : Input × Input) (output : Output × Output)
+    (progress : Progress × Progress) (ended : Result (Unit {0}) Ending)
+    → Declines words shows IsPorts before after Failed (input.1 ≡ input.0) (output.1 ≡ output.0)
+    (progress.1 ≡ progress.0) ended
+    → ((IsForHelp words → ⊥) → IsErrAnd ended IsRefusal × (output.1 ≡ output.0))
+    × IfErr ended (λ e. IsUsage e → output.1 ≡ output.0)
+
+-- A report that fails doesn't blame the command line.
+abbrev pub ReportsAccept : Type 0
+ReportsAccept = (ended : Result (Unit {0}) Ending) (held : Option (List ℕ))
+    → IfErr ended (FailsReport held) → IfErr ended (λ e. IsUsage e → ⊥)

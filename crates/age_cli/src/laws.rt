@@ -1,0 +1,25 @@
+//! Laws over the definitions: each call does nothing.
+
+ghost use Rattle.age_cli.specs.Engines.{PortsOf};
+ghost use Rattle.age_cli.specs.Headline.{RunsKeepOut};
+ghost use Rattle.age_cli.specs.Laws.{RefusesInSilence, ReportsAccept};
+ghost use Rattle.age_cli_common.specs.Reasons.{SourceFails};
+
+use age_file::{Sink, Source};
+use age_fileset::FileSet;
+use age_io::Meter;
+
+/// The headline of [`run`](crate::run) over files that contracts see: whatever the status, OUT is
+/// as it was or holds a beginning of the plaintext, while no block of IN opens except as its writer
+/// sealed it; and 0 means all of the plaintext.
+pub fn runs_keep_out<F: FileSet, I: Source, O: Sink, E: Sink, P: Meter>()
+    ensures { RunsKeepOut (PortsOf F.In.view F.Out.view) (SourceFails F.In.view) I O E P }
+{}
+
+/// What is refused writes nothing to the output, and a report that fails doesn't blame the command
+/// line.
+pub fn refusals_are_silent<F: FileSet, I: Source, O: Sink, P: Meter>()
+    ensures declined { RefusesInSilence (F.shows_bytes) (PortsOf F.In.view F.Out.view)
+        (SourceFails F.In.view) I O P }
+    ensures reported { ReportsAccept }
+{}
