@@ -1,7 +1,7 @@
 //! The texts of the help.
 
 /// The version of the workspace, which `--version` prints.
-pub(crate) const VERSION: &str = "0.1.0";
+pub(crate) const VERSION: &str = "1.1.0";
 
 pub(crate) const PROGRAM: &str = "Encrypt, decrypt and inspect age files (age-encryption.org/v1).";
 
@@ -13,7 +13,12 @@ pub(crate) const AFTER_PROGRAM: &str =
 
 Exit status: 0 on success; 1 on a fault, reported in one line such as
 `age_tool: 13 WrongKey`; 2 for a bad command line, and then no file has changed.
-docs/FAULTS.md says what each fault means, what is left, and what to do.
+
+Faults: 1-8 no age file, or its header is damaged or cut; 9-15 no key was found;
+16-22 the payload is damaged, cut, or followed by something; 23-25, 30 and 31
+position, file and old output don't belong together; 26 a file can't be read;
+27 one can't be written; 28 out of memory; 29 an input never ends.
+`man age_tool` and share/doc/age_tool/FAULTS.md of a release say more.
 
 A name is a path: `-` is a file of that name; /dev/stdin and /dev/stdout are the
 standard streams. OUT must not be one of the files that are read, under any name.
@@ -25,9 +30,9 @@ pub(crate) const ENCRYPT: &str = "Encrypt a file with a passphrase";
 pub(crate) const AFTER_ENCRYPT: &str =
     "Example: age_tool encrypt --pass passphrase.txt notes.txt notes.txt.age
 
-`age -d` opens the result with the passphrase. OUT keeps what it held until the
-first byte is written. If encryption stops after that, what it has written stays
-in OUT.";
+`age -d` opens the result if the passphrase is one line that can be typed. OUT
+keeps what it held until the first byte is written. If encryption stops after
+that, what it has written stays in OUT.";
 
 pub(crate) const DECRYPT: &str = "Decrypt an age file";
 
@@ -36,8 +41,8 @@ pub(crate) const AFTER_DECRYPT: &str =
 
 One of --pass, --file-key and --shared is required. Every chunk is checked
 before it is written. Only status 0 means that OUT is the complete plaintext:
-after a fault it holds the part that was checked so far. If nothing was written,
-OUT is as it was; otherwise it has been overwritten.";
+after a fault it is as it was, or holds the part that was checked so far (after
+27 perhaps followed by what it held before).";
 
 pub(crate) const RESUME: &str = "Continue a decryption that stopped";
 
@@ -58,7 +63,8 @@ pub(crate) const INSPECT: &str = "Report what the header of an age file contains
 pub(crate) const AFTER_INSPECT: &str = "Example: age_tool inspect notes.txt.age
 
 Nothing is decrypted. The report gives the length of the header, its stanzas,
-the number of bytes after it, and how long the plaintext is.";
+the number of bytes after it, and how long the plaintext is if the file is
+whole, which isn't checked.";
 
 pub(crate) const DRILL: &str = "Deliver a payload by a script, and report what a reader holds";
 
@@ -79,7 +85,8 @@ has at most 1,000 lines and 1,048,576 bytes, a payload at most 16,777,216 bytes.
 
 pub(crate) const PASS: &str = "File with the passphrase, 1 to 65,536 bytes. The
 passphrase is the file's contents; one trailing newline
-is ignored. From /dev/tty it is shown as it is typed";
+is ignored, a carriage return isn't. From /dev/tty it is
+shown as it is typed";
 
 pub(crate) const LOG: &str = "Work factor, 1 to 22 [default: 18]. Opening the file
 takes 2^N KiB of memory; each step doubles the time";
@@ -97,8 +104,8 @@ pub(crate) const MAX_LOG: &str = "Refuse work factors above N, 1 to 22 [default:
 A file with work factor 22 takes 4 GiB of memory";
 
 pub(crate) const SAVE: &str = "If decryption stops, save its position here, so that
-`resume` can continue; not the same file as one that is
-read or written, except that of --position. Makes
+`resume` can continue, and replace the position that it
+was given; no other file that is read or written. Makes
 decryption slower. Best on a disk that OUT can't fill";
 
 pub(crate) const NO_SYNC: &str = "Don't wait until OUT, a regular file or a block device,

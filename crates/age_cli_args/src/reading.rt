@@ -108,7 +108,8 @@ fn encrypting<'a>(matches: &ArgMatches<'a>) -> Option<Encrypting<'a>>
 
 fn identity_options<'a>(matches: &ArgMatches<'a>) -> Option<IdentityOptions<'a>>
     ensures some { IfSome result (IsIdentityOptions (rows_of (found_of matches.now))) }
-    ensures none { IfNone result ((x : IdentityOptions) → IsIdentityOptions (rows_of (found_of matches.now)) x → ⊥) }
+    ensures none { IfNone result ((x : IdentityOptions)
+        → IsIdentityOptions (rows_of (found_of matches.now)) x → ⊥) }
 {
     Some(IdentityOptions {
         pass: text(matches, "pass"),
