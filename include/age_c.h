@@ -26,15 +26,15 @@
  *
  * bindings/c/decrypt.c (share/age_tool/decrypt.c of a release) is a whole program.
  *
- * WHAT HOLDS. Each text that a call writes was checked: while nobody forges a tag, the texts of
- * one reader, joined, are a prefix of what the file's writer wrote, and once age_c_end returned 0
- * they are all of it. Before that the text may be cut short: don't act on it as if it were whole.
- * After age_c_seek the same holds from that chunk on: the texts since then are a prefix of what
- * follows in the writer's text from the chunk's first byte, and once age_c_end returned 0 they are
- * all that follows, so that the length of the text is known.
- * An undamaged payload gives all of its text, and each call returns 0. The first whole block that
- * isn't the writer's is refused with 17, and `fault_chunk` is its number. What a writer wrote, from
- * age_c_seal_passphrase to an age_c_seal_end that returned 0, is the age file of the text.
+ * WHAT HOLDS. Each text that a call writes was checked: while nobody forges a tag, the texts of one
+ * reader, joined, are a prefix of what the file's writer wrote, and once age_c_end returned 0 they
+ * are all of it. Before that the text may be cut short: don't act on it as if it were whole. After
+ * age_c_seek the same holds from that chunk on: the texts since then are a prefix of what follows
+ * in the writer's text from the chunk's first byte, and once age_c_end returned 0 they are all that
+ * follows, so that the length of the text is known. An undamaged payload gives all of its text, and
+ * each call returns 0. The first whole block that isn't the writer's is refused with 17, and
+ * `fault_chunk` is its number. What a writer wrote, from age_c_seal_passphrase to an age_c_seal_end
+ * that returned 0, is the age file of the text.
  *
  * OWNERSHIP. A reader or writer is 64 bytes of plain numbers in the caller's memory: there is
  * nothing to free, and it may be copied (a copy of a reader goes on from the same place; never go
@@ -44,26 +44,29 @@
  * before they return: with a passphrase of work factor N, 2^N KiB. A call uses less than 100 KiB of
  * stack.
  *
- * POINTERS. No pointer may be null, not even with a length of 0. Each points to at least as many
- * bytes as the length after it says, and what a call writes to overlaps nothing else that the call
- * is given. Bytes may stand at any address; a reader, a writer and `written` are aligned as their
- * types are. The library can't check this.
+ * POINTERS. Each points to at least as many bytes as the length after it says, and may be null if
+ * that is 0; no other pointer may be null. What a call writes to overlaps nothing else that the
+ * call is given. Bytes may stand at any address; a reader, a writer and the numbers that a call
+ * writes are aligned as their types are. Nobody else writes to a reader or writer, neither during a
+ * call nor between two: what holds of them holds of what the library left there. The library can't
+ * check this.
  *
  * THREADS, SIGNALS, FORK. Any number of calls may run at the same time, on different readers and
  * writers. The library takes no lock, and calls nothing but malloc, realloc, free, memcpy, memmove
- * and memset. So a signal handler may call age_c_block, age_c_end, age_c_seek, age_c_seal_block and
- * age_c_seal_end, on a reader or writer that the interrupted code isn't using; it may not make the
- * calls that allocate. After fork, both processes may go on with their copy of a reader, but only
- * one of them with a writer; glibc's malloc, and so each call, works in the child of a process with
- * threads too.
+ * and memset. So a signal handler may call age_c_block, age_c_end, age_c_seek, age_c_size,
+ * age_c_seal_block and age_c_seal_end, on a reader or writer that the interrupted code isn't using;
+ * it may not make the calls that allocate. After fork, both processes may go on with their copy of
+ * a reader, but only one of them with a writer; glibc's malloc, and so each call, works in the
+ * child of a process with threads too.
  *
  * ERRORS. A call returns 0, the number of a fault (AGE_C_NOT_AGE and so on; docs/FAULTS.md says
  * what each means), AGE_C_MORE or AGE_C_MISUSED. A call that doesn't return 0 has written no byte
- * of `out`, has set *written to 0, and has changed nothing else, with one exception: a fault 17 to
- * 22 of age_c_block or age_c_end is kept in the reader. Each later call of these two on it returns
- * that fault again, unless it is misused. After age_c_end returned 0, it returns 0 again if it is
- * given no bytes, and writes nothing; any other call of these two returns AGE_C_TRAILING, unless it
- * is misused. age_c_seek ends both: the reader goes on as one that was just begun, at that chunk.
+ * of `out`, has set *written (or *text_len and *last_chunk) to 0, and has changed nothing else,
+ * with one exception: a fault 17 to 22 of age_c_block or age_c_end is kept in the reader. Each
+ * later call of these two on it returns that fault again, unless it is misused. After age_c_end
+ * returned 0, it returns 0 again if it is given no bytes, and writes nothing; any other call of
+ * these two returns AGE_C_TRAILING, unless it is misused. age_c_seek ends both: the reader goes on
+ * as one that was just begun, at that chunk.
  *
  * MISUSE. A call returns AGE_C_MISUSED if, and only if, a length, a work factor or a chunk's number
  * isn't as the call's comment says, or it takes a block or chunk, or goes to one, and its reader or
@@ -201,6 +204,17 @@ uint32_t age_c_end(age_c_reader *reader, const uint8_t *rest, size_t rest_len, u
 AGE_C_MUST_CHECK
 uint32_t age_c_seek(age_c_reader *reader, uint64_t chunk);
 
+/* What the length of the whole file says of its text: on 0 a whole file with so many bytes has a
+ * text of *text_len bytes, and *last_chunk is the number of its last chunk. No whole file has
+ * another length: that is answered with the fault with which such a file ends (AGE_C_TRUNCATED,
+ * AGE_C_EMPTY_LAST or AGE_C_CHUNK_CUT), and both are set to 0. Of the reader only payload_at is
+ * looked at. A length proves nothing: the file may be cut or damaged. To prove the length of the
+ * text, go to *last_chunk by age_c_seek, give its block, and then the end, as always: once
+ * age_c_end returns 0, the text has *text_len bytes. */
+AGE_C_MUST_CHECK
+uint32_t age_c_size(const age_c_reader *reader, uint64_t file_len, uint64_t *text_len,
+                    uint64_t *last_chunk);
+
 /* ---- writing ---- */
 
 /* Begins a file under a passphrase: pass_len is 1 to AGE_C_PASS_MAX, and work 1 to AGE_C_WORK_MAX.
@@ -226,17 +240,10 @@ uint32_t age_c_seal_end(age_c_writer *writer, const uint8_t *rest, size_t rest_l
 
 /* ---- faults ---- */
 
-/* The name of what a call returned, as age_tool prints it. */
-static inline const char *age_c_fault_name(uint32_t answer) {
-    static const char *const names[29] = {
-        "Ok", "NotAge", "Armored", "BadStanzaLine", "BadBody", "BadEndLine", "NoStanza",
-        "HeadTooLong", "HeadCut", "ScryptNotAlone", "BadScrypt", "WorkTooHigh", "NoMatch",
-        "WrongKey", "MacMismatch", "BadX25519", "NonceCut", "ChunkDamaged", "ChunkCut",
-        "EmptyLast", "Truncated", "Trailing", "TooManyChunks", 0, 0, 0, 0, 0, "Memory"};
-    if (answer == AGE_C_MORE) return "HeaderOrNonceCut";
-    if (answer == AGE_C_MISUSED) return "Misused";
-    return answer < 29 && names[answer] ? names[answer] : "Unknown";
-}
+/* The name of what a call returned, as age_tool prints it: "WrongKey" of AGE_C_WRONG_KEY, "Ok" of
+ * 0, "HeaderOrNonceCut" of AGE_C_MORE, "Misused" of AGE_C_MISUSED, and "Unknown" of any other
+ * number. It is a string of the library, never to be freed. */
+const char *age_c_fault_name(uint32_t answer);
 
 #ifdef __cplusplus
 }

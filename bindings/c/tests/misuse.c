@@ -16,7 +16,9 @@ static uint64_t next(void) {
     return seed >> 33;
 }
 
+/* so many bytes; none of them may be a null pointer */
 static uint8_t *some(size_t len) {
+    if (len == 0 && next() % 2) return NULL;
     uint8_t *at = malloc(len ? len : 1);
     if (at == NULL) exit(2);
     memset(at, 9, len);
@@ -56,6 +58,22 @@ static int reads(void) {
     free(given);
     free(out);
     return right;
+}
+
+static int seeks(void) {
+    age_c_reader reader, before;
+    scramble(&reader, sizeof reader, &reader.chunk, &reader.state);
+    before = reader;
+    uint64_t chunk = next() % 3 ? next() % 9 : (UINT64_C(1) << 48) - next() % 3, text_len = 77, last = 77, len = next();
+    if (next() % 3 == 0) reader.payload_at = before.payload_at = next() % 2 ? len - next() % 100 : next();
+    uint32_t size = age_c_size(&reader, len, &text_len, &last);
+    int right = memcmp(&reader, &before, sizeof reader) == 0 && (size == 0 || (size >= 18 && size <= 20 && text_len == 0 && last == 0));
+    if (size == 0) right = right && text_len + 16 * (last + 1) == len - reader.payload_at && len >= reader.payload_at && last == (text_len ? text_len - 1 : 0) / 65536;
+    uint32_t answer = age_c_seek(&reader, chunk);
+    int state_fits = (before.state >= 1 && before.state <= 3) || (before.state >= 17 && before.state <= 22);
+    int fits = state_fits && before.chunk < UINT64_C(1) << 48 && chunk < UINT64_C(1) << 48;
+    if (fits) before.chunk = chunk, before.state = 1, before.fault_chunk = 0;
+    return right && answer == (fits ? 0u : AGE_C_MISUSED) && memcmp(&reader, &before, sizeof reader) == 0;
 }
 
 static int writes(void) {
@@ -118,14 +136,15 @@ static int opens(void) {
 }
 
 int main(int argc, char **argv) {
-    long turns = argc == 2 ? atol(argv[1]) : 1000, wrong[3] = {0, 0, 0};
+    long turns = argc == 2 ? atol(argv[1]) : 1000, wrong[4] = {0, 0, 0, 0};
     for (long turn = 0; turn < turns; turn++) {
         wrong[0] += !reads();
         wrong[1] += !writes();
         wrong[2] += !opens();
+        wrong[3] += !seeks();
     }
-    int failed = (wrong[0] != 0) + (wrong[1] != 0) + (wrong[2] != 0);
-    if (failed) printf("wrong: %ld readers, %ld writers, %ld openings\n", wrong[0], wrong[1], wrong[2]);
-    printf("%d passed, %d failed\n", 3 - failed, failed);
+    int failed = (wrong[0] != 0) + (wrong[1] != 0) + (wrong[2] != 0) + (wrong[3] != 0);
+    if (failed) printf("wrong: %ld readers, %ld writers, %ld openings, %ld seeks\n", wrong[0], wrong[1], wrong[2], wrong[3]);
+    printf("%d passed, %d failed\n", 4 - failed, failed);
     return failed != 0;
 }

@@ -14,7 +14,8 @@ use Rattle.age_c.specs.declared.reader.Reader.{Reader}
 use Rattle.age_c.specs.Numbers.{status_of, misused}
 use Rattle.age_c.specs.Readers.{IsAt, text_of}
 use Rattle.age_c.specs.ReaderCalls.{Takes, AnswersAreCalls, call_of, Call, IsCall, AreCalls}
-use Rattle.age_c.specs.ReaderCalls.{after_block, after_end, given_by, segment_from, texts_of}
+use Rattle.age_c.specs.ReaderCalls.{after_block, after_end, given_by, last_reader, segment_from}
+use Rattle.age_c.specs.ReaderCalls.{texts_of}
 use Rattle.age_c.specs.inner.Keys.{key_of_reader as key_of, opens}
 use Rattle.age_c.proofs.ReaderSteps.{key_same, some_is}
 
@@ -68,10 +69,6 @@ one r c s h (inr taken) =
       start = ap (λ (s : Segment). s.start) is ∙ start_given c.is_end c.bytes s;
       text_is = ap (text_of r) is ∙ takes.released s h;
     }
-
-abbrev pub last_reader : Reader → List Call → Reader
-last_reader r [] = r
-last_reader r (c ∷ calls) = last_reader c.after calls
 
 both : (r : Reader) (c : Call) (s : Segment) (calls : List Call)
     → After r s (next c s) c.text c.after

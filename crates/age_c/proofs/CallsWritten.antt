@@ -1,16 +1,19 @@
 -- What a caller may rely on after any calls on one reader.
 use Rattle.std.proofs.Common.{inl, inr, ◌≡◌, ◌≢◌, ℕ, ◌<◌, ◌≤◌, ◌*◌, refl, ap, sym, subst, ◌∙◌, arith}
-use Rattle.std.proofs.Common.{List, [], ◌∷◌, ◌++◌, take, drop, Bool, true, false}
+use Rattle.std.proofs.Common.{List, [], ◌∷◌, ◌++◌, length, take, drop, Bool, true, false}
 use Rattle.std.specs.Prelude.{◌==◌, ◌⊎◌, if◌then◌else◌, Some}
 use Rattle.std.specs.List.{flat_map, AllByRecursion}
+use Rattle.std.proofs.lemmas.Bool.{cases_lt}
 use Rattle.std.proofs.lemmas.Bool.Decides.{eqb_tells}
+use Rattle.std.proofs.lemmas.List.{append_assoc, append-nil, drop_at, length-append, length-take}
+use Rattle.std.proofs.lemmas.List.{nil_from_length}
 use Rattle.age_chunk.specs.Nonce.{chunk_limit}
 use Rattle.age_chunk.specs.Payload.{block_length, chunk_count, chunk_length, payload}
 use Rattle.age_chunk.specs.declared.fault.StreamKind.TheVariants.{ChunkDamaged, TooManyChunks}
 use Rattle.age_keys.specs.inner.PayloadBox.{box_valid}
 use Rattle.age_stream.specs.Authentic.{IsClosed, IsSealable}
 use Rattle.age_stream.specs.Deliveries.{fresh}
-use Rattle.age_stream.specs.Headline.{IsPrefixOf, IsReached, IsReleasedRight, IsRest}
+use Rattle.age_stream.specs.Headline.{IsPrefixOf, IsRest, IsRight}
 use Rattle.age_stream.specs.Places.{IsFirstWrong}
 use Rattle.age_stream.specs.Segment.{Segment, Outcome, outcome, failed}
 use Rattle.age_stream.specs.declared.step.Status.{Status}
@@ -19,16 +22,17 @@ use Rattle.age_stream.proofs.Fresh.{fresh_outcome}
 use Rattle.age_stream.proofs.PublicLaws.{released_is_written, rest_is_authentic}
 use Rattle.age_c.specs.declared.reader.Reader.{Reader}
 use Rattle.age_c.specs.Numbers.{answer_of, misused, status_of}
-use Rattle.age_c.specs.Readers.{IsAt, text_of}
-use Rattle.age_c.specs.ReaderCalls.{Call, IsCall, AreCalls, segment_from, texts_of}
+use Rattle.age_c.specs.Readers.{IsAt, SameFile, text_of}
+use Rattle.age_c.specs.ReaderCalls.{Call, IsCall, AreCalls, last_reader, segment_from, texts_of}
 use Rattle.age_c.specs.ReaderCalls.{after_block, after_end}
-use Rattle.age_c.specs.CallsWritten.{given, AllAnswer, AreAuthentic, AreUndamaged}
-use Rattle.age_c.specs.CallsWritten.{CallsAreWritten, GiveBlocks, GivesWrong, IsRefusedAt}
+use Rattle.age_c.specs.CallsWritten.{given, AllAnswer, AreAuthentic, AreRight, AreUndamaged}
+use Rattle.age_c.specs.CallsWritten.{AreParts, CallsAreWritten, GiveBlocks, GivesWrong, IsRefusedAt}
+use Rattle.age_c.specs.CallsWritten.{Part, PartsAreWritten}
 use Rattle.age_c.specs.inner.Keys.{key_of_reader as key_of, opens, seals}
 use Rattle.age_c.proofs.CallFaults.{IsKnown, all_known, all_map, all_refused, answer_by, damaged_is}
 use Rattle.age_c.proofs.CallFaults.{known_fault, known_state}
 use Rattle.age_c.proofs.CallSteps.{After, StandsAt, all_calls, done_after, done_status, last_is}
-use Rattle.age_c.proofs.CallSteps.{last_reader, next, one_more, status_at, taken_next}
+use Rattle.age_c.proofs.CallSteps.{next, one_more, status_at, taken_next}
 use Rattle.age_c.proofs.FirstWrong.{IsOpen, blocks_more, block_refused, Grows, grows, rest_refused}
 
 -- calls before and after one
@@ -45,64 +49,107 @@ segment_parts : (before : List Call) (one : Call) (later : List Call) (s : Segme
 segment_parts [] one later s = refl
 segment_parts (c ∷ before) one later s = segment_parts before one later (next c s)
 
-module _ (r : Reader) (h : IsAt r (fresh 0)) (calls : List Call) (are : AreCalls r calls)
+-- what is left of a text after so many bytes
+rest_of : (n : ℕ) (text : List ℕ) → n ≤ length text → (more rest : List ℕ)
+    → (take n text ++ more) ++ rest ≡ text → more ++ rest ≡ drop n text
+rest_of n text within more rest e =
+    let front : length (take n text) ≡ n = omega (arith, length-take n text, within) in
+    sym (drop_at (take n text) (more ++ rest) n front)
+    ∙ (ap (drop n) (sym (append_assoc (take n text) more rest)) ∙ ap (drop n) e)
+
+rest_all : (n : ℕ) (text more : List ℕ) → take n text ++ more ≡ text → n ≤ length text
+    → more ≡ drop n text
+rest_all n text more e within =
+    sym (append-nil more)
+    ∙ rest_of n text within more [] (append-nil (take n text ++ more) ∙ e)
+
+-- past its end nothing is left
+rest_prefix : (n : ℕ) (text more : List ℕ) → IsPrefixOf (take n text ++ more) text
+    → IsPrefixOf more (drop n text)
+rest_prefix n text more p =
+    elim (cases_lt (length text) n) [
+      | inl past ↦
+          (let none : more ≡ [] = nil_from_length more (omega (
+            arith,
+            past,
+            ap length p.1,
+            length-append (take n text ++ more) p.0,
+            length-append (take n text) more,
+            length-take n text,
+          )) in
+          (drop n text, ap (λ (t : List ℕ). t ++ drop n text) none))
+      | inr fits ↦ (p.0, rest_of n text (omega (arith, fits)) more p.0 p.1)
+    ]
+
+module _ (r : Reader) (start : ℕ) (h : IsAt r (fresh start)) (limit : start < chunk_limit)
+    (calls : List Call) (are : AreCalls r calls)
     (text : List ℕ) (few : chunk_count chunk_length text ≤ chunk_limit) where
   abbrev k : List ℕ
   k = key_of r
 
   abbrev s : Segment
-  s = given calls
+  s = given start calls
 
   abbrev status : Status
   status = (outcome (opens k) chunk_length s).status
 
-  after : After r (fresh 0) s (texts_of calls) (last_reader r calls)
-  after = all_calls calls r (fresh 0) h are
+  abbrev there : List ℕ
+  there = drop (start * chunk_length) text
 
-  right : AreAuthentic r text calls
-      → IsReleasedRight (seals k) (opens k) chunk_length text s (text_of r s) status
+  after : After r (fresh start) s (texts_of calls) (last_reader r calls)
+  after = all_calls calls r (fresh start) h are
+
+  abbrev Right : Type 0
+  Right = IsRight (seals k) (opens k) chunk_length text (IsRest (seals k) (opens k) chunk_length text s) s
+      (take (s.start * chunk_length) text ++ text_of r s) status
+
+  right : AreAuthentic r text start calls → Right
   right authentic =
       let positive : 0 < chunk_length = omega arith in
-      let reached : IsReached (seals k) (opens k) chunk_length text s = record {
-        limit = omega (arith, after.start);
-        within = omega (arith, ap (λ (n : ℕ). n * chunk_length) after.start);
-      } in
       released_is_written (seals k) (opens k) (box_valid k) chunk_length positive s text few
-      reached authentic
+      (omega (arith, after.start, limit)) authentic
 
-  written : take (s.start * chunk_length) text ++ text_of r s ≡ texts_of calls
+  -- what was released, after the text before that chunk
+  written : take (s.start * chunk_length) text ++ text_of r s
+      ≡ take (start * chunk_length) text ++ texts_of calls
   written =
-      let none : take (s.start * chunk_length) text ≡ [] =
-      ap (λ (n : ℕ). take (n * chunk_length) text) after.start in
-      let nothing : text_of r (fresh 0) ≡ [] =
+      let nothing : text_of r (fresh start) ≡ [] =
       ap (λ (o : Outcome). flat_map (λ (t : List ℕ). t) o.texts)
-      (fresh_outcome (opens k) chunk_length 0) in
-      ap (λ (t : List ℕ). t ++ text_of r s) none
-      ∙ (after.text_is ∙ ap (λ (t : List ℕ). t ++ texts_of calls) nothing)
+      (fresh_outcome (opens k) chunk_length start) in
+      ap (λ (n : ℕ). take (n * chunk_length) text ++ text_of r s) after.start
+      ∙ ap (λ (t : List ℕ). take (start * chunk_length) text ++ t)
+      (after.text_is ∙ ap (λ (t : List ℕ). t ++ texts_of calls) nothing)
 
-  begins : AreAuthentic r text calls → IsPrefixOf (texts_of calls) text
+  begins : AreAuthentic r text start calls → IsPrefixOf (texts_of calls) there
   begins authentic =
       let prefix = (right authentic).prefix in
+      rest_prefix (start * chunk_length) text (texts_of calls)
       (prefix.0, ap (λ (t : List ℕ). t ++ prefix.0) (sym written) ∙ prefix.1)
 
-  all_written : AreAuthentic r text calls → (before : List Call) (last : Call)
+  all_there : (right : Right) → status ≡ Done
+      → (texts_of calls ≡ there) × (start * chunk_length ≤ length text)
+  all_there right done =
+      let within : start * chunk_length ≤ length text =
+      subst (λ (n : ℕ). n * chunk_length ≤ length text) after.start (right.within done) in
+      (rest_all (start * chunk_length) text (texts_of calls) (sym written ∙ right.done done) within, within)
+
+  all_written : AreAuthentic r text start calls → (before : List Call) (last : Call)
       → calls ≡ before ++ last ∷ [] → last.is_end ≡ true → last.answer ≡ 0
-      → texts_of calls ≡ text
+      → (texts_of calls ≡ there) × (start * chunk_length ≤ length text)
   all_written authentic before last parts is_end zero =
       let end = last_is before last r (subst (λ (cs : List Call). AreCalls r cs) parts are) in
       let reader : last_reader r calls ≡ last.after = ap (last_reader r) parts ∙ end.0 in
       let three : (last_reader r calls).state ≡ 3 = ap (λ (r : Reader). r.state) reader
       ∙ done_after (last_reader r before) last end.1 is_end zero in
-      let done =
-      subst (λ (k : List ℕ). (outcome (opens k) chunk_length s).status ≡ Done) after.key
-      (done_status (last_reader r calls) s after.at three) in
-      sym written ∙ (right authentic).done done
+      all_there (right authentic)
+      (subst (λ (k : List ℕ). (outcome (opens k) chunk_length s).status ≡ Done) after.key
+      (done_status (last_reader r calls) s after.at three))
 
-  fresh_stands : StandsAt k r (fresh 0)
+  fresh_stands : StandsAt k r (fresh start)
   fresh_stands = record { key = refl; at = h }
 
   known : AllByRecursion (IsKnown k s) calls
-  known = all_known k calls r (fresh 0) fresh_stands are
+  known = all_known k calls r (fresh start) fresh_stands are
 
   -- ---- the undamaged payload
 
@@ -115,30 +162,30 @@ module _ (r : Reader) (h : IsAt r (fresh 0)) (calls : List Call) (are : AreCalls
       let no : Done ≡ Failed fault.0 = sym done ∙ fault.1 in
       cc
 
-  undamaged : IsClosed (seals k) (opens k) chunk_length text → AreUndamaged r text calls
-      → (texts_of calls ≡ text) × AllAnswer 0 calls
-  undamaged closed are_whole =
+  undamaged : IsClosed (seals k) (opens k) chunk_length text → start < chunk_count chunk_length text
+      → AreUndamaged r text start calls → (texts_of calls ≡ there) × AllAnswer 0 calls
+  undamaged closed below are_whole =
       let positive : 0 < chunk_length = omega arith in
       let rest : IsRest (seals k) (opens k) chunk_length text s = record {
-        below = omega (arith, after.start);
+        below = omega (arith, after.start, below);
         bytes = ap (λ (s : Segment). s.bytes) are_whole
-            ∙ sym (ap (λ (n : ℕ). drop n (payload (seals k) chunk_length text))
-            (ap (λ (n : ℕ). n * block_length) after.start));
+            ∙ sym (ap (λ (n : ℕ). drop (n * block_length) (payload (seals k) chunk_length text)) after.start);
         ended = ap (λ (s : Segment). s.ended) are_whole;
         timely = ap (λ (s : Segment). s.late) are_whole;
       } in
       let sealable : IsSealable (seals k) (opens k) chunk_length text =
       record { valid = box_valid k; some = positive; few = few; closed = closed } in
       let authentic = rest_is_authentic (seals k) (opens k) chunk_length text sealable s rest in
-      let whole = (right authentic).whole rest in (
-        sym written ∙ whole.0,
+      let right = right authentic in
+      let done = (right.whole rest).1 in (
+        (all_there right done).0,
         all_map (IsKnown k s) (λ (c : Call). c.answer ≢ misused → c.answer ≡ 0)
-            (λ c is. zero_by whole.1 c is (eqb_tells c.answer 0)) calls known,
+            (λ c is. zero_by done c is (eqb_tells c.answer 0)) calls known,
       )
 
   -- ---- what refusals say
 
-  damaged_at : AreAuthentic r text calls → (c : Call) → IsKnown k s c → c.answer ≡ 17
+  damaged_at : AreAuthentic r text start calls → (c : Call) → IsKnown k s c → c.answer ≡ 17
       → IsFirstWrong (seals k) chunk_length text s c.after.fault_chunk
   damaged_at authentic c is seventeen =
       let state = known_state k s c is (λ e. omega (arith, e, seventeen))
@@ -147,7 +194,7 @@ module _ (r : Reader) (h : IsAt r (fresh 0)) (calls : List Call) (are : AreCalls
       (is.fault (record { kind = ChunkDamaged; chunk = c.after.fault_chunk })
       (ap (λ (n : ℕ). status_of n c.after.fault_chunk) state))
 
-  never_many : AreAuthentic r text calls → (c : Call) → IsKnown k s c → c.answer ≢ 22
+  never_many : AreAuthentic r text start calls → (c : Call) → IsKnown k s c → c.answer ≢ 22
   never_many authentic c is many =
       let state = known_state k s c is (λ e. omega (arith, e, many)) (λ e. omega (arith, e, many))
       ∙ many in
@@ -157,30 +204,30 @@ module _ (r : Reader) (h : IsAt r (fresh 0)) (calls : List Call) (are : AreCalls
 
   -- ---- the first wrong block
 
-  module _ (authentic : AreAuthentic r text calls) (i : ℕ) (before : List Call) (wrong : Call)
+  module _ (authentic : AreAuthentic r text start calls) (i : ℕ) (before : List Call) (wrong : Call)
       (later : List Call) (parts : calls ≡ before ++ wrong ∷ later)
-      (blocks : GiveBlocks r text 0 before i) (bad : GivesWrong r text i wrong) where
+      (blocks : GiveBlocks r text start before i) (bad : GivesWrong r text i wrong) where
     here : AreCalls r before × IsCall (last_reader r before) wrong × AreCalls wrong.after later
     here = calls_parts before wrong later r (subst (λ (cs : List Call). AreCalls r cs) parts are)
 
     abbrev s0 : Segment
-    s0 = segment_from (fresh 0) before
+    s0 = segment_from (fresh start) before
 
-    begun : IsOpen r text few r (fresh 0) 0
+    begun : IsOpen r text few r (fresh start) start
     begun =
-        let is = fresh_outcome (opens k) chunk_length 0 in
+        let is = fresh_outcome (opens k) chunk_length start in
         record {
           stands = fresh_stands;
           is_open = ap (λ (o : Outcome). o.status) is;
           index = ap (λ (o : Outcome). o.index) is;
-          small = omega arith;
+          small = limit;
         }
 
     reached_wrong : IsOpen r text few (last_reader r before) s0 i × AllAnswer 0 before
-    reached_wrong = blocks_more r text few before r (fresh 0) 0 i begun here.0 blocks
+    reached_wrong = blocks_more r text few before r (fresh start) start i begun here.0 blocks
 
     whole_is : s ≡ segment_from (next wrong s0) later
-    whole_is = ap (segment_from (fresh 0)) parts ∙ segment_parts before wrong later (fresh 0)
+    whole_is = ap (segment_from (fresh start)) parts ∙ segment_parts before wrong later (fresh start)
 
     refused_by : (is_end : Bool) → wrong.is_end ≡ is_end
         → (outcome (opens k) chunk_length (next wrong s0)).status ≡ failed ChunkDamaged i
@@ -216,13 +263,53 @@ module _ (r : Reader) (h : IsAt r (fresh 0)) (calls : List Call) (are : AreCalls
         }
 
 pub calls_are_written : CallsAreWritten
-calls_are_written r h calls are text few = record {
-  prefix = begins r h calls are text few;
-  done = all_written r h calls are text few;
-  whole = undamaged r h calls are text few;
-  refused = first_refused r h calls are text few;
-  damaged = λ authentic. all_map (IsKnown (key_of r) (given calls)) _
-      (damaged_at r h calls are text few authentic) calls (known r h calls are text few);
-  few = λ authentic. all_map (IsKnown (key_of r) (given calls)) _
-      (never_many r h calls are text few authentic) calls (known r h calls are text few);
+calls_are_written r start h limit calls are text few = record {
+  prefix = begins r start h limit calls are text few;
+  done = all_written r start h limit calls are text few;
+  whole = undamaged r start h limit calls are text few;
+  refused = first_refused r start h limit calls are text few;
+  damaged = λ authentic. all_map (IsKnown (key_of r) (given start calls)) _
+      (damaged_at r start h limit calls are text few authentic) calls
+      (known r start h limit calls are text few);
+  few = λ authentic. all_map (IsKnown (key_of r) (given start calls)) _
+      (never_many r start h limit calls are text few authentic) calls
+      (known r start h limit calls are text few);
 }
+
+-- ---- seeks
+
+same_file : (a b c : Reader) → SameFile a b → SameFile b c → SameFile a c
+same_file a b c x y = record {
+  file_key = y.file_key ∙ x.file_key;
+  nonce = y.nonce ∙ x.nonce;
+  payload_at = y.payload_at ∙ x.payload_at;
+}
+
+same_call : (r : Reader) (c : Call) → IsCall r c → SameFile r c.after
+same_call r c (inl idle) =
+    subst (SameFile r) (sym idle.1) (record { file_key = refl; nonce = refl; payload_at = refl })
+same_call r c (inr taken) = taken.1.same
+
+same_calls : (calls : List Call) (r : Reader) → AreCalls r calls
+    → SameFile r (last_reader r calls)
+same_calls [] r are = record { file_key = refl; nonce = refl; payload_at = refl }
+same_calls (c ∷ calls) r are =
+    same_file r c.after (last_reader c.after calls) (same_call r c are.0)
+    (same_calls calls c.after are.1)
+
+-- parts from a reader of the same file on
+parts_from : (first r : Reader) (parts : List Part) → SameFile first r → AreParts r parts
+    → (text : List ℕ) → chunk_count chunk_length text ≤ chunk_limit
+    → AllByRecursion (λ (p : Part). SameFile first p.begun × AreRight p.begun text p.chunk p.calls) parts
+parts_from first r [] same are text few = tt
+parts_from first r (p ∷ parts) same are text few =
+    let here = same_file first r p.begun same are.1.same in (
+      (here, calls_are_written p.begun p.chunk are.1.at are.0 p.calls are.2 text few),
+      parts_from first (last_reader p.begun p.calls) parts
+          (same_file first p.begun (last_reader p.begun p.calls) here (same_calls p.calls p.begun are.2))
+          are.3 text few,
+    )
+
+pub parts_are_written : PartsAreWritten
+parts_are_written r parts are text few =
+    parts_from r r parts (record { file_key = refl; nonce = refl; payload_at = refl }) are text few

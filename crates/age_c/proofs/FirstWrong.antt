@@ -25,11 +25,12 @@ use Rattle.age_stream.proofs.Segments.{IsPair-from_Contains, next_within}
 use Rattle.age_stream.proofs.Tried.{AreTried, tried}
 use Rattle.age_c.specs.declared.reader.Reader.{Reader}
 use Rattle.age_c.specs.Numbers.{misused}
-use Rattle.age_c.specs.ReaderCalls.{Call, IsCall, AreCalls, after_block, after_end, segment_from}
+use Rattle.age_c.specs.ReaderCalls.{Call, IsCall, AreCalls, after_block, after_end, last_reader}
+use Rattle.age_c.specs.ReaderCalls.{segment_from}
 use Rattle.age_c.specs.CallsWritten.{AllAnswer, GiveBlocks, IsBlock}
 use Rattle.age_c.specs.inner.Keys.{key_of_reader as key_of, opens, seals}
 use Rattle.age_c.proofs.CallFaults.{answer_by, unfailed}
-use Rattle.age_c.proofs.CallSteps.{StandsAt, last_reader, next, one_more, status_at, taken_next, misused_next}
+use Rattle.age_c.proofs.CallSteps.{StandsAt, next, one_more, status_at, taken_next, misused_next}
 
 -- ---- one block of a writer
 

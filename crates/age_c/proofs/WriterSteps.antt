@@ -18,7 +18,7 @@ use Rattle.age_stream.proofs.Chunks.{enumerate_from_more}
 use Rattle.age_stream.proofs.Sealings.{last_index_is}
 use Rattle.age_c.specs.declared.writer.Writer.{Writer}
 use Rattle.age_c.specs.inner.Keys.{key_of_writer as key_of, seals}
-use Rattle.age_c.specs.Writers.{HasSealed, SealsChunk, SealsLast, SameFile, blocks_of}
+use Rattle.age_c.specs.Writers.{HasSealed, SealsChunk, SealsLast, SameKeys, blocks_of}
 use Rattle.age_c.specs.WriterCalls.{SealCall, IsSealCall, AreSealCalls, CallsArePayload, taken_by}
 use Rattle.age_c.specs.WriterCalls.{writer_after, written_by, AnswersAreSealCalls, FilesAreWhole}
 use Rattle.age_c.specs.Answers.{Answers}
@@ -30,7 +30,7 @@ use Rattle.age_keys.specs.Scrypt.{scrypt_head}
 use Rattle.std.proofs.lemmas.Bool.{false≢true}
 use Rattle.std.proofs.Common.{ap₂}
 
-key_same : (was now : Writer) → SameFile was now → key_of now ≡ key_of was
+key_same : (was now : Writer) → SameKeys was now → key_of now ≡ key_of was
 key_same was now same = cc (same.file_key, same.nonce)
 
 -- ---- whole chunks, and what is left
@@ -120,7 +120,7 @@ module _ (sealing : List ℕ → List ℕ → List ℕ) (m k : ℕ) (text : List
 
 pub seals_chunk : (old new : Writer) (chunk bytes : List ℕ) → old.state ≡ 1 → new.state ≡ old.state
     → new.chunk ≡ old.chunk + 1
-    → old.chunk + 1 < chunk_limit → SameFile old new
+    → old.chunk + 1 < chunk_limit → SameKeys old new
     → length chunk ≡ chunk_length → bytes ≡ seals (key_of old) (nonce_bytes old.chunk false) chunk
     → SealsChunk chunk old bytes new
 seals_chunk old new chunk bytes first still next limit same size is =
@@ -150,7 +150,7 @@ seals_chunk old new chunk bytes first still next limit same size is =
     }
 
 pub seals_last : (old new : Writer) (rest bytes : List ℕ) → old.chunk < chunk_limit → new.state ≡ 2
-    → SameFile old new
+    → SameKeys old new
     → length rest ≤ chunk_length → (length rest ≡ 0 → old.chunk ≡ 0)
     → bytes ≡ seals (key_of old) (nonce_bytes old.chunk true) rest
     → SealsLast rest old bytes new

@@ -1,6 +1,6 @@
 -- What a caller may rely on after any calls on one reader.
-use Rattle.std.specs.Prelude.{◌≡◌, ◌≢◌, ◌⊎◌, ℕ, ◌+◌, ◌<◌, ◌≤◌, Bool, true, false}
-use Rattle.std.specs.Prelude.{List, [], ◌∷◌, ◌++◌, length, Contains}
+use Rattle.std.specs.Prelude.{◌≡◌, ◌≢◌, ◌⊎◌, ℕ, ◌+◌, ◌*◌, ◌<◌, ◌≤◌, Bool, true, false}
+use Rattle.std.specs.Prelude.{List, [], ◌∷◌, ◌++◌, length, drop, Contains}
 use Rattle.std.specs.List.{AllByRecursion}
 use Rattle.age_chunk.specs.ChunkBoxes.{tag_length}
 use Rattle.age_chunk.specs.Nonce.{chunk_limit, nonce_bytes}
@@ -13,12 +13,12 @@ use Rattle.age_stream.specs.Places.{IsFirstWrong}
 use Rattle.age_stream.specs.Segment.{Segment}
 use Rattle.age_c.specs.declared.reader.Reader.{Reader}
 use Rattle.age_c.specs.Numbers.{misused}
-use Rattle.age_c.specs.ReaderCalls.{Call, AreCalls, segment_from, texts_of}
-use Rattle.age_c.specs.Readers.{IsAt}
+use Rattle.age_c.specs.ReaderCalls.{Call, AreCalls, GoesTo, last_reader, segment_from, texts_of}
+use Rattle.age_c.specs.Readers.{IsAt, SameFile}
 
--- what calls gave to a reader that was given nothing before
-abbrev pub given : List Call → Segment
-given calls = segment_from (fresh 0) calls
+-- what calls gave to a reader that was at this chunk and was given nothing before
+abbrev pub given : ℕ → List Call → Segment
+given start calls = segment_from (fresh start) calls
 
 -- each of the calls that wasn't misused has this answer
 abbrev pub AllAnswer : ℕ → List Call → Type 0
@@ -49,22 +49,6 @@ module _ (r : Reader) (text : List ℕ) where
   IsBlock i last block =
       Contains (sealed (box r.file_key r.nonce) chunk_length text) (nonce_bytes i last, block)
 
-  -- no block that the calls gave opens except as the writer of the text sealed it
-  abbrev pub AreAuthentic : List Call → Type 0
-  AreAuthentic calls =
-      IsAuthentic (box r.file_key r.nonce) (unbox r.file_key r.nonce) chunk_length text
-      (given calls)
-
-  -- the calls gave the payload of the text as the writer sealed it, and its end, and no more; calls
-  -- may be misused in between
-  abbrev pub AreUndamaged : List Call → Type 0
-  AreUndamaged calls = given calls ≡ record {
-    start = 0;
-    bytes = payload (box r.file_key r.nonce) chunk_length text;
-    ended = true;
-    late = false;
-  }
-
   -- the calls gave the writer's blocks from number i up to the one before j, none of them the last;
   -- calls may be misused in between
   abbrev pub GiveBlocks : ℕ → List Call → ℕ → Type 0
@@ -83,31 +67,77 @@ module _ (r : Reader) (text : List ℕ) where
         → (tag_length < length c.bytes) × (length c.bytes < block_length)
     pub wrong : (last : Bool) → ¬ IsBlock i last c.bytes
 
+-- calls on the reader since it was at this chunk
+module _ (r : Reader) (text : List ℕ) (start : ℕ) where
+  -- the text from that chunk on
+  abbrev pub text_there : List ℕ
+  text_there = drop (start * chunk_length) text
+
+  -- no block that the calls gave opens except as the writer of the text sealed it
+  abbrev pub AreAuthentic : List Call → Type 0
+  AreAuthentic calls =
+      IsAuthentic (box r.file_key r.nonce) (unbox r.file_key r.nonce) chunk_length text
+      (given start calls)
+
+  -- the calls gave the payload of the text from that chunk on, as the writer sealed it, and its
+  -- end, and no more; calls may be misused in between
+  abbrev pub AreUndamaged : List Call → Type 0
+  AreUndamaged calls = given start calls ≡ record {
+    start = start;
+    bytes = drop (start * block_length) (payload (box r.file_key r.nonce) chunk_length text);
+    ended = true;
+    late = false;
+  }
+
   -- what a caller may rely on
   pub record AreRight (calls : List Call) : Type 0 where
-    -- what was written is the beginning of the text
-    pub prefix : AreAuthentic calls → IsPrefixOf (texts_of calls) text
-    -- where the last call is an end that answered 0, it is all of the text
+    -- what was written is the beginning of the text from that chunk on
+    pub prefix : AreAuthentic calls → IsPrefixOf (texts_of calls) text_there
+    -- where the last call is an end that answered 0, it is all of that, and the chunk begins
+    -- within the text: so then the length of the text is known
     pub done : AreAuthentic calls → (before : List Call) (last : Call)
         → calls ≡ before ++ last ∷ [] → last.is_end ≡ true → last.answer ≡ 0
-        → texts_of calls ≡ text
-    -- an undamaged payload gives all of the text, and 0 each time
+        → (texts_of calls ≡ text_there) × (start * chunk_length ≤ length text)
+    -- an undamaged payload gives all of it, and 0 each time
     pub whole : IsClosed (box r.file_key r.nonce) (unbox r.file_key r.nonce) chunk_length text
-        → AreUndamaged calls → (texts_of calls ≡ text) × AllAnswer 0 calls
+        → start < chunk_count chunk_length text → AreUndamaged calls
+        → (texts_of calls ≡ text_there) × AllAnswer 0 calls
     -- the first block that isn't the writer's is refused with 17
     pub refused : AreAuthentic calls → (i : ℕ) (before : List Call) (wrong : Call)
-        (later : List Call) → calls ≡ before ++ wrong ∷ later → GiveBlocks 0 before i
-        → GivesWrong i wrong → IsRefusedAt i before wrong later
-    -- 17 says that a block isn't the writer's, the one whose number the reader has, and that those
-    -- before it are
+        (later : List Call) → calls ≡ before ++ wrong ∷ later → GiveBlocks r text start before i
+        → GivesWrong r text i wrong → IsRefusedAt i before wrong later
+    -- 17 says that a block isn't the writer's, the one whose number the reader has, and that
+    -- those before it are
     pub damaged : AreAuthentic calls → AllByRecursion (λ (c : Call). c.answer ≡ 17
-        → IsFirstWrong (box r.file_key r.nonce) chunk_length text (given calls)
+        → IsFirstWrong (box r.file_key r.nonce) chunk_length text (given start calls)
         c.after.fault_chunk) calls
     -- 22 never comes
     pub few : AreAuthentic calls → AllByRecursion (λ (c : Call). c.answer ≢ 22) calls
 
--- the headline for a caller: so it is after any calls on a reader that was just begun, for every
--- text of at most 2^48 chunks
+-- the headline for a caller: so it is after any calls on a reader that is at a chunk and was given
+-- nothing, as one that was just begun is at chunk 0, for every text of at most 2^48 chunks
 abbrev pub CallsAreWritten : Type 0
-CallsAreWritten = (r : Reader) → IsAt r (fresh 0) → (calls : List Call) → AreCalls r calls
-    → (text : List ℕ) → chunk_count chunk_length text ≤ chunk_limit → AreRight r text calls
+CallsAreWritten = (r : Reader) (start : ℕ) → IsAt r (fresh start) → start < chunk_limit
+    → (calls : List Call) → AreCalls r calls
+    → (text : List ℕ) → chunk_count chunk_length text ≤ chunk_limit → AreRight r text start calls
+
+-- a seek that answered 0: the chunk that it went to, and the reader after it; and the calls up to
+-- the next such seek. A seek that was misused stands among them, as a call that was misused
+pub record Part : Type 0 where
+  pub chunk : ℕ
+  pub begun : Reader
+  pub calls : List Call
+
+-- these were made one after the other, and nothing else changed the reader
+abbrev pub AreParts : Reader → List Part → Type 0
+AreParts r [] = Unit {0}
+AreParts r (p ∷ parts) = (p.chunk < chunk_limit) × GoesTo p.chunk r p.begun
+    × AreCalls p.begun p.calls × AreParts (last_reader p.begun p.calls) parts
+
+-- so each seek goes on in the same file, and what the calls after it did is right, whatever came
+-- before
+abbrev pub PartsAreWritten : Type 0
+PartsAreWritten = (r : Reader) (parts : List Part) → AreParts r parts
+    → (text : List ℕ) → chunk_count chunk_length text ≤ chunk_limit
+    → AllByRecursion (λ (p : Part). SameFile r p.begun × AreRight p.begun text p.chunk p.calls)
+    parts

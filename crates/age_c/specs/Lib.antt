@@ -6,4 +6,5 @@ pub mod CallsWritten
 pub mod Writers
 pub mod WriterCalls
 pub mod Answers
+pub mod Sizes
 pub mod inner

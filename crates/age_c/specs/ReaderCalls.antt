@@ -78,6 +78,11 @@ abbrev pub AreCalls : Reader → List Call → Type 0
 AreCalls r [] = Unit {0}
 AreCalls r (c ∷ calls) = IsCall r c × AreCalls c.after calls
 
+-- the reader after them
+abbrev pub last_reader : Reader → List Call → Reader
+last_reader r [] = r
+last_reader r (c ∷ calls) = last_reader c.after calls
+
 -- the segment that they gave: a call that was misused gave nothing
 abbrev pub segment_from : Segment → List Call → Segment
 segment_from s [] = s

@@ -14,7 +14,7 @@ use Rattle.age_c.specs.declared.writer.Writer.{Writer}
 use Rattle.age_chunk.specs.ChunkBoxes.{tag_length}
 
 -- the numbers are those of a writer that isn't finished, at a chunk that a payload may have
-pub record CanBeUsed (w : Writer) : Type 0 where
+pub record CanSeal (w : Writer) : Type 0 where
   pub unfinished : w.state ≡ 1
   pub chunk : w.chunk < chunk_limit
 
@@ -30,7 +30,7 @@ blocks_of w text = block_bytes
     (enumerate_from 0 (first_chunks chunk_length w.chunk text)))
 
 -- the file and its keys are the same
-pub record SameFile (was now : Writer) : Type 0 where
+pub record SameKeys (was now : Writer) : Type 0 where
   pub file_key : now.file_key ≡ was.file_key
   pub nonce : now.nonce ≡ was.nonce
 
@@ -40,8 +40,8 @@ pub record SealsChunk (chunk : List ℕ) (old : Writer) (bytes : List ℕ) (new 
   pub sealed : (text : List ℕ) → HasSealed old text → HasSealed new (text ++ chunk)
   pub blocks : (text : List ℕ) → HasSealed old text
       → blocks_of new (text ++ chunk) ≡ blocks_of old text ++ bytes
-  pub usable : CanBeUsed new
-  pub same : SameFile old new
+  pub usable : CanSeal new
+  pub same : SameKeys old new
 
 -- what is left was sealed as the last chunk: with the blocks before it the bytes are the payload of
 -- the whole text
@@ -53,7 +53,7 @@ pub record SealsLast (rest : List ℕ) (old : Writer) (bytes : List ℕ) (new : 
   pub few : (text : List ℕ) → HasSealed old text
       → chunk_count chunk_length (text ++ rest) ≤ chunk_limit
   pub finished : new.state ≡ 2
-  pub same : SameFile old new
+  pub same : SameKeys old new
 
 -- what a call does that isn't misused: it writes its part of the file, or refuses
 pub record WritesOrRefuses (Writes : List ℕ → Writer → Type 0) (Refuses : ℕ → Type 0)
@@ -67,13 +67,13 @@ pub record WritesOrRefuses (Writes : List ℕ → Writer → Type 0) (Refuses : 
 
 -- a call that isn't misused has a writer that can be used, a whole chunk, and room for its block
 pub record IsChunkCall (w : Writer) (chunk out : List ℕ) : Type 0 where
-  pub usable : CanBeUsed w
+  pub usable : CanSeal w
   pub whole : length chunk ≡ chunk_length
   pub room : block_length ≤ length out
 
 -- the same of the last chunk, which has a byte, unless the whole text has none
 pub record IsLastCall (w : Writer) (rest out : List ℕ) : Type 0 where
-  pub usable : CanBeUsed w
+  pub usable : CanSeal w
   pub short : length rest ≤ chunk_length
   pub some : length rest ≡ 0 → w.chunk ≡ 0
   pub room : length rest + tag_length ≤ length out

@@ -1,17 +1,25 @@
 //! What any list of calls does. A reader and a writer that take turns, or several of either, need
 //! no law: each call takes its reader or writer by reference, and the library keeps nothing else.
 
-ghost use Rattle.age_c.specs.CallsWritten.{CallsAreWritten};
+ghost use Rattle.age_c.specs.CallsWritten.{CallsAreWritten, PartsAreWritten};
 ghost use Rattle.age_c.specs.ReaderCalls.{AnswersAreCalls};
 ghost use Rattle.age_c.specs.WriterCalls.{AnswersAreSealCalls, CallsArePayload, FilesAreWhole};
 
 /// The headline for a caller: after any calls of [`age_c_block`](crate::age_c_block) and
-/// [`age_c_end`](crate::age_c_end) on a reader that was just begun, while no block opens except as
-/// the writer of a text sealed it, what was written is the beginning of that text, and all of it
-/// if the last call is an end that answered 0. An undamaged payload gives all of it, and 0 each
-/// time. The first block that isn't the writer's is refused with 17.
+/// [`age_c_end`](crate::age_c_end) on a reader that was just begun, or went to a chunk, while no
+/// block opens except as the writer of a text sealed it, what was written is the beginning of that
+/// text from that chunk on, and all of it if the last call is an end that answered 0; then the
+/// chunk begins within the text, so that its length is known. An undamaged payload gives all of
+/// it, and 0 each time. The first block that isn't the writer's is refused with 17.
 pub fn calls_are_written()
     ensures { CallsAreWritten }
+{}
+
+/// So it is after each seek, for any calls of [`age_c_block`](crate::age_c_block),
+/// [`age_c_end`](crate::age_c_end) and [`age_c_seek`](crate::age_c_seek) on one reader: each text
+/// that was written stands in the writer's text at its place.
+pub fn parts_are_written()
+    ensures { PartsAreWritten }
 {}
 
 /// What any calls of [`age_c_seal_block`](crate::age_c_seal_block) and then one of

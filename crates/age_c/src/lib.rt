@@ -19,18 +19,20 @@ mod reader;
 mod seal;
 mod sealing;
 mod seek;
+mod size;
 mod start;
 mod writer;
 
 pub use laws::{
     answers_are_calls, answers_are_seal_calls, calls_are_payload, calls_are_written,
-    files_are_whole,
+    files_are_whole, parts_are_written,
 };
 pub use open::{age_c_open_key, age_c_open_passphrase, age_c_open_shared, age_c_version};
 pub use read::{age_c_block, age_c_end};
 pub use reader::Reader;
 pub use seal::{age_c_seal_block, age_c_seal_end, age_c_seal_passphrase};
 pub use seek::age_c_seek;
+pub use size::age_c_size;
 pub use writer::Writer;
 
 /// The bytes end inside the header or the payload's nonce: more of the file is needed.

@@ -3,7 +3,7 @@
 ghost use Rattle.std.specs.Prelude.{◌≡◌, ◌+◌, ◌↔◌, IsTrue};
 ghost use Rattle.age_chunk.specs.Nonce.{chunk_limit};
 ghost use Rattle.age_c.specs.Answers.{Answers};
-ghost use Rattle.age_c.specs.Writers.{CanBeUsed, IsStartCall, IsChunkCall, IsLastCall};
+ghost use Rattle.age_c.specs.Writers.{CanSeal, IsStartCall, IsChunkCall, IsLastCall};
 ghost use Rattle.age_c.specs.Writers.{WritesOrRefuses, BeginsFile, SealsChunk, SealsLast};
 
 use crate::MISUSED;
@@ -22,7 +22,7 @@ const TOO_MANY_CHUNKS: u32 = 22;
 
 /// Whether a writer can be used.
 fn can_be_used(writer: &Writer) -> bool
-    ensures { IsTrue result ↔ CanBeUsed writer.now }
+    ensures { IsTrue result ↔ CanSeal writer.now }
 {
     writer.state == 1 && writer.chunk < CHUNK_LIMIT
 }

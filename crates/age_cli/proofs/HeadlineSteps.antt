@@ -154,7 +154,6 @@ module _ (identity : Identity) (p : Position) (input old_text : Option (List ℕ
       (sym (append_assoc r.copied from.more found.0) ∙ (whole ∙ sym b.begins.1)) in
       record {
         few = few;
-        within = omega (arith, b.within, from.index);
         old_text = front ∙ ap (λ (k : ℕ). take (k * chunk_length) text) (sym from.index);
         authentic = auth r (record { index = from.index; own = from.own; tagged = from.tagged })
             (is_read identity input before.main after.main written r coming there is);

@@ -20,7 +20,6 @@ authentic : (text : List ℕ) (p : Position) (old new : SourceView) (r : Run) �
     → BindsTo text p r → IsAuthenticRun r text
 authentic text p old new r from b = record {
   few = b.few;
-  within = omega (arith, b.to.carries.0, from.index);
   old_text = bound_old p r.copied text from.old_text b.to
       ∙ ap (λ (k : ℕ). take (k * chunk_length) text) (sym from.index);
   authentic = b.authentic;

@@ -30,7 +30,6 @@ authentic_of text p r few at old c auth =
     old.size ∙ ap (λ (k : ℕ). k * chunk_length) (sym at) in
     record {
       few = few;
-      within = omega (arith, size, ap length c.1, length-append r.copied c.0);
       old_text = sym (take_at r.copied c.0 (r.first * chunk_length) size)
           ∙ ap (take (r.first * chunk_length)) c.1;
       authentic = auth;

@@ -7,7 +7,7 @@ use Rattle.std.proofs.lemmas.List.{length-append}
 use Rattle.std.proofs.Math.Nat.{le-div_iff_mul-le}
 use Rattle.age_stream.specs.declared.step.Status.TheVariants.{Done}
 use Rattle.age_chunk.specs.Payload.{chunk_count, chunk_length}
-use Rattle.age_stream.specs.Headline.{IsPrefixOf, IsReached}
+use Rattle.age_stream.specs.Headline.{IsPrefixOf}
 use Rattle.age_stream.proofs.PublicLaws.{released_is_written}
 use Rattle.age_keys.specs.Keys.{payload_key, position_key}
 use Rattle.age_keys.specs.inner.PayloadBox.{box_valid}
@@ -33,11 +33,9 @@ held_text r text auth limit =
     let seal = box r.file.key r.file.nonce in
     let open_box = unbox r.file.key r.file.nonce in
     let positive : 0 < chunk_length = omega arith in
-    let reached : IsReached seal open_box chunk_length text (segment_of r) =
-    record { limit = limit; within = auth.within } in
     let valid = box_valid (payload_key r.file.key r.file.nonce) in
     let o = released_is_written seal open_box valid chunk_length positive (segment_of r) text
-    auth.few reached auth.authentic in (
+    auth.few limit auth.authentic in (
       subst (λ (t : List ℕ). IsPrefixOf (t ++ text_of r) text) (sym auth.old_text) o.prefix,
       λ done. ap (λ (t : List ℕ). t ++ text_of r) auth.old_text ∙ o.done done,
     )
@@ -72,7 +70,6 @@ pub from_start : (r : Run) → IsFromStart r → (text : List ℕ)
 from_start r from text few auth =
     record {
       few = few;
-      within = omega (arith, from.zero);
       old_text = none_before r from text;
       authentic = auth;
     }

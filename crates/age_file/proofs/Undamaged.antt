@@ -14,7 +14,7 @@ use Rattle.age_chunk.specs.declared.fault.StreamKind.TheVariants.{Truncated}
 use Rattle.age_stream.specs.declared.step.Status.TheVariants.{Open, Failed, Done}
 use Rattle.age_chunk.specs.Payload.{payload, chunk_count, block_length, chunk_length}
 use Rattle.age_stream.specs.Segment.{outcome}
-use Rattle.age_stream.specs.Headline.{IsAuthentic, IsReached, IsRest}
+use Rattle.age_stream.specs.Headline.{IsAuthentic, IsRest}
 use Rattle.age_stream.specs.Authentic.{IsClosed}
 use Rattle.age_stream.proofs.PublicLaws.{closed_stays, released_is_written, rest_is_authentic}
 use Rattle.age_keys.specs.declared.fault.KeyFault.{KeyFault}
@@ -59,11 +59,6 @@ same_front a b x y len e = (
   sym (take_at a x (length b) len) ∙ (ap (take (length b)) e ∙ take_at b y (length b) refl),
   sym (drop_at a x (length b) len) ∙ (ap (drop (length b)) e ∙ drop_at b y (length b) refl),
 )
-
--- a chunk of a text begins in it
-reaches : (text : List ℕ) (k : ℕ) → k < chunk_count chunk_length text
-    → k * chunk_length ≤ length text
-reaches text k below = omega (arith, below)
 
 -- a key whose MAC is the header's is refused for want of memory alone
 for_memory : (h : Header) (key : List ℕ) (fault : KeyFault) → IsMacOf h key → RefusesKey h key fault
@@ -223,15 +218,10 @@ module _ (one : OneHeader) (Allows : Header → List ℕ → Type 0) (Refused : 
         let positive : 0 < chunk_length = omega arith in
         let s = segment k (drop (k * block_length) (payload (box u.key u.nonce) chunk_length text))
         true in
-        let reached : IsReached (box u.key u.nonce) (unbox u.key u.nonce) chunk_length text s =
-        record {
-          limit = omega (arith, below, u.few);
-          within = reaches text k below;
-        } in
         let rest : IsRest (box u.key u.nonce) (unbox u.key u.nonce) chunk_length text s =
         record { below = below; bytes = refl; ended = refl; timely = refl } in
         ((released_is_written (box u.key u.nonce) (unbox u.key u.nonce) valid chunk_length positive
-        s text u.few reached authentic).whole rest).1
+        s text u.few (omega (arith, below, u.few)) authentic).whole rest).1
 
     pub no_stream_fault : (after : Option (List ℕ)) (key nonce passed bytes : List ℕ) (ended : Bool)
         (fault : StreamFault)
@@ -383,7 +373,6 @@ module _ (one : OneHeader) (Allows : Header → List ℕ → Type 0) (Refused : 
       let own = own_authentic u.key u.nonce text u.few closed r.first below in
       let whole = d.all text (record {
         few = u.few;
-        within = reaches text r.first below;
         old_text = old_text;
         authentic = authentic_as text r.first r.file.key r.file.nonce u.key u.nonce r.bytes rest
             r.ended o.key_is o.nonce_is bytes_are d.ended own;

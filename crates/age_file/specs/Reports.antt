@@ -1,14 +1,11 @@
 -- What a report says of a file's bytes (C2SP age.md, "Payload", for the length of the plaintext).
-use Rattle.std.specs.Prelude.{◌≡◌, ℕ, ◌+◌, ◌-◌, ◌*◌, ◌/◌, ◌≤◌}
-use Rattle.std.specs.Prelude.{◌==◌, if◌then◌else◌, List, []}
-use Rattle.std.specs.Prelude.{◌++◌, length, map, Option, slice_index_or, MatchOption}
+use Rattle.std.specs.Prelude.{◌≡◌, ℕ, ◌-◌, ◌≤◌, List, [], ◌++◌, length, map}
+use Rattle.std.specs.Prelude.{Option, slice_index_or, MatchOption}
 use Rattle.std.specs.Io.KnownBytes.{Consumes, IsAtEnd}
 use Rattle.age_stanza.specs.declared.header.Stanza.{Stanza}
 use Rattle.age_stanza.specs.declared.header.Header.{Header}
 use Rattle.age_stanza.specs.Grammar.{HeadText}
-use Rattle.age_chunk.specs.ChunkBoxes.{tag_length}
-use Rattle.age_chunk.specs.Nonce.{chunk_limit}
-use Rattle.age_chunk.specs.Payload.{chunk_length}
+use Rattle.age_stream.specs.Lengths.{IsTextLength}
 use Rattle.age_file.specs.declared.report.StanzaReport.{StanzaReport}
 use Rattle.age_file.specs.declared.report.Report.{Report}
 
@@ -20,13 +17,9 @@ stanza_report s = record {
   body = length s.body;
 }
 
--- how many chunks a plaintext of p bytes makes
-abbrev pub chunks_for : ℕ → ℕ
-chunks_for p = if p == 0 then 1 else (p + (chunk_length - 1)) / chunk_length
-
--- a plaintext of p bytes has a nonce and a payload of so many bytes together
+-- a plaintext of p bytes has a nonce of 16 bytes and a payload of so many bytes together
 abbrev pub IsPlain : ℕ → ℕ → Type 0
-IsPlain rest p = (16 + p + tag_length * chunks_for p ≡ rest) × (chunks_for p ≤ chunk_limit)
+IsPlain rest p = (16 ≤ rest) × IsTextLength (rest - 16) p
 
 -- the one plaintext's length that so many bytes would hold, or none
 abbrev pub IsPlainOf : ℕ → Option ℕ → Type 0

@@ -88,7 +88,6 @@ IsTexts text r = IsAuthentic (box r.file.key r.file.nonce) (unbox r.file.key r.f
 -- and the old text is that text's before the chunk that the run begins with
 pub record IsAuthenticRun (r : Run) (text : List ℕ) : Type 0 where
   pub few : chunk_count chunk_length text ≤ chunk_limit
-  pub within : r.first * chunk_length ≤ length text
   pub old_text : r.copied ≡ take (r.first * chunk_length) text
   pub authentic : IsTexts text r
 

@@ -14,15 +14,11 @@ use crate::report::{Report, StanzaReport, StanzaReports};
 use age_fault::FileFault;
 use age_io::Source;
 use age_stanza::{Bytes, Stanza, Stanzas};
-use age_stream::{BLOCK_LEN, CHUNK_LIMIT, TAG_LEN};
+use age_stream::text_len_of;
 use std::alloc::{AllocError, Global};
 
-/// The lengths of a payload nonce, a tag and a whole chunk's block, as a report counts them.
+/// The length of a payload nonce.
 const NONCE_LEN: u128 = 16;
-
-const TAG: u128 = TAG_LEN as u128;
-
-const BLOCK: u128 = BLOCK_LEN as u128;
 
 /// How many stanzas give their memory back at once.
 const STANZAS_AT_ONCE: usize = 4_096;
@@ -83,18 +79,10 @@ fn plain_of(rest: u128) -> Option<u128>
     requires { rest < 2 ^ 127 }
     ensures { IsPlainOf rest result }
 {
-    if rest < NONCE_LEN + TAG {
+    if rest < NONCE_LEN {
         return None;
     }
-    let payload = rest - NONCE_LEN;
-    if payload == TAG {
-        return Some(0);
-    }
-    let chunks = payload.div_ceil(BLOCK);
-    if chunks > CHUNK_LIMIT as u128 || payload <= (chunks - 1) * BLOCK + TAG {
-        return None;
-    }
-    Some(payload - TAG * chunks)
+    text_len_of(rest - NONCE_LEN)
 }
 
 /// Reads a source to its end, and reports what it holds: the header's length, its stanzas, how many

@@ -99,7 +99,7 @@ module _ (sealing : List ℕ → List ℕ → List ℕ) (opening : List ℕ → 
         rest = w.join ∙ ap (λ (k : ℕ). drop k (payload sealing n text)) (sym z);
         below = omega arith;
       } in
-      (held_right sealing opening valid n text few positive deliveries (whole_right closed deliveries w)).whole 0 u
+      (held_right sealing opening valid n text few positive deliveries (whole_right closed deliveries w)).whole (0, u)
 
 -- in the clear a block opens at its own nonce alone
 clear_shut : (i : ℕ) (chunk : List ℕ) (o : Option (List ℕ)) → clear_opening (nonce_bytes i false) (clear_sealing (nonce_bytes i true) chunk) ≡ o

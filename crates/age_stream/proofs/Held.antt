@@ -9,9 +9,9 @@ use Rattle.age_chunk.specs.ChunkBoxes.{IsChunkBox}
 use Rattle.age_chunk.specs.Payload.{chunk_count}
 use Rattle.age_stream.specs.Segment.{Segment, outcome}
 use Rattle.age_stream.specs.Deliveries.{Standing, standing, standing_from, after_delivery, begin, fresh, with_piece, with_end, text_held, accepts}
-use Rattle.age_stream.specs.Headline.{IsAuthentic, AreAuthentic, IsHeldRight, IsReached, IsPrefixOf, IsStart, IsUndamaged}
+use Rattle.age_stream.specs.Headline.{IsAuthentic, AreAuthentic, IsRight, IsPrefixOf, IsStart, IsUndamaged}
 use Rattle.age_stream.specs.declared.step.Status.TheVariants.{Done}
-use Rattle.age_stream.proofs.Places.{in_place}
+use Rattle.age_stream.proofs.Places.{in_place, low_within}
 use Rattle.age_stream.proofs.Undamaged.{rest_segment, rest_payload, rest_is_done}
 use Rattle.age_stream.proofs.Segments.{released_segment, by_test, piece_start}
 use Rattle.age_stream.specs.declared.delivery.Delivery.{Delivery}
@@ -136,18 +136,20 @@ module _ (sealing : List ℕ → List ℕ → List ℕ) (opening : List ℕ → 
       ap (λ (x : Segment). (outcome opening n x).status) last ∙ rest_is_done sealing opening valid n positive text few k u.below good
 
   pub held_right : (ds : List Delivery) → AreAuthentic sealing opening n text ds
-      → IsHeldRight sealing opening n text ds (text_held opening n (standing opening n ds)) (outcome opening n (standing opening n ds).segment).status
+      → IsRight sealing opening n text ((k : ℕ) × IsUndamaged sealing opening n text k ds) (standing opening n ds).segment
+      (text_held opening n (standing opening n ds)) (outcome opening n (standing opening n ds).segment).status
   held_right ds auth =
       let s = standing opening n ds in
       let start : IsSound begin = record { small = omega arith; fits = omega arith; base = let z : 0 ≡ 0 * n = omega arith in ap (λ (k : ℕ). take k text) z } in
       let sound = sound_from ds begin start auth.0 in
       let r = released_segment sealing opening valid n text few positive s.segment s.base sound.small sound.fits sound.base auth.1 in
-      let reached : IsReached sealing opening n text s.segment = record { limit = sound.small; within = sound.fits } in
+      let low = low_within sealing opening valid n text few positive s.segment auth.1 sound.small sound.fits in
       record {
         prefix = r.prefix;
         done = r.done;
-        whole = λ k u. let d = undamaged_done k ds auth u in (r.done d, d);
-        place = in_place sealing opening valid n text few positive s.segment auth.1 reached;
+        within = λ _. sound.fits;
+        whole = λ u. let d = undamaged_done u.0 ds auth u.1 in (r.done d, d);
+        place = in_place sealing opening valid n text few positive s.segment auth.1 low;
       }
 
 pub on_from : (opening : List ℕ → List ℕ → Option (List ℕ)) (n : ℕ) (xs ys : List Delivery) (s : Standing) → standing_from opening n s (xs ++ ys)

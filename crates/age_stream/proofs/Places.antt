@@ -20,7 +20,7 @@ use Rattle.age_stream.specs.declared.step.Status.{Status}
 use Rattle.age_stream.specs.declared.step.Status.TheVariants.{Failed}
 use Rattle.age_chunk.specs.declared.fault.StreamKind.{StreamKind}
 use Rattle.age_chunk.specs.declared.fault.StreamKind.TheVariants.{ChunkDamaged, ChunkCut, EmptyLast, Truncated, Trailing, TooManyChunks}
-use Rattle.age_stream.specs.Headline.{IsWriters, IsAuthentic, IsReached}
+use Rattle.age_stream.specs.Headline.{IsWriters, IsAuthentic}
 use Rattle.age_stream.specs.Places.{sealed_as, compared, IsFirstWrong, IsInPlace}
 use Rattle.age_chunk.proofs.Nonces.{nonce_bytes-length, nonce_bytes-flag}
 use Rattle.age_chunk.proofs.FirstChunks.{length-first_chunks, get_or-first_chunks}
@@ -366,10 +366,11 @@ module _ (sealing : List ℕ → List ℕ → List ℕ) (opening : List ℕ → 
         (λ _. by_test Right (length rest == tag_length && nat_lt 0 at) _ _ (λ _. right_kind texts EmptyLast at (λ e. cc) (λ e. cc))
         (λ _. by_test Right (length rest == 0) _ _ (λ _. right_kind texts Truncated at (λ e. cc) (λ e. cc)) (λ _. last)))
 
-    module _ (reached : IsReached sealing opening n text s) where
-      low : at < chunk_limit
-      low = (front_carries sealing opening valid n text few positive blocks s.start reached.within auth.front).small reached.limit
+    -- it stands at a chunk that a payload may have, where the text reaches its start
+    pub low_within : s.start < chunk_limit → s.start * n ≤ length text → at < chunk_limit
+    low_within limit fits = (front_carries sealing opening valid n text few positive blocks s.start fits auth.front).small limit
 
+    module _ (low : at < chunk_limit) where
       -- the block at which it stands doesn't open as one before the last
       not_before : (o : Option (List ℕ)) → length texts < length blocks → opening (nonce_bytes at false) (get_or blocks (length texts) []) ≡ o
           → opening (nonce_bytes at false) (get_or blocks (length texts) []) ≡ None

@@ -7,7 +7,7 @@ use Rattle.std.proofs.lemmas.List.{length-append, length-drop, append-nil}
 use Rattle.std.proofs.lemmas.Grind.{flat_map-append}
 use Rattle.age_chunk.specs.ChunkBoxes.{IsChunkBox, tag_length}
 use Rattle.age_chunk.specs.Nonce.{nonce_bytes}
-use Rattle.age_chunk.specs.Payload.{last_index, last_chunk, pair, sealed_before_last, block_bytes, payload}
+use Rattle.age_chunk.specs.Payload.{chunk_length, last_index, last_chunk, pair, sealed_before_last, block_bytes, payload}
 use Rattle.age_stream.specs.Segment.{Segment, Outcome, outcome, front_texts, whole_blocks, rest_bytes}
 use Rattle.age_stream.specs.inner.SegmentSteps.{status_after, status_ended}
 use Rattle.age_stream.specs.Deliveries.{with_piece, with_end}
@@ -16,6 +16,7 @@ use Rattle.age_stream.specs.declared.step.Status.TheVariants.{Failed}
 use Rattle.age_stream.specs.Authentic.{RestIsAuthentic}
 use Rattle.age_stream.specs.Laws.{PiecesJoin, ReleasedGrows, ChunksAreCounted, SealedGrows, FreshIsOpen, IsSettled, ClosedStays, EndCloses, ReleasedIsWritten}
 use Rattle.age_stream.specs.Laws.{PayloadIsLonger}
+use Rattle.age_stream.specs.Lengths.{LengthsAreOne}
 use Rattle.age_chunk.proofs.Nonces.{nonce_bytes-length}
 use Rattle.age_chunk.proofs.FirstChunks.{length-first_chunks}
 use Rattle.age_stream.proofs.Table.{by_blocks}
@@ -123,3 +124,11 @@ payload_is_longer sealing opening valid n text =
     let e : q * (n + tag_length) ≡ q * n + q * tag_length = omega arith in
     let f : (q + 1) * tag_length ≡ q * tag_length + tag_length = omega arith in
     (omega (arith, ap length is, length-append front last, size, block, length-drop (q * n) text, last_index_le n text, e, f), size)
+
+-- ---- lengths
+
+pub lengths_are_one : LengthsAreOne
+lengths_are_one = (
+  λ size len other a b. omega (arith, a.0, b.0),
+  λ sealing opening valid text few. (sym ((payload_is_longer sealing opening valid chunk_length text).0 ∙ omega arith), few),
+)

@@ -17,7 +17,7 @@ use Rattle.age_stream.specs.Lent.{chunk_bytes}
 use Rattle.age_stream.specs.Replaying.{ReplayView, IsAt, Replays}
 use Rattle.age_stream.specs.inner.ReplaySteps.{with_bytes}
 use Rattle.age_chunk.specs.ChunkBoxes.{IsChunkBox}
-use Rattle.age_stream.specs.Headline.{HoldsWritten, IsHeldRight}
+use Rattle.age_stream.specs.Headline.{HoldsWritten, IsRight, IsUndamaged}
 use Rattle.age_stream.specs.declared.delivery.Delivery.{Delivery}
 use Rattle.age_stream.specs.declared.step.Status.{Status}
 use Rattle.age_stream.proofs.Held.{held_right, standing_more}
@@ -189,6 +189,7 @@ module _ {B : Type 0} (sealing : B → List ℕ → List ℕ → List ℕ) (open
       let status : new.opener.status ≡ (outcome op m (standing op m ds).segment).status =
       h.segment.status ∙ (ap (λ k. (outcome (opening k) m (standing (opening new.key) m ds).segment).status) (h.key ∙ key)
       ∙ ap (λ s. (outcome op m s.segment).status) k) in
-      let Right : List ℕ → Status → Type 0 = IsHeldRight (sealing old.key) op m text ds in
+      let Right : List ℕ → Status → Type 0 = IsRight (sealing old.key) op m text
+      ((k : ℕ) × IsUndamaged (sealing old.key) op m text k ds) (standing op m ds).segment in
       subst (λ (t : List ℕ). Right t new.opener.status) (sym is)
       (subst (Right (text_held op m (standing op m ds))) (sym status) (held_right (sealing old.key) op valid m text few positive ds auth))

@@ -1,17 +1,20 @@
 -- The headline of one segment, and of an opener that was given it.
-use Rattle.std.proofs.Common.{◌≡◌, ℕ, ◌<◌, ◌≤◌, ◌*◌, refl, ap, sym, subst, ◌∙◌, List, ◌++◌, take, Bool}
+use Rattle.std.proofs.Common.{inl, inr, ◌≡◌, ℕ, ◌<◌, ◌≤◌, ◌+◌, ◌*◌, refl, ap, sym, subst, ◌∙◌, List, [], ◌++◌, length, take, Bool, arith}
 use Rattle.std.specs.Prelude.{Option}
 use Rattle.std.specs.List.{flat_map}
+use Rattle.std.proofs.lemmas.Bool.{cases_lt}
 use Rattle.std.proofs.lemmas.Grind.{flat_map-append}
+use Rattle.std.proofs.lemmas.List.{append-nil, take_all}
 use Rattle.age_chunk.specs.Nonce.{chunk_limit}
 use Rattle.age_chunk.specs.ChunkBoxes.{IsChunkBox}
 use Rattle.age_chunk.specs.Payload.{chunk_count}
-use Rattle.age_stream.specs.Segment.{Segment, outcome, released}
+use Rattle.age_stream.specs.Segment.{Segment, outcome, released, front_texts, whole_blocks}
 use Rattle.age_stream.specs.Opening.{OpenerView, Stands}
-use Rattle.age_stream.specs.Headline.{IsAuthentic, IsRest, ReleasesWritten}
+use Rattle.age_stream.specs.Headline.{IsAuthentic, IsRest, IsRight, ReleasesWritten}
 use Rattle.age_stream.specs.declared.step.Status.TheVariants.{Done}
 use Rattle.age_stream.proofs.Segments.{released_segment}
-use Rattle.age_stream.proofs.Places.{in_place}
+use Rattle.age_stream.proofs.Past.{past_front, past_segment}
+use Rattle.age_stream.proofs.Places.{in_place, low_within}
 use Rattle.age_stream.proofs.Undamaged.{rest_segment, rest_payload, rest_is_done}
 
 module _ (sealing : List ℕ → List ℕ → List ℕ) (opening : List ℕ → List ℕ → Option (List ℕ)) (valid : IsChunkBox sealing opening)
@@ -28,15 +31,45 @@ module _ (sealing : List ℕ → List ℕ → List ℕ) (opening : List ℕ → 
       ap (λ (x : Segment). (outcome opening n x).status) is
       ∙ rest_is_done sealing opening valid n positive text few s.start rest.below (subst (IsAuthentic sealing opening n text) is auth)
 
+  module _ (s : Segment) (text : List ℕ) (few : chunk_count n text ≤ chunk_limit) (limit : s.start < chunk_limit)
+      (auth : IsAuthentic sealing opening n text s) where
+    abbrev Right : Type 0
+    Right = IsRight sealing opening n text (IsRest sealing opening n text s) s (take (s.start * n) text ++ released opening n s) (outcome opening n s).status
+
+    right_within : s.start * n ≤ length text → Right
+    right_within fits =
+        let r = released_segment sealing opening valid n text few positive s (take (s.start * n) text) limit fits refl auth in
+        record {
+          prefix = r.prefix;
+          done = r.done;
+          within = λ _. fits;
+          whole = λ rest. let d = rest_done text few s auth rest in (r.done d, d);
+          place = in_place sealing opening valid n text few positive s auth (low_within sealing opening valid n text few positive s auth limit fits);
+        }
+
+    right_past : length text < s.start * n → Right
+    right_past past =
+        let p = past_segment sealing opening valid n text few positive s limit past auth in
+        let none : released opening n s ≡ [] = ap (flat_map (λ (t : List ℕ). t)) p.texts in
+        let all : take (s.start * n) text ++ released opening n s ≡ text =
+        ap (λ (t : List ℕ). take (s.start * n) text ++ t) none
+        ∙ (append-nil (take (s.start * n) text) ∙ take_all (s.start * n) text (omega (arith, past))) in
+        let low : s.start + length (front_texts opening s.start (whole_blocks n s.bytes)) < chunk_limit =
+        omega (arith, limit, ap length (past_front sealing opening valid n text few positive s limit past auth)) in
+        record {
+          prefix = ([], append-nil (take (s.start * n) text ++ released opening n s) ∙ all);
+          done = λ _. all;
+          within = λ done. absurd (p.undone done);
+          whole = λ rest. absurd (p.undone (rest_done text few s auth rest));
+          place = in_place sealing opening valid n text few positive s auth low;
+        }
+
   pub segment_right : (s : Segment) → ReleasesWritten sealing opening n s (released opening n s) (outcome opening n s).status
-  segment_right s text few reached auth =
-      let r = released_segment sealing opening valid n text few positive s (take (s.start * n) text) reached.limit reached.within refl auth in
-      record {
-        prefix = r.prefix;
-        done = r.done;
-        whole = λ rest. let d = rest_done text few s auth rest in (r.done d, d);
-        place = in_place sealing opening valid n text few positive s auth reached;
-      }
+  segment_right s text few limit auth =
+      elim (cases_lt (length text) (s.start * n)) [
+        | inl past ↦ right_past s text few limit auth past
+        | inr fits ↦ right_within s text few limit auth (omega (arith, fits))
+      ]
 
 -- an opener that stands for the segment has its status
 pub opener_right : {B : Type 0} (sealing : B → List ℕ → List ℕ → List ℕ) (opening : B → List ℕ → List ℕ → Option (List ℕ)) (n : ℕ) (key : B)

@@ -1,6 +1,6 @@
 -- What an opener's calls answer, and what it is once a call returned and what was lent is back. A
 -- chunk has n bytes.
-use Rattle.std.specs.Prelude.{◌≡◌, ℕ, ◌+◌, ◌-◌, ◌<◌, ◌≤◌, List, [], ◌++◌, length, min}
+use Rattle.std.specs.Prelude.{◌≡◌, ℕ, ◌+◌, ◌-◌, ◌<◌, List, [], ◌++◌, length, min}
 use Rattle.std.specs.Prelude.{false, Result}
 use Rattle.std.specs.Prelude.{IfOk, IfErr, OnOk, OnErr, IfSome, IfNone}
 use Rattle.std.specs.List.{flat_map}
@@ -14,7 +14,6 @@ use Rattle.age_stream.specs.Segment.{Segment, outcome, released}
 use Rattle.age_stream.specs.Deliveries.{with_piece, with_end}
 use Rattle.age_stream.specs.Opening.{OpenerView, Stands, given, handed, handed_bytes, chunk_texts}
 use Rattle.age_stream.specs.Opening.{has_failed, text_at_end}
-use Rattle.age_stream.specs.Lent.{chunk_bytes}
 use Rattle.age_stream.specs.Headline.{ReleasesWritten}
 
 -- the segment with what a call took of the piece added, or all of it if the call refused
@@ -44,9 +43,6 @@ module _ {B : Type 0} (sealing : B → Seals) (opening : B → Opens) (n : ℕ) 
         (length new.held ≡ length old.held + step.taken))
     -- a refusal leaves nothing held
     pub refused : OnErr answer (new.held ≡ [])
-    -- what is held or lent was held or taken
-    pub fits : IfOk answer (λ step. length new.held + length (chunk_bytes step.chunk)
-        ≤ length old.held + step.taken)
     -- an empty piece changes nothing
     pub unchanged : length piece ≡ 0 → new ≡ old
     -- the headline: while what opens is the writer's, what was released begins the text
@@ -88,9 +84,6 @@ module _ {B : Type 0} (opening : B → Opens) (size : ℕ) (old : OpenerView B) 
     pub some : IfOk answer (λ step. 0 < length piece → 0 < step.taken)
     -- the opener then stands at a chunk that a payload may have
     pub limit : IfOk answer (λ step. step.index < chunk_limit)
-    -- the text that is lent is that of a whole block
-    pub whole : IfOk answer
-        (λ step. IfSome step.chunk (λ text. length text.now ≡ text_length size))
     -- nothing is lent for an empty piece
     pub nothing : length piece ≡ 0 → IfOk answer (λ step. chunk_texts step.chunk ≡ [])
     -- a fault that came before comes again
@@ -108,8 +101,6 @@ module _ {B : Type 0} (opening : B → Opens) (size : ℕ) (old : OpenerView B) 
         ≡ released (opening old.key) (text_length size) s ++ handed_bytes answer
     -- it is as long as what was held without a tag, or empty where no block was open
     pub len : IfOk answer (λ text. length text.now ≡ text_at_end old)
-    -- it is no longer than what was held
-    pub fits : IfOk answer (λ text. length text.now ≤ length old.held)
     -- a fault that came before comes again
     pub again : IfErr answer
         (λ fault. (earlier : StreamFault) → old.status ≡ Failed earlier → fault ≡ earlier)

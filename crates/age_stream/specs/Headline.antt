@@ -55,21 +55,6 @@ module _ (sealing : Seals) (opening : Opens) (n : ℕ) (text : List ℕ) where
         ≡ drop (k * (n + tag_length)) (payload sealing n text)
     pub below : k < chunk_count n text
 
-  -- what is held is the beginning of the text, its end is reported only with all of it, an
-  -- undamaged payload, or the rest of one, gives all of it and its end, and each block of the
-  -- current segment stands in its place
-  pub record IsHeldRight (deliveries : List Delivery) (held : List ℕ)
-      (status : Status) : Type 0 where
-    pub prefix : IsPrefixOf held text
-    pub done : status ≡ Done → held ≡ text
-    pub whole : (k : ℕ) → IsUndamaged k deliveries → (held ≡ text) × (status ≡ Done)
-    pub place : IsInPlace sealing opening n text (standing opening n deliveries).segment status
-
-  -- the segment starts at a chunk that the text reaches
-  pub record IsReached (s : Segment) : Type 0 where
-    pub limit : s.start < chunk_limit
-    pub within : s.start * n ≤ length text
-
   -- the segment is the payload from its start on, and an end
   pub record IsRest (s : Segment) : Type 0 where
     pub below : s.start < chunk_count n text
@@ -77,11 +62,15 @@ module _ (sealing : Seals) (opening : Opens) (n : ℕ) (text : List ℕ) where
     pub ended : s.ended ≡ true
     pub timely : s.late ≡ false
 
-  -- the same of one segment, after the text before its start
-  pub record IsReleasedRight (s : Segment) (released : List ℕ) (status : Status) : Type 0 where
-    pub prefix : IsPrefixOf (take (s.start * n) text ++ released) text
-    pub done : status ≡ Done → take (s.start * n) text ++ released ≡ text
-    pub whole : IsRest s → (take (s.start * n) text ++ released ≡ text) × (status ≡ Done)
+  -- what is held is the beginning of the text, its end is reported only with all of it and only of
+  -- a segment that starts within it, what is undamaged gives all of it and its end, and each block
+  -- of the current segment stands in its place
+  pub record IsRight (Undamaged : Type 0) (s : Segment) (held : List ℕ)
+      (status : Status) : Type 0 where
+    pub prefix : IsPrefixOf held text
+    pub done : status ≡ Done → held ≡ text
+    pub within : status ≡ Done → s.start * n ≤ length text
+    pub whole : Undamaged → (held ≡ text) × (status ≡ Done)
     pub place : IsInPlace sealing opening n text s status
 
 module _ (sealing : Seals) (opening : Opens) (n : ℕ) where
@@ -90,11 +79,13 @@ module _ (sealing : Seals) (opening : Opens) (n : ℕ) where
   abbrev pub HoldsWritten : List Delivery → List ℕ → Status → Type 0
   HoldsWritten deliveries held status = (text : List ℕ) → chunk_count n text ≤ chunk_limit
       → AreAuthentic sealing opening n text deliveries
-      → IsHeldRight sealing opening n text deliveries held status
+      → IsRight sealing opening n text ((k : ℕ) × IsUndamaged sealing opening n text k deliveries)
+      (standing opening n deliveries).segment held status
 
-  -- the headline of one segment
+  -- the headline of one segment, which may start at any chunk, also past the end of the text: of
+  -- the text before its start, and what it released
   abbrev pub ReleasesWritten : Segment → List ℕ → Status → Type 0
   ReleasesWritten s released status = (text : List ℕ) → chunk_count n text ≤ chunk_limit
-      → IsReached sealing opening n text s
-      → IsAuthentic sealing opening n text s
-      → IsReleasedRight sealing opening n text s released status
+      → s.start < chunk_limit → IsAuthentic sealing opening n text s
+      → IsRight sealing opening n text (IsRest sealing opening n text s) s
+      (take (s.start * n) text ++ released) status

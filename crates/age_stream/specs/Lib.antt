@@ -5,6 +5,7 @@ pub mod Places
 pub mod Headline
 pub mod Authentic
 pub mod Laws
+pub mod Lengths
 pub mod Lent
 pub mod Sealing
 pub mod SealerCalls

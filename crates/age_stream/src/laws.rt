@@ -4,6 +4,7 @@ ghost use Rattle.age_stream.specs.Laws.{NoncesDiffer, PayloadIsLonger, PiecesJoi
 ghost use Rattle.age_stream.specs.Laws.{ReleasedIsWritten, SealedGrows, SealingsDiffer};
 ghost use Rattle.age_stream.specs.Authentic.{ClearIsSealable, RestIsAuthentic, RoundTrip};
 ghost use Rattle.age_stream.specs.Authentic.{UndamagedIsAuthentic, WholeIsAuthentic};
+ghost use Rattle.age_stream.specs.Lengths.{LengthsAreOne};
 ghost use Rattle.age_stream.specs.Parts.{ChunksAreOne, SealsChunks};
 
 /// No two chunks of a payload have the same nonce.
@@ -45,6 +46,11 @@ pub fn released_is_written()
 /// before the last are whole.
 pub fn payload_is_longer()
     ensures { PayloadIsLonger }
+{}
+
+/// A text is as long as [`text_len_of`](crate::text_len_of) says of its payload's length.
+pub fn lengths_are_one()
+    ensures { LengthsAreOne }
 {}
 
 /// The payload without its last block of a text begins that of the text and

@@ -20,6 +20,7 @@ mod delivery;
 mod drilling;
 mod headline;
 mod laws;
+mod length;
 mod opener;
 mod replay;
 mod sealer;
@@ -34,10 +35,11 @@ pub use delivery::Delivery;
 pub use drilling::drill;
 pub use headline::held_is_written;
 pub use laws::{
-    chunks_are_counted, chunks_are_one, clear_is_sealable, closed_stays, nonces_differ,
-    payload_is_longer, pieces_join, released_grows, released_is_written, round_trip, sealed_grows,
-    sealings_differ, undamaged_is_authentic,
+    chunks_are_counted, chunks_are_one, clear_is_sealable, closed_stays, lengths_are_one,
+    nonces_differ, payload_is_longer, pieces_join, released_grows, released_is_written, round_trip,
+    sealed_grows, sealings_differ, undamaged_is_authentic,
 };
+pub use length::text_len_of;
 pub use opener::Opener;
 pub use replay::{Drill, Replay};
 pub use sealer::Sealer;

@@ -1,4 +1,4 @@
-use Rattle.std.proofs.Common.{◌∙◌, ◌++◌, Some, None, List, ℕ, ap, ◌≡◌, take, drop, sym, arith, []}
+use Rattle.std.proofs.Common.{length, ◌∙◌, ◌++◌, Some, None, List, ℕ, ap, ◌≡◌, take, drop, sym, arith, []}
 use Rattle.std.proofs.Common.{append-nil, refl, inl}
 use Rattle.std.proofs.lemmas.Result.{err_from_is_err_and}
 use Rattle.std.proofs.lemmas.List.{take-append-drop}
@@ -51,7 +51,7 @@ returns-in_default-clause-fed g c =
     let new = c.feed.follows.lender-at-none in
     let was = view_of_writer g.O.Sink.view c.args.writer.now in
     let texts = rw c.in_default.is at ok.texts in
-    let room = rw c.in_default.is at after.fits in
+    let held = rw c.in_default.is at after.unlent in
     record {
       fed = take step.taken piece;
       left = drop step.taken piece;
@@ -63,7 +63,7 @@ returns-in_default-clause-fed g c =
           (counts_refused opens chunk_length (seals key) c.args.opener.now new
           c.args.writer.now.tally (take step.taken piece) (box_valid key) after.stands texts);
       answered = goes_front opens chunk_length c.args.opener.now new was was piece step.taken None
-          [] [] (omega (arith, ok.taken)) room refl (omega arith) refl refl
+          [] [] (omega (arith, ok.taken)) (omega (arith, held)) refl (omega arith) refl refl
           after.unfailed;
     }
 
@@ -106,7 +106,7 @@ returns-clause-fed g c =
     let texts = rw c.in-Some.is at ok.texts in
     let chunk = Some c.in-Some.chunk in
     let whole = put.parts ∙ ap (λ (t : List ℕ). put.out ++ t) put.answered.0 in
-    let room = rw c.in-Some.is at after.fits in
+    let lent = rw c.in-Some.is at after.lent in
     let none : [] ≡ [] = refl in
     let count = c.count.ensures.same ∙ put.count in
     let was = view_of_writer g.O.Sink.view c.args.writer.now in
@@ -125,5 +125,6 @@ returns-clause-fed g c =
           after.stands texts c.count.ensures.counted);
       answered = goes_front opens chunk_length c.args.opener.now c.feed.follows.lender-at-none was
           now piece step.taken chunk put.out [] (omega (arith, ok.taken))
-          room whole count none put.answered.1 after.unfailed;
+          (omega (arith, lent.0, lent.1, ap length lent.2)) whole count none put.answered.1
+          after.unfailed;
     }

@@ -21,7 +21,7 @@ returns-in_err-len g c =
           written = e.written;
         },
       ),
-      record { after = tt; ends = record { text = e.text; len = tt; fits = tt; again = e.again; unfailed = tt } },
+      record { after = tt; ends = record { text = e.text; len = tt; again = e.again; unfailed = tt } },
     )
 
 pub returns : goal.returns
@@ -34,7 +34,7 @@ returns g c =
       (refl, λ _. tt, record { key = ap (λ k. k.now) e.key; stands = e.stands; fault = tt; done = e.done; nothing_held = e.none; written = e.written }),
       record {
         after = tt;
-        ends = record { text = e.text; len = size ∙ e.len; fits = omega (arith, size, e.fits.1); again = tt; unfailed = e.unfailed };
+        ends = record { text = e.text; len = size ∙ e.len; again = tt; unfailed = e.unfailed };
       },
     )
 

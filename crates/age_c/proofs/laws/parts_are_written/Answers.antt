@@ -1,0 +1,5 @@
+use Rattle.age_c.proofs.CallsWritten.{parts_are_written}
+use Rattle.age_c.proofs.laws.parts_are_written.Goals as goal
+
+pub returns : goal.returns
+returns c = parts_are_written

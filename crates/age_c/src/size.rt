@@ -1,0 +1,60 @@
+//! The function by which C learns how long a text is, before it is read.
+
+ghost use Rattle.std.specs.Prelude.{◌≡◌, ◌-◌, ◌+◌};
+ghost use Rattle.age_stream.specs.Lengths.{chunks_for};
+ghost use Rattle.age_c.specs.Sizes.{Measures, ends_as};
+
+use crate::reader::Reader;
+use age_chunk::{BLOCK_LEN, CHUNK_LEN, StreamKind, TAG_LEN};
+use age_stream::text_len_of;
+
+/// The lengths of a chunk, a block and a tag.
+const CHUNK: u64 = CHUNK_LEN as u64;
+
+const BLOCK: u64 = BLOCK_LEN as u64;
+
+const TAG: u64 = TAG_LEN as u64;
+
+/// The number of the last chunk of a text of so many bytes.
+fn last_chunk_of(text_len: u64) -> u64
+    ensures { result + 1 ≡ chunks_for text_len }
+{
+    text_len.saturating_sub(1) / CHUNK
+}
+
+/// How a payload of so many bytes ends that is no text's.
+fn ends_as(size: u64) -> StreamKind
+    ensures { result ≡ ends_as size }
+{
+    let rest = size % BLOCK;
+    if rest == 0 {
+        return StreamKind::Truncated;
+    }
+    if rest == TAG {
+        return StreamKind::EmptyLast;
+    }
+    StreamKind::ChunkCut
+}
+
+/// The length of the text of a file that has so many bytes, and the number of its last chunk, if
+/// the file is whole; nothing is opened. The payload begins where the reader says. The answer is 0,
+/// or the number of the fault with which a file of this length ends, 18 to 20.
+#[unsafe(no_mangle)]
+pub extern "C" fn age_c_size(
+    reader: &Reader,
+    file_len: u64,
+    text_len: &mut u64,
+    last_chunk: &mut u64,
+) -> u32
+    ensures { Measures (file_len - reader.now.payload_at) result text_len.new last_chunk.new }
+{
+    let size = file_len.saturating_sub(reader.payload_at);
+    *text_len = 0;
+    *last_chunk = 0;
+    let Some(len) = text_len_of(size as u128) else {
+        return u32::from(ends_as(size).number());
+    };
+    *text_len = len as u64;
+    *last_chunk = last_chunk_of(len as u64);
+    0
+}

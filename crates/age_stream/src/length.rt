@@ -1,0 +1,29 @@
+//! How long a text is, by the length of its payload.
+ghost use Rattle.std.specs.Prelude.{◌<◌, ◌^◌};
+ghost use Rattle.age_stream.specs.Lengths.{IsTextLengthOf};
+
+use age_chunk::{BLOCK_LEN, CHUNK_LIMIT, TAG_LEN};
+
+/// The lengths of a tag and a whole block.
+const TAG: u128 = TAG_LEN as u128;
+
+const BLOCK: u128 = BLOCK_LEN as u128;
+
+/// The length of the text whose payload has so many bytes, in chunks of
+/// [`CHUNK_LEN`](crate::CHUNK_LEN); `None` where no payload has that length.
+pub fn text_len_of(size: u128) -> Option<u128>
+    requires { size < 2 ^ 127 }
+    ensures { IsTextLengthOf size result }
+{
+    if size < TAG {
+        return None;
+    }
+    if size == TAG {
+        return Some(0);
+    }
+    let chunks = size.div_ceil(BLOCK);
+    if chunks > CHUNK_LIMIT as u128 || size <= (chunks - 1) * BLOCK + TAG {
+        return None;
+    }
+    Some(size - TAG * chunks)
+}
