@@ -36,42 +36,44 @@
  * `fault_chunk` is its number. What a writer wrote, from age_c_seal_passphrase to an age_c_seal_end
  * that returned 0, is the age file of the text.
  *
- * OWNERSHIP. A reader or writer is 64 bytes of plain numbers in the caller's memory: there is
- * nothing to free, and it may be copied (a copy of a reader goes on from the same place; never go
- * on from a copy of a writer, which would seal two texts under one nonce). It holds the file key:
- * overwrite it when you are done, if that matters to you. The library keeps no pointer and no
- * state. Only age_c_open_.. and age_c_seal_passphrase allocate, by malloc, and free all of it
- * before they return: with a passphrase of work factor N, 2^N KiB. A call uses less than 100 KiB of
- * stack.
+ * OWNERSHIP. A reader or writer is 64 bytes of plain numbers, and a stream 65,624 bytes, in the
+ * caller's memory: there is nothing to free, and it may be copied (a copy of a reader goes on from
+ * the same place; never go on from a copy of a writer, which would seal two texts under one nonce).
+ * It holds the file key: overwrite it when you are done, if that matters to you. The library keeps
+ * no pointer and no state. Only age_c_open_.. and age_c_seal_passphrase allocate, by malloc, and
+ * free all of it before they return: with a passphrase of work factor N, 2^N KiB. A call uses less
+ * than 100 KiB of stack.
  *
  * POINTERS. Each points to at least as many bytes as the length after it says, and may be null if
  * that is 0; no other pointer may be null. What a call writes to overlaps nothing else that the
- * call is given. Bytes may stand at any address; a reader, a writer and the numbers that a call
- * writes are aligned as their types are. Nobody else writes to a reader or writer, neither during a
- * call nor between two: what holds of them holds of what the library left there. The library can't
- * check this.
+ * call is given. Bytes may stand at any address; a reader, a writer, a stream and the numbers that
+ * a call writes are aligned as their types are. Nobody else writes to them, neither during a call
+ * nor between two: what holds of them holds of what the library left there. The library can't check
+ * this.
  *
- * THREADS, SIGNALS, FORK. Any number of calls may run at the same time, on different readers and
- * writers. The library takes no lock, and calls nothing but malloc, realloc, free, memcpy, memmove
- * and memset. So a signal handler may call age_c_block, age_c_end, age_c_seek, age_c_size,
- * age_c_seal_block and age_c_seal_end, on a reader or writer that the interrupted code isn't using;
- * it may not make the calls that allocate. After fork, both processes may go on with their copy of
- * a reader, but only one of them with a writer; glibc's malloc, and so each call, works in the
- * child of a process with threads too.
+ * THREADS, SIGNALS, FORK. Any number of calls may run at the same time, on different readers,
+ * writers and streams. The library takes no lock, and calls nothing but malloc, realloc, free,
+ * memcpy, memmove and memset. So a signal handler may call age_c_block, age_c_end, age_c_seek,
+ * age_c_size, age_c_feed, age_c_finish, age_c_seal_block and age_c_seal_end, on what the
+ * interrupted code isn't using; it may not make the calls that allocate. After fork, both processes
+ * may go on with their copy of a reader, but only one of them with a writer; glibc's malloc, and so
+ * each call, works in the child of a process with threads too.
  *
  * ERRORS. A call returns 0, the number of a fault (AGE_C_NOT_AGE and so on; docs/FAULTS.md says
  * what each means), AGE_C_MORE or AGE_C_MISUSED. A call that doesn't return 0 has written no byte
  * of `out`, has set *written (or *text_len and *last_chunk) to 0, and has changed nothing else,
- * with one exception: a fault 17 to 22 of age_c_block or age_c_end is kept in the reader. Each
- * later call of these two on it returns that fault again, unless it is misused. After age_c_end
- * returned 0, it returns 0 again if it is given no bytes, and writes nothing; any other call of
- * these two returns AGE_C_TRAILING, unless it is misused. age_c_seek ends both: the reader goes on
- * as one that was just begun, at that chunk.
+ * with one exception: a fault 17 to 22 of age_c_block, age_c_end, age_c_feed or age_c_finish is
+ * kept in the reader (and then age_c_feed took *taken bytes all the same). Each later call of these
+ * on it returns that fault again, unless it is misused. After an end returned 0, it returns 0 again
+ * if it is given no bytes, and writes nothing; so does age_c_feed. Any other call of these returns
+ * AGE_C_TRAILING, unless it is misused. age_c_seek ends both: the reader goes on as one that was
+ * just begun, at that chunk.
  *
  * MISUSE. A call returns AGE_C_MISUSED if, and only if, a length, a work factor or a chunk's number
  * isn't as the call's comment says, or it takes a block or chunk, or goes to one, and its reader or
  * writer can't be used: `chunk` is 2^48 or more, a reader's `state` is none of those listed below,
- * or a writer's isn't 1. This is looked at before anything else.
+ * or a writer's isn't 1; or a stream's `held` is AGE_C_BLOCK or more. This is looked at before
+ * anything else.
  *
  * The library is for x86-64 Linux: glibc 2.34 or later, and a processor with the instructions of
  * x86-64-v2. Link libage_c.a, which holds all that it needs but the C library; or libage_c.so.
@@ -214,6 +216,30 @@ uint32_t age_c_seek(age_c_reader *reader, uint64_t chunk);
 AGE_C_MUST_CHECK
 uint32_t age_c_size(const age_c_reader *reader, uint64_t file_len, uint64_t *text_len,
                     uint64_t *last_chunk);
+
+/* ---- reading in pieces ---- */
+
+/* A reader that takes its payload in pieces of any length. Set `held` to 0, as `= {0}` does, and
+ * open the header with &stream->reader; give what follows payload_at by age_c_feed. To go to
+ * a chunk, call age_c_seek with &stream->reader and set `held` to 0 again. Nothing has to be freed,
+ * and a copy goes on from the same place. */
+typedef struct age_c_stream {
+    age_c_reader reader;
+    uint32_t held; /* bytes of the block that is open: fewer than AGE_C_BLOCK */
+    uint32_t unused;
+    uint8_t block[AGE_C_BLOCK];
+} age_c_stream;
+
+/* Takes *taken bytes from the front of the piece: up to the end of the block that is open, and one
+ * at least if the piece isn't empty. Once the block is full, its text is written. `out` has room
+ * for AGE_C_CHUNK bytes or more. After 0, call it again with what is left of the piece. */
+AGE_C_MUST_CHECK
+uint32_t age_c_feed(age_c_stream *stream, const uint8_t *piece, size_t piece_len, size_t *taken,
+                    uint8_t *out, size_t out_len, size_t *written);
+
+/* The file ended. `out` as above. The text is whole only if this returns 0. */
+AGE_C_MUST_CHECK
+uint32_t age_c_finish(age_c_stream *stream, uint8_t *out, size_t out_len, size_t *written);
 
 /* ---- writing ---- */
 

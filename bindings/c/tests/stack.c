@@ -13,12 +13,13 @@
 
 #define ROOM ((size_t)1 << 20)
 #define MOST ((size_t)100 << 10)
-#define CALLS 7
+#define CALLS 9
 
 static uint8_t file[AGE_C_FRONT_MAX], out[AGE_C_BLOCK], key[32], noise[48];
-static size_t len, written;
+static size_t len, written, taken;
 static age_c_reader reader;
 static age_c_writer writer;
+static age_c_stream stream;
 
 static volatile uint32_t answer; /* (what it is doesn't matter here) */
 
@@ -31,7 +32,9 @@ static void *call(void *which) {
     case 3: answer = age_c_block(&reader, file, AGE_C_BLOCK, out, sizeof out, &written); break;
     case 4: answer = age_c_end(&reader, file, 400, out, sizeof out, &written); break;
     case 5: answer = age_c_seal_passphrase(pass, sizeof pass, 1, noise, sizeof noise, out, sizeof out, &written, &writer); break;
-    default: answer = age_c_seal_block(&writer, file, AGE_C_CHUNK, out, sizeof out, &written); break;
+    case 6: answer = age_c_seal_block(&writer, file, AGE_C_CHUNK, out, sizeof out, &written); break;
+    case 7: answer = age_c_feed(&stream, file, 9, &taken, out, sizeof out, &written); break;
+    default: answer = age_c_finish(&stream, out, sizeof out, &written); break;
     }
     return NULL;
 }
@@ -61,9 +64,11 @@ int main(int argc, char **argv) {
     memset(key, 7, sizeof key);
     memset(&reader, 0, sizeof reader);
     for (int which = 0; which < CALLS; which++) {
-        /* a reader and a writer that can be used, whatever came before */
+        /* a reader, a writer and a stream, one byte before the end of its block, that can be used, whatever came before */
         reader.state = 1;
         writer.state = 1;
+        stream.reader.state = 1;
+        stream.held = AGE_C_BLOCK - 1;
         size_t bytes = used(which);
         printf("call %d: %zu bytes of stack\n", which, bytes);
         failed += bytes > MOST;

@@ -98,6 +98,20 @@ block_at r r' status o o' s block view same key index code was_open old_code len
     (h.whole (sym before.status ∙ (sym is_status ∙ was_open is_open))) len)
     (stands (subst (λ (o : OpenerView (List ℕ)). Stands opens chunk_length o s) (sym view) before))
 
+-- one that is open to no more, and was given bytes
+pub rest_at : (r r' : Reader) (status : Status) (o o' : OpenerView (List ℕ)) (s : Segment)
+    (rest : List ℕ) → o ≡ opener_of r status → SameFile r r'
+    → o'.key ≡ o.key → o'.index ≡ r'.chunk → status_of r'.state r'.fault_chunk ≡ Some o'.status
+    → o'.status ≢ Open → status_of r.state r.fault_chunk ≡ Some status
+    → (Stands opens chunk_length o s → Stands opens chunk_length o' (with_piece s rest))
+    → IsAt r s → IsAt r' (with_piece s rest)
+rest_at r r' status o o' s rest view same key index code shut old_code stands h =
+    let is_key : o'.key ≡ key_of r' =
+    key ∙ (ap (λ (o : OpenerView (List ℕ)). o.key) view ∙ sym (key_same r r' same)) in
+    at_of r' o' (with_piece s rest) is_key index code (λ is_open. absurd (shut is_open))
+    (stands (subst (λ (o : OpenerView (List ℕ)). Stands opens chunk_length o s) (sym view)
+    (stands_of r status s old_code h)))
+
 -- fewer bytes than a block, where none were held, give no text
 no_text : (chunk : Option (Bor (List ℕ))) (held new : List ℕ) (taken : ℕ)
     → IfSome chunk (λ c. (length c.now ≡ chunk_length) × (length held + taken ≡ block_length)

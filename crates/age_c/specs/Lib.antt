@@ -7,4 +7,5 @@ pub mod Writers
 pub mod WriterCalls
 pub mod Answers
 pub mod Sizes
+pub mod Streams
 pub mod inner

@@ -1,3 +1,4 @@
 pub mod Blocks
+pub mod Holding
 pub mod Counts
 pub mod Keys

@@ -1,6 +1,6 @@
 //! Opens the blocks of a payload.
 
-ghost use Rattle.std.specs.Prelude.{◌≡◌, ◌≢◌, ◌+◌, ◌<◌, ◌≤◌, [], length, take, drop};
+ghost use Rattle.std.specs.Prelude.{◌≡◌, ◌≢◌, ◌+◌, ◌<◌, ◌≤◌, [], length, min, take, drop};
 ghost use Rattle.std.specs.Prelude.{IfSome, IfNone, Some, false};
 ghost use Rattle.age_stream.specs.Deliveries.{with_piece, with_end};
 ghost use Rattle.age_stream.specs.Lent.{chunk_bytes};
@@ -120,6 +120,26 @@ fn end_opener(opener: &mut PayloadOpener<'_>, out: &mut [u8]) -> usize
         Ok(text) => put(text, out),
         Err(_) => 0,
     }
+}
+
+/// Gives a byte of a piece, if it has one, to a reader that is open to no more, and returns how many
+/// it gave.
+// not inlined: beside another opener its buffer would double what a call takes of the stack
+#[inline(never)]
+pub(crate) fn refuse_more(reader: &mut Reader, status: Status, piece: &[u8]) -> usize
+    requires usable { CanBeUsed reader.old }
+    requires status { status_of reader.old.state reader.old.fault_chunk ≡ Some status }
+    requires shut { status ≢ Status.Open }
+    ensures takes { Takes (λ s. with_piece s (take result piece.now)) reader.old
+        (answer_of reader.new.state) [] reader.new }
+    ensures count { result ≡ min (length piece.now) 1 }
+{
+    let count = piece.len().min(1);
+    let key = key_of(reader);
+    let mut opener = PayloadOpener::between(&key, reader.chunk, status);
+    feed_rest(&mut opener, &piece[..count]);
+    keep(reader, opener.index(), opener.status());
+    count
 }
 
 /// Opens a whole block, and returns how many bytes of text it put into `out`.

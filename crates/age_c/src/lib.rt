@@ -11,6 +11,7 @@
 #![tactic(auto)]
 
 mod blocks;
+mod feed;
 mod laws;
 mod numbers;
 mod open;
@@ -21,8 +22,10 @@ mod sealing;
 mod seek;
 mod size;
 mod start;
+mod stream;
 mod writer;
 
+pub use feed::{age_c_feed, age_c_finish};
 pub use laws::{
     answers_are_calls, answers_are_seal_calls, calls_are_payload, calls_are_written,
     files_are_whole, parts_are_written,
@@ -33,6 +36,7 @@ pub use reader::Reader;
 pub use seal::{age_c_seal_block, age_c_seal_end, age_c_seal_passphrase};
 pub use seek::age_c_seek;
 pub use size::age_c_size;
+pub use stream::Stream;
 pub use writer::Writer;
 
 /// The bytes end inside the header or the payload's nonce: more of the file is needed.

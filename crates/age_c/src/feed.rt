@@ -1,0 +1,137 @@
+//! The functions by which C reads a payload in pieces of any length.
+
+ghost use Rattle.std.specs.Prelude.{◌≡◌, ◌<◌, ◌≤◌, IfNone, IfSome, Some, take};
+ghost use Rattle.age_chunk.specs.Payload.{chunk_length, block_length};
+ghost use Rattle.age_c.specs.Answers.{Answers, PutsFront};
+ghost use Rattle.age_c.specs.Numbers.{answer_of, misused, status_of};
+ghost use Rattle.age_c.specs.Readers.{CanBeUsed};
+ghost use Rattle.age_c.specs.Streams.{Feeds, Finishes, IsStreamCall};
+ghost use Rattle.age_c.specs.inner.Holding.{Holds};
+
+use crate::MISUSED;
+use crate::blocks::{open_block, open_last, refuse_more, status_at};
+use crate::numbers::answer_of;
+use crate::stream::Stream;
+use age_chunk::{BLOCK_LEN, CHUNK_LEN};
+use age_stream::Status;
+
+/// Copies the bytes for which the open block has room, after those that are held, and returns how
+/// many.
+fn hold(stream: &mut Stream, piece: &[u8]) -> usize
+    requires { stream.old.held < block_length }
+    ensures { Holds piece.now result stream.old stream.new }
+{
+    let held = stream.held as usize;
+    let count = piece.len().min(BLOCK_LEN - held);
+    stream.block[held..held + count].copy_from_slice(&piece[..count]);
+    count
+}
+
+/// Takes bytes of a block, and opens it if it is full. Returns how many bytes were taken, and how
+/// many bytes of text were put into `out`.
+fn feed_open(stream: &mut Stream, piece: &[u8], out: &mut [u8]) -> (usize, usize)
+    requires call { IsStreamCall stream.old out.old }
+    requires open { status_of stream.old.reader.state stream.old.reader.fault_chunk
+        ≡ Some Status.Open }
+    ensures feeds { Feeds piece.now stream.old (answer_of stream.new.reader.state) result.0
+        (take result.1 out.new) stream.new }
+    ensures put { PutsFront result.1 out.old out.new }
+{
+    let taken = hold(stream, piece);
+    let held = stream.held as usize + taken;
+    if held < BLOCK_LEN {
+        stream.held = held as u32;
+        return (taken, 0);
+    }
+    stream.held = 0;
+    let written = open_block(&mut stream.reader, Status::Open, &stream.block, out);
+    (taken, written)
+}
+
+/// Takes bytes of a piece. Returns how many, and how many bytes of text were put into `out`.
+fn feed(stream: &mut Stream, status: Status, piece: &[u8], out: &mut [u8]) -> (usize, usize)
+    requires call { IsStreamCall stream.old out.old }
+    requires status { status_of stream.old.reader.state stream.old.reader.fault_chunk
+        ≡ Some status }
+    ensures feeds { Feeds piece.now stream.old (answer_of stream.new.reader.state) result.0
+        (take result.1 out.new) stream.new }
+    ensures put { PutsFront result.1 out.old out.new }
+{
+    match status {
+        Status::Open => feed_open(stream, piece, out),
+        _ => {
+            stream.held = 0;
+            (refuse_more(&mut stream.reader, status, piece), 0)
+        }
+    }
+}
+
+/// Ends, and returns how many bytes of text were put into `out`.
+fn finish(stream: &mut Stream, status: Status, out: &mut [u8]) -> usize
+    requires call { IsStreamCall stream.old out.old }
+    requires status { status_of stream.old.reader.state stream.old.reader.fault_chunk
+        ≡ Some status }
+    ensures finishes { Finishes stream.old (answer_of stream.new.reader.state)
+        (take result out.new) stream.new }
+    ensures put { PutsFront result out.old out.new }
+{
+    let held = stream.held as usize;
+    stream.held = 0;
+    open_last(&mut stream.reader, status, &stream.block[..held], out)
+}
+
+/// The status of a stream that can be used, with so much room for text.
+fn stream_status(stream: &Stream, room: usize) -> Option<Status>
+    ensures status { IfSome result (λ status.
+        status_of stream.now.reader.state stream.now.reader.fault_chunk ≡ Some status) }
+    ensures usable { IfSome result (λ _. (CanBeUsed stream.now.reader)
+        × (stream.now.held < block_length) × (chunk_length ≤ room)) }
+    ensures none { IfNone result (CanBeUsed stream.now.reader → stream.now.held < block_length
+        → chunk_length ≤ room → ⊥) }
+{
+    if stream.held as usize >= BLOCK_LEN || room < CHUNK_LEN {
+        return None;
+    }
+    status_at(&stream.reader)
+}
+
+/// Takes bytes of the payload from the front of `piece`, up to the end of the block that is open,
+/// and puts the text of a block that is full into `out`, which has room for 65,536 bytes or more.
+/// The answer is 0 or the number of a fault, 17 to 22, with which the reader refuses each further
+/// call that gives it bytes or an end.
+#[unsafe(no_mangle)]
+pub extern "C" fn age_c_feed(
+    stream: &mut Stream,
+    piece: &[u8],
+    taken: &mut usize,
+    out: &mut [u8],
+    written: &mut usize,
+) -> u32
+    ensures answers { Answers (IsStreamCall stream.old out.old)
+        (λ answer text new. Feeds piece.now stream.old answer taken.new text new)
+        stream.old stream.new result written.new out.old out.new }
+    ensures none { result ≡ misused → taken.new ≡ 0 }
+{
+    *taken = 0;
+    *written = 0;
+    let Some(status) = stream_status(stream, out.len()) else {
+        return MISUSED;
+    };
+    (*taken, *written) = feed(stream, status, piece, out);
+    answer_of(stream.reader.state)
+}
+
+/// The payload ended: what is left of its text is put into `out`, which has room for 65,536 bytes
+/// or more. The text is whole only if the answer is 0.
+#[unsafe(no_mangle)]
+pub extern "C" fn age_c_finish(stream: &mut Stream, out: &mut [u8], written: &mut usize) -> u32
+    ensures { Answers (IsStreamCall stream.old out.old) (Finishes stream.old)
+        stream.old stream.new result written.new out.old out.new }
+{
+    *written = 0;
+    let Some(status) = stream_status(stream, out.len()) else {
+        return MISUSED;
+    };
+    *written = finish(stream, status, out);
+    answer_of(stream.reader.state)
+}
