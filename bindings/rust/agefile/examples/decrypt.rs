@@ -1,20 +1,20 @@
-//! Decrypts an age file from standard input to standard output: `age_c_example PASSFILE <IN >OUT`.
+//! Decrypts an age file from standard input to standard output: `decrypt PASSFILE <IN >OUT`.
 //! Only status 0 means that the output is the complete plaintext.
 
-use age_c_example::AgeReader;
+use agefile::{AgeReader, Key};
 use std::error::Error;
-use std::io::{self, BufReader, Write};
+use std::io::{self, Write};
 use std::process::ExitCode;
 
 fn decrypt() -> Result<(), Box<dyn Error>> {
     let name = std::env::args_os()
         .nth(1)
-        .ok_or("usage: age_c_example PASSFILE <IN >OUT")?;
+        .ok_or("usage: decrypt PASSFILE <IN >OUT")?;
     let mut pass = std::fs::read(name)?;
     if pass.last() == Some(&b'\n') {
         pass.pop();
     }
-    let mut file = AgeReader::open(BufReader::new(io::stdin()), &pass, 22)?;
+    let mut file = AgeReader::open(io::stdin().lock(), Key::passphrase(&pass))?;
     let mut out = io::stdout().lock();
     io::copy(&mut file, &mut out)?;
     out.flush()?;
@@ -25,7 +25,7 @@ fn main() -> ExitCode {
     match decrypt() {
         Ok(()) => ExitCode::SUCCESS,
         Err(error) => {
-            eprintln!("age_c_example: {error}");
+            eprintln!("decrypt: {error}");
             ExitCode::FAILURE
         }
     }

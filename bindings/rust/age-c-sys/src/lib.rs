@@ -1,0 +1,128 @@
+//! The functions of libage_c, as `age_c.h` declares and describes them. The crate `agefile` has
+//! readers and writers over them.
+#![no_std]
+
+/// Bytes of text in a whole chunk.
+pub const AGE_C_CHUNK: usize = 65_536;
+/// Bytes of its block.
+pub const AGE_C_BLOCK: usize = 65_552;
+/// With so many bytes of a file, a header is complete or refused.
+pub const AGE_C_FRONT_MAX: usize = 1_048_592;
+/// Room that [`age_c_seal_passphrase`] asks for.
+pub const AGE_C_SEAL_FRONT: usize = 256;
+/// The greatest work factor.
+pub const AGE_C_WORK_MAX: u32 = 22;
+/// The bytes end inside the header or the payload's nonce.
+pub const AGE_C_MORE: u32 = 254;
+/// The call was misused.
+pub const AGE_C_MISUSED: u32 = 255;
+
+/// Where a file is being read: `age_c_reader`.
+#[repr(C)]
+#[derive(Clone, Default)]
+pub struct AgeCReader {
+    pub file_key: [u8; 16],
+    pub nonce: [u8; 16],
+    /// Offset of the first block in the file.
+    pub payload_at: u64,
+    /// Number of the next chunk.
+    pub chunk: u64,
+    /// After a fault 17 to 22, the number of its chunk.
+    pub fault_chunk: u64,
+    pub state: u32,
+    pub unused: u32,
+}
+
+/// How far a file was written: `age_c_writer`.
+#[repr(C)]
+#[derive(Default)]
+pub struct AgeCWriter {
+    pub file_key: [u8; 16],
+    pub nonce: [u8; 16],
+    pub chunk: u64,
+    pub state: u32,
+    pub unused: [u32; 5],
+}
+
+const _: () = assert!(core::mem::size_of::<AgeCReader>() == 64);
+const _: () = assert!(core::mem::size_of::<AgeCWriter>() == 64);
+
+extern "C" {
+    /// The name of what a call returned, a text that ends in a zero byte and stays.
+    pub fn age_c_fault_name(answer: u32) -> *const core::ffi::c_char;
+    pub fn age_c_version() -> u32;
+    pub fn age_c_open_passphrase(
+        front: *const u8,
+        front_len: usize,
+        pass: *const u8,
+        pass_len: usize,
+        max_work: u32,
+        reader: *mut AgeCReader,
+    ) -> u32;
+    pub fn age_c_open_key(
+        front: *const u8,
+        front_len: usize,
+        file_key: *const u8,
+        file_key_len: usize,
+        reader: *mut AgeCReader,
+    ) -> u32;
+    pub fn age_c_open_shared(
+        front: *const u8,
+        front_len: usize,
+        secret: *const u8,
+        secret_len: usize,
+        recipient: *const u8,
+        recipient_len: usize,
+        reader: *mut AgeCReader,
+    ) -> u32;
+    pub fn age_c_block(
+        reader: *mut AgeCReader,
+        block: *const u8,
+        block_len: usize,
+        out: *mut u8,
+        out_len: usize,
+        written: *mut usize,
+    ) -> u32;
+    pub fn age_c_end(
+        reader: *mut AgeCReader,
+        rest: *const u8,
+        rest_len: usize,
+        out: *mut u8,
+        out_len: usize,
+        written: *mut usize,
+    ) -> u32;
+    pub fn age_c_seek(reader: *mut AgeCReader, chunk: u64) -> u32;
+    pub fn age_c_size(
+        reader: *const AgeCReader,
+        file_len: u64,
+        text_len: *mut u64,
+        last_chunk: *mut u64,
+    ) -> u32;
+    pub fn age_c_seal_passphrase(
+        pass: *const u8,
+        pass_len: usize,
+        work: u32,
+        random: *const u8,
+        random_len: usize,
+        out: *mut u8,
+        out_len: usize,
+        written: *mut usize,
+        writer: *mut AgeCWriter,
+    ) -> u32;
+    pub fn age_c_seal_block(
+        writer: *mut AgeCWriter,
+        text: *const u8,
+        text_len: usize,
+        out: *mut u8,
+        out_len: usize,
+        written: *mut usize,
+    ) -> u32;
+    pub fn age_c_seal_end(
+        writer: *mut AgeCWriter,
+        rest: *const u8,
+        rest_len: usize,
+        out: *mut u8,
+        out_len: usize,
+        written: *mut usize,
+    ) -> u32;
+}

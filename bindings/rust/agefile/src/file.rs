@@ -1,0 +1,130 @@
+//! A reader at any place.
+
+use crate::reader::{fill, open_block, open_header};
+use crate::{AgeError, Key};
+use age_c_sys::{age_c_seek, age_c_size, AgeCReader, AGE_C_BLOCK, AGE_C_CHUNK};
+use std::io::{self, BufRead, ErrorKind, Read, Seek, SeekFrom};
+
+const CHUNK: u64 = AGE_C_CHUNK as u64;
+const BLOCK: u64 = AGE_C_BLOCK as u64;
+
+/// The text of an age file, which can be sought in. The length of the text was checked when the
+/// file was opened.
+pub struct AgeFile<R> {
+    file: R,
+    begin: u64, // where the age file begins in the file
+    reader: AgeCReader,
+    len: u64,
+    last: u64,  // the number of the last chunk
+    place: u64, // in the text
+    block: Vec<u8>,
+    text: Vec<u8>,
+    held: Option<(u64, usize)>, // the chunk whose text is held, and how long it is
+}
+
+impl<R: Read + Seek> AgeFile<R> {
+    /// Opens the header, which begins where the file stands, and the last chunk, by which it checks
+    /// the length of the text.
+    pub fn open(mut file: R, key: Key) -> io::Result<AgeFile<R>> {
+        let begin = file.stream_position()?;
+        let (reader, _) = open_header(&mut file, key)?;
+        let end = file.seek(SeekFrom::End(0))?.saturating_sub(begin);
+        let (mut len, mut last) = (0, 0);
+        // SAFETY: the pointers are those of values of these types.
+        let answer = unsafe { age_c_size(&reader, end, &mut len, &mut last) };
+        if answer != 0 {
+            let chunk = end.saturating_sub(reader.payload_at) / BLOCK;
+            let reader = AgeCReader {
+                fault_chunk: chunk,
+                ..reader
+            };
+            return Err(AgeError::of_block(answer, &reader).into());
+        }
+        let mut made = AgeFile {
+            file,
+            begin,
+            reader,
+            len,
+            last,
+            place: 0,
+            block: vec![0; AGE_C_BLOCK],
+            text: vec![0; AGE_C_CHUNK],
+            held: None,
+        };
+        made.hold(last)?;
+        Ok(made)
+    }
+
+    /// The length of the text.
+    pub fn len(&self) -> u64 {
+        self.len
+    }
+
+    /// Whether the text has no byte.
+    pub fn is_empty(&self) -> bool {
+        self.len == 0
+    }
+
+    /// Reads and opens a chunk, the last one as the last. Returns the length of its text.
+    fn hold(&mut self, chunk: u64) -> io::Result<usize> {
+        if let Some((_, len)) = self.held.filter(|it| it.0 == chunk) {
+            return Ok(len);
+        }
+        self.held = None;
+        let at = self.begin + self.reader.payload_at + chunk * BLOCK;
+        self.file.seek(SeekFrom::Start(at))?;
+        let mut have = 0;
+        fill(&mut self.file, &mut self.block, &mut have)?;
+        // SAFETY: the reader is one.
+        let answer = unsafe { age_c_seek(&mut self.reader, chunk) };
+        if answer != 0 {
+            return Err(AgeError::of_block(answer, &self.reader).into());
+        }
+        let len = open_block(&mut self.reader, &self.block[..have], &mut self.text)?;
+        if chunk == self.last && have == AGE_C_BLOCK {
+            let mut spare = [0; AGE_C_CHUNK];
+            open_block(&mut self.reader, &[], &mut spare)?;
+        }
+        self.held = Some((chunk, len));
+        Ok(len)
+    }
+}
+
+impl<R: Read + Seek> BufRead for AgeFile<R> {
+    fn fill_buf(&mut self) -> io::Result<&[u8]> {
+        if self.place >= self.len {
+            return Ok(&[]);
+        }
+        let len = self.hold(self.place / CHUNK)?;
+        Ok(&self.text[(self.place % CHUNK) as usize..len])
+    }
+
+    fn consume(&mut self, amount: usize) {
+        self.place += amount as u64;
+    }
+}
+
+impl<R: Read + Seek> Read for AgeFile<R> {
+    fn read(&mut self, into: &mut [u8]) -> io::Result<usize> {
+        if into.is_empty() {
+            return Ok(0);
+        }
+        let n = self.fill_buf()?.read(into)?;
+        self.consume(n);
+        Ok(n)
+    }
+}
+
+impl<R: Read + Seek> Seek for AgeFile<R> {
+    /// Goes to a place of the text, without reading. After the end there is nothing to read.
+    fn seek(&mut self, to: SeekFrom) -> io::Result<u64> {
+        let place = match to {
+            SeekFrom::Start(place) => Some(place),
+            SeekFrom::Current(offset) => self.place.checked_add_signed(offset),
+            SeekFrom::End(offset) => self.len.checked_add_signed(offset),
+        };
+        self.place =
+            place.ok_or_else(|| io::Error::new(ErrorKind::InvalidInput, "negative place"))?;
+        Ok(self.place)
+    }
+}

@@ -1,0 +1,359 @@
+//! Readers and writers over files in memory, and files that age 1.1.1 made.
+
+use agefile::{AgeError, AgeFile, AgeReader, AgeWriter, Key};
+use std::cell::RefCell;
+use std::io::{self, BufRead, Cursor, ErrorKind, Read, Seek, SeekFrom, Write};
+use std::rc::Rc;
+
+const LENGTHS: [usize; 7] = [0, 1, 65_535, 65_536, 65_537, 131_072, 200_000];
+const BLOCK: usize = 65_552;
+const PW: Key = Key::Passphrase {
+    passphrase: b"pw",
+    max_work: 22,
+};
+
+/// Bytes that look random, and are the same each time.
+fn text_of(len: usize) -> Vec<u8> {
+    let mut state = len as u64 + 1;
+    let mut next = || {
+        state = state
+            .wrapping_mul(6364136223846793005)
+            .wrapping_add(1442695040888963407);
+        (state >> 33) as u8
+    };
+    (0..len).map(|_| next()).collect()
+}
+
+fn sealed(text: &[u8]) -> Vec<u8> {
+    let mut writer = AgeWriter::create(Vec::new(), b"pw", 1).unwrap();
+    for piece in text.chunks(9_999) {
+        writer.write_all(piece).unwrap();
+    }
+    writer.finish().unwrap()
+}
+
+fn text_in(data: &[u8], key: Key) -> io::Result<Vec<u8>> {
+    let mut text = Vec::new();
+    AgeReader::open(data, key)?.read_to_end(&mut text)?;
+    Ok(text)
+}
+
+fn text_at(data: &[u8], key: Key) -> io::Result<Vec<u8>> {
+    let mut text = Vec::new();
+    AgeFile::open(Cursor::new(data), key)?.read_to_end(&mut text)?;
+    Ok(text)
+}
+
+#[test]
+fn reads_what_it_writes() {
+    for len in LENGTHS {
+        let text = text_of(len);
+        let data = sealed(&text);
+        assert_eq!(text_in(&data, PW).unwrap(), text);
+        assert_eq!(text_at(&data, PW).unwrap(), text);
+    }
+}
+
+#[test]
+fn reads_a_file_of_age() {
+    let path = concat!(
+        env!("CARGO_MANIFEST_DIR"),
+        "/../../tests/age/passphrase.age"
+    );
+    let Ok(data) = std::fs::read(path) else {
+        return; // this folder stands alone
+    };
+    assert_eq!(
+        text_in(&data, Key::passphrase(b"correct horse")).unwrap(),
+        b"hello, passphrase\n"
+    );
+}
+
+#[test]
+fn reads_lines() {
+    let data = sealed(b"one\ntwo\n");
+    let lines: Vec<_> = AgeReader::open(&data[..], PW)
+        .unwrap()
+        .lines()
+        .map(Result::unwrap)
+        .collect();
+    assert_eq!(lines, ["one", "two"]);
+}
+
+#[test]
+fn says_what_is_wrong() {
+    let (data, full) = (sealed(&text_of(70_000)), sealed(&text_of(65_536)));
+    let begin = full.len() - BLOCK;
+    let mut changed = data.clone();
+    *changed.last_mut().unwrap() ^= 1;
+    let none = Key::passphrase(b"");
+    let other = Key::passphrase(b"other");
+    let (key, shared) = (
+        Key::FileKey(&[0; 16]),
+        Key::Shared {
+            secret: &[0; 32],
+            recipient: &[0; 32],
+        },
+    );
+    let eof = ErrorKind::UnexpectedEof;
+    for (what, data, key, kind, number) in [
+        (
+            "another passphrase",
+            &data[..],
+            other,
+            ErrorKind::InvalidData,
+            13,
+        ),
+        ("another file key", &data, key, ErrorKind::InvalidData, 14),
+        (
+            "another kind of key",
+            &data,
+            shared,
+            ErrorKind::InvalidData,
+            12,
+        ),
+        ("a cut header", &data[..50], PW, eof, 254),
+        ("no payload", &data[..begin], PW, eof, 20),
+        ("a missing chunk", &data[..begin + BLOCK], PW, eof, 20),
+        (
+            "the first bytes of a chunk",
+            &data[..begin + BLOCK + 9],
+            PW,
+            eof,
+            18,
+        ),
+        ("a changed byte", &changed, PW, ErrorKind::InvalidData, 17),
+        ("no age file", b"x\n", PW, ErrorKind::InvalidData, 1),
+        ("no passphrase", &data, none, ErrorKind::InvalidInput, 255),
+    ] {
+        let error = text_in(data, key).unwrap_err();
+        let fault = AgeError::of(&error).unwrap();
+        assert_eq!((error.kind(), fault.number), (kind, number), "{what}");
+        assert_eq!(fault.is_wrong_key(), matches!(number, 12..=14), "{what}");
+        assert_eq!(fault.is_truncated(), kind == eof, "{what}");
+        assert_eq!(fault.is_damaged(), number == 17, "{what}");
+        // (the length of a file says that a chunk is missing only if what is left of it has no whole last chunk)
+        let fault = AgeError::of(&text_at(data, key).unwrap_err()).unwrap();
+        assert!(
+            fault.number == number || number == 20 && fault.number == 17,
+            "{what}: {fault}"
+        );
+    }
+    let error = text_in(&[&full[..], b"0"].concat(), PW).unwrap_err();
+    assert_eq!(error.to_string(), "21 Trailing");
+    assert!(AgeError::of(&error).unwrap().is_damaged());
+}
+
+#[test]
+fn refuses_every_cut() {
+    let text = text_of(70_000);
+    let data = sealed(&text);
+    for end in (0..data.len())
+        .step_by(997)
+        .chain(data.len() - 3..data.len())
+    {
+        assert!(text_in(&data[..end], PW).is_err(), "{end}");
+        assert!(
+            AgeFile::open(Cursor::new(&data[..end]), PW).is_err(),
+            "{end}"
+        );
+    }
+}
+
+/// Gives one piece a read, and fails each third time.
+struct Stumbling<R>(R, u32);
+
+impl<R: Read> Read for Stumbling<R> {
+    fn read(&mut self, into: &mut [u8]) -> io::Result<usize> {
+        self.1 = (self.1 + 1) % 3;
+        if self.1 == 0 {
+            return Err(io::Error::from(ErrorKind::TimedOut));
+        }
+        let most = into.len().min(30_000);
+        self.0.read(&mut into[..most])
+    }
+}
+
+#[test]
+fn reads_on_after_a_failed_read() {
+    let text = text_of(200_000);
+    let data = sealed(&text);
+    let mut reader = AgeReader::open(Stumbling(&data[..], 0), PW).unwrap();
+    let (mut got, mut into, mut failed) = (Vec::new(), [0; 50_000], 0);
+    loop {
+        match reader.read(&mut into) {
+            Ok(0) => break,
+            Ok(n) => got.extend_from_slice(&into[..n]),
+            Err(error) => {
+                assert_eq!(error.kind(), ErrorKind::TimedOut);
+                failed += 1;
+            }
+        }
+    }
+    assert!(got == text && failed > 0);
+}
+
+/// A sender that has sent a header, and must not be asked for more.
+struct Silent<'a>(&'a [u8]);
+
+impl Read for Silent<'_> {
+    fn read(&mut self, into: &mut [u8]) -> io::Result<usize> {
+        assert!(!self.0.is_empty(), "more is asked for");
+        self.0.read(into)
+    }
+}
+
+#[test]
+fn answers_a_header_that_is_there() {
+    let data = sealed(b"text");
+    assert!(AgeReader::open(Silent(&data[..data.len() - 3]), PW).is_ok());
+    let fault = AgeReader::open(Silent(&data), Key::passphrase(b"other"))
+        .map(|_| ())
+        .unwrap_err();
+    assert!(AgeError::of(&fault).unwrap().is_wrong_key());
+}
+
+#[test]
+fn reads_at_any_place() {
+    for len in LENGTHS {
+        let text = text_of(len);
+        let data = [b"in front".to_vec(), sealed(&text)].concat();
+        let mut under = Cursor::new(data);
+        under.set_position(8);
+        let (mut file, mut memory) = (AgeFile::open(under, PW).unwrap(), Cursor::new(text));
+        assert_eq!((file.len(), file.is_empty()), (len as u64, len == 0));
+        for turn in 0..300u64 {
+            let random = turn.wrapping_mul(0x9e3779b97f4a7c15) >> 20;
+            let to = match turn % 4 {
+                0 => SeekFrom::Start(random % (len as u64 + 10)),
+                1 => SeekFrom::End(-((random % (len as u64 + 1)) as i64)),
+                2 => SeekFrom::Current((random % 5_000) as i64 - 2_500),
+                _ => SeekFrom::Current(0),
+            };
+            assert_eq!(file.seek(to).ok(), memory.seek(to).ok(), "{to:?}");
+            let most = random % 90_000;
+            let (mut got, mut want) = (Vec::new(), Vec::new());
+            file.by_ref().take(most).read_to_end(&mut got).unwrap();
+            Read::by_ref(&mut memory)
+                .take(most)
+                .read_to_end(&mut want)
+                .unwrap();
+            assert!(got == want, "{len} {to:?} {most}");
+        }
+    }
+}
+
+#[test]
+fn goes_on_after_a_fault() {
+    let text = text_of(200_000);
+    let mut data = sealed(&text);
+    let begin = data.len() - 200_000 - 4 * 16;
+    data[begin + BLOCK + 100] ^= 1;
+    let mut file = AgeFile::open(Cursor::new(&data), PW).unwrap();
+    for (place, wrong) in [
+        (0, false),
+        (70_000, true),
+        (140_000, false),
+        (65_536, true),
+        (199_990, false),
+    ] {
+        let mut into = [0; 10];
+        file.seek(SeekFrom::Start(place)).unwrap();
+        match file.read_exact(&mut into) {
+            Ok(()) => assert!(!wrong && into == text[place as usize..][..10]),
+            Err(error) => assert!(
+                wrong && AgeError::of(&error).unwrap().chunk == Some(1),
+                "{place}"
+            ),
+        }
+    }
+    assert!(file.seek(SeekFrom::Current(-300_000)).is_err());
+}
+
+/// A file that others share, and cut.
+#[derive(Clone)]
+struct Shared(Rc<RefCell<Cursor<Vec<u8>>>>);
+
+impl Read for Shared {
+    fn read(&mut self, into: &mut [u8]) -> io::Result<usize> {
+        self.0.borrow_mut().read(into)
+    }
+}
+
+impl Seek for Shared {
+    fn seek(&mut self, to: SeekFrom) -> io::Result<u64> {
+        self.0.borrow_mut().seek(to)
+    }
+}
+
+#[test]
+fn shares_a_file_that_shrinks() {
+    let text = text_of(200_000);
+    let data = sealed(&text);
+    let begin = data.len() - 200_000 - 4 * 16;
+    let under = Shared(Rc::new(RefCell::new(Cursor::new(data))));
+    let open = || {
+        under.0.borrow_mut().set_position(0);
+        AgeFile::open(under.clone(), PW).unwrap()
+    };
+    let (mut one, mut two) = (open(), open());
+    let mut into = [0; 70_000];
+    for place in [0, 100_000, 30_000] {
+        for file in [&mut one, &mut two] {
+            file.seek(SeekFrom::Start(place)).unwrap();
+            file.read_exact(&mut into).unwrap();
+            assert!(into[..] == text[place as usize..][..70_000]);
+        }
+    }
+    under
+        .0
+        .borrow_mut()
+        .get_mut()
+        .truncate(begin + BLOCK + 1_000);
+    one.seek(SeekFrom::Start(0)).unwrap();
+    one.read_exact(&mut into[..65_536]).unwrap();
+    assert!(into[..65_536] == text[..65_536]);
+    let fault = one.read(&mut into).unwrap_err();
+    assert_eq!(AgeError::of(&fault).unwrap().chunk, Some(1));
+}
+
+#[test]
+fn reads_in_threads() {
+    let text = text_of(200_000);
+    let data = sealed(&text);
+    std::thread::scope(|scope| {
+        for _ in 0..4 {
+            scope.spawn(|| {
+                assert!(text_at(&data, PW).unwrap() == text && text_in(&data, PW).unwrap() == text)
+            });
+        }
+    });
+}
+
+/// What is written to fails after some bytes.
+struct Full(usize);
+
+impl Write for Full {
+    fn write(&mut self, bytes: &[u8]) -> io::Result<usize> {
+        let n = bytes.len().min(self.0);
+        self.0 -= n;
+        Ok(n)
+    }
+
+    fn flush(&mut self) -> io::Result<()> {
+        Ok(())
+    }
+}
+
+#[test]
+fn a_file_that_failed_is_not_finished() {
+    let mut writer = AgeWriter::create(Full(70_000), b"pw", 1).unwrap();
+    assert_eq!(
+        writer.write_all(&text_of(200_000)).unwrap_err().kind(),
+        ErrorKind::WriteZero
+    );
+    assert!(writer.write_all(b"x").is_err());
+    assert!(writer.finish().is_err());
+    assert!(AgeWriter::create(Vec::new(), b"", 1).is_err());
+    assert!(AgeWriter::create(Vec::new(), b"pw", 23).is_err());
+}
