@@ -1,31 +1,43 @@
-// Package agefile reads age files (https://c2sp.org/age) by proved code: an io.Reader over
-// libage_c.a, which bindings/build makes.
+// Package agefile reads and writes age files (https://c2sp.org/age) by proved code.
 //
-// No byte of a block is returned before the block was checked, and io.EOF only once it was checked
-// that nothing is missing.
+// Open gives an io.Reader over any io.Reader, OpenAt one that reads at any place of an io.ReaderAt,
+// and Create an io.WriteCloser. No byte of a block is returned before the block was checked, and
+// io.EOF only once it was checked that nothing is missing.
+//
+// It links libage_c.a, which bindings/build puts into this folder; with -tags age_c_system the
+// library that is installed, as pkg-config finds it.
 package agefile
 
 /*
-#cgo CFLAGS: -I${SRCDIR}/../../include
-#cgo LDFLAGS: ${SRCDIR}/../out/libage_c.a
 #include "age_c.h"
 */
 import "C"
 
 import (
-	"bytes"
+	"errors"
 	"fmt"
 	"io"
 )
 
-// MaxWork is the greatest work factor that OpenPassphrase can be asked to accept.
+// MaxWork is the greatest work factor that Passphrase can be asked to accept, or Create to use.
 const MaxWork = C.AGE_C_WORK_MAX
+
+// What errors.Is finds in a Fault, beside io.ErrUnexpectedEOF: the file ends too early, in its
+// header, before a chunk, or in the first bytes of one. (One that ends later in a chunk can't be
+// told from a damaged one.)
+var (
+	// ErrWrongKey: another passphrase, secret or file key, or another kind of key.
+	ErrWrongKey = errors.New("agefile: the key isn't the file's")
+	// ErrDamaged: the file isn't as its writer left it, or no age program writes such a file.
+	ErrDamaged = errors.New("agefile: the file is damaged")
+)
 
 // A Fault says what is wrong with a file, by its number in docs/FAULTS.md. 254 says that the file
 // ends in its header or in the 16 bytes after it, 255 that an argument is out of range.
 type Fault struct {
 	Number uint32
 	Chunk  int64 // -1 if it isn't about one chunk
+	byKey  bool  // the header was opened by a file key, which 14 is about
 }
 
 func (f *Fault) Error() string {
@@ -36,122 +48,78 @@ func (f *Fault) Error() string {
 	return text
 }
 
-// A Reader reads the text of an age file. One goroutine at a time may use it.
-type Reader struct {
-	file   io.Reader
-	reader C.age_c_reader
-	sealed bytes.Buffer // what was read of the file and isn't opened yet
-	chunk  []byte       // where the text of a block goes
-	text   []byte       // the part of it that isn't returned yet
-	err    error        // how the text ends
+// Is lets errors.Is find ErrWrongKey, ErrDamaged and io.ErrUnexpectedEOF.
+func (f *Fault) Is(target error) bool {
+	return target != nil && target == f.kind()
 }
 
-// OpenPassphrase opens the header by a passphrase. Work factors above maxWork are refused: an
-// untrusted file may demand 4 GiB of memory.
-func OpenPassphrase(file io.Reader, passphrase []byte, maxWork int) (*Reader, error) {
-	return open(file, func(front []byte, reader *C.age_c_reader) C.uint32_t {
-		return C.age_c_open_passphrase(place(front), length(front), place(passphrase),
-			length(passphrase), C.uint32_t(maxWork), reader)
-	})
-}
-
-// OpenFileKey opens the header by the file key, 16 bytes.
-func OpenFileKey(file io.Reader, key []byte) (*Reader, error) {
-	return open(file, func(front []byte, reader *C.age_c_reader) C.uint32_t {
-		return C.age_c_open_key(place(front), length(front), place(key), length(key), reader)
-	})
-}
-
-// open reads until the header is complete, or until another byte can't help.
-func open(file io.Reader, by func([]byte, *C.age_c_reader) C.uint32_t) (*Reader, error) {
-	r := &Reader{file: file, chunk: make([]byte, C.AGE_C_CHUNK)}
-	for {
-		before := r.sealed.Len()
-		if err := r.fill(min(C.AGE_C_FRONT_MAX, before+C.AGE_C_CHUNK)); err != nil {
-			return nil, err
-		}
-		switch answer := by(r.sealed.Bytes(), &r.reader); {
-		case answer == 0:
-			r.sealed.Next(int(r.reader.payload_at))
-			return r, nil
-		case answer != C.AGE_C_MORE || r.sealed.Len() == before:
-			return nil, &Fault{uint32(answer), -1}
-		}
-	}
-}
-
-// fill reads until there are so many bytes, or the file ends.
-func (r *Reader) fill(most int) error {
-	_, err := io.CopyN(&r.sealed, r.file, int64(most-r.sealed.Len()))
-	if err == io.EOF {
-		return nil
-	}
-	return err
-}
-
-// Read implements io.Reader.
-func (r *Reader) Read(into []byte) (int, error) {
-	for len(r.text) == 0 && len(into) > 0 {
-		if r.err != nil {
-			return 0, r.err
-		}
-		if err := r.next(); err != nil {
-			return 0, err
-		}
-	}
-	n := copy(into, r.text)
-	r.text = r.text[n:]
-	return n, nil
-}
-
-// next opens the next block, or what is left at the end.
-func (r *Reader) next() error {
-	if err := r.fill(C.AGE_C_BLOCK); err != nil {
-		return err
-	}
-	block := r.sealed.Next(C.AGE_C_BLOCK)
-	var written C.size_t
-	var answer C.uint32_t
-	if len(block) == C.AGE_C_BLOCK {
-		answer = C.age_c_block(&r.reader, place(block), length(block), place(r.chunk),
-			length(r.chunk), &written)
-	} else {
-		answer = C.age_c_end(&r.reader, place(block), length(block), place(r.chunk),
-			length(r.chunk), &written)
-		r.err = io.EOF
-	}
-	r.text = r.chunk[:written]
-	if answer != 0 {
-		r.err = r.fault(uint32(answer))
+func (f *Fault) kind() error {
+	switch n := f.Number; {
+	case n == 12 || n == 13 || n == 14 && f.byKey:
+		return ErrWrongKey
+	case n == 18 || n == 20 || n == C.AGE_C_MORE:
+		return io.ErrUnexpectedEOF
+	case n >= 3 && n <= 22 && n != 11:
+		return ErrDamaged
 	}
 	return nil
 }
 
-// fault is the fault of a block. 21 is about what follows the last one.
-func (r *Reader) fault(number uint32) *Fault {
+// blockFault is the fault of a block. 21 is about what follows the last one.
+func blockFault(number C.uint32_t, reader *C.age_c_reader) *Fault {
 	if number >= 17 && number <= 22 && number != 21 {
-		return &Fault{number, int64(r.reader.fault_chunk)}
+		return &Fault{Number: uint32(number), Chunk: int64(reader.fault_chunk)}
 	}
-	return &Fault{number, -1}
+	return &Fault{Number: uint32(number), Chunk: -1}
 }
 
-var nothing C.uint8_t
+// A Key opens the header of a file.
+type Key struct {
+	open  func(front []byte, reader *C.age_c_reader) C.uint32_t
+	byKey bool
+}
 
-// place is where bytes lie. The library takes no null pointer.
+// Passphrase is a passphrase. Work factors above maxWork are refused: an untrusted file may demand
+// 4 GiB of memory.
+func Passphrase(passphrase []byte, maxWork int) Key {
+	return Key{open: func(front []byte, reader *C.age_c_reader) C.uint32_t {
+		return C.age_c_open_passphrase(place(front), length(front), place(passphrase),
+			length(passphrase), work(maxWork), reader)
+	}}
+}
+
+// FileKey is the file key, 16 bytes.
+func FileKey(key []byte) Key {
+	return Key{byKey: true, open: func(front []byte, reader *C.age_c_reader) C.uint32_t {
+		return C.age_c_open_key(place(front), length(front), place(key), length(key), reader)
+	}}
+}
+
+// SharedSecret is an X25519 shared secret and the recipient that it was computed for, 32 bytes
+// each.
+func SharedSecret(secret, recipient []byte) Key {
+	return Key{open: func(front []byte, reader *C.age_c_reader) C.uint32_t {
+		return C.age_c_open_shared(place(front), length(front), place(secret), length(secret),
+			place(recipient), length(recipient), reader)
+	}}
+}
+
+// work is a work factor. One that is out of range is refused as 0 is.
+func work(factor int) C.uint32_t {
+	if factor < 0 || factor > MaxWork {
+		return 0
+	}
+	return C.uint32_t(factor)
+}
+
+// place is where bytes lie, if there are any.
 func place(bytes []byte) *C.uint8_t {
 	if len(bytes) == 0 {
-		return &nothing
+		return nil
 	}
 	return (*C.uint8_t)(&bytes[0])
 }
 
 func length(bytes []byte) C.size_t {
 	return C.size_t(len(bytes))
-}
-
-func min(a, b int) int {
-	if a < b {
-		return a
-	}
-	return b
 }

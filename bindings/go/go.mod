@@ -1,3 +1,3 @@
-module age_c_example
+module kudebafon.example/agefile
 
 go 1.19

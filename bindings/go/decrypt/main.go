@@ -8,7 +8,7 @@ import (
 	"io"
 	"os"
 
-	agefile "age_c_example"
+	"kudebafon.example/agefile"
 )
 
 func decrypt(name string) error {
@@ -16,7 +16,7 @@ func decrypt(name string) error {
 	if err != nil {
 		return err
 	}
-	file, err := agefile.OpenPassphrase(os.Stdin, bytes.TrimSuffix(pass, []byte("\n")), agefile.MaxWork)
+	file, err := agefile.Open(os.Stdin, agefile.Passphrase(bytes.TrimSuffix(pass, []byte("\n")), agefile.MaxWork))
 	if err != nil {
 		return err
 	}

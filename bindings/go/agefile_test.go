@@ -1,0 +1,381 @@
+package agefile
+
+import (
+	"bytes"
+	"errors"
+	"io"
+	"math/rand"
+	"os"
+	"sync"
+	"testing"
+	"testing/iotest"
+)
+
+var lengths = []int{0, 1, 65535, 65536, 65537, 131072, 200000}
+
+func textOf(n int) []byte {
+	text := make([]byte, n)
+	rand.New(rand.NewSource(int64(n))).Read(text)
+	return text
+}
+
+func sealed(t *testing.T, text []byte) []byte {
+	t.Helper()
+	var out bytes.Buffer
+	w, err := Create(&out, []byte("pw"), 1)
+	if err != nil {
+		t.Fatal(err)
+	}
+	if _, err := w.Write(text); err != nil {
+		t.Fatal(err)
+	}
+	if err := w.Close(); err != nil {
+		t.Fatal(err)
+	}
+	return out.Bytes()
+}
+
+func pw() Key { return Passphrase([]byte("pw"), MaxWork) }
+
+func opened(t *testing.T, data []byte) *File {
+	t.Helper()
+	file, err := OpenAt(bytes.NewReader(data), int64(len(data)), pw())
+	if err != nil {
+		t.Fatal(err)
+	}
+	return file
+}
+
+// A file that age 1.1.1 made.
+func TestFiles(t *testing.T) {
+	file, err := os.Open("../tests/age/passphrase.age")
+	if errors.Is(err, os.ErrNotExist) {
+		t.Skip("this folder stands alone")
+	}
+	if err != nil {
+		t.Fatal(err)
+	}
+	defer file.Close()
+	reader, err := Open(file, Passphrase([]byte("correct horse"), MaxWork))
+	if err != nil {
+		t.Fatal(err)
+	}
+	text, err := io.ReadAll(reader)
+	if err != nil || string(text) != "hello, passphrase\n" {
+		t.Fatalf("%q, %v", text, err)
+	}
+}
+
+func TestReader(t *testing.T) {
+	for _, n := range lengths {
+		text := textOf(n)
+		data := sealed(t, text)
+		readers := map[string]io.Reader{
+			"whole": bytes.NewReader(data), "half": iotest.HalfReader(bytes.NewReader(data)),
+			"with its end": iotest.DataErrReader(bytes.NewReader(data)),
+		}
+		if n < 2 {
+			readers["a byte at a time"] = iotest.OneByteReader(bytes.NewReader(data))
+		}
+		for name, file := range readers {
+			reader, err := Open(file, pw())
+			if err != nil {
+				t.Fatal(n, name, err)
+			}
+			if err := iotest.TestReader(reader, text); err != nil {
+				t.Error(n, name, err)
+			}
+		}
+		reader, err := Open(bytes.NewReader(data), pw())
+		if err != nil {
+			t.Fatal(err)
+		}
+		var out bytes.Buffer
+		if count, err := io.Copy(&out, reader); err != nil || count != int64(n) || !bytes.Equal(out.Bytes(), text) {
+			t.Error(n, "copied", count, err)
+		}
+		if err := iotest.TestReader(opened(t, data), text); err != nil {
+			t.Error(n, "at any place", err)
+		}
+	}
+}
+
+func TestWriterInPieces(t *testing.T) {
+	for _, n := range lengths {
+		for _, size := range []int{999, 65536, 70000} {
+			text := textOf(n)
+			var out bytes.Buffer
+			w, err := Create(&out, []byte("pw"), 1)
+			if err != nil {
+				t.Fatal(err)
+			}
+			for rest := text; len(rest) > 0; {
+				count := size
+				if count > len(rest) {
+					count = len(rest)
+				}
+				if _, err := w.Write(rest[:count]); err != nil {
+					t.Fatal(err)
+				}
+				rest = rest[count:]
+			}
+			if err := w.Close(); err != nil {
+				t.Fatal(err)
+			}
+			reader, err := Open(&out, pw())
+			if err != nil {
+				t.Fatal(err)
+			}
+			if got, err := io.ReadAll(reader); err != nil || !bytes.Equal(got, text) {
+				t.Error(n, size, len(got), err)
+			}
+		}
+	}
+}
+
+func TestWriterFails(t *testing.T) {
+	var out bytes.Buffer
+	w, err := Create(&out, []byte("pw"), 1)
+	if err != nil {
+		t.Fatal(err)
+	}
+	if _, err := w.Write(textOf(70000)); err != nil {
+		t.Fatal(err)
+	}
+	w.Abandon()
+	if _, err := w.Write([]byte("x")); err == nil {
+		t.Error("an abandoned file is written on")
+	}
+	if err := w.Close(); err == nil {
+		t.Error("an abandoned file is closed")
+	}
+	reader, err := Open(&out, pw())
+	if err != nil {
+		t.Fatal(err)
+	}
+	if _, err := io.ReadAll(reader); !errors.Is(err, io.ErrUnexpectedEOF) {
+		t.Error("an abandoned file:", err)
+	}
+	w, err = Create(iotest.TruncateWriter(io.Discard, 1<<40), []byte("pw"), 1)
+	if err != nil {
+		t.Fatal(err)
+	}
+	w.out = failing{}
+	if _, err := w.Write(textOf(70000)); !errors.Is(err, io.ErrClosedPipe) {
+		t.Error("a write that fails:", err)
+	}
+	if err := w.Close(); !errors.Is(err, io.ErrClosedPipe) {
+		t.Error("a file with a block that is missing is closed:", err)
+	}
+	for _, factor := range []int{0, -1, MaxWork + 1, 1 << 40} {
+		if _, err := Create(io.Discard, []byte("pw"), factor); err == nil {
+			t.Error("a work factor of", factor)
+		}
+	}
+}
+
+type failing struct{}
+
+func (failing) Write([]byte) (int, error) { return 0, io.ErrClosedPipe }
+
+func TestKinds(t *testing.T) {
+	data := sealed(t, textOf(70000))
+	full := sealed(t, textOf(65536))
+	changed := append([]byte{}, data...)
+	changed[len(data)-1] ^= 1
+	begin := len(full) - 65552
+	for _, it := range []struct {
+		what string
+		data []byte
+		key  Key
+		kind error
+	}{
+		{"another passphrase", data, Passphrase([]byte("other"), MaxWork), ErrWrongKey},
+		{"another file key", data, FileKey(make([]byte, 16)), ErrWrongKey},
+		{"another kind of key", data, SharedSecret(make([]byte, 32), make([]byte, 32)), ErrWrongKey},
+		{"a cut header", data[:50], pw(), io.ErrUnexpectedEOF},
+		{"no payload", data[:begin], pw(), io.ErrUnexpectedEOF},
+		{"a missing chunk", data[:begin+65552], pw(), io.ErrUnexpectedEOF},
+		{"the first bytes of a chunk", data[:begin+65552+9], pw(), io.ErrUnexpectedEOF},
+		{"a changed byte", changed, pw(), ErrDamaged},
+		{"bytes after the end", append(append([]byte{}, full...), 0), pw(), ErrDamaged},
+		{"no age file", []byte("x\n"), pw(), nil},
+		{"no passphrase", data, Passphrase(nil, MaxWork), nil},
+		{"a work factor of 0", data, Passphrase([]byte("pw"), 0), nil},
+	} {
+		for _, at := range []bool{false, true} {
+			err := faultOf(it.data, it.key, at)
+			var fault *Fault
+			if !errors.As(err, &fault) {
+				t.Error(it.what, at, err)
+			}
+			for _, kind := range []error{ErrWrongKey, io.ErrUnexpectedEOF, ErrDamaged} {
+				// (where it is read at any place, bytes after the end look like a cut chunk)
+				if errors.Is(err, kind) != (kind == it.kind) && !(at && it.what == "bytes after the end") {
+					t.Errorf("%s: %v is %v: %v", it.what, err, kind, errors.Is(err, kind))
+				}
+			}
+		}
+	}
+}
+
+func faultOf(data []byte, key Key, at bool) error {
+	if at {
+		file, err := OpenAt(bytes.NewReader(data), int64(len(data)), key)
+		if err == nil {
+			_, err = io.ReadAll(file)
+		}
+		return err
+	}
+	reader, err := Open(bytes.NewReader(data), key)
+	if err == nil {
+		_, err = io.ReadAll(reader)
+	}
+	return err
+}
+
+// A header that is there is answered, though its sender sends nothing more and doesn't close.
+func TestEarlyAnswer(t *testing.T) {
+	source, sink := io.Pipe()
+	defer sink.Close()
+	go func() { _, _ = sink.Write(sealed(t, []byte("text"))) }()
+	if _, err := Open(source, Passphrase([]byte("other"), MaxWork)); !errors.Is(err, ErrWrongKey) {
+		t.Error(err)
+	}
+}
+
+// A read that fails is reported as it is, and the text can be read on.
+func TestReadOn(t *testing.T) {
+	text := textOf(200000)
+	file := &stumbling{data: sealed(t, text)}
+	reader, err := Open(file, pw())
+	if err != nil {
+		t.Fatal(err)
+	}
+	var got []byte
+	into := make([]byte, 50000)
+	for stumbled := 0; ; {
+		n, err := reader.Read(into)
+		got = append(got, into[:n]...)
+		if err == io.EOF {
+			if stumbled == 0 {
+				t.Error("no read failed")
+			}
+			break
+		}
+		if err != nil {
+			if !errors.Is(err, io.ErrUnexpectedEOF) || errors.As(err, new(*Fault)) {
+				t.Fatal(err)
+			}
+			stumbled++
+		}
+	}
+	if !bytes.Equal(got, text) {
+		t.Error("another text")
+	}
+}
+
+// stumbling fails each third read, as one does whose own source was cut.
+type stumbling struct {
+	data  []byte
+	calls int
+}
+
+func (s *stumbling) Read(into []byte) (int, error) {
+	if s.calls++; s.calls%3 == 0 {
+		return 0, io.ErrUnexpectedEOF
+	}
+	if len(s.data) == 0 {
+		return 0, io.EOF
+	}
+	if len(into) > 30000 {
+		into = into[:30000]
+	}
+	n := copy(into, s.data)
+	s.data = s.data[n:]
+	return n, nil
+}
+
+// Goroutines share a file, and two files share their source.
+func TestShared(t *testing.T) {
+	text := textOf(600000)
+	data := sealed(t, text)
+	files := []*File{opened(t, data), opened(t, data)}
+	var group sync.WaitGroup
+	for g := 0; g < 8; g++ {
+		group.Add(1)
+		go func(g int) {
+			defer group.Done()
+			random := rand.New(rand.NewSource(int64(g)))
+			for i := 0; i < 60; i++ {
+				at, n := random.Intn(len(text)), random.Intn(150000)
+				into := make([]byte, n)
+				got, err := files[g%2].ReadAt(into, int64(at))
+				want := text[at:]
+				if n < len(want) {
+					want = want[:n]
+				}
+				if !bytes.Equal(into[:got], want) || (err != nil) != (got < n) || err != nil && err != io.EOF {
+					t.Error(at, n, got, err)
+				}
+			}
+		}(g)
+	}
+	group.Wait()
+}
+
+// What is damaged is refused where it is, and the rest can be read.
+func TestDamageAtAPlace(t *testing.T) {
+	text := textOf(200000)
+	data := sealed(t, text)
+	begin := len(data) - 200000 - 4*16
+	data[begin+65552+100] ^= 1
+	file := opened(t, data)
+	into := make([]byte, 10)
+	for _, it := range []struct {
+		at    int64
+		wrong bool
+	}{{0, false}, {70000, true}, {140000, false}, {65536, true}, {65530, true}, {199990, false}} {
+		_, err := file.ReadAt(into, it.at)
+		if errors.Is(err, ErrDamaged) != it.wrong || !it.wrong && (err != nil || !bytes.Equal(into, text[it.at:it.at+10])) {
+			t.Error(it.at, err)
+		}
+	}
+	if _, err := file.ReadAt(into, -1); err == nil {
+		t.Error("a negative place")
+	}
+	if n, err := file.ReadAt(into, 1<<60); n != 0 || err != io.EOF {
+		t.Error("a place after the end", n, err)
+	}
+	for end := begin; end < len(data); end += 4099 {
+		if _, err := OpenAt(bytes.NewReader(data[:end]), int64(end), pw()); err == nil {
+			t.Error("a file that is cut opens:", end)
+		}
+	}
+}
+
+// A file that shrinks after it was opened: a place that is gone is an error, and no end.
+func TestShrinks(t *testing.T) {
+	text := textOf(200000)
+	data := sealed(t, text)
+	third := len(data) - 200000 - 4*16 + 3*65552 // where the chunk after the place that is read begins
+	for _, end := range []int{0, 100, 65552, 140000, third - 1, third, len(data) - 1, len(data)} {
+		file := &shrinking{data}
+		at, err := OpenAt(file, int64(len(data)), pw())
+		if err != nil {
+			t.Fatal(err)
+		}
+		file.data = data[:end]
+		into := make([]byte, 10)
+		n, err := at.ReadAt(into, 150000)
+		if (err == nil) != (end >= third) || err == io.EOF || err == nil && !bytes.Equal(into, text[150000:150010]) {
+			t.Error(end, n, err)
+		}
+	}
+}
+
+type shrinking struct{ data []byte }
+
+func (s *shrinking) ReadAt(into []byte, off int64) (int, error) {
+	return bytes.NewReader(s.data).ReadAt(into, off)
+}

@@ -1,0 +1,139 @@
+package agefile
+
+/*
+#include "age_c.h"
+*/
+import "C"
+
+import (
+	"errors"
+	"io"
+	"sync"
+)
+
+// A File reads the text of an age file at any place. ReadAt may be called by any number of
+// goroutines at a time; Read and Seek, which move one place, by one. Size is the length of the
+// text, which was checked when the file was opened.
+type File struct {
+	*io.SectionReader
+}
+
+// OpenAt opens the header of a file of so many bytes, and its last chunk, by which it checks the
+// length of the text.
+func OpenAt(file io.ReaderAt, size int64, key Key) (*File, error) {
+	head, err := Open(io.NewSectionReader(file, 0, size), key)
+	if err != nil {
+		return nil, err
+	}
+	var text, last C.uint64_t
+	if answer := C.age_c_size(&head.reader, C.uint64_t(size), &text, &last); answer != 0 {
+		payload := size - int64(head.reader.payload_at)
+		return nil, &Fault{Number: uint32(answer), Chunk: payload / C.AGE_C_BLOCK}
+	}
+	r := &places{file: file, begun: head.reader, size: int64(text), last: int64(last), end: size, kept: -1}
+	if _, err := r.open(r.last, head.chunk); err != nil {
+		return nil, err
+	}
+	return &File{io.NewSectionReader(r, 0, r.size)}, nil
+}
+
+// places reads chunks, each on a copy of the reader after the header.
+type places struct {
+	file  io.ReaderAt
+	begun C.age_c_reader
+	size  int64 // of the text
+	last  int64 // the number of the last chunk
+	end   int64 // of the file
+
+	lock sync.Mutex
+	kept int64  // the number of the chunk whose text is kept, or -1
+	text []byte // its text, which nobody writes to
+}
+
+var blocks = sync.Pool{New: func() any { return new([C.AGE_C_BLOCK]byte) }}
+
+// open opens one chunk into a chunk's room, as the last one if it is that.
+func (r *places) open(number int64, room []byte) (int, error) {
+	held := blocks.Get().(*[C.AGE_C_BLOCK]byte)
+	defer blocks.Put(held)
+	at := int64(r.begun.payload_at) + number*C.AGE_C_BLOCK
+	block := held[:]
+	if r.end-at < int64(len(block)) {
+		block = block[:r.end-at]
+	}
+	n, err := r.file.ReadAt(block, at)
+	if n < len(block) && err != io.EOF && err != nil {
+		return 0, err
+	}
+	return r.opened(number, block[:n], room)
+}
+
+// opened opens the bytes of one chunk. Fewer than there were when the file was opened are an end.
+func (r *places) opened(number int64, block, room []byte) (int, error) {
+	reader, written, none := r.begun, C.size_t(0), C.size_t(0)
+	answer := C.age_c_seek(&reader, C.uint64_t(number))
+	if answer == 0 && len(block) == C.AGE_C_BLOCK {
+		answer = C.age_c_block(&reader, place(block), length(block), place(room), length(room), &written)
+		if answer == 0 && number == r.last {
+			var spare [C.AGE_C_CHUNK]byte
+			answer = C.age_c_end(&reader, nil, 0, place(spare[:]), length(spare[:]), &none)
+		}
+	} else if answer == 0 {
+		answer = C.age_c_end(&reader, place(block), length(block), place(room), length(room), &written)
+	}
+	if answer != 0 {
+		return 0, blockFault(answer, &reader)
+	}
+	return int(written), nil
+}
+
+// chunk is the text of one chunk, which is kept for the next call.
+func (r *places) chunk(number int64) ([]byte, error) {
+	r.lock.Lock()
+	kept, text := r.kept, r.text
+	r.lock.Unlock()
+	if kept == number {
+		return text, nil
+	}
+	room := make([]byte, C.AGE_C_CHUNK)
+	n, err := r.open(number, room)
+	if err != nil {
+		return nil, err
+	}
+	r.lock.Lock()
+	r.kept, r.text = number, room[:n]
+	r.lock.Unlock()
+	return room[:n], nil
+}
+
+// ReadAt implements io.ReaderAt.
+func (r *places) ReadAt(into []byte, off int64) (int, error) {
+	if off < 0 {
+		return 0, errors.New("agefile: negative place")
+	}
+	done := 0
+	for done < len(into) {
+		if off >= r.size {
+			return done, io.EOF
+		}
+		n, err := r.some(into[done:], off)
+		if err != nil {
+			return done, err
+		}
+		done, off = done+n, off+int64(n)
+	}
+	return done, nil
+}
+
+// some reads what one chunk has of the bytes at a place of the text.
+func (r *places) some(into []byte, off int64) (int, error) {
+	number, skipped := off/C.AGE_C_CHUNK, off%C.AGE_C_CHUNK
+	if skipped == 0 && len(into) >= C.AGE_C_CHUNK {
+		return r.open(number, into)
+	}
+	text, err := r.chunk(number)
+	if err != nil {
+		return 0, err
+	}
+	return copy(into, text[skipped:]), nil
+}

@@ -1,0 +1,10 @@
+//go:build age_c_system
+
+package agefile
+
+// With -tags age_c_system the library that is installed is linked, as pkg-config finds it.
+
+/*
+#cgo pkg-config: age_c
+*/
+import "C"
