@@ -1,0 +1,139 @@
+"""The keys of age-keygen. What is here is outside the proof: it decodes a key and computes the shared secrets of a header's X25519
+stanzas. Whether one of these opens the header is for the proved library to say."""
+from __future__ import annotations
+
+import base64
+import os
+import re
+import subprocess
+from typing import Iterable, Iterator, Tuple
+
+from ._library import Bytes, C, Opened, ReaderState
+
+Pair = Tuple[bytes, bytes]  # a shared secret, and the recipient that it is for
+
+WRONG_KEY = 13
+NOTHING = bytes([1]) * 32, bytes(32)
+LETTERS = "qpzry9x8gf2tvdw0s3jn54khce6mua7l"
+SHARE = re.compile(rb"^-> X25519 ([A-Za-z0-9+/]{43})$", re.M)
+
+
+def bech32_decoded(text: str) -> tuple[str, bytes]:
+    """The prefix, in lower case, and the bytes of a Bech32 text (BIP 173)."""
+    if text.lower() != text and text.upper() != text:
+        raise ValueError("a Bech32 text in upper and lower case")
+    text = text.lower()
+    prefix, _, data = text.rpartition("1")
+    if not prefix or len(data) < 6 or len(text) > 90 or any(not 33 <= ord(it) <= 126 for it in text) or set(data) - set(LETTERS):
+        raise ValueError("not a Bech32 text")
+    values = [LETTERS.index(it) for it in data]
+    if _checksum([*(ord(it) >> 5 for it in prefix), 0, *(ord(it) & 31 for it in prefix), *values]) != 1:
+        raise ValueError("the checksum of a Bech32 text is wrong")
+    return prefix, _joined(values[:-6])
+
+
+def _checksum(values: Iterable[int]) -> int:
+    sum_ = 1
+    for it in values:
+        top, sum_ = sum_ >> 25, (sum_ & 0x1ffffff) << 5 ^ it
+        for bit, term in enumerate((0x3b6a57b2, 0x26508e6d, 0x1ea119fa, 0x3d4233dd, 0x2a1462b3)):
+            sum_ ^= term if top >> bit & 1 else 0
+    return sum_
+
+
+def _joined(values: list[int]) -> bytes:
+    """The bytes of groups of 5 bits. What is left at the end are fewer than 5 zeros."""
+    number, bits = 0, 5 * len(values)
+    for it in values:
+        number = number << 5 | it
+    left = bits % 8
+    if left > 4 or number & ((1 << left) - 1):
+        raise ValueError("a Bech32 text doesn't end with a whole byte")
+    return (number >> left).to_bytes(bits // 8, "big")
+
+
+def secret_of(identity: str) -> bytes:
+    """The 32 bytes of a key that begins with AGE-SECRET-KEY-1."""
+    prefix, secret = bech32_decoded(identity.strip())
+    if prefix != "age-secret-key-" or len(secret) != 32:
+        raise ValueError("not a key of age-keygen, which begins with AGE-SECRET-KEY-1")
+    return secret
+
+
+def identities_in(text: str) -> list[str]:
+    """The keys in a file of age-keygen: a line each, beside empty lines and comments."""
+    lines = [it.strip() for it in text.splitlines()]
+    return [it for it in lines if it and not it.startswith("#")]
+
+
+def x25519(secret: bytes, point: bytes) -> bytes:
+    """X25519, by the package cryptography where it is installed, else by openssl. Zeros if it is undefined for the point."""
+    try:
+        from cryptography.hazmat.primitives.asymmetric.x25519 import X25519PrivateKey, X25519PublicKey
+    except ImportError:
+        return by_openssl(secret, point)
+    try:
+        return X25519PrivateKey.from_private_bytes(secret).exchange(X25519PublicKey.from_public_bytes(point))
+    except ValueError:
+        return bytes(32)
+
+
+def by_openssl(secret: bytes, point: bytes) -> bytes:
+    """The same by `openssl pkeyutl`. The keys lie in memory alone, as DER (RFC 8410)."""
+    files = []
+    try:
+        for begin, key in (("302e020100300506032b656e04220420", secret), ("302a300506032b656e032100", point)):
+            files.append(os.memfd_create("key"))
+            os.write(files[-1], bytes.fromhex(begin) + key)
+            os.lseek(files[-1], 0, os.SEEK_SET)
+        words = ["openssl", "pkeyutl", "-derive", "-keyform", "DER", "-inkey", f"/dev/fd/{files[0]}", "-peerform", "DER", "-peerkey",
+                 f"/dev/fd/{files[1]}"]
+        run = subprocess.run(words, pass_fds=files, stdin=subprocess.DEVNULL, capture_output=True)
+    except FileNotFoundError as fault:
+        raise ImportError("X25519 needs the package cryptography, or the program openssl") from fault
+    finally:
+        for it in files:
+            os.close(it)
+    if run.returncode == 0 and len(run.stdout) == 32:
+        return run.stdout
+    if b"erivation failed" in run.stderr:
+        return bytes(32)
+    raise OSError(f"openssl: {run.stderr.decode(errors='replace').strip()}")
+
+
+def _pairs(identities: Iterable[str], front: bytes) -> Iterator[Pair]:
+    """The shared secret and the recipient of each X25519 stanza of a header, for each key."""
+    shares = [base64.b64decode(it + b"=") for it in SHARE.findall(front.partition(b"\n---")[0])]
+    for identity in identities:
+        secret = secret_of(identity)
+        recipient = x25519(secret, bytes([9]) + bytes(31))
+        for share in shares:
+            yield x25519(secret, share), recipient
+
+
+def opening(identities: list[str]) -> Opened:
+    """The call that opens the bytes that a file begins with, by the keys of age-keygen."""
+    for it in identities:
+        secret_of(it)  # so that a bad key is refused before the file is read
+
+    def opened(front: bytes, state: ReaderState) -> int:
+        return tried(identities, front, state)[0]
+
+    return opened
+
+
+def tried(identities: list[str], front: bytes, state: ReaderState) -> tuple[int, Pair]:
+    """What the bytes that a file begins with answer to these keys, and the pair that was tried last: the one that opened it, if one
+    did. The first pair opens nothing: by it the library says what is wrong with the header, or that it isn't complete."""
+    pair, answer = NOTHING, _by_shared(NOTHING, front, state)
+    if answer == WRONG_KEY:
+        for pair in _pairs(identities, bytes(front)):
+            answer = _by_shared(pair, front, state)
+            if answer != WRONG_KEY:
+                break
+    return answer, pair
+
+
+def _by_shared(pair: Pair, front: bytes, state: ReaderState) -> int:
+    answer: int = C.age_c_open_shared(*Bytes(front).given, *Bytes(pair[0]).given, *Bytes(pair[1]).given, state)
+    return answer

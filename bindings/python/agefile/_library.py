@@ -1,0 +1,155 @@
+"""The C library, the faults that it returns, and the bytes that it is given."""
+from __future__ import annotations
+
+import ctypes
+import os
+import pathlib
+from typing import Any, Callable, Iterable
+
+CHUNK = 65_536
+BLOCK = 65_552
+FRONT_MAX = 1_048_592
+SEAL_FRONT = 256
+MORE = 254
+MISUSED = 255
+PLACED = (17, 18, 19, 20, 22)  # the faults that have a chunk
+
+
+class AgeError(Exception):
+    """A fault: `number` and `name` as docs/FAULTS.md lists them, and `place`, the number of the chunk, if it has one. 254 says that the
+    file ends in its header or in the 16 bytes after it, 255 that an argument is out of range, such as an empty passphrase, or that a
+    read was interrupted.
+
+    It is no OSError, so that what takes an OSError for an answer (zipfile.is_zipfile does) doesn't take damage for one."""
+
+    def __init__(self, number: int, place: int | None = None) -> None:
+        super().__init__(number, place)
+        self.number = number
+        self.name: str = C.age_c_fault_name(number).decode()
+        self.place = place
+
+    def __str__(self) -> str:
+        return f"{self.number} {self.name}" + ("" if self.place is None else f" chunk {self.place}")
+
+
+class WrongKey(AgeError):
+    """The key isn't the file's: another passphrase or secret (13), another file key (14), or another kind of key (12)."""
+
+
+class Truncated(AgeError):
+    """The file ends too early: in its header (254), before a chunk (20), or in the first bytes of one (18). One that ends later in a
+    chunk can't be told from a damaged one: that is Damaged."""
+
+
+class Damaged(AgeError):
+    """The file isn't as its writer left it, or no age program writes such a file."""
+
+
+_KINDS: dict[int, type[AgeError]] = {
+    **dict.fromkeys((12, 13), WrongKey), **dict.fromkeys((8, 16, 18, 20, MORE), Truncated),
+    **dict.fromkeys((3, 4, 5, 6, 7, 9, 10, 14, 15, 17, 19, 21, 22), Damaged),
+}
+
+
+def fault_of(number: int, place: int | None = None) -> AgeError:
+    """The exception for a fault."""
+    return _KINDS.get(number, AgeError)(number, place)
+
+
+class ReaderState(ctypes.Structure):
+    """age_c_reader of age_c.h."""
+    _fields_ = [
+        ("file_key", ctypes.c_uint8 * 16), ("nonce", ctypes.c_uint8 * 16), ("payload_at", ctypes.c_uint64),
+        ("chunk", ctypes.c_uint64), ("fault_chunk", ctypes.c_uint64), ("state", ctypes.c_uint32), ("unused", ctypes.c_uint32),
+    ]
+
+
+class WriterState(ctypes.Structure):
+    """age_c_writer of age_c.h."""
+    _fields_ = [
+        ("file_key", ctypes.c_uint8 * 16), ("nonce", ctypes.c_uint8 * 16), ("chunk", ctypes.c_uint64),
+        ("state", ctypes.c_uint32), ("unused", ctypes.c_uint32 * 5),
+    ]
+
+
+def _found() -> str:
+    """The library's file: the one that AGE_C_LIBRARY names, else the one beside this package or in it, else that of a release or of
+    `bindings/build` in whose folders it is, else one that the loader finds."""
+    package = pathlib.Path(__file__).resolve().parent
+    places = [it / name for it in (package, package.parent) for name in ("libage_c.so", "libage_c.so.0")]
+    if package.parts[-3:-1] == ("share", "age_tool"):
+        places.append(package.parents[2] / "lib" / "libage_c.so.0")
+    if package.parts[-3:-1] == ("bindings", "python"):
+        places.append(package.parents[1] / "out" / "libage_c.so")
+    beside = next((str(it) for it in places if it.exists()), None)
+    return os.environ.get("AGE_C_LIBRARY") or beside or "libage_c.so.0"
+
+
+def _library() -> ctypes.CDLL:
+    name = _found()
+    try:
+        library = ctypes.CDLL(name)
+    except OSError as fault:
+        raise ImportError(f"no libage_c.so: make it by bindings/build, or let AGE_C_LIBRARY name it ({fault})") from fault
+    bytes_, size, number = ctypes.c_void_p, ctypes.c_size_t, ctypes.c_uint32
+    given, count = [bytes_, size], ctypes.POINTER(size)
+    reader, writer = ctypes.POINTER(ReaderState), ctypes.POINTER(WriterState)
+    functions: dict[str, list[Any]] = {
+        "age_c_version": [],
+        "age_c_open_passphrase": given + given + [number, reader],
+        "age_c_open_key": given + given + [reader],
+        "age_c_open_shared": given + given + given + [reader],
+        "age_c_block": [reader] + given + given + [count],
+        "age_c_end": [reader] + given + given + [count],
+        "age_c_seek": [reader, ctypes.c_uint64],
+        "age_c_size": [reader, ctypes.c_uint64, ctypes.POINTER(ctypes.c_uint64), ctypes.POINTER(ctypes.c_uint64)],
+        "age_c_seal_passphrase": given + [number] + given + given + [count, writer],
+        "age_c_seal_block": [writer] + given + given + [count],
+        "age_c_seal_end": [writer] + given + given + [count],
+    }
+    for function, arguments in functions.items():
+        getattr(library, function).argtypes = arguments
+        getattr(library, function).restype = number
+    library.age_c_fault_name.argtypes, library.age_c_fault_name.restype = [number], ctypes.c_char_p
+    if library.age_c_version() != 100:
+        raise ImportError(f"{name}: version {library.age_c_version()}, not 100")
+    return library
+
+
+C = _library()
+
+
+class Bytes:
+    """Bytes that C reads or writes. Their place is never null, and lives as long as what it is passed to."""
+
+    def __init__(self, given: Any) -> None:
+        self.held = bytearray(given)
+        self.view = memoryview(self.held)
+        self.place = (ctypes.c_uint8 * max(len(self.held), 1)).from_buffer(self.held or bytearray(1))
+
+    @property
+    def given(self) -> tuple[Any, int]:
+        return self.place, len(self.held)
+
+
+def raw(given: Any) -> bytes:
+    """Its bytes. (A number has none, though bytes() would make zeros of it.)"""
+    return bytes(memoryview(given))
+
+
+def secret(text: Any) -> bytes:
+    return text.encode() if isinstance(text, str) else raw(text)
+
+
+Opened = Callable[[Any, ReaderState], int]
+
+
+def opening(call: Any, keys: Iterable[bytes], *more: int) -> Opened:
+    """What opens the bytes that a file begins with, by these keys."""
+    held = [Bytes(it) for it in keys]
+
+    def opened(front: Any, state: ReaderState) -> int:
+        answer: int = call(*Bytes(front).given, *(part for it in held for part in it.given), *more, state)
+        return answer
+
+    return opened

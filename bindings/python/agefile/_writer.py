@@ -1,0 +1,123 @@
+"""The writer of an age file."""
+from __future__ import annotations
+
+import ctypes
+import io
+import os
+from types import TracebackType
+from typing import Any
+
+from ._calls import OneCall
+from ._library import BLOCK, CHUNK, SEAL_FRONT, Bytes, C, WriterState, fault_of, secret
+
+Begun = tuple[WriterState, memoryview]
+
+
+def begun(passphrase: Any, work: int) -> Begun:
+    """A writer's state, and what stands before the payload."""
+    state, out, written = WriterState(), Bytes(SEAL_FRONT), ctypes.c_size_t()
+    held, random = Bytes(secret(passphrase)), Bytes(os.urandom(48))
+    answer = C.age_c_seal_passphrase(*held.given, work, *random.given, *out.given, written, state)
+    if answer != 0:
+        raise fault_of(answer)
+    return state, out.view[:written.value]
+
+
+class AgeWriter(io.BufferedIOBase):
+    """An age file that is being written. It is whole once close() returned; abandon() leaves one that every reader refuses."""
+
+    def __init__(self, file: Any, begun: Begun, owned: bool = False) -> None:
+        super().__init__()
+        self._file, self._owned, self._calls = file, owned, OneCall()
+        self._state, front = begun
+        self._text, self._count = bytearray(), 0
+        self._out, self._written = Bytes(BLOCK), ctypes.c_size_t()
+        self._failed = self._over = False
+        self._write(front)
+
+    def _write(self, out: memoryview) -> None:
+        while out:
+            out = out[self._file.write(out) or 0:]
+
+    def _change(self) -> None:
+        """Begins what changes the file: until it is done, and if an exception ends it, the file can't be finished."""
+        if self._failed:
+            raise ValueError("a block couldn't be written: the file isn't whole")
+        self._failed = True
+
+    def _seal(self, call: Any, text: bytes | bytearray) -> None:
+        answer = call(self._state, *Bytes(text).given, *self._out.given, self._written)
+        if answer != 0:
+            raise fault_of(answer)
+        self._write(self._out.view[:self._written.value])
+
+    def writable(self) -> bool:
+        return True
+
+    def write(self, data: Any) -> int:
+        return self._calls.make(self._add, memoryview(data).cast("B"))
+
+    def _add(self, data: memoryview) -> int:
+        if self.closed:
+            raise ValueError("the file is closed")
+        self._change()
+        self._text += data
+        self._count += len(data)
+        at = 0
+        while len(self._text) - at > CHUNK:  # a byte more than a chunk: that one isn't the last
+            self._seal(C.age_c_seal_block, self._text[at:at + CHUNK])
+            at += CHUNK
+        del self._text[:at]
+        self._failed = False
+        return len(data)
+
+    def tell(self) -> int:
+        return self._count
+
+    def flush(self) -> None:
+        """Passes on what is sealed; a chunk that isn't full stays."""
+        if not self._over:
+            self._calls.make(self._pass_on)
+
+    def _pass_on(self) -> None:
+        if not getattr(self._file, "closed", False):
+            self._file.flush()
+
+    def close(self) -> None:
+        """Seals the last chunk, so that the file is whole."""
+        self._calls.make(self._finish)
+
+    def _finish(self) -> None:
+        if self.closed:
+            return
+        try:
+            self._change()
+            self._seal(C.age_c_seal_end, self._text)
+        finally:
+            self._leave()
+
+    def abandon(self) -> None:
+        """Closes without the last chunk."""
+        self._calls.make(self._leave)
+
+    def _leave(self) -> None:
+        if self.closed:
+            return
+        try:
+            self._pass_on()
+        finally:
+            self._over = True  # so that flush(), which close() of the base calls, does no more
+            super().close()
+            if self._owned:
+                self._file.close()
+
+    def __exit__(self, kind: type[BaseException] | None, value: BaseException | None, trace: TracebackType | None) -> None:
+        if kind is None:
+            self.close()
+        else:
+            self.abandon()
+
+    def __del__(self) -> None:
+        # a writer that was never closed, so perhaps after an exception, isn't finished
+        if hasattr(self, "_owned"):
+            self.abandon()
