@@ -175,13 +175,13 @@ class AgeReader(io.RawIOBase):
     def _read_all(self) -> bytes | None:
         self._check_open()
         self._return()
-        parts = []
+        parts = io.BytesIO()
         while True:
             if self._at < self._len:
-                parts.append(bytes(self._text.view[self._at:self._len]))
+                parts.write(self._text.view[self._at:self._len])
                 self._at = self._len
             elif not (more := self._next()):
-                return None if more is None and not parts else b"".join(parts)
+                return None if more is None and parts.tell() == 0 else parts.getvalue()
 
     def tell(self) -> int:
         return self._calls.make(self._place)
