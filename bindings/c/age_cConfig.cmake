@@ -1,4 +1,4 @@
-# find_package(age_c) makes two targets: age_c::age_c is the shared library, age_c::static the other one.
+# find_package(age_c) makes two targets: age_c::age_c is the shared library, age_c::static the other.
 get_filename_component(_age_c_lib "${CMAKE_CURRENT_LIST_DIR}/../.." ABSOLUTE)
 get_filename_component(_age_c_include "${CMAKE_CURRENT_LIST_DIR}/@TOP@/include" ABSOLUTE)
 if(NOT TARGET age_c::age_c)

@@ -91,7 +91,8 @@ func TestReader(t *testing.T) {
 			t.Fatal(err)
 		}
 		var out bytes.Buffer
-		if count, err := io.Copy(&out, reader); err != nil || count != int64(n) || !bytes.Equal(out.Bytes(), text) {
+		count, err := io.Copy(&out, reader)
+		if err != nil || count != int64(n) || !bytes.Equal(out.Bytes(), text) {
 			t.Error(n, "copied", count, err)
 		}
 		if err := iotest.TestReader(opened(t, data), text); err != nil {
@@ -337,7 +338,8 @@ func TestDamageAtAPlace(t *testing.T) {
 		wrong bool
 	}{{0, false}, {70000, true}, {140000, false}, {65536, true}, {65530, true}, {199990, false}} {
 		_, err := file.ReadAt(into, it.at)
-		if errors.Is(err, ErrDamaged) != it.wrong || !it.wrong && (err != nil || !bytes.Equal(into, text[it.at:it.at+10])) {
+		right := err == nil && bytes.Equal(into, text[it.at:it.at+10])
+		if errors.Is(err, ErrDamaged) != it.wrong || !it.wrong && !right {
 			t.Error(it.at, err)
 		}
 	}
@@ -368,7 +370,8 @@ func TestShrinks(t *testing.T) {
 		file.data = data[:end]
 		into := make([]byte, 10)
 		n, err := at.ReadAt(into, 150000)
-		if (err == nil) != (end >= third) || err == io.EOF || err == nil && !bytes.Equal(into, text[150000:150010]) {
+		right := err != nil || bytes.Equal(into, text[150000:150010])
+		if (err == nil) != (end >= third) || err == io.EOF || !right {
 			t.Error(end, n, err)
 		}
 	}

@@ -30,7 +30,8 @@ func OpenAt(file io.ReaderAt, size int64, key Key) (*File, error) {
 		payload := size - int64(head.reader.payload_at)
 		return nil, &Fault{Number: uint32(answer), Chunk: payload / C.AGE_C_BLOCK}
 	}
-	r := &places{file: file, begun: head.reader, size: int64(text), last: int64(last), end: size, kept: -1}
+	r := &places{file: file, begun: head.reader, end: size, kept: -1}
+	r.size, r.last = int64(text), int64(last)
 	if _, err := r.open(r.last, head.chunk); err != nil {
 		return nil, err
 	}

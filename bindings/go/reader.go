@@ -23,7 +23,8 @@ type Reader struct {
 	err    error  // how the text ends
 }
 
-// Open opens the header of a file. It reads no more of the file than it needs, and what comes along.
+// Open opens the header of a file. It reads no more of the file than it needs, and what comes
+// along.
 func Open(file io.Reader, key Key) (*Reader, error) {
 	r := &Reader{file: file, block: make([]byte, C.AGE_C_BLOCK), chunk: make([]byte, C.AGE_C_CHUNK)}
 	if err := r.begin(key); err != nil {
@@ -110,9 +111,11 @@ func (r *Reader) next(room []byte) (int, error) {
 	block, written := r.block[:r.have], C.size_t(0)
 	var answer C.uint32_t
 	if r.have == C.AGE_C_BLOCK {
-		answer = C.age_c_block(&r.reader, place(block), length(block), place(room), length(room), &written)
+		answer = C.age_c_block(&r.reader, place(block), length(block), place(room), length(room),
+			&written)
 	} else {
-		answer = C.age_c_end(&r.reader, place(block), length(block), place(room), length(room), &written)
+		answer = C.age_c_end(&r.reader, place(block), length(block), place(room), length(room),
+			&written)
 		r.err = io.EOF
 	}
 	r.have = 0

@@ -32,8 +32,8 @@ func Create(out io.Writer, passphrase []byte, factor int) (*Writer, error) {
 		return nil, err
 	}
 	var written C.size_t
-	answer := C.age_c_seal_passphrase(place(passphrase), length(passphrase), work(factor), place(random),
-		length(random), place(w.block), length(w.block), &written, &w.writer)
+	answer := C.age_c_seal_passphrase(place(passphrase), length(passphrase), work(factor),
+		place(random), length(random), place(w.block), length(w.block), &written, &w.writer)
 	if answer != 0 {
 		return nil, &Fault{Number: uint32(answer), Chunk: -1}
 	}
@@ -53,7 +53,8 @@ func (w *Writer) put(n int) error {
 // seal seals a chunk that isn't the last.
 func (w *Writer) seal(text []byte) error {
 	var written C.size_t
-	answer := C.age_c_seal_block(&w.writer, place(text), length(text), place(w.block), length(w.block), &written)
+	answer := C.age_c_seal_block(&w.writer, place(text), length(text), place(w.block),
+		length(w.block), &written)
 	if answer != 0 {
 		w.err = &Fault{Number: uint32(answer), Chunk: -1}
 		return w.err
@@ -94,7 +95,8 @@ func (w *Writer) Close() error {
 		return w.err
 	}
 	var written C.size_t
-	answer := C.age_c_seal_end(&w.writer, place(w.text), length(w.text), place(w.block), length(w.block), &written)
+	answer := C.age_c_seal_end(&w.writer, place(w.text), length(w.text), place(w.block),
+		length(w.block), &written)
 	if answer != 0 {
 		w.err = &Fault{Number: uint32(answer), Chunk: -1}
 		return w.err

@@ -132,7 +132,8 @@ fn says_what_is_wrong() {
         assert_eq!(fault.is_wrong_key(), matches!(number, 12..=14), "{what}");
         assert_eq!(fault.is_truncated(), kind == eof, "{what}");
         assert_eq!(fault.is_damaged(), number == 17, "{what}");
-        // (the length of a file says that a chunk is missing only if what is left of it has no whole last chunk)
+        // (a file that lacks its last chunk has the length of a whole one: then the chunk before
+        // it is refused)
         let fault = AgeError::of(&text_at(data, key).unwrap_err()).unwrap();
         assert!(
             fault.number == number || number == 20 && fault.number == 17,
