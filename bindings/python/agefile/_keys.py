@@ -13,6 +13,7 @@ from ._library import Bytes, C, Opened, ReaderState
 Pair = Tuple[bytes, bytes]  # a shared secret, and the recipient that it is for
 
 WRONG_KEY = 13
+MOST = 500  # X25519 stanzas that are tried: the time grows with the square of their number
 NOTHING = bytes([1]) * 32, bytes(32)
 LETTERS = "qpzry9x8gf2tvdw0s3jn54khce6mua7l"
 SHARE = re.compile(rb"^-> X25519 ([A-Za-z0-9+/]{43})$", re.M)
@@ -103,7 +104,7 @@ def by_openssl(secret: bytes, point: bytes) -> bytes:
 
 def _pairs(identities: Iterable[str], front: bytes) -> Iterator[Pair]:
     """The shared secret and the recipient of each X25519 stanza of a header, for each key."""
-    shares = [base64.b64decode(it + b"=") for it in SHARE.findall(front.partition(b"\n---")[0])]
+    shares = [base64.b64decode(it + b"=") for it in SHARE.findall(front.partition(b"\n---")[0])[:MOST]]
     for identity in identities:
         secret = secret_of(identity)
         recipient = x25519(secret, bytes([9]) + bytes(31))
