@@ -111,8 +111,8 @@ def _library() -> ctypes.CDLL:
         getattr(library, function).argtypes = arguments
         getattr(library, function).restype = number
     library.age_c_fault_name.argtypes, library.age_c_fault_name.restype = [number], ctypes.c_char_p
-    if library.age_c_version() != 100:
-        raise ImportError(f"{name}: version {library.age_c_version()}, not 100")
+    if library.age_c_version() != 10100:
+        raise ImportError(f"{name}: version {library.age_c_version()}, not 10100")
     return library
 
 
