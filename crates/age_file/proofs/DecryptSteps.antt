@@ -10,7 +10,7 @@ use Rattle.age_file.proofs.Undamaged.{undamaged, undamaged_done}
 use Rattle.age_stanza.specs.declared.header.Header.{Header}
 use Rattle.age_keys.specs.declared.fault.KeyFault.{KeyFault}
 use Rattle.age_file.specs.inner.Boxes.{opens}
-use Rattle.age_keys.specs.Keys.{payload_key}
+use Rattle.age_keys.specs.Keys.{payload_key, position_key}
 use Rattle.age_fault.specs.Faults.{HasFailed}
 use Rattle.age_io.specs.Views.{SourceView, SinkView}
 use Rattle.age_file.specs.inner.Intakes.{Pulled}
@@ -20,12 +20,14 @@ use Rattle.age_file.specs.inner.Readers.{Stage}
 use Rattle.age_file.specs.Starts.{StartFails}
 use Rattle.age_file.specs.inner.Starts.{StartsAt}
 use Rattle.age_file.specs.Runs.{Run, IsFromStart, segment_of, held, IsRun, PayloadFails, IsDone}
-use Rattle.age_file.specs.Decrypts.{DecryptStops, Decrypts}
+use Rattle.age_file.specs.Runs.{IsPositionOf}
+use Rattle.age_file.specs.Decrypts.{DecryptsKeyed, DecryptStops, Decrypts}
 use Rattle.age_file.specs.Faults.{NeverEnds}
-use Rattle.age_file.proofs.RunSteps.{writes_of, writes_all, position_given}
+use Rattle.age_file.proofs.RunSteps.{writes_of, writes_all, position_given, position_is}
 use Rattle.age_file.specs.inner.Decrypts.{PositionAt, EndsAs}
 use Rattle.age_file.specs.Ports.{Ports, NoneFailed}
-use Rattle.age_file.specs.Bindings.{file_id, position_tag}
+use Rattle.age_file.specs.Bindings.{file_id, position_tag, chain}
+use Rattle.std.specs.Simd.{first_chunks}
 use Rattle.age_file.specs.inner.Bindings.{chain_if}
 use Rattle.age_file.specs.declared.position.Positions.{Positions}
 use Rattle.age_file.specs.inner.Counts.{HasCounted}
@@ -197,6 +199,26 @@ module _ (keep : Positions) (Allows : Header → List ℕ → Type 0) (Refused :
         },
       )
 
+  -- a run that came to its payload stands at a position, kept or not
+  due_of : (a : SourceView) (unlocked : Unlocked) (old new : Stage)
+      (run : Result (Unit {0}) FileFault) (p : IsDecrypted a unlocked old new run)
+      → (at : Position) × IsPositionOf p.run at
+  due_of a unlocked old new run p =
+      let t = new.writer.tally in
+      let links = chain (first_chunks chunk_length t.index (held p.run)) in
+      let at : Position = record {
+        index = t.index;
+        file_id = unlocked.id;
+        chain = links;
+        tag = position_tag (position_key unlocked.key unlocked.nonce) t.index unlocked.id links;
+        within = t.within;
+      } in (
+        at,
+        position_is p.run unlocked t.index at (first_fits p.run p.from) p.key_is p.nonce_is p.id
+            p.is.prefix p.counts.index
+            (record { index_is = refl; file_id_is = refl; chain_is = refl; tag_is = refl }),
+      )
+
   -- the whole run
   pub run_ended : OneHeader → (a : SourceView) (unlocked : Unlocked) (old new : Stage)
       (run : Result (Unit {0}) FileFault) (result : Result Done Stopped)
@@ -204,19 +226,24 @@ module _ (keep : Positions) (Allows : Header → List ℕ → Type 0) (Refused :
       → new.writer.sink.label ≡ old.writer.sink.label → OnOk run (new.writer.sink.settled ≡ true)
       → IsDecrypted a unlocked old new run
       → EndsAs unlocked new.writer.tally run result
-      → Decrypts keep Allows Refused (before a old) (after new) result
+      → DecryptsKeyed keep Allows Refused (before a old) (after new) result (Some unlocked.key)
   run_ended one a unlocked old new (Ok done) result same named settled p is =
       let d = decrypt_done a unlocked old new same p in
-      subst (λ (r : Result Done Stopped). Decrypts keep Allows Refused (before a old) (after new) r)
+      subst (λ (r : Result Done Stopped). DecryptsKeyed keep Allows Refused (before a old)
+      (after new) r (Some unlocked.key))
       (sym is)
       (record {
-        run = Some p.run;
-        done = d;
-        stopped = tt;
-        undamaged = λ text whole. undamaged_done one Allows Refused (before a old) (after new)
-            new.writer.tally.written p.run text whole d.0 d.1;
-        settled = settled;
-        named = named;
+        is = record {
+          run = Some p.run;
+          done = d;
+          stopped = tt;
+          undamaged = λ text whole. undamaged_done one Allows Refused (before a old) (after new)
+              new.writer.tally.written p.run text whole d.0 d.1;
+          settled = settled;
+          named = named;
+        };
+        found = ap Some (sym p.key_is);
+        due = due_of a unlocked old new _ p;
       })
   run_ended one a unlocked old new (Err fault) result same named settled p (next, at, is) =
       let stops = decrypt_stops a unlocked old new fault next same p at in
@@ -225,33 +252,42 @@ module _ (keep : Positions) (Allows : Header → List ℕ → Type 0) (Refused :
         written = new.writer.tally.written;
         position = next;
       } in
-      subst (λ (r : Result Done Stopped). Decrypts keep Allows Refused (before a old) (after new) r)
+      subst (λ (r : Result Done Stopped). DecryptsKeyed keep Allows Refused (before a old)
+      (after new) r (Some unlocked.key))
       (sym is)
       (record {
-        run = Some p.run;
-        done = tt;
-        stopped = stops;
-        undamaged = λ text whole. undamaged keep one Allows Refused (before a old) (after new)
-            (Some p.run) stopped text whole stops;
-        settled = tt;
-        named = named;
+        is = record {
+          run = Some p.run;
+          done = tt;
+          stopped = stops;
+          undamaged = λ text whole. undamaged keep one Allows Refused (before a old) (after new)
+              (Some p.run) stopped text whole stops;
+          settled = tt;
+          named = named;
+        };
+        found = ap Some (sym p.key_is);
+        due = due_of a unlocked old new _ p;
       })
 
   -- no payload came to be opened
   pub stopped_early : OneHeader → (old new : Ports) (fault : FileFault) → new.sink ≡ old.sink
       → StartFails Allows Refused old.source new.source fault
-      → Decrypts keep Allows Refused old new
-      (Err (record { fault = fault; written = 0; position = None }))
+      → DecryptsKeyed keep Allows Refused old new
+      (Err (record { fault = fault; written = 0; position = None })) None
   stopped_early one old new fault same f =
       let stopped : Stopped = record { fault = fault; written = 0; position = None } in
       let stops : DecryptStops keep Allows Refused old new None stopped =
       (record { sink = same; written = refl; position = refl }, f) in
       record {
-        run = None;
-        done = tt;
-        stopped = stops;
-        undamaged = λ text whole. undamaged keep one Allows Refused old new None stopped text whole
-            stops;
-        settled = tt;
-        named = ap (λ (s : SinkView). s.label) same;
+        is = record {
+          run = None;
+          done = tt;
+          stopped = stops;
+          undamaged = λ text whole. undamaged keep one Allows Refused old new None stopped text whole
+              stops;
+          settled = tt;
+          named = ap (λ (s : SinkView). s.label) same;
+        };
+        found = refl;
+        due = tt;
       }

@@ -75,7 +75,7 @@ from_start r from text few auth =
     }
 
 -- the run's tally is that of what it wrote
-position_is : (r : Run) (unlocked : Unlocked) (index : ℕ) (p : Position) → r.first < chunk_limit
+pub position_is : (r : Run) (unlocked : Unlocked) (index : ℕ) (p : Position) → r.first < chunk_limit
     → r.file.key ≡ unlocked.key
     → r.file.nonce ≡ unlocked.nonce → unlocked.id ≡ file_id r.file.header_bytes r.file.nonce
     → IsPrefixOf r.out (text_of r)

@@ -1,6 +1,6 @@
 -- What a decryption did.
 use Rattle.std.specs.Prelude.{◌≡◌, ℕ, ◌≤◌, List, length, Option, Some, None, true, Result}
-use Rattle.std.specs.Prelude.{IfOk, IfErr, OnOk, IsSomeAnd, MatchResult}
+use Rattle.std.specs.Prelude.{IfOk, IfErr, IfSome, OnOk, IsSomeAnd, MatchResult}
 use Rattle.std.specs.Io.KnownBytes.{Appends}
 use Rattle.age_stanza.specs.declared.header.Header.{Header}
 use Rattle.age_chunk.specs.Payload.{chunk_count, chunk_length}
@@ -14,7 +14,8 @@ use Rattle.age_keys.specs.AgeFile.{box, unbox, FileOf}
 use Rattle.age_file.specs.declared.position.Positions.{Positions}
 use Rattle.age_file.specs.Ports.{Ports, NoneFailed}
 use Rattle.age_file.specs.Starts.{StartFails}
-use Rattle.age_file.specs.Runs.{Run, IsFromStart, WritesNone, StopsInPayload, IsDone}
+use Rattle.age_file.specs.Runs.{Run, IsFromStart, WritesNone, StopsInPayload, IsDone, IsPositionOf}
+use Rattle.age_file.specs.declared.position.Position.{Position}
 use Rattle.age_file.specs.declared.decryption.Done.{Done}
 use Rattle.age_file.specs.declared.decryption.Stopped.{Stopped}
 use Rattle.age_fault.specs.declared.fault.FileFault.{FileFault}
@@ -83,3 +84,17 @@ pub record Decrypts (keep : Positions) (Allows : Header → List ℕ → Type 0)
       (λ stopped. StopsOutside stopped.fault)
   pub settled : OnOk result (new.sink.settled ≡ true)
   pub named : new.sink.label ≡ old.sink.label
+
+-- the key that opened the file, where it came to its payload
+abbrev pub FindsKey : Option Run → Option (List ℕ) → Type 0
+FindsKey None key = key ≡ None
+FindsKey (Some r) key = key ≡ Some r.file.key
+
+-- what a decryption promises that hands out the key as well
+pub record DecryptsKeyed (keep : Positions) (Allows : Header → List ℕ → Type 0)
+    (Refused : Header → KeyFault → Type 0) (old new : Ports) (result : Result Done Stopped)
+    (key : Option (List ℕ)) : Type 0 where
+  pub is : Decrypts keep Allows Refused old new result
+  pub found : FindsKey is.run key
+  -- where it came to its payload there is a position, whether it is kept or not
+  pub due : IfSome is.run (λ r. (p : Position) × IsPositionOf r p)

@@ -18,4 +18,5 @@ pub mod ResumedRuns
 pub mod Calls
 pub mod RoundTrips
 pub mod Bound
+pub mod Again
 pub mod inner

@@ -3,7 +3,7 @@
 ghost use Rattle.std.specs.Prelude.{◌≡◌, ◌<◌, None, true};
 ghost use Rattle.age_file.specs.Ports.{ports};
 ghost use Rattle.age_file.specs.declared.position.Positions.TheVariants.{Kept};
-ghost use Rattle.age_file.specs.Decrypts.{Decrypts};
+ghost use Rattle.age_file.specs.Decrypts.{Decrypts, DecryptsKeyed};
 ghost use Rattle.age_file.specs.inner.Decrypts.{PositionAt, EndsAs, OpensPayload};
 ghost use Rattle.age_file.specs.inner.Payloads.{HasPlace};
 ghost use Rattle.age_file.specs.inner.Readers.{stage_of, SameReader, SameWriter};
@@ -17,7 +17,7 @@ use crate::start::{Unlocked, start};
 use crate::tally::Tally;
 use age_fault::FileFault;
 use age_io::{Sink, Source};
-use age_keys::{Unlock, payload_key, position_key};
+use age_keys::{KnownKey, Unlock, payload_key, position_key};
 use age_stanza::one_header;
 use std::alloc::Global;
 use thiserror::Error;
@@ -152,9 +152,25 @@ pub fn decrypt_with<U: Unlock, S: Source, O: Sink>(
         (ports (S.view reader.old) (O.view writer.old))
         (ports (S.view reader.new) (O.view writer.new)) result }
 {
+    decrypt_keyed(alloc, positions, unlock, reader, writer).0
+}
+
+/// The same, with the key that opened the file, where its payload was reached: with it the file is
+/// read again.
+pub fn decrypt_keyed<U: Unlock, S: Source, O: Sink>(
+    alloc: Global,
+    positions: Positions,
+    unlock: &U,
+    reader: &mut S,
+    writer: &mut O,
+) -> (Result<Done, Stopped>, Option<KnownKey>)
+    ensures { DecryptsKeyed positions (U.allows unlock.now) (U.refuses unlock.now)
+        (ports (S.view reader.old) (O.view writer.old))
+        (ports (S.view reader.new) (O.view writer.new)) result.0 result.1 }
+{
     one_header();
     let Ok(mut intake) = Intake::new(alloc) else {
-        return Err(Stopped::early(FileFault::Memory));
+        return (Err(Stopped::early(FileFault::Memory)), None);
     };
     let mut reader = Reader {
         source: reader,
@@ -162,12 +178,13 @@ pub fn decrypt_with<U: Unlock, S: Source, O: Sink>(
     };
     let unlocked = match start(alloc, unlock, &mut reader) {
         Ok(unlocked) => unlocked,
-        Err(fault) => return Err(Stopped::early(fault)),
+        Err(fault) => return (Err(Stopped::early(fault)), None),
     };
     let tally = Tally::new(positions);
     let mut writer = Writer {
         sink: writer,
         tally,
     };
-    open_payload(&unlocked, 0, &mut reader, &mut writer)
+    let result = open_payload(&unlocked, 0, &mut reader, &mut writer);
+    (result, Some(KnownKey::new(*unlocked.key.bytes())))
 }

@@ -2,6 +2,7 @@
 ghost use Rattle.age_file.specs.ResumedRuns.{RunsInARow};
 ghost use Rattle.age_file.specs.Calls.{CallsInARow};
 ghost use Rattle.age_file.specs.Bound.{RunsAreBound, DoneIsBound};
+ghost use Rattle.age_file.specs.Again.{ReadAgain};
 ghost use Rattle.age_file.specs.RoundTrips.{AgeFileIsWhole, RoundTrip};
 
 use age_keys::{Unlock, passphrase_opens};
@@ -53,4 +54,14 @@ pub fn round_trip()
 {
     one_header();
     passphrase_opens();
+}
+
+/// Reading again: where a decryption dropped its position and stopped in its payload, and is read
+/// again over the same bytes, by the key that it found, a position that
+/// [`position_after`](crate::position_after) finds after as many bytes as it wrote is the one with
+/// which it would have stopped, had it kept positions.
+pub fn read_again<U: Unlock>()
+    ensures { ReadAgain U U.allows U.refuses }
+{
+    one_header();
 }

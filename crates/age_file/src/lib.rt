@@ -10,6 +10,7 @@
 //! the blocks after it, so that what it writes is the whole text.
 #![tactic(auto)]
 
+mod again;
 mod copy;
 mod decryption;
 mod encryption;
@@ -29,12 +30,15 @@ mod skip;
 mod start;
 mod tally;
 
+pub use again::position_after;
 pub use age_fault::{FileFault, flush_all, write_all};
 pub use age_io::{Failed, MemSink, MemSource, Memory, Reading, Sink, Source, Writing};
-pub use decryption::{Done, Stopped, decrypt, decrypt_with};
+pub use decryption::{Done, Stopped, decrypt, decrypt_keyed, decrypt_with};
 pub use encryption::{Written, encrypt};
 pub use inspection::inspect;
-pub use laws::{age_file_is_whole, bound_positions, calls_in_a_row, round_trip, runs_in_a_row};
+pub use laws::{
+    age_file_is_whole, bound_positions, calls_in_a_row, read_again, round_trip, runs_in_a_row,
+};
 pub use position::{Position, Positions};
 pub use report::{Report, StanzaReport, StanzaReports};
 pub use resumption::{resume, resume_with};

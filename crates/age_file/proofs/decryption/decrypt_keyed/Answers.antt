@@ -1,13 +1,13 @@
-use Rattle.std.proofs.Common.{◌++◌, arith, refl, rules, Err, None}
+use Rattle.std.proofs.Common.{◌++◌, arith, refl, rules, Err, None, Some, subst, List, ℕ, ◌≡◌}
 use Rattle.std.proofs.lemmas.List.{length-append}
 use Rattle.age_file.proofs.Bytes.{stops_unread}
 use Rattle.age_file.specs.Ports.{ports}
 use Rattle.age_file.specs.inner.Readers.{writer_view, stage, view_of_reader, stage_of}
-use Rattle.age_file.specs.Decrypts.{Decrypts}
+use Rattle.age_file.specs.Decrypts.{DecryptsKeyed}
 use Rattle.age_file.proofs.ReaderSteps.{read_last, ports_last}
 use Rattle.age_file.proofs.DecryptSteps.{decrypted, run_ended, stopped_early}
 use Rattle.age_fault.specs.declared.fault.FileFault.TheVariants.{Memory}
-use Rattle.age_file.proofs.decryption.decrypt_with.Goals as goal
+use Rattle.age_file.proofs.decryption.decrypt_keyed.Goals as goal
 
 pub returns-in_default : goal.returns-in_default
 returns-in_default g c =
@@ -27,35 +27,39 @@ returns-in-Err g c =
     let early = stopped_early c.args.positions Allows Refused c.one_header.ensures old new
     c.in-Err.fault refl c.in-Err.ensures.fails in
     rw c.early-in-Err.ensures (read_last g.S.Source.view
-    (λ v. Decrypts c.args.positions Allows Refused old
+    (λ v. DecryptsKeyed c.args.positions Allows Refused old
     (ports v (g.O.Sink.view c.args.writer.now))
-    (Err (record { fault = c.in-Err.fault; written = 0; position = None })))
+    (Err (record { fault = c.in-Err.fault; written = 0; position = None })) None)
     _ c.start.new.reader.source.now (search rules) early)
 
 pub returns : goal.returns
 returns g c =
     let old = stage (view_of_reader g.S.Source.view c.start.new.reader)
     (writer_view (g.O.Sink.view c.args.writer.now) c.new-tally.result) in
-    let new = stage_of g.S.Source.view g.O.Sink.view c.open_payload.new.reader
-    c.open_payload.new.writer in
+    let new = stage_of g.S.Source.view g.O.Sink.view c.open_payload-result.new.reader
+    c.open_payload-result.new.writer in
     let first = g.S.Source.view c.args.reader.now in
     let before = ports first (g.O.Sink.view c.args.writer.now) in
     let Allows = g.U.Unlock.allows c.args.unlock.now in
     let Refused = g.U.Unlock.refuses c.args.unlock.now in
-    let o = c.open_payload.ensures.opened in
+    let o = c.open_payload-result.ensures.opened in
     let ran = decrypted c.args.positions Allows Refused first c.in-Ok-start.unlocked old new o.run
     c.new-tally.ensures.written
     c.new-tally.ensures.index c.new-tally.ensures.chain c.in-Ok-start.ensures.found o.decrypts in
+    let given : c.in-Ok-start.unlocked.key ≡ c.new-2.result = search rules in
     ports_last g.S.Source.view g.O.Sink.view
-    (λ p. Decrypts c.args.positions Allows Refused before p c.open_payload.result)
-    _ c.open_payload.new.reader.source.now _ c.open_payload.new.writer.sink.now (search rules)
-    (search rules)
+    (λ p. DecryptsKeyed c.args.positions Allows Refused before p c.open_payload-result.result
+    (Some c.new-2.result))
+    _ c.open_payload-result.new.reader.source.now _ c.open_payload-result.new.writer.sink.now
+    (search rules) (search rules)
+    (subst (λ (k : List ℕ). DecryptsKeyed c.args.positions Allows Refused before
+    (ports new.reader.source new.writer.sink) c.open_payload-result.result (Some k)) given
     (run_ended c.args.positions Allows Refused c.one_header.ensures first c.in-Ok-start.unlocked old
-    new o.run c.open_payload.result
-    c.in-Ok-start.ensures.found.unfailed o.decrypts.named o.decrypts.settled ran o.ended)
+    new o.run c.open_payload-result.result
+    c.in-Ok-start.ensures.found.unfailed o.decrypts.named o.decrypts.settled ran o.ended))
 
-pub open_payload-requires-clause-room : goal.open_payload-requires-clause-room
-open_payload-requires-clause-room g c =
+pub open_payload-result-requires-clause-room : goal.open_payload-result-requires-clause-room
+open_payload-result-requires-clause-room g c =
     let found = c.in-Ok-start.ensures.found in
     let unread = c.start.new.reader.intake.now.bytes in
     let p = found.pulled in (
