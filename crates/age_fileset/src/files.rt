@@ -107,6 +107,22 @@ pub trait FileSet {
         None
     }
 
+    /// Whether a file that was opened can be read once more from its start.
+    fn can_reread(&self, _source: &Self::In) -> bool {
+        false
+    }
+
+    /// Sets a file that was opened under this name back to its start: the file that was opened,
+    /// whatever the name stands for now. It changes nothing of the set. Refuses with `Read` (26)
+    /// where it can't, and with `Memory` (28); a set that shows its entries refuses with `Read` only
+    /// where there is none.
+    fn reread(&self, alloc: Global, name: &str, source: &mut Self::In) -> Result<(), FileFault>
+        ensures again { OnOk result (shows_bytes ≡ true
+            → (Self.In.view source.new).remaining ≡ (view self.now).entries name.now) }
+        ensures missing { shows_bytes ≡ true → IfErr result (λ f. f ≡ FileFault.Read
+            → (view self.now).entries name.now ≡ None) }
+        ensures faults { IfErr result (IsMemoryOr FileFault.Read) };
+
     /// Prepares that a file is replaced later, once the files to be read are open: tries, as far as
     /// this changes nothing, whether it can be. Refuses with `Write` (27) where it can't, with
     /// `Memory` (28), and where it is one that was opened or created before, other than that of

@@ -238,6 +238,29 @@ impl FileSet for MemFiles {
         Some(source.remaining() as u64)
     }
 
+    fn can_reread(&self, _source: &MemSource) -> bool
+        ensures { result ≡ true }
+    {
+        true
+    }
+
+    /// Opens a copy of the file's bytes once more. Refuses with `Read` (26) exactly where no file
+    /// has the name.
+    fn reread(&self, alloc: Global, name: &str, source: &mut MemSource) -> Result<(), FileFault>
+        ensures again { OnOk result (entry_of self.now.entries name.now ≡ Some source.new.left) }
+        ensures missing { IsErrOf result FileFault.Read
+            ↔ (entry_of self.now.entries name.now ≡ None) }
+        ensures faults { IfErr result (IsMemoryOr FileFault.Read) }
+    {
+        match bytes_of(self.entries.as_slice(), name) {
+            Some(bytes) => {
+                *source = source_of(alloc, bytes)?;
+                Ok(())
+            }
+            None => Err(FileFault::Read),
+        }
+    }
+
     /// Tries nothing: a name that can't be written is refused when it is replaced.
     fn prepare(
         &mut self,

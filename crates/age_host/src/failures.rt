@@ -15,6 +15,8 @@ pub(crate) enum Action {
     Open,
     /// To read it.
     Read,
+    /// To read it once more.
+    Reread,
     /// To make it.
     Create,
     /// To open it to be written, or to write it.
@@ -31,6 +33,7 @@ impl Action {
         match self {
             Action::Open => ("open ", ""),
             Action::Read => ("read ", ""),
+            Action::Reread => ("read ", " again"),
             Action::Create => ("create ", ""),
             Action::Write => ("write ", ""),
             Action::Sync => ("write ", " to disk"),
@@ -41,7 +44,7 @@ impl Action {
     /// The number of the fault that it leads to.
     pub(crate) fn fault_number(self) -> u8 {
         match self {
-            Action::Open | Action::Read => 26,
+            Action::Open | Action::Read | Action::Reread => 26,
             _ => 27,
         }
     }
@@ -179,6 +182,15 @@ impl<'w> Failures<'w> {
         self.unsaved.set(Some(Failure {
             action: Action::Save,
             name: self.word(name),
+            error,
+        }));
+    }
+
+    /// Keeps why the position of a stop wasn't found.
+    pub(crate) fn note_unfound(&self, name: &'w str, error: io::Error) {
+        self.unsaved.set(Some(Failure {
+            action: Action::Reread,
+            name,
             error,
         }));
     }

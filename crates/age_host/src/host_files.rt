@@ -415,6 +415,23 @@ impl<'r, 'w> FileSet for HostFiles<'r, 'w> {
         source.length()
     }
 
+    /// A regular file and a block device can. A pipe can't, nor can standard input.
+    fn can_reread(&self, source: &WatchedIn<'r, 'w>) -> bool {
+        source.can_reread()
+    }
+
+    fn reread(
+        &self,
+        _alloc: Global,
+        _name: &str,
+        source: &mut WatchedIn<'r, 'w>,
+    ) -> Result<(), FileFault> {
+        match source.reread() {
+            Ok(()) => Ok(()),
+            Err(error) => Err(fault_of(error, FileFault::Read)),
+        }
+    }
+
     fn prepare(
         &mut self,
         alloc: Global,

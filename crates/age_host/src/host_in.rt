@@ -3,12 +3,12 @@
 ghost use Rattle.std.specs.Prelude.{◌≡◌, None};
 ghost use Rattle.std.specs.Io.{ReadsAtMost};
 
-use crate::host_names::{FileId, Resolved, Stream, above_streams, is_random, resolve};
+use crate::host_names::{FileId, Resolved, Stream, above_streams, is_on_disk, is_random, resolve};
 use crate::host_retry::{TRIES, is_to_retry, too_many_tries};
 use age_io::{Failed, Source};
 use std::alloc::Global;
 use std::fs::{File, Metadata};
-use std::io::{self, Read};
+use std::io::{self, Read, Seek, SeekFrom};
 use std::marker::Model;
 use std::rt::{HostRuntime, Stdin};
 
@@ -49,6 +49,15 @@ impl Origin {
             Origin::Input(input) => input.read(into),
             Origin::Nothing => Ok(0),
         }
+    }
+}
+
+/// How many bytes a regular file has.
+fn length_of(metadata: &Metadata) -> Option<u64> {
+    if metadata.is_file() {
+        Some(metadata.len())
+    } else {
+        None
     }
 }
 
@@ -123,6 +132,25 @@ impl HostIn {
         self.left
     }
 
+    /// Whether it can be read once more from its start. Standard input can't: where it stood at first
+    /// isn't known.
+    pub(crate) fn can_reread(&self) -> bool {
+        match &self.origin {
+            Origin::File(file) => file.metadata().is_ok_and(|metadata| is_on_disk(&metadata)),
+            _ => false,
+        }
+    }
+
+    /// Sets it back to its start, by its descriptor: its name isn't looked up again.
+    pub(crate) fn reread(&mut self) -> io::Result<()> {
+        let Origin::File(file) = &mut self.origin else {
+            return Err(io::Error::from(io::ErrorKind::Unsupported));
+        };
+        file.seek(SeekFrom::Start(0))?;
+        self.left = length_of(&file.metadata()?);
+        Ok(())
+    }
+
     fn open_stream(rt: &HostRuntime, stream: Stream) -> io::Result<(HostIn, Option<FileId>)> {
         let Stream::Input = stream else {
             return Err(io::Error::from(io::ErrorKind::Unsupported));
@@ -145,13 +173,8 @@ impl HostIn {
     }
 
     fn of_file(rt: &HostRuntime, file: File, metadata: &Metadata) -> (HostIn, Option<FileId>) {
-        let left = if metadata.is_file() {
-            Some(metadata.len())
-        } else {
-            None
-        };
         (
-            HostIn::new(rt, Origin::File(file), left),
+            HostIn::new(rt, Origin::File(file), length_of(metadata)),
             FileId::of(metadata),
         )
     }

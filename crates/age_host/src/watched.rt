@@ -16,6 +16,8 @@ use std::rt::HostRuntime;
 pub struct WatchedIn<'r, 'w> {
     source: HostIn,
     name: &'w str,
+    // Whether it is read once more, to find where the run had stopped.
+    is_again: bool,
     failures: &'r Failures<'w>,
 }
 
@@ -26,7 +28,35 @@ impl<'r, 'w> WatchedIn<'r, 'w> {
         WatchedIn {
             source,
             name,
+            is_again: false,
             failures,
+        }
+    }
+
+    /// Whether it can be read once more from its start.
+    pub(crate) fn can_reread(&self) -> bool {
+        self.source.can_reread()
+    }
+
+    /// Sets it back to its start. If the second reading ends elsewhere and no pull fails, the file
+    /// isn't what it was.
+    pub(crate) fn reread(&mut self) -> io::Result<()> {
+        let result = self.source.reread();
+        self.is_again = true;
+        let error = match result {
+            Ok(()) => io::Error::other("it has changed"),
+            Err(error) => error,
+        };
+        self.failures.note_unfound(self.name, error);
+        result
+    }
+
+    /// Keeps what the machine answered to a pull that failed.
+    fn note(&self, error: io::Error) {
+        if self.is_again {
+            self.failures.note_unfound(self.name, error);
+        } else {
+            self.failures.note(Action::Read, self.name, error);
         }
     }
 
@@ -47,9 +77,7 @@ impl<'r, 'w> Source for WatchedIn<'r, 'w> {
         let pulled = self.source.pull(into);
         match pulled {
             Ok(n) => self.failures.count(self.name, n as u64),
-            Err(_) => self
-                .failures
-                .note(Action::Read, self.name, self.source.error()),
+            Err(_) => self.note(self.source.error()),
         }
         pulled
     }

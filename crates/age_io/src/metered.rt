@@ -25,6 +25,14 @@ impl<S: Source, M: Meter> Metered<S, M> {
     {
         Metered { source, meter }
     }
+
+    /// The source, and the meter.
+    pub fn into_parts(self) -> (S, M)
+        ensures { result ≡ (self.source, self.meter) }
+    {
+        let Metered { source, meter } = self;
+        (source, meter)
+    }
 }
 
 impl<S: Source, M: Meter> Source for Metered<S, M> {
