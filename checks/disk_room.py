@@ -23,7 +23,7 @@ SHIM = r"""
 #include <unistd.h>
 /* What FSYNC, FTRUNCATE, FLOCK and RENAME name fails with that error. ONLY says of which kind of file: d, f or b. SYNCED gets a line for
    each file that is synced. Each call number EVERY of read and write is interrupted; WRITE fails with that error from call number AT on.
-   TRIGGER gets a 1 before the first sync. SWAP lets `folder` lead to `other` before a file .new-0 is opened. Before open number PIPED of
+   SEEK to a place in a file fails with that error, and so does REREAD, each read after that. TRIGGER gets a 1 before the first sync. SWAP lets `folder` lead to `other` before a file .new-0 is opened. Before open number PIPED of
    `saved` to be written a pipe takes its place. */
 static int fails(const char *name) {
     const char *error = getenv(name);
@@ -38,8 +38,16 @@ static int is_meant(int fd) {
     return (S_ISDIR(it.st_mode) && *only == 'd') || (S_ISREG(it.st_mode) && *only == 'f') || (S_ISBLK(it.st_mode) && *only == 'b');
 }
 static long number(const char *name) { return getenv(name) ? atol(getenv(name)) : 0; }
+static int sought = -1;
+off_t lseek(int fd, off_t to, int from) {
+    if (from == SEEK_SET && fails("SEEK")) return -1;
+    if (from == SEEK_SET) sought = fd;
+    return ((off_t (*)(int, off_t, int))dlsym(RTLD_NEXT, "lseek"))(fd, to, from);
+}
+off_t lseek64(int fd, off_t to, int from) { return lseek(fd, to, from); }
 ssize_t read(int fd, void *into, size_t size) {
     static long count;
+    if (fd == sought && fails("REREAD")) return -1;
     if (number("EVERY") && ++count % number("EVERY") == 0) return errno = EINTR, -1;
     return ((ssize_t (*)(int, void *, size_t))dlsym(RTLD_NEXT, "read"))(fd, into, size);
 }

@@ -8,7 +8,6 @@ use Rattle.age_io.specs.declared.durability.Durability.{Durability}
 use Rattle.age_file.specs.Ports.{Ports, ports}
 use Rattle.age_file.specs.Secrets.{SecretView}
 use Rattle.age_file.specs.Encrypts.{Encrypts, EncryptFails}
-use Rattle.age_file.specs.Decrypts.{Decrypts}
 use Rattle.age_file.specs.Resumes.{resume_ports}
 use Rattle.age_file.specs.ResumePromises.{ResumesText}
 use Rattle.age_file.specs.declared.encryption.Written.{Written}
@@ -40,6 +39,7 @@ use Rattle.age_cli.specs.Outputs.{Paths, Stops, Writes, kept_for}
 use Rattle.age_cli.specs.Resumptions.{IsPositionIn, old_for}
 use Rattle.age_cli.specs.declared.stop.Stop.{Stop}
 use Rattle.age_cli.specs.inner.Endings.{Concludes, sealing_end, opening_end}
+use Rattle.age_cli.specs.inner.Rereadings.{DecryptsOpened, HoldsInput}
 use Rattle.age_cli.proofs.ActSteps.{acts_concluded}
 use Rattle.age_cli.proofs.CommandStopSteps.{the_run}
 use Rattle.age_cli.proofs.EngineSteps.{Kept, ends_so, kept_sealing, kept_opening, kept_resuming, wrote_out, stopped_out, spared_out}
@@ -110,28 +110,6 @@ module _ (IsPorts : Ports → Type 0) (shows : Bool) (old opened new : FilesView
       (λ shown empty. subst (λ (n : Result (Unit {0}) Stop). Kept (sealing secret) before after n) (sym is) (kept_sealing secret before after sealed ends fails empty))
       concludes noted apart (λ same. cc) silent
 
-  pub decrypt_acts : (d : Decrypting) (keep : Positions) (identity : Identity) (decrypted : Result Done Stopped)
-      → ((files : Files) × OpensBy files d.identity identity)
-      → (shows ≡ true → OpensBy old.entries d.identity identity) → (shows ≡ true → Found (paths_of d) old.entries before)
-      → keep ≡ kept_for (text_of d.save) → end ≡ opening_end decrypted → Decrypts keep (allows_by identity) (refuses_by identity) before after decrypted
-      → Concludes shows (text_of d.save) d.durability after.sink end opened new r
-      → opened.events ≡ old.events ++ (identity_order (text_of d.identity.pass) (text_of d.identity.shared)
-      ++ ((Opened d.from.now ∷ preparing (text_of d.save)) ++ Created d.to.now ∷ []))
-      → (NamesTwice (order_asked (Decrypt d)).apart → ⊥) → (d.progress ≡ Silent → Unshown)
-      → Acts IsPorts shows (Decrypt d) old new Failed Unshown r
-  decrypt_acts d keep identity decrypted by opens found keep_is is promise concludes noted apart silent =
-      let k = kept_for (text_of d.save) in
-      let did = subst (λ (x : Positions). Decrypts x (allows_by identity) (refuses_by identity) before after decrypted) keep_is promise in
-      acts_of_engine IsPorts shows (Decrypt d) old opened new Failed Unshown (opening k identity) (paths_of d) d.durability before after end r
-      (identity_order (text_of d.identity.pass) (text_of d.identity.shared)) (Opened d.from.now ∷ preparing (text_of d.save)) before_is after_is refl refl
-      (λ shown P holds. (identity, opens shown, holds))
-      (subst (λ (n : Result (Unit {0}) Stop). OnOk n (OfSomeEngine IsPorts (Decrypt d) (HasEnded IsPorts))) (sym is)
-      (opening_ran decrypted (λ done so. let of = the_run did.run so in
-      (identity, by, (before, after, before_is, after_is, (done, of.0, of.1)))) did.done)) (λ spared. spared) kept found did.named
-      (λ shown empty. subst (λ (n : Result (Unit {0}) Stop). Kept (opening k identity) before after n) (sym is)
-      (kept_opening k identity before after did.run decrypted did.done did.stopped empty)) concludes noted apart
-      (λ same. apart (inr (inl (inl (d.to.now, same, refl))))) silent
-
   pub resume_acts : (a : Resuming) (keep : Positions) (identity : Identity) (from : Position) (first last : SourceView) (resumed : Result Done Stopped)
       → ((files : Files) × OpensBy files a.decrypting.identity identity)
       → (shows ≡ true → OpensBy old.entries a.decrypting.identity identity)
@@ -163,3 +141,27 @@ module _ (IsPorts : Ports → Type 0) (shows : Bool) (old opened new : FilesView
       (kept_resuming IsPorts k identity from (old_for from (old.entries a.old.now)) before after first last did.run resumed first_is last_is (sym (earlier shown).2)
       did.done did.stopped empty)) concludes noted apart
       (λ same. apart (inr (inl (inl (d.to.now, same, refl))))) silent
+
+module _ (IsPorts : Ports → Type 0) (shows : Bool) (old opened new : FilesView) (Failed Unshown : Type 0) (before : Ports) (before_is : IsPorts before)
+    (r : Result (Unit {0}) Ending) (kept : opened.entries ≡ old.entries) where
+  pub decrypt_acts : (d : Decrypting) (identity : Identity) → ((files : Files) × OpensBy files d.identity identity)
+      → (shows ≡ true → OpensBy old.entries d.identity identity) → (shows ≡ true → Found (paths_of d) old.entries before)
+      → DecryptsOpened IsPorts shows d identity before opened new Unshown r
+      → opened.events ≡ old.events ++ (identity_order (text_of d.identity.pass) (text_of d.identity.shared)
+      ++ ((Opened d.from.now ∷ preparing (text_of d.save)) ++ Created d.to.now ∷ []))
+      → (NamesTwice (order_asked (Decrypt d)).apart → ⊥) → Acts IsPorts shows (Decrypt d) old new Failed Unshown r
+  decrypt_acts d identity by opens found did noted apart =
+      let k = kept_for (text_of d.save) in
+      let holds : shows ≡ true → HoldsInput d before opened =
+      λ shown. let f = found shown in record {
+        there = subst (λ (files : Files). is_some (files d.from.now) ≡ true) (sym kept) f.0;
+        gives = f.1 ∙ ap (λ (files : Files). files d.from.now) (sym kept);
+        other = λ e. apart (inl (inr (inl (d.to.now, refl, ap Some (e ∙ f.3)))));
+      } in
+      acts_of_engine IsPorts shows (Decrypt d) old opened new Failed Unshown (opening k identity) (paths_of d) d.durability before did.after
+      (opening_end did.decrypted) r (identity_order (text_of d.identity.pass) (text_of d.identity.shared)) (Opened d.from.now ∷ preparing (text_of d.save))
+      before_is did.after_is refl refl (λ shown P holds. (identity, opens shown, holds))
+      (opening_ran did.decrypted (λ done so. let of = the_run did.run so in
+      (identity, by, (before, did.after, before_is, did.after_is, (done, of.0, of.1)))) did.done) (λ spared. spared) kept found did.named
+      (λ shown empty. kept_opening k identity before did.after did.run did.decrypted did.done (did.stopped shown (holds shown)) empty) did.concludes noted apart
+      (λ same. apart (inr (inl (inl (d.to.now, same, refl))))) did.silent

@@ -5,6 +5,7 @@ pub mod EventSteps
 pub mod ReportSteps
 pub mod EngineSteps
 pub mod ActSteps
+pub mod RereadSteps
 pub mod FinalSteps
 pub mod HeadlineSteps
 pub mod ObeySteps

@@ -7,7 +7,7 @@ use Rattle.age_file.specs.declared.position.Position.{Position}
 use Rattle.age_file.specs.declared.position.Positions.{Positions}
 use Rattle.age_file.specs.declared.position.Positions.TheVariants.{Kept, Dropped}
 use Rattle.age_fault.specs.declared.fault.FileFault.{FileFault}
-use Rattle.age_fault.specs.declared.fault.FileFault.TheVariants.{Write}
+use Rattle.age_fault.specs.declared.fault.FileFault.TheVariants.{Read, Write}
 use Rattle.age_fileset.specs.FileSet.{IsMemoryOr}
 use Rattle.age_cli_common.specs.Files.{Files, SparesBut}
 use Rattle.age_cli_common.specs.declared.ending.Ending.{Ending}
@@ -25,11 +25,11 @@ IsSaved (Some name) (Some position) old new = new name ≡ Some (position_text p
 IsSaved (Some name) None old new = new name ≡ old name
 IsSaved None position old new = Unit {0}
 
--- there is a position to save, and the file of `--save` is as it was, since it can't be written or
--- memory was refused
+-- there is a position to save, and the file of `--save` is as it was, since it can't be written,
+-- memory was refused, or the input couldn't be read again to find the position
 abbrev pub SaveFails : Option Text → Option Position → Files → Files → FileFault → Type 0
 SaveFails (Some name) (Some position) old new fault = (new name ≡ old name)
-    × IsMemoryOr Write fault
+    × (IsMemoryOr Write fault ⊎ (fault ≡ Read))
 SaveFails name position old new fault = ⊥
 
 -- the fault is reported, and the position is saved; or it is reported with that of a save that

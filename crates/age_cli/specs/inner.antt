@@ -1,4 +1,5 @@
 pub mod Endings
+pub mod Rereadings
 pub mod Openings
 pub mod Files
 pub mod Randoms

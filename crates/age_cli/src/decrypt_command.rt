@@ -1,11 +1,16 @@
 //! The command that decrypts a file.
 
-ghost use Rattle.std.specs.Prelude.{◌≡◌, true, Some};
+ghost use Rattle.std.specs.Prelude.{◌≡◌, true, false, is_some, Some};
+ghost use Rattle.age_file.specs.Decrypts.{DecryptsKeyed};
+ghost use Rattle.age_file.specs.Ports.{ports};
+ghost use Rattle.age_file.specs.declared.position.Positions.TheVariants.{Dropped};
 ghost use Rattle.age_cli_args.specs.Requests.{text_of};
+ghost use Rattle.age_cli_args.specs.declared.request.ProgressOption.TheVariants.{Silent};
 ghost use Rattle.age_cli_args.specs.declared.request.Request.TheVariants.{Decrypt};
 ghost use Rattle.age_cli_common.specs.Choices.{IsEnough, IsSecretIn, bytes_of, file_of};
 ghost use Rattle.age_cli_common.specs.EventOrders.{opening};
 ghost use Rattle.age_cli_common.specs.FaultLines.{Tells};
+ghost use Rattle.age_cli_common.specs.Identities.{allows_by, refuses_by};
 ghost use Rattle.age_cli_common.specs.Names.{NamesTwice};
 ghost use Rattle.age_cli_common.specs.Orders.{order_asked};
 ghost use Rattle.age_cli_common.specs.Reasons.{SourceFails};
@@ -14,14 +19,17 @@ ghost use Rattle.age_cli.specs.Engines.{PortsOf};
 ghost use Rattle.age_cli.specs.Outputs.{kept_for};
 ghost use Rattle.age_cli.specs.inner.Names.{IsReadAs};
 ghost use Rattle.age_cli.specs.inner.Openings.{Judges};
+ghost use Rattle.age_cli.specs.inner.Rereadings.{DecryptsOpened, again_of};
 
 use crate::output::{Content, Output, conclude, open_both, with_meter};
+use crate::reread::{Again, conclude_again};
 use crate::stop::opening_end;
 use age_cli_args::{Decrypting, ProgressOption};
-use age_cli_common::{Announcement, Choice, Ending, Usage};
-use age_file::{Positions, decrypt_with};
+use age_cli_common::{Announcement, Choice, Ending, Identity, Usage};
+use age_file::{Done, Positions, Source, Stopped, decrypt_keyed, read_again};
 use age_fileset::FileSet;
 use age_io::{Meter, Sink};
+use age_keys::KnownKey;
 use std::alloc::Global;
 
 /// Whether a name is given, and stands for the same file as another.
@@ -67,7 +75,7 @@ pub(crate) fn names_a_file_twice<F: FileSet>(files: &F, asked: &Decrypting<'_>) 
     is_read(files, asked, save)
 }
 
-/// Positions are kept where one is to be saved: a decryption without them is faster.
+/// Positions are kept where one is to be saved.
 pub(crate) fn positions_for(save: Option<&str>) -> Positions
     ensures { result ≡ kept_for (text_of save.entry) }
 {
@@ -96,6 +104,136 @@ pub(crate) fn read_secret<F: FileSet>(
     }
     files.check_streams(alloc, read)?;
     Ok(choice.read(alloc, files)?)
+}
+
+/// Whether a position is to be saved, and the input can be read once more to find it.
+fn can_reread<F: FileSet>(files: &F, source: &F::In, save: Option<&str>) -> bool
+    ensures { result ≡ true → is_some (text_of save.entry) ≡ true }
+{
+    save.is_some() && files.can_reread(source)
+}
+
+/// Positions are dropped where the input can be read once more to find one.
+fn positions_at_first(is_reread: bool, save: Option<&str>) -> Positions
+    ensures dropped { is_reread ≡ true → result ≡ Dropped }
+    ensures kept { is_reread ≡ false → result ≡ kept_for (text_of save.entry) }
+{
+    if is_reread {
+        return Positions::Dropped;
+    }
+    positions_for(save)
+}
+
+/// How a decryption ended, with the key that opened the input and with the input.
+#[derive(Drop)]
+struct Opened<S: Source> {
+    end: Result<Done, Stopped>,
+    key: Option<KnownKey>,
+    source: S,
+}
+
+/// Decrypts the input into the output.
+fn open_text<F: FileSet, P: Meter>(
+    alloc: Global,
+    files: &F,
+    asked: &Decrypting<'_>,
+    positions: Positions,
+    identity: &Identity<'_>,
+    mut source: F::In,
+    out: &mut F::Out,
+    progress: &mut P,
+) -> Opened<F::In>
+    ensures opened { DecryptsKeyed positions (allows_by identity.now) (refuses_by identity.now)
+        (ports (F.In.view source) (F.Out.view out.old))
+        (ports (F.In.view result.source) (F.Out.view out.new)) result.end result.key }
+    ensures silent { asked.now.progress ≡ Silent → progress.new ≡ progress.old }
+{
+    match asked.progress {
+        ProgressOption::Silent => {
+            let (end, key) = decrypt_keyed(alloc, positions, identity, &mut source, out);
+            Opened { end, key, source }
+        }
+        ProgressOption::Shown => {
+            let mut metered = with_meter(files, source, &mut *progress);
+            let (end, key) = decrypt_keyed(alloc, positions, identity, &mut metered, out);
+            let (source, _) = metered.into_parts();
+            progress.end();
+            Opened { end, key, source }
+        }
+    }
+}
+
+/// The stop and the key by which the input is read once more, where that is to be done.
+fn again_of(
+    is_reread: bool,
+    end: &Result<Done, Stopped>,
+    key: Option<KnownKey>,
+) -> Option<(Stopped, KnownKey)>
+    ensures { result ≡ again_of is_reread end.now key }
+{
+    match end {
+        Ok(_) => None,
+        Err(stopped) => match key {
+            Some(key) if is_reread => Some((*stopped, key)),
+            Some(_) => None,
+            None => None,
+        },
+    }
+}
+
+/// Decrypts the input into the output, ends that, and saves the position of a stop. Linking the
+/// text for it takes longer than decrypting: where the input can be read again, that is done only
+/// once it stopped.
+fn decrypt_opened<F: FileSet, E: Sink, P: Meter>(
+    alloc: Global,
+    files: &mut F,
+    asked: &Decrypting<'_>,
+    identity: &Identity<'_>,
+    source: F::In,
+    mut out: F::Out,
+    faults: &mut E,
+    told: &mut Announcement,
+    progress: &mut P,
+) -> Result<(), Ending>
+    ensures announced { Tells told.new result (E.view faults.old) (E.view faults.new)
+        (faults.new ≡ faults.old) }
+    ensures opened { DecryptsOpened (PortsOf F.In.view F.Out.view) (F.shows_bytes) asked.now identity.now
+        (ports (F.In.view source) (F.Out.view out)) (F.view files.old) (F.view files.new)
+        (progress.new ≡ progress.old) result }
+{
+    read_again::<Identity<'_>>();
+    let is_reread = can_reread(files, &source, asked.save);
+    let opened = open_text(
+        alloc,
+        files,
+        asked,
+        positions_at_first(is_reread, asked.save),
+        identity,
+        source,
+        &mut out,
+        &mut *progress,
+    );
+    let Opened { end, key, source } = opened;
+    match again_of(is_reread, &end, key) {
+        Some((stopped, key)) => {
+            let again = Again {
+                source,
+                key,
+                stopped,
+            };
+            Err(conclude_again(alloc, files, out, asked, again, faults, told, progress))
+        }
+        None => conclude(
+            alloc,
+            files,
+            out,
+            asked.save,
+            asked.durability,
+            faults,
+            told,
+            opening_end(end),
+        ),
+    }
 }
 
 /// Decrypts a file as asked. If it stops, the line of its fault is put to `faults`, and then its
@@ -127,35 +265,8 @@ pub fn decrypt_file<F: FileSet, E: Sink, P: Meter>(
         durability: asked.durability,
         content: Content::Plaintext,
     };
-    let (mut source, mut out) = open_both(alloc, files, asked.from, &output)?;
-    let positions = positions_for(asked.save);
-    match asked.progress {
-        ProgressOption::Silent => {
-            let opened = decrypt_with(alloc, positions, &identity, &mut source, &mut out);
-            conclude(
-                alloc,
-                files,
-                out,
-                &output,
-                faults,
-                told,
-                opening_end(opened),
-            )
-        }
-        ProgressOption::Shown => {
-            let mut metered = with_meter(files, source, &mut *progress);
-            let opened = decrypt_with(alloc, positions, &identity, &mut metered, &mut out);
-            drop(metered);
-            progress.end();
-            conclude(
-                alloc,
-                files,
-                out,
-                &output,
-                faults,
-                told,
-                opening_end(opened),
-            )
-        }
-    }
+    let (source, out) = open_both(alloc, files, asked.from, &output)?;
+    decrypt_opened(
+        alloc, files, asked, &identity, source, out, faults, told, progress,
+    )
 }

@@ -19,6 +19,7 @@ mod laws;
 mod output;
 mod print;
 mod program;
+mod reread;
 mod resume_command;
 mod stop;
 

@@ -131,7 +131,12 @@ pub(crate) fn with_meter<F: FileSet, M: Meter>(
 }
 
 /// Ends the output where the engine stopped: with what was written, or as it was.
-fn leave<F: FileSet>(files: &mut F, out: F::Out, is_untouched: bool, durability: Durability)
+pub(crate) fn leave<F: FileSet>(
+    files: &mut F,
+    out: F::Out,
+    is_untouched: bool,
+    durability: Durability,
+)
     ensures untouched { F.shows_bytes ≡ true → is_untouched ≡ true
         → (F.Out.view out).taken ≡ Some []
         → (F.view files.new).entries ≡ (F.view files.old).entries }
@@ -175,26 +180,19 @@ pub(crate) fn conclude<F: FileSet, E: Sink>(
     alloc: Global,
     files: &mut F,
     out: F::Out,
-    asked: &Output<'_>,
+    save: Option<&str>,
+    durability: Durability,
     faults: &mut E,
     told: &mut Announcement,
     engine: Result<(), Stop>,
 ) -> Result<(), Ending>
     ensures announced { Tells told.new result (E.view faults.old) (E.view faults.new)
         (faults.new ≡ faults.old) }
-    ensures concludes { Concludes (F.shows_bytes) (text_of asked.now.save) asked.now.durability
+    ensures concludes { Concludes (F.shows_bytes) (text_of save.entry) durability
         (F.Out.view out) engine (F.view files.old) (F.view files.new) result }
 {
-    match end_out(files, out, asked.durability, engine) {
+    match end_out(files, out, durability, engine) {
         Ok(()) => Ok(()),
-        Err(stop) => Err(end_of(
-            alloc,
-            files,
-            asked.save,
-            stop,
-            asked.durability,
-            faults,
-            told,
-        )),
+        Err(stop) => Err(end_of(alloc, files, save, stop, durability, faults, told)),
     }
 }

@@ -75,7 +75,7 @@ pub(crate) fn opening_end(opened: Result<Done, Stopped>) -> Result<(), Stop>
 }
 
 /// Saves a position, if there is one and a file for it.
-fn save<F: FileSet>(
+pub(crate) fn save<F: FileSet>(
     alloc: Global,
     files: &mut F,
     name: Option<&str>,

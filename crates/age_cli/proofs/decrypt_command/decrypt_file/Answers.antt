@@ -1,4 +1,4 @@
-use Rattle.std.proofs.Common.{◌∙◌, ◌++◌, ◌∷◌, [], inl, inr, refl, ap, sym, subst, true≢false, Some}
+use Rattle.std.proofs.Common.{◌∙◌, ◌++◌, ◌∷◌, [], inl, inr, refl, sym, subst, true≢false, Some}
 use Rattle.age_file.specs.Ports.{ports}
 use Rattle.age_fileset.specs.Events.{Opened, Created}
 use Rattle.age_cli_args.specs.Requests.{text_of}
@@ -11,7 +11,7 @@ use Rattle.age_cli_common.specs.declared.ending.Ending.TheVariants.{Usage}
 use Rattle.age_cli.specs.Acts.{paths_of}
 use Rattle.age_cli.proofs.CommandSteps.{in_order, reason_at, some_files}
 use Rattle.age_cli.proofs.ReportSteps.{unmade}
-use Rattle.age_cli.proofs.ActSteps.{acts_early, shown_not_silent}
+use Rattle.age_cli.proofs.ActSteps.{acts_early}
 use Rattle.age_cli.proofs.FinalSteps.{Found, decrypt_acts}
 use Rattle.age_cli_common.proofs.EventSteps.{longer, none_done, then_did, then_follows}
 use Rattle.age_cli.proofs.decrypt_command.decrypt_file.Goals as goal
@@ -71,52 +71,21 @@ returns-in_err-source-clause-acts g c =
 pub returns-in_err-source-clause-announced : goal.returns-in_err-source-clause-announced
 returns-in_err-source-clause-announced g c = unmade c.from_residual-in_err-source.result _ _ _ refl
 
-pub returns-in-Silent-clause-acts : goal.returns-in-Silent-clause-acts
-returns-in-Silent-clause-acts g c =
-    let d = c.args.asked.now in
-    let view = g.F.FileSet.view in
-    let In = g.F.In.Source.view in
-    let Out = g.F.Out.Sink.view in
-    let judged = in_order _ _ _ _ _ _ _ _ _ _ c.in_ok-choice.ensures.chooses.order c.in_ok-secret.ensures in
-    let both = c.in_ok-source.ensures in
-    let run = c.decrypt_with-opened in
-    let before = ports (In c.in_ok-source.source) (Out c.in_ok-source.out) in
-    decrypt_acts _ _ (view c.args.files.now) (view c.open_both.new.files) (view c.conclude.new.files) _ _ before (ports (In run.new.reader) (Out run.new.writer))
-    (record { source = c.in_ok-source.source; sink = c.in_ok-source.out; is = refl }) (record { source = run.new.reader; sink = run.new.writer; is = refl })
-    c.opening_end.result c.conclude.result (both.kept ∙ judged.kept) d c.positions_for-positions.result c.in_ok-identity.identity run.result
-    (some_files _ _ _ _ c.in_ok-choice.ensures.chooses c.in_ok-identity.ensures.makes)
-    (λ shown. c.in_ok-choice.ensures.chooses.opens (view c.args.files.now).entries _ _ (judged.read shown).0 c.in_ok-identity.ensures.makes)
-    (λ shown. subst (λ (f : Files). Found (paths_of d) f before) judged.kept (both.opened shown))
-    c.positions_for-positions.ensures c.opening_end.ensures run.ensures c.conclude.ensures.concludes
-    (then_did _ _ _ (identity_order (text_of d.identity.pass) (text_of d.identity.shared))
-    (Opened d.from.now ∷ (preparing (text_of d.save) ++ Created d.to.now ∷ [])) judged.noted both.noted)
-    (λ twice. absurd (judged.apart (c.names_a_file_twice-is_file_named_twice.ensures.twice twice)).1) (λ silent. refl)
-
-pub returns-in-Silent-clause-announced : goal.returns-in-Silent-clause-announced
-returns-in-Silent-clause-announced g c = c.conclude.ensures.announced
-
 pub returns-clause-acts : goal.returns-clause-acts
 returns-clause-acts g c =
     let d = c.args.asked.now in
     let view = g.F.FileSet.view in
-    let In = g.F.In.Source.view in
-    let Out = g.F.Out.Sink.view in
     let judged = in_order _ _ _ _ _ _ _ _ _ _ c.in_ok-choice.ensures.chooses.order c.in_ok-secret.ensures in
     let both = c.in_ok-source.ensures in
-    let run = c.decrypt_with-opened-in-Shown in
-    let source = c.with_meter-metered.result.source in
-    let before = ports (In source) (Out c.in_ok-source.out) in
-    decrypt_acts _ _ (view c.args.files.now) (view c.open_both.new.files) (view c.conclude-in-Shown.new.files) _ _ before (ports (In run.new.reader.source) (Out run.new.writer))
-    (record { source = source; sink = c.in_ok-source.out; is = refl }) (record { source = run.new.reader.source; sink = run.new.writer; is = refl })
-    c.opening_end-in-Shown.result c.conclude-in-Shown.result (both.kept ∙ judged.kept) d c.positions_for-positions.result c.in_ok-identity.identity run.result
-    (some_files _ _ _ _ c.in_ok-choice.ensures.chooses c.in_ok-identity.ensures.makes)
+    let before = ports (g.F.In.Source.view c.in_ok-source.source) (g.F.Out.Sink.view c.in_ok-source.out) in
+    decrypt_acts _ _ (view c.args.files.now) (view c.open_both.new.files) (view c.decrypt_opened.new.files) _ _ before
+    (record { source = c.in_ok-source.source; sink = c.in_ok-source.out; is = refl }) c.decrypt_opened.result (both.kept ∙ judged.kept) d
+    c.in_ok-identity.identity (some_files _ _ _ _ c.in_ok-choice.ensures.chooses c.in_ok-identity.ensures.makes)
     (λ shown. c.in_ok-choice.ensures.chooses.opens (view c.args.files.now).entries _ _ (judged.read shown).0 c.in_ok-identity.ensures.makes)
-    (λ shown. let f = both.opened shown in
-    subst (λ (f : Files). Found (paths_of d) f before) judged.kept (f.0, ap (λ s. (In s).remaining) c.with_meter-metered.ensures ∙ f.1, f.2, f.3))
-    c.positions_for-positions.ensures c.opening_end-in-Shown.ensures run.ensures c.conclude-in-Shown.ensures.concludes
+    (λ shown. subst (λ (f : Files). Found (paths_of d) f before) judged.kept (both.opened shown)) c.decrypt_opened.ensures.opened
     (then_did _ _ _ (identity_order (text_of d.identity.pass) (text_of d.identity.shared))
     (Opened d.from.now ∷ (preparing (text_of d.save) ++ Created d.to.now ∷ [])) judged.noted both.noted)
-    (λ twice. absurd (judged.apart (c.names_a_file_twice-is_file_named_twice.ensures.twice twice)).1) (λ silent. absurd (shown_not_silent (sym c.in-Shown.is ∙ silent)))
+    (λ twice. absurd (judged.apart (c.names_a_file_twice-is_file_named_twice.ensures.twice twice)).1)
 
 pub returns-clause-announced : goal.returns-clause-announced
-returns-clause-announced g c = c.conclude-in-Shown.ensures.announced
+returns-clause-announced g c = c.decrypt_opened.ensures.announced

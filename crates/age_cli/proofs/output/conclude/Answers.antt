@@ -11,13 +11,12 @@ use Rattle.age_cli.proofs.output.conclude.Goals as goal
 pub returns-in-Ok-clause-concludes : goal.returns-in-Ok-clause-concludes
 returns-in-Ok-clause-concludes g c =
     let out = c.in-Ok.ensures in
-    let a = c.args.asked.now in
     record {
       done = (out.done.0, λ shown. (out.done.1 shown, out.others));
       stops = tt;
       fault = tt;
       spares = λ shown q to save. out.others q (λ e. to (ap Some (sym e)));
-      order = longer (Closed a.durability ∷ []) (replacing (text_of a.save) a.durability) _ _ (followed _ _ _ out.noted);
+      order = longer (Closed c.args.durability ∷ []) (replacing (text_of c.args.save) c.args.durability) _ _ (followed _ _ _ out.noted);
       order_done = out.noted;
     }
 
@@ -25,7 +24,6 @@ pub returns-in-Err-clause-concludes : goal.returns-in-Err-clause-concludes
 returns-in-Err-clause-concludes g c =
     let out = c.in-Err.ensures in
     let ended = c.end_of.ensures in
-    let a = c.args.asked.now in
     let stop = c.in-Err.stop in
     let sink = g.F.Out.Sink.view c.args.out in
     let view = g.F.FileSet.view in
@@ -37,12 +35,12 @@ returns-in-Err-clause-concludes g c =
       stops = λ shown apart faithful. (
         stop,
         subst (λ x. Left c.args.engine sink.taken (old sink.label) x stop) (sym (ended.others shown sink.label (λ e. cc) apart)) (out.stops shown faithful),
-        ends_from stop.fault (text_of a.save) stop.position old mid new c.end_of.result (λ q name. out.others q (λ e. apart (name ∙ ap Some e)))
+        ends_from stop.fault (text_of c.args.save) stop.position old mid new c.end_of.result (λ q name. out.others q (λ e. apart (name ∙ ap Some e)))
             (ended.ends shown),
       );
       fault = ended.fault;
       spares = λ shown q to save. ended.others shown q (λ e. cc) save ∙ out.others q (λ e. to (ap Some (sym e)));
-      order = then_follows _ _ _ (Closed a.durability ∷ []) (replacing (text_of a.save) a.durability) out.noted ended.noted;
+      order = then_follows _ _ _ (Closed c.args.durability ∷ []) (replacing (text_of c.args.save) c.args.durability) out.noted ended.noted;
       order_done = tt;
     }
 

@@ -1,0 +1,73 @@
+-- How a position is found by reading the input once more. What only private code cites.
+use Rattle.std.specs.Prelude.{◌≡◌, ◌≢◌, ◌⊎◌, ℕ, Bool, true, List, Option, Some, is_some}
+use Rattle.std.specs.Prelude.{None, Result, Err, IfOk, IfErr, IsSomeAnd, if◌then◌else◌}
+use Rattle.age_io.specs.Views.{SourceView, SinkView}
+use Rattle.age_file.specs.Again.{IsFoundAgain}
+use Rattle.age_file.specs.Decrypts.{DecryptEnds, DecryptStops}
+use Rattle.age_file.specs.Ports.{Ports}
+use Rattle.age_file.specs.Runs.{Run}
+use Rattle.age_file.specs.declared.decryption.Done.{Done}
+use Rattle.age_file.specs.declared.decryption.Stopped.{Stopped}
+use Rattle.age_file.specs.declared.position.Position.{Position}
+use Rattle.age_fileset.specs.FileSet.{FilesView}
+use Rattle.age_cli_args.specs.Requests.{text_of}
+use Rattle.age_cli_args.specs.declared.request.Decrypting.{Decrypting}
+use Rattle.age_cli_args.specs.declared.request.ProgressOption.TheVariants.{Silent}
+use Rattle.age_cli_common.specs.Identities.{allows_by, refuses_by}
+use Rattle.age_cli_common.specs.declared.ending.Ending.{Ending}
+use Rattle.age_cli_common.specs.declared.identity.Identity.{Identity}
+use Rattle.age_cli.specs.Outputs.{kept_for}
+use Rattle.age_cli.specs.inner.Endings.{Concludes, opening_end}
+
+-- that of a run over these bytes, by this key, which wrote so many bytes
+abbrev pub IsFoundIn : Option (List ℕ) → List ℕ → ℕ → Position → Type 0
+IsFoundIn bytes key written p = (old : SourceView) × (new : SourceView)
+    × (old.remaining ≡ bytes) × IsFoundAgain (λ _ k. k ≡ key) old new written p
+
+-- a stop, had positions been kept
+abbrev pub stopped_at : Stopped → Position → Stopped
+stopped_at s p = record { fault = s.fault; written = s.written; position = Some p }
+
+-- the stop and the key by which the input is read once more, where that is to be done: it came to
+-- the payload
+abbrev pub again_of : Bool → Result Done Stopped → Option (List ℕ) → Option (Stopped × List ℕ)
+again_of reread (Err s) (Some key) = if reread then Some (s, key) else None
+again_of reread end key = None
+
+-- OUT was ended after a stop that dropped its position, by a sink that is this, and then the input
+-- was read once more: its position was found in what that holds now, and saved if it can be; or it
+-- wasn't found, and whatever it is, it isn't saved
+module _ (shows : Bool) (d : Decrypting) (sink : SinkView) (stopped : Stopped) (key : List ℕ)
+    (old new : FilesView) (ending : Ending) where
+  abbrev pub ConcludesAt : Position → Type 0
+  ConcludesAt p = Concludes shows (text_of d.save) d.durability sink
+      (opening_end (Err (stopped_at stopped p))) old new (Err ending)
+
+  abbrev pub ConcludesAgain : Type 0
+  ConcludesAgain = ((p : Position) × (shows ≡ true → d.from.now ≢ sink.label
+      → IsFoundIn (old.entries d.from.now) key stopped.written p) × ConcludesAt p)
+      ⊎ ((p : Position) → ConcludesAt p)
+
+-- IN is there, and is what the source gives; OUT is another file
+pub record HoldsInput (d : Decrypting) (before : Ports) (old : FilesView) : Type 0 where
+  pub there : is_some (old.entries d.from.now) ≡ true
+  pub gives : before.source.remaining ≡ old.entries d.from.now
+  pub other : d.from.now ≢ before.sink.label
+
+-- What was opened was decrypted, and OUT was ended. `decrypted` is how it ended; of a stop, it has
+-- the position that is saved, where contracts see the files and IN and OUT are two of them.
+pub record DecryptsOpened (IsPorts : Ports → Type 0) (shows : Bool) (d : Decrypting)
+    (identity : Identity) (before : Ports) (old new : FilesView) (Unshown : Type 0)
+    (result : Result (Unit {0}) Ending) : Type 0 where
+  pub after : Ports
+  pub after_is : IsPorts after
+  pub decrypted : Result Done Stopped
+  pub run : Option Run
+  pub done : IfOk decrypted
+      (λ done. IsSomeAnd run (DecryptEnds (allows_by identity) before after done))
+  pub stopped : shows ≡ true → HoldsInput d before old → IfErr decrypted (DecryptStops
+      (kept_for (text_of d.save)) (allows_by identity) (refuses_by identity) before after run)
+  pub named : after.sink.label ≡ before.sink.label
+  pub concludes : Concludes shows (text_of d.save) d.durability after.sink (opening_end decrypted)
+      old new result
+  pub silent : d.progress ≡ Silent → Unshown

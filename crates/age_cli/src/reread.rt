@@ -1,0 +1,89 @@
+//! How the position of a stop is found by reading the input once more.
+
+ghost use Rattle.std.specs.Prelude.{◌≡◌, true, is_some, IfOk, IfErr};
+ghost use Rattle.age_fault.specs.declared.fault.FileFault.TheVariants.{Read};
+ghost use Rattle.age_fileset.specs.FileSet.{IsMemoryOr};
+ghost use Rattle.age_cli_args.specs.Requests.{text_of};
+ghost use Rattle.age_cli_args.specs.declared.request.ProgressOption.TheVariants.{Silent};
+ghost use Rattle.age_cli_common.specs.FaultLines.{Announces};
+ghost use Rattle.age_cli.specs.inner.Rereadings.{IsFoundIn, ConcludesAgain};
+
+use crate::output::{leave, with_meter};
+use crate::stop::save;
+use age_cli_args::{Decrypting, ProgressOption};
+use age_cli_common::{Announcement, Ending, announce};
+use age_file::{FileFault, Position, Stopped, position_after};
+use age_fileset::FileSet;
+use age_io::{Meter, Sink, Source};
+use age_keys::KnownKey;
+use std::alloc::Global;
+
+/// What is read once more: the input, by the key that opened it, up to where it stopped.
+#[derive(Drop)]
+pub(crate) struct Again<S: Source> {
+    pub(crate) source: S,
+    pub(crate) key: KnownKey,
+    pub(crate) stopped: Stopped,
+}
+
+/// The position of a stop, by reading the input once more.
+#[tactic(auto, using(crate::proofs::RereadSteps::finds_so, crate::proofs::RereadSteps::fails_so))]
+fn find_again<F: FileSet, P: Meter>(
+    alloc: Global,
+    files: &F,
+    asked: &Decrypting<'_>,
+    again: Again<F::In>,
+    progress: &mut P,
+) -> Result<Position, FileFault>
+    ensures found { F.shows_bytes ≡ true → IfOk result (IsFoundIn
+        ((F.view files.now).entries asked.now.from.now) again.key again.stopped.written) }
+    ensures faults { IfErr result (IsMemoryOr Read) }
+    ensures silent { asked.now.progress ≡ Silent → progress.new ≡ progress.old }
+{
+    let Again {
+        mut source,
+        key,
+        stopped,
+    } = again;
+    files.reread(alloc, asked.from, &mut source)?;
+    match asked.progress {
+        ProgressOption::Silent => position_after(alloc, &key, stopped.written, &mut source),
+        ProgressOption::Shown => {
+            let mut metered = with_meter(files, source, &mut *progress);
+            let found = position_after(alloc, &key, stopped.written, &mut metered);
+            drop(metered);
+            progress.end();
+            found
+        }
+    }
+}
+
+/// Ends the output of a decryption that stopped and dropped its position, puts the line of its
+/// fault, and then finds the position and saves it: a second reading may take long.
+pub(crate) fn conclude_again<F: FileSet, E: Sink, P: Meter>(
+    alloc: Global,
+    files: &mut F,
+    out: F::Out,
+    asked: &Decrypting<'_>,
+    again: Again<F::In>,
+    faults: &mut E,
+    told: &mut Announcement,
+    progress: &mut P,
+) -> Ending
+    requires { is_some (text_of asked.now.save) ≡ true }
+    ensures announced { Announces told.new result (E.view faults.old) (E.view faults.new) ⊥ }
+    ensures again { ConcludesAgain (F.shows_bytes) asked.now (F.Out.view out) again.stopped
+        again.key (F.view files.old) (F.view files.new) result }
+    ensures silent { asked.now.progress ≡ Silent → progress.new ≡ progress.old }
+{
+    let Stopped { fault, written, .. } = again.stopped;
+    leave(files, out, written == 0, asked.durability);
+    *told = announce(faults, fault);
+    match find_again(alloc, files, asked, again, progress) {
+        Ok(position) => match save(alloc, files, asked.save, Some(position), asked.durability) {
+            Ok(()) => Ending::Fault(fault),
+            Err(second) => Ending::Unsaved(fault, second),
+        },
+        Err(second) => Ending::Unsaved(fault, second),
+    }
+}
