@@ -86,9 +86,10 @@ def words_of() -> argparse.Namespace:
     for call, what in ((encrypt, "encrypt IN to OUT under a passphrase"), (decrypt, "decrypt IN to OUT"), (test, "decrypt IN to nowhere")):
         command = commands.add_parser(call.__name__, help=what, description=what)
         command.set_defaults(call=call)
-        command.add_argument("--pass", dest="passphrase", metavar="FILE", help="the file with the passphrase, which is asked for otherwise")
+        keys = command.add_mutually_exclusive_group()
+        keys.add_argument("--pass", dest="passphrase", metavar="FILE", help="the file with the passphrase, which is asked for otherwise")
         if call is not encrypt:
-            command.add_argument("--identity", dest="keys", metavar="FILE", help="a file of age-keygen, whose keys open IN")
+            keys.add_argument("--identity", dest="keys", metavar="FILE", help="a file of age-keygen, whose keys open IN")
         if call is encrypt:
             command.add_argument("--log", type=int, default=18, metavar="N", help="the work factor, 1 to 22: it takes 2^N KiB (18)")
         else:
