@@ -6,6 +6,7 @@ import os
 import pathlib
 import pickle
 import random
+import shutil
 import signal
 import socket
 import subprocess
@@ -35,6 +36,7 @@ class Tests:
         self.commands()
         self.bech32()
         self.identities()
+        self.files_of_age()
         self.any_place()
         self.zip_members()
         self.damage_at_a_place()
@@ -190,6 +192,22 @@ class Tests:
             fault = self.raised(lambda: agefile.open(io.BytesIO(given), identity=key[0]).read())
             self.see(getattr(fault, "number", None) == number, f"Python: a file {what}, by a key: {fault!r}")
 
+
+    def files_of_age(self):
+        """What age makes for keys of its own, where it is installed."""
+        if not (shutil.which("age") and shutil.which("age-keygen")):
+            print("not run here: files that age makes (needs age)")
+            return
+        keys = [subprocess.run(["age-keygen"], capture_output=True, text=True, check=True).stdout for _ in range(3)]
+        recipients = [word for it in keys for word in it.split() if word.startswith("age1")]
+        for length in (0, 1, 65_536, 200_000):
+            text = random.Random(length).randbytes(length)
+            for count in (1, 3):
+                words = [part for it in recipients[-count:] for part in ("-r", it)]
+                data = subprocess.run(["age", *words], input=text, capture_output=True, check=True).stdout
+                for any_place in (False, True):
+                    with agefile.open(io.BytesIO(data), identity=_keys.identities_in(keys[-1]), random_access=any_place) as file:
+                        self.see(file.read() == text, f"Python: a file of age of {length} bytes for {count}")
 
     def at_any_place(self, file):
         return agefile.open(file, file_key=KEY, random_access=True)
