@@ -27,8 +27,8 @@ func OpenAt(file io.ReaderAt, size int64, key Key) (*File, error) {
 	}
 	var text, last C.uint64_t
 	if answer := C.age_c_size(&head.reader, C.uint64_t(size), &text, &last); answer != 0 {
-		payload := size - int64(head.reader.payload_at)
-		return nil, &Fault{Number: uint32(answer), Chunk: payload / C.AGE_C_BLOCK}
+		head.reader.fault_chunk = (C.uint64_t(size) - head.reader.payload_at) / C.AGE_C_BLOCK
+		return nil, blockFault(answer, &head.reader)
 	}
 	r := &places{file: file, begun: head.reader, end: size, kept: -1}
 	r.size, r.last = int64(text), int64(last)
