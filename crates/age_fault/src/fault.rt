@@ -3,8 +3,10 @@
 ghost use Rattle.std.specs.Prelude.{◌≡◌};
 ghost use Rattle.age_fault.specs.declared.fault.FileFault.TheVariants.{Stream};
 ghost use Rattle.age_fault.specs.declared.fault.FileFault.TheVariants.{Memory as MemoryFault};
-ghost use Rattle.age_fault.specs.Faults.{number_of, place_of, name_of, head_name_of, key_name_of};
-ghost use Rattle.age_fault.specs.Faults.{stream_name_of};
+ghost use Rattle.age_fault.specs.Faults.{number_of, place_of, name_of, name_by};
+ghost use Rattle.age_stanza.specs.FaultNumbers.{number_of as head_number_of};
+ghost use Rattle.age_keys.specs.FaultNumbers.{number_of as key_number_of};
+ghost use Rattle.age_chunk.specs.FaultNumbers.{number_of as stream_number_of};
 ghost use Rattle.age_fault.specs.inner.Faults.{fault_of, fault_of_key};
 
 use age_chunk::{StreamFault, StreamKind};
@@ -169,7 +171,7 @@ impl FileFault {
 }
 
 fn head_name(kind: HeadKind) -> &'static str
-    ensures { result.now ≡ head_name_of kind }
+    ensures { result.now ≡ name_by (head_number_of kind) }
 {
     match kind {
         HeadKind::NotAge => "NotAge",
@@ -185,7 +187,7 @@ fn head_name(kind: HeadKind) -> &'static str
 }
 
 fn key_name(fault: KeyFault) -> &'static str
-    ensures { result.now ≡ key_name_of fault }
+    ensures { result.now ≡ name_by (key_number_of fault) }
 {
     match fault {
         KeyFault::ScryptNotAlone => "ScryptNotAlone",
@@ -200,7 +202,7 @@ fn key_name(fault: KeyFault) -> &'static str
 }
 
 fn stream_name(kind: StreamKind) -> &'static str
-    ensures { result.now ≡ stream_name_of kind }
+    ensures { result.now ≡ name_by (stream_number_of kind) }
 {
     match kind {
         StreamKind::ChunkDamaged => "ChunkDamaged",
