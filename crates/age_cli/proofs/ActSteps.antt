@@ -1,7 +1,8 @@
 -- What a command did, from what its steps did.
-use Rattle.std.proofs.Common.{◌≡◌, ◌∙◌, ◌⊎◌, ◌++◌, None, ap, sym, inl, inr, Bool, true, false, true≢false, List}
+use Rattle.std.proofs.Common.{◌≡◌, ◌∙◌, ◌⊎◌, ◌++◌, Option, Some, None, ap, sym, inl, inr, Bool, true, false, true≢false, List}
 use Rattle.std.proofs.Common.{Result, OnOk, IfErr}
 use Rattle.std.specs.Prelude.{IsErr, IsErrAnd}
+use Rattle.age_io.specs.Progress.{Adds, Ends, IsOver, Shown as ShownOne}
 use Rattle.age_file.specs.Ports.{Ports}
 use Rattle.age_fileset.specs.Events.{Event}
 use Rattle.age_fileset.specs.FileSet.{FilesView}
@@ -39,9 +40,9 @@ whole_of (Resume r) old new f = longer _ (replacing (text_of r.decrypting.save) 
 whole_of (Inspect file) old new f = f
 whole_of (Drill d) old new f = f
 
-module _ (IsPorts : Ports → Type 0) (shows : Bool) (asked : Request) (before after : FilesView) (Failed Unshown : Type 0) (r : Result (Unit {0}) Ending) where
+module _ (IsPorts : Ports → Type 0) (shows : Bool) (asked : Request) (before after : FilesView) (Failed Unshown Over : Type 0) (r : Result (Unit {0}) Ending) where
   abbrev pub Acted : Type 0
-  Acted = Acts IsPorts shows asked before after Failed Unshown r
+  Acted = Acts IsPorts shows asked before after Failed Unshown Over r
 
   -- a command ended early, with this ending
   pub acts_early : (e : Ending) → IsErr r × IsErrAnd r (λ x. x ≡ e) → after.entries ≡ before.entries → (shows ≡ true → EndsBefore asked before.entries e)
@@ -64,6 +65,7 @@ module _ (IsPorts : Ports → Type 0) (shows : Bool) (asked : Request) (before a
     order_shown = λ shown. this_error r e is _ (judged shown);
     apart = λ twice. let refused = apart twice in (refused.0, just_error r e is IsUsage refused.1);
     silent = λ unasked. silent;
+    over = inl silent;
   }
 
   -- a command ended once its engine had run
@@ -71,8 +73,8 @@ module _ (IsPorts : Ports → Type 0) (shows : Bool) (asked : Request) (before a
       → OnOk r (OfSomeEngine IsPorts asked (HasEnded IsPorts)) → (shows ≡ true → IfErr r (λ e. OfEngine IsPorts asked before.entries (λ engine paths. Stops IsPorts engine paths before.entries after.entries e)))
       → IfErr r (λ e. is_usage e ≡ false) → (shows ≡ true → Spares asked before.entries after.entries)
       → Follows (order_asked asked).whole before.events after.events → OnOk r (after.events ≡ before.events ++ (order_asked asked).done)
-      → (NamesTwice (order_asked asked).apart → ⊥) → (progress_of asked ≡ Silent → Unshown) → Acted
-  acts_concluded done ran stops fault spares order finished apart silent =
+      → (NamesTwice (order_asked asked).apart → ⊥) → (progress_of asked ≡ Silent → Unshown) × (Unshown ⊎ Over) → Acted
+  acts_concluded done ran stops fault spares order finished apart shown =
       let impossible : (P : Type 0) → IfErr r (λ e. IsUsage e → P) =
       λ P. IfErr-weaker r _ _ (λ e no usage. absurd (true≢false (sym usage ∙ no))) fault in
       record {
@@ -87,8 +89,16 @@ module _ (IsPorts : Ports → Type 0) (shows : Bool) (asked : Request) (before a
         order_usage = impossible _;
         order_shown = λ shown. impossible _;
         apart = λ twice. absurd (apart twice);
-        silent = silent;
+        silent = shown.0;
+        over = shown.1;
       }
+
+-- a meter that was shown that its run is over
+pub is_over : (old new : Option (List ShownOne)) → Adds old new Ends → IsOver new
+is_over None None added = tt
+is_over None (Some now) added = cc
+is_over (Some shown) None added = absurd added
+is_over (Some shown) (Some now) added = (shown, added)
 
 pub shown_not_silent : Shown ≡ Silent → ⊥
 shown_not_silent is = cc

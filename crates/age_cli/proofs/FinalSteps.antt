@@ -1,5 +1,5 @@
 -- What a command did whose engine ran.
-use Rattle.std.proofs.Common.{◌≡◌, ◌∙◌, ◌++◌, ◌∷◌, ap, sym, subst, refl, inl, inr, true, List, [], Bool, Some, None, append-nil}
+use Rattle.std.proofs.Common.{◌≡◌, ◌⊎◌, ◌∙◌, ◌++◌, ◌∷◌, ap, sym, subst, refl, inl, inr, true, List, [], Bool, Some, None, append-nil}
 use Rattle.std.proofs.Common.{Result, Ok, Err, OnOk, IfOk, IfErr}
 use Rattle.std.specs.Prelude.{is_some}
 use Rattle.std.proofs.lemmas.Result.{on_ok_weaker, IfErr-weaker}
@@ -63,7 +63,7 @@ abbrev pub WasEarlier : Resuming → Position → Files → SourceView → Type 
 WasEarlier a from old first = IsPositionIn (old a.position.now) from × (is_some (old_for from (old a.old.now)) ≡ true)
     × (first.remaining ≡ old_for from (old a.old.now))
 
-module _ (IsPorts : Ports → Type 0) (shows : Bool) (asked : Request) (old opened new : FilesView) (Failed Unshown : Type 0) (engine : Engine) (p : Paths)
+module _ (IsPorts : Ports → Type 0) (shows : Bool) (asked : Request) (old opened new : FilesView) (Failed Unshown Over : Type 0) (engine : Engine) (p : Paths)
     (durability : Durability) (before after : Ports) (end : Result (Unit {0}) Stop) (r : Result (Unit {0}) Ending) (xs ys : List Event) where
   acts_of_engine : IsPorts before → IsPorts after → (order_asked asked).done ≡ xs ++ (ys ++ making (Some p.to) durability)
       → (order_asked asked).whole ≡ (xs ++ (ys ++ making (Some p.to) durability)) ++ replacing p.save durability
@@ -73,9 +73,9 @@ module _ (IsPorts : Ports → Type 0) (shows : Bool) (asked : Request) (old open
       → opened.entries ≡ old.entries → (shows ≡ true → Found p old.entries before) → after.sink.label ≡ before.sink.label
       → (shows ≡ true → before.sink.taken ≡ Some [] → Kept engine before after end) → Concludes shows p.save durability after.sink end opened new r
       → opened.events ≡ old.events ++ (xs ++ (ys ++ Created p.to ∷ [])) → (NamesTwice (order_asked asked).apart → ⊥) → (p.save ≡ Some p.to → ⊥)
-      → (progress_of asked ≡ Silent → Unshown) → Acts IsPorts shows asked old new Failed Unshown r
+      → (progress_of asked ≡ Silent → Unshown) × (Unshown ⊎ Over) → Acts IsPorts shows asked old new Failed Unshown Over r
   acts_of_engine before_is after_is done_is whole_is of ran spares kept found named promise concludes noted apart unsaved silent =
-      acts_concluded IsPorts shows asked old new Failed Unshown r
+      acts_concluded IsPorts shows asked old new Failed Unshown Over r
       (on_ok_weaker r (λ wrote shown. of shown (λ e q. Writes IsPorts e q old.entries new.entries) (wrote shown))
       (wrote_out IsPorts engine shows p durability old opened new before after before_is after_is end r kept found named promise concludes))
       (on_ok_weaker r (λ done. ends_so end ran done.0) concludes.done)
@@ -90,7 +90,7 @@ module _ (IsPorts : Ports → Type 0) (shows : Bool) (asked : Request) (old open
       concludes.order_done)
       apart silent
 
-module _ (IsPorts : Ports → Type 0) (shows : Bool) (old opened new : FilesView) (Failed Unshown : Type 0) (before after : Ports) (before_is : IsPorts before)
+module _ (IsPorts : Ports → Type 0) (shows : Bool) (old opened new : FilesView) (Failed Unshown Over : Type 0) (before after : Ports) (before_is : IsPorts before)
     (after_is : IsPorts after) (end : Result (Unit {0}) Stop) (r : Result (Unit {0}) Ending) (kept : opened.entries ≡ old.entries) where
   pub encrypt_acts : (e : Encrypting) (secret : SecretView) (sealed : Result Written FileFault) → (shows ≡ true → MakesSecret e old.entries secret)
       → (shows ≡ true → Found (record { from = e.from.now; to = e.to.now; save = None }) old.entries before) → end ≡ sealing_end sealed
@@ -98,10 +98,10 @@ module _ (IsPorts : Ports → Type 0) (shows : Bool) (old opened new : FilesView
       → Concludes shows None e.durability after.sink end opened new r
       → opened.events ≡ old.events
       ++ ((Opened e.pass.now ∷ Opened (random_name (text_of e.random)) ∷ []) ++ (Opened e.from.now ∷ Created e.to.now ∷ []))
-      → (NamesTwice (order_asked (Encrypt e)).apart → ⊥) → (e.progress ≡ Silent → Unshown)
-      → Acts IsPorts shows (Encrypt e) old new Failed Unshown r
+      → (NamesTwice (order_asked (Encrypt e)).apart → ⊥) → (e.progress ≡ Silent → Unshown) × (Unshown ⊎ Over)
+      → Acts IsPorts shows (Encrypt e) old new Failed Unshown Over r
   encrypt_acts e secret sealed made found is ends fails named concludes noted apart silent =
-      acts_of_engine IsPorts shows (Encrypt e) old opened new Failed Unshown (sealing secret) (record { from = e.from.now; to = e.to.now; save = None }) e.durability
+      acts_of_engine IsPorts shows (Encrypt e) old opened new Failed Unshown Over (sealing secret) (record { from = e.from.now; to = e.to.now; save = None }) e.durability
       before after end r (Opened e.pass.now ∷ Opened (random_name (text_of e.random)) ∷ []) (Opened e.from.now ∷ []) before_is after_is refl
       refl
       (λ shown P holds. (secret, made shown, holds))
@@ -121,15 +121,15 @@ module _ (IsPorts : Ports → Type 0) (shows : Bool) (old opened new : FilesView
       → Concludes shows (text_of a.decrypting.save) a.decrypting.durability after.sink end opened new r
       → opened.events ≡ old.events ++ (identity_order (text_of a.decrypting.identity.pass) (text_of a.decrypting.identity.shared)
       ++ ((Opened a.position.now ∷ Opened a.old.now ∷ Opened a.decrypting.from.now ∷ preparing (text_of a.decrypting.save)) ++ Created a.decrypting.to.now ∷ []))
-      → (NamesTwice (order_asked (Resume a)).apart → ⊥) → (a.decrypting.progress ≡ Silent → Unshown)
-      → Acts IsPorts shows (Resume a) old new Failed Unshown r
+      → (NamesTwice (order_asked (Resume a)).apart → ⊥) → (a.decrypting.progress ≡ Silent → Unshown) × (Unshown ⊎ Over)
+      → Acts IsPorts shows (Resume a) old new Failed Unshown Over r
   resume_acts a keep identity from first last resumed by opens earlier first_is last_is found keep_is is promise concludes noted apart silent =
       let d = a.decrypting in
       let k = kept_for (text_of d.save) in
       let engine = resuming IsPorts k identity from (old_for from (old.entries a.old.now)) in
       let did = subst (λ (x : Positions). ResumesText x (allows_by identity) (refuses_by identity) from (resume_ports before first) (resume_ports after last)
       resumed) keep_is promise in
-      acts_of_engine IsPorts shows (Resume a) old opened new Failed Unshown engine (paths_of d) d.durability before after end r
+      acts_of_engine IsPorts shows (Resume a) old opened new Failed Unshown Over engine (paths_of d) d.durability before after end r
       (identity_order (text_of d.identity.pass) (text_of d.identity.shared))
       (Opened a.position.now ∷ Opened a.old.now ∷ Opened d.from.now ∷ preparing (text_of d.save)) before_is after_is refl refl
       (λ shown P holds. (identity, opens shown, from, (earlier shown).0, (earlier shown).1, holds))
@@ -142,14 +142,14 @@ module _ (IsPorts : Ports → Type 0) (shows : Bool) (old opened new : FilesView
       did.done did.stopped empty)) concludes noted apart
       (λ same. apart (inr (inl (inl (d.to.now, same, refl))))) silent
 
-module _ (IsPorts : Ports → Type 0) (shows : Bool) (old opened new : FilesView) (Failed Unshown : Type 0) (before : Ports) (before_is : IsPorts before)
+module _ (IsPorts : Ports → Type 0) (shows : Bool) (old opened new : FilesView) (Failed Unshown Over : Type 0) (before : Ports) (before_is : IsPorts before)
     (r : Result (Unit {0}) Ending) (kept : opened.entries ≡ old.entries) where
   pub decrypt_acts : (d : Decrypting) (identity : Identity) → ((files : Files) × OpensBy files d.identity identity)
       → (shows ≡ true → OpensBy old.entries d.identity identity) → (shows ≡ true → Found (paths_of d) old.entries before)
-      → DecryptsOpened IsPorts shows d identity before opened new Unshown r
+      → DecryptsOpened IsPorts shows d identity before opened new Unshown Over r
       → opened.events ≡ old.events ++ (identity_order (text_of d.identity.pass) (text_of d.identity.shared)
       ++ ((Opened d.from.now ∷ preparing (text_of d.save)) ++ Created d.to.now ∷ []))
-      → (NamesTwice (order_asked (Decrypt d)).apart → ⊥) → Acts IsPorts shows (Decrypt d) old new Failed Unshown r
+      → (NamesTwice (order_asked (Decrypt d)).apart → ⊥) → Acts IsPorts shows (Decrypt d) old new Failed Unshown Over r
   decrypt_acts d identity by opens found did noted apart =
       let k = kept_for (text_of d.save) in
       let holds : shows ≡ true → HoldsInput d before opened =
@@ -158,10 +158,10 @@ module _ (IsPorts : Ports → Type 0) (shows : Bool) (old opened new : FilesView
         gives = f.1 ∙ ap (λ (files : Files). files d.from.now) (sym kept);
         other = λ e. apart (inl (inr (inl (d.to.now, refl, ap Some (e ∙ f.3)))));
       } in
-      acts_of_engine IsPorts shows (Decrypt d) old opened new Failed Unshown (opening k identity) (paths_of d) d.durability before did.after
+      acts_of_engine IsPorts shows (Decrypt d) old opened new Failed Unshown Over (opening k identity) (paths_of d) d.durability before did.after
       (opening_end did.decrypted) r (identity_order (text_of d.identity.pass) (text_of d.identity.shared)) (Opened d.from.now ∷ preparing (text_of d.save))
       before_is did.after_is refl refl (λ shown P holds. (identity, opens shown, holds))
       (opening_ran did.decrypted (λ done so. let of = the_run did.run so in
       (identity, by, (before, did.after, before_is, did.after_is, (done, of.0, of.1)))) did.done) (λ spared. spared) kept found did.named
       (λ shown empty. kept_opening k identity before did.after did.run did.decrypted did.done (did.stopped shown (holds shown)) empty) did.concludes noted apart
-      (λ same. apart (inr (inl (inl (d.to.now, same, refl))))) did.silent
+      (λ same. apart (inr (inl (inl (d.to.now, same, refl))))) (did.silent, did.over)

@@ -20,7 +20,7 @@ use Rattle.age_file.specs.declared.position.Positions.{Positions}
 use Rattle.age_file.specs.declared.position.Position.{Position}
 use Rattle.age_fileset.specs.FileSet.{FilesView}
 use Rattle.age_fault.specs.declared.fault.FileFault.{FileFault}
-use Rattle.age_cli_args.specs.Asked.{Asks, refusals}
+use Rattle.age_cli_args.specs.Asked.{Asks, IsForHelp, refusals}
 use Rattle.age_cli_args.specs.Requests.{IsIdentityOptions, IsDecrypting, IsResuming, Requests, text_of}
 use Rattle.age_cli_args.specs.declared.request.IdentityOptions.{IdentityOptions}
 use Rattle.age_cli_args.specs.declared.request.Decrypting.{Decrypting}
@@ -36,7 +36,7 @@ use Rattle.age_cli_common.specs.declared.ending.Ending.{Ending}
 use Rattle.age_cli.specs.Acts.{Acts, EndsBefore, OfEngine}
 use Rattle.age_cli.specs.Engines.{opening, resuming, Ran}
 use Rattle.age_cli.specs.Outputs.{IsLeft, IsUnclosed, Stops, Writes, kept_for}
-use Rattle.age_cli.specs.Obeying.{Around, IsForHelp, IsRefusal, Obeys, Prints}
+use Rattle.age_cli.specs.Obeying.{Around, Obeys, Prints}
 use Rattle.age_cli_common.specs.Reasons.{HasReason}
 use Rattle.age_cli.specs.Resumptions.{IsPositionIn, old_for}
 use Rattle.age_cli.proofs.CommandStopSteps.{stop_wrote, resume_wrote}
@@ -285,7 +285,7 @@ kept_whole old new status text whole = record { safe = inr (text, whole, ([], ap
 kept_stopped : (old new : Option (List ℕ)) (status : ℕ) (text : List ℕ) → (status ≡ 0 → ⊥) → HoldsNoMore old new text → KeepsOut old new status text
 kept_stopped old new status text failed safe = record { safe = safe; whole = λ zero. absurd (failed zero) }
 
-module _ (words : List Text) (shows : Bool) (IsPorts : Ports → Type 0) (before after : Around) (Failed Unread Unprinted Unshown : Type 0) (status : ℕ) (text : List ℕ)
+module _ (words : List Text) (shows : Bool) (IsPorts : Ports → Type 0) (before after : Around) (Failed Unread Unprinted Unshown Over : Type 0) (status : ℕ) (text : List ℕ)
     (shown : shows ≡ true) where
   abbrev pub old : Files
   old = before.files.entries
@@ -318,7 +318,7 @@ module _ (words : List Text) (shows : Bool) (IsPorts : Ports → Type 0) (before
 
   -- of what is asked, whichever request was made of the words
   pub headline_of : (r : Result (Unit {0}) Ending) → OnErr r (status ≡ 0 → ⊥)
-      → Obeys words shows IsPorts before after Failed Unread Unprinted Unshown r → (d : Decrypting) → Requests words (Decrypt d)
+      → Obeys words shows IsPorts before after Failed Unread Unprinted Unshown Over r → (d : Decrypting) → Requests words (Decrypt d)
       → IsWritersInput d old text → KeepsOut (old d.to.now) (new d.to.now) status text
   headline_of r failed (inl o) d (name, rows, asks, is) auth = absurd (no_command words name rows o.none asks)
   headline_of r failed (inr (inr o)) d (name, rows, asks, is) auth = declined r failed o.done asks.taken o.untouched d.to.now
@@ -328,7 +328,7 @@ module _ (words : List Text) (shows : Bool) (IsPorts : Ports → Type 0) (before
       let same = only.2 in
       let mine : IsWritersInput e old text = λ identity opens run from read.
       auth identity (same.opens old identity opens) run from (subst (λ (t : Text). IsRead identity (old t) run) same.from read) in
-      let acts = subst (λ (q : Request). Acts IsPorts shows q before.files after.files Failed Unshown r) only.1 o.acts in
+      let acts = subst (λ (q : Request). Acts IsPorts shows q before.files after.files Failed Unshown Over r) only.1 o.acts in
       subst (λ (t : Text). KeepsOut (old t) (new t) status text) same.to (decrypted e mine r failed acts.done (acts.stops shown))
 
   module _ (s : Resuming) (auth : IsWritersResumption s old text) where
@@ -356,7 +356,7 @@ module _ (words : List Text) (shows : Bool) (IsPorts : Ports → Type 0) (before
         IsPorts (kept_for (text_of d.save)) (old d.to.now) (new d.to.now) did.5.position did.5.fault did.5.output)
 
   pub resumed_headline_of : (r : Result (Unit {0}) Ending) → OnErr r (status ≡ 0 → ⊥)
-      → Obeys words shows IsPorts before after Failed Unread Unprinted Unshown r → (a : Resuming) → Requests words (Resume a)
+      → Obeys words shows IsPorts before after Failed Unread Unprinted Unshown Over r → (a : Resuming) → Requests words (Resume a)
       → IsWritersResumption a old text → KeepsOut (old a.decrypting.to.now) (new a.decrypting.to.now) status text
   resumed_headline_of r failed (inl o) a (name, rows, asks, is) auth = absurd (no_command words name rows o.none asks)
   resumed_headline_of r failed (inr (inr o)) a (name, rows, asks, is) auth = declined r failed o.done asks.taken o.untouched a.decrypting.to.now
@@ -373,5 +373,5 @@ module _ (words : List Text) (shows : Bool) (IsPorts : Ports → Type 0) (before
         rest = λ p is identity opens run from read. auth.rest p (at p is) identity (d.opens old identity opens) run from
             (subst (λ (t : Text). IsRead identity (old t) run) d.from read);
       } in
-      let acts = subst (λ (q : Request). Acts IsPorts shows q before.files after.files Failed Unshown r) only.1 o.acts in
+      let acts = subst (λ (q : Request). Acts IsPorts shows q before.files after.files Failed Unshown Over r) only.1 o.acts in
       subst (λ (t : Text). KeepsOut (old t) (new t) status text) d.to (resumed s mine r failed acts.done (acts.stops shown))

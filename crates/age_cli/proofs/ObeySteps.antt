@@ -11,7 +11,7 @@ use Rattle.clap.specs.Kinds.{IsAmong, HasKind}
 use Rattle.clap.specs.Values.{kind_of}
 use Rattle.clap.specs.declared.error.Error.{Error}
 use Rattle.clap.specs.declared.error.kind.ErrorKind.{ErrorKind}
-use Rattle.age_cli_args.specs.Asked.{refusals}
+use Rattle.age_cli_args.specs.Asked.{IsForHelp, refusals}
 use Rattle.age_cli_args.specs.declared.request.Request.TheVariants.{Inspect, Drill}
 use Rattle.age_cli_args.specs.declared.request.Drilling.{Drilling}
 use Rattle.age_file.specs.Ports.{Ports}
@@ -21,7 +21,7 @@ use Rattle.age_cli_common.specs.EventOrders.{Follows}
 use Rattle.age_cli_common.specs.Orders.{order_asked}
 use Rattle.age_cli_common.specs.declared.ending.Ending.{Ending}
 use Rattle.age_cli.specs.Acts.{Acts}
-use Rattle.age_cli.specs.Obeying.{FailsWriting, IsForHelp, IsRefusal, Prints, Reported}
+use Rattle.age_cli.specs.Obeying.{FailsWriting, IsRefusal, Prints, Reported}
 use Rattle.age_io.specs.Views.{SinkView}
 use Rattle.age_cli.specs.Inspections.{FailsReport}
 use Rattle.age_cli_args.specs.Requests.{Requests}
@@ -109,11 +109,11 @@ every_fault : {A : Type 0} (r : Result A Ending) (P : Ending → Type 0) → ((e
 every_fault (Ok x) P h = tt
 every_fault (Err e) P h = h e
 
-module _ (IsPorts : Ports → Type 0) (shows : Bool) (before after : FilesView) (Failed Unshown : Type 0) (r : Result (Unit {0}) Ending)
+module _ (IsPorts : Ports → Type 0) (shows : Bool) (before after : FilesView) (Failed Unshown Over : Type 0) (r : Result (Unit {0}) Ending)
     (kept : after.entries ≡ before.entries) (silent : Unshown) where
   -- of a drill
   pub drill_acts : (d : Drilling) → Follows (order_asked (Drill d)).whole before.events after.events
-      → OnOk r (after.events ≡ before.events ++ (order_asked (Drill d)).done) → Acts IsPorts shows (Drill d) before after Failed Unshown r
+      → OnOk r (after.events ≡ before.events ++ (order_asked (Drill d)).done) → Acts IsPorts shows (Drill d) before after Failed Unshown Over r
   drill_acts d whole finished = record {
     done = always r _ (λ shown. tt);
     ran = always r _ tt;
@@ -127,11 +127,12 @@ module _ (IsPorts : Ports → Type 0) (shows : Bool) (before after : FilesView) 
     order_shown = λ shown. every_fault r _ (λ e usage. whole);
     apart = λ twice. absurd twice;
     silent = λ asked. silent;
+    over = inl silent;
   }
 
   -- of a report: a file is opened, or none, and no fault is one of the words
   pub inspect_acts : (file : Option (Bor Text)) → after.events ≡ before.events ++ (order_asked (Inspect file)).done → IfErr r (λ e. is_usage e ≡ false)
-      → Acts IsPorts shows (Inspect file) before after Failed Unshown r
+      → Acts IsPorts shows (Inspect file) before after Failed Unshown Over r
   inspect_acts file noted fault =
       let impossible : (P : Type 0) → IfErr r (λ e. IsUsage e → P) =
       λ P. IfErr-weaker r _ _ (λ e no usage. absurd (true≢false (sym usage ∙ no))) fault in
@@ -148,4 +149,5 @@ module _ (IsPorts : Ports → Type 0) (shows : Bool) (before after : FilesView) 
         order_shown = λ shown. impossible _;
         apart = λ twice. absurd twice;
         silent = λ asked. silent;
+        over = inl silent;
       }

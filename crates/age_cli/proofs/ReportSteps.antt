@@ -2,7 +2,7 @@
 use Rattle.std.proofs.Common.{◌≡◌, ◌∙◌, ◌⊎◌, inl, inr, arith, refl, sym, subst, ℕ, Bool, true, false, List, Option, None}
 use Rattle.std.proofs.Common.{Result, Ok, Err}
 use Rattle.std.specs.Prelude.{OnErr}
-use Rattle.age_fault.proofs.Bytes.{Appends-then}
+use Rattle.age_fault.proofs.Bytes.{Appends-then, risen}
 use Rattle.age_fault.specs.Faults.{HasRisen}
 use Rattle.age_cli_common.specs.Endings.{is_usage}
 use Rattle.age_cli_common.specs.FaultLines.{Announces, ReportsEnding, ReportsRest, Takes, Tells, fault_line}
@@ -86,6 +86,10 @@ report_fails old new OtherFile h = absurd h
 report_fails old new ShortText h = absurd h
 report_fails old new PositionForged h = absurd h
 report_fails old new OldTextDiffers h = absurd h
+
+-- and one that can't be read has a source that failed
+pub read_fails : (old new : SourceView) (f : FileFault) → HeadFails NoHeadFault old new f → f ≡ Read → HasRisen old.failed new.failed
+read_fails old new f h is = risen _ _ (subst (λ (x : FileFault). HeadFails NoHeadFault old new x) is h).1.0
 
 -- so has one of a file of which contracts see nothing
 unseen : (held : Option (List ℕ)) (e : Ending) → FailsReport held e → FailsReport None e

@@ -80,12 +80,12 @@ stopped_so false (Err s) (Some k) keep other i before after none same d =
     subst (λ (x : Positions). DecryptStops x (allows_by i) (refuses_by i) before after d.is.run s) (same refl) d.is.stopped
 
 module _ (IsPorts : Ports → Type 0) (shows : Bool) (d : Decrypting) (i : Identity) (before after : Ports) (after_is : IsPorts after) (old new : FilesView)
-    (Unshown : Type 0) (silent : d.progress ≡ Silent → Unshown) where
+    (Unshown Over : Type 0) (silent : d.progress ≡ Silent → Unshown) (over : Unshown ⊎ Over) where
   pub opened_once : (reread : Bool) (end : Result Done Stopped) (key : Option (List ℕ)) (keep : Positions) (r : Result (Unit {0}) Ending)
       → again_of reread end key ≡ None → (reread ≡ false → keep ≡ kept_for (text_of d.save))
       → DecryptsKeyed keep (allows_by i) (refuses_by i) before after end key
       → (engine : Result (Unit {0}) Stop) → engine ≡ opening_end end → Concludes shows (text_of d.save) d.durability after.sink engine old new r
-      → DecryptsOpened IsPorts shows d i before old new Unshown r
+      → DecryptsOpened IsPorts shows d i before old new Unshown Over r
   opened_once reread end key keep r none same did engine is concludes = record {
     after = after;
     after_is = after_is;
@@ -96,6 +96,7 @@ module _ (IsPorts : Ports → Type 0) (shows : Bool) (d : Decrypting) (i : Ident
     named = did.is.named;
     concludes = subst (λ (e : Result (Unit {0}) Stop). Concludes shows (text_of d.save) d.durability after.sink e old new r) is concludes;
     silent = silent;
+    over = over;
   }
 
   module _ (law : ReadAgain Identity allows_by refuses_by) (s : Stopped) (key : List ℕ) (saves : is_some (text_of d.save) ≡ true) (ending : Ending)
@@ -119,7 +120,7 @@ module _ (IsPorts : Ports → Type 0) (shows : Bool) (d : Decrypting) (i : Ident
 
     opened_at : (p : Position) → (shows ≡ true → HoldsInput d before old → At Kept did.is.run p)
         → Concludes shows (text_of d.save) d.durability after.sink (opening_end (Err (stopped_at s p))) old new (Err ending)
-        → DecryptsOpened IsPorts shows d i before old new Unshown (Err ending)
+        → DecryptsOpened IsPorts shows d i before old new Unshown Over (Err ending)
     opened_at p stops concludes = record {
       after = after;
       after_is = after_is;
@@ -130,9 +131,10 @@ module _ (IsPorts : Ports → Type 0) (shows : Bool) (d : Decrypting) (i : Ident
       named = did.is.named;
       concludes = concludes;
       silent = silent;
+      over = over;
     }
 
-    pub opened_again : ConcludesAgain shows d after.sink s key old new ending → DecryptsOpened IsPorts shows d i before old new Unshown (Err ending)
+    pub opened_again : ConcludesAgain shows d after.sink s key old new ending → DecryptsOpened IsPorts shows d i before old new Unshown Over (Err ending)
     opened_again (inl (p, found, concludes)) =
         opened_at p (λ shown holds. found_so did.is.run p did.found did.is.stopped holds (found shown (λ e. holds.other (e ∙ did.is.named)))) concludes
     opened_again (inr all) =
@@ -146,6 +148,13 @@ keyed_as keep i before after end key s k dropped stopped known did =
     subst (λ (x : Option (List ℕ)). DecryptsKeyed Dropped (allows_by i) (refuses_by i) before after (Err s) x) known
     (subst (λ (x : Result Done Stopped). DecryptsKeyed Dropped (allows_by i) (refuses_by i) before after x key) stopped
     (subst (λ (x : Positions). DecryptsKeyed x (allows_by i) (refuses_by i) before after end key) dropped did))
+
+-- progress that was shown, and then perhaps shown again, is over
+pub over_again : {P : Type 0} (first second third : P) (OverAt : P → Type 0) → (second ≡ first) ⊎ OverAt second → (third ≡ second) ⊎ OverAt third
+    → (third ≡ first) ⊎ OverAt third
+over_again first second third OverAt once (inr over) = inr over
+over_again first second third OverAt (inl none) (inl same) = inl (same ∙ none)
+over_again first second third OverAt (inr over) (inl same) = inr (subst OverAt (sym same) over)
 
 -- a position that was found by this key, over these bytes
 pub finds_so : (bytes : Option (List ℕ)) (key : List ℕ) (old new : SourceView) (written : ℕ) (r : Result Position FileFault) → old.remaining ≡ bytes

@@ -99,9 +99,10 @@ module _ (IsPorts : Ports → Type 0) where
       × engine.ends before after
 
   -- What stands before and after a command; `shows` says whether contracts see the files, `Failed`
-  -- that a source of these failed, and `Unshown` that the progress is as it was.
+  -- that a source of these failed, `Unshown` that the progress is as it was, and `Over` that the last
+  -- that was shown of it is that it is over.
   pub record Acts (shows : Bool) (asked : Request) (before after : FilesView)
-      (Failed Unshown : Type 0) (ended : Result (Unit {0}) Ending) : Type 0 where
+      (Failed Unshown Over : Type 0) (ended : Result (Unit {0}) Ending) : Type 0 where
     -- OUT holds what the engine promises for what the names stood for at the call.
     pub done : OnOk ended (shows ≡ true → OfEngine asked before.entries
         (λ engine paths. Writes IsPorts engine paths before.entries after.entries))
@@ -136,3 +137,5 @@ module _ (IsPorts : Ports → Type 0) where
         → (after.events ≡ before.events) × IsErrAnd ended IsUsage
     -- Without `--progress` no progress is shown.
     pub silent : progress_of asked ≡ Silent → Unshown
+    -- Progress that was shown is over, however the command ended.
+    pub over : Unshown ⊎ Over

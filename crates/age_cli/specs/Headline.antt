@@ -7,6 +7,7 @@ use Rattle.age_chunk.specs.Payload.{chunk_count, chunk_length, block_length}
 use Rattle.age_stream.specs.Headline.{IsPrefixOf}
 use Rattle.age_chunk.specs.Nonce.{chunk_limit}
 use Rattle.age_keys.specs.Opened.{Opens}
+use Rattle.age_io.specs.Progress.{IsOver, Shown}
 use Rattle.age_io.specs.Views.{SinkView}
 use Rattle.age_file.specs.Ports.{Ports}
 use Rattle.age_file.specs.Runs.{Run, IsFromStart, IsTexts, IsAuthenticRun}
@@ -100,7 +101,7 @@ abbrev pub RunsKeepOut : (Ports → Type 0) → (Failed Input Output Faults Prog
 RunsKeepOut IsPorts Failed Input Output Faults Progress =
     (words : List Text) (before after : Around) (faults_old faults_new : SinkView)
     (input : Input × Input) (output : Output × Output) (faults : Faults × Faults)
-    (progress : Progress × Progress) (status : ℕ)
+    (progress : Progress × Progress) (shown : Option (List Shown)) (status : ℕ)
     → Runs words true IsPorts before after faults_old faults_new Failed (faults.1 ≡ faults.0)
-    (input.1 ≡ input.0) (output.1 ≡ output.0) (progress.1 ≡ progress.0) status
+    (input.1 ≡ input.0) (output.1 ≡ output.0) (progress.1 ≡ progress.0) (IsOver shown) status
     → DecryptKeepsOut words before after status × ResumeKeepsOut words before after status

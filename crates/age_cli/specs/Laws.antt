@@ -1,10 +1,12 @@
 -- What follows of a run from what its parts promise.
 use Rattle.std.specs.Prelude.{◌≡◌, ℕ, Bool, List, Option, Result, IfErr, IsErrAnd}
 use Rattle.clap.specs.Words.{Text}
+use Rattle.age_io.specs.Progress.{IsOver, Shown}
 use Rattle.age_file.specs.Ports.{Ports}
+use Rattle.age_cli_args.specs.Asked.{IsForHelp}
 use Rattle.age_cli_common.specs.declared.ending.Ending.{Ending}
 use Rattle.age_cli.specs.Inspections.{FailsReport}
-use Rattle.age_cli.specs.Obeying.{Around, Declines, IsForHelp, IsRefusal}
+use Rattle.age_cli.specs.Obeying.{Around, Declines, IsRefusal}
 use Rattle.age_cli.specs.Outcomes.{IsUsage}
 
 -- Words that ask neither for help nor for the version are refused, or memory is, and nothing is
@@ -13,9 +15,10 @@ abbrev pub RefusesInSilence : Bool → (Ports → Type 0) → (Failed Input Outp
     → Type 0
 RefusesInSilence shows IsPorts Failed Input Output Progress =
     (words : List Text) (before after : Around) (input : Input × Input) (output : Output × Output)
-    (progress : Progress × Progress) (ended : Result (Unit {0}) Ending)
+    (progress : Progress × Progress) (shown : Option (List Shown))
+    (ended : Result (Unit {0}) Ending)
     → Declines words shows IsPorts before after Failed (input.1 ≡ input.0) (output.1 ≡ output.0)
-    (progress.1 ≡ progress.0) ended
+    (progress.1 ≡ progress.0) (IsOver shown) ended
     → ((IsForHelp words → ⊥) → IsErrAnd ended IsRefusal × (output.1 ≡ output.0))
     × IfErr ended (λ e. IsUsage e → output.1 ≡ output.0)
 

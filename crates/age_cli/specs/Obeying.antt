@@ -3,15 +3,16 @@ use Rattle.std.specs.Prelude.{◌≡◌, ◌⊎◌, ℕ, Bool, true, List, [], O
 use Rattle.std.specs.Prelude.{Result, OnOk, IfErr, IsErrAnd}
 use Rattle.std.specs.Io.KnownBytes.{Appends}
 use Rattle.clap.specs.Words.{Text}
-use Rattle.age_cli_args.specs.Asked.{AsksHelp, AsksVersion}
+use Rattle.age_cli_args.specs.Asked.{IsForHelp}
 use Rattle.age_cli_args.specs.Requests.{Requests, text_of}
 use Rattle.age_cli_args.specs.declared.request.Request.{Request}
 use Rattle.age_cli_args.specs.declared.request.Request.TheVariants.{Inspect, Drill}
 use Rattle.age_io.specs.Views.{SinkView}
 use Rattle.age_file.specs.Ports.{Ports}
 use Rattle.age_fault.specs.Faults.{HasRisen}
-use Rattle.age_fault.specs.declared.fault.FileFault.TheVariants.{Write, Memory}
+use Rattle.age_fault.specs.declared.fault.FileFault.TheVariants.{Read, Write, Memory}
 use Rattle.age_fileset.specs.FileSet.{FilesView}
+use Rattle.age_cli_common.specs.Reasons.{IsUnread}
 use Rattle.age_cli_common.specs.declared.ending.Ending.{Ending}
 use Rattle.age_cli_common.specs.declared.ending.Ending.TheVariants.{Fault}
 use Rattle.age_cli.specs.Acts.{Acts}
@@ -31,10 +32,6 @@ around files input output = record { files = files; input = input; output = outp
 abbrev pub IsRefusal : Ending → Type 0
 IsRefusal ending = IsUsage ending ⊎ (ending ≡ Fault Memory)
 
--- help or the version is asked for
-abbrev pub IsForHelp : List Text → Type 0
-IsForHelp words = AsksHelp words ⊎ AsksVersion words
-
 -- writing to the output failed, as it says itself
 abbrev pub FailsWriting : (old new : SinkView) → Ending → Type 0
 FailsWriting old new ending = (ending ≡ Fault Write) × HasRisen old.failed new.failed
@@ -53,9 +50,9 @@ pub record Reported (ended : Result (Unit {0}) Ending) (Report Unprinted : Type 
 
 -- `shows` says whether contracts see the files, `IsPorts` which are the ports of those, and
 -- `Failed` that a source of them failed. `Unread`, `Unprinted` and `Unshown` say that the input, the
--- output and the progress are as they were.
+-- output and the progress are as they were, and `Over` that the progress is over.
 module _ (words : List Text) (shows : Bool) (IsPorts : Ports → Type 0) (before after : Around)
-    (Failed Unread Unprinted Unshown : Type 0) (ended : Result (Unit {0}) Ending) where
+    (Failed Unread Unprinted Unshown Over : Type 0) (ended : Result (Unit {0}) Ending) where
   -- Without words the input is reported.
   pub record ReportsInput : Type 0 where
     pub none : words ≡ []
@@ -68,9 +65,9 @@ module _ (words : List Text) (shows : Bool) (IsPorts : Ports → Type 0) (before
     -- No progress was shown.
     pub silent : Unshown
 
-  -- `inspect` reported the input, or its file. A drill with both or neither of `--clear` and
-  -- `--pass` is refused before a file is opened. Other commands write nothing to the output, and
-  -- none of them reads the input.
+  -- `inspect` reported the input, or its file, which 26 says can't be read. A drill sent on what it
+  -- wrote; with both or neither of `--clear` and `--pass` it is refused before a file is opened.
+  -- Other commands write nothing to the output, and none of them reads the input.
   abbrev pub Answers : Request → Type 0
   Answers (Inspect None) =
       Reported ended (Reports before.input after.input before.output.taken after.output.taken)
@@ -78,7 +75,10 @@ module _ (words : List Text) (shows : Bool) (IsPorts : Ports → Type 0) (before
   Answers (Inspect (Some name)) = Unread × Reported ended (ReportsFile shows
       (before.files.entries name.now) before.output.taken after.output.taken) Unprinted
       (seen shows (before.files.entries name.now)) before.output after.output
-  Answers (Drill d) = Unread × (d.clear ≡ is_some (text_of d.pass)
+      × (shows ≡ true → IfErr ended (λ e. e ≡ Fault Read
+      → IsUnread before.files.entries after.files.events Failed))
+  Answers (Drill d) = Unread × OnOk ended (after.output.settled ≡ true)
+      × (d.clear ≡ is_some (text_of d.pass)
       → (after.files.events ≡ before.files.events) × IsErrAnd ended IsUsage)
   Answers other = Unread × Unprinted
 
@@ -87,7 +87,7 @@ module _ (words : List Text) (shows : Bool) (IsPorts : Ports → Type 0) (before
     pub asked : Request
     pub made : Requests words asked
     -- What was done with files.
-    pub acts : Acts IsPorts shows asked before.files after.files Failed Unshown ended
+    pub acts : Acts IsPorts shows asked before.files after.files Failed Unshown Over ended
     -- What was written to the output.
     pub answers : Answers asked
 

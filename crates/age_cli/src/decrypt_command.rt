@@ -1,6 +1,6 @@
 //! The command that decrypts a file.
 
-ghost use Rattle.std.specs.Prelude.{◌≡◌, true, false, is_some, Some};
+ghost use Rattle.std.specs.Prelude.{◌≡◌, ◌⊎◌, true, false, is_some, Some};
 ghost use Rattle.age_file.specs.Decrypts.{DecryptsKeyed};
 ghost use Rattle.age_file.specs.Ports.{ports};
 ghost use Rattle.age_file.specs.declared.position.Positions.TheVariants.{Dropped};
@@ -14,6 +14,7 @@ ghost use Rattle.age_cli_common.specs.Identities.{allows_by, refuses_by};
 ghost use Rattle.age_cli_common.specs.Names.{NamesTwice};
 ghost use Rattle.age_cli_common.specs.Orders.{order_asked};
 ghost use Rattle.age_cli_common.specs.Reasons.{SourceFails};
+ghost use Rattle.age_io.specs.Progress.{IsOver};
 ghost use Rattle.age_cli.specs.Acts.{Acts};
 ghost use Rattle.age_cli.specs.Engines.{PortsOf};
 ghost use Rattle.age_cli.specs.Outputs.{kept_for};
@@ -133,6 +134,7 @@ struct Opened<S: Source> {
 }
 
 /// Decrypts the input into the output.
+#[tactic(auto, using(crate::proofs::ActSteps::is_over))]
 fn open_text<F: FileSet, P: Meter>(
     alloc: Global,
     files: &F,
@@ -147,6 +149,7 @@ fn open_text<F: FileSet, P: Meter>(
         (ports (F.In.view source) (F.Out.view out.old))
         (ports (F.In.view result.source) (F.Out.view out.new)) result.end result.key }
     ensures silent { asked.now.progress ≡ Silent → progress.new ≡ progress.old }
+    ensures over { (progress.new ≡ progress.old) ⊎ (IsOver (P.shown progress.new)) }
 {
     match asked.progress {
         ProgressOption::Silent => {
@@ -199,7 +202,7 @@ fn decrypt_opened<F: FileSet, E: Sink, P: Meter>(
         (faults.new ≡ faults.old) }
     ensures opened { DecryptsOpened (PortsOf F.In.view F.Out.view) (F.shows_bytes) asked.now identity.now
         (ports (F.In.view source) (F.Out.view out)) (F.view files.old) (F.view files.new)
-        (progress.new ≡ progress.old) result }
+        (progress.new ≡ progress.old) (IsOver (P.shown progress.new)) result }
 {
     read_again::<Identity<'_>>();
     let is_reread = can_reread(files, &source, asked.save);
@@ -250,7 +253,7 @@ pub fn decrypt_file<F: FileSet, E: Sink, P: Meter>(
         (faults.new ≡ faults.old) }
     ensures acts { Acts (PortsOf F.In.view F.Out.view) (F.shows_bytes) (Decrypt asked.now)
         (F.view files.old) (F.view files.new) (SourceFails F.In.view)
-        (progress.new ≡ progress.old) result }
+        (progress.new ≡ progress.old) (IsOver (P.shown progress.new)) result }
 {
     *told = Announcement::Unmade;
     let is_file_named_twice = names_a_file_twice(files, asked);

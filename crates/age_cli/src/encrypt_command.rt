@@ -15,6 +15,7 @@ ghost use Rattle.age_cli_common.specs.Orders.{order_asked, random_name};
 ghost use Rattle.age_cli_common.specs.Reasons.{SourceFails, HasReason};
 ghost use Rattle.age_cli_common.specs.Identities.{IsPassphraseIn};
 ghost use Rattle.age_keys.specs.Passphrase.{IsAllowed};
+ghost use Rattle.age_io.specs.Progress.{IsOver};
 ghost use Rattle.age_cli.specs.Acts.{Acts, GivesNone};
 ghost use Rattle.age_cli.specs.Encryptions.{MakesSecret, IsRandomIn};
 ghost use Rattle.age_cli.specs.Engines.{PortsOf};
@@ -206,7 +207,7 @@ pub fn encrypt_file<F: FileSet, E: Sink, P: Meter>(
         (faults.new ≡ faults.old) }
     ensures acts { Acts (PortsOf F.In.view F.Out.view) (F.shows_bytes) (Encrypt asked.now)
         (F.view files.old) (F.view files.new) (SourceFails F.In.view)
-        (progress.new ≡ progress.old) result }
+        (progress.new ≡ progress.old) (IsOver (P.shown progress.new)) result }
 {
     *told = Announcement::Unmade;
     let material = read_material(alloc, files, asked)?;

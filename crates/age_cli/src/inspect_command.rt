@@ -5,6 +5,9 @@ ghost use Rattle.age_cli_common.specs.declared.ending.Ending.TheVariants.{Fault}
 ghost use Rattle.age_fileset.specs.Events.{Opened};
 ghost use Rattle.age_cli.specs.Inspections.{Reports, ReportsFile, FailsReport, seen};
 ghost use Rattle.age_cli.specs.Obeying.{FailsWriting};
+ghost use Rattle.age_cli_common.specs.Reasons.{IsUnread, SourceFails};
+ghost use Rattle.age_fault.specs.Faults.{HasRisen};
+ghost use Rattle.age_fault.specs.declared.fault.FileFault.TheVariants.{Read};
 
 use crate::print::text_of;
 use age_cli_common::{Ending, put_bytes};
@@ -26,6 +29,8 @@ fn write_report<I: Source, O: Sink>(
     ensures unprinted { IfErr result (λ f.
         FailsWriting (O.view output.old) (O.view output.new) (Fault f)
         ⊎ (output.new ≡ output.old)) }
+    ensures read { IfErr result (λ f. f ≡ Read
+        → HasRisen (I.view input.old).failed (I.view input.new).failed) }
 {
     let found = inspect(alloc, input)?;
     let text = text_of(alloc, &found)?;
@@ -46,6 +51,8 @@ pub(crate) fn report<I: Source, O: Sink>(
     ensures sent { OnOk result ((O.view output.new).settled ≡ true) }
     ensures unprinted { IfErr result (λ e. FailsWriting (O.view output.old) (O.view output.new) e
         ⊎ (output.new ≡ output.old)) }
+    ensures read { IfErr result (λ e. e ≡ Fault Read
+        → HasRisen (I.view input.old).failed (I.view input.new).failed) }
 {
     Ok(write_report(alloc, input, output)?)
 }
@@ -66,6 +73,8 @@ pub(crate) fn report_file<F: FileSet, O: Sink>(
     ensures sent { OnOk result ((O.view output.new).settled ≡ true) }
     ensures unprinted { IfErr result (λ e. FailsWriting (O.view output.old) (O.view output.new) e
         ⊎ (output.new ≡ output.old)) }
+    ensures unread { F.shows_bytes ≡ true → IfErr result (λ e. e ≡ Fault Read
+        → IsUnread (F.view files.old).entries (F.view files.new).events (SourceFails F.In.view)) }
 {
     let mut source = match files.open(alloc, name) {
         Ok(source) => source,

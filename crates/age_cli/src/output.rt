@@ -1,7 +1,8 @@
 //! How the input and the output of a command are opened, and how the output is ended.
 
 ghost use Rattle.std.specs.Prelude.{◌≡◌, ◌⊎◌, [], ◌∷◌, ◌++◌, Some, None, true, false, is_some};
-ghost use Rattle.std.specs.Prelude.{IfErr};
+ghost use Rattle.std.specs.Prelude.{IfErr, IfSome, ℕ, Option, option_map, length};
+ghost use Rattle.age_io.specs.Progress.{Adds, Begins};
 ghost use Rattle.age_cli_common.specs.Endings.{EndsEarly, is_usage};
 ghost use Rattle.age_fileset.specs.Events.{Opened, Created, Closed};
 ghost use Rattle.age_cli_args.specs.Requests.{text_of};
@@ -124,7 +125,10 @@ pub(crate) fn with_meter<F: FileSet, M: Meter>(
     source: F::In,
     mut meter: M,
 ) -> Metered<F::In, M>
-    ensures { result.source ≡ source }
+    ensures source { result.source ≡ source }
+    ensures begun { (size : Option ℕ) × (F.shows_bytes ≡ true → IfSome size (λ n.
+        option_map length (F.In.view source).remaining ≡ Some n))
+        × Adds (M.shown meter) (M.shown result.meter) (Begins size) }
 {
     meter.begin(files.length(&source));
     Metered::new(source, meter)

@@ -9,6 +9,7 @@ ghost use Rattle.clap.specs.Walk.{texts};
 ghost use Rattle.age_cli.specs.Engines.{PortsOf};
 ghost use Rattle.age_cli.specs.Obeying.{around, IsRefusal, Obeys, Prints, FailsWriting};
 ghost use Rattle.age_cli_common.specs.FaultLines.{Tells};
+ghost use Rattle.age_io.specs.Progress.{IsOver};
 ghost use Rattle.age_cli_common.specs.Reasons.{SourceFails};
 ghost use Rattle.age_cli.specs.Outcomes.{status_of};
 ghost use Rattle.age_cli.specs.Runs.{Runs};
@@ -66,7 +67,7 @@ fn obey<F: FileSet, I: Source, O: Sink, E: Sink, P: Meter>(
         (around (F.view files.old) (I.view input.old).remaining (O.view output.old))
         (around (F.view files.new) (I.view input.new).remaining (O.view output.new))
         (SourceFails F.In.view) (input.new ≡ input.old) (output.new ≡ output.old)
-        (progress.new ≡ progress.old) result }
+        (progress.new ≡ progress.old) (IsOver (P.shown progress.new)) result }
 {
     *told = Announcement::Unmade;
     if words.is_empty() {
@@ -122,7 +123,8 @@ pub fn run<F: FileSet, I: Source, O: Sink, E: Sink, P: Meter>(
         (around (F.view files.old) (I.view input.old).remaining (O.view output.old))
         (around (F.view files.new) (I.view input.new).remaining (O.view output.new))
         (E.view faults.old) (E.view faults.new) (SourceFails F.In.view) (faults.new ≡ faults.old)
-        (input.new ≡ input.old) (output.new ≡ output.old) (progress.new ≡ progress.old) result }
+        (input.new ≡ input.old) (output.new ≡ output.old) (progress.new ≡ progress.old)
+        (IsOver (P.shown progress.new)) result }
 {
     let mut told = Announcement::Unmade;
     match obey(

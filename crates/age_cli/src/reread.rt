@@ -1,7 +1,8 @@
 //! How the position of a stop is found by reading the input once more.
 
-ghost use Rattle.std.specs.Prelude.{◌≡◌, true, is_some, IfOk, IfErr};
+ghost use Rattle.std.specs.Prelude.{◌≡◌, ◌⊎◌, true, is_some, IfOk, IfErr};
 ghost use Rattle.age_fault.specs.declared.fault.FileFault.TheVariants.{Read};
+ghost use Rattle.age_io.specs.Progress.{IsOver};
 ghost use Rattle.age_fileset.specs.FileSet.{IsMemoryOr};
 ghost use Rattle.age_cli_args.specs.Requests.{text_of};
 ghost use Rattle.age_cli_args.specs.declared.request.ProgressOption.TheVariants.{Silent};
@@ -27,7 +28,7 @@ pub(crate) struct Again<S: Source> {
 }
 
 /// The position of a stop, by reading the input once more.
-#[tactic(auto, using(crate::proofs::RereadSteps::finds_so, crate::proofs::RereadSteps::fails_so))]
+#[tactic(auto, using(crate::proofs::RereadSteps::finds_so, crate::proofs::RereadSteps::fails_so, crate::proofs::ActSteps::is_over))]
 fn find_again<F: FileSet, P: Meter>(
     alloc: Global,
     files: &F,
@@ -39,6 +40,7 @@ fn find_again<F: FileSet, P: Meter>(
         ((F.view files.now).entries asked.now.from.now) again.key again.stopped.written) }
     ensures faults { IfErr result (IsMemoryOr Read) }
     ensures silent { asked.now.progress ≡ Silent → progress.new ≡ progress.old }
+    ensures over { (progress.new ≡ progress.old) ⊎ (IsOver (P.shown progress.new)) }
 {
     let Again {
         mut source,
@@ -75,6 +77,7 @@ pub(crate) fn conclude_again<F: FileSet, E: Sink, P: Meter>(
     ensures again { ConcludesAgain (F.shows_bytes) asked.now (F.Out.view out) again.stopped
         again.key (F.view files.old) (F.view files.new) result }
     ensures silent { asked.now.progress ≡ Silent → progress.new ≡ progress.old }
+    ensures over { (progress.new ≡ progress.old) ⊎ (IsOver (P.shown progress.new)) }
 {
     let Stopped { fault, written, .. } = again.stopped;
     leave(files, out, written == 0, asked.durability);

@@ -11,6 +11,7 @@ ghost use Rattle.age_cli_common.specs.FaultLines.{Tells};
 ghost use Rattle.age_cli_common.specs.Names.{NamesTwice};
 ghost use Rattle.age_cli_common.specs.Orders.{order_asked};
 ghost use Rattle.age_cli_common.specs.Reasons.{SourceFails, IsUnread};
+ghost use Rattle.age_io.specs.Progress.{IsOver};
 ghost use Rattle.age_cli.specs.Acts.{Acts};
 ghost use Rattle.age_cli.specs.Engines.{PortsOf};
 ghost use Rattle.age_cli.specs.Resumptions.{HoldsNoPosition, IsPositionIn, old_for};
@@ -140,7 +141,7 @@ pub fn resume_file<F: FileSet, E: Sink, P: Meter>(
         (faults.new ≡ faults.old) }
     ensures acts { Acts (PortsOf F.In.view F.Out.view) (F.shows_bytes) (Resume asked.now)
         (F.view files.old) (F.view files.new) (SourceFails F.In.view)
-        (progress.new ≡ progress.old) result }
+        (progress.new ≡ progress.old) (IsOver (P.shown progress.new)) result }
 {
     *told = Announcement::Unmade;
     let wanted = &asked.decrypting;

@@ -1,6 +1,6 @@
 -- What the words after the program's name ask for, by the definitions of the parser of command
 -- lines.
-use Rattle.std.specs.Prelude.{◌≡◌, Bool, true, false, List, [], bytes_eq, Option, Some}
+use Rattle.std.specs.Prelude.{◌≡◌, ◌⊎◌, Bool, true, false, List, [], bytes_eq, Option, Some}
 use Rattle.std.specs.Prelude.{codes}
 use Rattle.std.specs.Option.{option_map_or}
 use Rattle.clap.specs.Words.{Row, Text, one_of, fault_of, subcommand_of}
@@ -21,12 +21,9 @@ pub record Asks (words : List Text) (name : Text) (rows : List Row) : Type 0 whe
   pub taken : refusals words ≡ []
   pub command : named words ≡ Some (name, rows)
 
--- the arguments ask for help, or for the version; such a request is one of the kinds of refusal
-abbrev pub AsksHelp : List Text → Type 0
-AsksHelp words = IsAmong DisplayHelp (refusals words)
-
-abbrev pub AsksVersion : List Text → Type 0
-AsksVersion words = IsAmong DisplayVersion (refusals words)
+-- the words ask for help or for the version, which is one of the kinds of refusal
+abbrev pub IsForHelp : List Text → Type 0
+IsForHelp words = IsAmong DisplayHelp (refusals words) ⊎ IsAmong DisplayVersion (refusals words)
 
 -- whether a flag is given, which then stands for `true`
 abbrev pub is_given : Text → List Row → Bool

@@ -1,6 +1,6 @@
 //! The command that delivers a payload by a script.
 
-ghost use Rattle.std.specs.Prelude.{◌≡◌, ◌≤◌, ◌++◌, ◌∷◌, [], Some, IfOk, OnOk, length, is_some};
+ghost use Rattle.std.specs.Prelude.{◌≡◌, ◌≤◌, ◌++◌, ◌∷◌, [], Some, IfOk, OnOk, length, is_some, true};
 ghost use Rattle.age_fileset.specs.Events.{Opened};
 ghost use Rattle.age_cli_common.specs.Endings.{RefusesAtOnce};
 ghost use Rattle.age_cli_common.specs.EventOrders.{Follows};
@@ -190,7 +190,9 @@ fn answer_lines<O: Sink>(
     payload: &mut [u8],
     lines: &[ScriptLine],
     output: &mut O,
-) -> Result<(), FileFault> {
+) -> Result<(), FileFault>
+    ensures { OnOk result ((O.view output.new).settled ≡ true) }
+{
     for (i, line) in lines.iter().enumerate() {
         answer_line(alloc, replay, payload, i + 1, *line, output)?;
     }
@@ -204,7 +206,9 @@ fn deliver<O: Sink>(
     payload: &mut [u8],
     script: &[u8],
     output: &mut O,
-) -> Result<(), Ending> {
+) -> Result<(), Ending>
+    ensures { OnOk result ((O.view output.new).settled ≡ true) }
+{
     let lines = read_lines(alloc, script, payload.len())?;
     answer_lines(alloc, replay, payload, lines.as_slice(), output)?;
     Ok(())
@@ -216,7 +220,9 @@ fn deliver_clear<S: Source, O: Sink>(
     source: &mut S,
     script: &[u8],
     output: &mut O,
-) -> Result<(), Ending> {
+) -> Result<(), Ending>
+    ensures { OnOk result ((O.view output.new).settled ≡ true) }
+{
     match read_up_to(alloc, source, PAYLOAD_MAX)? {
         Some(mut payload) => {
             let mut replay = Replaying::Clear(Replay::new(alloc, &ClearBox));
@@ -233,7 +239,9 @@ fn deliver_payload<O: Sink>(
     payload: &mut [u8],
     script: &[u8],
     output: &mut O,
-) -> Result<(), Ending> {
+) -> Result<(), Ending>
+    ensures { OnOk result ((O.view output.new).settled ≡ true) }
+{
     if payload.len() > PAYLOAD_MAX {
         return Err(Ending::Usage(Usage::PayloadTooLong));
     }
@@ -249,7 +257,9 @@ fn deliver_sealed<S: Source, O: Sink>(
     source: &mut S,
     script: &[u8],
     output: &mut O,
-) -> Result<(), Ending> {
+) -> Result<(), Ending>
+    ensures { OnOk result ((O.view output.new).settled ≡ true) }
+{
     let mut bytes = Vec::new(alloc);
     let read = fill_first(source, &mut bytes, BYTES_MAX);
     let (key, start) = open_payload(alloc, unlock, bytes.as_slice(), read)?;
@@ -264,7 +274,9 @@ fn deliver_opened<S: Source + Drop, O: Sink>(
     opened: Result<S, OpenFault>,
     script: &[u8],
     output: &mut O,
-) -> Result<(), Ending> {
+) -> Result<(), Ending>
+    ensures { OnOk result ((O.view output.new).settled ≡ true) }
+{
     let mut source = opened?;
     match unlock {
         Some(unlock) => deliver_sealed(alloc, unlock, &mut source, script, output),
@@ -285,6 +297,7 @@ fn drill<F: FileSet, O: Sink>(
         (F.view files.old).events (F.view files.new).events }
     ensures order_done { OnOk result ((F.view files.new).events ≡ (F.view files.old).events
         ++ Opened asked.now.script.now ∷ Opened asked.now.from.now ∷ []) }
+    ensures sent { OnOk result ((O.view output.new).settled ≡ true) }
 {
     let script = read_script(alloc, files, asked.script)?;
     let opened = files.open(alloc, asked.from);
@@ -305,6 +318,7 @@ fn drill_sealed<F: FileSet, O: Sink>(
         (F.view files.old).events (F.view files.new).events }
     ensures order_done { OnOk result ((F.view files.new).events ≡ (F.view files.old).events
         ++ Opened pass_name.now ∷ Opened asked.now.script.now ∷ Opened asked.now.from.now ∷ []) }
+    ensures sent { OnOk result ((O.view output.new).settled ≡ true) }
 {
     let pass = read_pass(alloc, files, pass_name)?;
     match Passphrase::new(trimmed(pass.as_slice()), MAX_LOG) {
@@ -325,6 +339,8 @@ pub fn drill_file<F: FileSet, O: Sink>(
         (F.view files.new).events }
     ensures order_done { OnOk result ((F.view files.new).events
         ≡ (F.view files.old).events ++ (order_asked (Drill asked.now)).done) }
+    // What was written was sent on.
+    ensures sent { OnOk result ((O.view output.new).settled ≡ true) }
     // Both or neither of `--clear` and `--pass`.
     ensures one { asked.now.clear ≡ is_some (text_of asked.now.pass)
         → RefusesAtOnce (F.view files.old).events (F.view files.new).events result }

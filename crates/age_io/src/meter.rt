@@ -1,7 +1,8 @@
 //! What counts how far a run is.
 
-ghost use Rattle.std.specs.Prelude.{◌≡◌, ℕ, Option, option_and_then};
+ghost use Rattle.std.specs.Prelude.{◌≡◌, ℕ, List, Option, None, option_and_then};
 ghost use Rattle.age_io.specs.Counts.{begun, counted};
+ghost use Rattle.age_io.specs.Progress.{Adds, Advances, Begins, Ends, Shown};
 
 /// Counts how far a run is. It returns nothing, so that code that is generic over one can only
 /// report to it.
@@ -9,22 +10,30 @@ pub trait Meter {
     // How many bytes were read since the run began, where it counts them.
     ghost count: { Self → Option ℕ };
 
+    // What it was shown, in order, where a contract sees that.
+    ghost shown: { Self → Option (List Shown) } = { λ _. None };
+
     /// A run begins, which reads as many bytes as `length` says, where that is known.
     fn begin(&mut self, length: Option<u64>)
-        ensures { count self.new ≡ begun (count self.old) };
+        ensures count { count self.new ≡ begun (count self.old) }
+        ensures shown { Adds (shown self.old) (shown self.new) (Begins length) };
 
     /// So many bytes more were read.
     fn advance(&mut self, bytes: u64)
-        ensures { count self.new ≡ counted bytes (count self.old) };
+        ensures count { count self.new ≡ counted bytes (count self.old) }
+        ensures shown { Adds (shown self.old) (shown self.new) (Advances bytes) };
 
     /// The run is over.
     fn end(&mut self)
-        ensures { count self.new ≡ count self.old };
+        ensures count { count self.new ≡ count self.old }
+        ensures shown { Adds (shown self.old) (shown self.new) Ends };
 }
 
 /// A meter that is borrowed.
 impl<M: Meter> Meter for &mut M {
     ghost count = { λ m. M.count m.now };
+
+    ghost shown = { λ m. M.shown m.now };
 
     fn begin(&mut self, length: Option<u64>) {
         (**self).begin(length);
@@ -42,6 +51,8 @@ impl<M: Meter> Meter for &mut M {
 /// A meter, where one is wanted; `None` counts nothing.
 impl<M: Meter> Meter for Option<M> {
     ghost count = { option_and_then M.count };
+
+    ghost shown = { option_and_then M.shown };
 
     fn begin(&mut self, length: Option<u64>) {
         if let Some(meter) = self {

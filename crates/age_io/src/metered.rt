@@ -4,6 +4,7 @@ ghost use Rattle.std.specs.Prelude.{◌≡◌, ◌≤◌, length, IfOk, MatchRes
 ghost use Rattle.std.specs.Io.KnownBytes.{ReadConsumes};
 ghost use Rattle.age_io.specs.Memory.{one_more};
 ghost use Rattle.age_io.specs.Counts.{pulled};
+ghost use Rattle.age_io.specs.Progress.{AddsPull};
 
 use crate::failed::Failed;
 use crate::meter::Meter;
@@ -49,6 +50,7 @@ impl<S: Source, M: Meter> Source for Metered<S, M> {
             (λ _. (S.view self.new.source).failed ≡ one_more (S.view self.old.source).failed) }
         ensures last { (S.view self.new.source).failing ≡ is_err result }
         ensures metered { M.count self.new.meter ≡ pulled result (M.count self.old.meter) }
+        ensures shown { AddsPull (M.shown self.old.meter) (M.shown self.new.meter) result }
     {
         let n = self.source.pull(into)?;
         self.meter.advance(n as u64);

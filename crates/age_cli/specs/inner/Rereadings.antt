@@ -57,7 +57,7 @@ pub record HoldsInput (d : Decrypting) (before : Ports) (old : FilesView) : Type
 -- What was opened was decrypted, and OUT was ended. `decrypted` is how it ended; of a stop, it has
 -- the position that is saved, where contracts see the files and IN and OUT are two of them.
 pub record DecryptsOpened (IsPorts : Ports → Type 0) (shows : Bool) (d : Decrypting)
-    (identity : Identity) (before : Ports) (old new : FilesView) (Unshown : Type 0)
+    (identity : Identity) (before : Ports) (old new : FilesView) (Unshown Over : Type 0)
     (result : Result (Unit {0}) Ending) : Type 0 where
   pub after : Ports
   pub after_is : IsPorts after
@@ -71,3 +71,4 @@ pub record DecryptsOpened (IsPorts : Ports → Type 0) (shows : Bool) (d : Decry
   pub concludes : Concludes shows (text_of d.save) d.durability after.sink (opening_end decrypted)
       old new result
   pub silent : d.progress ≡ Silent → Unshown
+  pub over : Unshown ⊎ Over

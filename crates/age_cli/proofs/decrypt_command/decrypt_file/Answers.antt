@@ -20,7 +20,7 @@ pub returns-in_err-choice-clause-acts : goal.returns-in_err-choice-clause-acts
 returns-in_err-choice-clause-acts g c =
     let d = c.args.asked.now in
     let e : Ending = Usage c.in_err-choice.field-0.0 in
-    acts_early _ _ (Decrypt d) _ _ _ _ c.from_residual.result e c.from_residual.ensures refl (λ shown. tt) (λ shown. tt) (none_done _ _) (λ shown usage. none_done _ _)
+    acts_early _ _ (Decrypt d) _ _ _ _ _ c.from_residual.result e c.from_residual.ensures refl (λ shown. tt) (λ shown. tt) (none_done _ _) (λ shown usage. none_done _ _)
     (λ twice. (refl, refl))
     (λ shown usage. inr (c.in_err-choice.ensures.none (g.F.FileSet.view c.args.files.now).entries)) refl
 
@@ -32,7 +32,7 @@ returns-in_err-secret-clause-acts g c =
     let d = c.args.asked.now in
     let e : Ending = c.in_err-secret.field-0.0 in
     let judged = in_order _ _ _ _ _ _ _ _ _ _ c.in_ok-choice.ensures.chooses.order c.in_err-secret.ensures in
-    acts_early _ _ (Decrypt d) _ _ _ _ c.from_residual-in_err-secret.result e c.from_residual-in_err-secret.ensures judged.kept (λ shown. judged.early) judged.reason
+    acts_early _ _ (Decrypt d) _ _ _ _ _ c.from_residual-in_err-secret.result e c.from_residual-in_err-secret.ensures judged.kept (λ shown. judged.early) judged.reason
     (longer _ (Opened d.from.now ∷ (preparing (text_of d.save) ++ making (Some d.to.now) d.durability)) _ _ judged.followed) (λ shown usage. judged.followed)
     (λ twice. judged.apart (c.names_a_file_twice-is_file_named_twice.ensures.twice twice))
     (λ shown usage. inl (c.names_a_file_twice-is_file_named_twice.ensures.shown shown (judged.blamed shown usage))) refl
@@ -45,7 +45,7 @@ returns-in_err-identity-clause-acts g c =
     let d = c.args.asked.now in
     let e : Ending = Usage c.in_err-identity.field-0.0 in
     let judged = in_order _ _ _ _ _ _ _ _ _ _ c.in_ok-choice.ensures.chooses.order c.in_ok-secret.ensures in
-    acts_early _ _ (Decrypt d) _ _ _ _ c.from_residual-in_err-identity.result e c.from_residual-in_err-identity.ensures judged.kept (λ shown. tt) (λ shown. tt)
+    acts_early _ _ (Decrypt d) _ _ _ _ _ c.from_residual-in_err-identity.result e c.from_residual-in_err-identity.ensures judged.kept (λ shown. tt) (λ shown. tt)
     (longer _ (Opened d.from.now ∷ (preparing (text_of d.save) ++ making (Some d.to.now) d.durability)) _ _ judged.followed) (λ shown usage. judged.followed)
     (λ twice. absurd (judged.apart (c.names_a_file_twice-is_file_named_twice.ensures.twice twice)).1)
     (λ shown usage. inr (λ identity opens. c.in_err-identity.ensures.none identity
@@ -60,7 +60,7 @@ returns-in_err-source-clause-acts g c =
     let e : Ending = c.in_err-source.field-0.0 in
     let judged = in_order _ _ _ _ _ _ _ _ _ _ c.in_ok-choice.ensures.chooses.order c.in_ok-secret.ensures in
     let both = c.in_err-source.ensures in
-    acts_early _ _ (Decrypt d) _ _ _ _ c.from_residual-in_err-source.result e c.from_residual-in_err-source.ensures (both.kept ∙ judged.kept) (λ shown. both.early)
+    acts_early _ _ (Decrypt d) _ _ _ _ _ c.from_residual-in_err-source.result e c.from_residual-in_err-source.ensures (both.kept ∙ judged.kept) (λ shown. both.early)
     (λ shown. reason_at _ _ (g.F.FileSet.view c.open_both.new.files).events (SourceFails g.F.In.Source.view) e judged.kept (both.reason shown))
     (then_follows _ _ _ (identity_order (text_of d.identity.pass) (text_of d.identity.shared))
     (Opened d.from.now ∷ (preparing (text_of d.save) ++ making (Some d.to.now) d.durability)) judged.noted both.followed)
@@ -78,7 +78,7 @@ returns-clause-acts g c =
     let judged = in_order _ _ _ _ _ _ _ _ _ _ c.in_ok-choice.ensures.chooses.order c.in_ok-secret.ensures in
     let both = c.in_ok-source.ensures in
     let before = ports (g.F.In.Source.view c.in_ok-source.source) (g.F.Out.Sink.view c.in_ok-source.out) in
-    decrypt_acts _ _ (view c.args.files.now) (view c.open_both.new.files) (view c.decrypt_opened.new.files) _ _ before
+    decrypt_acts _ _ (view c.args.files.now) (view c.open_both.new.files) (view c.decrypt_opened.new.files) _ _ _ before
     (record { source = c.in_ok-source.source; sink = c.in_ok-source.out; is = refl }) c.decrypt_opened.result (both.kept ∙ judged.kept) d
     c.in_ok-identity.identity (some_files _ _ _ _ c.in_ok-choice.ensures.chooses c.in_ok-identity.ensures.makes)
     (λ shown. c.in_ok-choice.ensures.chooses.opens (view c.args.files.now).entries _ _ (judged.read shown).0 c.in_ok-identity.ensures.makes)

@@ -1,4 +1,4 @@
-use Rattle.std.proofs.Common.{◌∙◌, ◌∷◌, [], inr, refl, ap, sym, subst, true≢false, Some, None}
+use Rattle.std.proofs.Common.{◌∙◌, ◌∷◌, [], inl, inr, refl, ap, sym, subst, true≢false, Some, None}
 use Rattle.age_file.specs.Ports.{ports}
 use Rattle.age_fileset.specs.Events.{Opened, Created}
 use Rattle.age_cli_args.specs.Requests.{text_of}
@@ -12,7 +12,7 @@ use Rattle.age_cli_common.specs.declared.ending.Ending.TheVariants.{Usage}
 use Rattle.age_cli.specs.Outputs.{Paths}
 use Rattle.age_cli.proofs.CommandSteps.{reason_at}
 use Rattle.age_cli.proofs.ReportSteps.{unmade}
-use Rattle.age_cli.proofs.ActSteps.{acts_early, shown_not_silent}
+use Rattle.age_cli.proofs.ActSteps.{acts_early, is_over, shown_not_silent}
 use Rattle.age_cli.proofs.FinalSteps.{Found, encrypt_acts}
 use Rattle.age_cli_common.proofs.EventSteps.{longer, then_did, then_follows}
 use Rattle.age_cli.proofs.encrypt_command.encrypt_file.Goals as goal
@@ -22,7 +22,7 @@ returns-in_err-material-clause-acts g c =
     let a = c.args.asked.now in
     let e : Ending = c.in_err-material.field-0.0 in
     let judged = c.in_err-material.ensures in
-    acts_early _ _ (Encrypt a) _ _ _ _ c.from_residual.result e c.from_residual.ensures judged.kept (λ shown. judged.early) judged.reason
+    acts_early _ _ (Encrypt a) _ _ _ _ _ c.from_residual.result e c.from_residual.ensures judged.kept (λ shown. judged.early) judged.reason
     (longer _ (Opened a.from.now ∷ making (Some a.to.now) a.durability) _ _ judged.followed) (λ shown usage. judged.followed)
     (λ twice. judged.apart twice) judged.blamed refl
 
@@ -34,7 +34,7 @@ returns-in_err-secret-clause-acts g c =
     let a = c.args.asked.now in
     let e : Ending = Usage c.in_err-secret.field-0.0 in
     let judged = c.in_ok-material.ensures in
-    acts_early _ _ (Encrypt a) _ _ _ _ c.from_residual-in_err-secret.result e c.from_residual-in_err-secret.ensures judged.kept (λ shown. tt) (λ shown. tt)
+    acts_early _ _ (Encrypt a) _ _ _ _ _ c.from_residual-in_err-secret.result e c.from_residual-in_err-secret.ensures judged.kept (λ shown. tt) (λ shown. tt)
     (longer _ (Opened a.from.now ∷ making (Some a.to.now) a.durability) _ _ judged.followed) (λ shown usage. judged.followed)
     (λ twice. absurd (judged.apart twice).1)
     (λ shown usage. inr (λ secret makes. c.in_err-secret.ensures.none (g.F.FileSet.view c.args.files.now).entries (judged.read shown) secret makes)) refl
@@ -48,7 +48,7 @@ returns-in_err-source-clause-acts g c =
     let e : Ending = c.in_err-source.field-0.0 in
     let judged = c.in_ok-material.ensures in
     let both = c.in_err-source.ensures in
-    acts_early _ _ (Encrypt a) _ _ _ _ c.from_residual-in_err-source.result e c.from_residual-in_err-source.ensures (both.kept ∙ judged.kept) (λ shown. both.early)
+    acts_early _ _ (Encrypt a) _ _ _ _ _ c.from_residual-in_err-source.result e c.from_residual-in_err-source.ensures (both.kept ∙ judged.kept) (λ shown. both.early)
     (λ shown. reason_at _ _ (g.F.FileSet.view c.open_both.new.files).events (SourceFails g.F.In.Source.view) e judged.kept (both.reason shown))
     (then_follows _ _ _ (Opened a.pass.now ∷ Opened (random_name (text_of a.random)) ∷ []) (Opened a.from.now ∷ making (Some a.to.now) a.durability)
     judged.noted both.followed)
@@ -69,14 +69,14 @@ returns-in-Silent-clause-acts g c =
     let both = c.in_ok-source.ensures in
     let run = c.encrypt-sealed in
     let before = ports (In c.in_ok-source.source) (Out c.in_ok-source.out) in
-    encrypt_acts _ _ (view c.args.files.now) (view c.open_both.new.files) (view c.conclude.new.files) _ _ before (ports (In run.new.reader) (Out run.new.writer))
+    encrypt_acts _ _ (view c.args.files.now) (view c.open_both.new.files) (view c.conclude.new.files) _ _ _ before (ports (In run.new.reader) (Out run.new.writer))
     (record { source = c.in_ok-source.source; sink = c.in_ok-source.out; is = refl }) (record { source = run.new.reader; sink = run.new.writer; is = refl })
     c.sealing_end.result c.conclude.result (both.kept ∙ judged.kept) a c.in_ok-secret.secret run.result
     (λ shown. c.in_ok-secret.ensures.makes (view c.args.files.now).entries (judged.read shown))
     (λ shown. subst (λ (f : Files). Found paths f before) judged.kept (both.opened shown))
     c.sealing_end.ensures run.ensures.done run.ensures.fails run.ensures.named c.conclude.ensures.concludes
     (then_did _ _ _ (Opened a.pass.now ∷ Opened (random_name (text_of a.random)) ∷ []) (Opened a.from.now ∷ Created a.to.now ∷ []) judged.noted both.noted)
-    (λ twice. absurd (judged.apart twice).1) (λ silent. refl)
+    (λ twice. absurd (judged.apart twice).1) (λ silent. refl, inl refl)
 
 pub returns-in-Silent-clause-announced : goal.returns-in-Silent-clause-announced
 returns-in-Silent-clause-announced g c = c.conclude.ensures.announced
@@ -93,15 +93,15 @@ returns-clause-acts g c =
     let run = c.encrypt-sealed-in-Shown in
     let source = c.with_meter-metered.result.source in
     let before = ports (In source) (Out c.in_ok-source.out) in
-    encrypt_acts _ _ (view c.args.files.now) (view c.open_both.new.files) (view c.conclude-in-Shown.new.files) _ _ before (ports (In run.new.reader.source) (Out run.new.writer))
+    encrypt_acts _ _ (view c.args.files.now) (view c.open_both.new.files) (view c.conclude-in-Shown.new.files) _ _ _ before (ports (In run.new.reader.source) (Out run.new.writer))
     (record { source = source; sink = c.in_ok-source.out; is = refl }) (record { source = run.new.reader.source; sink = run.new.writer; is = refl })
     c.sealing_end-in-Shown.result c.conclude-in-Shown.result (both.kept ∙ judged.kept) a c.in_ok-secret.secret run.result
     (λ shown. c.in_ok-secret.ensures.makes (view c.args.files.now).entries (judged.read shown))
     (λ shown. let f = both.opened shown in
-    subst (λ (f : Files). Found paths f before) judged.kept (f.0, ap (λ s. (In s).remaining) c.with_meter-metered.ensures ∙ f.1, f.2, f.3))
+    subst (λ (f : Files). Found paths f before) judged.kept (f.0, ap (λ s. (In s).remaining) c.with_meter-metered.ensures.source ∙ f.1, f.2, f.3))
     c.sealing_end-in-Shown.ensures run.ensures.done run.ensures.fails run.ensures.named c.conclude-in-Shown.ensures.concludes
     (then_did _ _ _ (Opened a.pass.now ∷ Opened (random_name (text_of a.random)) ∷ []) (Opened a.from.now ∷ Created a.to.now ∷ []) judged.noted both.noted)
-    (λ twice. absurd (judged.apart twice).1) (λ silent. absurd (shown_not_silent (sym c.in-Shown.is ∙ silent)))
+    (λ twice. absurd (judged.apart twice).1) (λ silent. absurd (shown_not_silent (sym c.in-Shown.is ∙ silent)), inr (is_over _ _ c.end.ensures.shown))
 
 pub returns-clause-announced : goal.returns-clause-announced
 returns-clause-announced g c = c.conclude-in-Shown.ensures.announced

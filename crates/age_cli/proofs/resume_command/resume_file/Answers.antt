@@ -14,7 +14,7 @@ use Rattle.age_fileset.specs.declared.files.OpenFault.TheVariants as create
 use Rattle.age_cli.specs.Acts.{paths_of}
 use Rattle.age_cli.specs.Resumptions.{HoldsNoPosition}
 use Rattle.age_cli.proofs.ReportSteps.{unmade}
-use Rattle.age_cli.proofs.ActSteps.{acts_early, shown_not_silent}
+use Rattle.age_cli.proofs.ActSteps.{acts_early, is_over, shown_not_silent}
 use Rattle.age_cli.proofs.CommandSteps.{bad_position, in_order, position_fault, position_reason, reason_at, some_files}
 use Rattle.age_cli.proofs.FinalSteps.{Found, WasEarlier, resume_acts}
 use Rattle.age_cli_common.proofs.EventSteps.{longer, none_done, then_did, then_follows}
@@ -25,7 +25,7 @@ returns-in_err-choice-clause-acts g c =
     let r = c.args.asked.now in
     let d = r.decrypting in
     let e : Ending = Usage c.in_err-choice.field-0.0 in
-    acts_early _ _ (Resume r) _ _ _ _ c.from_residual.result e c.from_residual.ensures refl (λ shown. inl tt) (λ shown. tt) (none_done _ _) (λ shown usage. none_done _ _)
+    acts_early _ _ (Resume r) _ _ _ _ _ c.from_residual.result e c.from_residual.ensures refl (λ shown. inl tt) (λ shown. tt) (none_done _ _) (λ shown usage. none_done _ _)
     (λ twice. (refl, refl))
     (λ shown usage. inr (c.in_err-choice.ensures.none (g.F.FileSet.view c.args.files.now).entries)) refl
 
@@ -38,7 +38,7 @@ returns-in_err-secret-clause-acts g c =
     let d = r.decrypting in
     let e : Ending = c.in_err-secret.field-0.0 in
     let judged = in_order _ _ _ _ _ _ _ _ _ _ c.in_ok-choice.ensures.chooses.order c.in_err-secret.ensures in
-    acts_early _ _ (Resume r) _ _ _ _ c.from_residual-in_err-secret.result e c.from_residual-in_err-secret.ensures judged.kept (λ shown. inl judged.early) judged.reason
+    acts_early _ _ (Resume r) _ _ _ _ _ c.from_residual-in_err-secret.result e c.from_residual-in_err-secret.ensures judged.kept (λ shown. inl judged.early) judged.reason
     (longer _ (Opened r.position.now ∷ Opened r.old.now ∷ Opened d.from.now ∷ (preparing (text_of d.save) ++ making (Some d.to.now) d.durability)) _ _ judged.followed)
     (λ shown usage. judged.followed)
     (λ twice. judged.apart (c.names_one_twice-is_file_named_twice.ensures.twice twice))
@@ -53,7 +53,7 @@ returns-in_err-identity-clause-acts g c =
     let d = r.decrypting in
     let e : Ending = Usage c.in_err-identity.field-0.0 in
     let judged = in_order _ _ _ _ _ _ _ _ _ _ c.in_ok-choice.ensures.chooses.order c.in_ok-secret.ensures in
-    acts_early _ _ (Resume r) _ _ _ _ c.from_residual-in_err-identity.result e c.from_residual-in_err-identity.ensures judged.kept (λ shown. inl tt) (λ shown. tt)
+    acts_early _ _ (Resume r) _ _ _ _ _ c.from_residual-in_err-identity.result e c.from_residual-in_err-identity.ensures judged.kept (λ shown. inl tt) (λ shown. tt)
     (longer _ (Opened r.position.now ∷ Opened r.old.now ∷ Opened d.from.now ∷ (preparing (text_of d.save) ++ making (Some d.to.now) d.durability)) _ _ judged.followed)
     (λ shown usage. judged.followed)
     (λ twice. absurd (judged.apart (c.names_one_twice-is_file_named_twice.ensures.twice twice)).1)
@@ -70,7 +70,7 @@ returns-in_err-position-clause-acts g c =
     let e : Ending = ending_of c.in_err-position.field-0.0 in
     let judged = in_order _ _ _ _ _ _ _ _ _ _ c.in_ok-choice.ensures.chooses.order c.in_ok-secret.ensures in
     let earlier = c.in_err-position.ensures in
-    acts_early _ _ (Resume r) _ _ _ _ c.from_residual-in_err-position.result e c.from_residual-in_err-position.ensures (earlier.kept ∙ judged.kept)
+    acts_early _ _ (Resume r) _ _ _ _ _ c.from_residual-in_err-position.result e c.from_residual-in_err-position.ensures (earlier.kept ∙ judged.kept)
     (λ shown. bad_position _ _ _ earlier.faults (subst (λ (f : Files). c.in_err-position.field-0.0 ≡ create.Fault BadPosition → HoldsNoPosition (f r.position.now))
     judged.kept (earlier.bad shown)))
     (λ shown. reason_at _ _ (g.F.FileSet.view c.open_earlier.new.files).events (SourceFails g.F.In.Source.view) e judged.kept (position_reason _ _ _ _ _ earlier.faults (earlier.reason shown)))
@@ -92,7 +92,7 @@ returns-in_err-source-clause-acts g c =
     let judged = in_order _ _ _ _ _ _ _ _ _ _ c.in_ok-choice.ensures.chooses.order c.in_ok-secret.ensures in
     let earlier = c.in_ok-position.ensures in
     let both = c.in_err-source.ensures in
-    acts_early _ _ (Resume r) _ _ _ _ c.from_residual-in_err-source.result e c.from_residual-in_err-source.ensures (both.kept ∙ (earlier.kept ∙ judged.kept))
+    acts_early _ _ (Resume r) _ _ _ _ _ c.from_residual-in_err-source.result e c.from_residual-in_err-source.ensures (both.kept ∙ (earlier.kept ∙ judged.kept))
     (λ shown. inl both.early)
     (λ shown. reason_at _ _ (g.F.FileSet.view c.open_both.new.files).events (SourceFails g.F.In.Source.view) e (earlier.kept ∙ judged.kept) (both.reason shown))
     (then_follows _ _ _ (identity_order (text_of d.identity.pass) (text_of d.identity.shared)) (Opened r.position.now ∷ Opened r.old.now ∷ Opened d.from.now ∷ (preparing (text_of d.save) ++ making (Some d.to.now) d.durability)) judged.noted
@@ -118,7 +118,7 @@ returns-in-Silent-clause-acts g c =
     let run = c.resume_with-resumed in
     let first = c.in_ok-position.old in
     let before = ports (In c.in_ok-source.source) (Out c.in_ok-source.out) in
-    resume_acts _ _ (view c.args.files.now) (view c.open_both.new.files) (view c.conclude.new.files) _ _ before (ports (In run.new.reader) (Out run.new.writer))
+    resume_acts _ _ (view c.args.files.now) (view c.open_both.new.files) (view c.conclude.new.files) _ _ _ before (ports (In run.new.reader) (Out run.new.writer))
     (record { source = c.in_ok-source.source; sink = c.in_ok-source.out; is = refl }) (record { source = run.new.reader; sink = run.new.writer; is = refl })
     c.opening_end.result c.conclude.result (both.kept ∙ (earlier.kept ∙ judged.kept)) r c.positions_for-positions.result c.in_ok-identity.identity
     c.in_ok-position.position (In first) (In run.new.old_reader) run.result
@@ -132,7 +132,7 @@ returns-in-Silent-clause-acts g c =
     (Opened r.position.now ∷ Opened r.old.now ∷ Opened d.from.now ∷ (preparing (text_of d.save) ++ Created d.to.now ∷ [])) judged.noted
     (then_did _ _ _ (Opened r.position.now ∷ Opened r.old.now ∷ []) (Opened d.from.now ∷ (preparing (text_of d.save) ++ Created d.to.now ∷ [])) earlier.noted
     both.noted))
-    (λ twice. absurd (judged.apart (c.names_one_twice-is_file_named_twice.ensures.twice twice)).1) (λ silent. refl)
+    (λ twice. absurd (judged.apart (c.names_one_twice-is_file_named_twice.ensures.twice twice)).1) (λ silent. refl, inl refl)
 
 pub returns-in-Silent-clause-announced : goal.returns-in-Silent-clause-announced
 returns-in-Silent-clause-announced g c = c.conclude.ensures.announced
@@ -151,7 +151,7 @@ returns-clause-acts g c =
     let first = c.in_ok-position.old in
     let source = c.with_meter-metered.result.source in
     let before = ports (In source) (Out c.in_ok-source.out) in
-    resume_acts _ _ (view c.args.files.now) (view c.open_both.new.files) (view c.conclude-in-Shown.new.files) _ _ before (ports (In run.new.reader.source) (Out run.new.writer))
+    resume_acts _ _ (view c.args.files.now) (view c.open_both.new.files) (view c.conclude-in-Shown.new.files) _ _ _ before (ports (In run.new.reader.source) (Out run.new.writer))
     (record { source = source; sink = c.in_ok-source.out; is = refl }) (record { source = run.new.reader.source; sink = run.new.writer; is = refl })
     c.opening_end-in-Shown.result c.conclude-in-Shown.result (both.kept ∙ (earlier.kept ∙ judged.kept)) r c.positions_for-positions.result c.in_ok-identity.identity
     c.in_ok-position.position (In first) (In run.new.old_reader) run.result
@@ -161,13 +161,13 @@ returns-clause-acts g c =
     (record { source = first; sink = c.in_ok-source.out; is = refl }) (record { source = run.new.old_reader; sink = run.new.writer; is = refl })
     (λ shown. let f = both.opened shown in
     subst (λ (f : Files). Found (paths_of d) f before) (earlier.kept ∙ judged.kept)
-    (f.0, ap (λ s. (In s).remaining) c.with_meter-metered.ensures ∙ f.1, f.2, f.3))
+    (f.0, ap (λ s. (In s).remaining) c.with_meter-metered.ensures.source ∙ f.1, f.2, f.3))
     c.positions_for-positions.ensures c.opening_end-in-Shown.ensures run.ensures c.conclude-in-Shown.ensures.concludes
     (then_did _ _ _ (identity_order (text_of d.identity.pass) (text_of d.identity.shared))
     (Opened r.position.now ∷ Opened r.old.now ∷ Opened d.from.now ∷ (preparing (text_of d.save) ++ Created d.to.now ∷ [])) judged.noted
     (then_did _ _ _ (Opened r.position.now ∷ Opened r.old.now ∷ []) (Opened d.from.now ∷ (preparing (text_of d.save) ++ Created d.to.now ∷ [])) earlier.noted
     both.noted))
-    (λ twice. absurd (judged.apart (c.names_one_twice-is_file_named_twice.ensures.twice twice)).1) (λ silent. absurd (shown_not_silent (sym c.in-Shown.is ∙ silent)))
+    (λ twice. absurd (judged.apart (c.names_one_twice-is_file_named_twice.ensures.twice twice)).1) (λ silent. absurd (shown_not_silent (sym c.in-Shown.is ∙ silent)), inr (is_over _ _ c.end.ensures.shown))
 
 pub returns-clause-announced : goal.returns-clause-announced
 returns-clause-announced g c = c.conclude-in-Shown.ensures.announced

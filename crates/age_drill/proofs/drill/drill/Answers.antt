@@ -18,6 +18,7 @@ returns g c =
       kept = opened.kept ∙ script.kept;
       order = followed _ _ (Opened asked.script.now ∷ Opened asked.from.now ∷ []) did;
       order_done = always c.deliver_opened.result _ did;
+      sent = c.deliver_opened.ensures;
     }
 
 pub returns-in_err-script : goal.returns-in_err-script
@@ -27,4 +28,5 @@ returns-in_err-script g c =
       kept = c.read_script.ensures.kept;
       order = longer (Opened asked.script.now ∷ []) (Opened asked.from.now ∷ []) _ _ (followed _ _ (Opened asked.script.now ∷ []) c.read_script.ensures.noted);
       order_done = IfOk-from_err c.from_residual.result _ c.from_residual.ensures.0;
+      sent = IfOk-from_err c.from_residual.result _ c.from_residual.ensures.0;
     }

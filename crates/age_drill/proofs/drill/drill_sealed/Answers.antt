@@ -16,6 +16,7 @@ returns-in-Some g c =
       order_done = on_ok_weaker c.drill.result
           (λ done. then_did _ _ _ first (Opened asked.script.now ∷ Opened asked.from.now ∷ []) pass.noted done)
           drilled.order_done;
+      sent = drilled.sent;
     }
 
 pub returns : goal.returns
@@ -26,6 +27,7 @@ returns g c =
       kept = c.read_pass.ensures.kept;
       order = longer first (Opened asked.script.now ∷ Opened asked.from.now ∷ []) _ _ (followed _ _ first c.read_pass.ensures.noted);
       order_done = tt;
+      sent = tt;
     }
 
 pub returns-in_err-pass : goal.returns-in_err-pass
@@ -36,4 +38,5 @@ returns-in_err-pass g c =
       kept = c.read_pass.ensures.kept;
       order = longer first (Opened asked.script.now ∷ Opened asked.from.now ∷ []) _ _ (followed _ _ first c.read_pass.ensures.noted);
       order_done = IfOk-from_err c.from_residual.result _ c.from_residual.ensures.0;
+      sent = IfOk-from_err c.from_residual.result _ c.from_residual.ensures.0;
     }
