@@ -22,7 +22,7 @@ ghost use Rattle.age_cli.specs.inner.Names.{IsReadAs};
 ghost use Rattle.age_cli.specs.inner.Openings.{Judges};
 ghost use Rattle.age_cli.specs.inner.Rereadings.{DecryptsOpened, again_of};
 
-use crate::output::{Content, Output, conclude, open_both, with_meter};
+use crate::output::{Content, Output, conclude, end_meter, open_both, with_meter};
 use crate::reread::{Again, conclude_again};
 use crate::stop::opening_end;
 use age_cli_args::{Decrypting, ProgressOption};
@@ -134,7 +134,6 @@ struct Opened<S: Source> {
 }
 
 /// Decrypts the input into the output.
-#[tactic(auto, using(crate::proofs::ActSteps::is_over))]
 fn open_text<F: FileSet, P: Meter>(
     alloc: Global,
     files: &F,
@@ -160,7 +159,7 @@ fn open_text<F: FileSet, P: Meter>(
             let mut metered = with_meter(files, source, &mut *progress);
             let (end, key) = decrypt_keyed(alloc, positions, identity, &mut metered, out);
             let (source, _) = metered.into_parts();
-            progress.end();
+            end_meter(&mut *progress);
             Opened { end, key, source }
         }
     }
@@ -195,10 +194,10 @@ fn decrypt_opened<F: FileSet, E: Sink, P: Meter>(
     source: F::In,
     mut out: F::Out,
     faults: &mut E,
-    told: &mut Announcement,
+    announced: &mut Announcement,
     progress: &mut P,
 ) -> Result<(), Ending>
-    ensures announced { Tells told.new result (E.view faults.old) (E.view faults.new)
+    ensures announced { Tells announced.new result (E.view faults.old) (E.view faults.new)
         (faults.new ≡ faults.old) }
     ensures opened { DecryptsOpened (PortsOf F.In.view F.Out.view) (F.shows_bytes) asked.now identity.now
         (ports (F.In.view source) (F.Out.view out)) (F.view files.old) (F.view files.new)
@@ -224,7 +223,7 @@ fn decrypt_opened<F: FileSet, E: Sink, P: Meter>(
                 key,
                 stopped,
             };
-            Err(conclude_again(alloc, files, out, asked, again, faults, told, progress))
+            Err(conclude_again(alloc, files, out, asked, again, faults, announced, progress))
         }
         None => conclude(
             alloc,
@@ -233,29 +232,29 @@ fn decrypt_opened<F: FileSet, E: Sink, P: Meter>(
             asked.save,
             asked.durability,
             faults,
-            told,
+            announced,
             opening_end(end),
         ),
     }
 }
 
 /// Decrypts a file as asked. If it stops, the line of its fault is put to `faults`, and then its
-/// position is saved. What `told` says isn't reported is left to `report_ending`.
+/// position is saved. What `announced` says isn't reported is left to `report_ending`.
 pub fn decrypt_file<F: FileSet, E: Sink, P: Meter>(
     alloc: Global,
     files: &mut F,
     asked: &Decrypting<'_>,
     faults: &mut E,
-    told: &mut Announcement,
+    announced: &mut Announcement,
     progress: &mut P,
 ) -> Result<(), Ending>
-    ensures announced { Tells told.new result (E.view faults.old) (E.view faults.new)
+    ensures announced { Tells announced.new result (E.view faults.old) (E.view faults.new)
         (faults.new ≡ faults.old) }
     ensures acts { Acts (PortsOf F.In.view F.Out.view) (F.shows_bytes) (Decrypt asked.now)
         (F.view files.old) (F.view files.new) (SourceFails F.In.view)
         (progress.new ≡ progress.old) (IsOver (P.shown progress.new)) result }
 {
-    *told = Announcement::Unmade;
+    *announced = Announcement::Unmade;
     let is_file_named_twice = names_a_file_twice(files, asked);
     let choice = Choice::of(&asked.identity)?;
     let read = [asked.identity.pass, asked.identity.shared, Some(asked.from)];
@@ -270,6 +269,6 @@ pub fn decrypt_file<F: FileSet, E: Sink, P: Meter>(
     };
     let (source, out) = open_both(alloc, files, asked.from, &output)?;
     decrypt_opened(
-        alloc, files, asked, &identity, source, out, faults, told, progress,
+        alloc, files, asked, &identity, source, out, faults, announced, progress,
     )
 }

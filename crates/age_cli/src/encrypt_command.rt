@@ -22,7 +22,7 @@ ghost use Rattle.age_cli.specs.Engines.{PortsOf};
 ghost use Rattle.age_cli.specs.inner.Openings.{Judges};
 ghost use Rattle.age_cli.specs.inner.Randoms.{IsRandom, IsMaterialIn};
 
-use crate::output::{Content, Output, conclude, open_both, with_meter};
+use crate::output::{Content, Output, conclude, end_meter, open_both, with_meter};
 use crate::stop::sealing_end;
 use age_cli_args::{Encrypting, ProgressOption};
 use age_cli_common::{Announcement, Choice, Ending, Usage, read_first, trimmed};
@@ -194,22 +194,22 @@ fn secret_of<'a>(asked: &Encrypting<'_>, material: &'a Material) -> Result<Secre
 }
 
 /// Encrypts a file as asked. If it stops, the line of its fault is put to `faults`. What
-/// `told` says isn't reported is left to `report_ending`.
+/// `announced` says isn't reported is left to `report_ending`.
 pub fn encrypt_file<F: FileSet, E: Sink, P: Meter>(
     alloc: Global,
     files: &mut F,
     asked: &Encrypting<'_>,
     faults: &mut E,
-    told: &mut Announcement,
+    announced: &mut Announcement,
     progress: &mut P,
 ) -> Result<(), Ending>
-    ensures announced { Tells told.new result (E.view faults.old) (E.view faults.new)
+    ensures announced { Tells announced.new result (E.view faults.old) (E.view faults.new)
         (faults.new ≡ faults.old) }
     ensures acts { Acts (PortsOf F.In.view F.Out.view) (F.shows_bytes) (Encrypt asked.now)
         (F.view files.old) (F.view files.new) (SourceFails F.In.view)
         (progress.new ≡ progress.old) (IsOver (P.shown progress.new)) result }
 {
-    *told = Announcement::Unmade;
+    *announced = Announcement::Unmade;
     let material = read_material(alloc, files, asked)?;
     let secret = secret_of(asked, &material)?;
     let output = Output {
@@ -230,7 +230,7 @@ pub fn encrypt_file<F: FileSet, E: Sink, P: Meter>(
                 output.save,
                 output.durability,
                 faults,
-                told,
+                announced,
                 sealing_end(sealed),
             )
         }
@@ -238,7 +238,7 @@ pub fn encrypt_file<F: FileSet, E: Sink, P: Meter>(
             let mut metered = with_meter(files, source, &mut *progress);
             let sealed = encrypt(alloc, &secret, &mut metered, &mut out);
             drop(metered);
-            progress.end();
+            end_meter(&mut *progress);
             conclude(
                 alloc,
                 files,
@@ -246,7 +246,7 @@ pub fn encrypt_file<F: FileSet, E: Sink, P: Meter>(
                 output.save,
                 output.durability,
                 faults,
-                told,
+                announced,
                 sealing_end(sealed),
             )
         }

@@ -2,7 +2,7 @@
 
 ghost use Rattle.std.specs.Prelude.{◌≡◌, ◌⊎◌, [], ◌∷◌, ◌++◌, Some, None, true, false, is_some};
 ghost use Rattle.std.specs.Prelude.{IfErr, IfSome, ℕ, Option, option_map, length};
-ghost use Rattle.age_io.specs.Progress.{Adds, Begins};
+ghost use Rattle.age_io.specs.Progress.{Adds, Begins, IsOver};
 ghost use Rattle.age_cli_common.specs.Endings.{EndsEarly, is_usage};
 ghost use Rattle.age_fileset.specs.Events.{Opened, Created, Closed};
 ghost use Rattle.age_cli_args.specs.Requests.{text_of};
@@ -134,6 +134,13 @@ pub(crate) fn with_meter<F: FileSet, M: Meter>(
     Metered::new(source, meter)
 }
 
+/// Shows a meter that the run is over.
+pub(crate) fn end_meter<M: Meter>(meter: &mut M)
+    ensures { IsOver (M.shown meter.new) }
+{
+    meter.end();
+}
+
 /// Ends the output where the engine stopped: with what was written, or as it was.
 pub(crate) fn leave<F: FileSet>(
     files: &mut F,
@@ -187,16 +194,16 @@ pub(crate) fn conclude<F: FileSet, E: Sink>(
     save: Option<&str>,
     durability: Durability,
     faults: &mut E,
-    told: &mut Announcement,
+    announced: &mut Announcement,
     engine: Result<(), Stop>,
 ) -> Result<(), Ending>
-    ensures announced { Tells told.new result (E.view faults.old) (E.view faults.new)
+    ensures announced { Tells announced.new result (E.view faults.old) (E.view faults.new)
         (faults.new ≡ faults.old) }
     ensures concludes { Concludes (F.shows_bytes) (text_of save.entry) durability
         (F.Out.view out) engine (F.view files.old) (F.view files.new) result }
 {
     match end_out(files, out, durability, engine) {
         Ok(()) => Ok(()),
-        Err(stop) => Err(end_of(alloc, files, save, stop, durability, faults, told)),
+        Err(stop) => Err(end_of(alloc, files, save, stop, durability, faults, announced)),
     }
 }

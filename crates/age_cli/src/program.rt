@@ -58,10 +58,10 @@ fn obey<F: FileSet, I: Source, O: Sink, E: Sink, P: Meter>(
     input: &mut I,
     output: &mut O,
     faults: &mut E,
-    told: &mut Announcement,
+    announced: &mut Announcement,
     progress: &mut P,
 ) -> Result<(), Ending>
-    ensures announced { Tells told.new result (E.view faults.old) (E.view faults.new)
+    ensures announced { Tells announced.new result (E.view faults.old) (E.view faults.new)
         (faults.new ≡ faults.old) }
     ensures obeys { Obeys (texts words.now) (F.shows_bytes) (PortsOf F.In.view F.Out.view)
         (around (F.view files.old) (I.view input.old).remaining (O.view output.old))
@@ -69,7 +69,7 @@ fn obey<F: FileSet, I: Source, O: Sink, E: Sink, P: Meter>(
         (SourceFails F.In.view) (input.new ≡ input.old) (output.new ≡ output.old)
         (progress.new ≡ progress.old) (IsOver (P.shown progress.new)) result }
 {
-    *told = Announcement::Unmade;
+    *announced = Announcement::Unmade;
     if words.is_empty() {
         return report(alloc, input, output);
     }
@@ -81,9 +81,9 @@ fn obey<F: FileSet, I: Source, O: Sink, E: Sink, P: Meter>(
     match &request {
         Request::Inspect(Some(name)) => report_file(alloc, files, name, output),
         Request::Inspect(None) => report(alloc, input, output),
-        Request::Encrypt(asked) => encrypt_file(alloc, files, asked, faults, told, progress),
-        Request::Decrypt(asked) => decrypt_file(alloc, files, asked, faults, told, progress),
-        Request::Resume(asked) => resume_file(alloc, files, asked, faults, told, progress),
+        Request::Encrypt(asked) => encrypt_file(alloc, files, asked, faults, announced, progress),
+        Request::Decrypt(asked) => decrypt_file(alloc, files, asked, faults, announced, progress),
+        Request::Resume(asked) => resume_file(alloc, files, asked, faults, announced, progress),
         Request::Drill(asked) => drill_file(alloc, files, asked, output),
     }
 }
@@ -126,13 +126,20 @@ pub fn run<F: FileSet, I: Source, O: Sink, E: Sink, P: Meter>(
         (input.new ≡ input.old) (output.new ≡ output.old) (progress.new ≡ progress.old)
         (IsOver (P.shown progress.new)) result }
 {
-    let mut told = Announcement::Unmade;
+    let mut announced = Announcement::Unmade;
     match obey(
-        alloc, words, files, input, output, faults, &mut told, progress,
+        alloc,
+        words,
+        files,
+        input,
+        output,
+        faults,
+        &mut announced,
+        progress,
     ) {
         Ok(()) => 0,
         Err(ending) => {
-            report_ending(faults, &ending, told);
+            report_ending(faults, &ending, announced);
             status(&ending)
         }
     }

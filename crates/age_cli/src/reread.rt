@@ -9,7 +9,7 @@ ghost use Rattle.age_cli_args.specs.declared.request.ProgressOption.TheVariants.
 ghost use Rattle.age_cli_common.specs.FaultLines.{Announces};
 ghost use Rattle.age_cli.specs.inner.Rereadings.{IsFoundIn, ConcludesAgain};
 
-use crate::output::{leave, with_meter};
+use crate::output::{end_meter, leave, with_meter};
 use crate::stop::save;
 use age_cli_args::{Decrypting, ProgressOption};
 use age_cli_common::{Announcement, Ending, announce};
@@ -28,7 +28,7 @@ pub(crate) struct Again<S: Source> {
 }
 
 /// The position of a stop, by reading the input once more.
-#[tactic(auto, using(crate::proofs::RereadSteps::finds_so, crate::proofs::RereadSteps::fails_so, crate::proofs::ActSteps::is_over))]
+#[tactic(auto, using(crate::proofs::RereadSteps::finds_so, crate::proofs::RereadSteps::fails_so))]
 fn find_again<F: FileSet, P: Meter>(
     alloc: Global,
     files: &F,
@@ -54,7 +54,7 @@ fn find_again<F: FileSet, P: Meter>(
             let mut metered = with_meter(files, source, &mut *progress);
             let found = position_after(alloc, &key, stopped.written, &mut metered);
             drop(metered);
-            progress.end();
+            end_meter(&mut *progress);
             found
         }
     }
@@ -69,11 +69,11 @@ pub(crate) fn conclude_again<F: FileSet, E: Sink, P: Meter>(
     asked: &Decrypting<'_>,
     again: Again<F::In>,
     faults: &mut E,
-    told: &mut Announcement,
+    announced: &mut Announcement,
     progress: &mut P,
 ) -> Ending
     requires { is_some (text_of asked.now.save) ≡ true }
-    ensures announced { Announces told.new result (E.view faults.old) (E.view faults.new) ⊥ }
+    ensures announced { Announces announced.new result (E.view faults.old) (E.view faults.new) ⊥ }
     ensures again { ConcludesAgain (F.shows_bytes) asked.now (F.Out.view out) again.stopped
         again.key (F.view files.old) (F.view files.new) result }
     ensures silent { asked.now.progress ≡ Silent → progress.new ≡ progress.old }
@@ -81,7 +81,7 @@ pub(crate) fn conclude_again<F: FileSet, E: Sink, P: Meter>(
 {
     let Stopped { fault, written, .. } = again.stopped;
     leave(files, out, written == 0, asked.durability);
-    *told = announce(faults, fault);
+    *announced = announce(faults, fault);
     match find_again(alloc, files, asked, again, progress) {
         Ok(position) => match save(alloc, files, asked.save, Some(position), asked.durability) {
             Ok(()) => Ending::Fault(fault),

@@ -17,7 +17,7 @@ ghost use Rattle.age_cli.specs.Engines.{PortsOf};
 ghost use Rattle.age_cli.specs.Resumptions.{HoldsNoPosition, IsPositionIn, old_for};
 
 use crate::decrypt_command::{is_given_as, names_a_file_twice, positions_for, read_secret};
-use crate::output::{Content, Output, conclude, open_both, with_meter};
+use crate::output::{Content, Output, conclude, end_meter, open_both, with_meter};
 use crate::stop::opening_end;
 use age_cli_args::{ProgressOption, Resuming};
 use age_cli_common::{Announcement, Choice, Ending, read_file};
@@ -128,22 +128,22 @@ fn open_earlier<F: FileSet>(
 }
 
 /// Continues a decryption as asked. If it stops, the line of its fault is put to `faults`, and then
-/// its position is saved. What `told` says isn't reported is left to `report_ending`.
+/// its position is saved. What `announced` says isn't reported is left to `report_ending`.
 pub fn resume_file<F: FileSet, E: Sink, P: Meter>(
     alloc: Global,
     files: &mut F,
     asked: &Resuming<'_>,
     faults: &mut E,
-    told: &mut Announcement,
+    announced: &mut Announcement,
     progress: &mut P,
 ) -> Result<(), Ending>
-    ensures announced { Tells told.new result (E.view faults.old) (E.view faults.new)
+    ensures announced { Tells announced.new result (E.view faults.old) (E.view faults.new)
         (faults.new ≡ faults.old) }
     ensures acts { Acts (PortsOf F.In.view F.Out.view) (F.shows_bytes) (Resume asked.now)
         (F.view files.old) (F.view files.new) (SourceFails F.In.view)
         (progress.new ≡ progress.old) (IsOver (P.shown progress.new)) result }
 {
-    *told = Announcement::Unmade;
+    *announced = Announcement::Unmade;
     let wanted = &asked.decrypting;
     let is_file_named_twice = names_one_twice(files, asked);
     let choice = Choice::of(&wanted.identity)?;
@@ -184,7 +184,7 @@ pub fn resume_file<F: FileSet, E: Sink, P: Meter>(
                 output.save,
                 output.durability,
                 faults,
-                told,
+                announced,
                 opening_end(resumed),
             )
         }
@@ -200,7 +200,7 @@ pub fn resume_file<F: FileSet, E: Sink, P: Meter>(
                 &mut out,
             );
             drop(metered);
-            progress.end();
+            end_meter(&mut *progress);
             conclude(
                 alloc,
                 files,
@@ -208,7 +208,7 @@ pub fn resume_file<F: FileSet, E: Sink, P: Meter>(
                 output.save,
                 output.durability,
                 faults,
-                told,
+                announced,
                 opening_end(resumed),
             )
         }

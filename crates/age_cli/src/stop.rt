@@ -107,9 +107,9 @@ pub(crate) fn end_of<F: FileSet, E: Sink>(
     stop: Stop,
     durability: Durability,
     faults: &mut E,
-    told: &mut Announcement,
+    announced: &mut Announcement,
 ) -> Ending
-    ensures announced { Announces told.new result (E.view faults.old) (E.view faults.new) ⊥ }
+    ensures announced { Announces announced.new result (E.view faults.old) (E.view faults.new) ⊥ }
     ensures fault { is_usage result ≡ false }
     ensures ends { F.shows_bytes ≡ true → EndsOf stop.fault (text_of name.entry) stop.position
         (F.view files.old).entries (F.view files.new).entries result }
@@ -118,7 +118,7 @@ pub(crate) fn end_of<F: FileSet, E: Sink>(
     ensures others { F.shows_bytes ≡ true → SparesBoth None (text_of name.entry)
         (F.view files.old).entries (F.view files.new).entries }
 {
-    *told = announce(faults, stop.fault);
+    *announced = announce(faults, stop.fault);
     match save(alloc, files, name, stop.position, durability) {
         Ok(()) => Ending::Fault(stop.fault),
         Err(second) => Ending::Unsaved(stop.fault, second),

@@ -12,7 +12,7 @@ use Rattle.age_cli_common.specs.declared.ending.Ending.TheVariants.{Usage}
 use Rattle.age_cli.specs.Outputs.{Paths}
 use Rattle.age_cli.proofs.CommandSteps.{reason_at}
 use Rattle.age_cli.proofs.ReportSteps.{unmade}
-use Rattle.age_cli.proofs.ActSteps.{acts_early, is_over, shown_not_silent}
+use Rattle.age_cli.proofs.ActSteps.{acts_early, shown_not_silent}
 use Rattle.age_cli.proofs.FinalSteps.{Found, encrypt_acts}
 use Rattle.age_cli_common.proofs.EventSteps.{longer, then_did, then_follows}
 use Rattle.age_cli.proofs.encrypt_command.encrypt_file.Goals as goal
@@ -101,7 +101,7 @@ returns-clause-acts g c =
     subst (λ (f : Files). Found paths f before) judged.kept (f.0, ap (λ s. (In s).remaining) c.with_meter-metered.ensures.source ∙ f.1, f.2, f.3))
     c.sealing_end-in-Shown.ensures run.ensures.done run.ensures.fails run.ensures.named c.conclude-in-Shown.ensures.concludes
     (then_did _ _ _ (Opened a.pass.now ∷ Opened (random_name (text_of a.random)) ∷ []) (Opened a.from.now ∷ Created a.to.now ∷ []) judged.noted both.noted)
-    (λ twice. absurd (judged.apart twice).1) (λ silent. absurd (shown_not_silent (sym c.in-Shown.is ∙ silent)), inr (is_over _ _ c.end.ensures.shown))
+    (λ twice. absurd (judged.apart twice).1) (λ silent. absurd (shown_not_silent (sym c.in-Shown.is ∙ silent)), inr c.end_meter.ensures)
 
 pub returns-clause-announced : goal.returns-clause-announced
 returns-clause-announced g c = c.conclude-in-Shown.ensures.announced

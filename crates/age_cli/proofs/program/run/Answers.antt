@@ -16,7 +16,7 @@ returns-in-Err g c = record {
   ended = Err c.in-Err.ending;
   status_is = c.status.ensures;
   quiet = tt;
-  reported = reported_whole c.obey.new.told c.in-Err.ending (g.E.Sink.view c.args.faults.now) (g.E.Sink.view c.obey.new.faults)
+  reported = reported_whole c.obey.new.announced c.in-Err.ending (g.E.Sink.view c.args.faults.now) (g.E.Sink.view c.obey.new.faults)
       (g.E.Sink.view c.report_ending.new.faults) _ (ap g.E.Sink.view) c.in-Err.ensures.announced c.report_ending.ensures;
   obeys = c.in-Err.ensures.obeys;
 }

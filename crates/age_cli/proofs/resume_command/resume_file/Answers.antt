@@ -14,7 +14,7 @@ use Rattle.age_fileset.specs.declared.files.OpenFault.TheVariants as create
 use Rattle.age_cli.specs.Acts.{paths_of}
 use Rattle.age_cli.specs.Resumptions.{HoldsNoPosition}
 use Rattle.age_cli.proofs.ReportSteps.{unmade}
-use Rattle.age_cli.proofs.ActSteps.{acts_early, is_over, shown_not_silent}
+use Rattle.age_cli.proofs.ActSteps.{acts_early, shown_not_silent}
 use Rattle.age_cli.proofs.CommandSteps.{bad_position, in_order, position_fault, position_reason, reason_at, some_files}
 use Rattle.age_cli.proofs.FinalSteps.{Found, WasEarlier, resume_acts}
 use Rattle.age_cli_common.proofs.EventSteps.{longer, none_done, then_did, then_follows}
@@ -167,7 +167,7 @@ returns-clause-acts g c =
     (Opened r.position.now ∷ Opened r.old.now ∷ Opened d.from.now ∷ (preparing (text_of d.save) ++ Created d.to.now ∷ [])) judged.noted
     (then_did _ _ _ (Opened r.position.now ∷ Opened r.old.now ∷ []) (Opened d.from.now ∷ (preparing (text_of d.save) ++ Created d.to.now ∷ [])) earlier.noted
     both.noted))
-    (λ twice. absurd (judged.apart (c.names_one_twice-is_file_named_twice.ensures.twice twice)).1) (λ silent. absurd (shown_not_silent (sym c.in-Shown.is ∙ silent)), inr (is_over _ _ c.end.ensures.shown))
+    (λ twice. absurd (judged.apart (c.names_one_twice-is_file_named_twice.ensures.twice twice)).1) (λ silent. absurd (shown_not_silent (sym c.in-Shown.is ∙ silent)), inr c.end_meter.ensures)
 
 pub returns-clause-announced : goal.returns-clause-announced
 returns-clause-announced g c = c.conclude-in-Shown.ensures.announced
