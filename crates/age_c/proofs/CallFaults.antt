@@ -13,12 +13,11 @@ use Rattle.age_chunk.specs.declared.fault.StreamKind.TheVariants.{EmptyLast, Tru
 use Rattle.age_chunk.specs.declared.fault.StreamKind.TheVariants.{TooManyChunks}
 use Rattle.age_stream.specs.declared.step.Status.{Status}
 use Rattle.age_stream.specs.declared.step.Status.TheVariants.{Open, LastSeen, Done, Failed}
-use Rattle.age_stream.specs.Segment.{Segment, outcome, failed}
-use Rattle.age_stream.specs.Deliveries.{with_piece, with_end}
+use Rattle.age_stream.specs.Segment.{Segment, outcome, failed, with_piece, with_end}
 use Rattle.age_stream.proofs.PublicLaws.{closed_stays}
 use Rattle.age_c.specs.declared.reader.Reader.{Reader}
-use Rattle.age_c.specs.Numbers.{answer_of, failed_at, misused, status_of}
-use Rattle.age_c.specs.ReaderCalls.{Call, IsCall, AreCalls, after_block, after_end, segment_from}
+use Rattle.age_c.specs.Calls.{answer_of, failed_at, misused, status_of}
+use Rattle.age_c.specs.Readers.{Call, IsCall, AreCalls, after_block, after_end, segment_from}
 use Rattle.age_c.specs.CallsWritten.{StaysRefused}
 use Rattle.age_c.specs.inner.Keys.{opens}
 use Rattle.age_c.proofs.ReaderSteps.{some_is}

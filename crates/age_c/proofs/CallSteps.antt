@@ -6,16 +6,13 @@ use Rattle.std.proofs.lemmas.List.{append_assoc, append-nil}
 use Rattle.std.proofs.lemmas.Bool.{ne_eqb, false≢true}
 use Rattle.std.proofs.lemmas.Bool.Decides.{eqb_tells}
 use Rattle.age_chunk.specs.Payload.{chunk_length}
-use Rattle.age_stream.specs.Segment.{Segment, outcome, released}
-use Rattle.age_stream.specs.Deliveries.{with_piece}
+use Rattle.age_stream.specs.Segment.{Segment, outcome, released, with_piece}
 use Rattle.age_stream.specs.declared.step.Status.TheVariants.{Done}
-use Rattle.age_c.specs.Answers.{Answers}
+use Rattle.age_c.specs.Calls.{Answers, status_of, misused}
 use Rattle.age_c.specs.declared.reader.Reader.{Reader}
-use Rattle.age_c.specs.Numbers.{status_of, misused}
-use Rattle.age_c.specs.Readers.{IsAt, text_of}
-use Rattle.age_c.specs.ReaderCalls.{Takes, AnswersAreCalls, call_of, Call, IsCall, AreCalls}
-use Rattle.age_c.specs.ReaderCalls.{after_block, after_end, given_by, last_reader, segment_from}
-use Rattle.age_c.specs.ReaderCalls.{texts_of}
+use Rattle.age_c.specs.Readers.{IsAt, text_of, Takes, AnswersAreCalls, call_of, Call, IsCall}
+use Rattle.age_c.specs.Readers.{AreCalls, after_block, after_end, given_by, last_reader}
+use Rattle.age_c.specs.Readers.{segment_from, texts_of}
 use Rattle.age_c.specs.inner.Keys.{key_of_reader as key_of, opens}
 use Rattle.age_c.proofs.ReaderSteps.{key_same, some_is}
 

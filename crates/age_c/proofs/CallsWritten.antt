@@ -1,5 +1,6 @@
 -- What a caller may rely on after any calls on one reader.
-use Rattle.std.proofs.Common.{inl, inr, ◌≡◌, ◌≢◌, ℕ, ◌<◌, ◌≤◌, ◌*◌, refl, ap, sym, subst, ◌∙◌, arith}
+use Rattle.std.proofs.Common.{inl, inr, ◌≡◌, ◌≢◌, ℕ, ◌<◌, ◌≤◌, ◌*◌, refl, ap, sym, subst, ◌∙◌}
+use Rattle.std.proofs.Common.{arith}
 use Rattle.std.proofs.Common.{List, [], ◌∷◌, ◌++◌, length, take, drop, Bool, true, false}
 use Rattle.std.specs.Prelude.{◌==◌, ◌⊎◌, if◌then◌else◌, Some}
 use Rattle.std.specs.List.{flat_map, AllByRecursion}
@@ -7,24 +8,20 @@ use Rattle.std.proofs.lemmas.Bool.{cases_lt}
 use Rattle.std.proofs.lemmas.Bool.Decides.{eqb_tells}
 use Rattle.std.proofs.lemmas.List.{append_assoc, append-nil, drop_at, length-append, length-take}
 use Rattle.std.proofs.lemmas.List.{nil_from_length}
-use Rattle.age_chunk.specs.Nonce.{chunk_limit}
-use Rattle.age_chunk.specs.Payload.{block_length, chunk_count, chunk_length, payload}
+use Rattle.age_chunk.specs.Payload.{chunk_limit, block_length, chunk_count, chunk_length, payload}
 use Rattle.age_chunk.specs.declared.fault.StreamKind.TheVariants.{ChunkDamaged, TooManyChunks}
 use Rattle.age_keys.specs.inner.PayloadBox.{box_valid}
-use Rattle.age_stream.specs.Authentic.{IsClosed, IsSealable}
-use Rattle.age_stream.specs.Deliveries.{fresh}
-use Rattle.age_stream.specs.Headline.{IsPrefixOf, IsRest, IsRight}
-use Rattle.age_stream.specs.Places.{IsFirstWrong}
-use Rattle.age_stream.specs.Segment.{Segment, Outcome, outcome, failed}
+use Rattle.age_stream.specs.Laws.{IsClosed, IsSealable}
+use Rattle.age_stream.specs.Segment.{fresh, Segment, Outcome, outcome, failed}
+use Rattle.age_stream.specs.Headline.{IsPrefixOf, IsRest, IsRight, IsFirstWrong}
 use Rattle.age_stream.specs.declared.step.Status.{Status}
 use Rattle.age_stream.specs.declared.step.Status.TheVariants.{Done, Failed}
 use Rattle.age_stream.proofs.Fresh.{fresh_outcome}
 use Rattle.age_stream.proofs.PublicLaws.{released_is_written, rest_is_authentic}
 use Rattle.age_c.specs.declared.reader.Reader.{Reader}
-use Rattle.age_c.specs.Numbers.{answer_of, misused, status_of}
-use Rattle.age_c.specs.Readers.{IsAt, SameFile, text_of}
-use Rattle.age_c.specs.ReaderCalls.{Call, IsCall, AreCalls, last_reader, segment_from, texts_of}
-use Rattle.age_c.specs.ReaderCalls.{after_block, after_end}
+use Rattle.age_c.specs.Calls.{answer_of, misused, status_of}
+use Rattle.age_c.specs.Readers.{IsAt, SameFile, text_of, Call, IsCall, AreCalls, last_reader}
+use Rattle.age_c.specs.Readers.{segment_from, texts_of, after_block, after_end}
 use Rattle.age_c.specs.CallsWritten.{given, AllAnswer, AreAuthentic, AreRight, AreUndamaged}
 use Rattle.age_c.specs.CallsWritten.{AreParts, CallsAreWritten, GiveBlocks, GivesWrong, IsRefusedAt}
 use Rattle.age_c.specs.CallsWritten.{Part, PartsAreWritten}

@@ -1,13 +1,16 @@
 -- The first block that isn't the writer's is refused.
-use Rattle.std.proofs.Common.{inl, inr, ◌≡◌, ◌≢◌, ℕ, ◌<◌, ◌≤◌, ◌+◌, ◌*◌, ◌/◌, ◌^◌, refl, ap, sym, subst}
-use Rattle.std.proofs.Common.{◌∙◌, arith, rules, List, [], ◌∷◌, ◌++◌, length, take, drop, get_or, Bool, true, false}
+use Rattle.std.proofs.Common.{inl, inr, ◌≡◌, ◌≢◌, ℕ, ◌<◌, ◌≤◌, ◌+◌, ◌*◌, ◌/◌, ◌^◌, refl, ap, sym}
+use Rattle.std.proofs.Common.{subst}
+use Rattle.std.proofs.Common.{◌∙◌, arith, rules, List, [], ◌∷◌, ◌++◌, length, take, drop, get_or}
+use Rattle.std.proofs.Common.{Bool, true, false}
 use Rattle.std.specs.Prelude.{◌==◌, ◌&&◌, nat_lt, if◌then◌else◌, Some, None, Option, IsSome}
-use Rattle.std.proofs.lemmas.List.{append_assoc, append-nil, get_or_at, length-append, length-drop, length-take}
+use Rattle.std.proofs.lemmas.List.{append_assoc, append-nil, get_or_at, length-append, length-drop}
+use Rattle.std.proofs.lemmas.List.{length-take}
 use Rattle.std.proofs.lemmas.Bool.{lt-ltb, false≢true}
 use Rattle.std.proofs.lemmas.Bool.Decides.{nat_tests}
 use Rattle.age_chunk.specs.ChunkBoxes.{tag_length}
-use Rattle.age_chunk.specs.Nonce.{chunk_limit, nonce_bytes}
-use Rattle.age_chunk.specs.Payload.{chunk_count, chunk_length, block_length}
+use Rattle.age_chunk.specs.Payload.{chunk_limit, nonce_bytes, chunk_count, chunk_length}
+use Rattle.age_chunk.specs.Payload.{block_length}
 use Rattle.age_chunk.specs.declared.fault.StreamFault.{StreamFault}
 use Rattle.age_chunk.specs.declared.fault.StreamKind.TheVariants.{ChunkDamaged}
 use Rattle.age_chunk.proofs.FirstChunks.{length-first_chunks}
@@ -16,17 +19,19 @@ use Rattle.age_keys.specs.inner.PayloadBox.{box_valid}
 use Rattle.age_stream.specs.declared.step.Status.TheVariants.{Open, Failed}
 use Rattle.age_stream.specs.Segment.{Segment, Outcome, outcome, failed, front_texts, rest_bytes}
 use Rattle.age_stream.specs.Segment.{text_before_last, text_then, unless_greatest, whole_blocks}
-use Rattle.age_stream.specs.inner.SegmentSteps.{after_front, after_last, at_block, final_block, one_block}
-use Rattle.age_stream.specs.Deliveries.{with_piece, with_end}
+use Rattle.age_stream.specs.Segment.{with_piece, with_end}
+use Rattle.age_stream.specs.inner.OpenerSteps.{after_front, after_last, at_block, final_block}
+use Rattle.age_stream.specs.inner.OpenerSteps.{one_block}
 use Rattle.age_stream.specs.Headline.{IsAuthentic, IsWriters}
-use Rattle.age_stream.proofs.Going.{front_on, going, going_outcome, going_whole, IsGoing, more_blocks}
+use Rattle.age_stream.proofs.Going.{front_on, going, going_outcome, going_whole, IsGoing}
+use Rattle.age_stream.proofs.Going.{more_blocks}
 use Rattle.age_stream.proofs.Going.{part_blocks, part_rest, past_place, unended_piece, whole_more}
 use Rattle.age_stream.proofs.Segments.{IsPair-from_Contains, next_within}
 use Rattle.age_stream.proofs.Tried.{AreTried, tried}
 use Rattle.age_c.specs.declared.reader.Reader.{Reader}
-use Rattle.age_c.specs.Numbers.{misused}
-use Rattle.age_c.specs.ReaderCalls.{Call, IsCall, AreCalls, after_block, after_end, last_reader}
-use Rattle.age_c.specs.ReaderCalls.{segment_from}
+use Rattle.age_c.specs.Calls.{misused}
+use Rattle.age_c.specs.Readers.{Call, IsCall, AreCalls, after_block, after_end, last_reader}
+use Rattle.age_c.specs.Readers.{segment_from}
 use Rattle.age_c.specs.CallsWritten.{AllAnswer, GiveBlocks, IsBlock}
 use Rattle.age_c.specs.inner.Keys.{key_of_reader as key_of, opens, seals}
 use Rattle.age_c.proofs.CallFaults.{answer_by, unfailed}

@@ -7,14 +7,12 @@ use Rattle.std.specs.List.{flat_map}
 use Rattle.std.specs.Borrow.{Bor}
 use Rattle.std.proofs.lemmas.List.{length-append, length-drop, length-take, nil_from_length}
 use Rattle.std.proofs.lemmas.Grind.{flat_map-append}
-use Rattle.age_stream.specs.Segment.{Segment, outcome, released, rest_bytes}
-use Rattle.age_stream.specs.Deliveries.{with_piece, with_end}
-use Rattle.age_stream.specs.Lent.{chunk_bytes}
-use Rattle.age_stream.specs.Opening.{OpenerView, Stands, chunk_texts}
+use Rattle.age_stream.specs.Segment.{Segment, outcome, released, rest_bytes, with_piece, with_end}
+use Rattle.age_stream.specs.Opener.{chunk_bytes, OpenerView, Stands, chunk_texts}
 use Rattle.age_stream.specs.declared.step.Status.{Status}
 use Rattle.age_stream.specs.declared.step.Status.TheVariants.{Open}
 use Rattle.age_c.specs.declared.reader.Reader.{Reader}
-use Rattle.age_c.specs.Numbers.{status_of}
+use Rattle.age_c.specs.Calls.{status_of}
 use Rattle.age_c.specs.Readers.{IsAt, SameFile}
 use Rattle.age_c.specs.inner.Keys.{key_of_reader as key_of, opens}
 use Rattle.age_chunk.specs.Payload.{chunk_length, block_length}

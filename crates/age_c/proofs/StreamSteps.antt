@@ -8,16 +8,14 @@ use Rattle.std.proofs.lemmas.List.{append-nil, length-take, nil_from_length}
 use Rattle.std.proofs.Math.Bool.{or-false}
 use Rattle.age_chunk.specs.Payload.{block_length, chunk_length}
 use Rattle.age_keys.specs.AgeFile.{unbox}
-use Rattle.age_stream.specs.Deliveries.{with_end, with_piece}
-use Rattle.age_stream.specs.Segment.{Segment, Outcome}
+use Rattle.age_stream.specs.Segment.{with_end, with_piece, Segment, Outcome}
 use Rattle.age_stream.specs.declared.step.Status.TheVariants.{Open}
 use Rattle.age_stream.proofs.Going.{going, going_part}
 use Rattle.age_stream.proofs.PublicLaws.{pieces_join}
 use Rattle.age_c.specs.declared.reader.Reader.{Reader}
 use Rattle.age_c.specs.declared.stream.Stream.{Stream}
-use Rattle.age_c.specs.Numbers.{answer_of, status_of}
-use Rattle.age_c.specs.ReaderCalls.{Takes, TakesEnd, after_block}
-use Rattle.age_c.specs.Readers.{IsAt, SameFile, outcome_of, text_of}
+use Rattle.age_c.specs.Calls.{answer_of, status_of}
+use Rattle.age_c.specs.Readers.{Takes, TakesEnd, after_block, IsAt, SameFile, outcome_of, text_of}
 use Rattle.age_c.specs.Streams.{Feeds, Finishes, StreamIsAt, held_of}
 use Rattle.age_c.proofs.ReaderSteps.{some_is}
 

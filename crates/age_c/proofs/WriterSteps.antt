@@ -9,21 +9,19 @@ use Rattle.std.proofs.lemmas.List.{append_assoc, append-nil, drop_at, length-app
 use Rattle.std.proofs.lemmas.List.{take_all}
 use Rattle.std.proofs.lemmas.Bool.Decides.{eqb_tells}
 use Rattle.std.proofs.lemmas.Grind.{flat_map-append}
-use Rattle.age_chunk.specs.Nonce.{nonce_bytes, chunk_limit}
-use Rattle.age_chunk.specs.Payload.{pair, block_bytes, payload, last_index, last_chunk}
-use Rattle.age_chunk.specs.Payload.{chunk_length}
+use Rattle.age_chunk.specs.Payload.{nonce_bytes, chunk_limit, pair, block_bytes, payload}
+use Rattle.age_chunk.specs.Payload.{last_index, last_chunk, chunk_length}
 use Rattle.age_chunk.proofs.FirstChunks.{first_chunks_more, first_chunks-append}
 use Rattle.age_chunk.proofs.FirstChunks.{length-first_chunks}
 use Rattle.age_stream.proofs.Chunks.{enumerate_from_more}
 use Rattle.age_stream.proofs.Sealings.{last_index_is}
 use Rattle.age_c.specs.declared.writer.Writer.{Writer}
 use Rattle.age_c.specs.inner.Keys.{key_of_writer as key_of, seals}
-use Rattle.age_c.specs.Writers.{HasSealed, SealsChunk, SealsLast, SameKeys, blocks_of}
-use Rattle.age_c.specs.WriterCalls.{SealCall, IsSealCall, AreSealCalls, CallsArePayload, taken_by}
-use Rattle.age_c.specs.WriterCalls.{writer_after, written_by, AnswersAreSealCalls, FilesAreWhole}
-use Rattle.age_c.specs.Answers.{Answers}
-use Rattle.age_c.specs.Numbers.{misused}
-use Rattle.age_c.specs.Writers.{WritesOrRefuses, salt_in, key_in}
+use Rattle.age_c.specs.Writers.{HasSealed, SealsChunk, SealsLast, SameKeys, blocks_of, SealCall}
+use Rattle.age_c.specs.Writers.{IsSealCall, AreSealCalls, CallsArePayload, taken_by, writer_after}
+use Rattle.age_c.specs.Writers.{written_by, AnswersAreSealCalls, FilesAreWhole, WritesOrRefuses}
+use Rattle.age_c.specs.Writers.{salt_in, key_in}
+use Rattle.age_c.specs.Calls.{Answers, misused}
 use Rattle.age_keys.specs.AgeFile.{box}
 use Rattle.age_keys.specs.Keys.{header_mac, IsMacOf}
 use Rattle.age_keys.specs.Scrypt.{scrypt_head}

@@ -1,11 +1,6 @@
-pub mod Numbers
+pub mod Calls
 pub mod Readers
-pub mod Starts
-pub mod ReaderCalls
 pub mod CallsWritten
 pub mod Writers
-pub mod WriterCalls
-pub mod Answers
-pub mod Sizes
 pub mod Streams
 pub mod inner

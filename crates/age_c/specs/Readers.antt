@@ -1,12 +1,24 @@
--- What a reader's numbers stand for.
-use Rattle.std.specs.Prelude.{◌≡◌, ℕ, ◌<◌, IsSome, false, List, [], Some}
+-- A reader, from its start on.
+use Rattle.std.specs.Prelude.{◌≡◌, ℕ, ◌<◌, IsSome, false, List, [], Some, ◌⊎◌, ◌+◌, ◌≤◌, length}
+use Rattle.std.specs.Prelude.{take, drop, ◌≢◌, ◌==◌, Bool, true, ◌∷◌, ◌++◌, if◌then◌else◌}
 use Rattle.age_keys.specs.AgeFile.{unbox}
 use Rattle.age_stream.specs.declared.step.Status.TheVariants.{Open}
-use Rattle.age_stream.specs.Segment.{Segment, Outcome, outcome, released, rest_bytes}
-use Rattle.age_chunk.specs.Nonce.{chunk_limit}
+use Rattle.age_stream.specs.Segment.{Segment, Outcome, outcome, released, rest_bytes, fresh}
+use Rattle.age_stream.specs.Segment.{with_piece, with_end}
+use Rattle.age_chunk.specs.Payload.{chunk_limit, chunk_length, block_length}
 use Rattle.age_c.specs.declared.reader.Reader.{Reader}
-use Rattle.age_c.specs.Numbers.{status_of}
-use Rattle.age_chunk.specs.Payload.{chunk_length}
+use Rattle.age_c.specs.Calls.{status_of, more, Answers, answer_of, misused}
+use Rattle.age_stanza.specs.declared.header.Header.{Header}
+use Rattle.age_stanza.specs.Grammar.{HeadText, header_limit}
+use Rattle.age_stanza.specs.Parsing.{HasHeader, NoFault, IsFault, memory_fault}
+use Rattle.age_stanza.specs.Parsing.{number_of as number_of_head}
+use Rattle.age_keys.specs.Keys.{Opens, Refuses, number_of as number_of_key}
+use Rattle.age_keys.specs.declared.fault.KeyFault.{KeyFault}
+use Rattle.age_c.specs.declared.start.StartFault.{StartFault}
+use Rattle.age_c.specs.declared.start.StartFault.TheVariants.{More, Head, Key}
+use Rattle.std.specs.List.{flat_map}
+
+-- ---- What a reader's numbers stand for.
 
 -- what a segment gives under the reader's keys
 abbrev pub outcome_of : Reader → Segment → Outcome
@@ -34,3 +46,162 @@ pub record SameFile (was now : Reader) : Type 0 where
 pub record CanBeUsed (r : Reader) : Type 0 where
   pub status : IsSome (status_of r.state r.fault_chunk)
   pub chunk : r.chunk < chunk_limit
+
+-- ---- How a file is begun: its header is opened, and the payload's nonce is read.
+
+-- the bytes begin with a header's text of that length and 16 bytes more
+pub record HasFront (front : List ℕ) (header : Header) (len : ℕ) : Type 0 where
+  pub text : HeadText header (take len front)
+  pub within : len + 16 ≤ length front
+
+-- the bytes begin with a header and the payload's nonce, the file key is one that is allowed for
+-- that header, whose MAC it confirms, and the reader was given nothing of the payload
+pub record IsStarted (Allows : Header → List ℕ → Type 0) (front : List ℕ)
+    (r : Reader) : Type 0 where
+  pub header : Header
+  pub len : ℕ
+  pub has : HasFront front header len
+  pub opened : Opens Allows header r.file_key
+  pub nonce : r.nonce ≡ take 16 (drop len front)
+  pub payload_at : r.payload_at ≡ len + 16
+  pub start : IsAt r (fresh 0)
+
+-- more bytes are needed: these begin with no header, and none of their lines is faulty; or fewer
+-- than 16 follow their header
+abbrev pub NeedsMore : List ℕ → Type 0
+NeedsMore front =
+    ((length front < header_limit) × (¬ HasHeader front) × NoFault front)
+    ⊎ ((header : Header) × (len : ℕ) × HeadText header (take len front) × (len ≤ length front)
+    × (length front < len + 16))
+
+-- no header and nonce are read: more bytes are needed, or the header is faulty, or took too much
+-- memory
+abbrev pub HeadRefuses : List ℕ → StartFault → Type 0
+HeadRefuses front More = NeedsMore front
+HeadRefuses front (Head fault) =
+    (fault ≡ memory_fault) ⊎ ((¬ HasHeader front) × IsFault front fault)
+HeadRefuses front (Key fault) = ⊥
+
+-- the file isn't begun: no header is read, or it isn't opened
+abbrev pub StartRefuses : (Header → List ℕ → Type 0) → (Header → KeyFault → Type 0) → List ℕ
+    → StartFault → Type 0
+StartRefuses Allows Refused front (Key fault) = (header : Header) × (len : ℕ)
+    × HasFront front header len × Refuses Allows Refused header fault
+StartRefuses Allows Refused front fault = HeadRefuses front fault
+
+-- the number that is answered
+abbrev pub number_of : StartFault → ℕ
+number_of More = more
+number_of (Head fault) = number_of_head fault.kind
+number_of (Key fault) = number_of_key fault
+
+-- the answer is a refusal's
+abbrev pub IsRefusal : (Header → List ℕ → Type 0) → (Header → KeyFault → Type 0) → List ℕ
+    → ℕ → Type 0
+IsRefusal Allows Refused front answer = (fault : StartFault) × (answer ≡ number_of fault)
+    × StartRefuses Allows Refused front fault
+
+-- ---- What one call does to a reader, and what a list of calls does.
+
+-- the segment after a block, and after the end
+abbrev pub after_block : List ℕ → Segment → Segment
+after_block block s = with_piece s block
+
+abbrev pub after_end : List ℕ → Segment → Segment
+after_end rest s = with_end (with_piece s rest)
+
+-- a reader of any segment is then one of what comes after it, and the call wrote what that released
+-- more; the answer is its fault, or 0, and with a fault nothing was written
+pub record Takes (after : Segment → Segment) (old : Reader) (answer : ℕ) (text : List ℕ)
+    (new : Reader) : Type 0 where
+  pub at : (s : Segment) → IsAt old s → IsAt new (after s)
+  pub released : (s : Segment) → IsAt old s → text_of old (after s) ≡ text_of old s ++ text
+  pub same : SameFile old new
+  pub answer_is : answer ≡ answer_of new.state
+  pub nothing : answer ≢ 0 → text ≡ []
+
+-- an end answers 0 only once the last chunk was opened
+pub record TakesEnd (rest : List ℕ) (old : Reader) (answer : ℕ) (text : List ℕ)
+    (new : Reader) : Type 0 where
+  pub takes : Takes (after_end rest) old answer text new
+  pub done : answer ≡ 0 → new.state ≡ 3
+
+-- the reader is at a chunk as if it had been given nothing: what it was given before, a fault and an
+-- end are forgotten
+pub record GoesTo (chunk : ℕ) (old new : Reader) : Type 0 where
+  pub at : IsAt new (fresh chunk)
+  pub unrefused : new.fault_chunk ≡ 0
+  pub same : SameFile old new
+
+-- the call isn't misused: the reader can be used, and there is a whole block, and room for its text
+pub record IsBlockCall (r : Reader) (block out : List ℕ) : Type 0 where
+  pub usable : CanBeUsed r
+  pub whole : length block ≡ block_length
+  pub room : chunk_length ≤ length out
+
+-- the same of an end: what is left is shorter than a block
+pub record IsEndCall (r : Reader) (rest out : List ℕ) : Type 0 where
+  pub usable : CanBeUsed r
+  pub short : length rest < block_length
+  pub room : chunk_length ≤ length out
+
+-- a call: whether it is an end, what it was given, what it answered and wrote, and the reader after
+-- it
+pub record Call : Type 0 where
+  pub is_end : Bool
+  pub bytes : List ℕ
+  pub answer : ℕ
+  pub text : List ℕ
+  pub after : Reader
+
+-- the segment after a call that wasn't misused
+abbrev pub given_by : Call → Segment → Segment
+given_by c s = if c.is_end then after_end c.bytes s else after_block c.bytes s
+
+-- this is a call on the reader: it was misused, and changed and wrote nothing; or it took what it
+-- was given, and then, if it is an end that answered 0, the last chunk was opened
+abbrev pub IsCall : Reader → Call → Type 0
+IsCall r c =
+    ((c.answer ≡ misused) × (c.after ≡ r) × (c.text ≡ []))
+    ⊎ ((c.answer ≢ misused) × Takes (given_by c) r c.answer c.text c.after
+    × (c.is_end ≡ true → c.answer ≡ 0 → c.after.state ≡ 3))
+
+-- the calls were made one after the other, and nothing else changed the reader
+abbrev pub AreCalls : Reader → List Call → Type 0
+AreCalls r [] = Unit {0}
+AreCalls r (c ∷ calls) = IsCall r c × AreCalls c.after calls
+
+-- the reader after them
+abbrev pub last_reader : Reader → List Call → Reader
+last_reader r [] = r
+last_reader r (c ∷ calls) = last_reader c.after calls
+
+-- the segment that they gave: a call that was misused gave nothing
+abbrev pub segment_from : Segment → List Call → Segment
+segment_from s [] = s
+segment_from s (c ∷ calls) =
+    segment_from (if c.answer == misused then s else given_by c s) calls
+
+-- the texts that they wrote, one after the other
+abbrev pub texts_of : List Call → List ℕ
+texts_of calls = flat_map (λ (c : Call). c.text) calls
+
+-- a call as its caller sees it: what it was given, the answer, how much it wrote, and its output
+-- and the reader after it
+abbrev pub call_of : Bool → List ℕ → ℕ → ℕ → List ℕ → Reader → Call
+call_of is_end bytes answer written out after = record {
+  is_end = is_end;
+  bytes = bytes;
+  answer = answer;
+  text = take written out;
+  after = after;
+}
+
+-- what `age_c_block` and `age_c_end` promise (`Answers`, with the same arguments as in their
+-- contracts) makes each of them a call on the reader: so a law about lists of calls holds of them
+abbrev pub AnswersAreCalls : Type 0
+AnswersAreCalls = (old new : Reader) (bytes before after : List ℕ) (answer written : ℕ)
+    → (Answers (IsBlockCall old bytes before) (Takes (after_block bytes) old) old new answer written
+    before after → IsCall old (call_of false bytes answer written after new))
+    × (Answers (IsEndCall old bytes before) (TakesEnd bytes old) old new answer written before after
+    → IsCall old (call_of true bytes answer written after new))

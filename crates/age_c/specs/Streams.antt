@@ -1,11 +1,10 @@
 -- What a stream's numbers and bytes stand for, and what one call does to it.
 use Rattle.std.specs.Prelude.{◌≡◌, ◌≢◌, ℕ, ◌<◌, ◌≤◌, List, [], ◌++◌, length, take}
 use Rattle.age_chunk.specs.Payload.{block_length, chunk_length}
-use Rattle.age_stream.specs.Deliveries.{with_end, with_piece}
-use Rattle.age_stream.specs.Segment.{Segment}
+use Rattle.age_stream.specs.Segment.{with_end, with_piece, Segment}
 use Rattle.age_stream.specs.declared.step.Status.TheVariants.{Open}
 use Rattle.age_c.specs.declared.stream.Stream.{Stream}
-use Rattle.age_c.specs.Numbers.{answer_of}
+use Rattle.age_c.specs.Calls.{answer_of}
 use Rattle.age_c.specs.Readers.{CanBeUsed, IsAt, SameFile, outcome_of, text_of}
 
 -- the bytes of the block that is open

@@ -2,12 +2,10 @@
 
 ghost use Rattle.std.specs.Prelude.{◌≡◌, ◌≢◌, ◌+◌, ◌<◌, ◌≤◌, [], length, min, take, drop};
 ghost use Rattle.std.specs.Prelude.{IfSome, IfNone, Some, false};
-ghost use Rattle.age_stream.specs.Deliveries.{with_piece, with_end};
-ghost use Rattle.age_stream.specs.Lent.{chunk_bytes};
-ghost use Rattle.age_stream.specs.Opening.{has_failed};
-ghost use Rattle.age_c.specs.Answers.{PutsFront};
-ghost use Rattle.age_c.specs.Numbers.{answer_of, status_of};
-ghost use Rattle.age_c.specs.ReaderCalls.{IsBlockCall, IsEndCall, Takes, TakesEnd, after_block};
+ghost use Rattle.age_stream.specs.Segment.{with_piece, with_end};
+ghost use Rattle.age_stream.specs.Opener.{chunk_bytes, has_failed};
+ghost use Rattle.age_c.specs.Calls.{PutsFront, answer_of, status_of};
+ghost use Rattle.age_c.specs.Readers.{IsBlockCall, IsEndCall, Takes, TakesEnd, after_block};
 ghost use Rattle.age_c.specs.Readers.{CanBeUsed};
 ghost use Rattle.age_c.specs.inner.Blocks.{Keeps, PassesOn};
 ghost use Rattle.age_c.specs.inner.Keys.{key_of_reader};

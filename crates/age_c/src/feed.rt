@@ -2,8 +2,7 @@
 
 ghost use Rattle.std.specs.Prelude.{◌≡◌, ◌<◌, ◌≤◌, IfNone, IfSome, Some, take};
 ghost use Rattle.age_chunk.specs.Payload.{chunk_length, block_length};
-ghost use Rattle.age_c.specs.Answers.{Answers, PutsFront};
-ghost use Rattle.age_c.specs.Numbers.{answer_of, misused, status_of};
+ghost use Rattle.age_c.specs.Calls.{Answers, PutsFront, answer_of, misused, status_of};
 ghost use Rattle.age_c.specs.Readers.{CanBeUsed};
 ghost use Rattle.age_c.specs.Streams.{Feeds, Finishes, IsStreamCall};
 ghost use Rattle.age_c.specs.inner.Holding.{Holds};

@@ -2,8 +2,8 @@
 //! no law: each call takes its reader or writer by reference, and the library keeps nothing else.
 
 ghost use Rattle.age_c.specs.CallsWritten.{CallsAreWritten, PartsAreWritten};
-ghost use Rattle.age_c.specs.ReaderCalls.{AnswersAreCalls};
-ghost use Rattle.age_c.specs.WriterCalls.{AnswersAreSealCalls, CallsArePayload, FilesAreWhole};
+ghost use Rattle.age_c.specs.Readers.{AnswersAreCalls};
+ghost use Rattle.age_c.specs.Writers.{AnswersAreSealCalls, CallsArePayload, FilesAreWhole};
 
 /// The headline for a caller: after any calls of [`age_c_block`](crate::age_c_block) and
 /// [`age_c_end`](crate::age_c_end) on a reader that was just begun, or went to a chunk, while no

@@ -1,9 +1,9 @@
 //! The functions by which C opens a header.
 
 ghost use Rattle.std.specs.Prelude.{◌≡◌, ◌≢◌, length};
-ghost use Rattle.age_keys.specs.Passphrase.{IsAllowed, IsPassphraseKey, PassphraseRefuses};
-ghost use Rattle.age_keys.specs.SharedSecret.{IsSharedKey, SharedRefuses};
-ghost use Rattle.age_c.specs.Starts.{IsStarted, IsRefusal};
+ghost use Rattle.age_keys.specs.Scrypt.{IsAllowed, IsPassphraseKey, PassphraseRefuses};
+ghost use Rattle.age_keys.specs.X25519.{IsSharedKey, SharedRefuses};
+ghost use Rattle.age_c.specs.Readers.{IsStarted, IsRefusal};
 
 use crate::MISUSED;
 use crate::reader::Reader;

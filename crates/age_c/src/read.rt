@@ -1,7 +1,7 @@
 //! The functions by which C reads a payload.
 
-ghost use Rattle.age_c.specs.Answers.{Answers};
-ghost use Rattle.age_c.specs.ReaderCalls.{IsBlockCall, IsEndCall, Takes, TakesEnd, after_block};
+ghost use Rattle.age_c.specs.Calls.{Answers};
+ghost use Rattle.age_c.specs.Readers.{IsBlockCall, IsEndCall, Takes, TakesEnd, after_block};
 
 use crate::MISUSED;
 use crate::blocks::{open_block, open_last, status_at};

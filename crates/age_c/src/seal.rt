@@ -1,8 +1,8 @@
 //! The functions by which C writes a file.
 
 ghost use Rattle.std.specs.Prelude.{◌≡◌, ◌+◌, ◌↔◌, IsTrue};
-ghost use Rattle.age_chunk.specs.Nonce.{chunk_limit};
-ghost use Rattle.age_c.specs.Answers.{Answers};
+ghost use Rattle.age_chunk.specs.Payload.{chunk_limit};
+ghost use Rattle.age_c.specs.Calls.{Answers};
 ghost use Rattle.age_c.specs.Writers.{CanSeal, IsStartCall, IsChunkCall, IsLastCall};
 ghost use Rattle.age_c.specs.Writers.{WritesOrRefuses, BeginsFile, SealsChunk, SealsLast};
 

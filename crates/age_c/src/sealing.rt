@@ -2,14 +2,13 @@
 
 ghost use Rattle.std.specs.Prelude.{◌≡◌, ◌+◌, ◌<◌, ◌≤◌, [], ◌++◌, length, take, drop, IfOk, IfErr};
 ghost use Rattle.age_cipher.specs.Aead.{sealing as sealing_with};
-ghost use Rattle.age_chunk.specs.Nonce.{chunk_limit, nonce_bytes};
-ghost use Rattle.age_keys.specs.Passphrase.{IsAllowed};
-ghost use Rattle.age_c.specs.Starts.{number_of};
-ghost use Rattle.age_c.specs.Answers.{PutsFront};
+ghost use Rattle.age_chunk.specs.Payload.{chunk_limit, nonce_bytes, chunk_length};
+ghost use Rattle.age_keys.specs.Scrypt.{IsAllowed};
+ghost use Rattle.age_c.specs.Readers.{number_of};
+ghost use Rattle.age_c.specs.Calls.{PutsFront};
 ghost use Rattle.age_c.specs.Writers.{IsChunkCall, IsFront, IsLastCall, SealsChunk, SealsLast};
 ghost use Rattle.age_c.specs.Writers.{key_in, nonce_in, salt_in};
 ghost use Rattle.age_c.specs.inner.Keys.{key_of_writer};
-ghost use Rattle.age_chunk.specs.Payload.{chunk_length};
 ghost use Rattle.age_chunk.specs.ChunkBoxes.{tag_length};
 
 use crate::start::StartFault;

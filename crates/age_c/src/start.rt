@@ -1,9 +1,9 @@
 //! Opens the header at the beginning of a file, and reads the nonce after it.
 
 ghost use Rattle.std.specs.Prelude.{◌≡◌, ◌≢◌, ◌+◌, ◌≤◌, length, take, drop, IfOk, IfErr};
-ghost use Rattle.age_stream.specs.Deliveries.{fresh};
-ghost use Rattle.age_c.specs.Readers.{IsAt};
-ghost use Rattle.age_c.specs.Starts.{HasFront, HeadRefuses, IsStarted, StartRefuses, number_of};
+ghost use Rattle.age_stream.specs.Segment.{fresh};
+ghost use Rattle.age_c.specs.Readers.{IsAt, HasFront, HeadRefuses, IsStarted, StartRefuses};
+ghost use Rattle.age_c.specs.Readers.{number_of};
 ghost use Rattle.age_c.specs.inner.Counts.{StartCounts};
 
 use crate::MORE;

@@ -1,5 +1,6 @@
 -- What the crates above may use of ciphertexts, sealings and openings.
-use Rattle.std.proofs.Common.{◌≡◌, ℕ, ◌+◌, ◌-◌, ◌<◌, List, ◌++◌, length, take, drop, get_or, slice_index, bit_xor, refl, sym, ap, ◌∙◌, arith, length-append}
+use Rattle.std.proofs.Common.{◌≡◌, ℕ, ◌+◌, ◌-◌, ◌<◌, List, ◌++◌, length, take, drop, get_or}
+use Rattle.std.proofs.Common.{slice_index, bit_xor, refl, sym, ap, ◌∙◌, arith, length-append}
 use Rattle.std.proofs.Common.{Bool, true, false}
 use Rattle.std.specs.Prelude.{Option, Some, None, cond, IsTrue, ◌↔◌}
 use Rattle.std.specs.Bool.{OnTrue, OnFalse}
@@ -11,8 +12,7 @@ use Rattle.std.proofs.lemmas.List.FromFn.{length-map-range_with_len, get_or-map-
 use Rattle.std.proofs.lemmas.Option.{cond_some}
 use Rattle.age_cipher.specs.Keystream.{keystream_byte, ciphertext}
 use Rattle.age_cipher.specs.Poly1305.{poly1305}
-use Rattle.age_cipher.specs.Aead.{tag, sealing, IsSealing}
-use Rattle.age_cipher.specs.Opening.{opening}
+use Rattle.age_cipher.specs.Aead.{tag, sealing, IsSealing, opening}
 
 pub length-ciphertext : (key nonce : List ℕ) (counter : ℕ) (text : List ℕ) → length (ciphertext key nonce counter text) ≡ length text
 unfolding ciphertext

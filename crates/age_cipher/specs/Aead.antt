@@ -1,10 +1,11 @@
 -- The AEAD of ChaCha20 and Poly1305 (RFC 8439, 2.8).
-use Rattle.std.specs.Prelude.{◌≡◌, ℕ, ◌-◌, ◌%◌, List, [], ◌∷◌, ◌++◌, length}
-use Rattle.std.specs.Prelude.{replicate}
+use Rattle.std.specs.Prelude.{◌≡◌, ℕ, ◌-◌, ◌%◌, List, [], ◌∷◌, ◌++◌, length, replicate, take}
+use Rattle.std.specs.Prelude.{Option, Some, None, if◌then◌else◌}
 use Rattle.std.specs.List.{concat}
 use Rattle.std.specs.Int.{w64, to_le_bytes}
 use Rattle.age_cipher.specs.Keystream.{ciphertext}
 use Rattle.age_cipher.specs.Poly1305.{poly1305}
+use Rattle.std.specs.Str.{bytes_eq}
 
 -- the one-time key of Poly1305: the first 32 bytes of block 0 (RFC 8439, 2.6)
 unfoldable pub one_time_key : List ℕ → List ℕ → List ℕ
@@ -44,3 +45,13 @@ abbrev pub DistinctSealings : Type 0
 DistinctSealings =
     (key nonce aad text other : List ℕ)
     → sealing key nonce aad text ≡ sealing key nonce aad other → text ≡ other
+
+-- ---- What a block opens to, computed. The definition of opening is the sealing alone: a block
+-- opens to a text where it is that text's sealing. The law `OpensSealings` says that this computes
+-- it. It is for crates above, whose boxes may use it.
+
+-- all but the last 16 bytes is deciphered and sealed again, and the block compared with that
+unfoldable pub opening : List ℕ → List ℕ → List ℕ → List ℕ → Option (List ℕ)
+opening key nonce aad block =
+    let text = ciphertext key nonce 1 (take (length block - 16) block) in
+    if bytes_eq (sealing key nonce aad text) block then Some text else None

@@ -6,8 +6,7 @@ use Rattle.std.specs.Int.{byte_at}
 use Rattle.rand_core.specs.Steps.{u32_at}
 use Rattle.rand_chacha.specs.Block.{add32, double_rounds}
 use Rattle.age_cipher.specs.Keystream.{keystream_byte}
-use Rattle.age_cipher.specs.Aead.{sealing}
-use Rattle.age_cipher.specs.Opening.{opening}
+use Rattle.age_cipher.specs.Aead.{sealing, opening}
 
 -- the state that a block begins with: four constants, the eight words of the key, the block
 -- counter, and the three words of the nonce (RFC 8439, 2.3)

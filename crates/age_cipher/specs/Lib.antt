@@ -1,6 +1,5 @@
 pub mod Poly1305
 pub mod Keystream
 pub mod Aead
-pub mod Opening
 pub mod Laws
 pub mod inner

@@ -1,25 +1,22 @@
 -- What a command did, from what its steps did.
-use Rattle.std.proofs.Common.{◌≡◌, ◌∙◌, ◌⊎◌, ◌++◌, Option, Some, None, ap, sym, inl, inr, Bool, true, false, true≢false, List}
+use Rattle.std.proofs.Common.{◌≡◌, ◌∙◌, ◌⊎◌, ◌++◌, Option, Some, None, ap, sym, inl, inr, Bool}
+use Rattle.std.proofs.Common.{true, false, true≢false, List}
 use Rattle.std.proofs.Common.{Result, OnOk, IfErr}
 use Rattle.std.specs.Prelude.{IsErr, IsErrAnd}
-use Rattle.age_io.specs.Progress.{Adds, Ends, IsOver, Shown as ShownOne}
-use Rattle.age_file.specs.Ports.{Ports}
-use Rattle.age_fileset.specs.Events.{Event}
-use Rattle.age_fileset.specs.FileSet.{FilesView}
+use Rattle.age_io.specs.Io.{Adds, Ends, IsOver, Shown as ShownOne}
+use Rattle.age_file.specs.Runs.{Ports}
+use Rattle.age_fileset.specs.FileSet.{Event, FilesView}
 use Rattle.age_cli_args.specs.Requests.{text_of}
 use Rattle.age_cli_args.specs.declared.request.ProgressOption.TheVariants.{Shown, Silent}
 use Rattle.age_cli_args.specs.declared.request.Request.{Request}
-use Rattle.age_cli_args.specs.declared.request.Request.TheVariants.{Inspect, Decrypt, Resume, Encrypt, Drill}
-use Rattle.age_cli_common.specs.EventOrders.{Follows, replacing}
+use Rattle.age_cli_args.specs.declared.request.Request.TheVariants.{Inspect, Decrypt, Resume}
+use Rattle.age_cli_args.specs.declared.request.Request.TheVariants.{Encrypt, Drill}
+use Rattle.age_cli_common.specs.Orders.{Follows, replacing, NamesTwice, order_asked}
 use Rattle.age_cli_common.specs.Files.{Files}
-use Rattle.age_cli_common.specs.Names.{NamesTwice}
-use Rattle.age_cli_common.specs.Orders.{order_asked}
-use Rattle.age_cli_common.specs.Reasons.{HasReason}
-use Rattle.age_cli_common.specs.Endings.{is_usage}
+use Rattle.age_cli_common.specs.Endings.{HasReason, is_usage}
 use Rattle.age_cli_common.specs.declared.ending.Ending.{Ending}
-use Rattle.age_cli.specs.Acts.{Acts, EndsBefore, GivesNone, HasEnded, OfEngine, OfSomeEngine, Spares, progress_of}
-use Rattle.age_cli.specs.Outcomes.{IsUsage}
-use Rattle.age_cli.specs.Outputs.{Stops, Writes}
+use Rattle.age_cli.specs.Acts.{Acts, EndsBefore, GivesNone, HasEnded, OfEngine, OfSomeEngine}
+use Rattle.age_cli.specs.Acts.{Spares, progress_of, IsUsage, Stops, Writes}
 use Rattle.age_cli.proofs.CommandSteps.{not_well, this_error, just_error}
 use Rattle.age_cli_common.proofs.EventSteps.{longer}
 use Rattle.std.proofs.lemmas.Result.{IfErr-weaker}

@@ -1,29 +1,26 @@
 -- What is so where a command or a step of one ends early, and of what a step read.
-use Rattle.std.proofs.Common.{◌≡◌, ◌∙◌, ◌⊎◌, ◌++◌, ◌∷◌, [], inl, inr, ap, sym, subst, refl, Bool, true, false, true≢false, append-nil, List, ℕ, Option, Some, None}
+use Rattle.std.proofs.Common.{◌≡◌, ◌∙◌, ◌⊎◌, ◌++◌, ◌∷◌, [], inl, inr, ap, sym, subst, refl, Bool}
+use Rattle.std.proofs.Common.{true, false, true≢false, append-nil, List, ℕ, Option, Some, None}
 use Rattle.std.proofs.Common.{Result, Ok, Err, IfOk, IfErr, OnOk}
 use Rattle.std.specs.Prelude.{IsErr, IsErrAnd, is_some, OnErr}
 use Rattle.std.specs.Io.KnownBytes.{Consumes, IsAtEnd}
 use Rattle.age_fault.specs.declared.fault.FileFault.{FileFault}
 use Rattle.age_fault.specs.declared.fault.FileFault.TheVariants.{Read, Write, Memory, BadPosition}
-use Rattle.age_fileset.specs.FileSet.{IsMemoryOr, OpenFails}
+use Rattle.age_fileset.specs.FileSet.{IsMemoryOr, OpenFails, Event, Opened, FilesView}
 use Rattle.age_fileset.specs.declared.files.OpenFault.{OpenFault}
 use Rattle.age_fileset.specs.declared.files.OpenFault.TheVariants.{SameFile}
 use Rattle.age_fileset.specs.declared.files.OpenFault.TheVariants as create
-use Rattle.age_fileset.specs.Events.{Event, Opened}
-use Rattle.age_fileset.specs.FileSet.{FilesView}
-use Rattle.age_cli_common.specs.Endings.{EndsEarly, is_usage}
-use Rattle.age_cli_common.specs.Choices.{Chooses, IsSecretIn, Makes, file_of}
+use Rattle.age_cli_common.specs.Endings.{EndsEarly, is_usage, HasReason, IsUnmade, IsUnread}
+use Rattle.age_cli_common.specs.Identities.{Chooses, IsSecretIn, Makes, file_of, OpensBy}
 use Rattle.age_cli_common.specs.Files.{Files}
-use Rattle.age_cli_common.specs.Identities.{OpensBy}
 use Rattle.age_cli_common.specs.declared.choice.Choice.{Choice}
 use Rattle.age_cli_common.specs.declared.identity.Identity.{Identity}
 use Rattle.age_cli_args.specs.declared.request.IdentityOptions.{IdentityOptions}
-use Rattle.age_cli_common.specs.Reasons.{HasReason, IsUnmade, IsUnread}
 use Rattle.clap.specs.Words.{Text}
 use Rattle.age_cli_common.specs.inner.Endings.{ending_of}
 use Rattle.age_cli_common.specs.declared.ending.Ending.{Ending}
 use Rattle.age_cli_common.specs.declared.ending.Ending.TheVariants.{Fault}
-use Rattle.age_cli.specs.Resumptions.{HoldsNoPosition}
+use Rattle.age_cli.specs.Commands.{HoldsNoPosition}
 use Rattle.age_cli.specs.inner.Openings.{Judges}
 
 -- what is so of a result that is this error

@@ -1,5 +1,6 @@
 -- What stands where a command stopped, step by step.
-use Rattle.std.proofs.Common.{◌≡◌, ◌∙◌, ℕ, inl, inr, refl, ap, sym, subst, List, [], length, Option, Some, None, false, true≢false}
+use Rattle.std.proofs.Common.{◌≡◌, ◌∙◌, ℕ, inl, inr, refl, ap, sym, subst, List, [], length, Option}
+use Rattle.std.proofs.Common.{Some, None, false, true≢false}
 use Rattle.std.specs.Prelude.{◌==◌, IsSomeAnd}
 use Rattle.std.specs.Io.KnownBytes.{Appends}
 use Rattle.std.proofs.lemmas.List.{nil_from_length}
@@ -7,23 +8,19 @@ use Rattle.clap.specs.Words.{Text}
 use Rattle.age_stanza.specs.declared.header.Header.{Header}
 use Rattle.age_keys.specs.declared.fault.KeyFault.{KeyFault}
 use Rattle.age_stream.specs.Headline.{IsPrefixOf}
-use Rattle.age_file.specs.Ports.{Ports}
-use Rattle.age_file.specs.Secrets.{SecretView}
-use Rattle.age_file.specs.Encrypts.{EncryptFails}
-use Rattle.age_file.specs.Runs.{Run, IsFromStart, held, IsRun, IsAuthenticRun, WritesNone}
+use Rattle.age_file.specs.Runs.{Ports, Run, IsFromStart, held, IsRun, IsAuthenticRun, WritesNone}
+use Rattle.age_file.specs.Encrypts.{SecretView, EncryptFails}
 use Rattle.age_file.specs.Decrypts.{DecryptStops}
 use Rattle.age_file.specs.declared.decryption.Stopped.{Stopped}
-use Rattle.age_io.specs.Views.{SinkView}
+use Rattle.age_io.specs.Io.{SinkView}
 use Rattle.std.proofs.KnownBytes.{Appends-nil}
-use Rattle.age_file.specs.OldTexts.{BeginsWith}
-use Rattle.age_file.specs.Resumes.{ResumePorts, WritesOld, IsFrom}
-use Rattle.age_file.specs.ResumeFaults.{ResumeStops}
+use Rattle.age_file.specs.Resumes.{BeginsWith, ResumePorts, WritesOld, IsFrom, ResumeStops}
 use Rattle.age_file.specs.declared.position.Position.{Position}
 use Rattle.age_file.specs.declared.position.Positions.{Positions}
 use Rattle.age_fault.specs.declared.fault.FileFault.{FileFault}
 use Rattle.age_fault.specs.declared.fault.FileFault.TheVariants as fault
 use Rattle.age_cli_common.specs.Files.{Files}
-use Rattle.age_cli.specs.Outputs.{EndsOf}
+use Rattle.age_cli.specs.Acts.{EndsOf}
 use Rattle.age_cli_common.specs.declared.ending.Ending.{Ending}
 use Rattle.age_cli_common.specs.declared.ending.Ending.TheVariants.{Words, Usage, Fault, Unsaved}
 

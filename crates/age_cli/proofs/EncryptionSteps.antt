@@ -1,9 +1,10 @@
 -- What an encryption did, step by step.
-use Rattle.std.proofs.Common.{◌≡◌, ◌<◌, ◌∙◌, ◌++◌, ap, sym, List, ℕ, length, Option, Some, append_assoc, arith}
+use Rattle.std.proofs.Common.{◌≡◌, ◌<◌, ◌∙◌, ◌++◌, ap, sym, List, ℕ, length, Option, Some}
+use Rattle.std.proofs.Common.{append_assoc, arith}
 use Rattle.std.proofs.lemmas.List.{length-append}
-use Rattle.age_file.specs.Secrets.{SecretView}
-use Rattle.age_cli.specs.Encryptions.{IsRandomIn}
-use Rattle.age_cli.specs.inner.Randoms.{IsRandom}
+use Rattle.age_file.specs.Encrypts.{SecretView}
+use Rattle.age_cli.specs.Commands.{IsRandomIn}
+use Rattle.age_cli.specs.inner.Openings.{IsRandom}
 use Rattle.age_cli.specs.declared.encrypt_command.Random.{Random}
 
 -- the random bytes at the front of a file are the secret's

@@ -1,17 +1,15 @@
 -- What becomes of OUT, from what an engine promises and how OUT was ended.
-use Rattle.std.proofs.Common.{◌≡◌, ◌∙◌, ◌⊎◌, ℕ, ap, sym, subst, refl, inl, inr, Bool, true, false, true≢false, List, [], Option, Some}
+use Rattle.std.proofs.Common.{◌≡◌, ◌∙◌, ◌⊎◌, ℕ, ap, sym, subst, refl, inl, inr, Bool, true, false}
+use Rattle.std.proofs.Common.{true≢false, List, [], Option, Some}
 use Rattle.std.proofs.Common.{Result, Ok, Err, OnOk, IfOk, IfErr, ⊎_elim, rules}
 use Rattle.std.specs.Prelude.{IsOk, IsSomeAnd, is_some, ◌==◌}
 use Rattle.std.proofs.lemmas.Result.{on_ok_weaker, IfErr-weaker}
-use Rattle.age_io.specs.Views.{SourceView}
+use Rattle.age_io.specs.Io.{SourceView}
 use Rattle.age_io.specs.declared.durability.Durability.{Durability}
-use Rattle.age_file.specs.Ports.{Ports, ports}
-use Rattle.age_file.specs.Secrets.{SecretView}
-use Rattle.age_file.specs.Encrypts.{Encrypts, EncryptFails}
+use Rattle.age_file.specs.Runs.{Ports, ports, Run}
+use Rattle.age_file.specs.Encrypts.{SecretView, Encrypts, EncryptFails}
 use Rattle.age_file.specs.Decrypts.{DecryptEnds, DecryptStops}
-use Rattle.age_file.specs.Runs.{Run}
-use Rattle.age_file.specs.Resumes.{resume_ports}
-use Rattle.age_file.specs.ResumeFaults.{ResumeEnds, ResumeStops}
+use Rattle.age_file.specs.Resumes.{resume_ports, ResumeEnds, ResumeStops}
 use Rattle.age_file.specs.declared.encryption.Written.{Written}
 use Rattle.age_file.specs.declared.decryption.Done.{Done}
 use Rattle.age_file.specs.declared.decryption.Stopped.{Stopped}
@@ -24,11 +22,13 @@ use Rattle.age_cli_common.specs.Files.{Files, SparesBoth}
 use Rattle.age_cli_common.specs.declared.ending.Ending.{Ending}
 use Rattle.age_cli_common.specs.declared.identity.Identity.{Identity}
 use Rattle.age_cli_common.specs.Identities.{allows_by, refuses_by}
-use Rattle.age_cli.specs.Engines.{Engine, Ran, sealing, opening, resuming}
-use Rattle.age_cli.specs.Outputs.{Paths, Writes, Stops, IsLeft, IsUnclosed, EndsOf}
+use Rattle.age_cli.specs.Acts.{Engine, Ran, sealing, opening, resuming, Paths, Writes, Stops}
+use Rattle.age_cli.specs.Acts.{IsLeft, IsUnclosed, EndsOf}
 use Rattle.age_cli.specs.declared.stop.Stop.{Stop}
-use Rattle.age_cli.specs.inner.Endings.{is_memory, sealing_end, opening_end, IsFaithful, Left, Concludes}
-use Rattle.age_cli.proofs.CommandStopSteps.{stop_wrote, resume_wrote, sealed_nothing, the_run, holds_nothing, holds_something}
+use Rattle.age_cli.specs.inner.Endings.{is_memory, sealing_end, opening_end, IsFaithful, Left}
+use Rattle.age_cli.specs.inner.Endings.{Concludes}
+use Rattle.age_cli.proofs.CommandStopSteps.{stop_wrote, resume_wrote, sealed_nothing, the_run}
+use Rattle.age_cli.proofs.CommandStopSteps.{holds_nothing, holds_something}
 
 -- an engine's promise, of how it ended
 pub record Kept (engine : Engine) (before after : Ports) (end : Result (Unit {0}) Stop) : Type 0 where

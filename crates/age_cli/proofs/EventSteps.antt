@@ -2,8 +2,8 @@
 use Rattle.std.proofs.Common.{◌≡◌, ◌∙◌, ◌++◌, ◌∷◌, [], ap, sym, subst, List, append_assoc, Some}
 use Rattle.clap.specs.Words.{Text}
 use Rattle.age_io.specs.declared.durability.Durability.{Durability}
-use Rattle.age_fileset.specs.Events.{Event, Created, Closed}
-use Rattle.age_cli_common.specs.EventOrders.{Follows, making}
+use Rattle.age_fileset.specs.FileSet.{Event, Created, Closed}
+use Rattle.age_cli_common.specs.Orders.{Follows, making}
 use Rattle.age_cli_common.proofs.EventSteps.{then_did, then_follows}
 
 -- the output was created last, and then it was ended, and the file of the position may have been replaced

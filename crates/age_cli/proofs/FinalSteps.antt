@@ -1,23 +1,21 @@
 -- What a command did whose engine ran.
-use Rattle.std.proofs.Common.{◌≡◌, ◌⊎◌, ◌∙◌, ◌++◌, ◌∷◌, ap, sym, subst, refl, inl, inr, true, List, [], Bool, Some, None, append-nil}
+use Rattle.std.proofs.Common.{◌≡◌, ◌⊎◌, ◌∙◌, ◌++◌, ◌∷◌, ap, sym, subst, refl, inl, inr, true, List}
+use Rattle.std.proofs.Common.{[], Bool, Some, None, append-nil}
 use Rattle.std.proofs.Common.{Result, Ok, Err, OnOk, IfOk, IfErr}
 use Rattle.std.specs.Prelude.{is_some}
 use Rattle.std.proofs.lemmas.Result.{on_ok_weaker, IfErr-weaker}
-use Rattle.age_io.specs.Views.{SourceView}
+use Rattle.age_io.specs.Io.{SourceView}
 use Rattle.age_io.specs.declared.durability.Durability.{Durability}
-use Rattle.age_file.specs.Ports.{Ports, ports}
-use Rattle.age_file.specs.Secrets.{SecretView}
-use Rattle.age_file.specs.Encrypts.{Encrypts, EncryptFails}
-use Rattle.age_file.specs.Resumes.{resume_ports}
-use Rattle.age_file.specs.ResumePromises.{ResumesText}
+use Rattle.age_file.specs.Runs.{Ports, ports}
+use Rattle.age_file.specs.Encrypts.{SecretView, Encrypts, EncryptFails}
+use Rattle.age_file.specs.Resumes.{resume_ports, ResumesText}
 use Rattle.age_file.specs.declared.encryption.Written.{Written}
 use Rattle.age_file.specs.declared.decryption.Done.{Done}
 use Rattle.age_file.specs.declared.decryption.Stopped.{Stopped}
 use Rattle.age_file.specs.declared.position.Position.{Position}
 use Rattle.age_file.specs.declared.position.Positions.{Positions}
 use Rattle.age_fault.specs.declared.fault.FileFault.{FileFault}
-use Rattle.age_fileset.specs.Events.{Event, Opened, Created}
-use Rattle.age_fileset.specs.FileSet.{FilesView}
+use Rattle.age_fileset.specs.FileSet.{Event, Opened, Created, FilesView}
 use Rattle.age_cli_args.specs.Requests.{text_of}
 use Rattle.age_cli_args.specs.declared.request.ProgressOption.TheVariants.{Silent}
 use Rattle.age_cli_args.specs.declared.request.Encrypting.{Encrypting}
@@ -25,24 +23,23 @@ use Rattle.age_cli_args.specs.declared.request.Decrypting.{Decrypting}
 use Rattle.age_cli_args.specs.declared.request.Resuming.{Resuming}
 use Rattle.age_cli_args.specs.declared.request.Request.{Request}
 use Rattle.age_cli_args.specs.declared.request.Request.TheVariants.{Encrypt, Decrypt, Resume}
-use Rattle.age_cli_common.specs.EventOrders.{Follows, identity_order, preparing, making, replacing}
+use Rattle.age_cli_common.specs.Orders.{Follows, identity_order, preparing, making, replacing}
+use Rattle.age_cli_common.specs.Orders.{NamesTwice, order_asked, random_name}
 use Rattle.age_cli_common.specs.Files.{Files, SparesBoth}
 use Rattle.age_cli_common.specs.Identities.{OpensBy, allows_by, refuses_by}
-use Rattle.age_cli_common.specs.Names.{NamesTwice}
-use Rattle.age_cli_common.specs.Orders.{order_asked, random_name}
 use Rattle.age_cli_common.specs.declared.ending.Ending.{Ending}
 use Rattle.age_cli_common.specs.declared.identity.Identity.{Identity}
-use Rattle.age_cli.specs.Acts.{Acts, HasEnded, OfEngine, OfSomeEngine, Spares, paths_of, progress_of}
-use Rattle.age_cli.specs.Encryptions.{MakesSecret}
-use Rattle.age_cli.specs.Engines.{Engine, sealing, opening, resuming}
-use Rattle.age_cli.specs.Outputs.{Paths, Stops, Writes, kept_for}
-use Rattle.age_cli.specs.Resumptions.{IsPositionIn, old_for}
+use Rattle.age_cli.specs.Acts.{Acts, HasEnded, OfEngine, OfSomeEngine, Spares, paths_of}
+use Rattle.age_cli.specs.Acts.{progress_of, Engine, sealing, opening, resuming, Paths, Stops}
+use Rattle.age_cli.specs.Acts.{Writes, kept_for}
+use Rattle.age_cli.specs.Commands.{MakesSecret, IsPositionIn, old_for}
 use Rattle.age_cli.specs.declared.stop.Stop.{Stop}
 use Rattle.age_cli.specs.inner.Endings.{Concludes, sealing_end, opening_end}
 use Rattle.age_cli.specs.inner.Rereadings.{DecryptsOpened, HoldsInput}
 use Rattle.age_cli.proofs.ActSteps.{acts_concluded}
 use Rattle.age_cli.proofs.CommandStopSteps.{the_run}
-use Rattle.age_cli.proofs.EngineSteps.{Kept, ends_so, kept_sealing, kept_opening, kept_resuming, wrote_out, stopped_out, spared_out}
+use Rattle.age_cli.proofs.EngineSteps.{Kept, ends_so, kept_sealing, kept_opening, kept_resuming}
+use Rattle.age_cli.proofs.EngineSteps.{wrote_out, stopped_out, spared_out}
 use Rattle.age_cli.proofs.EventSteps.{then_concluded, then_closed}
 
 -- IN and OUT were found so

@@ -1,6 +1,8 @@
 -- The headline for OUT, from what the commands did.
-use Rattle.std.proofs.Common.{◌≡◌, ◌≤◌, ◌*◌, ◌∙◌, ◌⊎◌, ◌++◌, ℕ, inl, inr, ap, sym, subst, refl, true, true≢false, codes, List, [], length, take, Option, Some, None}
-use Rattle.std.proofs.Common.{append-nil, append_assoc, arith, rules, ⊎_elim, Bool, false, Result, Ok, Err}
+use Rattle.std.proofs.Common.{◌≡◌, ◌≤◌, ◌*◌, ◌∙◌, ◌⊎◌, ◌++◌, ℕ, inl, inr, ap, sym, subst, refl}
+use Rattle.std.proofs.Common.{true, true≢false, codes, List, [], length, take, Option, Some, None}
+use Rattle.std.proofs.Common.{append-nil, append_assoc, arith, rules, ⊎_elim, Bool, false, Result}
+use Rattle.std.proofs.Common.{Ok, Err}
 use Rattle.std.proofs.lemmas.List.{length-take, take_at}
 use Rattle.std.specs.Prelude.{is_some, ◌==◌, if◌then◌else◌, bytes_eq, OnErr, OnOk, IfErr}
 use Rattle.std.specs.Option.{option_map_or}
@@ -8,37 +10,34 @@ use Rattle.std.specs.Io.KnownBytes.{Consumes, Appends, IsAtEnd}
 use Rattle.clap.specs.Words.{Row, Text}
 use Rattle.clap.specs.Kinds.{Kinds, IsAmong}
 use Rattle.clap.specs.declared.error.kind.ErrorKind.TheVariants.{DisplayHelp, DisplayVersion}
-use Rattle.age_chunk.specs.Nonce.{chunk_limit}
-use Rattle.age_chunk.specs.Payload.{chunk_count, chunk_length}
+use Rattle.age_chunk.specs.Payload.{chunk_limit, chunk_count, chunk_length}
 use Rattle.age_stream.specs.Headline.{IsPrefixOf}
-use Rattle.age_file.specs.OldTexts.{BeginsWith}
-use Rattle.age_file.specs.Resumes.{ResumePorts, resume_ports, IsFrom}
-use Rattle.age_file.specs.Ports.{Ports}
-use Rattle.age_file.specs.Runs.{Run, IsFromStart, held, IsRun, IsTexts, IsAuthenticRun}
+use Rattle.age_file.specs.Resumes.{BeginsWith, ResumePorts, resume_ports, IsFrom}
+use Rattle.age_file.specs.Runs.{Ports, Run, IsFromStart, held, IsRun, IsTexts, IsAuthenticRun}
 use Rattle.age_file.specs.declared.decryption.Stopped.{Stopped}
 use Rattle.age_file.specs.declared.position.Positions.{Positions}
 use Rattle.age_file.specs.declared.position.Position.{Position}
 use Rattle.age_fileset.specs.FileSet.{FilesView}
 use Rattle.age_fault.specs.declared.fault.FileFault.{FileFault}
-use Rattle.age_cli_args.specs.Asked.{Asks, IsForHelp, refusals}
-use Rattle.age_cli_args.specs.Requests.{IsIdentityOptions, IsDecrypting, IsResuming, Requests, text_of}
+use Rattle.age_cli_args.specs.Requests.{Asks, IsForHelp, refusals, IsIdentityOptions, IsDecrypting}
+use Rattle.age_cli_args.specs.Requests.{IsResuming, Requests, text_of}
 use Rattle.age_cli_args.specs.declared.request.IdentityOptions.{IdentityOptions}
 use Rattle.age_cli_args.specs.declared.request.Decrypting.{Decrypting}
 use Rattle.age_cli_args.specs.declared.request.Resuming.{Resuming}
 use Rattle.age_cli_args.specs.declared.request.Request.{Request}
-use Rattle.age_cli_args.specs.declared.request.Request.TheVariants.{Inspect, Encrypt, Decrypt, Resume, Drill}
+use Rattle.age_cli_args.specs.declared.request.Request.TheVariants.{Inspect, Encrypt, Decrypt}
+use Rattle.age_cli_args.specs.declared.request.Request.TheVariants.{Resume, Drill}
 use Rattle.age_cli_args.proofs.Simple.{no_command}
 use Rattle.age_cli_args.proofs.Numbers.{one_number}
 use Rattle.age_cli_common.specs.Files.{Files}
 use Rattle.age_cli_common.specs.declared.identity.Identity.{Identity}
 use Rattle.age_cli_common.specs.Identities.{IsIdentity, OpensBy, allows_by, refuses_by}
 use Rattle.age_cli_common.specs.declared.ending.Ending.{Ending}
-use Rattle.age_cli.specs.Acts.{Acts, EndsBefore, OfEngine}
-use Rattle.age_cli.specs.Engines.{opening, resuming, Ran}
-use Rattle.age_cli.specs.Outputs.{IsLeft, IsUnclosed, Stops, Writes, kept_for}
-use Rattle.age_cli.specs.Obeying.{Around, Obeys, Prints}
-use Rattle.age_cli_common.specs.Reasons.{HasReason}
-use Rattle.age_cli.specs.Resumptions.{IsPositionIn, old_for}
+use Rattle.age_cli.specs.Acts.{Acts, EndsBefore, OfEngine, opening, resuming, Ran, IsLeft}
+use Rattle.age_cli.specs.Acts.{IsUnclosed, Stops, Writes, kept_for}
+use Rattle.age_cli.specs.Runs.{Around, Obeys, Prints}
+use Rattle.age_cli_common.specs.Endings.{HasReason}
+use Rattle.age_cli.specs.Commands.{IsPositionIn, old_for}
 use Rattle.age_cli.proofs.CommandStopSteps.{stop_wrote, resume_wrote}
 use Rattle.age_cli.specs.Headline.{IsRead, IsWritersInput, KeepsOut, BeginsAt, IsWritersResumption}
 

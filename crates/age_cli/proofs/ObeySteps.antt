@@ -1,5 +1,6 @@
 -- What each arm of the part that obeys the words promises, from what its callee does.
-use Rattle.std.proofs.Common.{◌≡◌, ◌∙◌, ◌++◌, ap, sym, subst, refl, inl, inr, List, [], ◌∷◌, Bool, true, false, true≢false, Option}
+use Rattle.std.proofs.Common.{◌≡◌, ◌∙◌, ◌++◌, ap, sym, subst, refl, inl, inr, List, [], ◌∷◌, Bool}
+use Rattle.std.proofs.Common.{true, false, true≢false, Option}
 use Rattle.std.proofs.Common.{Result, Ok, Err, length, rules}
 use Rattle.std.specs.Borrow.{Bor}
 use Rattle.std.specs.Prelude.{OnOk, IfErr, IsOk, IsErrAnd, ◌==◌}
@@ -11,27 +12,24 @@ use Rattle.clap.specs.Kinds.{IsAmong, HasKind}
 use Rattle.clap.specs.Values.{kind_of}
 use Rattle.clap.specs.declared.error.Error.{Error}
 use Rattle.clap.specs.declared.error.kind.ErrorKind.{ErrorKind}
-use Rattle.age_cli_args.specs.Asked.{IsForHelp, refusals}
+use Rattle.age_cli_args.specs.Requests.{IsForHelp, refusals, Requests}
 use Rattle.age_cli_args.specs.declared.request.Request.TheVariants.{Inspect, Drill}
 use Rattle.age_cli_args.specs.declared.request.Drilling.{Drilling}
-use Rattle.age_file.specs.Ports.{Ports}
+use Rattle.age_file.specs.Runs.{Ports}
 use Rattle.age_fileset.specs.FileSet.{FilesView}
 use Rattle.age_cli_common.specs.Endings.{is_usage}
-use Rattle.age_cli_common.specs.EventOrders.{Follows}
-use Rattle.age_cli_common.specs.Orders.{order_asked}
+use Rattle.age_cli_common.specs.Orders.{Follows, order_asked}
 use Rattle.age_cli_common.specs.declared.ending.Ending.{Ending}
-use Rattle.age_cli.specs.Acts.{Acts}
-use Rattle.age_cli.specs.Obeying.{FailsWriting, IsRefusal, Prints, Reported}
-use Rattle.age_io.specs.Views.{SinkView}
-use Rattle.age_cli.specs.Inspections.{FailsReport}
-use Rattle.age_cli_args.specs.Requests.{Requests}
+use Rattle.age_cli.specs.Acts.{Acts, IsUsage}
+use Rattle.age_cli.specs.Runs.{FailsWriting, IsRefusal, Prints, Reported}
+use Rattle.age_io.specs.Io.{SinkView}
+use Rattle.age_cli.specs.Commands.{FailsReport}
 use Rattle.age_cli_args.specs.declared.request.Request.{Request}
 use Rattle.age_cli_common.specs.declared.ending.Ending.TheVariants.{Words, Usage, Fault, Unsaved}
 use Rattle.age_fault.specs.declared.fault.FileFault.TheVariants.{Write, Memory}
 use Rattle.clap.specs.Kinds.{Kinds}
 use Rattle.clap.specs.declared.error.kind.ErrorKind.TheVariants.{OutOfMemory}
 use Rattle.std.proofs.Common.{ℕ, ◌⊎◌}
-use Rattle.age_cli.specs.Outcomes.{IsUsage}
 use Rattle.age_cli.specs.inner.Endings.{IsForOutput}
 use Rattle.age_cli.proofs.ActSteps.{spares_kept}
 use Rattle.age_cli_common.proofs.EventSteps.{followed}

@@ -1,25 +1,26 @@
 -- What the status says of an ending.
-use Rattle.std.proofs.Common.{◌≡◌, ◌∙◌, ◌⊎◌, inl, inr, arith, refl, sym, subst, ℕ, Bool, true, false, List, Option, None}
+use Rattle.std.proofs.Common.{◌≡◌, ◌∙◌, ◌⊎◌, inl, inr, arith, refl, sym, subst, ℕ, Bool, true}
+use Rattle.std.proofs.Common.{false, List, Option, None}
 use Rattle.std.proofs.Common.{Result, Ok, Err}
 use Rattle.std.specs.Prelude.{OnErr}
 use Rattle.age_fault.proofs.Bytes.{Appends-then, risen}
 use Rattle.age_fault.specs.Faults.{HasRisen}
-use Rattle.age_cli_common.specs.Endings.{is_usage}
-use Rattle.age_cli_common.specs.FaultLines.{Announces, ReportsEnding, ReportsRest, Takes, Tells, fault_line}
+use Rattle.age_cli_common.specs.Endings.{is_usage, Announces, ReportsEnding, ReportsRest, Takes}
+use Rattle.age_cli_common.specs.Endings.{Tells, fault_line}
 use Rattle.age_cli_common.specs.declared.ending.Announcement.{Announcement}
 use Rattle.age_cli_common.specs.declared.ending.Announcement.TheVariants.{Unmade, Made, Failed}
-use Rattle.age_cli.specs.Outcomes.{status_by, status_of}
+use Rattle.age_cli.specs.Acts.{status_by, status_of}
 use Rattle.age_cli_common.specs.declared.ending.Ending.{Ending}
 use Rattle.age_cli_common.specs.declared.ending.Ending.TheVariants.{Words, Usage, Fault, Unsaved}
-use Rattle.age_io.specs.Views.{SinkView, SourceView}
-use Rattle.age_file.specs.Faults.{HeadFails, NoHeadFault}
+use Rattle.age_io.specs.Io.{SinkView, SourceView}
+use Rattle.age_file.specs.Runs.{HeadFails, NoHeadFault}
 use Rattle.age_fault.specs.declared.fault.FileFault.{FileFault}
 use Rattle.age_fault.specs.declared.fault.FileFault.TheVariants.{Head, Key, NonceCut, Stream}
 use Rattle.age_fault.specs.declared.fault.FileFault.TheVariants.{BadPosition, OtherFile, ShortText}
 use Rattle.age_fault.specs.declared.fault.FileFault.TheVariants.{Read, Write, Memory, ReadNeverEnds}
 use Rattle.age_fault.specs.declared.fault.FileFault.TheVariants.{PositionForged, OldTextDiffers}
 use Rattle.age_fileset.specs.FileSet.{IsMemoryOr}
-use Rattle.age_cli.specs.Inspections.{FailsReport, seen}
+use Rattle.age_cli.specs.Commands.{FailsReport, seen}
 
 -- an ending has another status than success
 pub failed_status : (e : Ending) → status_of e ≡ 0 → ⊥

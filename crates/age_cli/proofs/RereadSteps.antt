@@ -1,6 +1,8 @@
 -- What a decryption did whose position was found by reading the input once more.
-use Rattle.std.proofs.Common.{◌≡◌, ◌≢◌, ◌∙◌, ◌⊎◌, ◌∷◌, ◌++◌, [], ℕ, List, Option, Some, None, Bool, true, false}
-use Rattle.std.proofs.Common.{Result, Ok, Err, IfOk, IfErr, ap, sym, subst, refl, inl, inr, ⊎_elim, true≢false}
+use Rattle.std.proofs.Common.{◌≡◌, ◌≢◌, ◌∙◌, ◌⊎◌, ◌∷◌, ◌++◌, [], ℕ, List, Option, Some, None, Bool}
+use Rattle.std.proofs.Common.{true, false}
+use Rattle.std.proofs.Common.{Result, Ok, Err, IfOk, IfErr, ap, sym, subst, refl, inl, inr, ⊎_elim}
+use Rattle.std.proofs.Common.{true≢false}
 use Rattle.std.specs.Prelude.{is_some, IfSome}
 use Rattle.std.proofs.lemmas.Option.{none-some}
 use Rattle.clap.specs.Words.{Text}
@@ -8,18 +10,16 @@ use Rattle.age_fault.specs.declared.fault.FileFault.{FileFault}
 use Rattle.age_fault.specs.declared.fault.FileFault.TheVariants.{Read, Write}
 use Rattle.age_fault.specs.declared.fault.FileFault.TheVariants as fault
 use Rattle.age_file.proofs.AgainLaw.{stops_kept}
-use Rattle.age_file.specs.Again.{FindsPosition, IsElsewhere, IsFoundAgain, ReadAgain, fault_again}
-use Rattle.age_file.specs.Decrypts.{DecryptStops, DecryptsKeyed, FindsKey}
-use Rattle.age_file.specs.Ports.{Ports}
-use Rattle.age_file.specs.Runs.{Run, IsPositionOf}
+use Rattle.age_file.specs.Decrypts.{FindsPosition, IsElsewhere, IsFoundAgain, ReadAgain}
+use Rattle.age_file.specs.Decrypts.{fault_again, DecryptStops, DecryptsKeyed, FindsKey}
+use Rattle.age_file.specs.Runs.{Ports, Run, IsPositionOf}
 use Rattle.age_file.specs.declared.decryption.Done.{Done}
 use Rattle.age_file.specs.declared.decryption.Stopped.{Stopped}
 use Rattle.age_file.specs.declared.position.Position.{Position}
 use Rattle.age_file.specs.declared.position.Positions.{Positions}
 use Rattle.age_file.specs.declared.position.Positions.TheVariants.{Kept, Dropped}
-use Rattle.age_fileset.specs.FileSet.{FilesView, IsMemoryOr}
-use Rattle.age_fileset.specs.Events.{Closed}
-use Rattle.age_io.specs.Views.{SinkView, SourceView}
+use Rattle.age_fileset.specs.FileSet.{FilesView, IsMemoryOr, Closed}
+use Rattle.age_io.specs.Io.{SinkView, SourceView}
 use Rattle.age_io.specs.declared.durability.Durability.{Durability}
 use Rattle.age_cli_args.specs.Requests.{text_of}
 use Rattle.age_cli_args.specs.declared.request.Decrypting.{Decrypting}
@@ -28,16 +28,17 @@ use Rattle.age_cli_common.specs.Identities.{allows_by, refuses_by}
 use Rattle.age_cli_common.specs.declared.ending.Ending.{Ending}
 use Rattle.age_cli_common.specs.declared.identity.Identity.{Identity}
 use Rattle.age_cli_common.specs.Endings.{is_usage}
-use Rattle.age_cli_common.specs.EventOrders.{Follows, replacing}
+use Rattle.age_cli_common.specs.Orders.{Follows, replacing}
 use Rattle.age_cli_common.specs.Files.{Files, SparesBut, SparesBoth}
 use Rattle.age_cli_common.proofs.EventSteps.{then_follows}
-use Rattle.age_cli.specs.Outputs.{EndsOf, IsSaved, SaveFails, kept_for}
-use Rattle.age_cli.specs.inner.Files.{Saves}
+use Rattle.age_cli.specs.Acts.{EndsOf, IsSaved, SaveFails, kept_for}
+use Rattle.age_cli.specs.inner.Openings.{Saves}
 use Rattle.age_cli.specs.declared.stop.Stop.{Stop}
 use Rattle.age_cli.proofs.CommandStopSteps.{ends_from}
 use Rattle.age_cli.proofs.EngineSteps.{left_as}
 use Rattle.age_cli.specs.inner.Endings.{Concludes, Left, opening_end}
-use Rattle.age_cli.specs.inner.Rereadings.{again_of, ConcludesAgain, DecryptsOpened, HoldsInput, IsFoundIn, stopped_at}
+use Rattle.age_cli.specs.inner.Rereadings.{again_of, ConcludesAgain, DecryptsOpened, HoldsInput}
+use Rattle.age_cli.specs.inner.Rereadings.{IsFoundIn, stopped_at}
 
 some_of : (o : Option (List ℕ)) → is_some o ≡ true → (bytes : List ℕ) × (o ≡ Some bytes)
 some_of None there = absurd (true≢false (sym there))

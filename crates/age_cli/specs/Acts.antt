@@ -1,11 +1,27 @@
--- What a command does of what it is asked.
-use Rattle.std.specs.Prelude.{◌≡◌, ◌⊎◌, ℕ, Bool, true, List, ◌++◌, is_some, Option, Some, None}
-use Rattle.std.specs.Prelude.{Result, OnOk, IfErr, IsErrAnd}
-use Rattle.age_file.specs.Ports.{Ports}
-use Rattle.age_file.specs.Secrets.{SecretView}
+-- What a command does.
+use Rattle.std.specs.Prelude.{◌≡◌, ℕ, true, Result, Ok, Err, if◌then◌else◌, List, [], Option, Some}
+use Rattle.std.specs.Prelude.{◌⊎◌, is_some, None, Bool, ◌++◌, OnOk, IfErr, IsErrAnd}
+use Rattle.age_cli_common.specs.Endings.{is_usage, EndsEarly, HasReason}
+use Rattle.age_cli_common.specs.declared.ending.Ending.{Ending}
+use Rattle.age_io.specs.Io.{SourceView, SinkView}
+use Rattle.age_file.specs.Runs.{Ports, ports, Run}
+use Rattle.age_file.specs.Encrypts.{SecretView, Encrypts, EncryptFails}
+use Rattle.age_file.specs.Decrypts.{DecryptEnds, DecryptStops}
+use Rattle.age_file.specs.Resumes.{ResumePorts, resume_ports, ResumeEnds, ResumeStops}
+use Rattle.age_file.specs.Resumes.{position_text}
+use Rattle.age_file.specs.declared.encryption.Written.{Written}
+use Rattle.age_file.specs.declared.decryption.Done.{Done}
 use Rattle.age_file.specs.declared.position.Position.{Position}
-use Rattle.age_fault.specs.declared.fault.FileFault.TheVariants.{BadPosition}
-use Rattle.age_fileset.specs.FileSet.{FilesView}
+use Rattle.age_file.specs.declared.position.Positions.{Positions}
+use Rattle.age_fault.specs.declared.fault.FileFault.{FileFault}
+use Rattle.age_fault.specs.declared.fault.FileFault.TheVariants.{Memory, Read, Write, BadPosition}
+use Rattle.age_cli_common.specs.declared.identity.Identity.{Identity}
+use Rattle.age_cli_common.specs.Identities.{allows_by, refuses_by, OpensBy}
+use Rattle.clap.specs.Words.{Text}
+use Rattle.age_file.specs.declared.position.Positions.TheVariants.{Kept, Dropped}
+use Rattle.age_fileset.specs.FileSet.{IsMemoryOr, FilesView}
+use Rattle.age_cli_common.specs.Files.{Files, SparesBut, SparesBoth}
+use Rattle.age_cli_common.specs.declared.ending.Ending.TheVariants.{Fault, Unsaved}
 use Rattle.age_cli_args.specs.Requests.{text_of}
 use Rattle.age_cli_args.specs.declared.request.ProgressOption.{ProgressOption}
 use Rattle.age_cli_args.specs.declared.request.ProgressOption.TheVariants.{Silent}
@@ -13,21 +29,153 @@ use Rattle.age_cli_args.specs.declared.request.Decrypting.{Decrypting}
 use Rattle.age_cli_args.specs.declared.request.Request.{Request}
 use Rattle.age_cli_args.specs.declared.request.Request.TheVariants.{Encrypt, Decrypt, Resume}
 use Rattle.age_cli_args.specs.declared.request.Request.TheVariants.{Inspect, Drill}
-use Rattle.age_cli_common.specs.Endings.{EndsEarly}
-use Rattle.age_cli_common.specs.EventOrders.{Follows}
-use Rattle.age_cli_common.specs.Files.{Files, SparesBoth}
-use Rattle.age_cli_common.specs.Identities.{OpensBy}
-use Rattle.age_cli_common.specs.Names.{NamesTwice}
-use Rattle.age_cli_common.specs.Orders.{order_asked}
-use Rattle.age_cli_common.specs.Reasons.{HasReason}
-use Rattle.age_cli_common.specs.declared.ending.Ending.{Ending}
-use Rattle.age_cli_common.specs.declared.ending.Ending.TheVariants.{Fault}
-use Rattle.age_cli_common.specs.declared.identity.Identity.{Identity}
-use Rattle.age_cli.specs.Encryptions.{MakesSecret}
-use Rattle.age_cli.specs.Engines.{Engine, sealing, opening, resuming}
-use Rattle.age_cli.specs.Outcomes.{IsUsage}
-use Rattle.age_cli.specs.Outputs.{Paths, Stops, Writes, kept_for}
-use Rattle.age_cli.specs.Resumptions.{HoldsNoPosition, IsPositionIn, old_for}
+use Rattle.age_cli_common.specs.Orders.{Follows, NamesTwice, order_asked}
+use Rattle.age_cli.specs.Commands.{MakesSecret, HoldsNoPosition, IsPositionIn, old_for}
+
+-- ---- How a command or a run ended: with all done, or with an ending.
+
+-- the command line is refused
+abbrev pub IsUsage : Ending → Type 0
+IsUsage ending = is_usage ending ≡ true
+
+-- the status of the program: 1 on a fault, 2 for a bad command line
+abbrev pub status_of : Ending → ℕ
+status_of e = if is_usage e then 2 else 1
+
+-- and 0 if all was done
+abbrev pub status_by : {A : Type 0} → Result A Ending → ℕ
+status_by (Ok done) = 0
+status_by (Err e) = status_of e
+
+-- ---- What the engine of a command promises of its source and its sink, before and after.
+
+-- what it promises if it ends, and if it stops with a position and a fault; and whether OUT may
+-- differ after a stop, by the fault and by what the sink took
+pub record Engine : Type 1 where
+  pub ends : Ports → Ports → Type 0
+  pub stops : Option Position → FileFault → Ports → Ports → Type 0
+  pub touches : FileFault → Option (List ℕ) → Type 0
+
+-- that of `encrypt`, which has no position; it touches nothing if memory was refused
+abbrev pub sealing : SecretView → Engine
+sealing secret = record {
+  ends = λ before after. (written : Written) × Encrypts secret before after written;
+  stops = λ position fault before after. EncryptFails secret before after fault;
+  touches = λ fault taken. fault ≡ Memory → ⊥;
+}
+
+-- that of `decrypt`, which names its run; it touches nothing if nothing was written
+abbrev pub opening : Positions → Identity → Engine
+opening keep i = record {
+  ends = λ before after. (done : Done) × (run : Run)
+      × DecryptEnds (allows_by i) before after done run;
+  stops = λ position fault before after. (written : ℕ) × (run : Option Run)
+      × DecryptStops keep (allows_by i) (refuses_by i) before after run
+      (record { fault = fault; written = written; position = position });
+  touches = λ fault taken. taken ≡ Some [] → ⊥;
+}
+
+-- the ports of a source and a sink of one set of files: what they show, and how often they failed
+pub record PortsOf {In Out : Type 0} (read : In → SourceView) (wrote : Out → SinkView) (p : Ports)
+    : Type 0 where
+  pub source : In
+  pub sink : Out
+  pub is : p ≡ ports (read source) (wrote sink)
+
+module _ (IsPorts : Ports → Type 0) where
+  -- a second source of the set gives the old text
+  abbrev pub Beside : Option (List ℕ) → (ResumePorts → ResumePorts → Type 0) → Ports → Ports
+      → Type 0
+  Beside old_text Promise before after =
+      (first : SourceView) × (last : SourceView) × IsPorts (ports first before.sink)
+      × IsPorts (ports last after.sink) × (old_text ≡ first.remaining)
+      × Promise (resume_ports before first) (resume_ports after last)
+
+  -- that of `resume`, from a position and the old text
+  abbrev pub resuming : Positions → Identity → Position → Option (List ℕ) → Engine
+  resuming keep i from old_text = record {
+    ends = Beside old_text (λ before after. (done : Done) × (run : Run)
+        × ResumeEnds (allows_by i) from before after done run);
+    stops = λ position fault. Beside old_text (λ before after. (written : ℕ) × (run : Option Run)
+        × ResumeStops (allows_by i) from before after keep (refuses_by i) run
+        (record { fault = fault; written = written; position = position }));
+    touches = λ fault taken. taken ≡ Some [] → ⊥;
+  }
+
+  -- it ran over files of the set: its source gave this input, and its sink, empty before, took this
+  pub record Ran (Promise : Ports → Ports → Type 0) (input taken : Option (List ℕ)) : Type 0 where
+    pub before : Ports
+    pub after : Ports
+    pub before_is : IsPorts before
+    pub after_is : IsPorts after
+    pub coming : input ≡ before.source.remaining
+    pub empty : before.sink.taken ≡ Some []
+    pub took : taken ≡ after.sink.taken
+    pub promise : Promise before after
+
+-- ---- What becomes of OUT and of the file of `--save`, by the engine that a command runs.
+
+-- positions are kept where one is to be saved
+abbrev pub kept_for : Option Text → Positions
+kept_for (Some name) = Kept
+kept_for None = Dropped
+
+-- the file of `--save` holds the position; without a position it is as it was
+abbrev pub IsSaved : Option Text → Option Position → Files → Files → Type 0
+IsSaved (Some name) (Some position) old new = new name ≡ Some (position_text position)
+IsSaved (Some name) None old new = new name ≡ old name
+IsSaved None position old new = Unit {0}
+
+-- there is a position to save, and the file of `--save` is as it was, since it can't be written,
+-- memory was refused, or the input couldn't be read again to find the position
+abbrev pub SaveFails : Option Text → Option Position → Files → Files → FileFault → Type 0
+SaveFails (Some name) (Some position) old new fault = (new name ≡ old name)
+    × (IsMemoryOr Write fault ⊎ (fault ≡ Read))
+SaveFails name position old new fault = ⊥
+
+-- the fault is reported, and the position is saved; or it is reported with that of a save that
+-- failed
+abbrev pub EndsOf : FileFault → Option Text → Option Position → Files → Files → Ending → Type 0
+EndsOf fault name position old new (Fault f) = (f ≡ fault) × IsSaved name position old new
+EndsOf fault name position old new (Unsaved f second) = (f ≡ fault)
+    × SaveFails name position old new second
+EndsOf fault name position old new e = ⊥
+
+-- the names of IN and OUT, and of the file of `--save`
+pub record Paths : Type 0 where
+  pub from : Text
+  pub to : Text
+  pub save : Option Text
+
+module _ (IsPorts : Ports → Type 0) (engine : Engine) where
+  -- all is done: the engine ended, OUT holds what the sink took, and no other file differs
+  pub record Writes (p : Paths) (old new : Files) : Type 0 where
+    pub there : is_some (old p.from) ≡ true
+    pub output : Ran IsPorts engine.ends (old p.from) (new p.to)
+    pub others : SparesBut p.to old new
+
+  -- the engine stopped, and OUT is as it was, or holds what the sink took
+  abbrev pub IsLeft : Option Position → FileFault → (input old new : Option (List ℕ)) → Type 0
+  IsLeft position fault input old new = (taken : Option (List ℕ))
+      × Ran IsPorts (engine.stops position fault) input taken
+      × ((new ≡ old) ⊎ ((new ≡ taken) × engine.touches fault taken))
+
+  -- or it ended, and OUT could not be closed, and is as it was or whole
+  abbrev pub IsUnclosed : Option Position → FileFault → (input old new : Option (List ℕ)) → Type 0
+  IsUnclosed position fault input old new = (taken : Option (List ℕ))
+      × Ran IsPorts engine.ends input taken × ((new ≡ old) ⊎ (new ≡ taken))
+      × (position ≡ None) × (fault ≡ Write)
+
+  -- it stopped so, and then the position was saved
+  pub record Stops (p : Paths) (old new : Files) (ending : Ending) : Type 0 where
+    pub there : is_some (old p.from) ≡ true
+    pub position : Option Position
+    pub fault : FileFault
+    pub output : IsLeft position fault (old p.from) (old p.to) (new p.to)
+        ⊎ IsUnclosed position fault (old p.from) (old p.to) (new p.to)
+    pub ends : EndsOf fault p.save position old new ending
+
+-- ---- What a command does of what it is asked.
 
 abbrev pub paths_of : Decrypting → Paths
 paths_of d = record { from = d.from.now; to = d.to.now; save = text_of d.save }

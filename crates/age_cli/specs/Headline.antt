@@ -3,15 +3,11 @@ use Rattle.std.specs.Prelude.{◌≡◌, ◌⊎◌, ℕ, ◌*◌, ◌≤◌, tru
 use Rattle.std.specs.Prelude.{take, Option, Some}
 use Rattle.clap.specs.Words.{Text}
 use Rattle.age_stanza.specs.Grammar.{HeadText}
-use Rattle.age_chunk.specs.Payload.{chunk_count, chunk_length, block_length}
+use Rattle.age_chunk.specs.Payload.{chunk_count, chunk_length, block_length, chunk_limit}
 use Rattle.age_stream.specs.Headline.{IsPrefixOf}
-use Rattle.age_chunk.specs.Nonce.{chunk_limit}
-use Rattle.age_keys.specs.Opened.{Opens}
-use Rattle.age_io.specs.Progress.{IsOver, Shown}
-use Rattle.age_io.specs.Views.{SinkView}
-use Rattle.age_file.specs.Ports.{Ports}
-use Rattle.age_file.specs.Runs.{Run, IsFromStart, IsTexts, IsAuthenticRun}
-use Rattle.age_file.specs.Verdicts.{HasId, HasTag}
+use Rattle.age_keys.specs.Keys.{Opens}
+use Rattle.age_io.specs.Io.{IsOver, Shown, SinkView}
+use Rattle.age_file.specs.Runs.{Ports, Run, IsFromStart, IsTexts, IsAuthenticRun, HasId, HasTag}
 use Rattle.age_file.specs.declared.position.Position.{Position}
 use Rattle.age_cli_common.specs.Files.{Files}
 use Rattle.age_cli_common.specs.declared.identity.Identity.{Identity}
@@ -20,9 +16,8 @@ use Rattle.age_cli_args.specs.Requests.{Requests}
 use Rattle.age_cli_args.specs.declared.request.Decrypting.{Decrypting}
 use Rattle.age_cli_args.specs.declared.request.Resuming.{Resuming}
 use Rattle.age_cli_args.specs.declared.request.Request.TheVariants.{Decrypt, Resume}
-use Rattle.age_cli.specs.Obeying.{Around}
-use Rattle.age_cli.specs.Resumptions.{IsPositionIn}
-use Rattle.age_cli.specs.Runs.{Runs}
+use Rattle.age_cli.specs.Runs.{Around, Runs}
+use Rattle.age_cli.specs.Commands.{IsPositionIn}
 
 -- a beginning of the input, as a run may have read it: a header that opens, the payload nonce, the
 -- blocks before the run's first chunk, and bytes after them; and all of the input where it was read

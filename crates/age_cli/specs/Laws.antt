@@ -1,13 +1,13 @@
 -- What follows of a run from what its parts promise.
 use Rattle.std.specs.Prelude.{◌≡◌, ℕ, Bool, List, Option, Result, IfErr, IsErrAnd}
 use Rattle.clap.specs.Words.{Text}
-use Rattle.age_io.specs.Progress.{IsOver, Shown}
-use Rattle.age_file.specs.Ports.{Ports}
-use Rattle.age_cli_args.specs.Asked.{IsForHelp}
+use Rattle.age_io.specs.Io.{IsOver, Shown}
+use Rattle.age_file.specs.Runs.{Ports}
+use Rattle.age_cli_args.specs.Requests.{IsForHelp}
 use Rattle.age_cli_common.specs.declared.ending.Ending.{Ending}
-use Rattle.age_cli.specs.Inspections.{FailsReport}
-use Rattle.age_cli.specs.Obeying.{Around, Declines, IsRefusal}
-use Rattle.age_cli.specs.Outcomes.{IsUsage}
+use Rattle.age_cli.specs.Commands.{FailsReport}
+use Rattle.age_cli.specs.Runs.{Around, Declines, IsRefusal}
+use Rattle.age_cli.specs.Acts.{IsUsage}
 
 -- Words that ask neither for help nor for the version are refused, or memory is, and nothing is
 -- written; nor is it with any other words that are refused.

@@ -1,12 +1,5 @@
-pub mod Encryptions
-pub mod Resumptions
-pub mod Engines
-pub mod Outputs
-pub mod Outcomes
-pub mod ReportTexts
-pub mod Inspections
+pub mod Commands
 pub mod Acts
-pub mod Obeying
 pub mod Runs
 pub mod Headline
 pub mod Laws

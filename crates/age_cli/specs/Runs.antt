@@ -1,12 +1,118 @@
--- What a run did.
-use Rattle.std.specs.Prelude.{◌≡◌, ℕ, Bool, List, Result, OnOk, IfErr}
+-- What a run does.
+use Rattle.std.specs.Prelude.{◌≡◌, ◌⊎◌, ℕ, Bool, true, List, [], Option, Some, None, is_some}
+use Rattle.std.specs.Prelude.{Result, OnOk, IfErr, IsErrAnd}
+use Rattle.std.specs.Io.KnownBytes.{Appends}
 use Rattle.clap.specs.Words.{Text}
-use Rattle.age_io.specs.Views.{SinkView}
-use Rattle.age_file.specs.Ports.{Ports}
-use Rattle.age_cli_common.specs.FaultLines.{ReportsEnding}
+use Rattle.age_cli_args.specs.Requests.{IsForHelp, Requests, text_of}
+use Rattle.age_cli_args.specs.declared.request.Request.{Request}
+use Rattle.age_cli_args.specs.declared.request.Request.TheVariants.{Inspect, Drill}
+use Rattle.age_io.specs.Io.{SinkView}
+use Rattle.age_file.specs.Runs.{Ports}
+use Rattle.age_fault.specs.Faults.{HasRisen}
+use Rattle.age_fault.specs.declared.fault.FileFault.TheVariants.{Read, Write, Memory}
+use Rattle.age_fileset.specs.FileSet.{FilesView}
+use Rattle.age_cli_common.specs.Endings.{IsUnread, ReportsEnding}
 use Rattle.age_cli_common.specs.declared.ending.Ending.{Ending}
-use Rattle.age_cli.specs.Obeying.{Around, Obeys}
-use Rattle.age_cli.specs.Outcomes.{status_by}
+use Rattle.age_cli_common.specs.declared.ending.Ending.TheVariants.{Fault}
+use Rattle.age_cli.specs.Acts.{Acts, IsUsage, status_by}
+use Rattle.age_cli.specs.Commands.{Reports, ReportsFile, FailsReport, seen}
+
+-- ---- What a run does of what its words ask for.
+
+-- what a run works with: the set of files, what the input still has to give, and the output
+pub record Around : Type 0 where
+  pub files : FilesView
+  pub input : Option (List ℕ)
+  pub output : SinkView
+
+abbrev pub around : FilesView → Option (List ℕ) → SinkView → Around
+around files input output = record { files = files; input = input; output = output }
+
+-- words are refused; or memory was, while they were read
+abbrev pub IsRefusal : Ending → Type 0
+IsRefusal ending = IsUsage ending ⊎ (ending ≡ Fault Memory)
+
+-- writing to the output failed, as it says itself
+abbrev pub FailsWriting : (old new : SinkView) → Ending → Type 0
+FailsWriting old new ending = (ending ≡ Fault Write) × HasRisen old.failed new.failed
+
+-- a text was put to the output, and sent on
+abbrev pub Prints : (old new : SinkView) → Type 0
+Prints old new = (text : List ℕ) × Appends old.taken new.taken text × (new.settled ≡ true)
+
+-- a report was written, and sent on; or it failed with a fault of what was to be reported, and
+-- nothing was written, unless writing failed
+pub record Reported (ended : Result (Unit {0}) Ending) (Report Unprinted : Type 0)
+    (held : Option (List ℕ)) (output_old output_new : SinkView) : Type 0 where
+  pub done : OnOk ended (Report × (output_new.settled ≡ true))
+  pub stops : IfErr ended (FailsReport held)
+  pub unprinted : IfErr ended (λ e. FailsWriting output_old output_new e ⊎ Unprinted)
+
+-- `shows` says whether contracts see the files, `IsPorts` which are the ports of those, and
+-- `Failed` that a source of them failed. `Unread`, `Unprinted` and `Unshown` say that the input, the
+-- output and the progress are as they were, and `Over` that the progress is over.
+module _ (words : List Text) (shows : Bool) (IsPorts : Ports → Type 0) (before after : Around)
+    (Failed Unread Unprinted Unshown Over : Type 0) (ended : Result (Unit {0}) Ending) where
+  -- Without words the input is reported.
+  pub record ReportsInput : Type 0 where
+    pub none : words ≡ []
+    -- It was read to its end, and its report was written.
+    pub report : Reported ended
+        (Reports before.input after.input before.output.taken after.output.taken) Unprinted
+        before.input before.output after.output
+    -- No file was opened, made or changed.
+    pub untouched : after.files ≡ before.files
+    -- No progress was shown.
+    pub silent : Unshown
+
+  -- `inspect` reported the input, or its file, which 26 says can't be read. A drill sent on what it
+  -- wrote; with both or neither of `--clear` and `--pass` it is refused before a file is opened.
+  -- Other commands write nothing to the output, and none of them reads the input.
+  abbrev pub Answers : Request → Type 0
+  Answers (Inspect None) =
+      Reported ended (Reports before.input after.input before.output.taken after.output.taken)
+      Unprinted before.input before.output after.output
+  Answers (Inspect (Some name)) = Unread × Reported ended (ReportsFile shows
+      (before.files.entries name.now) before.output.taken after.output.taken) Unprinted
+      (seen shows (before.files.entries name.now)) before.output after.output
+      × (shows ≡ true → IfErr ended (λ e. e ≡ Fault Read
+      → IsUnread before.files.entries after.files.events Failed))
+  Answers (Drill d) = Unread × OnOk ended (after.output.settled ≡ true)
+      × (d.clear ≡ is_some (text_of d.pass)
+      → (after.files.events ≡ before.files.events) × IsErrAnd ended IsUsage)
+  Answers other = Unread × Unprinted
+
+  -- Words that make a request are obeyed.
+  pub record DoesRequest : Type 0 where
+    pub asked : Request
+    pub made : Requests words asked
+    -- What was done with files.
+    pub acts : Acts IsPorts shows asked before.files after.files Failed Unshown Over ended
+    -- What was written to the output.
+    pub answers : Answers asked
+
+  -- Other words are refused, unless help or the version is asked for.
+  pub record Declines : Type 0 where
+    -- That is all that is done of them.
+    pub done : OnOk ended (IsForHelp words × Prints before.output after.output)
+    -- Otherwise nothing was written; or help or the version was asked for, and writing failed.
+    pub stops : IfErr ended (λ e. (IsRefusal e × Unprinted)
+        ⊎ (IsForHelp words × FailsWriting before.output after.output e))
+    -- No file was opened, made or changed.
+    pub untouched : after.files ≡ before.files
+    -- The input wasn't read, and no progress was shown.
+    pub unread : Unread
+    pub silent : Unshown
+    -- There are words; and they make no request, or memory was refused.
+    pub some : words ≡ [] → ⊥
+    pub unasked : (asked : Request) → Requests words asked
+        → IsErrAnd ended (λ e. e ≡ Fault Memory)
+
+  -- A run did one of these, of its words.
+  abbrev pub Obeys : Type 0
+  Obeys = ReportsInput ⊎ (DoesRequest ⊎ Declines)
+
+-- ---- What a run did.
 
 -- What stands before and after a run with this status, of its words, and what was put to `faults`.
 -- `Failed` says that a source of the files failed; `Quiet`, `Unread`, `Unprinted` and `Unshown` say

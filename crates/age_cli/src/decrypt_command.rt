@@ -2,24 +2,18 @@
 
 ghost use Rattle.std.specs.Prelude.{◌≡◌, ◌⊎◌, true, false, is_some, Some};
 ghost use Rattle.age_file.specs.Decrypts.{DecryptsKeyed};
-ghost use Rattle.age_file.specs.Ports.{ports};
+ghost use Rattle.age_file.specs.Runs.{ports};
 ghost use Rattle.age_file.specs.declared.position.Positions.TheVariants.{Dropped};
 ghost use Rattle.age_cli_args.specs.Requests.{text_of};
 ghost use Rattle.age_cli_args.specs.declared.request.ProgressOption.TheVariants.{Silent};
 ghost use Rattle.age_cli_args.specs.declared.request.Request.TheVariants.{Decrypt};
-ghost use Rattle.age_cli_common.specs.Choices.{IsEnough, IsSecretIn, bytes_of, file_of};
-ghost use Rattle.age_cli_common.specs.EventOrders.{opening};
-ghost use Rattle.age_cli_common.specs.FaultLines.{Tells};
+ghost use Rattle.age_cli_common.specs.Identities.{IsEnough, IsSecretIn, bytes_of, file_of};
 ghost use Rattle.age_cli_common.specs.Identities.{allows_by, refuses_by};
-ghost use Rattle.age_cli_common.specs.Names.{NamesTwice};
-ghost use Rattle.age_cli_common.specs.Orders.{order_asked};
-ghost use Rattle.age_cli_common.specs.Reasons.{SourceFails};
-ghost use Rattle.age_io.specs.Progress.{IsOver};
-ghost use Rattle.age_cli.specs.Acts.{Acts};
-ghost use Rattle.age_cli.specs.Engines.{PortsOf};
-ghost use Rattle.age_cli.specs.Outputs.{kept_for};
-ghost use Rattle.age_cli.specs.inner.Names.{IsReadAs};
-ghost use Rattle.age_cli.specs.inner.Openings.{Judges};
+ghost use Rattle.age_cli_common.specs.Orders.{opening, NamesTwice, order_asked};
+ghost use Rattle.age_cli_common.specs.Endings.{Tells, SourceFails};
+ghost use Rattle.age_io.specs.Io.{IsOver};
+ghost use Rattle.age_cli.specs.Acts.{Acts, PortsOf, kept_for};
+ghost use Rattle.age_cli.specs.inner.Openings.{IsReadAs, Judges};
 ghost use Rattle.age_cli.specs.inner.Rereadings.{DecryptsOpened, again_of};
 
 use crate::output::{Content, Output, conclude, end_meter, open_both, with_meter};

@@ -2,10 +2,10 @@
 
 ghost use Rattle.std.specs.Prelude.{◌≡◌, ◌⊎◌, [], ◌∷◌, ◌++◌, true, OnOk, IfErr};
 ghost use Rattle.age_cli_common.specs.declared.ending.Ending.TheVariants.{Fault};
-ghost use Rattle.age_fileset.specs.Events.{Opened};
-ghost use Rattle.age_cli.specs.Inspections.{Reports, ReportsFile, FailsReport, seen};
-ghost use Rattle.age_cli.specs.Obeying.{FailsWriting};
-ghost use Rattle.age_cli_common.specs.Reasons.{IsUnread, SourceFails};
+ghost use Rattle.age_fileset.specs.FileSet.{Opened};
+ghost use Rattle.age_cli.specs.Commands.{Reports, ReportsFile, FailsReport, seen};
+ghost use Rattle.age_cli.specs.Runs.{FailsWriting};
+ghost use Rattle.age_cli_common.specs.Endings.{IsUnread, SourceFails};
 ghost use Rattle.age_fault.specs.Faults.{HasRisen};
 ghost use Rattle.age_fault.specs.declared.fault.FileFault.TheVariants.{Read};
 

@@ -1,9 +1,9 @@
 //! Laws over the definitions: each call does nothing.
 
-ghost use Rattle.age_cli.specs.Engines.{PortsOf};
+ghost use Rattle.age_cli.specs.Acts.{PortsOf};
 ghost use Rattle.age_cli.specs.Headline.{RunsKeepOut};
 ghost use Rattle.age_cli.specs.Laws.{RefusesInSilence, ReportsAccept};
-ghost use Rattle.age_cli_common.specs.Reasons.{SourceFails};
+ghost use Rattle.age_cli_common.specs.Endings.{SourceFails};
 
 use age_file::{Sink, Source};
 use age_fileset::FileSet;

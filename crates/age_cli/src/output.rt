@@ -2,14 +2,12 @@
 
 ghost use Rattle.std.specs.Prelude.{◌≡◌, ◌⊎◌, [], ◌∷◌, ◌++◌, Some, None, true, false, is_some};
 ghost use Rattle.std.specs.Prelude.{IfErr, IfSome, ℕ, Option, option_map, length};
-ghost use Rattle.age_io.specs.Progress.{Adds, Begins, IsOver};
-ghost use Rattle.age_cli_common.specs.Endings.{EndsEarly, is_usage};
-ghost use Rattle.age_fileset.specs.Events.{Opened, Created, Closed};
+ghost use Rattle.age_io.specs.Io.{Adds, Begins, IsOver};
+ghost use Rattle.age_cli_common.specs.Endings.{EndsEarly, is_usage, Tells, SourceFails, HasReason};
+ghost use Rattle.age_fileset.specs.FileSet.{Opened, Created, Closed};
 ghost use Rattle.age_cli_args.specs.Requests.{text_of};
-ghost use Rattle.age_cli_common.specs.EventOrders.{preparing, making};
-ghost use Rattle.age_cli_common.specs.FaultLines.{Tells};
+ghost use Rattle.age_cli_common.specs.Orders.{preparing, making};
 ghost use Rattle.age_cli_common.specs.Files.{SparesBut};
-ghost use Rattle.age_cli_common.specs.Reasons.{SourceFails, HasReason};
 ghost use Rattle.age_cli.specs.inner.Endings.{Concludes, EndsOut};
 ghost use Rattle.age_cli.specs.inner.Openings.{Opens};
 

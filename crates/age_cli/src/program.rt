@@ -6,13 +6,10 @@ ghost use Rattle.age_fault.specs.declared.fault.FileFault.TheVariants.{Memory};
 ghost use Rattle.age_cli_common.specs.declared.ending.Ending.TheVariants.{Fault};
 ghost use Rattle.clap.specs.Words.{kind_of};
 ghost use Rattle.clap.specs.Walk.{texts};
-ghost use Rattle.age_cli.specs.Engines.{PortsOf};
-ghost use Rattle.age_cli.specs.Obeying.{around, IsRefusal, Obeys, Prints, FailsWriting};
-ghost use Rattle.age_cli_common.specs.FaultLines.{Tells};
-ghost use Rattle.age_io.specs.Progress.{IsOver};
-ghost use Rattle.age_cli_common.specs.Reasons.{SourceFails};
-ghost use Rattle.age_cli.specs.Outcomes.{status_of};
-ghost use Rattle.age_cli.specs.Runs.{Runs};
+ghost use Rattle.age_cli.specs.Acts.{PortsOf, status_of};
+ghost use Rattle.age_cli.specs.Runs.{around, IsRefusal, Obeys, Prints, FailsWriting, Runs};
+ghost use Rattle.age_cli_common.specs.Endings.{Tells, SourceFails};
+ghost use Rattle.age_io.specs.Io.{IsOver};
 ghost use Rattle.age_cli.specs.inner.Endings.{IsForOutput};
 
 use crate::decrypt_command::decrypt_file;

@@ -2,11 +2,11 @@
 
 ghost use Rattle.std.specs.Prelude.{◌≡◌, ◌⊎◌, true, is_some, IfOk, IfErr};
 ghost use Rattle.age_fault.specs.declared.fault.FileFault.TheVariants.{Read};
-ghost use Rattle.age_io.specs.Progress.{IsOver};
+ghost use Rattle.age_io.specs.Io.{IsOver};
 ghost use Rattle.age_fileset.specs.FileSet.{IsMemoryOr};
 ghost use Rattle.age_cli_args.specs.Requests.{text_of};
 ghost use Rattle.age_cli_args.specs.declared.request.ProgressOption.TheVariants.{Silent};
-ghost use Rattle.age_cli_common.specs.FaultLines.{Announces};
+ghost use Rattle.age_cli_common.specs.Endings.{Announces};
 ghost use Rattle.age_cli.specs.inner.Rereadings.{IsFoundIn, ConcludesAgain};
 
 use crate::output::{end_meter, leave, with_meter};

@@ -2,19 +2,14 @@
 
 ghost use Rattle.std.specs.Prelude.{◌≡◌, ◌⊎◌, [], ◌∷◌, ◌++◌, true, is_some, IfOk, IfErr, OnOk};
 ghost use Rattle.age_fault.specs.declared.fault.FileFault.TheVariants.{Read, BadPosition};
-ghost use Rattle.age_fileset.specs.Events.{Opened};
-ghost use Rattle.age_fileset.specs.FileSet.{OpenFails};
+ghost use Rattle.age_fileset.specs.FileSet.{Opened, OpenFails};
 ghost use Rattle.age_fileset.specs.declared.files.OpenFault.TheVariants as OpenFault;
 ghost use Rattle.age_cli_args.specs.declared.request.Request.TheVariants.{Resume};
-ghost use Rattle.age_cli_common.specs.EventOrders.{Follows};
-ghost use Rattle.age_cli_common.specs.FaultLines.{Tells};
-ghost use Rattle.age_cli_common.specs.Names.{NamesTwice};
-ghost use Rattle.age_cli_common.specs.Orders.{order_asked};
-ghost use Rattle.age_cli_common.specs.Reasons.{SourceFails, IsUnread};
-ghost use Rattle.age_io.specs.Progress.{IsOver};
-ghost use Rattle.age_cli.specs.Acts.{Acts};
-ghost use Rattle.age_cli.specs.Engines.{PortsOf};
-ghost use Rattle.age_cli.specs.Resumptions.{HoldsNoPosition, IsPositionIn, old_for};
+ghost use Rattle.age_cli_common.specs.Orders.{Follows, NamesTwice, order_asked};
+ghost use Rattle.age_cli_common.specs.Endings.{Tells, SourceFails, IsUnread};
+ghost use Rattle.age_io.specs.Io.{IsOver};
+ghost use Rattle.age_cli.specs.Acts.{Acts, PortsOf};
+ghost use Rattle.age_cli.specs.Commands.{HoldsNoPosition, IsPositionIn, old_for};
 
 use crate::decrypt_command::{is_given_as, names_a_file_twice, positions_for, read_secret};
 use crate::output::{Content, Output, conclude, end_meter, open_both, with_meter};

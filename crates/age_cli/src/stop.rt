@@ -2,13 +2,12 @@
 
 ghost use Rattle.std.specs.Prelude.{◌≡◌, true, false, None, OnOk, IfErr};
 ghost use Rattle.age_cli_args.specs.Requests.{text_of};
-ghost use Rattle.age_cli_common.specs.Endings.{is_usage};
-ghost use Rattle.age_cli.specs.Outputs.{SaveFails, EndsOf};
-ghost use Rattle.age_cli_common.specs.EventOrders.{Follows, replacing};
-ghost use Rattle.age_cli_common.specs.FaultLines.{Announces};
+ghost use Rattle.age_cli_common.specs.Endings.{is_usage, Announces};
+ghost use Rattle.age_cli.specs.Acts.{SaveFails, EndsOf};
+ghost use Rattle.age_cli_common.specs.Orders.{Follows, replacing};
 ghost use Rattle.age_cli_common.specs.Files.{SparesBoth};
 ghost use Rattle.age_cli.specs.inner.Endings.{is_memory, sealing_end, opening_end};
-ghost use Rattle.age_cli.specs.inner.Files.{Saves};
+ghost use Rattle.age_cli.specs.inner.Openings.{Saves};
 
 use age_cli_common::{Announcement, Ending, announce};
 use age_file::{Done, FileFault, Position, Stopped, Written};

@@ -1,4 +1,3 @@
 pub mod Commands
-pub mod Asked
 pub mod Requests
 pub mod inner

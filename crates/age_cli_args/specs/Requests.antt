@@ -1,10 +1,13 @@
--- What a command asks for, by what stands for each of its arguments.
-use Rattle.std.specs.Prelude.{◌≡◌, ◌≤◌, ℕ, List, Option, Some, None, codes, option_map}
-use Rattle.std.specs.Prelude.{if◌then◌else◌}
+-- What the words of a command line ask for.
+use Rattle.std.specs.Prelude.{◌≡◌, ◌⊎◌, Bool, true, false, List, [], bytes_eq, Option, Some, codes}
+use Rattle.std.specs.Prelude.{◌≤◌, ℕ, None, option_map, if◌then◌else◌}
+use Rattle.std.specs.Option.{option_map_or}
+use Rattle.clap.specs.Words.{Row, Text, one_of, fault_of, subcommand_of, first_of}
+use Rattle.clap.specs.Kinds.{Kinds, IsAmong}
+use Rattle.clap.specs.declared.error.kind.ErrorKind.TheVariants.{DisplayHelp, DisplayVersion}
+use Rattle.age_cli_args.specs.Commands.{age_tool}
 use Rattle.std.specs.Borrow.{Bor}
 use Rattle.std.specs.Str.Parse.{IsNumeral, digits_value, without_leading_plus}
-use Rattle.clap.specs.Words.{Row, Text, first_of, one_of}
-use Rattle.age_cli_args.specs.Asked.{Asks, is_given}
 use Rattle.age_io.specs.declared.durability.Durability.{Durability}
 use Rattle.age_io.specs.declared.durability.Durability.TheVariants.{Synced, Buffered}
 use Rattle.age_cli_args.specs.declared.request.ProgressOption.{ProgressOption}
@@ -17,6 +20,32 @@ use Rattle.age_cli_args.specs.declared.request.Drilling.{Drilling}
 use Rattle.age_cli_args.specs.declared.request.Request.{Request}
 use Rattle.age_cli_args.specs.declared.request.Request.TheVariants.{Inspect, Decrypt, Resume}
 use Rattle.age_cli_args.specs.declared.request.Request.TheVariants.{Encrypt, Drill}
+
+-- ---- What the words after the program's name ask for, by the definitions of the parser of command
+-- lines.
+
+-- the kinds of refusal of the words, none where they are taken
+unfoldable pub refusals : List Text → Kinds
+refusals words = fault_of age_tool words
+
+-- the command that the words name, and what stands for each of its arguments
+unfoldable pub named : List Text → Option (Text × List Row)
+named words = subcommand_of age_tool words
+
+-- the words are taken, and name this command with these matches
+pub record Asks (words : List Text) (name : Text) (rows : List Row) : Type 0 where
+  pub taken : refusals words ≡ []
+  pub command : named words ≡ Some (name, rows)
+
+-- the words ask for help or for the version, which is one of the kinds of refusal
+abbrev pub IsForHelp : List Text → Type 0
+IsForHelp words = IsAmong DisplayHelp (refusals words) ⊎ IsAmong DisplayVersion (refusals words)
+
+-- whether a flag is given, which then stands for `true`
+abbrev pub is_given : Text → List Row → Bool
+is_given id rows = option_map_or (λ t. bytes_eq t (codes "true")) (one_of id rows) false
+
+-- ---- What a command asks for, by what stands for each of its arguments.
 
 -- the number from 1 to 22 that a text spells, or this one where there is no text
 abbrev pub IsNumber : ℕ → Option Text → ℕ → Type 0

@@ -8,7 +8,7 @@ ghost use Rattle.age_cli_args.specs.Commands.{option_rule, required_rule, number
 ghost use Rattle.age_cli_args.specs.Commands.{age_tool};
 ghost use Rattle.age_cli_args.specs.inner.Commands.{HasApp, described_tool, bare_tool};
 ghost use Rattle.age_cli_args.specs.inner.Commands.{rule_as, with_all, app_as, with_subcommands};
-ghost use Rattle.age_cli_args.specs.Asked.{refusals, named};
+ghost use Rattle.age_cli_args.specs.Requests.{refusals, named};
 
 use crate::help;
 use clap::{Arg, ArgAction, ArgMatches, Command, Error};

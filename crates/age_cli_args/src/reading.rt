@@ -4,16 +4,16 @@ ghost use Rattle.std.specs.Prelude.{◌≡◌, ◌≤◌, ℕ, None, Some, IfNon
 ghost use Rattle.clap.specs.Words.{subcommand_rows_of, rows_of, found_of, one_of, first_of};
 ghost use Rattle.clap.specs.Words.{FailsBy};
 ghost use Rattle.clap.specs.Walk.{texts};
-ghost use Rattle.age_cli_args.specs.Asked.{refusals, is_given};
-ghost use Rattle.age_cli_args.specs.Requests.{IsNumber, text_of, IsDurability, IsProgress};
+ghost use Rattle.age_cli_args.specs.Requests.{refusals, is_given, IsNumber, text_of, IsDurability};
+ghost use Rattle.age_cli_args.specs.Requests.{IsProgress, IsEncrypting, IsIdentityOptions};
+ghost use Rattle.age_cli_args.specs.Requests.{IsDecrypting, IsResuming, IsDrilling, IsRequest};
+ghost use Rattle.age_cli_args.specs.Requests.{Requests};
 ghost use Rattle.age_cli_args.specs.declared.request.Encrypting.{Encrypting};
 ghost use Rattle.age_cli_args.specs.declared.request.IdentityOptions.{IdentityOptions};
 ghost use Rattle.age_cli_args.specs.declared.request.Decrypting.{Decrypting};
 ghost use Rattle.age_cli_args.specs.declared.request.Resuming.{Resuming};
 ghost use Rattle.age_cli_args.specs.declared.request.Drilling.{Drilling};
 ghost use Rattle.age_cli_args.specs.declared.request.Request.{Request};
-ghost use Rattle.age_cli_args.specs.Requests.{IsEncrypting, IsIdentityOptions, IsDecrypting, IsResuming};
-ghost use Rattle.age_cli_args.specs.Requests.{IsDrilling, IsRequest, Requests};
 
 use crate::commands::matches_of;
 use crate::request::{

@@ -1,12 +1,13 @@
 -- What is read of the file of a choice is enough.
-use Rattle.std.proofs.Common.{◌≡◌, ◌<◌, ◌++◌, ℕ, List, length, Option, Some, None, Bool, true, sym, subst, arith}
+use Rattle.std.proofs.Common.{◌≡◌, ◌<◌, ◌++◌, ℕ, List, length, Option, Some, None, Bool, true, sym}
+use Rattle.std.proofs.Common.{subst, arith}
 use Rattle.std.proofs.Common.{Result, Ok, Err, IfOk, IfSome, IfNone}
 use Rattle.std.proofs.lemmas.List.{length-append}
 use Rattle.std.specs.Borrow.{Bor}
 use Rattle.std.specs.declared.vec.Vec.{Vec}
 use Rattle.clap.specs.Words.{Text}
 use Rattle.age_fileset.specs.declared.files.OpenFault.{OpenFault}
-use Rattle.age_cli_common.specs.Choices.{IsEnough, Makes, bytes_of}
+use Rattle.age_cli_common.specs.Identities.{IsEnough, Makes, bytes_of}
 use Rattle.age_cli_common.specs.Files.{Files}
 use Rattle.age_cli_common.specs.declared.choice.Choice.{Choice}
 use Rattle.age_cli_common.specs.declared.choice.Choice.TheVariants.{SharedFile}

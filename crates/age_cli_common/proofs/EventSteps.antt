@@ -1,7 +1,7 @@
 -- The events of a command, in order.
 use Rattle.std.proofs.Common.{◌≡◌, ◌∙◌, ◌++◌, [], refl, ap, sym, List, append_assoc, append-nil}
-use Rattle.age_fileset.specs.Events.{Event}
-use Rattle.age_cli_common.specs.EventOrders.{Follows}
+use Rattle.age_fileset.specs.FileSet.{Event}
+use Rattle.age_cli_common.specs.Orders.{Follows}
 
 -- events came, and then others
 pub then_did : (old mid new done more : List Event) → mid ≡ old ++ done → new ≡ mid ++ more

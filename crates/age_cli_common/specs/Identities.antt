@@ -1,19 +1,25 @@
--- What opens a file, as the options and the files make it.
-use Rattle.std.specs.Prelude.{◌≡◌, ℕ, ◌-◌, ◌==◌, ◌&&◌, nat_lt, List, ◌++◌, length}
-use Rattle.std.specs.Prelude.{take, slice_index, Option, Some, None, if◌then◌else◌}
+-- What opens a file, and how it is chosen.
+use Rattle.std.specs.Prelude.{◌≡◌, ℕ, ◌-◌, ◌==◌, ◌&&◌, nat_lt, List, ◌++◌, length, take}
+use Rattle.std.specs.Prelude.{slice_index, Option, Some, None, if◌then◌else◌, option_map}
 use Rattle.clap.specs.Words.{Text}
 use Rattle.age_stanza.specs.declared.header.Header.{Header}
 use Rattle.age_keys.specs.declared.fault.KeyFault.{KeyFault}
 use Rattle.age_keys.specs.Keys.{SpellsKey}
-use Rattle.age_keys.specs.Passphrase.{IsAllowed, IsPassphraseKey, PassphraseRefuses}
-use Rattle.age_keys.specs.Passphrase.{passphrase_steps}
-use Rattle.age_keys.specs.SharedSecret.{Shared, IsSharedKey, SharedRefuses}
+use Rattle.age_keys.specs.Scrypt.{IsAllowed, IsPassphraseKey, PassphraseRefuses, passphrase_steps}
+use Rattle.age_keys.specs.X25519.{Shared, IsSharedKey, SharedRefuses}
 use Rattle.age_cli_common.specs.declared.identity.Identity.{Identity}
 use Rattle.age_cli_common.specs.declared.identity.Identity.TheVariants.{ByPassphrase, ByFileKey}
 use Rattle.age_cli_common.specs.declared.identity.Identity.TheVariants.{ByShared}
 use Rattle.age_cli_common.specs.Files.{Files}
 use Rattle.age_cli_args.specs.Requests.{text_of}
 use Rattle.age_cli_args.specs.declared.request.IdentityOptions.{IdentityOptions}
+use Rattle.std.specs.declared.vec.Vec.{Vec}
+use Rattle.age_cli_common.specs.declared.choice.Choice.{Choice}
+use Rattle.age_cli_common.specs.declared.choice.Choice.TheVariants.{PassphraseFile, FileKey}
+use Rattle.age_cli_common.specs.declared.choice.Choice.TheVariants.{SharedFile}
+use Rattle.age_cli_common.specs.Orders.{opening, identity_order}
+
+-- ---- What opens a file, as the options and the files make it.
 
 -- the keys that a passphrase with its limit, a file key or a shared secret may find in a header,
 -- and the faults
@@ -62,3 +68,50 @@ IsIdentity old pass file_key shared max_log identity = ⊥
 abbrev pub OpensBy : Files → IdentityOptions → Identity → Type 0
 OpensBy old u identity = IsIdentity old (text_of u.pass) (text_of u.file_key) (text_of u.shared)
     u.max_log identity
+
+-- ---- What opens a file, as one of the options says.
+
+-- the file that a choice names, where it names one
+abbrev pub file_of : Choice → Option Text
+file_of (PassphraseFile name max_log) = Some name.now
+file_of (FileKey known) = None
+file_of (SharedFile name) = Some name.now
+
+-- the bytes of a file that was read, where it wasn't too long
+abbrev pub bytes_of : {Z : Type 0} → Option (Vec ℕ Z) → Option (List ℕ)
+bytes_of = option_map (λ v. v.items)
+
+-- these bytes are what the file of this name holds, where there are such
+abbrev pub IsSecretIn : Files → Option Text → Option (List ℕ) → Type 0
+IsSecretIn old (Some name) (Some bytes) = old name ≡ Some bytes
+IsSecretIn old name bytes = Unit {0}
+
+-- what the file of this name holds, where a name is given
+abbrev pub held_for : Files → Option Text → Option (List ℕ)
+held_for old (Some name) = old name
+held_for old None = None
+
+-- what a choice makes of the bytes of its file
+abbrev pub Makes : Choice → Option (List ℕ) → Identity → Type 0
+Makes (PassphraseFile name max_log) held (ByPassphrase words) = IsPassphraseIn held words.pass
+    × (words.max_log ≡ max_log) × IsAllowed words.pass words.max_log
+Makes (FileKey known) held (ByFileKey key) = key ≡ known
+Makes (SharedFile name) held (ByShared shared) = IsSharedIn held shared
+Makes choice held identity = ⊥
+
+-- of what was read of its file it makes all that it makes of the file
+abbrev pub IsEnough : Files → Choice → Option (List ℕ) → Type 0
+IsEnough old choice held = (identity : Identity)
+    → Makes choice (held_for old (file_of choice)) identity → Makes choice held identity
+
+-- a choice is what these options say
+pub record Chooses (options : IdentityOptions) (choice : Choice) : Type 0 where
+  -- Its file is the one that the options name.
+  pub order : opening (file_of choice) ≡ identity_order (text_of options.pass) (text_of options.shared)
+  -- What it makes of the bytes of its file is what the options and the files make.
+  pub opens : (old : Files) (held : Option (List ℕ)) (identity : Identity)
+      → IsSecretIn old (file_of choice) held → Makes choice held identity
+      → OpensBy old options identity
+  -- What the options and the files make is what it makes of its file.
+  pub only : (old : Files) (identity : Identity) → OpensBy old options identity
+      → Makes choice (held_for old (file_of choice)) identity

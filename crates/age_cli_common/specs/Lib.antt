@@ -1,11 +1,5 @@
 pub mod Files
-pub mod FirstBytes
 pub mod Identities
 pub mod Endings
-pub mod FaultLines
-pub mod EventOrders
-pub mod Choices
-pub mod Names
 pub mod Orders
-pub mod Reasons
 pub mod inner

@@ -1,15 +1,70 @@
--- The order in which a command opens and makes the files that the arguments name, and which of
--- these names have to differ.
-use Rattle.std.specs.Prelude.{List, [], ◌∷◌, ◌++◌, Option, Some, None, codes}
+-- In which order files are opened, created and closed.
+use Rattle.std.specs.Prelude.{◌≡◌, List, [], ◌∷◌, ◌++◌, Option, Some, None, ◌⊎◌, codes}
 use Rattle.clap.specs.Words.{Text}
 use Rattle.age_io.specs.declared.durability.Durability.{Durability}
-use Rattle.age_fileset.specs.Events.{Event}
-use Rattle.age_cli_common.specs.EventOrders.{opening, preparing, making, replacing}
-use Rattle.age_cli_common.specs.Names.{Apart, apart_from}
+use Rattle.age_fileset.specs.FileSet.{Event, Opened, Prepared, Created, Replaced, Closed}
 use Rattle.age_cli_args.specs.Requests.{text_of}
 use Rattle.age_cli_args.specs.declared.request.Request.{Request}
 use Rattle.age_cli_args.specs.declared.request.Request.TheVariants.{Inspect, Decrypt, Resume}
 use Rattle.age_cli_args.specs.declared.request.Request.TheVariants.{Encrypt, Drill}
+
+-- ---- The orders in which a set of files is used.
+
+-- from old to new, events came of which these are the order, as far as it was followed
+pub record Follows (order old new : List Event) : Type 0 where
+  pub done : List Event
+  pub rest : List Event
+  pub did : new ≡ old ++ done
+  pub front : order ≡ done ++ rest
+
+-- a file is opened, where one is named; one is prepared to be replaced; one is created and ended;
+-- one is replaced; and what was written reaches the disk then or later
+abbrev pub opening : Option Text → List Event
+opening (Some name) = Opened name ∷ []
+opening None = []
+
+abbrev pub preparing : Option Text → List Event
+preparing (Some name) = Prepared name ∷ []
+preparing None = []
+
+abbrev pub making : Option Text → Durability → List Event
+making (Some name) durability = Created name ∷ Closed durability ∷ []
+making None durability = []
+
+abbrev pub replacing : Option Text → Durability → List Event
+replacing (Some name) durability = Replaced name durability ∷ []
+replacing None durability = []
+
+-- what opens the input, where its file is named: of a passphrase or of a shared secret
+abbrev pub identity_order : Option Text → Option Text → List Event
+identity_order pass shared = opening pass ++ opening shared
+
+-- ---- The names that have to differ.
+
+-- two names are given, and they are equal
+abbrev pub IsSame : Option Text → Option Text → Type 0
+IsSame one other = (name : Text) × (one ≡ Some name) × (other ≡ Some name)
+
+-- a name is given, and is one of these
+abbrev pub IsOneOf : Option Text → List (Option Text) → Type 0
+IsOneOf one [] = ⊥
+IsOneOf one (other ∷ others) = IsSame one other ⊎ IsOneOf one others
+
+-- a name that has to differ from others, where they are given
+pub record Apart : Type 0 where
+  pub name : Option Text
+  pub others : List (Option Text)
+
+abbrev pub apart_from : Option Text → List (Option Text) → Apart
+apart_from name others = record { name = name; others = others }
+
+-- one of these is a name from which it has to differ
+abbrev pub NamesTwice : List Apart → Type 0
+NamesTwice [] = ⊥
+NamesTwice (a ∷ rest) = IsOneOf a.name a.others ⊎ NamesTwice rest
+
+-- ---- The order in which a command opens and makes the files that the arguments name, and which of
+-- these names have to differ.
 
 -- the names that have to differ, and what a command opens, creates and replaces: what its arguments
 -- are judged by; where it ends well; and with all that a stop may add

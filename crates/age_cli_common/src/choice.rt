@@ -1,15 +1,14 @@
 //! What opens a file, as one of the options says.
 
 ghost use Rattle.std.specs.Prelude.{◌≡◌, ◌++◌, true, IfOk, IfErr, IfSome, IfNone};
-ghost use Rattle.age_keys.specs.Passphrase.{IsAllowed, PassphraseIdentity};
-ghost use Rattle.age_keys.specs.SharedSecret.{Shared};
+ghost use Rattle.age_keys.specs.Scrypt.{IsAllowed, PassphraseIdentity};
+ghost use Rattle.age_keys.specs.X25519.{Shared};
 ghost use Rattle.age_fault.specs.declared.fault.FileFault.TheVariants.{Read};
 ghost use Rattle.age_fileset.specs.FileSet.{OpenFails};
-ghost use Rattle.age_cli_common.specs.EventOrders.{opening};
-ghost use Rattle.age_cli_common.specs.Identities.{IsPassphraseIn, IsSharedIn, OpensBy};
-ghost use Rattle.age_cli_common.specs.Choices.{file_of, bytes_of, IsSecretIn, Makes, Chooses};
-ghost use Rattle.age_cli_common.specs.Choices.{IsEnough};
-ghost use Rattle.age_cli_common.specs.Reasons.{SourceFails, IsUnread};
+ghost use Rattle.age_cli_common.specs.Orders.{opening};
+ghost use Rattle.age_cli_common.specs.Identities.{IsPassphraseIn, IsSharedIn, OpensBy, file_of};
+ghost use Rattle.age_cli_common.specs.Identities.{bytes_of, IsSecretIn, Makes, Chooses, IsEnough};
+ghost use Rattle.age_cli_common.specs.Endings.{SourceFails, IsUnread};
 ghost use Rattle.age_fileset.specs.declared.files.OpenFault.TheVariants.{Fault};
 ghost use Rattle.age_cli_common.specs.Files.{Files};
 ghost use Rattle.age_cli_common.specs.declared.identity.Identity.{Identity};

@@ -2,14 +2,13 @@
 
 ghost use Rattle.std.specs.Prelude.{◌≡◌, ◌^◌, ◌<◌, ◌≤◌, [], ℕ, List, length, OnOk, IfOk, IfErr};
 ghost use Rattle.std.specs.Prelude.{IfSome, IfNone, Some, true, ◌∷◌, ◌++◌};
-ghost use Rattle.age_fileset.specs.Events.{Opened};
-ghost use Rattle.age_fileset.specs.FileSet.{IsMemoryOr, OpenFails};
+ghost use Rattle.age_fileset.specs.FileSet.{Opened, IsMemoryOr, OpenFails};
 ghost use Rattle.age_fault.specs.declared.fault.FileFault.TheVariants.{Read};
 ghost use Rattle.std.specs.Io.KnownBytes.{Consumes, IsAtEnd};
 ghost use Rattle.age_fileset.specs.declared.files.OpenFault.TheVariants.{Fault};
-ghost use Rattle.age_cli_common.specs.FirstBytes.{AreFirst};
-ghost use Rattle.age_cli_common.specs.Reasons.{SourceFails, IsUnread};
-ghost use Rattle.age_cli_common.specs.inner.Pieces.{IsPiece};
+ghost use Rattle.age_cli_common.specs.Files.{AreFirst};
+ghost use Rattle.age_cli_common.specs.Endings.{SourceFails, IsUnread};
+ghost use Rattle.age_cli_common.specs.inner.Endings.{IsPiece};
 
 use age_fault::FileFault;
 use age_fileset::{FileSet, OpenFault};

@@ -1,9 +1,10 @@
 //! What opens a file, and what the files of secrets hold.
 
-ghost use Rattle.std.specs.Prelude.{◌≡◌, [], ◌∷◌, ◌++◌, true, ℕ, List, IfOk, IfErr, IfSome, IfNone, Some};
-ghost use Rattle.age_fileset.specs.Events.{Opened};
-ghost use Rattle.age_keys.specs.Passphrase.{IsAllowed};
-ghost use Rattle.age_keys.specs.SharedSecret.{Shared};
+ghost use Rattle.std.specs.Prelude.{◌≡◌, [], ◌∷◌, ◌++◌, true, ℕ, List, IfOk, IfErr, IfSome, IfNone};
+ghost use Rattle.std.specs.Prelude.{Some};
+ghost use Rattle.age_fileset.specs.FileSet.{Opened};
+ghost use Rattle.age_keys.specs.Scrypt.{IsAllowed};
+ghost use Rattle.age_keys.specs.X25519.{Shared};
 ghost use Rattle.age_cli_common.specs.Endings.{EndsEarly, is_usage};
 ghost use Rattle.age_cli_common.specs.Identities.{without_line_feed, IsPassphraseIn, IsSharedIn};
 

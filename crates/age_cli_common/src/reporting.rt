@@ -2,11 +2,11 @@
 
 ghost use Rattle.std.specs.Prelude.{◌≡◌, ◌++◌, [], decimal, Some, true};
 ghost use Rattle.age_fault.specs.Faults.{number_of, place_of};
-ghost use Rattle.age_cli_common.specs.FaultLines.{place_text, fault_line, ReportsEnding};
-ghost use Rattle.age_cli_common.specs.FaultLines.{Announces, ReportsRest};
+ghost use Rattle.age_cli_common.specs.Endings.{place_text, fault_line, ReportsEnding, Announces};
+ghost use Rattle.age_cli_common.specs.Endings.{ReportsRest};
 ghost use Rattle.age_cli_common.specs.declared.ending.Ending.TheVariants.{Fault};
 ghost use Rattle.age_cli_common.specs.declared.ending.Announcement.TheVariants.{Made};
-ghost use Rattle.age_cli_common.specs.inner.Puts.{PutsAll};
+ghost use Rattle.age_cli_common.specs.inner.Endings.{PutsAll};
 
 use crate::ending::{Announcement, Ending, Usage};
 use crate::put::put_bytes;

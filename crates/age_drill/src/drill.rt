@@ -1,10 +1,10 @@
 //! The command that delivers a payload by a script.
 
-ghost use Rattle.std.specs.Prelude.{◌≡◌, ◌≤◌, ◌++◌, ◌∷◌, [], Some, IfOk, OnOk, length, is_some, true};
-ghost use Rattle.age_fileset.specs.Events.{Opened};
+ghost use Rattle.std.specs.Prelude.{◌≡◌, ◌≤◌, ◌++◌, ◌∷◌, [], Some, IfOk, OnOk, length, is_some};
+ghost use Rattle.std.specs.Prelude.{true};
+ghost use Rattle.age_fileset.specs.FileSet.{Opened};
 ghost use Rattle.age_cli_common.specs.Endings.{RefusesAtOnce};
-ghost use Rattle.age_cli_common.specs.EventOrders.{Follows};
-ghost use Rattle.age_cli_common.specs.Orders.{order_asked};
+ghost use Rattle.age_cli_common.specs.Orders.{Follows, order_asked};
 ghost use Rattle.age_cli_args.specs.Requests.{text_of};
 ghost use Rattle.age_cli_args.specs.declared.request.Request.TheVariants.{Drill};
 ghost use Rattle.age_stanza.specs.Grammar.{HasText};

@@ -2,7 +2,7 @@
 
 ghost use Rattle.std.specs.Prelude.{◌≡◌, OnOk};
 ghost use Rattle.std.specs.Io.KnownBytes.{Appends};
-ghost use Rattle.age_stream.specs.Lent.{chunk_bytes};
+ghost use Rattle.age_stream.specs.Opener.{chunk_bytes};
 ghost use Rattle.age_chunk.specs.Payload.{payload, chunk_length, block_length};
 
 use age_file::{FileFault, Sink, write_all};

@@ -1,15 +1,16 @@
 -- The numbers, names and places of faults.
 use Rattle.std.specs.Prelude.{◌≡◌, ◌⊎◌, ℕ, ◌^◌, ◌-◌, ◌<◌, List, [], ◌∷◌, Option, Some, None, codes}
-use Rattle.std.specs.Prelude.{Bool, true, get_or}
-use Rattle.age_io.specs.Memory.{one_more}
-use Rattle.age_stanza.specs.FaultNumbers as head
-use Rattle.age_keys.specs.FaultNumbers as key
-use Rattle.age_chunk.specs.FaultNumbers as stream
+use Rattle.std.specs.Prelude.{Bool, true, get_or, ◌+◌, ◌++◌, length, Result, MatchResult, OnErr}
+use Rattle.age_io.specs.Io.{one_more, SinkView}
 use Rattle.age_fault.specs.declared.fault.FileFault.{FileFault}
 use Rattle.age_fault.specs.declared.fault.FileFault.TheVariants.{Head, Key, NonceCut, Stream}
 use Rattle.age_fault.specs.declared.fault.FileFault.TheVariants.{BadPosition, OtherFile, ShortText}
 use Rattle.age_fault.specs.declared.fault.FileFault.TheVariants.{Read, Write, Memory, ReadNeverEnds}
 use Rattle.age_fault.specs.declared.fault.FileFault.TheVariants.{PositionForged, OldTextDiffers}
+use Rattle.std.specs.Io.KnownBytes.{Appends}
+use Rattle.age_stanza.specs.Parsing as head
+use Rattle.age_keys.specs.Keys as key
+use Rattle.age_chunk.specs.FaultNumbers as stream
 
 abbrev pub number_of : FileFault → ℕ
 number_of (Head fault) = head.number_of fault.kind
@@ -57,3 +58,18 @@ HasFailed old new failing = (new ≡ one_more old) × (failing ≡ true)
 -- a count of failures rose, or is at its greatest value
 abbrev pub HasRisen : ℕ → ℕ → Type 0
 HasRisen old new = (old < new) ⊎ (new ≡ 2 ^ 64 - 1)
+
+-- ---- What a write of some bytes did.
+
+-- the front of the bytes was taken and counted: all of them; or fewer, once a put failed, which is
+-- the only one that did, and the last
+pub record Writes {E : Type 0} (old new : SinkView) (written_old written_new : ℕ)
+    (bytes : List ℕ) (result : Result (Unit {0}) E) : Type 0 where
+  pub out : List ℕ
+  pub unwritten : List ℕ
+  pub parts : bytes ≡ out ++ unwritten
+  pub wrote : Appends old.taken new.taken out
+  pub count : written_new ≡ written_old + length out
+  pub answered : MatchResult result (λ _. (unwritten ≡ []) × (new.failed ≡ old.failed))
+      (λ _. HasFailed old.failed new.failed new.failing)
+  pub stopped : OnErr result (0 < length unwritten)

@@ -4,8 +4,8 @@ ghost use Rattle.std.specs.Prelude.{◌≡◌};
 ghost use Rattle.age_fault.specs.declared.fault.FileFault.TheVariants.{Stream};
 ghost use Rattle.age_fault.specs.declared.fault.FileFault.TheVariants.{Memory as MemoryFault};
 ghost use Rattle.age_fault.specs.Faults.{number_of, place_of, name_of, name_by};
-ghost use Rattle.age_stanza.specs.FaultNumbers.{number_of as head_number_of};
-ghost use Rattle.age_keys.specs.FaultNumbers.{number_of as key_number_of};
+ghost use Rattle.age_stanza.specs.Parsing.{number_of as head_number_of};
+ghost use Rattle.age_keys.specs.Keys.{number_of as key_number_of};
 ghost use Rattle.age_chunk.specs.FaultNumbers.{number_of as stream_number_of};
 ghost use Rattle.age_fault.specs.inner.Faults.{fault_of, fault_of_key};
 

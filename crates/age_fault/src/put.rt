@@ -3,8 +3,7 @@
 ghost use Rattle.std.specs.Prelude.{◌≡◌, ◌+◌, ◌^◌, ◌<◌, length, IfErr, OnOk, MatchResult};
 ghost use Rattle.std.specs.Prelude.{true};
 ghost use Rattle.std.specs.Io.KnownBytes.{Keeps};
-ghost use Rattle.age_fault.specs.Faults.{HasFailed};
-ghost use Rattle.age_fault.specs.Writes.{Writes};
+ghost use Rattle.age_fault.specs.Faults.{HasFailed, Writes};
 ghost use Rattle.age_fault.specs.declared.fault.FileFault.TheVariants.{Write};
 
 use crate::fault::FileFault;

@@ -4,26 +4,23 @@ use Rattle.std.proofs.Common.{refl, sym, ap, subst, ◌∙◌, arith, append_ass
 use Rattle.std.specs.Simd.{first_chunks}
 use Rattle.std.proofs.lemmas.List.{length-append}
 use Rattle.std.proofs.Math.Nat.{le-div_iff_mul-le}
-use Rattle.age_chunk.specs.Nonce.{chunk_limit}
+use Rattle.age_chunk.specs.Payload.{chunk_limit, chunk_length}
 use Rattle.age_chunk.proofs.FirstChunks.{first_chunks-append}
 use Rattle.age_file.proofs.RunSteps.{writes_of}
 use Rattle.age_stanza.specs.declared.header.Header.{Header}
 use Rattle.age_stanza.specs.Laws.{OneHeader}
-use Rattle.age_chunk.specs.Payload.{chunk_length}
 use Rattle.age_stream.specs.Headline.{IsPrefixOf}
 use Rattle.age_stream.specs.Segment.{Segment, outcome, released}
-use Rattle.age_io.specs.Views.{SourceView}
+use Rattle.age_io.specs.Io.{SourceView}
 use Rattle.age_keys.specs.declared.fault.KeyFault.{KeyFault}
-use Rattle.age_file.specs.Decrypts.{DecryptStops}
+use Rattle.age_file.specs.Decrypts.{DecryptStops, IsFoundAgain, ReadAgain}
 use Rattle.age_file.specs.declared.decryption.Stopped.{Stopped}
 use Rattle.age_file.specs.declared.position.Positions.TheVariants.{Kept, Dropped}
 use Rattle.age_keys.specs.Keys.{payload_key, position_key}
 use Rattle.age_keys.specs.inner.PayloadBox.{box_valid}
 use Rattle.age_keys.specs.AgeFile.{box, unbox}
-use Rattle.age_file.specs.Again.{IsFoundAgain, ReadAgain}
 use Rattle.age_file.specs.Bindings.{file_id, chain, chain_over, position_tag}
-use Rattle.age_file.specs.Ports.{Ports}
-use Rattle.age_file.specs.Runs.{Run, IsFromStart, IsRun, IsPositionOf, Reads, held, text_of}
+use Rattle.age_file.specs.Runs.{Ports, Run, IsFromStart, IsRun, IsPositionOf, Reads, held, text_of}
 use Rattle.age_file.specs.Runs.{segment_of, outcome_of}
 use Rattle.age_file.specs.declared.position.Position.{Position}
 use Rattle.age_file.proofs.Undamaged.{left_of, none_left, same_front}

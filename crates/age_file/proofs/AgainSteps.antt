@@ -1,5 +1,6 @@
 -- Where a run stopped, found by reading its file once more.
-use Rattle.std.proofs.Common.{◌≡◌, ◌≢◌, ℕ, ◌+◌, ◌<◌, List, [], ◌∷◌, ◌++◌, length, Option, Some, None}
+use Rattle.std.proofs.Common.{◌≡◌, ◌≢◌, ℕ, ◌+◌, ◌<◌, List, [], ◌∷◌, ◌++◌, length, Option, Some}
+use Rattle.std.proofs.Common.{None}
 use Rattle.std.proofs.Common.{Ok, Err, true, sym, ap, subst, refl, ◌∙◌, arith}
 use Rattle.std.proofs.lemmas.Option.{none-some}
 use Rattle.std.specs.Io.KnownBytes.{Appends}
@@ -7,14 +8,12 @@ use Rattle.std.specs.Prelude.{◌⊎◌, IsSomeAnd, nat_lt}
 use Rattle.std.proofs.lemmas.Bool.{ltb-true}
 use mathlib.Core.Logic.{inl, inr}
 use Rattle.age_stanza.specs.declared.header.Header.{Header}
-use Rattle.age_io.specs.Views.{SourceView, SinkView}
+use Rattle.age_io.specs.Io.{SourceView, SinkView}
 use Rattle.age_keys.specs.declared.fault.KeyFault.{KeyFault}
-use Rattle.age_file.specs.Faults.{NeverEnds}
-use Rattle.age_file.specs.Ports.{ports}
-use Rattle.age_file.specs.Starts.{StartFails}
-use Rattle.age_file.specs.Again.{fault_again, IsFoundAgain, EndsElsewhere}
-use Rattle.age_file.specs.Runs.{Run, IsRun, IsPositionOf, GivesPosition, PayloadFails, held}
-use Rattle.age_file.specs.Decrypts.{Decrypts, DecryptEnds, DecryptStops}
+use Rattle.age_file.specs.Runs.{NeverEnds, ports, Run, IsRun, IsPositionOf, GivesPosition}
+use Rattle.age_file.specs.Runs.{PayloadFails, held}
+use Rattle.age_file.specs.Decrypts.{StartFails, fault_again, IsFoundAgain, EndsElsewhere, Decrypts}
+use Rattle.age_file.specs.Decrypts.{DecryptEnds, DecryptStops}
 use Rattle.age_file.specs.declared.decryption.Done.{Done}
 use Rattle.age_file.specs.declared.position.Position.{Position}
 use Rattle.age_file.specs.declared.position.Positions.TheVariants.{Kept}

@@ -2,14 +2,12 @@
 use Rattle.std.proofs.Common.{◌≡◌, ℕ, ◌*◌, ◌<◌, List, take, sym, ap, ◌∙◌, arith}
 use Rattle.age_stanza.specs.declared.header.Header.{Header}
 use Rattle.age_file.specs.Runs.{Run, held, IsRun, IsAuthenticRun, IsDone}
-use Rattle.age_file.specs.Resumes.{ResumePorts, IsFrom}
-use Rattle.age_file.specs.Bound.{BindsTo, Bound}
-use Rattle.age_file.specs.OldTexts.{IsBoundTo, IsOldText}
+use Rattle.age_file.specs.Resumes.{ResumePorts, IsFrom, IsBoundTo, IsOldText}
+use Rattle.age_file.specs.InARow.{BindsTo, Bound}
 use Rattle.age_file.specs.declared.position.Position.{Position}
 use Rattle.age_file.proofs.RunSteps.{writes_of}
-use Rattle.age_io.specs.Views.{SourceView}
-use Rattle.age_chunk.specs.Payload.{chunk_length}
-use Rattle.age_chunk.specs.Nonce.{chunk_limit}
+use Rattle.age_io.specs.Io.{SourceView}
+use Rattle.age_chunk.specs.Payload.{chunk_length, chunk_limit}
 
 -- the old text is the beginning of each text that the position is bound to
 bound_old : (p : Position) (copied text : List ℕ) → IsOldText p copied → IsBoundTo p copied text

@@ -5,13 +5,13 @@ use Rattle.std.proofs.Common.{◌∙◌, append_assoc, append-nil, inl, inr, ari
 use Rattle.std.specs.Prelude.{◌⊎◌, IfSome}
 use Rattle.std.specs.Io.KnownBytes.{Consumes, IsAtEnd}
 use Rattle.std.proofs.lemmas.List.{append_cancel_left, length-append, take-append-drop}
-use Rattle.age_io.specs.Views.{SourceView}
+use Rattle.age_io.specs.Io.{SourceView}
 use Rattle.age_stanza.specs.declared.fault.HeadFault.{HeadFault}
 use Rattle.age_stanza.specs.declared.fault.HeadKind.{HeadKind}
 use Rattle.age_stanza.specs.declared.fault.HeadKind.TheVariants.{NotAge, Armored, BadStanzaLine}
 use Rattle.age_stanza.specs.declared.fault.HeadKind.TheVariants.{BadBody, BadEndLine, NoStanza}
 use Rattle.age_stanza.specs.declared.fault.HeadKind.TheVariants.{HeadTooLong, HeadCut, Memory}
-use Rattle.age_stanza.specs.Faults.{HasHeader, IsFault, memory_fault}
+use Rattle.age_stanza.specs.Parsing.{HasHeader, IsFault, memory_fault}
 use Rattle.std.proofs.KnownBytes.{Consumes-nil}
 use Rattle.age_stanza.proofs.AnyPieces.{more_fault}
 use Rattle.age_stanza.proofs.FinishedLines.{nothing_under_way}
@@ -19,14 +19,13 @@ use Rattle.age_stanza.proofs.Pieces.{none_held}
 use Rattle.age_stanza.proofs.FaultLaws.{no_fault}
 use Rattle.age_stream.specs.Headline.{IsPrefixOf}
 use Rattle.age_fault.proofs.Bytes.{Consumes-then}
-use Rattle.age_file.specs.Faults.{pull_room, EndsInHeader, InHeader, IsCut, IsHeadFault}
-use Rattle.age_file.specs.Faults.{ReportsFault, StopsAtHeader, HeadFails}
+use Rattle.age_file.specs.Runs.{pull_room, EndsInHeader, InHeader, IsCut, IsHeadFault, ReportsFault}
+use Rattle.age_file.specs.Runs.{StopsAtHeader, HeadFails}
 use Rattle.age_fault.specs.inner.Faults.{fault_of, fault_by_kind}
 use Rattle.age_fault.specs.declared.fault.FileFault.{FileFault}
 use Rattle.age_fault.specs.declared.fault.FileFault.TheVariants.{Head, Read, ReadNeverEnds}
 use Rattle.age_fault.specs.declared.fault.FileFault.TheVariants.{Memory as FileMemory}
-use Rattle.age_file.specs.inner.Intakes.{Pulled, PullFails}
-use Rattle.age_file.specs.inner.Readers.{ReaderView, reader_view}
+use Rattle.age_file.specs.inner.Readers.{Pulled, PullFails, ReaderView, reader_view}
 use Rattle.age_fault.specs.Faults.{HasFailed}
 use Rattle.age_file.specs.inner.Unread.{Unread}
 

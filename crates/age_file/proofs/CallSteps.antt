@@ -5,18 +5,16 @@ use Rattle.std.specs.Prelude.{Result, Ok, Err, IfSome, IsSomeAnd}
 use Rattle.std.specs.Io.KnownBytes.{Consumes, Appends}
 use Rattle.age_stanza.specs.declared.header.Header.{Header}
 use Rattle.age_stream.specs.Headline.{IsPrefixOf}
-use Rattle.age_chunk.specs.Payload.{chunk_count, chunk_length}
+use Rattle.age_chunk.specs.Payload.{chunk_count, chunk_length, chunk_limit}
 use Rattle.age_keys.specs.declared.fault.KeyFault.{KeyFault}
-use Rattle.age_io.specs.Views.{SinkView}
-use Rattle.age_file.specs.Ports.{Ports}
-use Rattle.age_file.specs.Runs.{Run, held, IsTexts, IsAuthenticRun, IsPositionOf, CarriesText}
-use Rattle.age_file.specs.Runs.{GivesPosition, WritesNone, StopsInPayload}
+use Rattle.age_io.specs.Io.{SinkView}
+use Rattle.age_file.specs.Runs.{Ports, Run, held, IsTexts, IsAuthenticRun, IsPositionOf}
+use Rattle.age_file.specs.Runs.{CarriesText, GivesPosition, WritesNone, StopsInPayload, NeverEnds}
 use Rattle.age_file.specs.Decrypts.{DecryptStops}
-use Rattle.age_file.specs.Faults.{NeverEnds}
-use Rattle.age_file.specs.Resumes.{ResumePorts, WritesOld, IsFrom, IsSame}
-use Rattle.age_file.specs.ResumeFaults.{NeverEndTogether, StopsInOld, StopsInSkipped, ResumeStops}
-use Rattle.age_file.specs.Calls.{TookBeginning, AnswersRight, FirstCall, NextCall, DecryptAnswers}
-use Rattle.age_file.specs.Calls.{ResumeAnswers, taken, AreInARow, AreTexts, AllAnswerRight}
+use Rattle.age_file.specs.Resumes.{ResumePorts, WritesOld, IsFrom, IsSame, NeverEndTogether}
+use Rattle.age_file.specs.Resumes.{StopsInOld, StopsInSkipped, ResumeStops}
+use Rattle.age_file.specs.InARow.{TookBeginning, AnswersRight, FirstCall, NextCall, DecryptAnswers}
+use Rattle.age_file.specs.InARow.{ResumeAnswers, taken, AreInARow, AreTexts, AllAnswerRight}
 use Rattle.age_file.specs.declared.decryption.Done.{Done}
 use Rattle.age_file.specs.declared.decryption.Stopped.{Stopped}
 use Rattle.age_file.specs.declared.position.Position.{Position}
@@ -25,7 +23,6 @@ use Rattle.age_file.specs.declared.position.Positions.TheVariants.{Kept, Dropped
 use Rattle.age_file.proofs.Bytes.{prefix_trans}
 use Rattle.age_file.proofs.RunSteps.{from_start}
 use Rattle.age_file.proofs.ResumedRunSteps.{authentic_of, same_carries}
-use Rattle.age_chunk.specs.Nonce.{chunk_limit}
 
 -- ---- sinks and old texts that show their bytes
 

@@ -10,8 +10,7 @@ use Rattle.age_stream.specs.Headline.{IsPrefixOf}
 use Rattle.age_fault.specs.Faults.{HasFailed}
 use Rattle.age_file.specs.Bindings.{link, chain}
 use Rattle.age_file.specs.inner.Readers.{ReaderView, WriterView}
-use Rattle.age_file.specs.inner.Skips.{Passes, Dries}
-use Rattle.age_file.specs.inner.Copies.{CopyFails, CopiesChunk, CopiesAll, TextFails}
+use Rattle.age_file.specs.inner.Copies.{Passes, Dries, CopyFails, CopiesChunk, CopiesAll, TextFails}
 use Rattle.age_fault.specs.declared.fault.FileFault.{FileFault}
 use Rattle.age_fault.specs.declared.fault.FileFault.TheVariants.{ShortText, Read, Write}
 use Rattle.age_fault.specs.declared.fault.FileFault.TheVariants.{ReadNeverEnds, OldTextDiffers}

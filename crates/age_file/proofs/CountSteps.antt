@@ -11,8 +11,8 @@ use Rattle.std.proofs.lemmas.Bool.{cases_lt}
 use Rattle.std.proofs.Math.Bool.{or-false}
 use Rattle.std.proofs.Math.Nat.{le-div_iff_mul-le}
 use Rattle.age_chunk.specs.ChunkBoxes.{IsChunkBox}
-use Rattle.age_stream.specs.Segment.{Segment, Outcome, outcome, released}
-use Rattle.age_stream.specs.Deliveries.{with_piece, with_end, fresh}
+use Rattle.age_stream.specs.Segment.{Segment, Outcome, outcome, released, with_piece, with_end}
+use Rattle.age_stream.specs.Segment.{fresh}
 use Rattle.age_stream.specs.Laws.{counted}
 use Rattle.age_stream.specs.declared.step.Status.{Status}
 use Rattle.age_stream.specs.declared.step.Status.TheVariants.{Open}
@@ -23,7 +23,7 @@ use Rattle.age_file.specs.Bindings.{link, chain}
 use Rattle.age_file.specs.inner.Bindings.{link_if, chain_if}
 use Rattle.age_file.specs.declared.position.Positions.{Positions}
 use Rattle.age_file.specs.declared.position.Positions.TheVariants.{Kept, Dropped}
-use Rattle.age_file.specs.inner.Counts.{Advances, CountsChunks, HasCounted}
+use Rattle.age_file.specs.inner.Payloads.{Advances, CountsChunks, HasCounted}
 use Rattle.age_file.specs.declared.tally.Tally.{Tally}
 
 -- a quotient that is met from below, or is the lesser of the two

@@ -9,34 +9,27 @@ use Rattle.age_file.specs.declared.decryption.Stopped.{Stopped}
 use Rattle.age_file.proofs.Undamaged.{undamaged, undamaged_done}
 use Rattle.age_stanza.specs.declared.header.Header.{Header}
 use Rattle.age_keys.specs.declared.fault.KeyFault.{KeyFault}
-use Rattle.age_file.specs.inner.Boxes.{opens}
+use Rattle.age_file.specs.inner.Decrypts.{opens, PositionAt, EndsAs}
 use Rattle.age_keys.specs.Keys.{payload_key, position_key}
 use Rattle.age_fault.specs.Faults.{HasFailed}
-use Rattle.age_io.specs.Views.{SourceView, SinkView}
-use Rattle.age_file.specs.inner.Intakes.{Pulled}
+use Rattle.age_io.specs.Io.{SourceView, SinkView}
+use Rattle.age_file.specs.inner.Readers.{Pulled, Stage}
 use Rattle.age_keys.specs.AgeFile.{unbox}
-use Rattle.age_file.specs.inner.Payloads.{DecryptsPayload, SegmentFails, SegmentDone}
-use Rattle.age_file.specs.inner.Readers.{Stage}
-use Rattle.age_file.specs.Starts.{StartFails}
-use Rattle.age_file.specs.inner.Starts.{StartsAt}
+use Rattle.age_file.specs.inner.Payloads.{DecryptsPayload, SegmentFails, SegmentDone, HasCounted}
+use Rattle.age_file.specs.Decrypts.{StartFails, DecryptsKeyed, DecryptStops, Decrypts}
+use Rattle.age_file.specs.inner.Copies.{StartsAt}
 use Rattle.age_file.specs.Runs.{Run, IsFromStart, segment_of, held, IsRun, PayloadFails, IsDone}
-use Rattle.age_file.specs.Runs.{IsPositionOf}
-use Rattle.age_file.specs.Decrypts.{DecryptsKeyed, DecryptStops, Decrypts}
-use Rattle.age_file.specs.Faults.{NeverEnds}
+use Rattle.age_file.specs.Runs.{IsPositionOf, NeverEnds, Ports, NoneFailed}
 use Rattle.age_file.proofs.RunSteps.{writes_of, writes_all, position_given, position_is}
-use Rattle.age_file.specs.inner.Decrypts.{PositionAt, EndsAs}
-use Rattle.age_file.specs.Ports.{Ports, NoneFailed}
 use Rattle.age_file.specs.Bindings.{file_id, position_tag, chain}
 use Rattle.std.specs.Simd.{first_chunks}
 use Rattle.age_file.specs.inner.Bindings.{chain_if}
 use Rattle.age_file.specs.declared.position.Positions.{Positions}
-use Rattle.age_file.specs.inner.Counts.{HasCounted}
 use Rattle.age_file.specs.declared.position.Position.{Position}
 use Rattle.age_file.specs.declared.start.Unlocked.{Unlocked}
 use Rattle.age_fault.specs.declared.fault.FileFault.{FileFault}
 use Rattle.age_fault.specs.declared.fault.FileFault.TheVariants.{Stream, Read, Write, ReadNeverEnds}
-use Rattle.age_chunk.specs.Payload.{block_length, chunk_length}
-use Rattle.age_chunk.specs.Nonce.{chunk_limit}
+use Rattle.age_chunk.specs.Payload.{block_length, chunk_length, chunk_limit}
 
 -- the tag of a position, over its own fields
 pub own_tag : (key tag : List ℕ) (index own_index : ℕ) (id own_id links own_links : List ℕ)

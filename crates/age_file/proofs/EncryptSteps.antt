@@ -9,16 +9,14 @@ use Rattle.age_keys.specs.Keys.{header_mac, IsMacOf}
 use Rattle.age_keys.specs.Scrypt.{scrypt_head}
 use Rattle.age_keys.specs.AgeFile.{box}
 use Rattle.age_file.specs.Encrypts.{AgeFile, Encrypts, EncryptsFront, EncryptFails, WhyStopped}
-use Rattle.age_file.specs.Encrypts.{without_last}
-use Rattle.age_file.specs.inner.Encrypts.{BeginsFile, FrontFails, WritesFront}
+use Rattle.age_file.specs.Encrypts.{without_last, SecretView}
+use Rattle.age_file.specs.inner.Seals.{BeginsFile, FrontFails, WritesFront, front_of, SealingFails}
+use Rattle.age_file.specs.inner.Seals.{SealsAll, SealsFront}
 use Rattle.age_file.specs.declared.encryption.Written.{Written}
-use Rattle.age_fault.specs.Writes.{Writes}
-use Rattle.age_io.specs.Views.{SourceView}
+use Rattle.age_fault.specs.Faults.{Writes, HasFailed}
+use Rattle.age_io.specs.Io.{SourceView}
 use Rattle.age_file.specs.inner.Readers.{WriterView}
-use Rattle.age_fault.specs.Faults.{HasFailed}
-use Rattle.age_file.specs.Ports.{Ports, ports, NoneFailed, WriteFailed}
-use Rattle.age_file.specs.inner.Seals.{front_of, SealingFails, SealsAll, SealsFront}
-use Rattle.age_file.specs.Secrets.{SecretView}
+use Rattle.age_file.specs.Runs.{Ports, ports, NoneFailed, WriteFailed}
 use Rattle.age_fault.specs.declared.fault.FileFault.{FileFault}
 use Rattle.age_fault.specs.declared.fault.FileFault.TheVariants.{Head, Key, NonceCut, Stream}
 use Rattle.age_fault.specs.declared.fault.FileFault.TheVariants.{BadPosition, OtherFile, ShortText}

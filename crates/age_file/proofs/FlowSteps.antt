@@ -6,21 +6,19 @@ use Rattle.std.proofs.Common.{append-nil, append_assoc, Bool, true, false}
 use Rattle.std.specs.Prelude.{Result, Ok, Err, ◌⊎◌}
 use Rattle.std.specs.Io.KnownBytes.{IsAtEnd}
 use Rattle.std.proofs.lemmas.List.{length-append}
-use Rattle.age_io.specs.Views.{SourceView}
+use Rattle.age_io.specs.Io.{SourceView}
 use Rattle.age_stream.specs.declared.step.Status.TheVariants.{Failed, Done}
-use Rattle.age_stream.specs.Deliveries.{with_piece}
-use Rattle.age_stream.specs.Opening.{OpenerView, has_failed}
+use Rattle.age_stream.specs.Segment.{with_piece}
+use Rattle.age_stream.specs.Opener.{OpenerView, has_failed}
 use Rattle.age_fault.specs.Faults.{HasFailed}
-use Rattle.age_file.specs.Ports.{NoneFailed, ReadFailed, WriteFailed}
+use Rattle.age_file.specs.Runs.{NoneFailed, ReadFailed, WriteFailed, pull_room}
 use Rattle.age_file.specs.inner.Unread.{Unread}
 use Rattle.age_file.specs.inner.Readers.{ReaderView, reader_view, WriterView, Stage, stage}
-use Rattle.age_file.specs.inner.Readers.{ports_at}
-use Rattle.age_file.specs.inner.Intakes.{Pulled, Refills, PullFails}
-use Rattle.age_file.specs.inner.Releases.{Releases, FeedsPiece, FeedFails}
+use Rattle.age_file.specs.inner.Readers.{ports_at, Pulled, Refills, PullFails}
+use Rattle.age_file.specs.inner.Payloads.{Releases, FeedsPiece, FeedFails}
 use Rattle.age_fault.specs.declared.fault.FileFault.{FileFault}
 use Rattle.age_fault.specs.declared.fault.FileFault.TheVariants.{Stream, Read, Write, ReadNeverEnds}
 use Rattle.age_file.proofs.ReleaseSteps.{releases_none, releases_then}
-use Rattle.age_file.specs.Faults.{pull_room}
 
 -- why it stopped, with what was left and not written
 abbrev pub FlowFails : {B : Type 0} → OpenerView B → Stage → Stage → List ℕ → List ℕ → FileFault

@@ -6,23 +6,22 @@ use Rattle.std.proofs.lemmas.List.{length-append}
 use Rattle.std.specs.Prelude.{Result, MatchResult, OnOk, Ok, Err}
 use Rattle.std.specs.List.{flat_map}
 use Rattle.age_stream.specs.declared.step.Status.TheVariants.{Done}
-use Rattle.age_stream.specs.Segment.{Segment, Outcome, outcome, released}
-use Rattle.age_stream.specs.Deliveries.{with_piece, with_end, fresh}
-use Rattle.age_stream.specs.Opening.{OpenerView, Stands, has_failed}
+use Rattle.age_stream.specs.Segment.{Segment, Outcome, outcome, released, with_piece, with_end}
+use Rattle.age_stream.specs.Segment.{fresh}
+use Rattle.age_stream.specs.Opener.{OpenerView, Stands, has_failed}
 use Rattle.age_stream.specs.Headline.{IsPrefixOf}
 use Rattle.age_stream.proofs.PublicLaws.{fresh_is_open, released_grows}
 use Rattle.age_fault.specs.Faults.{HasFailed}
-use Rattle.age_file.specs.Ports.{NoneFailed}
+use Rattle.age_file.specs.Runs.{NoneFailed}
 use Rattle.age_file.specs.inner.Readers.{WriterView, Stage, stage, ports_at}
-use Rattle.age_file.specs.inner.Releases.{Releases, Closes, FeedFails}
-use Rattle.age_file.specs.inner.Payloads.{segment, DecryptsPayload, SegmentFails, SegmentDone}
+use Rattle.age_file.specs.inner.Payloads.{Releases, Closes, FeedFails, segment, DecryptsPayload}
+use Rattle.age_file.specs.inner.Payloads.{SegmentFails, SegmentDone, CountsChunks, HasCounted}
 use Rattle.age_fault.specs.declared.fault.FileFault.{FileFault}
 use Rattle.age_fault.specs.declared.fault.FileFault.TheVariants.{Stream, Read, Write, ReadNeverEnds}
 use Rattle.age_chunk.specs.ChunkBoxes.{IsChunkBox}
 use Rattle.std.specs.Simd.{first_chunks}
 use Rattle.age_file.specs.inner.Bindings.{chain_if}
 use Rattle.age_file.specs.declared.position.Positions.{Positions}
-use Rattle.age_file.specs.inner.Counts.{CountsChunks, HasCounted}
 use Rattle.age_file.proofs.CountSteps.{no_piece, mark_fresh, marked}
 use Rattle.age_file.proofs.FlowSteps.{FlowFails, Ends, Stops}
 use Rattle.age_file.proofs.ReleaseSteps.{releases_next}

@@ -22,9 +22,9 @@ use Rattle.age_stanza.proofs.Texts.{length-text, IsBytes-drop}
 use Rattle.age_stanza.proofs.Base64Lemmas.{text_of_decoded, decoded_size, never_decodes}
 use Rattle.age_file.specs.declared.position.Position.{Position}
 use Rattle.age_file.specs.Bindings.{position_front}
-use Rattle.age_file.specs.PositionTexts.{position_text, IsDigest}
+use Rattle.age_file.specs.Resumes.{position_text, IsDigest}
 use Rattle.age_file.specs.inner.PositionTexts.{index_text, field_text, fields_text}
-use Rattle.age_chunk.specs.Nonce.{chunk_limit}
+use Rattle.age_chunk.specs.Payload.{chunk_limit}
 
 -- a list that is cut where its second part begins
 front_is : (a b x : List ℕ) (n : ℕ) → length a ≡ n → x ≡ a ++ b → take n x ≡ a

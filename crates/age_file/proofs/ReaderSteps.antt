@@ -1,7 +1,7 @@
 -- What a reader and a writer lend has its last value once they are gone.
 use Rattle.std.proofs.Common.{◌≡◌, sym, subst}
-use Rattle.age_io.specs.Views.{SourceView, SinkView}
-use Rattle.age_file.specs.Ports.{Ports, ports}
+use Rattle.age_io.specs.Io.{SourceView, SinkView}
+use Rattle.age_file.specs.Runs.{Ports, ports}
 
 pub read_last : {S : Type 0} (source : S → SourceView) (P : SourceView → Type 0) (s s' : S) → s ≡ s'
     → P (source s') → P (source s)

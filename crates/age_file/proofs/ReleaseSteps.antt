@@ -7,13 +7,11 @@ use Rattle.std.specs.Borrow.{Bor}
 use Rattle.std.proofs.lemmas.Grind.{flat_map-append}
 use Rattle.std.proofs.lemmas.List.{length-append, length-take}
 use Rattle.std.specs.Io.KnownBytes.{Appends}
-use Rattle.age_stream.specs.Segment.{Segment, outcome, released}
-use Rattle.age_stream.specs.Deliveries.{with_piece}
-use Rattle.age_stream.specs.Opening.{has_failed, OpenerView, Stands, chunk_texts}
+use Rattle.age_stream.specs.Segment.{Segment, outcome, released, with_piece}
+use Rattle.age_stream.specs.Opener.{has_failed, OpenerView, Stands, chunk_texts, chunk_bytes}
 use Rattle.age_stream.proofs.PublicLaws.{pieces_join}
-use Rattle.age_stream.specs.Lent.{chunk_bytes}
 use Rattle.age_fault.specs.Faults.{HasFailed}
-use Rattle.age_file.specs.inner.Releases.{Releases, FeedGoes, FeedFails}
+use Rattle.age_file.specs.inner.Payloads.{Releases, FeedGoes, FeedFails, Advances, CountsChunks}
 use Rattle.age_file.specs.inner.Readers.{WriterView}
 use Rattle.age_fault.specs.declared.fault.FileFault.{FileFault}
 use Rattle.age_fault.specs.declared.fault.FileFault.TheVariants.{Stream, Write}
@@ -21,7 +19,6 @@ use Rattle.age_chunk.specs.ChunkBoxes.{IsChunkBox}
 use Rattle.age_file.specs.inner.Bindings.{link_if}
 use Rattle.age_file.specs.declared.position.Positions.{Positions}
 use Rattle.age_file.specs.declared.tally.Tally.{Tally}
-use Rattle.age_file.specs.inner.Counts.{Advances, CountsChunks}
 use Rattle.age_file.proofs.CountSteps.{no_piece, piece_start, mark_step, mark_none, mark_cut}
 use Rattle.age_fault.proofs.Bytes.{Appends-then}
 use Rattle.std.proofs.KnownBytes.{Appends-nil}

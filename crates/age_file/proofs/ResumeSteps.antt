@@ -4,7 +4,9 @@ use Rattle.std.proofs.Common.{Option, Some, None, refl, inl, inr, sym, ap, subst
 use Rattle.std.proofs.Common.{suc, ◌^◌, arith, append-nil, append_assoc}
 use Rattle.std.specs.Prelude.{Result, MatchResult, Ok, Err}
 use Rattle.age_stanza.specs.Laws.{OneHeader}
-use Rattle.age_file.specs.ResumePromises.{ResumesText}
+use Rattle.age_file.specs.Resumes.{ResumesText, ResumePorts, WritesOld, IsFrom, IsSame, BeginsWith}
+use Rattle.age_file.specs.Resumes.{IsOldText, NeverEndTogether, BeforeOldFails, InOldFails}
+use Rattle.age_file.specs.Resumes.{StopsInOld, InSkippedFails, StopsInSkipped, ResumeStops}
 use Rattle.age_file.specs.declared.decryption.Done.{Done}
 use Rattle.age_file.specs.declared.decryption.Stopped.{Stopped}
 use Rattle.age_file.proofs.UndamagedRest.{undamaged_rest, undamaged_rest_done}
@@ -16,32 +18,23 @@ use Rattle.std.proofs.Math.Nat.{mul-le-mul_right}
 use Rattle.age_stanza.specs.declared.header.Header.{Header}
 use Rattle.age_stream.specs.Headline.{IsPrefixOf}
 use Rattle.age_keys.specs.declared.fault.KeyFault.{KeyFault}
-use Rattle.age_file.specs.inner.Boxes.{opens}
+use Rattle.age_file.specs.inner.Decrypts.{opens, IsPositionAt, PositionAt, EndsAs}
 use Rattle.age_keys.specs.Keys.{payload_key, position_key}
 use Rattle.age_keys.specs.AgeFile.{unbox}
 use Rattle.age_file.specs.Bindings.{file_id, chain, position_tag}
 use Rattle.age_file.specs.inner.Bindings.{chain_if}
 use Rattle.age_file.specs.declared.position.Positions.TheVariants.{Kept, Dropped}
-use Rattle.age_file.specs.inner.Copies.{CopiesText}
+use Rattle.age_file.specs.inner.Copies.{CopiesText, Passes, SkipFails, Uses, StartsAt}
 use Rattle.age_fault.specs.Faults.{HasFailed}
-use Rattle.age_file.specs.inner.Readers.{ReaderView, reader_view, WriterView, Stage, stage}
-use Rattle.age_file.specs.inner.Intakes.{Pulled}
-use Rattle.age_file.specs.inner.Decrypts.{IsPositionAt, PositionAt, EndsAs}
-use Rattle.age_file.specs.inner.Counts.{HasCounted}
-use Rattle.age_file.specs.inner.Skips.{Passes, SkipFails}
-use Rattle.age_file.specs.inner.Payloads.{HasPlace, DecryptsPayload, SegmentFails, SegmentDone}
+use Rattle.age_file.specs.inner.Readers.{ReaderView, reader_view, WriterView, Stage, stage, Pulled}
+use Rattle.age_file.specs.inner.Payloads.{HasCounted, HasPlace, DecryptsPayload, SegmentFails}
+use Rattle.age_file.specs.inner.Payloads.{SegmentDone}
 use Rattle.age_file.specs.Runs.{Run, segment_of, held, Reads, IsRun, GivesPosition, PayloadFails}
-use Rattle.age_file.specs.Runs.{IsDone}
-use Rattle.age_file.specs.Resumes.{ResumePorts, WritesOld, IsFrom, IsSame}
+use Rattle.age_file.specs.Runs.{IsDone, OpenedFile}
 use Rattle.age_file.proofs.RunSteps.{writes_of, writes_all, position_given}
-use Rattle.age_file.specs.Verdicts.{OpenedFile}
 use Rattle.age_file.specs.inner.Verdicts.{PositionRefused}
-use Rattle.age_file.specs.OldTexts.{BeginsWith, IsOldText}
-use Rattle.age_file.specs.ResumeFaults.{NeverEndTogether, BeforeOldFails, InOldFails, StopsInOld}
-use Rattle.age_file.specs.ResumeFaults.{InSkippedFails, StopsInSkipped, ResumeStops}
-use Rattle.age_file.specs.Starts.{StartFails}
-use Rattle.age_file.specs.inner.Starts.{Uses, StartsAt}
-use Rattle.age_io.specs.Views.{SourceView, SinkView}
+use Rattle.age_file.specs.Decrypts.{StartFails}
+use Rattle.age_io.specs.Io.{SourceView, SinkView}
 use Rattle.age_file.specs.inner.Unread.{Unread}
 use Rattle.age_fault.specs.declared.fault.FileFault.{FileFault}
 use Rattle.age_fault.specs.declared.fault.FileFault.TheVariants.{Stream, OtherFile, ShortText, Read}
@@ -54,8 +47,7 @@ use Rattle.age_file.proofs.Bytes.{prefix_trans, preceded, preceded_consumed, cou
 use Rattle.age_file.proofs.Bytes.{counted_back}
 use Rattle.age_fault.proofs.Bytes.{Appends-then}
 use Rattle.age_file.proofs.DecryptSteps.{own_tag}
-use Rattle.age_chunk.specs.Payload.{block_length, chunk_length}
-use Rattle.age_chunk.specs.Nonce.{chunk_limit}
+use Rattle.age_chunk.specs.Payload.{block_length, chunk_length, chunk_limit}
 
 -- ---- the old text
 

@@ -4,19 +4,17 @@ use Rattle.std.proofs.Common.{◌∙◌, arith}
 use Rattle.std.proofs.lemmas.List.{length-append, take_at}
 use Rattle.std.specs.Simd.{first_chunks}
 use Rattle.age_stream.specs.Headline.{IsPrefixOf}
-use Rattle.age_chunk.specs.Payload.{chunk_count, chunk_length}
+use Rattle.age_chunk.specs.Payload.{chunk_count, chunk_length, chunk_limit}
 use Rattle.age_chunk.proofs.FirstChunks.{first_chunks-append}
 use Rattle.age_file.specs.Bindings.{chain}
 use Rattle.age_file.specs.Runs.{Run, held, IsTexts, IsAuthenticRun, CarriesText}
-use Rattle.age_file.specs.Resumes.{IsSame}
-use Rattle.age_file.specs.OldTexts.{IsOldText}
-use Rattle.age_file.specs.ResumedRuns.{ResumedRun, last, AreInARow, WritesRight}
+use Rattle.age_file.specs.Resumes.{IsSame, IsOldText}
+use Rattle.age_file.specs.InARow.{ResumedRun, last, AllFollow, WritesRight}
 use Rattle.age_file.specs.declared.position.Position.{Position}
 use Rattle.age_file.proofs.Bytes.{prefix_trans}
 use Rattle.age_file.proofs.RunSteps.{writes_of, writes_all}
-use Rattle.age_chunk.specs.Nonce.{chunk_limit}
 
-few_chunks : (text : List ℕ) (first : Run) (runs : List ResumedRun) → AreInARow text first runs
+few_chunks : (text : List ℕ) (first : Run) (runs : List ResumedRun) → AllFollow text first runs
     → chunk_count chunk_length text ≤ chunk_limit
 few_chunks text first [] a = a.1.few
 few_chunks text first (r ∷ earlier) a = few_chunks text first earlier a.1
@@ -50,7 +48,7 @@ same_carries p q copied text o c s =
           (sym s.index))),
     )
 
-pub in_a_row : (text : List ℕ) (first : Run) (runs : List ResumedRun) → AreInARow text first runs
+pub in_a_row : (text : List ℕ) (first : Run) (runs : List ResumedRun) → AllFollow text first runs
     → WritesRight text first runs
 in_a_row text first [] a =
     let limit : first.first < chunk_limit = omega (arith, a.0.zero) in

@@ -3,26 +3,21 @@ use Rattle.std.proofs.Common.{◌≡◌, ℕ, ◌≤◌, List, [], ◌++◌, Opt
 use Rattle.std.proofs.Common.{◌∙◌, append-nil}
 use Rattle.std.specs.Prelude.{Result, Ok, Err, MatchResult}
 use Rattle.age_stanza.specs.Laws.{OneHeader}
-use Rattle.age_chunk.specs.Payload.{chunk_count, chunk_length}
-use Rattle.age_stream.specs.Authentic.{IsClosed}
+use Rattle.age_chunk.specs.Payload.{chunk_count, chunk_length, chunk_limit}
+use Rattle.age_stream.specs.Laws.{IsClosed}
 use Rattle.age_keys.specs.AgeFile.{box, unbox}
-use Rattle.age_keys.specs.Laws.{PassphraseOpens}
-use Rattle.age_keys.specs.Passphrase.{PassphraseIdentity, IsPassphraseKey, PassphraseRefuses}
-use Rattle.age_keys.specs.Scrypt.{scrypt_head}
-use Rattle.age_file.specs.Ports.{Ports}
-use Rattle.age_file.specs.Runs.{Run}
-use Rattle.age_file.specs.Secrets.{SecretView}
-use Rattle.age_file.specs.Encrypts.{AgeFile}
+use Rattle.age_keys.specs.Scrypt.{PassphraseOpens, PassphraseIdentity, IsPassphraseKey}
+use Rattle.age_keys.specs.Scrypt.{PassphraseRefuses, scrypt_head}
+use Rattle.age_file.specs.Runs.{Ports, Run}
+use Rattle.age_file.specs.Encrypts.{SecretView, AgeFile}
 use Rattle.age_file.specs.Decrypts.{IsWhole, IsUndamaged, StopsOutside}
-use Rattle.age_file.specs.Calls.{DecryptAnswers}
-use Rattle.age_file.specs.RoundTrips.{IsSecret, words_of, WasEncrypted}
+use Rattle.age_file.specs.InARow.{DecryptAnswers, IsSecret, words_of, WasEncrypted}
 use Rattle.age_file.specs.declared.position.Positions.{Positions}
 use Rattle.age_file.specs.declared.decryption.Done.{Done}
 use Rattle.age_file.specs.declared.decryption.Stopped.{Stopped}
 use Rattle.age_file.specs.declared.encryption.Written.{Written}
 use Rattle.age_file.proofs.CallSteps.{took}
 use Rattle.age_file.proofs.Undamaged.{left_of, none_left, undamaged, undamaged_done}
-use Rattle.age_chunk.specs.Nonce.{chunk_limit}
 
 pub whole : PassphraseOpens → (s : SecretView) (max_log : ℕ) (text bytes : List ℕ) → IsSecret s
     → s.log ≤ max_log → chunk_count chunk_length text ≤ chunk_limit

@@ -6,7 +6,7 @@ use Rattle.std.specs.Simd.{first_chunks}
 use Rattle.std.proofs.lemmas.List.{length-append}
 use Rattle.std.proofs.Math.Nat.{le-div_iff_mul-le}
 use Rattle.age_stream.specs.declared.step.Status.TheVariants.{Done}
-use Rattle.age_chunk.specs.Payload.{chunk_count, chunk_length}
+use Rattle.age_chunk.specs.Payload.{chunk_count, chunk_length, chunk_limit}
 use Rattle.age_stream.specs.Headline.{IsPrefixOf}
 use Rattle.age_stream.proofs.PublicLaws.{released_is_written}
 use Rattle.age_keys.specs.Keys.{payload_key, position_key}
@@ -23,7 +23,6 @@ use Rattle.age_file.specs.declared.position.Positions.TheVariants.{Kept, Dropped
 use Rattle.age_file.specs.declared.start.Unlocked.{Unlocked}
 use Rattle.age_file.proofs.Bytes.{prefix_trans}
 use Rattle.age_chunk.proofs.FirstChunks.{first_chunks-append}
-use Rattle.age_chunk.specs.Nonce.{chunk_limit}
 
 -- the text of a run, after its old text
 held_text : (r : Run) (text : List ℕ) → IsAuthenticRun r text → r.first < chunk_limit

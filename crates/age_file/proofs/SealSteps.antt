@@ -10,10 +10,9 @@ use Rattle.std.proofs.lemmas.Bool.{ltb-true, eqb-true, and_parts}
 use Rattle.std.proofs.lemmas.Bool.Decides.{nat_tests}
 use Rattle.std.proofs.lemmas.List.{length-take, length-append, length-drop, take_rest, take_at}
 use Rattle.age_chunk.specs.ChunkBoxes.{IsChunkBox}
-use Rattle.age_chunk.specs.Nonce.{chunk_limit}
-use Rattle.age_chunk.specs.Payload.{last_index, block_length}
-use Rattle.age_stream.specs.Sealing.{SealerView, Holds, step_len, needs_too_many}
-use Rattle.age_stream.specs.Lent.{chunk_bytes}
+use Rattle.age_chunk.specs.Payload.{chunk_limit, last_index, block_length}
+use Rattle.age_stream.specs.Sealer.{SealerView, Holds, step_len, needs_too_many}
+use Rattle.age_stream.specs.Opener.{chunk_bytes}
 use Rattle.age_stream.proofs.PublicLaws.{payload_is_longer}
 use Rattle.age_fault.specs.Faults.{HasFailed}
 use Rattle.age_file.specs.inner.Readers.{WriterView}

@@ -3,10 +3,9 @@ use Rattle.std.proofs.Common.{Ok, Err, false, suc, ◌≤◌, ◌≡◌, ℕ, �
 use Rattle.std.proofs.Common.{subst, ◌∙◌, arith, append-nil, refl}
 use Rattle.std.proofs.lemmas.List.{length-append}
 use Rattle.std.proofs.Math.Nat.{mul-le-mul_right}
-use Rattle.age_file.specs.inner.Intakes.{PullFails}
+use Rattle.age_file.specs.inner.Readers.{PullFails, ReaderView}
 use Rattle.age_fault.specs.Faults.{HasFailed}
-use Rattle.age_file.specs.inner.Readers.{ReaderView}
-use Rattle.age_file.specs.inner.Skips.{Passes, Dries, SkipsBlock, SkipFails, EndsAfter}
+use Rattle.age_file.specs.inner.Copies.{Passes, Dries, SkipsBlock, SkipFails, EndsAfter}
 use Rattle.age_fault.specs.declared.fault.FileFault.{FileFault}
 use Rattle.age_fault.specs.declared.fault.FileFault.TheVariants.{Stream, Read, ReadNeverEnds}
 use Rattle.age_file.proofs.StartSteps.{uses_then}

@@ -9,13 +9,12 @@ use Rattle.std.proofs.lemmas.List.{length-append}
 use Rattle.age_stream.specs.Headline.{IsPrefixOf}
 use Rattle.age_chunk.specs.Payload.{pair, block_bytes, payload, sealed_before_last, last_index}
 use Rattle.age_chunk.specs.Payload.{last_chunk}
-use Rattle.age_stream.specs.Sealing.{SealerView, Holds}
+use Rattle.age_stream.specs.Sealer.{SealerView, Holds}
 use Rattle.age_stream.proofs.PublicLaws.{sealed_grows}
-use Rattle.age_io.specs.Views.{SourceView, SinkView}
+use Rattle.age_io.specs.Io.{SourceView, SinkView}
 use Rattle.age_fault.specs.Faults.{HasFailed}
-use Rattle.age_file.specs.inner.Readers.{ReaderView, WriterView}
-use Rattle.age_file.specs.inner.Intakes.{PullFails}
-use Rattle.age_file.specs.Ports.{Ports}
+use Rattle.age_file.specs.inner.Readers.{ReaderView, WriterView, PullFails}
+use Rattle.age_file.specs.Runs.{Ports, pull_room}
 use Rattle.age_file.specs.inner.Seals.{front_of, SealsSome, GoesOn, SealFails, SealingFails, Wrote}
 use Rattle.age_fault.specs.declared.fault.FileFault.{FileFault}
 use Rattle.age_fault.specs.declared.fault.FileFault.TheVariants.{Head, Key, NonceCut, Stream}
@@ -26,7 +25,6 @@ use Rattle.age_fault.specs.declared.fault.FileFault.TheVariants.{OldTextDiffers}
 use Rattle.age_file.proofs.Bytes.{prefix_trans}
 use Rattle.age_fault.proofs.Bytes.{Appends-then}
 use Rattle.age_file.proofs.SealSteps.{goes_then}
-use Rattle.age_file.specs.Faults.{pull_room}
 
 -- the blocks before the last begin the payload
 pub front_begins : (sealing : List ℕ → List ℕ → List ℕ) (n : ℕ) (text : List ℕ)

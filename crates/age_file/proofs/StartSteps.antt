@@ -5,7 +5,7 @@ use Rattle.std.specs.Prelude.{Result, Ok, Err, IfOk, IfErr}
 use Rattle.sha2.specs.Hashers.{Holds256}
 use Rattle.sha2.specs.declared.Sha256.{Sha256}
 use Rattle.std.specs.Io.KnownBytes.{Consumes}
-use Rattle.age_io.specs.Views.{SourceView}
+use Rattle.age_io.specs.Io.{SourceView}
 use Rattle.age_stanza.specs.declared.header.Header.{Header}
 use Rattle.age_stanza.specs.Grammar.{HeadText}
 use Rattle.age_keys.specs.declared.fault.KeyFault.{KeyFault}
@@ -13,15 +13,14 @@ use Rattle.age_keys.specs.declared.fault.KeyFault.TheVariants.{ScryptNotAlone, B
 use Rattle.age_keys.specs.declared.fault.KeyFault.TheVariants.{WorkTooHigh, NoMatch, WrongKey}
 use Rattle.age_keys.specs.declared.fault.KeyFault.TheVariants.{MacMismatch, BadX25519}
 use Rattle.age_keys.specs.declared.fault.KeyFault.TheVariants.{Memory as KeyMemory}
-use Rattle.age_keys.specs.Opened.{Opens, Refuses}
+use Rattle.age_keys.specs.Keys.{Opens, Refuses}
 use Rattle.age_file.specs.inner.Unread.{Unread}
-use Rattle.age_file.specs.inner.Readers.{ReaderView, reader_view}
-use Rattle.age_file.specs.inner.Intakes.{Pulled, PullFails}
-use Rattle.age_file.specs.Faults.{pull_room, InHeader, HeadFails, StopsAtHeader}
+use Rattle.age_file.specs.inner.Readers.{ReaderView, reader_view, Pulled, PullFails}
+use Rattle.age_file.specs.Runs.{pull_room, InHeader, HeadFails, StopsAtHeader}
 use Rattle.age_fault.specs.Faults.{HasFailed}
 use Rattle.age_fault.specs.inner.Faults.{fault_of_key}
-use Rattle.age_file.specs.Starts.{StartFails}
-use Rattle.age_file.specs.inner.Starts.{Uses, UsesShort, NonceFails, ReadsNonce, StartsAt}
+use Rattle.age_file.specs.Decrypts.{StartFails}
+use Rattle.age_file.specs.inner.Copies.{Uses, UsesShort, NonceFails, ReadsNonce, StartsAt}
 use Rattle.age_file.specs.declared.start.Unlocked.{Unlocked}
 use Rattle.age_fault.specs.declared.fault.FileFault.{FileFault}
 use Rattle.age_fault.specs.declared.fault.FileFault.TheVariants.{Head, NonceCut, Read, Memory}

@@ -4,7 +4,7 @@ use Rattle.std.proofs.Common.{drop, Option, Some, None, refl, sym, ap, subst, �
 use Rattle.std.proofs.Common.{append-nil, append_assoc, Bool, true, false}
 use Rattle.std.proofs.lemmas.List.{length-append, drop_at, take_at, drop_all}
 use Rattle.std.specs.Io.KnownBytes.{Appends, Consumes, IsAtEnd}
-use Rattle.age_io.specs.Views.{SourceView}
+use Rattle.age_io.specs.Io.{SourceView}
 use Rattle.age_stanza.specs.declared.header.Header.{Header}
 use Rattle.age_stanza.specs.declared.fault.HeadFault.{HeadFault}
 use Rattle.age_stanza.specs.Grammar.{HeadText}
@@ -12,31 +12,28 @@ use Rattle.age_stanza.specs.Laws.{OneHeader}
 use Rattle.age_chunk.specs.declared.fault.StreamFault.{StreamFault}
 use Rattle.age_chunk.specs.declared.fault.StreamKind.TheVariants.{Truncated}
 use Rattle.age_stream.specs.declared.step.Status.TheVariants.{Open, Failed, Done}
-use Rattle.age_chunk.specs.Payload.{payload, chunk_count, block_length, chunk_length}
+use Rattle.age_chunk.specs.Payload.{payload, chunk_count, block_length, chunk_length, chunk_limit}
 use Rattle.age_stream.specs.Segment.{outcome}
 use Rattle.age_stream.specs.Headline.{IsAuthentic, IsRest}
-use Rattle.age_stream.specs.Authentic.{IsClosed}
+use Rattle.age_stream.specs.Laws.{IsClosed}
 use Rattle.age_stream.proofs.PublicLaws.{closed_stays, released_is_written, rest_is_authentic}
 use Rattle.age_keys.specs.declared.fault.KeyFault.{KeyFault}
 use Rattle.age_keys.specs.declared.fault.KeyFault.TheVariants.{MacMismatch, Memory as KeyMemory}
-use Rattle.age_keys.specs.Keys.{IsMacOf, payload_key}
+use Rattle.age_keys.specs.Keys.{IsMacOf, payload_key, Refuses, RefusesKey}
 use Rattle.age_keys.specs.inner.PayloadBox.{box_valid}
-use Rattle.age_keys.specs.Opened.{Refuses, RefusesKey}
 use Rattle.age_keys.specs.AgeFile.{box, unbox}
-use Rattle.age_file.specs.Ports.{Ports}
+use Rattle.age_file.specs.Runs.{Ports, IsHeadFault, NeverEnds, Run, IsFromStart, outcome_of, IsRun}
+use Rattle.age_file.specs.Runs.{PayloadFails, IsDone}
 use Rattle.std.specs.Prelude.{IfSome}
-use Rattle.age_file.specs.Faults.{IsHeadFault, NeverEnds}
 use Rattle.age_file.specs.declared.position.Positions.{Positions}
-use Rattle.age_file.specs.Starts.{StartFails}
-use Rattle.age_file.specs.Runs.{Run, IsFromStart, outcome_of, IsRun, PayloadFails, IsDone}
+use Rattle.age_file.specs.Decrypts.{StartFails, DecryptStops, IsWhole, IsUndamaged, WritesText}
+use Rattle.age_file.specs.Decrypts.{StopsOutside}
 use Rattle.age_file.specs.inner.Payloads.{segment}
-use Rattle.age_file.specs.Decrypts.{DecryptStops, IsWhole, IsUndamaged, WritesText, StopsOutside}
 use Rattle.age_file.specs.declared.decryption.Stopped.{Stopped}
 use Rattle.age_file.proofs.RunSteps.{none_before}
 use Rattle.age_fault.specs.declared.fault.FileFault.{FileFault}
 use Rattle.age_fault.specs.declared.fault.FileFault.TheVariants.{Head, Key, NonceCut, Stream, Read}
 use Rattle.age_fault.specs.declared.fault.FileFault.TheVariants.{Write, Memory, ReadNeverEnds}
-use Rattle.age_chunk.specs.Nonce.{chunk_limit}
 
 -- a source that showed its bytes shows those that are left
 pub left_of : (before after : Option (List ℕ)) (bytes used : List ℕ) → before ≡ Some bytes

@@ -12,12 +12,10 @@ use Rattle.age_keys.specs.declared.fault.KeyFault.{KeyFault}
 use Rattle.age_keys.specs.Keys.{position_key}
 use Rattle.age_file.specs.Bindings.{file_id, chain, position_tag}
 use Rattle.age_file.specs.Decrypts.{WritesText, StopsOutside}
-use Rattle.age_file.specs.Runs.{Run, Reads, IsDone}
-use Rattle.age_file.specs.Resumes.{ResumePorts, WritesOld, IsFrom}
-use Rattle.age_file.specs.Verdicts.{OpenedFile, HasId, HasTag}
-use Rattle.age_file.specs.UndamagedRests.{IsUndamagedRest}
-use Rattle.age_file.specs.ResumeFaults.{NeverEndTogether, BeforeOldFails, InOldFails}
-use Rattle.age_file.specs.ResumeFaults.{InSkippedFails, StopsInSkipped, ResumeStops}
+use Rattle.age_file.specs.Runs.{Run, Reads, IsDone, OpenedFile, HasId, HasTag}
+use Rattle.age_file.specs.Resumes.{ResumePorts, WritesOld, IsFrom, IsUndamagedRest}
+use Rattle.age_file.specs.Resumes.{NeverEndTogether, BeforeOldFails, InOldFails, InSkippedFails}
+use Rattle.age_file.specs.Resumes.{StopsInSkipped, ResumeStops}
 use Rattle.age_file.specs.declared.decryption.Stopped.{Stopped}
 use Rattle.age_file.specs.declared.position.Position.{Position}
 use Rattle.age_file.specs.declared.position.Positions.{Positions}

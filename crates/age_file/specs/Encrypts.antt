@@ -1,19 +1,29 @@
--- What an encryption did.
-use Rattle.std.specs.Prelude.{◌≡◌, ℕ, ◌-◌, ◌^◌, ◌<◌, ◌≤◌, List, ◌++◌, length}
+-- What an encryption promises.
+use Rattle.std.specs.Prelude.{ℕ, List, ◌≡◌, ◌-◌, ◌^◌, ◌<◌, ◌≤◌, ◌++◌, length}
 use Rattle.std.specs.Io.KnownBytes.{Consumes, Appends, IsAtEnd}
 use Rattle.age_stream.specs.Headline.{IsPrefixOf}
-use Rattle.age_chunk.specs.Nonce.{chunk_limit}
-use Rattle.age_chunk.specs.Payload.{chunk_count, chunk_length, sealed_before_last, block_bytes}
-use Rattle.age_stream.specs.Sealing.{too_many}
+use Rattle.age_chunk.specs.Payload.{chunk_limit, chunk_count, chunk_length, sealed_before_last}
+use Rattle.age_chunk.specs.Payload.{block_bytes}
+use Rattle.age_stream.specs.Sealer.{too_many}
 use Rattle.age_keys.specs.Scrypt.{scrypt_head}
 use Rattle.age_keys.specs.AgeFile.{box, FileOf}
-use Rattle.age_file.specs.Faults.{IsByAllPulls}
-use Rattle.age_file.specs.Ports.{Ports, NoneFailed, ReadFailed, WriteFailed}
-use Rattle.age_file.specs.Secrets.{SecretView}
+use Rattle.age_file.specs.Runs.{IsByAllPulls, Ports, NoneFailed, ReadFailed, WriteFailed}
 use Rattle.age_file.specs.declared.encryption.Written.{Written}
 use Rattle.age_fault.specs.declared.fault.FileFault.{FileFault}
 use Rattle.age_fault.specs.declared.fault.FileFault.TheVariants.{Stream, Read, Write, Memory}
 use Rattle.age_fault.specs.declared.fault.FileFault.TheVariants.{ReadNeverEnds}
+
+-- ---- What an age file for a passphrase is made of.
+
+-- the passphrase, the work factor, the stanza's salt, the file key and the payload nonce
+pub record SecretView : Type 0 where
+  pub pass : List ℕ
+  pub log : ℕ
+  pub salt : List ℕ
+  pub key : List ℕ
+  pub nonce : List ℕ
+
+-- ---- What an encryption did.
 
 -- the bytes are the age file of the text for the passphrase: its header has one scrypt stanza
 abbrev pub AgeFile : SecretView → List ℕ → List ℕ → Type 0

@@ -5,7 +5,7 @@ use Rattle.std.specs.Io.KnownBytes.{Consumes, IsAtEnd}
 use Rattle.age_stanza.specs.declared.header.Stanza.{Stanza}
 use Rattle.age_stanza.specs.declared.header.Header.{Header}
 use Rattle.age_stanza.specs.Grammar.{HeadText}
-use Rattle.age_stream.specs.Lengths.{IsTextLength}
+use Rattle.age_stream.specs.Laws.{IsTextLength}
 use Rattle.age_file.specs.declared.report.StanzaReport.{StanzaReport}
 use Rattle.age_file.specs.declared.report.Report.{Report}
 

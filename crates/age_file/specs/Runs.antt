@@ -1,28 +1,140 @@
--- Runs: what was read of an age file, and what was written. A decryption is a run that begins with
--- chunk 0; a resumed one begins with the chunk of its position, after the old text.
-use Rattle.std.specs.Prelude.{◌≡◌, ℕ, ◌⊎◌, ◌*◌, ◌/◌, ◌<◌, ◌≤◌, min, List, [], ◌++◌}
-use Rattle.std.specs.Prelude.{length, take}
-use Rattle.std.specs.Prelude.{Option, None, IsSomeAnd, Bool, true, false}
-use Rattle.std.specs.Io.KnownBytes.{Consumes, Appends, IsAtEnd}
+-- A run: what was read, what was written, and how it ended.
+use Rattle.std.specs.Prelude.{◌≡◌, ℕ, List, ◌⊎◌, ◌^◌, ◌*◌, ◌<◌, ◌≤◌, ◌++◌, length, Option, IfSome}
+use Rattle.std.specs.Prelude.{◌/◌, min, [], take, None, IsSomeAnd, Bool, true, false}
 use Rattle.age_stanza.specs.declared.header.Header.{Header}
-use Rattle.age_stanza.specs.Grammar.{HeadText}
+use Rattle.age_keys.specs.Keys.{position_key, Opens}
+use Rattle.age_file.specs.Bindings.{file_id, position_tag, chain_over}
+use Rattle.age_file.specs.declared.position.Position.{Position}
+use Rattle.age_io.specs.Io.{SourceView, SinkView}
+use Rattle.age_fault.specs.Faults.{HasFailed}
+use Rattle.std.specs.Io.KnownBytes.{Consumes, IsAtEnd, Appends}
+use Rattle.age_stanza.specs.declared.fault.HeadKind.TheVariants.{HeadCut}
+use Rattle.age_stanza.specs.declared.fault.HeadFault.{HeadFault}
+use Rattle.age_stanza.specs.Grammar.{header_limit, HeadText}
+use Rattle.age_stanza.specs.Parsing.{HasHeader, NoFault, IsFault, line_after}
+use Rattle.age_chunk.specs.Payload.{chunk_length, chunk_count, block_length, chunk_limit}
+use Rattle.age_fault.specs.declared.fault.FileFault.{FileFault}
+use Rattle.age_fault.specs.declared.fault.FileFault.TheVariants.{Head, Read, Memory, ReadNeverEnds}
+use Rattle.age_fault.specs.declared.fault.FileFault.TheVariants.{Stream, Write}
 use Rattle.age_stream.specs.declared.step.Status.TheVariants.{Done, Failed}
-use Rattle.age_stream.specs.Opening.{has_failed}
-use Rattle.age_chunk.specs.Payload.{chunk_count, chunk_length, block_length}
+use Rattle.age_stream.specs.Opener.{has_failed}
 use Rattle.age_stream.specs.Segment.{Segment, Outcome, outcome, released}
 use Rattle.age_stream.specs.Headline.{IsPrefixOf, IsAuthentic}
-use Rattle.age_chunk.specs.Nonce.{chunk_limit}
-use Rattle.age_keys.specs.Opened.{Opens}
 use Rattle.age_keys.specs.AgeFile.{box, unbox}
-use Rattle.age_file.specs.Bindings.{chain_over}
-use Rattle.age_file.specs.Ports.{Ports, NoneFailed, ReadFailed, WriteFailed}
-use Rattle.age_file.specs.Verdicts.{OpenedFile, HasId, HasTag}
-use Rattle.age_file.specs.declared.position.Position.{Position}
 use Rattle.age_file.specs.declared.position.Positions.{Positions}
 use Rattle.age_file.specs.declared.position.Positions.TheVariants.{Kept, Dropped}
 use Rattle.age_file.specs.declared.decryption.Stopped.{Stopped}
-use Rattle.age_fault.specs.declared.fault.FileFault.{FileFault}
-use Rattle.age_fault.specs.declared.fault.FileFault.TheVariants.{Stream, Read, Write, ReadNeverEnds}
+
+-- ---- Whether a position is a file's, and was made under its key.
+
+-- a file whose header was opened and whose nonce was read
+pub record OpenedFile : Type 0 where
+  pub header : Header
+  pub header_bytes : List ℕ
+  pub key : List ℕ
+  pub nonce : List ℕ
+
+-- the tag was made under the position key of a file of this key and nonce
+abbrev pub IsTagged : Position → List ℕ → List ℕ → Type 0
+IsTagged p key nonce = p.tag ≡ position_tag (position_key key nonce) p.index p.file_id p.chain
+
+-- the id of a position is the file's, and its tag was made under the file's key
+abbrev pub HasId : Position → OpenedFile → Type 0
+HasId p f = p.file_id ≡ file_id f.header_bytes f.nonce
+
+abbrev pub HasTag : Position → OpenedFile → Type 0
+HasTag p f = IsTagged p f.key f.nonce
+
+-- ---- What an engine's contract sees of its source and sink.
+
+pub record Ports : Type 0 where
+  pub source : SourceView
+  pub sink : SinkView
+
+abbrev pub ports : SourceView → SinkView → Ports
+ports source sink = record { source = source; sink = sink }
+
+abbrev pub NoneFailed : Ports → Ports → Type 0
+NoneFailed old new = (new.source.failed ≡ old.source.failed) × (new.sink.failed ≡ old.sink.failed)
+
+-- the source failed in one pull, its last, and the sink in no call
+abbrev pub ReadFailed : Ports → Ports → Type 0
+ReadFailed old new = HasFailed old.source.failed new.source.failed new.source.failing
+    × (new.sink.failed ≡ old.sink.failed)
+
+-- the sink failed in one call, its last, and the source in none
+abbrev pub WriteFailed : Ports → Ports → Type 0
+WriteFailed old new = HasFailed old.sink.failed new.sink.failed new.sink.failing
+    × (new.source.failed ≡ old.source.failed)
+
+-- ---- When each fault of a header comes.
+
+-- how many bytes one pull gives at most: a chunk's, so that a pull of a text that is encrypted
+-- fills a chunk
+abbrev pub pull_room : ℕ
+pull_room = chunk_length
+
+-- the bytes end within a header, and hold no fault so far
+pub record EndsInHeader (bytes : List ℕ) : Type 0 where
+  pub no_header : HasHeader bytes → ⊥
+  pub no_fault : NoFault bytes
+  pub short : length bytes < header_limit
+
+-- they do, and were cut there
+abbrev pub IsCut : List ℕ → HeadFault → Type 0
+IsCut bytes fault = EndsInHeader bytes
+    × (fault ≡ record { kind = HeadCut; line = line_after bytes })
+
+-- the fault of some bytes, after which the input ended: of a line, of their length, or of their end
+abbrev pub IsHeadFault : List ℕ → HeadFault → Type 0
+IsHeadFault bytes fault = (HasHeader bytes → ⊥) × (IsFault bytes fault ⊎ IsCut bytes fault)
+
+-- the fault is that of the bytes that were read, and so of all that the source had
+pub record ReportsFault (old new : Option (List ℕ)) (fault : HeadFault) : Type 0 where
+  pub bytes : List ℕ
+  pub consumed : Consumes old new bytes
+  pub no_header : HasHeader bytes → ⊥
+  pub reports : IsFault bytes fault ⊎ (IsAtEnd new × IsCut bytes fault)
+  pub of_all : IfSome old (λ all. IsHeadFault all fault)
+
+-- so many bytes came by 2^63 pulls, each of which gave some
+abbrev pub IsByAllPulls : ℕ → Type 0
+IsByAllPulls count = (2 ^ 63 ≤ count) × (count ≤ pull_room * 2 ^ 63)
+
+-- a source gave so much that it is taken for one that never ends
+abbrev pub NeverEnds : Option (List ℕ) → Option (List ℕ) → Type 0
+NeverEnds old new = (bytes : List ℕ) × Consumes old new bytes × IsByAllPulls (length bytes)
+
+-- the bytes that came end within a header, and hold no fault so far
+abbrev pub InHeader : Option (List ℕ) → Option (List ℕ) → Type 0
+InHeader old new = (bytes : List ℕ) × Consumes old new bytes × EndsInHeader bytes
+
+-- the same, or they begin with a header
+abbrev pub NoHeadFault : Option (List ℕ) → Option (List ℕ) → Type 0
+NoHeadFault old new = (bytes : List ℕ) × Consumes old new bytes
+    × (EndsInHeader bytes ⊎ HasHeader bytes)
+
+-- no more than one pull gives came after bytes that end within a header and hold no fault
+pub record StopsAtHeader (old new : Option (List ℕ)) : Type 0 where
+  pub before : List ℕ
+  pub last : List ℕ
+  pub read : Consumes old new (before ++ last)
+  pub few : length last ≤ pull_room
+  pub in_header : EndsInHeader before
+
+-- when each fault comes. No more bytes came only if those that did are sound: they hold no fault
+abbrev pub HeadFails : (Sound : Option (List ℕ) → Option (List ℕ) → Type 0) → SourceView
+    → SourceView → FileFault → Type 0
+HeadFails Sound old new (Head fault) = ReportsFault old.remaining new.remaining fault
+HeadFails Sound old new Read = Sound old.remaining new.remaining
+    × HasFailed old.failed new.failed new.failing
+HeadFails Sound old new Memory = StopsAtHeader old.remaining new.remaining
+HeadFails Sound old new ReadNeverEnds = Sound old.remaining new.remaining
+    × NeverEnds old.remaining new.remaining
+HeadFails Sound old new other = ⊥
+
+-- ---- Runs: what was read of an age file, and what was written. A decryption is a run that begins
+-- with chunk 0; a resumed one begins with the chunk of its position, after the old text.
 
 -- a run: the file that was opened, the chunk that the run begins with, the old text that was copied
 -- and the blocks that were skipped before it, the bytes that were read after them, whether the

@@ -3,8 +3,8 @@
 ghost use Rattle.std.specs.Prelude.{◌≡◌, ◌+◌, ℕ, List, [], ◌∷◌, ◌++◌, length, Some, true, nat_lt};
 ghost use Rattle.std.specs.Borrow.{ftrue};
 ghost use Rattle.std.specs.Coded.{coded_list, coded_ℕ};
-ghost use Rattle.age_io.specs.Memory.{one_more};
-ghost use Rattle.age_file.specs.Again.{FindsPosition, fault_again};
+ghost use Rattle.age_io.specs.Io.{one_more};
+ghost use Rattle.age_file.specs.Decrypts.{FindsPosition, fault_again};
 
 use crate::decryption::decrypt_with;
 use crate::position::{Position, Positions};

@@ -3,11 +3,10 @@
 ghost use Rattle.std.specs.Prelude.{◌≡◌, ◌<◌, []};
 ghost use Rattle.age_file.specs.declared.position.Positions.TheVariants.{Kept};
 ghost use Rattle.age_file.specs.inner.Bindings.{chain_if};
-ghost use Rattle.age_file.specs.inner.Readers.{view_of_reader, view_of_writer};
-ghost use Rattle.age_file.specs.inner.Readers.{SameReader, SameWriter};
+ghost use Rattle.age_file.specs.inner.Readers.{view_of_reader, view_of_writer, SameReader};
+ghost use Rattle.age_file.specs.inner.Readers.{SameWriter};
 ghost use Rattle.age_file.specs.inner.Copies.{CanCopy, CopiesChunk, CopiesAll};
-ghost use Rattle.age_chunk.specs.Payload.{chunk_length};
-ghost use Rattle.age_chunk.specs.Nonce.{chunk_limit};
+ghost use Rattle.age_chunk.specs.Payload.{chunk_length, chunk_limit};
 
 use crate::reader::{Reader, Writer};
 use crate::start::some_bytes;

@@ -1,13 +1,13 @@
 //! Decrypts a file.
 
 ghost use Rattle.std.specs.Prelude.{◌≡◌, ◌<◌, None, true};
-ghost use Rattle.age_file.specs.Ports.{ports};
+ghost use Rattle.age_file.specs.Runs.{ports};
 ghost use Rattle.age_file.specs.declared.position.Positions.TheVariants.{Kept};
 ghost use Rattle.age_file.specs.Decrypts.{Decrypts, DecryptsKeyed};
 ghost use Rattle.age_file.specs.inner.Decrypts.{PositionAt, EndsAs, OpensPayload};
 ghost use Rattle.age_file.specs.inner.Payloads.{HasPlace};
 ghost use Rattle.age_file.specs.inner.Readers.{stage_of, SameReader, SameWriter};
-ghost use Rattle.age_chunk.specs.Nonce.{chunk_limit};
+ghost use Rattle.age_chunk.specs.Payload.{chunk_limit};
 
 use crate::intake::Intake;
 use crate::payload::decrypt_payload;

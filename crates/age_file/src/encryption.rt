@@ -2,9 +2,9 @@
 
 ghost use Rattle.std.specs.Prelude.{◌≡◌, IfOk, OnOk, IfErr, true};
 ghost use Rattle.age_file.specs.Encrypts.{Encrypts, EncryptFails};
-ghost use Rattle.age_file.specs.inner.Encrypts.{BeginsFile, WritesFront};
+ghost use Rattle.age_file.specs.inner.Seals.{BeginsFile, WritesFront};
 ghost use Rattle.age_file.specs.inner.Readers.{view_of_writer, SameWriter};
-ghost use Rattle.age_file.specs.Ports.{ports};
+ghost use Rattle.age_file.specs.Runs.{ports};
 ghost use Rattle.age_fault.specs.declared.fault.FileFault.TheVariants.{Memory};
 
 use crate::intake::Intake;

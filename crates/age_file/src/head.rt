@@ -1,10 +1,9 @@
 //! Reads the header at the beginning of a source.
 
 ghost use Rattle.std.specs.Prelude.{◌≡◌, ℕ, List, [], IfOk, IfErr};
-ghost use Rattle.age_file.specs.Faults.{HeadFails, InHeader};
-ghost use Rattle.age_file.specs.inner.Readers.{view_of_reader, SameReader};
-ghost use Rattle.age_file.specs.inner.Intakes.{ReadsHead};
-ghost use Rattle.age_file.specs.inner.Fronts.{IsReading, IsFront, TakesFront, head_of};
+ghost use Rattle.age_file.specs.Runs.{HeadFails, InHeader};
+ghost use Rattle.age_file.specs.inner.Readers.{view_of_reader, SameReader, ReadsHead, IsReading};
+ghost use Rattle.age_file.specs.inner.Readers.{IsFront, TakesFront, head_of};
 
 use crate::intake::Intake;
 use crate::reader::Reader;

@@ -2,9 +2,8 @@
 
 ghost use Rattle.std.specs.Prelude.{◌≡◌, ◌+◌, ◌^◌, ◌<◌, ◌≤◌, ◌*◌, IfOk, IfErr};
 ghost use Rattle.std.specs.Prelude.{OnOk, map};
-ghost use Rattle.age_file.specs.Faults.{HeadFails, NoHeadFault};
-ghost use Rattle.age_file.specs.inner.Readers.{view_of_reader, SameReader};
-ghost use Rattle.age_file.specs.inner.Intakes.{CountsRest, RestFails};
+ghost use Rattle.age_file.specs.Runs.{HeadFails, NoHeadFault};
+ghost use Rattle.age_file.specs.inner.Readers.{view_of_reader, SameReader, CountsRest, RestFails};
 ghost use Rattle.age_file.specs.Reports.{stanza_report, IsPlainOf, Inspects};
 
 use crate::head::read_head;

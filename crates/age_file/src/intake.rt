@@ -1,9 +1,8 @@
 //! The bytes that were pulled from a source and not used yet.
 
 ghost use Rattle.std.specs.Prelude.{◌≡◌, ◌≤◌, [], length, drop, IfOk};
-ghost use Rattle.age_file.specs.inner.Intakes.{Refills};
-ghost use Rattle.age_file.specs.inner.Readers.{reader_view};
-ghost use Rattle.age_file.specs.Faults.{pull_room};
+ghost use Rattle.age_file.specs.inner.Readers.{Refills, reader_view};
+ghost use Rattle.age_file.specs.Runs.{pull_room};
 
 use age_fault::FileFault;
 use age_io::Source;
@@ -35,7 +34,7 @@ impl Model for Intake {
     ghost Value = { Unread };
 
     ghost use Rattle.std.specs.Prelude.{◌≡◌, ◌≤◌, ◌^◌, length, drop, take};
-    ghost use Rattle.age_file.specs.Faults.{pull_room};
+    ghost use Rattle.age_file.specs.Runs.{pull_room};
 
     ghost view = { λ i. record {
       bytes = drop i.from (take i.to i.buffer.items);

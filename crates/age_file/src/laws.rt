@@ -1,9 +1,7 @@
 //! Laws over the definitions.
-ghost use Rattle.age_file.specs.ResumedRuns.{RunsInARow};
-ghost use Rattle.age_file.specs.Calls.{CallsInARow};
-ghost use Rattle.age_file.specs.Bound.{RunsAreBound, DoneIsBound};
-ghost use Rattle.age_file.specs.Again.{ReadAgain};
-ghost use Rattle.age_file.specs.RoundTrips.{AgeFileIsWhole, RoundTrip};
+ghost use Rattle.age_file.specs.InARow.{RunsInARow, CallsInARow, RunsAreBound, DoneIsBound};
+ghost use Rattle.age_file.specs.InARow.{AgeFileIsWhole, RoundTrip};
+ghost use Rattle.age_file.specs.Decrypts.{ReadAgain};
 
 use age_keys::{Unlock, passphrase_opens};
 use age_stanza::one_header;

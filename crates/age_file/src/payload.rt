@@ -2,13 +2,12 @@
 
 ghost use Rattle.std.specs.Prelude.{◌≡◌, ◌+◌, ◌^◌, ◌<◌, ◌≤◌, length, IfOk, OnOk};
 ghost use Rattle.std.specs.Prelude.{true, false};
-ghost use Rattle.age_stream.specs.Opening.{has_failed};
-ghost use Rattle.age_file.specs.inner.Boxes.{opens};
-ghost use Rattle.age_file.specs.inner.Releases.{FeedsOnce, FeedsPiece, Closes};
-ghost use Rattle.age_file.specs.inner.Payloads.{HasPlace, DecryptsPayload};
+ghost use Rattle.age_stream.specs.Opener.{has_failed};
+ghost use Rattle.age_file.specs.inner.Decrypts.{opens};
+ghost use Rattle.age_file.specs.inner.Payloads.{FeedsOnce, FeedsPiece, Closes, HasPlace};
+ghost use Rattle.age_file.specs.inner.Payloads.{DecryptsPayload};
 ghost use Rattle.age_file.specs.inner.Readers.{view_of_writer, stage_of, SameReader, SameWriter};
-ghost use Rattle.age_chunk.specs.Payload.{chunk_length};
-ghost use Rattle.age_chunk.specs.Nonce.{chunk_limit};
+ghost use Rattle.age_chunk.specs.Payload.{chunk_length, chunk_limit};
 
 use crate::reader::{Reader, Writer};
 use age_fault::{FileFault, flush_all, write_all};

@@ -5,7 +5,7 @@ ghost use Rattle.std.specs.List.{concat};
 ghost use Rattle.sha2.specs.Hashers.{Holds256};
 ghost use Rattle.age_stanza.specs.Text.{base64_text};
 ghost use Rattle.age_file.specs.Bindings.{link, file_id, position_tag};
-ghost use Rattle.age_chunk.specs.Nonce.{chunk_limit};
+ghost use Rattle.age_chunk.specs.Payload.{chunk_limit};
 
 use base64::engine::general_purpose::STANDARD_NO_PAD;
 use itoa::Buffer;

@@ -3,10 +3,10 @@
 ghost use Rattle.std.specs.Prelude.{◌≡◌, ◌≢◌, ◌<◌, ℕ, List, length, IfOk, IfErr, IfSome};
 ghost use Rattle.std.specs.Prelude.{IfNone};
 ghost use Rattle.std.specs.Prelude.{decimal};
-ghost use Rattle.age_file.specs.PositionTexts.{position_text, NoPosition, IsDigest};
+ghost use Rattle.age_file.specs.Resumes.{position_text, NoPosition, IsDigest};
 ghost use Rattle.age_file.specs.inner.PositionTexts.{index_text, field_text, fields_text};
 ghost use Rattle.age_fault.specs.declared.fault.FileFault.TheVariants.{BadPosition, Memory};
-ghost use Rattle.age_chunk.specs.Nonce.{chunk_limit};
+ghost use Rattle.age_chunk.specs.Payload.{chunk_limit};
 
 use crate::position::{Position, VERSION, front_parts, spelled};
 use age_fault::FileFault;

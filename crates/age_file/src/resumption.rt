@@ -1,15 +1,14 @@
 //! Continues a decryption that stopped.
 
 ghost use Rattle.std.specs.Prelude.{◌≡◌, []};
-ghost use Rattle.age_file.specs.inner.Readers.{view_of_reader, view_of_writer};
-ghost use Rattle.age_file.specs.inner.Readers.{SameReader, SameWriter};
+ghost use Rattle.age_file.specs.inner.Readers.{view_of_reader, view_of_writer, SameReader};
+ghost use Rattle.age_file.specs.inner.Readers.{SameWriter};
 ghost use Rattle.age_file.specs.inner.Copies.{CopiesText, CopiesBefore};
-ghost use Rattle.age_file.specs.Ports.{ports};
+ghost use Rattle.age_file.specs.Runs.{ports};
 ghost use Rattle.age_file.specs.declared.position.Positions.TheVariants.{Kept};
 ghost use Rattle.age_file.specs.inner.Bindings.{chain_if};
 ghost use Rattle.age_file.specs.inner.Verdicts.{VerdictOn};
-ghost use Rattle.age_file.specs.Resumes.{resume_ports};
-ghost use Rattle.age_file.specs.ResumePromises.{ResumesText};
+ghost use Rattle.age_file.specs.Resumes.{resume_ports, ResumesText};
 ghost use Rattle.age_chunk.specs.Payload.{chunk_length};
 
 use crate::copy::copy_chunks;

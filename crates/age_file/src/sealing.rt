@@ -1,7 +1,7 @@
 //! Seals what a source gives, and writes each block.
 
 ghost use Rattle.std.specs.Prelude.{◌≡◌, ◌^◌, ◌≤◌, [], length, OnOk, true};
-ghost use Rattle.age_file.specs.inner.Boxes.{seals};
+ghost use Rattle.age_file.specs.inner.Decrypts.{seals};
 ghost use Rattle.age_file.specs.inner.Readers.{view_of_writer, ports_of, SameReader, SameWriter};
 ghost use Rattle.age_file.specs.inner.Seals.{IsFeeding, HasRoom, SealsOnce, SealsPiece, SealsLast};
 ghost use Rattle.age_file.specs.inner.Seals.{SealsSource};

@@ -1,8 +1,8 @@
 //! What an age file for a passphrase is made of.
 
 ghost use Rattle.std.specs.Option.{SomeIff};
-ghost use Rattle.age_keys.specs.Passphrase.{IsAllowed};
-ghost use Rattle.age_file.specs.Secrets.{SecretView};
+ghost use Rattle.age_keys.specs.Scrypt.{IsAllowed};
+ghost use Rattle.age_file.specs.Encrypts.{SecretView};
 
 use age_keys::PASSPHRASE_LIMIT;
 use std::marker::Model;

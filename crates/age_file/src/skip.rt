@@ -1,6 +1,6 @@
 //! Passes over the blocks of a payload that were opened before.
 
-ghost use Rattle.age_file.specs.inner.Skips.{SkipsBlock, SkipsBlocks};
+ghost use Rattle.age_file.specs.inner.Copies.{SkipsBlock, SkipsBlocks};
 ghost use Rattle.age_file.specs.inner.Readers.{view_of_reader, SameReader};
 ghost use Rattle.age_chunk.specs.Payload.{block_length};
 

@@ -2,11 +2,11 @@
 
 ghost use Rattle.std.specs.Prelude.{◌≡◌, ◌+◌, ◌-◌, ◌≤◌, [], ◌++◌, length, take, min};
 ghost use Rattle.std.specs.Prelude.{IfOk, IfErr};
-ghost use Rattle.age_file.specs.Starts.{StartFails};
+ghost use Rattle.age_file.specs.Decrypts.{StartFails};
 ghost use Rattle.age_file.specs.inner.Readers.{view_of_reader, SameReader};
-ghost use Rattle.age_file.specs.inner.Starts.{Uses, SomeAnswers, NonceFails, TakesNonce};
-ghost use Rattle.age_file.specs.inner.Starts.{ReadsNonce, StartsAt};
-ghost use Rattle.age_file.specs.Faults.{pull_room};
+ghost use Rattle.age_file.specs.inner.Copies.{Uses, SomeAnswers, NonceFails, TakesNonce};
+ghost use Rattle.age_file.specs.inner.Copies.{ReadsNonce, StartsAt};
+ghost use Rattle.age_file.specs.Runs.{pull_room};
 
 use crate::head::read_head;
 use crate::position::file_id;

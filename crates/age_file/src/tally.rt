@@ -3,7 +3,7 @@
 ghost use Rattle.std.specs.Prelude.{◌≡◌, ◌<◌, ℕ, List, []};
 ghost use Rattle.age_file.specs.inner.Bindings.{chain_if, link_if};
 ghost use Rattle.age_file.specs.declared.position.Positions.TheVariants.{Kept};
-ghost use Rattle.age_chunk.specs.Nonce.{chunk_limit};
+ghost use Rattle.age_chunk.specs.Payload.{chunk_limit};
 
 use crate::position::{Positions, next_link};
 
@@ -18,7 +18,7 @@ pub(crate) struct Tally {
 }
 
 impl Tally {
-    ghost use Rattle.age_file.specs.inner.Counts.{Advances};
+    ghost use Rattle.age_file.specs.inner.Payloads.{Advances};
 
     /// Nothing was written.
     #[tactic(auto, unfolding(crate::specs::Bindings::chain))]

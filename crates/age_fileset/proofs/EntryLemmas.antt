@@ -13,7 +13,7 @@ use Rattle.std.proofs.lemmas.Slice.Eq.{bytes_eq-Decides}
 use Rattle.std.proofs.lemmas.List.Folds.{find-set, find_past, find-append, find_at}
 use Rattle.std.proofs.lemmas.List.Quantifiers.{position-Some}
 use Rattle.age_fileset.specs.declared.mem_entry.MemEntry.{MemEntry}
-use Rattle.age_fileset.specs.Entries.{has_name, entry_of}
+use Rattle.age_fileset.specs.FileSet.{has_name, entry_of}
 
 abbrev bytes_in : Option MemEntry → Option (List ℕ)
 bytes_in = option_map (λ e. e.bytes)

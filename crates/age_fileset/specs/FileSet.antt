@@ -1,11 +1,29 @@
--- What contracts see of a set of files, the faults that it returns, and what it reads of a file
--- that may be missing.
-use Rattle.std.specs.Prelude.{◌≡◌, ◌⊎◌, ℕ, Bool, false, List, [], Option, Some, None}
+-- Sets of files.
+use Rattle.std.specs.Prelude.{ℕ, List, ◌≡◌, ◌⊎◌, Bool, false, [], Option, Some, None, ◌≢◌, ◌-◌, ◌^◌}
+use Rattle.std.specs.Prelude.{find, option_map, Result, OnOk, OnErr}
+use Rattle.age_io.specs.declared.durability.Durability.{Durability}
 use Rattle.age_fault.specs.declared.fault.FileFault.{FileFault}
 use Rattle.age_fault.specs.declared.fault.FileFault.TheVariants.{Memory}
-use Rattle.age_fileset.specs.Events.{Event}
 use Rattle.age_fileset.specs.declared.files.OpenFault.{OpenFault}
 use Rattle.age_fileset.specs.declared.files.OpenFault.TheVariants.{SameFile, Fault}
+use Rattle.std.specs.Str.{bytes_eq}
+use Rattle.age_io.specs.Io.{Holding}
+use Rattle.age_fileset.specs.declared.mem_entry.MemEntry.{MemEntry}
+
+-- ---- What was done with a set of files.
+
+-- a file was to be opened, prepared to be replaced later, created or replaced under this name,
+-- whether that succeeded or not; the file that was created last was ended; what was made or
+-- replaced was to reach the disk now or later
+pub data Event : Type 0 where
+  Opened : List ℕ → Event
+  Prepared : List ℕ → Event
+  Created : List ℕ → Event
+  Replaced : List ℕ → Durability → Event
+  Closed : Durability → Event
+
+-- ---- What contracts see of a set of files, the faults that it returns, and what it reads of a
+-- file that may be missing.
 
 -- the bytes of the entry of each name, where there is one; and what was opened, prepared, created,
 -- replaced and closed, in order, whether it succeeded or not: that also where the entries aren't
@@ -28,3 +46,43 @@ OpenFails shows other (Fault fault) = IsMemoryOr other fault
 abbrev pub or_empty : Option (List ℕ) → Option (List ℕ)
 or_empty None = Some []
 or_empty (Some bytes) = Some bytes
+
+-- ---- What files over memory hold.
+
+abbrev pub has_name : List ℕ → MemEntry → Bool
+has_name q e = bytes_eq e.name q
+
+-- the bytes of the first entry of a name
+abbrev pub entry_of : List MemEntry → List ℕ → Option (List ℕ)
+entry_of es q = option_map (λ e. e.bytes) (find (has_name q) es)
+
+-- these bytes were to be put under a name, in place of what stood there
+pub record PutsEntry {E : Type 0} (name bytes : List ℕ) (result : Result (Unit {0}) E)
+    (old new : List MemEntry) : Type 0 where
+  -- They stand there, if it succeeded.
+  pub put : OnOk result (entry_of new name ≡ Some bytes)
+  -- What stands under any other name doesn't change.
+  pub others : (q : List ℕ) → q ≢ name → entry_of new q ≡ entry_of old q
+  -- Nothing changes at all, if it failed.
+  pub err : OnErr result (new ≡ old)
+
+-- the files, the names that can't be written, and how many bytes a file that is written can hold,
+-- and what was done
+pub record Shelf : Type 0 where
+  pub entries : List MemEntry
+  pub refused : List (List ℕ)
+  pub room : ℕ
+  pub events : List Event
+
+-- the sink of a new file that holds at most so many bytes
+abbrev pub empty_with : ℕ → Holding
+empty_with room = record {
+  held = [];
+  room = room;
+  step = 2 ^ 64 - 1;
+  fail_call = None;
+  calls = 0;
+  failures = 0;
+  failing = false;
+  settled = false;
+}

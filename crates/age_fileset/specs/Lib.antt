@@ -1,4 +1,2 @@
-pub mod Events
 pub mod FileSet
-pub mod Entries
 pub mod inner

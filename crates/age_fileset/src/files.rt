@@ -4,9 +4,9 @@ ghost use Rattle.std.specs.Prelude.{◌≡◌, ◌≢◌, ◌⊎◌, ℕ, Bool, 
 ghost use Rattle.std.specs.Prelude.{◌++◌, Option, None};
 ghost use Rattle.std.specs.Prelude.{Some, IfOk, IfErr, IfSome, IsOkUnless, OnOk, OnErr, is_some};
 ghost use Rattle.std.specs.Prelude.{option_map, length};
-ghost use Rattle.age_fileset.specs.FileSet.{FilesView, IsMemoryOr, OpenFails, or_empty};
+ghost use Rattle.age_fileset.specs.FileSet.{FilesView, IsMemoryOr, OpenFails, or_empty, Opened};
+ghost use Rattle.age_fileset.specs.FileSet.{Prepared, Created, Replaced, Closed};
 ghost use Rattle.age_fileset.specs.declared.files.OpenFault.TheVariants.{Fault};
-ghost use Rattle.age_fileset.specs.Events.{Opened, Prepared, Created, Replaced, Closed};
 
 use age_fault::FileFault;
 use age_io::{Durability, Sink, Source};

@@ -3,7 +3,7 @@
 ghost use Rattle.std.specs.Prelude.{◌≡◌, [], ◌∷◌, ◌++◌, List};
 ghost use Rattle.std.specs.Borrow.{ftrue};
 ghost use Rattle.std.specs.Coded.{coded_list};
-ghost use Rattle.age_fileset.specs.Events.{Event, Opened, Prepared, Created, Replaced, Closed};
+ghost use Rattle.age_fileset.specs.FileSet.{Event, Opened, Prepared, Created, Replaced, Closed};
 ghost use Rattle.age_fileset.specs.inner.Events.{coded_event, event_of};
 
 use age_io::Durability;

@@ -2,7 +2,7 @@
 
 ghost use Rattle.std.specs.Prelude.{◌≡◌, IsOk, ℕ, List, IfOk, is_some, true, position};
 ghost use Rattle.std.specs.Prelude.{option_map};
-ghost use Rattle.age_fileset.specs.Entries.{has_name, entry_of, PutsEntry};
+ghost use Rattle.age_fileset.specs.FileSet.{has_name, entry_of, PutsEntry};
 
 use age_stanza::Bytes;
 use std::alloc::{AllocError, Global};

@@ -4,10 +4,9 @@ ghost use Rattle.std.specs.Prelude.{◌≡◌, ◌↔◌, ◌⊎◌, ◌++◌, �
 ghost use Rattle.std.specs.Prelude.{None, OnOk, OnErr, IfOk, IsErrOf, IsOk, IfErr, IsOkUnless};
 ghost use Rattle.std.specs.Prelude.{Contains, is_some, option_map, length};
 ghost use Rattle.std.specs.Io.KnownBytes.{WriteAppends, Keeps};
-ghost use Rattle.age_io.specs.Memory.{Puts, Flushes};
-ghost use Rattle.age_fileset.specs.Entries.{entry_of, empty_with, PutsEntry};
-ghost use Rattle.age_fileset.specs.FileSet.{IsMemoryOr, OpenFails, or_empty};
-ghost use Rattle.age_fileset.specs.Events.{Opened, Prepared, Created, Replaced, Closed};
+ghost use Rattle.age_io.specs.Io.{Puts, Flushes};
+ghost use Rattle.age_fileset.specs.FileSet.{entry_of, empty_with, PutsEntry, IsMemoryOr, OpenFails};
+ghost use Rattle.age_fileset.specs.FileSet.{or_empty, Opened, Prepared, Created, Replaced, Closed};
 ghost use Rattle.age_fileset.specs.declared.files.OpenFault.TheVariants.{Fault};
 
 use crate::files::{FileSet, OpenFault};
@@ -30,7 +29,7 @@ pub struct MemFiles {
 }
 
 impl Model for MemFiles {
-    ghost use Rattle.age_fileset.specs.Entries.{Shelf};
+    ghost use Rattle.age_fileset.specs.FileSet.{Shelf};
 
     ghost Value = { Shelf };
 
@@ -51,7 +50,7 @@ pub struct MemOut {
 
 impl Model for MemOut {
     ghost use Rattle.std.specs.Prelude.{ℕ, List};
-    ghost use Rattle.age_io.specs.Memory.{Holding};
+    ghost use Rattle.age_io.specs.Io.{Holding};
 
     ghost Value = { List ℕ × Holding };
 

@@ -4,8 +4,7 @@ use Rattle.std.specs.Prelude.{Bool, List, ◌++◌, length}
 use Rattle.std.specs.Prelude.{take, codes, decimal, nat_eq, nat_lt, nat_le, Option, None, Some}
 use Rattle.std.specs.Prelude.{if◌then◌else◌}
 use Rattle.std.specs.Io.KnownBytes.{Appends}
-use Rattle.age_io.specs.Memory.{one_more}
-use Rattle.age_io.specs.Views.{SinkView}
+use Rattle.age_io.specs.Io.{one_more, SinkView}
 
 -- how much of a length was read, in hundredths, and 100 where more was read than that
 abbrev pub percentage : ℕ → ℕ → ℕ

@@ -2,7 +2,7 @@
 
 ghost use Rattle.std.specs.Prelude.{◌≡◌, ℕ, ◌+◌, Option, None, Some, true, false, ◌||◌};
 ghost use Rattle.std.specs.Prelude.{if◌then◌else◌, codes};
-ghost use Rattle.age_io.specs.Counts.{with_more};
+ghost use Rattle.age_io.specs.Io.{with_more};
 ghost use Rattle.age_host.specs.Lines.{line, mark, first_mark, is_due, Shows};
 
 use crate::line::{line_of, mark_of};

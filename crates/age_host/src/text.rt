@@ -2,7 +2,7 @@
 
 ghost use Rattle.std.specs.Prelude.{◌≡◌, ℕ, take, OnOk, OnErr};
 ghost use Rattle.std.specs.Io.KnownBytes.{Appends};
-ghost use Rattle.age_io.specs.Memory.{one_more};
+ghost use Rattle.age_io.specs.Io.{one_more};
 ghost use Rattle.age_host.specs.Lines.{Shows};
 
 use age_io::{Failed, Sink};

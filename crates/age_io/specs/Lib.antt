@@ -1,4 +1,1 @@
-pub mod Counts
-pub mod Memory
-pub mod Progress
-pub mod Views
+pub mod Io

@@ -3,7 +3,7 @@
 ghost use Rattle.std.specs.Prelude.{◌≡◌, ◌<◌, ◌≤◌, [], Some, true, false, length, IfOk, OnOk};
 ghost use Rattle.std.specs.Prelude.{vec_capacity};
 ghost use Rattle.std.specs.Io.KnownBytes.{WriteAppends, Keeps};
-ghost use Rattle.age_io.specs.Memory.{Holding, Puts, Flushes};
+ghost use Rattle.age_io.specs.Io.{Holding, Puts, Flushes};
 
 use crate::failed::{Failed, Memory};
 use crate::sink::Sink;

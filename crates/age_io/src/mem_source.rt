@@ -3,7 +3,7 @@
 ghost use Rattle.std.specs.Prelude.{◌≡◌, ◌<◌, ◌≤◌, Some, length, take, IfOk, MatchResult};
 ghost use Rattle.std.specs.Prelude.{drop, false};
 ghost use Rattle.std.specs.Io.KnownBytes.{ReadConsumes};
-ghost use Rattle.age_io.specs.Memory.{Feeding, Pulls};
+ghost use Rattle.age_io.specs.Io.{Feeding, Pulls};
 
 use crate::failed::Failed;
 use crate::source::Source;

@@ -1,8 +1,7 @@
 //! What counts how far a run is.
 
 ghost use Rattle.std.specs.Prelude.{◌≡◌, ℕ, List, Option, None, option_and_then};
-ghost use Rattle.age_io.specs.Counts.{begun, counted};
-ghost use Rattle.age_io.specs.Progress.{Adds, Advances, Begins, Ends, Shown};
+ghost use Rattle.age_io.specs.Io.{begun, counted, Adds, Advances, Begins, Ends, Shown};
 
 /// Counts how far a run is. It returns nothing, so that code that is generic over one can only
 /// report to it.

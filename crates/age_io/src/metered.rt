@@ -2,9 +2,7 @@
 
 ghost use Rattle.std.specs.Prelude.{◌≡◌, ◌≤◌, length, IfOk, MatchResult, is_err};
 ghost use Rattle.std.specs.Io.KnownBytes.{ReadConsumes};
-ghost use Rattle.age_io.specs.Memory.{one_more};
-ghost use Rattle.age_io.specs.Counts.{pulled};
-ghost use Rattle.age_io.specs.Progress.{AddsPull};
+ghost use Rattle.age_io.specs.Io.{one_more, pulled, AddsPull};
 
 use crate::failed::Failed;
 use crate::meter::Meter;

@@ -2,8 +2,7 @@
 
 ghost use Rattle.std.specs.Prelude.{◌≡◌, ◌≤◌, ℕ, Bool, false, length, IfOk, MatchResult, is_err};
 ghost use Rattle.std.specs.Io.KnownBytes.{ReadConsumes};
-ghost use Rattle.age_io.specs.Memory.{one_more};
-ghost use Rattle.age_io.specs.Views.{SourceView};
+ghost use Rattle.age_io.specs.Io.{one_more, SourceView};
 ghost use Rattle.std.specs.Coded.{coded_ℕ, coded×, coded_bool};
 
 use crate::failed::Failed;

@@ -6,8 +6,7 @@ use Rattle.std.proofs.lemmas.List.{append-nil, append_assoc, length-append, leng
 use Rattle.std.proofs.lemmas.List.{take_at, drop_all, length-drop}
 use Rattle.std.proofs.Math.Seq.{take-append-add}
 use Rattle.sha2.specs.Sha256.{sha256, digest_bytes}
-use Rattle.age_kdf.specs.Hmac.{hmac}
-use Rattle.age_kdf.specs.Pbkdf2.{pbkdf2_block}
+use Rattle.age_kdf.specs.Derivation.{hmac, pbkdf2_block}
 
 length-digest_bytes : (h : List ℕ) (n : ℕ) → length (digest_bytes h n) ≡ 4 * n
 unfolding digest_bytes

@@ -1,3 +1,1 @@
-pub mod Hmac
-pub mod Hkdf
-pub mod Pbkdf2
+pub mod Derivation

@@ -11,9 +11,8 @@
 
 ghost use Rattle.std.specs.Prelude.{◌≡◌, ℕ, map, length, ◌≤◌, List};
 ghost use Rattle.std.specs.List.{concat};
-ghost use Rattle.age_kdf.specs.Hmac.{key_with_zeros, key_block, xor_pad, hmac};
-ghost use Rattle.age_kdf.specs.Hkdf.{hkdf32};
-ghost use Rattle.age_kdf.specs.Pbkdf2.{derived_key_limit, pbkdf2_block, pbkdf2_once};
+ghost use Rattle.age_kdf.specs.Derivation.{key_with_zeros, key_block, xor_pad, hmac, hkdf32};
+ghost use Rattle.age_kdf.specs.Derivation.{derived_key_limit, pbkdf2_block, pbkdf2_once};
 
 use sha2::{Digest, Sha256};
 
@@ -33,7 +32,7 @@ fn key_with_zeros(key: &[u8]) -> [u8; 64]
 }
 
 /// The key as a block. A key longer than a block stands as its digest first.
-#[tactic(auto, unfolding(crate::specs::Hmac::key_block), using(crate::proofs::Keys::length_tests))]
+#[tactic(auto, unfolding(crate::specs::Derivation::key_block), using(crate::proofs::Keys::length_tests))]
 fn key_block(key: &[u8]) -> [u8; 64]
     ensures { result ≡ key_block key.now }
 {

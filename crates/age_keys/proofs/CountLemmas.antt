@@ -3,7 +3,7 @@ use Rattle.std.proofs.Common.{◌≡◌, ℕ, ◌+◌, ◌≤◌, Option, Some, 
 use Rattle.std.specs.Option.{ok_or}
 use Rattle.age_keys.specs.declared.fault.KeyFault.{KeyFault}
 use Rattle.age_keys.specs.declared.fault.KeyFault.TheVariants.{WrongKey}
-use Rattle.age_keys.specs.Counts.{Counts}
+use Rattle.age_keys.specs.Keys.{Counts}
 
 -- a body was tried
 pub was_tried : (most : ℕ) (found : Option (List ℕ)) (result : Result (List ℕ) KeyFault) (old new : ℕ) → new ≤ old + most → result ≡ ok_or found WrongKey

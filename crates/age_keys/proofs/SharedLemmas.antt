@@ -1,13 +1,13 @@
 -- Stanzas in the order of a header, and which of them a shared secret opens.
-use Rattle.std.proofs.Common.{◌≡◌, ◌≢◌, ℕ, ◌+◌, ◌<◌, List, [], ◌∷◌, ◌++◌, length, get_or, take, drop, Option, Some, None, sym, ap, subst, ◌∙◌}
+use Rattle.std.proofs.Common.{◌≡◌, ◌≢◌, ℕ, ◌+◌, ◌<◌, List, [], ◌∷◌, ◌++◌, length, get_or, take}
+use Rattle.std.proofs.Common.{drop, Option, Some, None, sym, ap, subst, ◌∙◌}
 use Rattle.std.specs.Prelude.{IfNone}
 use Rattle.std.specs.List.{AllByRecursion}
 use Rattle.std.proofs.lemmas.List.{take_more, drop_more, take-append-drop}
 use Rattle.age_stanza.specs.declared.header.Stanza.{Stanza}
 use Rattle.age_stanza.proofs.Lines.{All-append}
 use Rattle.age_keys.specs.Keys.{wrapped_key}
-use Rattle.age_keys.specs.X25519.{IsX25519Stanza}
-use Rattle.age_keys.specs.SharedSecret.{Shared, shared_wrap_key, StaysShut}
+use Rattle.age_keys.specs.X25519.{IsX25519Stanza, Shared, shared_wrap_key, StaysShut}
 use Rattle.age_stanza.proofs.Base64Lemmas.{one_text}
 
 -- one stanza more

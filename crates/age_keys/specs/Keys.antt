@@ -1,16 +1,35 @@
--- The keys of an age file (C2SP age.md, "File key", "Header MAC", "Payload", "Recipient stanza").
-use Rattle.std.specs.Prelude.{◌≡◌, ℕ, Bool, true, false, nat_lt, ◌&&◌, List, [], ◌∷◌}
-use Rattle.std.specs.Prelude.{length, codes}
-use Rattle.std.specs.Prelude.{replicate, Ok}
+-- The keys of an age file (C2SP age.md, "File key", "Header MAC", "Payload", "Recipient stanza"),
+-- and what opening a header with them may return.
+use Rattle.std.specs.Prelude.{ℕ, ◌≡◌, Bool, true, false, nat_lt, ◌&&◌, List, [], ◌∷◌, length, codes}
+use Rattle.std.specs.Prelude.{replicate, Ok, ◌⊎◌, ◌+◌, ◌≤◌, Result, IfErr}
+use Rattle.age_keys.specs.declared.fault.KeyFault.{KeyFault}
+use Rattle.age_keys.specs.declared.fault.KeyFault.TheVariants.{ScryptNotAlone, BadScrypt}
+use Rattle.age_keys.specs.declared.fault.KeyFault.TheVariants.{WorkTooHigh, NoMatch, WrongKey}
+use Rattle.age_keys.specs.declared.fault.KeyFault.TheVariants.{MacMismatch, BadX25519, Memory}
 use Rattle.std.specs.List.{list_any}
 use Rattle.std.specs.Str.{bytes_eq}
 use Rattle.hex.specs.Hex.{decode_sized}
 use Rattle.age_stanza.specs.declared.header.Stanza.{Stanza}
 use Rattle.age_stanza.specs.declared.header.Header.{Header}
-use Rattle.age_stanza.specs.MacText.{mac_text}
-use Rattle.age_kdf.specs.Hmac.{hmac}
-use Rattle.age_kdf.specs.Hkdf.{hkdf32}
+use Rattle.age_stanza.specs.Grammar.{mac_text}
+use Rattle.age_kdf.specs.Derivation.{hmac, hkdf32}
 use Rattle.age_cipher.specs.Aead.{sealing}
+use Rattle.std.specs.Bool.{OnTrue}
+
+-- ---- How a refusal is numbered among all faults.
+
+abbrev pub number_of : KeyFault → ℕ
+number_of ScryptNotAlone = 9
+number_of BadScrypt = 10
+number_of WorkTooHigh = 11
+number_of NoMatch = 12
+number_of WrongKey = 13
+number_of MacMismatch = 14
+number_of BadX25519 = 15
+number_of Memory = 28
+
+-- ---- The keys of an age file (C2SP age.md, "File key", "Header MAC", "Payload", "Recipient
+-- stanza").
 
 -- the MAC of a header under a file key
 unfoldable pub header_mac : List ℕ → Header → List ℕ
@@ -57,3 +76,62 @@ IsScryptNotAlone h = scrypt_not_alone h ≡ true
 -- the text spells the 16 bytes of the key, each by two hexadecimal digits of either case
 abbrev pub SpellsKey : List ℕ → List ℕ → Type 0
 SpellsKey text key = decode_sized text 16 ≡ Ok key
+
+-- ---- What opening a header may return, by the unlocker's two relations.
+
+-- the header opens to the file key
+pub record Opens (Allows : Header → List ℕ → Type 0) (h : Header) (key : List ℕ) : Type 0 where
+  -- no scrypt stanza stands beside another
+  pub alone : ¬ IsScryptNotAlone h
+  -- the unlocker allows the key
+  pub allowed : Allows h key
+  -- the header's MAC is that of the key
+  pub mac : IsMacOf h key
+  pub size : length key ≡ 16
+
+-- the fault of a header in which the unlocker allows a key
+abbrev pub RefusesKey : Header → List ℕ → KeyFault → Type 0
+RefusesKey h key MacMismatch = ¬ IsMacOf h key
+RefusesKey h key Memory = Unit {0}
+RefusesKey h key other = ⊥
+
+-- the header is refused with the fault
+pub record Refuses (Allows : Header → List ℕ → Type 0) (Refused : Header → KeyFault → Type 0)
+    (h : Header) (fault : KeyFault) : Type 0 where
+  -- a scrypt stanza beside another is refused as such
+  pub not_alone : IsScryptNotAlone h → fault ≡ ScryptNotAlone
+  -- any other header is refused with the unlocker's fault, or with that of a key that it allows
+  pub alone : ¬ IsScryptNotAlone h
+      → Refused h fault ⊎ ((key : List ℕ) × Allows h key × RefusesKey h key fault)
+
+-- nothing but the key and want of memory may be returned for the header
+pub record AllowsAlone (Allows : Header → List ℕ → Type 0) (Refused : Header → KeyFault → Type 0)
+    (h : Header) (key : List ℕ) : Type 0 where
+  -- no scrypt stanza stands beside another
+  pub alone : ¬ IsScryptNotAlone h
+  -- the unlocker allows the key
+  pub allowed : Allows h key
+  -- and no other key
+  pub no_other : (other : List ℕ) → Allows h other → other ≡ key
+  -- it refuses the header only if memory is refused
+  pub never : (fault : KeyFault) → Refused h fault → fault ≡ Memory
+  -- the header's MAC is that of the key
+  pub mac : IsMacOf h key
+
+-- ---- How much work opening a header takes, by a count of scrypt's steps.
+
+-- the fault is found before any work: by looking at the header, whose bodies weren't opened yet
+abbrev pub is_before_work : KeyFault → Bool
+is_before_work ScryptNotAlone = true
+is_before_work BadScrypt = true
+is_before_work WorkTooHigh = true
+is_before_work NoMatch = true
+is_before_work BadX25519 = true
+is_before_work other = false
+
+-- what the count was before and after a header was opened or refused
+pub record Counts (most : ℕ) (result : Result (List ℕ) KeyFault) (old new : ℕ) : Type 0 where
+  -- no step was made if the fault is found before any work
+  pub before : IfErr result (λ fault. OnTrue (is_before_work fault) (new ≡ old))
+  -- and never more steps than these
+  pub within : new ≤ old + most

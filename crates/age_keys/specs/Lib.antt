@@ -1,11 +1,5 @@
 pub mod AgeFile
-pub mod Counts
-pub mod FaultNumbers
 pub mod Keys
-pub mod Laws
-pub mod Opened
-pub mod Passphrase
 pub mod Scrypt
-pub mod SharedSecret
 pub mod X25519
 pub mod inner

@@ -1,13 +1,20 @@
--- The scrypt stanza (C2SP age.md, "The scrypt recipient type").
-use Rattle.std.specs.Prelude.{◌≡◌, ◌≢◌, ℕ, List, [], ◌∷◌, ◌++◌, length, take, codes}
+-- Passphrases (C2SP age.md, "The scrypt recipient type").
+use Rattle.std.specs.Prelude.{◌≡◌, ◌≢◌, ℕ, List, [], ◌∷◌, ◌++◌, length, take, codes, ◌*◌, ◌^◌, ◌<◌}
+use Rattle.std.specs.Prelude.{◌≤◌, true, false}
 use Rattle.std.specs.Fmt.{decimal}
 use Rattle.std.specs.Str.Parse.{IsNumeral, digits_value}
 use Rattle.base64.specs.GeneralPurpose.{IsBytes}
 use Rattle.age_stanza.specs.declared.header.Stanza.{Stanza}
 use Rattle.age_stanza.specs.declared.header.Header.{Header}
 use Rattle.age_stanza.specs.Text.{base64_text}
-use Rattle.age_scrypt.specs.Scrypt.{scrypt}
-use Rattle.age_keys.specs.Keys.{header_mac, wrapped_key}
+use Rattle.age_scrypt.specs.Scrypt.{scrypt, work_factor_limit}
+use Rattle.age_keys.specs.Keys.{header_mac, wrapped_key, IsScryptNotAlone, has_scrypt, AllowsAlone}
+use Rattle.age_keys.specs.declared.fault.KeyFault.{KeyFault}
+use Rattle.age_keys.specs.declared.fault.KeyFault.TheVariants.{ScryptNotAlone, BadScrypt}
+use Rattle.age_keys.specs.declared.fault.KeyFault.TheVariants.{WorkTooHigh, NoMatch, WrongKey}
+use Rattle.age_keys.specs.declared.fault.KeyFault.TheVariants.{Memory}
+
+-- ---- The scrypt stanza (C2SP age.md, "The scrypt recipient type").
 
 -- the key that a file key is wrapped under: scrypt of the passphrase, salted with a label and the
 -- stanza's salt
@@ -51,3 +58,54 @@ unfoldable pub scrypt_head : List ℕ → ℕ → List ℕ → List ℕ → Head
 scrypt_head pass log salt key =
     let stanzas = scrypt_stanza salt log (wrapped_key (wrap_key pass salt log) key) ∷ [] in
     record { stanzas = stanzas; mac = header_mac key (record { stanzas = stanzas; mac = [] }) }
+
+-- ---- What a passphrase finds in a header, and what it refuses.
+
+-- a passphrase, and the greatest work factor that is accepted with it
+pub record PassphraseIdentity : Type 0 where
+  pub pass : List ℕ
+  pub max_log : ℕ
+
+-- the greatest length of a passphrase in bytes (a limit of this library: the standard sets none)
+abbrev pub passphrase_limit : ℕ
+passphrase_limit = 65536
+
+-- a passphrase of 1 to 65,536 bytes, and a work factor of 1 to 22
+pub record IsAllowed (pass : List ℕ) (log : ℕ) : Type 0 where
+  pub some : 1 ≤ length pass
+  pub most : length pass ≤ passphrase_limit
+  pub least_log : 1 ≤ log
+  pub most_log : log ≤ work_factor_limit
+
+-- the key that is wrapped under the passphrase in the body of the header's only stanza
+pub record IsPassphraseKey (w : PassphraseIdentity) (h : Header) (key : List ℕ) : Type 0 where
+  pub only : OnlyScrypt h
+  pub within : only.log ≤ w.max_log
+  pub opens : only.body ≡ wrapped_key (wrap_key w.pass only.salt only.log) key
+
+-- the faults that a passphrase may return for it: the first that applies
+abbrev pub PassphraseRefuses : PassphraseIdentity → Header → KeyFault → Type 0
+PassphraseRefuses w h ScryptNotAlone = IsScryptNotAlone h
+PassphraseRefuses w h NoMatch = has_scrypt h ≡ false
+PassphraseRefuses w h BadScrypt =
+    (¬ IsScryptNotAlone h) × (has_scrypt h ≡ true) × (¬ OnlyScrypt h)
+PassphraseRefuses w h WorkTooHigh = (only : OnlyScrypt h) × (w.max_log < only.log)
+PassphraseRefuses w h Memory = (only : OnlyScrypt h) × (only.log ≤ w.max_log)
+PassphraseRefuses w h WrongKey = (only : OnlyScrypt h) × (only.log ≤ w.max_log)
+    × ((key : List ℕ) → only.body ≢ wrapped_key (wrap_key w.pass only.salt only.log) key)
+PassphraseRefuses w h other = ⊥
+
+-- the steps of scrypt at the greatest work factor
+abbrev pub passphrase_steps : PassphraseIdentity → ℕ
+passphrase_steps w = 2 * 2 ^ w.max_log
+
+-- ---- Laws over the definitions alone.
+
+-- the passphrase that a header was made for finds the file key in it and nothing else, where the
+-- limit allows the work factor
+abbrev pub PassphraseOpens : Type 0
+PassphraseOpens =
+    (w : PassphraseIdentity) (log : ℕ) (salt key : List ℕ) → 1 ≤ log
+    → log ≤ work_factor_limit → log ≤ w.max_log
+    → length salt ≡ 16 → IsBytes salt → length key ≡ 16
+    → AllowsAlone (IsPassphraseKey w) (PassphraseRefuses w) (scrypt_head w.pass log salt key) key

@@ -1,11 +1,17 @@
--- The X25519 stanza (C2SP age.md, "The X25519 recipient type"). X25519 itself stays outside.
-use Rattle.std.specs.Prelude.{◌≡◌, ℕ, Bool, true, false, List, [], ◌∷◌, length, codes}
+-- Shared secrets (C2SP age.md, "The X25519 recipient type").
+use Rattle.std.specs.Prelude.{◌≡◌, ℕ, Bool, true, false, List, [], ◌∷◌, length, codes, ◌⊎◌, ◌++◌}
+use Rattle.std.specs.Prelude.{Any, replicate}
 use Rattle.base64.specs.GeneralPurpose.{IsBytes}
 use Rattle.age_stanza.specs.declared.header.Stanza.{Stanza}
 use Rattle.age_stanza.specs.Text.{base64_text}
 use Rattle.age_keys.specs.declared.fault.KeyFault.{KeyFault}
-use Rattle.age_keys.specs.declared.fault.KeyFault.TheVariants.{NoMatch, BadX25519}
-use Rattle.age_keys.specs.Keys.{has_type}
+use Rattle.age_keys.specs.declared.fault.KeyFault.TheVariants.{NoMatch, BadX25519, WrongKey}
+use Rattle.age_keys.specs.Keys.{has_type, wrapped_key}
+use Rattle.std.specs.List.{list_any, AllByRecursion}
+use Rattle.age_stanza.specs.declared.header.Header.{Header}
+use Rattle.age_kdf.specs.Derivation.{hkdf32}
+
+-- ---- The X25519 stanza (C2SP age.md, "The X25519 recipient type"). X25519 itself stays outside.
 
 abbrev pub is_x25519 : Stanza → Bool
 is_x25519 s = has_type (codes "X25519") s.args
@@ -24,3 +30,63 @@ ReadRefuses s NoMatch = is_x25519 s ≡ false
 ReadRefuses s BadX25519 = (is_x25519 s ≡ true)
     × ((share body : List ℕ) → IsX25519Stanza s share body → ⊥)
 ReadRefuses s other = ⊥
+
+-- ---- What a shared secret finds in a header, and what it refuses (C2SP age.md, "The X25519
+-- recipient type").
+
+-- a shared secret, and the recipient for whom the stanzas are
+pub record Shared : Type 0 where
+  pub secret : List ℕ
+  pub recipient : List ℕ
+
+-- the key that a file key is wrapped under: HKDF of the shared secret, salted with the stanza's
+-- share and the recipient
+unfoldable pub shared_wrap_key : Shared → List ℕ → List ℕ
+shared_wrap_key x share =
+    hkdf32 x.secret (share ++ x.recipient) (codes "age-encryption.org/v1/X25519")
+
+-- the stanza's body opens to the key
+pub record OpensTo (x : Shared) (s : Stanza) (key : List ℕ) : Type 0 where
+  pub share : List ℕ
+  pub body : List ℕ
+  pub stanza : IsX25519Stanza s share body
+  pub opens : body ≡ wrapped_key (shared_wrap_key x share) key
+
+-- it opens to no key
+abbrev pub StaysShut : Shared → Stanza → Type 0
+StaysShut x s = (key : List ℕ) → ¬ OpensTo x s key
+
+abbrev pub has_x25519 : Header → Bool
+has_x25519 h = list_any is_x25519 h.stanzas
+
+abbrev pub IsZero : Shared → Type 0
+IsZero x = x.secret ≡ replicate 32 0
+
+-- a stanza of type X25519 that isn't valid
+abbrev pub IsBadStanza : Stanza → Type 0
+IsBadStanza s = ReadRefuses s BadX25519
+
+-- the secret isn't zero, and no X25519 stanza is bad
+pub record IsUsable (x : Shared) (h : Header) : Type 0 where
+  pub secret : ¬ IsZero x
+  pub stanzas : AllByRecursion (λ s. ¬ IsBadStanza s) h.stanzas
+
+-- the key of the first stanza that opens
+pub record IsFirstKey (x : Shared) (stanzas : List Stanza) (key : List ℕ) : Type 0 where
+  pub before : List Stanza
+  pub stanza : Stanza
+  pub after : List Stanza
+  pub parts : stanzas ≡ before ++ stanza ∷ after
+  pub shut : AllByRecursion (StaysShut x) before
+  pub opens : OpensTo x stanza key
+
+abbrev pub IsSharedKey : Shared → Header → List ℕ → Type 0
+IsSharedKey x h key = IsUsable x h × IsFirstKey x h.stanzas key
+
+-- the faults that a shared secret may return for it: the first that applies
+abbrev pub SharedRefuses : Shared → Header → KeyFault → Type 0
+SharedRefuses x h NoMatch = has_x25519 h ≡ false
+SharedRefuses x h BadX25519 = (has_x25519 h ≡ true) × (IsZero x ⊎ Any IsBadStanza h.stanzas)
+SharedRefuses x h WrongKey = (has_x25519 h ≡ true) × IsUsable x h
+    × AllByRecursion (StaysShut x) h.stanzas
+SharedRefuses x h other = ⊥

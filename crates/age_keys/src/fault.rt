@@ -1,8 +1,7 @@
 //! Why a header wasn't opened.
 
 ghost use Rattle.std.specs.Prelude.{◌≡◌, None};
-ghost use Rattle.age_keys.specs.Counts.{is_before_work};
-ghost use Rattle.age_keys.specs.FaultNumbers.{number_of};
+ghost use Rattle.age_keys.specs.Keys.{is_before_work, number_of};
 
 use thiserror::Error;
 

@@ -1,8 +1,8 @@
 //! A passphrase, which finds the file key in a scrypt stanza.
 
 ghost use Rattle.std.specs.Option.{SomeIff};
-ghost use Rattle.age_keys.specs.Passphrase.{IsAllowed, IsPassphraseKey, PassphraseRefuses};
-ghost use Rattle.age_keys.specs.Passphrase.{passphrase_steps};
+ghost use Rattle.age_keys.specs.Scrypt.{IsAllowed, IsPassphraseKey, PassphraseRefuses};
+ghost use Rattle.age_keys.specs.Scrypt.{passphrase_steps};
 
 use crate::fault::KeyFault;
 use crate::key::FileKey;
@@ -34,7 +34,7 @@ pub struct Passphrase<'a> {
 }
 
 impl<'a> Model for Passphrase<'a> {
-    ghost use Rattle.age_keys.specs.Passphrase.{PassphraseIdentity, IsAllowed};
+    ghost use Rattle.age_keys.specs.Scrypt.{PassphraseIdentity, IsAllowed};
 
     ghost Value = { PassphraseIdentity };
 

@@ -1,8 +1,7 @@
 //! The keys of what follows a header: that of the payload, and that of positions in it.
 
 ghost use Rattle.std.specs.Prelude.{◌≡◌, []};
-ghost use Rattle.age_cipher.specs.Aead.{sealing as sealing_with};
-ghost use Rattle.age_cipher.specs.Opening.{opening as opening_with};
+ghost use Rattle.age_cipher.specs.Aead.{sealing as sealing_with, opening as opening_with};
 ghost use Rattle.age_keys.specs.Keys.{payload_key, position_key};
 ghost use Rattle.age_keys.specs.inner.PayloadBox.{box_valid};
 

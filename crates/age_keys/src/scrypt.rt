@@ -10,9 +10,8 @@ ghost use Rattle.std.specs.Str.Parse.{digits_value};
 ghost use Rattle.age_stanza.specs.Grammar.{HasText};
 ghost use Rattle.age_stanza.specs.Text.{base64_text};
 ghost use Rattle.age_scrypt.specs.Scrypt.{work_factor_limit};
-ghost use Rattle.age_keys.specs.Passphrase.{IsAllowed};
-ghost use Rattle.age_keys.specs.Scrypt.{IsWorkFactor, IsScryptStanza, wrap_key, scrypt_stanza};
-ghost use Rattle.age_keys.specs.Scrypt.{scrypt_head};
+ghost use Rattle.age_keys.specs.Scrypt.{IsAllowed, IsWorkFactor, IsScryptStanza, wrap_key};
+ghost use Rattle.age_keys.specs.Scrypt.{scrypt_stanza, scrypt_head};
 ghost use Rattle.age_keys.specs.declared.fault.KeyFault.TheVariants.{Memory};
 
 use crate::fault::KeyFault;

@@ -4,8 +4,7 @@ use Rattle.std.specs.Int.{w32, from_le_bytes}
 use Rattle.std.proofs.lemmas.List.{get_or-take}
 use Rattle.std.proofs.lemmas.List.FromFn.{fill_by_all}
 use Rattle.byteorder.specs.Endian.{little_number, IsRead}
-use Rattle.age_scrypt.specs.BlockMix.{part}
-use Rattle.age_scrypt.specs.Scrypt.{word_at, words_of}
+use Rattle.age_scrypt.specs.Scrypt.{part, word_at, words_of}
 
 -- the number that the first four bytes spell
 number_is : (xs : List ℕ) → little_number 4 xs ≡ from_le_bytes w32 (take 4 xs)

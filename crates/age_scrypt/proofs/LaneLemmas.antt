@@ -6,8 +6,8 @@ use Rattle.std.proofs.lemmas.List.{append_assoc, take-append-drop, drop-drop, le
 use Rattle.std.proofs.lemmas.List.{length-drop}
 use Rattle.std.specs.Int.{w32, rotate_left}
 use Rattle.std.specs.Simd.Lanes.{zip2}
-use Rattle.age_scrypt.specs.Salsa.{add32, quarter, columns, rows, double_rounds}
-use Rattle.age_scrypt.specs.inner.Lanes.{quarters, transpose}
+use Rattle.age_scrypt.specs.Scrypt.{add32, quarter, columns, rows, double_rounds}
+use Rattle.age_scrypt.specs.inner.Workspace.{quarters, transpose}
 
 -- what holds of every list of four words written out
 pub for_four : (P : List ℕ → Type 0) → ((p q r s : ℕ) → P (p ∷ q ∷ r ∷ s ∷ [])) → (xs : List ℕ)

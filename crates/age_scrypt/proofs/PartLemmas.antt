@@ -13,7 +13,7 @@ use Rattle.std.proofs.Math.Seq.{take-add}
 use Rattle.std.proofs.lemmas.Slice.{take-put_mid_below, drop-put_mid, between-put_mid}
 use Rattle.std.proofs.lemmas.Bool.{cases_lt}
 use borrow.Rule.Slice.PartMut.{put_mid}
-use Rattle.age_scrypt.specs.BlockMix.{part, xor_words}
+use Rattle.age_scrypt.specs.Scrypt.{part, xor_words}
 
 -- a part ends where the next begins
 next_part : (k i j : ℕ) → i < j → k * i + k ≤ k * j

@@ -6,10 +6,9 @@ use Rattle.std.proofs.Math.Nat.{add-mul-mod_self_left, mul_assoc, div-add-mod, m
 use Rattle.std.proofs.Math.Nat.{pow-le-pow_right}
 use Rattle.std.proofs.lemmas.List.{get_or-drop}
 use Rattle.std.proofs.lemmas.Nat.{pow-add}
-use Rattle.age_scrypt.specs.BlockMix.{part, xor_words, block_mix}
-use Rattle.age_scrypt.specs.Romix.{v_block, number, integerify, x_block}
-use Rattle.age_scrypt.specs.inner.Table.{IsTable}
-use Rattle.age_scrypt.specs.inner.Turned.{IsTurned}
+use Rattle.age_scrypt.specs.Scrypt.{part, xor_words, block_mix, v_block, number, integerify}
+use Rattle.age_scrypt.specs.Scrypt.{x_block}
+use Rattle.age_scrypt.specs.inner.Workspace.{IsTable, IsTurned}
 use Rattle.age_scrypt.proofs.PartLemmas.{part-append_left, part-append_right}
 
 number_of_front : (xs : List ℕ) (k : ℕ) → 0 < length xs → (rest : ℕ)

@@ -2,8 +2,8 @@
 use Rattle.std.proofs.Common.{◌≡◌, ◌++◌, ◌∙◌, ℕ, List, [], ◌∷◌, length, map, refl, sym, ap, arith}
 use Rattle.std.specs.Simd.Lanes.{zip2}
 use Rattle.std.proofs.lemmas.List.{length-append}
-use Rattle.age_scrypt.specs.Salsa.{columns}
-use Rattle.age_scrypt.specs.inner.Lanes.{words, at_places, IsRows, IsDiagonals, quarters}
+use Rattle.age_scrypt.specs.Scrypt.{columns}
+use Rattle.age_scrypt.specs.inner.Workspace.{words, at_places, IsRows, IsDiagonals, quarters}
 use Rattle.age_scrypt.specs.declared.part.Part.{Part}
 use Rattle.age_scrypt.proofs.LaneLemmas.{for_sixteen, sixteen_words}
 

@@ -7,10 +7,9 @@ use Rattle.std.specs.Simd.Lanes.{zip2}
 use Rattle.std.proofs.lemmas.List.{length-append, get_or-drop, get_or-take, take_at}
 use Rattle.std.proofs.Math.Seq.{drop-append-add}
 use Rattle.std.proofs.lemmas.Simd.{length-zip2}
-use Rattle.age_scrypt.specs.Salsa.{add32, salsa20_8, double_rounds}
-use Rattle.age_scrypt.specs.BlockMix.{part, xor_words, x_part, block_mix}
-use Rattle.age_scrypt.specs.inner.Lanes.{words, at_places, IsDiagonals}
-use Rattle.age_scrypt.specs.inner.Turned.{turned, IsTurned}
+use Rattle.age_scrypt.specs.Scrypt.{add32, salsa20_8, double_rounds, part, xor_words, x_part}
+use Rattle.age_scrypt.specs.Scrypt.{block_mix}
+use Rattle.age_scrypt.specs.inner.Workspace.{words, at_places, IsDiagonals, turned, IsTurned}
 use Rattle.age_scrypt.specs.declared.part.Part.{Part}
 use Rattle.age_scrypt.proofs.LaneLemmas.{sixteen_words, length-double_rounds}
 use Rattle.age_scrypt.proofs.SalsaLemmas.{rows_of_words}

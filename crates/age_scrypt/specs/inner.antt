@@ -1,4 +1,1 @@
-pub mod Lanes
-pub mod Table
-pub mod Turned
 pub mod Workspace

@@ -3,8 +3,7 @@
 ghost use Rattle.std.specs.Prelude.{◌≡◌, ◌≢◌, ℕ, ◌+◌, ◌<◌, ◌≤◌, ◌++◌, length};
 ghost use Rattle.std.specs.Prelude.{take, drop};
 ghost use Rattle.std.specs.Simd.Lanes.{zip2};
-ghost use Rattle.age_scrypt.specs.Salsa.{add32};
-ghost use Rattle.age_scrypt.specs.BlockMix.{xor_words, part};
+ghost use Rattle.age_scrypt.specs.Scrypt.{add32, xor_words, part};
 
 use std::simd::u32x4;
 
@@ -40,7 +39,7 @@ fn write_row(words: &mut [u32], at: usize, row: u32x4)
 }
 
 impl Part {
-    ghost use Rattle.age_scrypt.specs.inner.Lanes.{words};
+    ghost use Rattle.age_scrypt.specs.inner.Workspace.{words};
 
     /// Part `i` of a block of 256 words, row by row.
     #[inline(always)]

@@ -1,13 +1,9 @@
 //! ROMix with r = 8 (RFC 7914, section 5), over one flat table of words.
 
 ghost use Rattle.std.specs.Prelude.{◌≡◌, ℕ, ◌+◌, ◌*◌, ◌%◌, ◌^◌, ◌<◌, ◌≤◌, List, length};
-ghost use Rattle.age_scrypt.specs.BlockMix.{xor_words};
-ghost use Rattle.age_scrypt.specs.Romix.{v_block, integerify, romix};
-ghost use Rattle.age_scrypt.specs.Scrypt.{work_factor_limit};
-ghost use Rattle.age_scrypt.specs.inner.Table.{IsTable};
-ghost use Rattle.age_scrypt.specs.inner.Turned.{IsTurned};
-ghost use Rattle.age_scrypt.specs.inner.Workspace.{IsCount, HasRoom, AreBlocks, IsWorkspace};
-ghost use Rattle.age_scrypt.specs.inner.Workspace.{IsFilled};
+ghost use Rattle.age_scrypt.specs.Scrypt.{xor_words, v_block, integerify, romix, work_factor_limit};
+ghost use Rattle.age_scrypt.specs.inner.Workspace.{IsTable, IsTurned, IsCount, HasRoom, AreBlocks};
+ghost use Rattle.age_scrypt.specs.inner.Workspace.{IsWorkspace, IsFilled};
 
 use crate::part::Part;
 use crate::steps::{Steps, block_mix};

@@ -8,9 +8,9 @@ ghost use Rattle.std.specs.Prelude.{◌≡◌, ℕ, ◌<◌, List, [], ◌∷◌
 ghost use Rattle.std.specs.Prelude.{slice_index};
 ghost use Rattle.std.specs.Int.{w32, rotate_left};
 ghost use Rattle.std.specs.Simd.Lanes.{zip2};
-ghost use Rattle.age_scrypt.specs.Salsa.{add32, rows, columns, salsa20_8};
-ghost use Rattle.age_scrypt.specs.inner.Lanes.{words, IsRows, IsDiagonals, transpose, quarters};
-ghost use Rattle.age_scrypt.specs.inner.Turned.{turned};
+ghost use Rattle.age_scrypt.specs.Scrypt.{add32, rows, columns, salsa20_8};
+ghost use Rattle.age_scrypt.specs.inner.Workspace.{words, IsRows, IsDiagonals, transpose, quarters};
+ghost use Rattle.age_scrypt.specs.inner.Workspace.{turned};
 
 use crate::part::Part;
 use std::simd::u32x4;

@@ -3,8 +3,8 @@
 
 ghost use Rattle.std.specs.Prelude.{◌≡◌, ℕ, ◌+◌, List, length};
 ghost use Rattle.std.specs.Borrow.{ftrue};
-ghost use Rattle.age_scrypt.specs.BlockMix.{block_mix};
-ghost use Rattle.age_scrypt.specs.inner.Turned.{IsTurned};
+ghost use Rattle.age_scrypt.specs.Scrypt.{block_mix};
+ghost use Rattle.age_scrypt.specs.inner.Workspace.{IsTurned};
 
 use crate::part::Part;
 use crate::salsa::salsa20_8;

@@ -6,9 +6,9 @@ use Rattle.age_stanza.specs.declared.head_step.HeadStep.TheVariants.{More, Ready
 use Rattle.age_stanza.specs.declared.parser.State.{State}
 use Rattle.age_stanza.specs.declared.parser.State.TheVariants.{Done, Failed}
 use Rattle.age_stanza.specs.Parsing.{Feeds, IsParsing, reading}
-use Rattle.age_stanza.specs.Views.{parsing_of}
+use Rattle.age_stanza.specs.Laws.{parsing_of}
 use Rattle.age_stanza.specs.inner.Closing.{closed_by}
-use Rattle.age_stanza.specs.inner.Steps.{TakesPiece}
+use Rattle.age_stanza.specs.inner.LineMachine.{TakesPiece}
 use Rattle.age_stanza.proofs.Pieces.{none_held}
 use Rattle.age_stanza.proofs.FaultLaws.{no_fault}
 

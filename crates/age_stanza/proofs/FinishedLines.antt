@@ -1,5 +1,6 @@
 -- Finished lines, and the line that is begun after them.
-use Rattle.std.proofs.Common.{◌≡◌, ℕ, ◌+◌, ◌<◌, ◌≤◌, List, [], ◌∷◌, ◌++◌, length, take, Ok, Err, refl, sym, ap, subst, ◌∙◌, arith, inl, inr, eqb}
+use Rattle.std.proofs.Common.{◌≡◌, ℕ, ◌+◌, ◌<◌, ◌≤◌, List, [], ◌∷◌, ◌++◌, length, take, Ok, Err}
+use Rattle.std.proofs.Common.{refl, sym, ap, subst, ◌∙◌, arith, inl, inr, eqb}
 use Rattle.std.specs.Prelude.{◌⊎◌, count_by}
 use Rattle.std.proofs.lemmas.Bool.{ne_eqb}
 use Rattle.std.proofs.lemmas.List.{append-nil, append_assoc, length-append, take_at}
@@ -12,9 +13,10 @@ use Rattle.age_stanza.specs.declared.place.Place.{Place}
 use Rattle.age_stanza.specs.declared.place.Place.TheVariants.{Start}
 use Rattle.age_stanza.specs.declared.place.Next.TheVariants.{Go, Done}
 use Rattle.age_stanza.specs.Grammar.{line}
-use Rattle.age_stanza.specs.Faults.{IsLine, AreLines, line_after, memory_fault}
-use Rattle.age_stanza.specs.inner.LineMachine.{unfinished, ready, faulty, walk, after, step, fault_at}
-use Rattle.age_stanza.specs.inner.BytesBefore.{bytes_before, LeadTo, IsPartial, IsUnderWay}
+use Rattle.age_stanza.specs.Parsing.{IsLine, AreLines, line_after, memory_fault}
+use Rattle.age_stanza.specs.inner.LineMachine.{unfinished, ready, faulty, walk, after, step}
+use Rattle.age_stanza.specs.inner.LineMachine.{fault_at, bytes_before, LeadTo, IsPartial}
+use Rattle.age_stanza.specs.inner.LineMachine.{IsUnderWay}
 use Rattle.age_stanza.proofs.Texts.{IsBytes-append, IsLine-append, bytes_from_pass}
 use Rattle.age_stanza.proofs.Lines.{All-front}
 use Rattle.age_stanza.proofs.Complete.{walk_text, walk_go}

@@ -1,10 +1,12 @@
 -- Bytes have no more than one first fault.
-use Rattle.std.proofs.Common.{◌≡◌, ℕ, ◌<◌, ◌+◌, Bool, true, false, nat_eq, List, [], ◌∷◌, ◌++◌, length, take, drop, Option, Some, None, refl, sym, ap, subst}
+use Rattle.std.proofs.Common.{◌≡◌, ℕ, ◌<◌, ◌+◌, Bool, true, false, nat_eq, List, [], ◌∷◌, ◌++◌}
+use Rattle.std.proofs.Common.{length, take, drop, Option, Some, None, refl, sym, ap, subst}
 use Rattle.std.proofs.Common.{◌∙◌, arith, inl, inr}
 use Rattle.std.specs.Prelude.{codes}
 use Rattle.std.specs.List.{flat_map, AllByRecursion, starts_with}
 use Rattle.std.proofs.lemmas.Bool.{cases_lt}
-use Rattle.std.proofs.lemmas.List.{append-nil, append_assoc, append_cancel_left, length-append, take_at}
+use Rattle.std.proofs.lemmas.List.{append-nil, append_assoc, append_cancel_left, length-append}
+use Rattle.std.proofs.lemmas.List.{take_at}
 use Rattle.base64.specs.GeneralPurpose.{IsBytes}
 use Rattle.base64.proofs.EngineFacts.{front_bytes}
 use Rattle.std.proofs.lemmas.Option.{none-some}
@@ -15,12 +17,14 @@ use Rattle.age_stanza.specs.declared.fault.HeadFault.{HeadFault}
 use Rattle.age_stanza.specs.declared.place.Place.{Place}
 use Rattle.age_stanza.specs.declared.place.Place.TheVariants.{Start, Between, InBody}
 use Rattle.age_stanza.specs.Grammar.{line, version, stanza_text, IsStanza, Spells}
-use Rattle.age_stanza.specs.Faults.{Begins, IsLine, AreLines, FirstFault, stanzas_text, IsEndLine, RefusesBetween, RefusesLine, line_after, IsLineFault, IsFault}
+use Rattle.age_stanza.specs.Parsing.{Begins, IsLine, AreLines, FirstFault, stanzas_text, IsEndLine}
+use Rattle.age_stanza.specs.Parsing.{RefusesBetween, RefusesLine, line_after, IsLineFault, IsFault}
 use Rattle.age_stanza.specs.inner.LineMachine.{Outcome, unfinished, ready, faulty, walk, mac_of}
 use Rattle.age_stanza.proofs.Texts.{IsBytes-take, IsBytes-tail, line_from_test}
 use Rattle.age_stanza.proofs.Lines.{All-front, end_line_read, read_end_line}
 use Rattle.age_stanza.proofs.Complete.{walk_go, stanzas_reach, step_version}
-use Rattle.age_stanza.proofs.FaultLaws.{At, at_start, Passed, passed, nothing_begun, nothing_before, stanzas_before, not_first, not_between}
+use Rattle.age_stanza.proofs.FaultLaws.{At, at_start, Passed, passed, nothing_begun, nothing_before}
+use Rattle.age_stanza.proofs.FaultLaws.{stanzas_before, not_first, not_between}
 use Rattle.age_stanza.proofs.AnyPieces.{prefix_of}
 
 -- ---- the faulty line

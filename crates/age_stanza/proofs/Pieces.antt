@@ -1,16 +1,17 @@
 -- A header that comes in pieces.
-use Rattle.std.proofs.Common.{◌≡◌, ℕ, zero, suc, ◌<◌, ◌≤◌, ◌+◌, ◌-◌, List, [], ◌++◌, length, take, drop, refl, sym, ap, ◌∙◌, arith, inl, inr}
+use Rattle.std.proofs.Common.{◌≡◌, ℕ, zero, suc, ◌<◌, ◌≤◌, ◌+◌, ◌-◌, List, [], ◌++◌, length, take}
+use Rattle.std.proofs.Common.{drop, refl, sym, ap, ◌∙◌, arith, inl, inr}
 use Rattle.std.specs.Prelude.{◌⊎◌}
-use Rattle.std.proofs.lemmas.List.{append-nil, append_assoc, length-append, length-take, take-append-drop, take-take, append_cancel_right}
+use Rattle.std.proofs.lemmas.List.{append-nil, append_assoc, length-append, length-take}
+use Rattle.std.proofs.lemmas.List.{take-append-drop, take-take, append_cancel_right}
 use Rattle.std.proofs.Math.Seq.{take-append-add}
 use Rattle.base64.specs.GeneralPurpose.{IsBytes}
 use Rattle.age_stanza.specs.declared.header.Header.{Header}
 use Rattle.age_stanza.specs.declared.fault.HeadFault.{HeadFault}
 use Rattle.age_stanza.specs.declared.place.Place.TheVariants.{Start}
 use Rattle.age_stanza.specs.Grammar.{head_text, HeadText}
-use Rattle.age_stanza.specs.inner.LineMachine.{unfinished, ready, faulty, walk}
-use Rattle.age_stanza.specs.Faults.{memory_fault, HasHeader, IsFault, line_after}
-use Rattle.age_stanza.specs.inner.BytesBefore.{IsUnderWay}
+use Rattle.age_stanza.specs.inner.LineMachine.{unfinished, ready, faulty, walk, IsUnderWay}
+use Rattle.age_stanza.specs.Parsing.{memory_fault, HasHeader, IsFault, line_after}
 use Rattle.age_stanza.specs.declared.fault.HeadKind.TheVariants.{HeadTooLong}
 use Rattle.age_stanza.proofs.FaultLaws.{line_fault, no_fault, not_ready}
 use Rattle.age_stanza.proofs.Places.{found}

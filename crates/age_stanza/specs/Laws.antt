@@ -1,15 +1,50 @@
--- Laws over the definitions alone.
-use Rattle.std.specs.Prelude.{◌≡◌, ◌+◌, ◌*◌, ◌/◌, ◌%◌, ◌++◌, ◌∷◌, []}
-use Rattle.std.specs.Prelude.{ℕ, List, length, codes}
-use Rattle.std.specs.Prelude.{slice_index}
+-- What a contract sees of a parser, and laws over the definitions alone.
+use Rattle.age_stanza.specs.declared.parser.State.{State}
+use Rattle.age_stanza.specs.declared.parser.State.TheVariants.{Open, Done, Failed}
+use Rattle.age_stanza.specs.Parsing.{Parsing, reading, complete, refused, memory_fault, HasHeader}
+use Rattle.age_stanza.specs.Parsing.{IsFault, IsOpen, Feeds}
+use Rattle.std.specs.Prelude.{◌≡◌, ◌⊎◌, ℕ, List, [], ◌∷◌, ◌++◌, Result, ◌+◌, ◌*◌, ◌/◌, ◌%◌, length}
+use Rattle.std.specs.Prelude.{codes, slice_index}
+use Rattle.std.specs.List.{concat}
+use Rattle.age_stanza.specs.declared.head_step.HeadStep.{HeadStep}
+use Rattle.age_stanza.specs.declared.fault.HeadFault.{HeadFault}
 use Rattle.base64.specs.GeneralPurpose.{IsBytes, engine_symbols}
 use Rattle.base64.specs.Engines.{standard_no_pad}
 use Rattle.age_stanza.specs.declared.header.Header.{Header}
-use Rattle.age_stanza.specs.declared.fault.HeadFault.{HeadFault}
 use Rattle.age_stanza.specs.Text.{base64_text}
-use Rattle.age_stanza.specs.Grammar.{Spells, HeadText}
-use Rattle.age_stanza.specs.MacText.{mac_text}
-use Rattle.age_stanza.specs.Faults.{HasHeader, IsFault}
+use Rattle.age_stanza.specs.Grammar.{Spells, HeadText, mac_text}
+
+-- ---- What a contract sees of a parser.
+
+-- what the state of a parser stands for
+abbrev pub parsing_of : State → Parsing
+parsing_of (Open held) = reading held
+parsing_of Done = complete
+parsing_of (Failed fault) = refused fault
+
+-- ---- A parser that was fed a list of pieces, in the order of the calls.
+
+-- a new parser that was fed these pieces may be this
+pub data Fed : List (List ℕ) → Parsing → Type 0 where
+  none : Fed [] (reading [])
+  more : (pieces : List (List ℕ)) (old new : Parsing) (piece : List ℕ)
+      (result : Result HeadStep HeadFault)
+      → Fed pieces old → IsOpen old → Feeds old piece result new
+      → Fed (pieces ++ piece ∷ []) new
+
+-- what such a parser says of the joined pieces
+abbrev pub StandsFor : Parsing → List ℕ → Type 0
+StandsFor (reading held) bytes = held ≡ bytes
+StandsFor complete bytes = HasHeader bytes
+StandsFor (refused fault) bytes = (fault ≡ memory_fault)
+    ⊎ ((¬ HasHeader bytes) × IsFault bytes fault)
+
+-- it doesn't matter how the bytes were cut into pieces
+abbrev pub AnyPieces : Type 0
+AnyPieces = (pieces : List (List ℕ)) (parser : Parsing) → Fed pieces parser
+    → StandsFor parser (concat pieces)
+
+-- ---- Laws over the definitions alone.
 
 -- a text has at most one header, and no header's text begins another's
 abbrev pub OneHeader : Type 0

@@ -1,13 +1,136 @@
--- What a parser of headers has come to, and what a call does to it.
-use Rattle.std.specs.Prelude.{◌≡◌, ◌≢◌, ◌⊎◌, ℕ, ◌<◌, ◌≤◌, List, ◌++◌}
-use Rattle.std.specs.Prelude.{length, take, Result, Ok, Err}
+-- What a parser of headers has come to, what a call does to it, and which fault it reports.
+use Rattle.std.specs.Prelude.{ℕ, Option, Some, None, ◌≡◌, ◌≢◌, ◌⊎◌, ◌+◌, ◌-◌, ◌==◌, nat_eq, ◌||◌}
+use Rattle.std.specs.Prelude.{true, false, if◌then◌else◌, List, [], ◌∷◌, ◌++◌, length, take, codes}
+use Rattle.std.specs.Prelude.{count_by, ◌<◌, ◌≤◌, Result, Ok, Err}
+use Rattle.age_stanza.specs.declared.fault.HeadKind.{HeadKind}
+use Rattle.age_stanza.specs.declared.fault.HeadKind.TheVariants.{NotAge, Armored, BadStanzaLine}
+use Rattle.age_stanza.specs.declared.fault.HeadKind.TheVariants.{BadBody, BadEndLine, NoStanza}
+use Rattle.age_stanza.specs.declared.fault.HeadKind.TheVariants.{HeadTooLong, HeadCut, Memory}
+use Rattle.age_stanza.specs.declared.fault.HeadFault.{HeadFault}
+use Rattle.std.specs.List.{flat_map, AllByRecursion, starts_with}
+use Rattle.std.specs.Str.{bytes_eq}
 use Rattle.base64.specs.GeneralPurpose.{IsBytes}
+use Rattle.age_stanza.specs.declared.header.Stanza.{Stanza}
+use Rattle.age_stanza.specs.declared.header.Header.{Header}
+use Rattle.age_stanza.specs.Grammar.{line, version, stanza_text, end_line, IsStanza, Spells}
+use Rattle.age_stanza.specs.Grammar.{HeadText, header_limit}
 use Rattle.age_stanza.specs.declared.head_step.HeadStep.{HeadStep}
 use Rattle.age_stanza.specs.declared.head_step.HeadStep.TheVariants.{More, Ready}
-use Rattle.age_stanza.specs.declared.fault.HeadKind.TheVariants.{HeadCut}
-use Rattle.age_stanza.specs.declared.fault.HeadFault.{HeadFault}
-use Rattle.age_stanza.specs.Grammar.{header_limit, HeadText}
-use Rattle.age_stanza.specs.Faults.{line_after, HasHeader, NoFault, IsFault, memory_fault}
+
+-- ---- How a fault is numbered among all faults, and the line that it reports.
+
+abbrev pub number_of : HeadKind → ℕ
+number_of NotAge = 1
+number_of Armored = 2
+number_of BadStanzaLine = 3
+number_of BadBody = 4
+number_of BadEndLine = 5
+number_of NoStanza = 6
+number_of HeadTooLong = 7
+number_of HeadCut = 8
+number_of Memory = 28
+
+-- want of memory has no line
+abbrev pub line_of : HeadKind → ℕ → Option ℕ
+line_of Memory n = None
+line_of kind n = Some n
+
+abbrev pub place_of : HeadFault → Option ℕ
+place_of fault = line_of fault.kind fault.line
+
+-- ---- The first fault of bytes that begin no header (C2SP age.md, "Header"): a line is faulty
+-- where no header's text goes on after it. Which kind is reported is this crate's own choice, and
+-- follows from where the line stands.
+
+-- some header's text begins with these bytes
+abbrev pub Begins : List ℕ → Type 0
+Begins bytes = (h : Header) × (rest : List ℕ) × Spells h (bytes ++ rest)
+
+-- no LF stands in it
+abbrev pub IsLine : List ℕ → Type 0
+IsLine l = AllByRecursion (λ c. c ≢ 10) l
+
+-- nothing, or whole lines
+abbrev pub AreLines : List ℕ → Type 0
+AreLines bytes = (bytes ≡ []) ⊎ ((lines : List ℕ) × (bytes ≡ line lines))
+
+-- l is the first line, after the lines before it, with which no header's text begins
+pub record FirstFault (bytes before l : List ℕ) : Type 0 where
+  pub rest : List ℕ
+  -- the bytes are the lines before it, the line and a rest
+  pub parts : bytes ≡ before ++ (line l ++ rest)
+  pub whole : AreLines before
+  pub one_line : IsLine l
+  -- some header's text begins with the lines before it
+  pub valid_before : Begins before
+  -- and none with the line too
+  pub faulty : ¬ Begins (before ++ line l)
+
+-- the version line and whole stanzas
+abbrev pub stanzas_text : List Stanza → List ℕ
+stanzas_text ss = line version ++ flat_map stanza_text ss
+
+-- the text of some MAC after the mark of an end line
+abbrev pub IsEndLine : List ℕ → Type 0
+IsEndLine l = (mac : List ℕ) × (length mac ≡ 32) × IsBytes mac × (l ≡ end_line mac)
+
+-- what is reported of such a line between stanzas
+pub record RefusesBetween (l : List ℕ) (kind : HeadKind) : Type 0 where
+  -- an end line is faulty only before the first stanza
+  pub no_stanza : IsEndLine l → kind ≡ NoStanza
+  -- a line that begins as one, but isn't one
+  pub bad_end : starts_with nat_eq l (codes "---") ≡ true → ¬ IsEndLine l → kind ≡ BadEndLine
+  -- any other line would have to be an argument line
+  pub bad_stanza : starts_with nat_eq l (codes "---") ≡ false → kind ≡ BadStanzaLine
+
+-- the first line of an armored file
+abbrev pub armor : List ℕ
+armor = codes "-----BEGIN AGE ENCRYPTED FILE-----"
+
+-- what is reported of such a line, by its place
+pub record RefusesLine (before l : List ℕ) (kind : HeadKind) : Type 0 where
+  -- the first line is that of an armored file, or of no age file
+  pub first : before ≡ []
+      → kind ≡ (if bytes_eq l armor || bytes_eq l (armor ++ 13 ∷ []) then Armored else NotAge)
+  -- a line after the version line and whole stanzas
+  pub between : (ss : List Stanza) → AllByRecursion IsStanza ss → before ≡ stanzas_text ss
+      → RefusesBetween l kind
+  -- any other line is one of a body
+  pub in_body : before ≢ []
+      → ((ss : List Stanza) → AllByRecursion IsStanza ss → before ≢ stanzas_text ss)
+      → kind ≡ BadBody
+
+-- the line that follows some bytes
+abbrev pub line_after : List ℕ → ℕ
+line_after bytes = 1 + count_by (λ c. c == 10) bytes
+
+-- the bytes begin with a header
+abbrev pub HasHeader : List ℕ → Type 0
+HasHeader bytes = (h : Header) × (header : List ℕ) × (rest : List ℕ) × HeadText h header
+    × (bytes ≡ header ++ rest)
+
+-- no line of the bytes is faulty
+abbrev pub NoFault : List ℕ → Type 0
+NoFault bytes = (before l : List ℕ) → FirstFault bytes before l → ⊥
+
+-- the fault of the first faulty line
+abbrev pub IsLineFault : List ℕ → HeadFault → Type 0
+IsLineFault bytes fault = (before : List ℕ) × (l : List ℕ) × FirstFault bytes before l
+    × (fault.line ≡ line_after before) × RefusesLine before l fault.kind
+
+-- what is reported of bytes that begin with no header, by the first of them, as many as a header
+-- has at most: the first faulty line; else, where there are so many, that the header is too long,
+-- on the line of the last of them
+abbrev pub IsFault : List ℕ → HeadFault → Type 0
+IsFault bytes fault = IsLineFault (take header_limit bytes) fault
+    ⊎ (NoFault (take header_limit bytes) × (length (take header_limit bytes) ≡ header_limit)
+    × (fault ≡ record { kind = HeadTooLong; line = line_after (take (header_limit - 1) bytes) }))
+
+-- want of memory belongs to no line
+abbrev pub memory_fault : HeadFault
+memory_fault = record { kind = Memory; line = 0 }
+
+-- ---- What a parser of headers has come to, and what a call does to it.
 
 -- the joined bytes so far, or a header was found, or it was refused
 pub data Parsing : Type 0 where

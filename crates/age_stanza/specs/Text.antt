@@ -1,7 +1,18 @@
--- The text of bytes in a header: base64 (RFC 4648, section 4) without padding.
+-- What the header's text is made of: the letters of an argument and base64.
 use Rattle.std.specs.Prelude.{ℕ, List}
+use Rattle.age_stanza.specs.declared.argument.Letters.{Letters}
+use Rattle.age_stanza.specs.declared.argument.Letters.TheVariants.{Short, Long}
 use Rattle.base64.specs.GeneralPurpose.{encode_of}
 use Rattle.base64.specs.Engines.{standard_no_pad}
+
+-- ---- What a contract sees of an argument.
+
+-- the bytes of an argument
+abbrev pub letters_of : Letters → List ℕ
+letters_of (Short short) = short.items
+letters_of (Long long) = long.value.items
+
+-- ---- The text of bytes in a header: base64 (RFC 4648, section 4) without padding.
 
 -- the text of some bytes
 unfoldable pub base64_text : List ℕ → List ℕ

@@ -1,5 +1,3 @@
 pub mod Closing
 pub mod Lengths
 pub mod LineMachine
-pub mod BytesBefore
-pub mod Steps

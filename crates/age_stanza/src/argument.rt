@@ -26,7 +26,7 @@ pub struct Argument {
 
 impl Model for Argument {
     ghost use Rattle.std.specs.Prelude.{List, ℕ};
-    ghost use Rattle.age_stanza.specs.Letters.{letters_of};
+    ghost use Rattle.age_stanza.specs.Text.{letters_of};
 
     ghost Value = { List ℕ };
 

@@ -4,9 +4,8 @@ ghost use Rattle.std.specs.Prelude.{◌≡◌, ◌++◌, ◌∷◌, ◌≤◌, l
 ghost use Rattle.std.specs.List.{flat_map};
 ghost use Rattle.age_stanza.specs.Text.{base64_text};
 ghost use Rattle.age_stanza.specs.Grammar.{line, in_lines, stanza_text, head_text, HeadText};
-ghost use Rattle.age_stanza.specs.Grammar.{HasText};
-ghost use Rattle.age_stanza.specs.MacText.{mac_text};
-ghost use Rattle.age_stanza.specs.Faults.{memory_fault};
+ghost use Rattle.age_stanza.specs.Grammar.{HasText, mac_text};
+ghost use Rattle.age_stanza.specs.Parsing.{memory_fault};
 
 use crate::argument::Argument;
 use crate::fault::HeadFault;

@@ -1,7 +1,7 @@
 //! Why a header was refused, and where.
 
 ghost use Rattle.std.specs.Prelude.{◌≡◌};
-ghost use Rattle.age_stanza.specs.FaultNumbers.{number_of, place_of};
+ghost use Rattle.age_stanza.specs.Parsing.{number_of, place_of};
 
 use std::alloc::AllocError;
 use std::{error, fmt};
@@ -115,7 +115,7 @@ impl fmt::Display for HeadFault {
 impl error::Error for HeadFault {}
 
 impl From<AllocError> for HeadFault {
-    ghost use Rattle.age_stanza.specs.Faults.{memory_fault};
+    ghost use Rattle.age_stanza.specs.Parsing.{memory_fault};
 
     ghost from_gives = { λ _ e. e ≡ memory_fault };
 

@@ -3,10 +3,9 @@
 ghost use Rattle.std.specs.Prelude.{◌≡◌, ◌++◌, ◌+◌, ◌-◌, ◌<◌, ◌≤◌, [], length, take, OnOk};
 ghost use Rattle.std.specs.Prelude.{IfErr, OnErr};
 ghost use Rattle.age_stanza.specs.Grammar.{header_limit};
-ghost use Rattle.age_stanza.specs.Faults.{line_after, memory_fault, IsLine};
+ghost use Rattle.age_stanza.specs.Parsing.{line_after, memory_fault, IsLine};
 ghost use Rattle.age_stanza.specs.inner.LineMachine.{fault_at as spec_fault_at, Gives};
-ghost use Rattle.age_stanza.specs.inner.LineMachine.{step as step_of};
-ghost use Rattle.age_stanza.specs.inner.BytesBefore.{IsUnderWay};
+ghost use Rattle.age_stanza.specs.inner.LineMachine.{step as step_of, IsUnderWay};
 
 use crate::fault::{HeadFault, HeadKind, MEMORY};
 use crate::header::Header;
@@ -28,7 +27,7 @@ pub(crate) struct PartialHeader {
 
 impl Model for PartialHeader {
     ghost use Rattle.std.specs.Prelude.{ℕ, List, ◌++◌};
-    ghost use Rattle.age_stanza.specs.inner.BytesBefore.{bytes_before, IsPartial};
+    ghost use Rattle.age_stanza.specs.inner.LineMachine.{bytes_before, IsPartial};
 
     ghost Value = { List ℕ };
 
@@ -71,7 +70,7 @@ fn step_whole(
 }
 
 impl PartialHeader {
-    ghost use Rattle.age_stanza.specs.inner.Steps.{EndsLine};
+    ghost use Rattle.age_stanza.specs.inner.LineMachine.{EndsLine};
 
     /// Nothing came yet. Takes no memory.
     pub(crate) fn new(alloc: Global) -> PartialHeader

@@ -3,7 +3,7 @@
 ghost use Rattle.std.specs.Prelude.{◌≡◌, ◌==◌, ◌+◌, ◌<◌, ◌≤◌, length, take};
 ghost use Rattle.std.specs.List.{position};
 ghost use Rattle.age_stanza.specs.Grammar.{header_limit};
-ghost use Rattle.age_stanza.specs.inner.Steps.{ReadsLines, TakesPiece};
+ghost use Rattle.age_stanza.specs.inner.LineMachine.{ReadsLines, TakesPiece};
 
 use crate::HEAD_MAX;
 use crate::fault::HeadFault;

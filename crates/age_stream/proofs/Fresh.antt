@@ -1,11 +1,11 @@
 -- A segment of no bytes.
-use Rattle.std.proofs.Common.{◌≡◌, ℕ, ◌<◌, ◌+◌, ◌*◌, ◌/◌, ap, ◌∙◌, List, [], length, drop, false, arith}
+use Rattle.std.proofs.Common.{◌≡◌, ℕ, ◌<◌, ◌+◌, ◌*◌, ◌/◌, ap, ◌∙◌, List, [], length, drop, false}
+use Rattle.std.proofs.Common.{arith}
 use Rattle.std.specs.Simd.{first_chunks}
 use Rattle.std.specs.Prelude.{Option}
 use Rattle.std.proofs.lemmas.Nat.{div-mul-add}
 use Rattle.std.proofs.Math.Seq.{drop-nil}
-use Rattle.age_stream.specs.Segment.{outcome, rest_bytes}
-use Rattle.age_stream.specs.Deliveries.{fresh}
+use Rattle.age_stream.specs.Segment.{outcome, rest_bytes, fresh}
 use Rattle.age_stream.specs.declared.step.Status.TheVariants.{Open}
 use Rattle.age_stream.proofs.Table.{outcome_of, by_blocks}
 use Rattle.age_chunk.specs.ChunkBoxes.{tag_length}

@@ -1,5 +1,6 @@
 -- A step of a replay.
-use Rattle.std.proofs.Common.{◌≡◌, ℕ, ◌<◌, ◌+◌, ◌*◌, refl, ap, sym, subst, ◌∙◌, List, [], ◌∷◌, ◌++◌, length, take, Bool, true, false, arith}
+use Rattle.std.proofs.Common.{◌≡◌, ℕ, ◌<◌, ◌+◌, ◌*◌, refl, ap, sym, subst, ◌∙◌, List, [], ◌∷◌, ◌++◌}
+use Rattle.std.proofs.Common.{length, take, Bool, true, false, arith}
 use Rattle.std.specs.Prelude.{Option, Some, None, cond, min, nat_lt, nat_le, ◌&&◌, ◌||◌}
 use Rattle.std.specs.List.{flat_map}
 use Rattle.std.specs.Borrow.{Bor}
@@ -7,14 +8,13 @@ use Rattle.std.proofs.lemmas.Grind.{flat_map-append}
 use Rattle.std.proofs.lemmas.List.{append-nil, append_assoc}
 use Rattle.std.proofs.lemmas.Bool.{lt-ltb}
 use Rattle.std.proofs.Math.Bool.{or-false}
-use Rattle.age_chunk.specs.Nonce.{chunk_limit}
-use Rattle.age_stream.specs.Segment.{Segment, Outcome, outcome, released}
-use Rattle.age_stream.specs.Deliveries.{Standing, with_piece, with_end, text_held, accepts, after_delivery, fresh, standing}
+use Rattle.age_chunk.specs.Payload.{chunk_limit}
+use Rattle.age_stream.specs.Segment.{Segment, Outcome, outcome, released, Standing, with_piece}
+use Rattle.age_stream.specs.Segment.{with_end, text_held, accepts, after_delivery, fresh, standing}
 use Rattle.age_stream.specs.declared.delivery.Delivery.TheVariants.{End, Restart}
 use Rattle.age_stream.proofs.Fresh.{fresh_outcome}
-use Rattle.age_stream.specs.Opening.{Stands, chunk_texts}
-use Rattle.age_stream.specs.Lent.{chunk_bytes}
-use Rattle.age_stream.specs.Replaying.{ReplayView, IsAt, Replays}
+use Rattle.age_stream.specs.Opener.{Stands, chunk_texts, chunk_bytes}
+use Rattle.age_stream.specs.Replay.{ReplayView, IsAt, Replays}
 use Rattle.age_stream.specs.inner.ReplaySteps.{with_bytes}
 use Rattle.age_chunk.specs.ChunkBoxes.{IsChunkBox}
 use Rattle.age_stream.specs.Headline.{HoldsWritten, IsRight, IsUndamaged}

@@ -1,14 +1,14 @@
 -- How much room a text needs.
-use Rattle.std.proofs.Common.{◌≡◌, ℕ, ◌<◌, ◌≤◌, ◌+◌, ◌*◌, ◌-◌, ◌/◌, refl, ap, ◌∙◌, List, [], length, arith, Bool, true, false}
+use Rattle.std.proofs.Common.{◌≡◌, ℕ, ◌<◌, ◌≤◌, ◌+◌, ◌*◌, ◌-◌, ◌/◌, refl, ap, ◌∙◌, List, [], length}
+use Rattle.std.proofs.Common.{arith, Bool, true, false}
 use Rattle.std.specs.Prelude.{Option, Some, None, IfSome, IfNone, nat_lt, ◌&&◌}
 use Rattle.std.specs.Borrow.{Bor}
 use borrow.Author.Tests.{ltb-true}
 use Rattle.std.proofs.Math.Nat.{add-mul-div_left, div-mul-le_self}
 use Rattle.age_stream.specs.declared.step.Status.{Status}
 use Rattle.age_stream.specs.declared.step.Status.TheVariants.{Open, LastSeen, Done, Failed}
-use Rattle.age_chunk.specs.Nonce.{chunk_limit}
-use Rattle.age_stream.specs.Lent.{chunk_bytes}
-use Rattle.age_stream.specs.Opening.{while_open, whole_text}
+use Rattle.age_chunk.specs.Payload.{chunk_limit}
+use Rattle.age_stream.specs.Opener.{chunk_bytes, while_open, whole_text}
 use Rattle.age_chunk.specs.ChunkBoxes.{tag_length, text_length}
 
 pub open_number : (s : Status) (k : ℕ) → s ≡ Open → while_open s k ≡ k

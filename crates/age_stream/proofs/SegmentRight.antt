@@ -1,15 +1,15 @@
 -- The headline of one segment, and of an opener that was given it.
-use Rattle.std.proofs.Common.{inl, inr, ◌≡◌, ℕ, ◌<◌, ◌≤◌, ◌+◌, ◌*◌, refl, ap, sym, subst, ◌∙◌, List, [], ◌++◌, length, take, Bool, arith}
+use Rattle.std.proofs.Common.{inl, inr, ◌≡◌, ℕ, ◌<◌, ◌≤◌, ◌+◌, ◌*◌, refl, ap, sym, subst, ◌∙◌, List}
+use Rattle.std.proofs.Common.{[], ◌++◌, length, take, Bool, arith}
 use Rattle.std.specs.Prelude.{Option}
 use Rattle.std.specs.List.{flat_map}
 use Rattle.std.proofs.lemmas.Bool.{cases_lt}
 use Rattle.std.proofs.lemmas.Grind.{flat_map-append}
 use Rattle.std.proofs.lemmas.List.{append-nil, take_all}
-use Rattle.age_chunk.specs.Nonce.{chunk_limit}
+use Rattle.age_chunk.specs.Payload.{chunk_limit, chunk_count}
 use Rattle.age_chunk.specs.ChunkBoxes.{IsChunkBox}
-use Rattle.age_chunk.specs.Payload.{chunk_count}
 use Rattle.age_stream.specs.Segment.{Segment, outcome, released, front_texts, whole_blocks}
-use Rattle.age_stream.specs.Opening.{OpenerView, Stands}
+use Rattle.age_stream.specs.Opener.{OpenerView, Stands}
 use Rattle.age_stream.specs.Headline.{IsAuthentic, IsRest, IsRight, ReleasesWritten}
 use Rattle.age_stream.specs.declared.step.Status.TheVariants.{Done}
 use Rattle.age_stream.proofs.Segments.{released_segment}

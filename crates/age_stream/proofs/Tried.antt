@@ -1,12 +1,13 @@
 -- What a segment tries, by its whole blocks and what is left after them.
-use Rattle.std.proofs.Common.{inl, inr, ◌≡◌, ℕ, ◌<◌, ◌≤◌, ◌+◌, ◌*◌, ◌/◌, refl, ap, sym, subst, ◌∙◌, List, [], length, drop, get_or, Bool, true, false, arith}
+use Rattle.std.proofs.Common.{inl, inr, ◌≡◌, ℕ, ◌<◌, ◌≤◌, ◌+◌, ◌*◌, ◌/◌, refl, ap, sym, subst, ◌∙◌}
+use Rattle.std.proofs.Common.{List, [], length, drop, get_or, Bool, true, false, arith}
 use Rattle.std.specs.Prelude.{nat_lt, not, ◌||◌, ◌&&◌, ◌==◌}
 use Rattle.std.proofs.lemmas.List.{length-drop, length-take, take_all}
 use Rattle.std.proofs.lemmas.Bool.{cases_lt, le-ltb, eq-eqb, ne_eqb}
 use Rattle.std.proofs.lemmas.Bool.Decides.{nat_tests}
 use Rattle.std.proofs.Math.Nat.{le-div_iff_mul-le}
 use Rattle.age_chunk.specs.ChunkBoxes.{Seals, Opens, tag_length}
-use Rattle.age_chunk.specs.Nonce.{nonce_bytes}
+use Rattle.age_chunk.specs.Payload.{nonce_bytes}
 use Rattle.age_stream.specs.Segment.{Segment, block_at, front_texts, whole_blocks, rest_bytes}
 use Rattle.age_stream.specs.Headline.{IsWriters, IsAuthentic}
 use Rattle.age_chunk.proofs.FirstChunks.{length-first_chunks, get_or-first_chunks}

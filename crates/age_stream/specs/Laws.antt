@@ -1,17 +1,140 @@
--- Laws over the definitions. A chunk has n bytes.
-use Rattle.std.specs.Prelude.{◌≡◌, ◌≢◌, ℕ, ◌+◌, ◌-◌, ◌*◌, ◌<◌, ◌≤◌, Bool}
-use Rattle.std.specs.Prelude.{false, List, [], ◌++◌, length, take}
-use Rattle.std.specs.List.{flat_map}
+-- Laws over the definitions alone.
+use Rattle.std.specs.Prelude.{◌≡◌, ℕ, ◌+◌, ◌-◌, ◌*◌, ◌/◌, ◌≤◌, List, length, Option, MatchOption}
+use Rattle.std.specs.Prelude.{◌<◌, ◌==◌, ◌⊎◌, [], ◌∷◌, ◌++◌, slice_index_or, true, false, None, map}
+use Rattle.std.specs.Prelude.{◌≢◌, Bool, take}
+use Rattle.age_chunk.specs.ChunkBoxes.{OfAllBoxes, tag_length, Seals, Opens, IsChunkBox}
+use Rattle.age_chunk.specs.ChunkBoxes.{clear_sealing, clear_opening}
+use Rattle.age_chunk.specs.Payload.{chunk_limit, chunk_count, chunk_length, payload, nonce_bytes}
+use Rattle.age_chunk.specs.Payload.{chunks, sealed, last_index, last_chunk, sealed_before_last}
+use Rattle.age_chunk.specs.Payload.{block_bytes}
+use Rattle.std.specs.List.{AllByRecursion, flat_map}
+use Rattle.std.specs.Borrow.{Bor}
+use Rattle.age_stream.specs.Segment.{Segment, outcome, standing, text_held, Outcome, released}
+use Rattle.age_stream.specs.Segment.{with_piece, with_end, fresh}
+use Rattle.age_stream.specs.Headline.{IsAuthentic, AreAuthentic, IsRest, IsUndamaged, IsPrefixOf}
+use Rattle.age_stream.specs.Headline.{ReleasesWritten}
+use Rattle.age_stream.specs.declared.step.Status.TheVariants.{Done, Open, Failed}
+use Rattle.age_stream.specs.declared.delivery.Delivery.{Delivery}
+use Rattle.age_stream.specs.declared.delivery.Delivery.TheVariants.{Piece, End}
 use Rattle.std.specs.Simd.{first_chunks}
-use Rattle.age_chunk.specs.ChunkBoxes.{Opens, Seals, OfAllBoxes, tag_length}
-use Rattle.age_chunk.specs.Nonce.{nonce_bytes, chunk_limit}
-use Rattle.age_chunk.specs.Payload.{last_index, chunk_count, sealed_before_last, block_bytes}
-use Rattle.age_chunk.specs.Payload.{payload}
-use Rattle.age_stream.specs.Segment.{Segment, Outcome, outcome, released}
-use Rattle.age_stream.specs.Deliveries.{with_piece, with_end, fresh}
-use Rattle.age_stream.specs.Headline.{IsPrefixOf, ReleasesWritten}
 use Rattle.age_chunk.specs.declared.fault.StreamFault.{StreamFault}
-use Rattle.age_stream.specs.declared.step.Status.TheVariants.{Open, Failed}
+
+-- ---- How long a text and its payload are, in chunks of 65,536 bytes (C2SP age.md, "Payload").
+
+-- how many chunks a text of so many bytes has
+abbrev pub chunks_for : ℕ → ℕ
+chunks_for len = (len - 1) / chunk_length + 1
+
+-- a text of `len` bytes has a payload of `size` bytes, and no more chunks than a payload may have
+abbrev pub IsTextLength : ℕ → ℕ → Type 0
+IsTextLength size len =
+    (len + tag_length * chunks_for len ≡ size) × (chunks_for len ≤ chunk_limit)
+
+-- the length of the texts whose payload has so many bytes, or none where no payload has
+abbrev pub IsTextLengthOf : ℕ → Option ℕ → Type 0
+IsTextLengthOf size len =
+    MatchOption len ((l : ℕ) → IsTextLength size l → ⊥) (IsTextLength size)
+
+-- texts whose payloads are as long are as long, and a text has the length that its payload says
+abbrev pub LengthsAreOne : Type 0
+LengthsAreOne = ((size len other : ℕ) → IsTextLength size len → IsTextLength size other
+    → len ≡ other)
+    × OfAllBoxes (λ sealing opening. (text : List ℕ) → chunk_count chunk_length text ≤ chunk_limit
+    → IsTextLength (length (payload sealing chunk_length text)) (length text))
+
+-- ---- The chunks of a text, in the words of the standard. A chunk has n bytes.
+
+-- the parts join to the text; all but the last have n bytes; the last has 1 to n, or the text is
+-- empty and there is one empty part
+pub record AreChunks (n : ℕ) (text : List ℕ) (parts : List (List ℕ)) : Type 0 where
+  pub front : List (List ℕ)
+  pub last : List ℕ
+  pub are : parts ≡ front ++ last ∷ []
+  pub join : flat_map (λ (part : List ℕ). part) parts ≡ text
+  pub full : AllByRecursion (λ (part : List ℕ). length part ≡ n) front
+  pub rest : ((0 < length last) × (length last ≤ n)) ⊎ ((text ≡ []) × (parts ≡ [] ∷ []))
+
+-- a text has exactly one list of chunks
+abbrev pub ChunksAreOne : Type 0
+ChunksAreOne = (n : ℕ) (text : List ℕ) → 0 < n
+    → AreChunks n text (chunks n text)
+    × ((parts : List (List ℕ)) → AreChunks n text parts → parts ≡ chunks n text)
+
+-- chunk number i is sealed at the nonce of i, and of whether it is the last
+abbrev pub SealsChunks : Type 0
+SealsChunks = (sealing : Seals) (n : ℕ) (text : List ℕ) (parts : List (List ℕ))
+    → 0 < n → AreChunks n text parts
+    → (length (sealed sealing n text) ≡ length parts)
+    × ((i : ℕ) → i < length parts → slice_index_or (sealed sealing n text) i ([], [])
+    ≡ (
+      nonce_bytes i (i + 1 == length parts),
+      sealing (nonce_bytes i (i + 1 == length parts)) (slice_index_or parts i []),
+    ))
+
+-- ---- Where the headline's premise is met: the payload of a writer, delivered as it is. A chunk
+-- has n bytes.
+
+-- the bytes come once, in any pieces, and then an end
+pub record AreWhole (bytes : List ℕ) (deliveries : List Delivery) : Type 0 where
+  pub pieces : List (Bor (List ℕ))
+  pub are : deliveries ≡ map Piece pieces ++ End ∷ []
+  pub join : flat_map (λ (piece : Bor (List ℕ)). piece.now) pieces ≡ bytes
+
+-- where these bytes are delivered whole, the text is held, and its end was reported
+abbrev pub GivesBack : Opens → ℕ → List ℕ → List ℕ → Type 0
+GivesBack opening n bytes text = (deliveries : List Delivery) → AreWhole bytes deliveries
+    → (text_held opening n (standing opening n deliveries) ≡ text)
+    × ((outcome opening n (standing opening n deliveries).segment).status ≡ Done)
+
+module _ (sealing : Seals) (opening : Opens) (n : ℕ) (text : List ℕ) where
+  -- a full last block isn't also one before the last: a short one is never tried so
+  abbrev pub IsClosed : Type 0
+  IsClosed = length (last_chunk n text) ≡ n
+      → opening (nonce_bytes (last_index n text) false)
+      (sealing (nonce_bytes (last_index n text) true) (last_chunk n text))
+      ≡ None
+
+  -- a box that meets its law seals the text in chunks of n bytes, and the payload is closed
+  pub record IsSealable : Type 0 where
+    pub valid : IsChunkBox sealing opening
+    pub some : 0 < n
+    pub few : chunk_count n text ≤ chunk_limit
+    pub closed : IsClosed
+
+-- a claim about every such box and text
+abbrev pub OfAllSealable : (Seals → Opens → ℕ → List ℕ → Type 0) → Type 0
+OfAllSealable Claim = (sealing : Seals) (opening : Opens) (n : ℕ) (text : List ℕ)
+    → IsSealable sealing opening n text → Claim sealing opening n text
+
+-- the payload, or its rest from a chunk on, is authentic
+abbrev pub RestIsAuthentic : Type 0
+RestIsAuthentic = OfAllSealable (λ sealing opening n text. (s : Segment)
+    → IsRest sealing opening n text s → IsAuthentic sealing opening n text s)
+
+-- so are an undamaged payload, or its rest, and an end, after any deliveries of which each segment
+-- that was given up is authentic
+abbrev pub UndamagedIsAuthentic : Type 0
+UndamagedIsAuthentic = OfAllSealable (λ sealing opening n text. (k : ℕ)
+    (deliveries : List Delivery) (rest : IsUndamaged sealing opening n text k deliveries)
+    → AllByRecursion (IsAuthentic sealing opening n text) (standing opening n rest.front).given_up
+    → AreAuthentic sealing opening n text deliveries)
+
+-- so are deliveries of a whole payload
+abbrev pub WholeIsAuthentic : Type 0
+WholeIsAuthentic = OfAllSealable (λ sealing opening n text. (deliveries : List Delivery)
+    → AreWhole (payload sealing n text) deliveries → AreAuthentic sealing opening n text deliveries)
+
+-- and the payload gives its text back
+abbrev pub RoundTrip : Type 0
+RoundTrip = OfAllSealable (λ sealing opening n text.
+    GivesBack opening n (payload sealing n text) text)
+
+-- in the clear every text of at most 2^48 chunks is so
+abbrev pub ClearIsSealable : Type 0
+ClearIsSealable = (n : ℕ) (text : List ℕ) → 0 < n → chunk_count n text ≤ chunk_limit
+    → IsSealable clear_sealing clear_opening n text
+
+-- ---- Laws over the definitions. A chunk has n bytes.
 
 -- no two chunks of a payload have the same nonce
 abbrev pub NoncesDiffer : Type 0

@@ -1,18 +1,22 @@
--- What an opener makes of a segment: the bytes that came from one start up to the next. A chunk has
--- n bytes, its block n + tag_length.
-use Rattle.std.specs.Prelude.{ℕ, ◌+◌, ◌*◌, ◌/◌, Bool, true, false, not, ◌||◌, ◌&&◌}
-use Rattle.std.specs.Prelude.{◌==◌, nat_lt, List, [], ◌∷◌, ◌++◌, length, take, drop, Option}
-use Rattle.std.specs.Prelude.{Some, None, is_some, is_none, if◌then◌else◌}
+-- What a segment of a payload holds: the bytes from one start to the next, in any deliveries.
+use Rattle.std.specs.Prelude.{ℕ, ◌+◌, ◌*◌, ◌/◌, Bool, true, false, not, ◌||◌, ◌&&◌, ◌==◌, nat_lt}
+use Rattle.std.specs.Prelude.{List, [], ◌∷◌, ◌++◌, length, take, drop, Option, Some, None, is_some}
+use Rattle.std.specs.Prelude.{is_none, if◌then◌else◌, nat_le, min}
 use Rattle.std.specs.List.{flat_map}
 use Rattle.std.specs.Simd.{first_chunks}
 use Rattle.age_chunk.specs.ChunkBoxes.{Opens, tag_length}
-use Rattle.age_chunk.specs.Nonce.{nonce_bytes, chunk_limit}
+use Rattle.age_chunk.specs.Payload.{nonce_bytes, chunk_limit}
 use Rattle.age_stream.specs.declared.step.Status.{Status}
 use Rattle.age_stream.specs.declared.step.Status.TheVariants.{Open, LastSeen, Done, Failed}
 use Rattle.age_chunk.specs.declared.fault.StreamKind.{StreamKind}
-use Rattle.age_chunk.specs.declared.fault.StreamKind.TheVariants.{ChunkDamaged, ChunkCut}
-use Rattle.age_chunk.specs.declared.fault.StreamKind.TheVariants.{EmptyLast, Truncated, Trailing}
+use Rattle.age_chunk.specs.declared.fault.StreamKind.TheVariants.{ChunkDamaged, ChunkCut, EmptyLast}
+use Rattle.age_chunk.specs.declared.fault.StreamKind.TheVariants.{Truncated, Trailing}
 use Rattle.age_chunk.specs.declared.fault.StreamKind.TheVariants.{TooManyChunks}
+use Rattle.age_stream.specs.declared.delivery.Delivery.{Delivery}
+use Rattle.age_stream.specs.declared.delivery.Delivery.TheVariants.{Piece, End, Restart}
+
+-- ---- What an opener makes of a segment: the bytes that came from one start up to the next. A
+-- chunk has n bytes, its block n + tag_length.
 
 -- the number of its first block, the bytes before its first end, whether an end came, and whether
 -- bytes came after that
@@ -148,3 +152,54 @@ module _ (opening : Opens) where
   -- the bytes that were released
   abbrev pub released : ℕ → Segment → List ℕ
   released n s = flat_map (λ (text : List ℕ). text) (outcome n s).texts
+
+-- ---- What is held after a list of deliveries.
+
+-- the segments that were given up, the text before the current one, that one, and how many restarts
+-- were refused
+pub record Standing : Type 0 where
+  pub given_up : List Segment
+  pub base : List ℕ
+  pub segment : Segment
+  pub refused : ℕ
+
+abbrev pub fresh : ℕ → Segment
+fresh start = record { start = start; bytes = []; ended = false; late = false }
+
+abbrev pub begin : Standing
+begin = record { given_up = []; base = []; segment = fresh 0; refused = 0 }
+
+abbrev pub with_piece : Segment → List ℕ → Segment
+with_piece s piece =
+    if s.ended then record s { ended = true; late = s.late || nat_lt 0 (length piece) }
+    else record s { bytes = s.bytes ++ piece; ended = false }
+
+abbrev pub with_end : Segment → Segment
+with_end s = record s { ended = true }
+
+module _ (opening : Opens) (n : ℕ) where
+  -- the text before the current segment, and what that released
+  abbrev pub text_held : Standing → List ℕ
+  text_held s = s.base ++ flat_map (λ text. text) (outcome opening n s.segment).texts
+
+  abbrev pub accepts : Standing → ℕ → Bool
+  accepts s k = nat_lt k chunk_limit && nat_le (k * n) (length (text_held s))
+
+  abbrev pub after_delivery : Standing → Delivery → Standing
+  after_delivery s (Piece piece) = record s { segment = with_piece s.segment piece.now }
+  after_delivery s End = record s { segment = with_end s.segment }
+  after_delivery s (Restart k) =
+      if accepts s k
+      then record s {
+        given_up = s.given_up ++ s.segment ∷ [];
+        base = take (k * n) (text_held s);
+        segment = fresh k;
+      }
+      else record s { refused = min (s.refused + 1) 18446744073709551615 }
+
+  abbrev pub standing_from : Standing → List Delivery → Standing
+  standing_from s [] = s
+  standing_from s (delivery ∷ deliveries) = standing_from (after_delivery s delivery) deliveries
+
+  abbrev pub standing : List Delivery → Standing
+  standing = standing_from begin

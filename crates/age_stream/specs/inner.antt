@@ -1,5 +1,3 @@
 pub mod OpenerSteps
 pub mod ReplaySteps
 pub mod SealerSteps
-pub mod SegmentSteps
-pub mod WholeTextSteps

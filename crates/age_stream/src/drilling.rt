@@ -1,10 +1,9 @@
 //! Whole lists of deliveries.
 ghost use Rattle.std.specs.Prelude.{◌-◌, ◌<◌, ◌≤◌, length, IfOk, OnErr};
 ghost use Rattle.std.specs.List.{flat_map};
-ghost use Rattle.age_stream.specs.Drills.{IsHeldAfter};
+ghost use Rattle.age_stream.specs.Replay.{IsHeldAfter, bytes_in};
 ghost use Rattle.age_stream.specs.Headline.{HoldsWritten};
 ghost use Rattle.age_chunk.specs.Payload.{block_length};
-ghost use Rattle.age_stream.specs.Replaying.{bytes_in};
 ghost use Rattle.age_chunk.specs.ChunkBoxes.{tag_length, text_length};
 
 use crate::delivery::Delivery;

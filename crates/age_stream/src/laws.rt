@@ -2,10 +2,9 @@
 ghost use Rattle.age_stream.specs.Laws.{ChunksAreCounted, ClosedStays, EndCloses, FreshIsOpen};
 ghost use Rattle.age_stream.specs.Laws.{NoncesDiffer, PayloadIsLonger, PiecesJoin, ReleasedGrows};
 ghost use Rattle.age_stream.specs.Laws.{ReleasedIsWritten, SealedGrows, SealingsDiffer};
-ghost use Rattle.age_stream.specs.Authentic.{ClearIsSealable, RestIsAuthentic, RoundTrip};
-ghost use Rattle.age_stream.specs.Authentic.{UndamagedIsAuthentic, WholeIsAuthentic};
-ghost use Rattle.age_stream.specs.Lengths.{LengthsAreOne};
-ghost use Rattle.age_stream.specs.Parts.{ChunksAreOne, SealsChunks};
+ghost use Rattle.age_stream.specs.Laws.{ClearIsSealable, RestIsAuthentic, RoundTrip};
+ghost use Rattle.age_stream.specs.Laws.{UndamagedIsAuthentic, WholeIsAuthentic, LengthsAreOne};
+ghost use Rattle.age_stream.specs.Laws.{ChunksAreOne, SealsChunks};
 
 /// No two chunks of a payload have the same nonce.
 pub fn nonces_differ()

@@ -6,8 +6,7 @@ ghost use Rattle.std.specs.Bool.{OnTrue, OnFalse};
 ghost use Rattle.std.specs.Borrow.{sem};
 ghost use Rattle.std.specs.Io.BufRead.{Rests};
 ghost use Rattle.age_chunk.specs.ChunkBoxes.{tag_length, text_length};
-ghost use Rattle.age_chunk.specs.Nonce.{nonce_bytes, chunk_limit};
-ghost use Rattle.age_chunk.specs.Payload.{chunk_length, block_length};
+ghost use Rattle.age_chunk.specs.Payload.{nonce_bytes, chunk_limit, chunk_length, block_length};
 ghost use Rattle.age_stream.specs.declared.step.Status.TheVariants.{Open};
 
 use crate::buffer::push_bytes;
@@ -35,10 +34,10 @@ struct OpenerState<'k, B: ChunkBox, const SEALED: usize> {
 
 impl<'k, B: ChunkBox, const SEALED: usize> OpenerState<'k, B, SEALED> {
     ghost use Rattle.age_stream.specs.Segment.{failed};
-    ghost use Rattle.age_stream.specs.inner.SegmentSteps.{final_block, one_block};
-    ghost use Rattle.age_stream.specs.Opening.{held_bytes};
-    ghost use Rattle.age_stream.specs.inner.OpenerSteps.{IsTried, TakesPart, TakesWhole, TakesNone};
+    ghost use Rattle.age_stream.specs.inner.OpenerSteps.{final_block, one_block, IsTried};
+    ghost use Rattle.age_stream.specs.inner.OpenerSteps.{TakesPart, TakesWhole, TakesNone};
     ghost use Rattle.age_stream.specs.inner.OpenerSteps.{Advances, Closes, EndsAs, EndsNone};
+    ghost use Rattle.age_stream.specs.Opener.{held_bytes};
 
     // Empties the buffer of a text that was lent.
     fn settle(&mut self)
@@ -208,7 +207,7 @@ pub struct Opener<'k, B: ChunkBox, const SEALED: usize> {
 }
 
 impl<'k, B: ChunkBox, const SEALED: usize> Model for Opener<'k, B, SEALED> {
-    ghost use Rattle.age_stream.specs.Opening.{OpenerView, opener_view};
+    ghost use Rattle.age_stream.specs.Opener.{OpenerView, opener_view};
 
     ghost Value = { OpenerView B };
 
@@ -216,10 +215,9 @@ impl<'k, B: ChunkBox, const SEALED: usize> Model for Opener<'k, B, SEALED> {
 }
 
 impl<'k, B: ChunkBox, const SEALED: usize> Opener<'k, B, SEALED> {
-    ghost use Rattle.age_stream.specs.Deliveries.{fresh};
-    ghost use Rattle.age_stream.specs.Opening.{Stands, has_failed};
-    ghost use Rattle.age_stream.specs.Feeding.{Feeds, IsFed, Ends, IsEnded};
-    ghost use Rattle.age_stream.specs.OpenerRow.{opener_row};
+    ghost use Rattle.age_stream.specs.Segment.{fresh};
+    ghost use Rattle.age_stream.specs.Opener.{Stands, has_failed, Feeds, IsFed, Ends, IsEnded};
+    ghost use Rattle.age_stream.specs.Rows.{opener_row};
 
     /// An opener of a whole payload. Takes no memory.
     pub fn new(key: &'k B) -> Self

@@ -2,9 +2,8 @@
 ghost use Rattle.std.specs.Prelude.{◌≡◌, ◌+◌, ◌*◌, ◌^◌, ◌<◌, ◌≤◌, [], ◌++◌, length};
 ghost use Rattle.std.specs.Prelude.{OnOk, OnErr, vec_len, vec_capacity, nat_lt, nat_le, ◌&&◌};
 ghost use Rattle.std.specs.Bool.{OnTrue};
-ghost use Rattle.age_stream.specs.Lent.{chunk_bytes};
-ghost use Rattle.age_chunk.specs.Nonce.{chunk_limit};
-ghost use Rattle.age_chunk.specs.Payload.{block_length};
+ghost use Rattle.age_stream.specs.Opener.{chunk_bytes};
+ghost use Rattle.age_chunk.specs.Payload.{chunk_limit, block_length};
 ghost use Rattle.age_chunk.specs.ChunkBoxes.{tag_length, text_length};
 
 use crate::delivery::Delivery;
@@ -38,10 +37,10 @@ struct ReplayState<'k, B: ChunkBox, const SEALED: usize> {
 }
 
 impl<'k, B: ChunkBox, const SEALED: usize> ReplayState<'k, B, SEALED> {
-    ghost use Rattle.age_stream.specs.Replaying.{IsCramped, TakesDelivery, replay_view};
+    ghost use Rattle.age_stream.specs.Replay.{IsCramped, TakesDelivery, replay_view};
     ghost use Rattle.age_stream.specs.inner.ReplaySteps.{FeedsOnce, Goes, with_bytes};
-    ghost use Rattle.age_stream.specs.Opening.{text_at_end, text_of_piece, whole_text};
-    ghost use Rattle.age_stream.specs.Deliveries.{after_delivery};
+    ghost use Rattle.age_stream.specs.Opener.{text_at_end, text_of_piece, whole_text};
+    ghost use Rattle.age_stream.specs.Segment.{after_delivery};
     ghost use Rattle.age_stream.specs.declared.delivery.Delivery.TheVariants.{End, Restart};
 
     // Feeds the beginning of a piece, and returns how much was taken, unless the opener refused it.
@@ -214,7 +213,7 @@ pub struct Replay<'k, B: ChunkBox, const SEALED: usize> {
 }
 
 impl<'k, B: ChunkBox, const SEALED: usize> Model for Replay<'k, B, SEALED> {
-    ghost use Rattle.age_stream.specs.Replaying.{ReplayView, replay_view};
+    ghost use Rattle.age_stream.specs.Replay.{ReplayView, replay_view};
 
     ghost Value = { ReplayView B };
 
@@ -222,7 +221,7 @@ impl<'k, B: ChunkBox, const SEALED: usize> Model for Replay<'k, B, SEALED> {
 }
 
 impl<'k, B: ChunkBox, const SEALED: usize> Replay<'k, B, SEALED> {
-    ghost use Rattle.age_stream.specs.Replaying.{Replays, TakesDelivery};
+    ghost use Rattle.age_stream.specs.Replay.{Replays, TakesDelivery};
 
     /// A replay that was given nothing yet. Takes no memory.
     pub fn new(alloc: Global, key: &'k B) -> Self

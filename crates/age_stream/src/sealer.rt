@@ -4,8 +4,7 @@ ghost use Rattle.std.specs.Prelude.{OnOk, None, IsNone, true, false};
 ghost use Rattle.std.specs.Borrow.{sem};
 ghost use Rattle.std.specs.Io.BufRead.{Rests};
 ghost use Rattle.age_chunk.specs.ChunkBoxes.{tag_length, text_length};
-ghost use Rattle.age_chunk.specs.Nonce.{nonce_bytes, chunk_limit};
-ghost use Rattle.age_chunk.specs.Payload.{block_length};
+ghost use Rattle.age_chunk.specs.Payload.{nonce_bytes, chunk_limit, block_length};
 
 use crate::buffer::push_bytes;
 use crate::step::Step;
@@ -30,7 +29,7 @@ struct SealerState<'k, B: ChunkBox, const SEALED: usize> {
 }
 
 impl<'k, B: ChunkBox, const SEALED: usize> SealerState<'k, B, SEALED> {
-    ghost use Rattle.age_stream.specs.Sealing.{held_text, sealer_view, Holds, too_many};
+    ghost use Rattle.age_stream.specs.Sealer.{held_text, sealer_view, Holds, too_many};
     ghost use Rattle.age_stream.specs.inner.SealerSteps.{Steps, Advances, SealsLast};
     ghost use Rattle.age_chunk.specs.Payload.{sealed_before_last, block_bytes, payload};
 
@@ -136,7 +135,7 @@ pub struct Sealer<'k, B: ChunkBox, const SEALED: usize> {
 }
 
 impl<'k, B: ChunkBox, const SEALED: usize> Model for Sealer<'k, B, SEALED> {
-    ghost use Rattle.age_stream.specs.Sealing.{SealerView, sealer_view};
+    ghost use Rattle.age_stream.specs.Sealer.{SealerView, sealer_view};
 
     ghost Value = { SealerView B };
 
@@ -144,8 +143,8 @@ impl<'k, B: ChunkBox, const SEALED: usize> Model for Sealer<'k, B, SEALED> {
 }
 
 impl<'k, B: ChunkBox, const SEALED: usize> Sealer<'k, B, SEALED> {
-    ghost use Rattle.age_stream.specs.SealerCalls.{Takes, IsTaken, Finishes, IsFinished};
-    ghost use Rattle.age_stream.specs.SealerRow.{sealer_row};
+    ghost use Rattle.age_stream.specs.Sealer.{Takes, IsTaken, Finishes, IsFinished};
+    ghost use Rattle.age_stream.specs.Rows.{sealer_row};
 
     /// A sealer that was given nothing yet. Takes no memory.
     pub fn new(key: &'k B) -> Self

@@ -2,8 +2,8 @@
 ghost use Rattle.std.specs.Prelude.{◌≡◌, ◌-◌, ◌≤◌, ◌<◌, ◌+◌, ◌*◌, ◌/◌, ◌^◌};
 ghost use Rattle.std.specs.Prelude.{length, IfSome, IfNone, vec_capacity};
 ghost use Rattle.age_chunk.specs.Payload.{chunk_count, block_length};
-ghost use Rattle.age_stream.specs.WholeText.{AppendsPayload, SealsPayload, number_of, place_of};
-ghost use Rattle.age_stream.specs.inner.WholeTextSteps.{SealsWithin};
+ghost use Rattle.age_stream.specs.Sealer.{AppendsPayload, SealsPayload, number_of, place_of};
+ghost use Rattle.age_stream.specs.inner.SealerSteps.{SealsWithin};
 ghost use Rattle.age_stream.specs.declared.whole_text.SealFault.TheVariants as refusals;
 ghost use Rattle.age_chunk.specs.ChunkBoxes.{tag_length, text_length};
 

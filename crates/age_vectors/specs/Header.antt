@@ -4,8 +4,8 @@ use Rattle.age_stanza.specs.declared.header.Header.{Header}
 use Rattle.age_stanza.specs.declared.fault.HeadFault.{HeadFault}
 use Rattle.age_stanza.specs.declared.fault.HeadKind.TheVariants.{HeadCut}
 use Rattle.age_stanza.specs.Grammar.{HeadText}
-use Rattle.age_stanza.specs.FaultNumbers.{number_of, place_of}
-use Rattle.age_stanza.specs.Faults.{HasHeader, NoFault, IsFault, line_after, memory_fault}
+use Rattle.age_stanza.specs.Parsing.{number_of, place_of, HasHeader, NoFault, IsFault, line_after}
+use Rattle.age_stanza.specs.Parsing.{memory_fault}
 
 -- a header of so many bytes stands in front
 pub record Accepts (bytes : List ℕ) (size : ℕ) : Type 0 where

@@ -2,7 +2,7 @@
 use Rattle.std.specs.Prelude.{ℕ, List, take}
 use Rattle.age_stanza.specs.declared.header.Header.{Header}
 use Rattle.age_stanza.specs.Grammar.{HeadText}
-use Rattle.age_keys.specs.Opened.{Opens}
+use Rattle.age_keys.specs.Keys.{Opens}
 
 -- a header stands in front of the text, and the key may be answered for it, by the unlocker's
 -- relation

@@ -1,8 +1,6 @@
 // HMAC, HKDF and PBKDF2 with SHA-256. A constant named for a case is what its RFC gives.
 ghost use Rattle.std.specs.Prelude.{◌≡◌, [], IsTrue, take, replicate, codes};
-ghost use Rattle.age_kdf.specs.Hmac.{hmac};
-ghost use Rattle.age_kdf.specs.Hkdf.{hkdf32};
-ghost use Rattle.age_kdf.specs.Pbkdf2.{pbkdf2_once};
+ghost use Rattle.age_kdf.specs.Derivation.{hmac, hkdf32, pbkdf2_once};
 
 use age_kdf::{hkdf32, hmac, pbkdf2_once};
 

@@ -2,7 +2,7 @@
 // HMAC over its SHA-256, and RFC 8439 in plain whole numbers.
 ghost use Rattle.std.specs.Prelude.{◌<◌, IsTrue, IfOk, codes};
 ghost use Rattle.age_stanza.specs.Grammar.{HeadText};
-ghost use Rattle.age_keys.specs.Opened.{Opens};
+ghost use Rattle.age_keys.specs.Keys.{Opens};
 ghost use Rattle.age_keys.specs.Scrypt.{scrypt_head};
 ghost use Rattle.age_vectors.specs.Keys.{OpensIn};
 

@@ -1,6 +1,6 @@
 // What a shared secret finds in the X25519 stanzas of headers, which Python made.
 ghost use Rattle.std.specs.Prelude.{IsTrue};
-ghost use Rattle.age_keys.specs.SharedSecret.{IsSharedKey};
+ghost use Rattle.age_keys.specs.X25519.{IsSharedKey};
 ghost use Rattle.age_vectors.specs.Keys.{OpensIn};
 
 use crate::keys::{FILE_KEY, around, is_opened, opened};

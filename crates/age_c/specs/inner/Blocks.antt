@@ -2,11 +2,11 @@
 use Rattle.std.specs.Prelude.{◌≡◌, ◌≢◌, ℕ, List, [], ◌++◌, Some, true, false}
 use Rattle.age_stream.specs.declared.step.Status.{Status}
 use Rattle.age_stream.specs.declared.step.Status.TheVariants.{Open, Done}
-use Rattle.age_stream.specs.Opening.{OpenerView, Stands, has_failed}
+use Rattle.age_stream.specs.Opener.{OpenerView, Stands, has_failed}
 use Rattle.age_stream.specs.Segment.{Segment, released}
 use Rattle.age_chunk.specs.Payload.{chunk_length}
 use Rattle.age_c.specs.declared.reader.Reader.{Reader}
-use Rattle.age_c.specs.Numbers.{answer_of, status_of}
+use Rattle.age_c.specs.Calls.{answer_of, status_of}
 use Rattle.age_c.specs.Readers.{SameFile}
 use Rattle.age_c.specs.inner.Keys.{opens}
 

@@ -1,7 +1,7 @@
 -- How much work the start of a file takes, by a count of scrypt's steps.
 use Rattle.std.specs.Prelude.{◌≡◌, ℕ, ◌+◌, ◌≤◌, Bool, true, Result, IfErr}
 use Rattle.std.specs.Bool.{OnTrue}
-use Rattle.age_keys.specs.Counts.{is_before_work as is_before_work_on_keys}
+use Rattle.age_keys.specs.Keys.{is_before_work as is_before_work_on_keys}
 use Rattle.age_c.specs.declared.reader.Reader.{Reader}
 use Rattle.age_c.specs.declared.start.StartFault.{StartFault}
 use Rattle.age_c.specs.declared.start.StartFault.TheVariants.{Key}

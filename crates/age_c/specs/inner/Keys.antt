@@ -1,7 +1,6 @@
 -- The key of a file's payload, and the file's box by that key. Only private functions cite this.
 use Rattle.std.specs.Prelude.{ℕ, List, []}
-use Rattle.age_cipher.specs.Aead.{sealing as sealing_with}
-use Rattle.age_cipher.specs.Opening.{opening as opening_with}
+use Rattle.age_cipher.specs.Aead.{sealing as sealing_with, opening as opening_with}
 use Rattle.age_chunk.specs.ChunkBoxes.{Seals, Opens}
 use Rattle.age_keys.specs.Keys.{payload_key}
 use Rattle.age_c.specs.declared.reader.Reader.{Reader}

@@ -4,20 +4,19 @@ use Rattle.std.specs.Prelude.{Some, None, Result, Ok, Err, IsOk, OnOk, IfErr}
 use Rattle.clap.specs.Words.{Text}
 use Rattle.clap.specs.declared.error.kind.ErrorKind.{ErrorKind}
 use Rattle.clap.specs.declared.error.kind.ErrorKind.TheVariants.{DisplayHelp, DisplayVersion}
-use Rattle.age_io.specs.Views.{SinkView}
+use Rattle.age_io.specs.Io.{SinkView}
 use Rattle.age_io.specs.declared.durability.Durability.{Durability}
 use Rattle.age_file.specs.declared.decryption.Done.{Done}
 use Rattle.age_file.specs.declared.decryption.Stopped.{Stopped}
 use Rattle.age_file.specs.declared.encryption.Written.{Written}
 use Rattle.age_fault.specs.declared.fault.FileFault.{FileFault}
 use Rattle.age_fault.specs.declared.fault.FileFault.TheVariants.{Write, Memory}
-use Rattle.age_fileset.specs.Events.{Closed}
-use Rattle.age_fileset.specs.FileSet.{FilesView}
+use Rattle.age_fileset.specs.FileSet.{Closed, FilesView}
 use Rattle.age_cli_common.specs.Endings.{is_usage}
-use Rattle.age_cli_common.specs.EventOrders.{Follows, replacing}
+use Rattle.age_cli_common.specs.Orders.{Follows, replacing}
 use Rattle.age_cli_common.specs.Files.{SparesBut, SparesBoth}
 use Rattle.age_cli_common.specs.declared.ending.Ending.{Ending}
-use Rattle.age_cli.specs.Outputs.{EndsOf}
+use Rattle.age_cli.specs.Acts.{EndsOf}
 use Rattle.age_cli.specs.declared.stop.Stop.{Stop}
 
 -- a refusal that isn't one: help or the version is asked for

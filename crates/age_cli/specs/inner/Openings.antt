@@ -1,11 +1,38 @@
--- How files are opened and made before anything is written. What only private code cites.
-use Rattle.std.specs.Prelude.{◌≡◌, ◌++◌, true, false, Bool, List, Result, IfOk, OnOk, OnErr, IfErr}
-use Rattle.age_fileset.specs.Events.{Event}
-use Rattle.age_fileset.specs.FileSet.{FilesView}
-use Rattle.age_cli_common.specs.Endings.{EndsEarly, RefusesAtOnce, is_usage}
-use Rattle.age_cli_common.specs.EventOrders.{Follows}
-use Rattle.age_cli_common.specs.Reasons.{HasReason}
+-- Private: no public contract cites this module.
+-- How files are opened, and the random bytes of an encryption.
+use Rattle.std.specs.Prelude.{◌≡◌, ◌⊎◌, Some, Option, None, ◌++◌, true, false, Bool, List, Result}
+use Rattle.std.specs.Prelude.{IfOk, OnOk, OnErr, IfErr, ℕ, length}
+use Rattle.clap.specs.Words.{Text}
+use Rattle.age_cli_args.specs.Requests.{text_of}
+use Rattle.age_cli_args.specs.declared.request.Decrypting.{Decrypting}
+use Rattle.age_file.specs.declared.position.Position.{Position}
+use Rattle.age_file.specs.Resumes.{position_text}
+use Rattle.age_cli_common.specs.Files.{Files}
+use Rattle.age_fileset.specs.FileSet.{Event, FilesView}
+use Rattle.age_cli_common.specs.Endings.{EndsEarly, RefusesAtOnce, is_usage, HasReason}
+use Rattle.age_cli_common.specs.Orders.{Follows, random_name}
 use Rattle.age_cli_common.specs.declared.ending.Ending.{Ending}
+use Rattle.age_cli_args.specs.declared.request.Encrypting.{Encrypting}
+use Rattle.age_cli.specs.declared.encrypt_command.Random.{Random}
+use Rattle.age_cli.specs.declared.encrypt_command.Material.{Material}
+
+-- ---- The names of the files that are read.
+
+-- a name is that of the input, or of the file of what opens it
+abbrev pub IsReadAs : Decrypting → Text → Type 0
+IsReadAs d name = (d.from.now ≡ name)
+    ⊎ ((text_of d.identity.pass ≡ Some name) ⊎ (text_of d.identity.shared ≡ Some name))
+
+-- ---- The bytes under each name, and what a command changes.
+
+-- the position stands in the file of this name, where both are there, and nothing differs where one
+-- isn't
+abbrev pub Saves : Option Text → Option Position → Files → Files → Type 0
+Saves (Some name) (Some position) old new = new name ≡ Some (position_text position)
+Saves None position old new = new ≡ old
+Saves (Some name) None old new = new ≡ old
+
+-- ---- How files are opened and made before anything is written.
 
 -- the files of `order` were opened or made, and this holds of them; or it ended early, in `whole`
 pub record Opens {A : Type 0} (shows : Bool) (order whole : List Event) (old new : FilesView)
@@ -45,3 +72,21 @@ pub record Judges {A : Type 0} (shows : Bool) (order : List Event) (old new : Fi
   pub early : IfErr result EndsEarly
   -- It had a reason.
   pub reason : shows ≡ true → IfErr result (HasReason old.entries new.events Failed)
+
+-- ---- The random parts of an age file in bytes.
+
+-- one after the other, each of 16 bytes
+pub record IsRandom (bytes : List ℕ) (r : Random) : Type 0 where
+  pub rest : List ℕ
+  pub parts : bytes ≡ r.file_key ++ (r.salt ++ (r.payload_nonce ++ rest))
+  pub key_length : length r.file_key ≡ 16
+  pub salt_length : length r.salt ≡ 16
+  pub nonce_length : length r.payload_nonce ≡ 16
+
+-- what stands under the names of the passphrase and of the random bytes is this
+pub record IsMaterialIn (asked : Encrypting) (old : Files) (m : Material) : Type 0 where
+  pub pass_is : old asked.pass.now ≡ Some m.pass.items
+  pub bytes : List ℕ
+  pub rest : List ℕ
+  pub random_held : old (random_name (text_of asked.random)) ≡ Some (bytes ++ rest)
+  pub random_is : IsRandom bytes m.random

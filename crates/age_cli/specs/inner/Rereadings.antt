@@ -1,11 +1,9 @@
 -- How a position is found by reading the input once more. What only private code cites.
 use Rattle.std.specs.Prelude.{◌≡◌, ◌≢◌, ◌⊎◌, ℕ, Bool, true, List, Option, Some, is_some}
 use Rattle.std.specs.Prelude.{None, Result, Err, IfOk, IfErr, IsSomeAnd, if◌then◌else◌}
-use Rattle.age_io.specs.Views.{SourceView, SinkView}
-use Rattle.age_file.specs.Again.{IsFoundAgain}
-use Rattle.age_file.specs.Decrypts.{DecryptEnds, DecryptStops}
-use Rattle.age_file.specs.Ports.{Ports}
-use Rattle.age_file.specs.Runs.{Run}
+use Rattle.age_io.specs.Io.{SourceView, SinkView}
+use Rattle.age_file.specs.Decrypts.{IsFoundAgain, DecryptEnds, DecryptStops}
+use Rattle.age_file.specs.Runs.{Ports, Run}
 use Rattle.age_file.specs.declared.decryption.Done.{Done}
 use Rattle.age_file.specs.declared.decryption.Stopped.{Stopped}
 use Rattle.age_file.specs.declared.position.Position.{Position}
@@ -16,7 +14,7 @@ use Rattle.age_cli_args.specs.declared.request.ProgressOption.TheVariants.{Silen
 use Rattle.age_cli_common.specs.Identities.{allows_by, refuses_by}
 use Rattle.age_cli_common.specs.declared.ending.Ending.{Ending}
 use Rattle.age_cli_common.specs.declared.identity.Identity.{Identity}
-use Rattle.age_cli.specs.Outputs.{kept_for}
+use Rattle.age_cli.specs.Acts.{kept_for}
 use Rattle.age_cli.specs.inner.Endings.{Concludes, opening_end}
 
 -- that of a run over these bytes, by this key, which wrote so many bytes

@@ -1,26 +1,136 @@
--- What was copied of an old text. Only private functions cite this. A chunk has n bytes.
-use Rattle.std.specs.Prelude.{◌≢◌, ◌≡◌, ℕ, ◌+◌, ◌*◌, ◌^◌, ◌<◌, ◌≤◌, List, [], ◌++◌}
-use Rattle.std.specs.Prelude.{length, Some, IsSome, Result}
-use Rattle.std.specs.Prelude.{MatchResult}
-use Rattle.std.specs.Simd.{first_chunks}
-use Rattle.std.specs.Io.KnownBytes.{Appends, IsAtEnd}
-use Rattle.age_stream.specs.Headline.{IsPrefixOf}
+-- Private: no public contract cites this module.
+-- Copying the old text, and skipping its blocks.
+use Rattle.std.specs.Prelude.{◌≡◌, ℕ, ◌^◌, ◌<◌, ◌≤◌, List, [], ◌++◌, length, Option, Result, Bool}
+use Rattle.std.specs.Prelude.{Ok, Err, true, false, ◌+◌, ◌*◌, ◌≢◌, Some, IsSome, MatchResult}
+use Rattle.std.specs.Io.KnownBytes.{IsAtEnd, Appends}
+use Rattle.age_io.specs.Io.{SourceView}
+use Rattle.age_stanza.specs.declared.header.Header.{Header}
+use Rattle.age_stanza.specs.Grammar.{HeadText}
+use Rattle.sha2.specs.Hashers.{Holds256}
+use Rattle.sha2.specs.declared.Sha256.{Sha256}
+use Rattle.age_keys.specs.Keys.{Opens}
 use Rattle.age_fault.specs.Faults.{HasFailed}
-use Rattle.age_file.specs.Bindings.{chain}
+use Rattle.age_file.specs.Bindings.{file_id, chain}
+use Rattle.age_file.specs.inner.Readers.{ReaderView, Pulled, PullFails, reader_view, WriterView}
+use Rattle.age_file.specs.declared.start.Unlocked.{Unlocked}
+use Rattle.age_fault.specs.declared.fault.FileFault.{FileFault}
+use Rattle.age_fault.specs.declared.fault.FileFault.TheVariants.{NonceCut, Read, ReadNeverEnds}
+use Rattle.age_fault.specs.declared.fault.FileFault.TheVariants.{Stream, ShortText, Write}
+use Rattle.age_fault.specs.declared.fault.FileFault.TheVariants.{OldTextDiffers}
+use Rattle.age_file.specs.Runs.{pull_room}
+use Rattle.age_chunk.specs.declared.fault.StreamKind.TheVariants.{Truncated}
+use Rattle.std.specs.Simd.{first_chunks}
+use Rattle.age_stream.specs.Headline.{IsPrefixOf}
 use Rattle.age_file.specs.inner.Bindings.{link_if, chain_if}
 use Rattle.age_file.specs.declared.position.Positions.{Positions}
 use Rattle.age_file.specs.declared.position.Positions.TheVariants.{Kept}
-use Rattle.age_file.specs.inner.Readers.{ReaderView, reader_view, WriterView}
 use Rattle.age_file.specs.inner.Unread.{Unread}
 use Rattle.age_file.specs.declared.position.Position.{Position}
 use Rattle.age_file.specs.declared.tally.Tally.{Tally}
-use Rattle.age_io.specs.Views.{SourceView}
-use Rattle.age_file.specs.inner.Skips.{Passes, Dries}
-use Rattle.age_fault.specs.declared.fault.FileFault.{FileFault}
-use Rattle.age_fault.specs.declared.fault.FileFault.TheVariants.{ShortText, Read, Write}
-use Rattle.age_fault.specs.declared.fault.FileFault.TheVariants.{ReadNeverEnds, OldTextDiffers}
-use Rattle.age_chunk.specs.Nonce.{chunk_limit}
-use Rattle.age_chunk.specs.Payload.{chunk_length}
+use Rattle.age_chunk.specs.Payload.{chunk_limit, chunk_length}
+
+-- ---- What was read up to a payload.
+
+-- bytes of the intake were used, after those that were used before
+abbrev pub Uses : ReaderView → ReaderView → List ℕ → Type 0
+Uses old new bytes = (start : Option (List ℕ)) (used : List ℕ)
+    → Pulled start old.source.remaining old.unread.pulls (used ++ old.unread.bytes)
+    → Pulled start new.source.remaining new.unread.pulls (used ++ (bytes ++ new.unread.bytes))
+
+-- some byte is there, or the source is at its end
+abbrev pub SomeAnswers : ReaderView → ReaderView → Result Bool FileFault → Type 0
+SomeAnswers old new (Ok true) = (0 < length new.unread.bytes)
+    × (new.source.failed ≡ old.source.failed) × (length new.unread.bytes ≤ pull_room)
+SomeAnswers old new (Ok false) = (new.unread.bytes ≡ []) × IsAtEnd new.source.remaining
+    × (new.source.failed ≡ old.source.failed)
+SomeAnswers old new (Err fault) = (new.unread.bytes ≡ []) × PullFails old new fault
+
+-- so few bytes of a nonce were used, and no byte is left
+abbrev pub UsesShort : ReaderView → ReaderView → Type 0
+UsesShort old new = (short : List ℕ) × (length short < 16) × Uses old new short
+    × (new.unread.bytes ≡ [])
+
+abbrev pub NonceFails : ReaderView → ReaderView → FileFault → Type 0
+NonceFails old new NonceCut = UsesShort old new × IsAtEnd new.source.remaining
+NonceFails old new Read = UsesShort old new
+    × HasFailed old.source.failed new.source.failed new.source.failing
+NonceFails old new ReadNeverEnds = UsesShort old new × (new.unread.pulls ≡ 2 ^ 63)
+NonceFails old new other = ⊥
+
+-- the nonce was read; what follows it came with the last pull
+pub record TakesNonce (old new : ReaderView) (nonce : List ℕ) : Type 0 where
+  pub uses : Uses old new nonce
+  pub few : length new.unread.bytes ≤ pull_room
+  pub unfailed : new.source.failed ≡ old.source.failed
+
+-- it identifies the file with what the digest was fed
+pub record ReadsNonce (key : List ℕ) (digest : Sha256) (old new : ReaderView) (unlocked : Unlocked)
+    : Type 0 where
+  pub key_is : unlocked.key ≡ key
+  pub size : length unlocked.nonce ≡ 16
+  pub takes : TakesNonce old new unlocked.nonce
+  pub id : (front : List ℕ) → Holds256 digest front → unlocked.id ≡ file_id front unlocked.nonce
+
+-- a header was read and opened, and the nonce after it was read
+pub record StartsAt (Allows : Header → List ℕ → Type 0) (old : SourceView) (new : ReaderView)
+    (unlocked : Unlocked) : Type 0 where
+  pub header : Header
+  pub front : List ℕ
+  pub text : HeadText header front
+  pub opens : Opens Allows header unlocked.key
+  pub size : length unlocked.nonce ≡ 16
+  pub id : unlocked.id ≡ file_id front unlocked.nonce
+  pub few : length new.unread.bytes ≤ pull_room
+  pub pulled : Pulled old.remaining new.source.remaining new.unread.pulls
+      ((front ++ unlocked.nonce) ++ new.unread.bytes)
+  pub unfailed : new.source.failed ≡ old.failed
+
+-- ---- What of a source was passed over, and what of an old text was copied.
+
+-- these bytes of a source were used, and no pull failed
+pub record Passes (old new : ReaderView) (bytes : List ℕ) : Type 0 where
+  pub uses : Uses old new bytes
+  pub unfailed : new.source.failed ≡ old.source.failed
+
+-- a pull gave no more, and all that was pulled was used
+pub record Dries (old new : ReaderView) (bytes : List ℕ) (fault : FileFault) : Type 0 where
+  pub uses : Uses old new bytes
+  pub used : new.unread.bytes ≡ []
+  pub why : PullFails old new fault
+
+-- so many bytes were passed over, or the source ended before, or failed
+abbrev pub SkipsBlock : ℕ → ReaderView → ReaderView → Result Bool FileFault → Type 0
+SkipsBlock n old new (Ok true) = (bytes : List ℕ) × (length bytes ≡ n) × Passes old new bytes
+SkipsBlock n old new (Ok false) = (bytes : List ℕ) × (length bytes < n) × Passes old new bytes
+    × (new.unread.bytes ≡ []) × IsAtEnd new.source.remaining
+SkipsBlock n old new (Err fault) = (bytes : List ℕ) × (length bytes < n)
+    × Dries old new bytes fault
+
+-- the source ended after j whole blocks of n bytes
+pub record EndsAfter (n j : ℕ) (old new : ReaderView) : Type 0 where
+  pub bytes : List ℕ
+  pub least : j * n ≤ length bytes
+  pub most : length bytes < j * n + n
+  pub passes : Passes old new bytes
+  pub used : new.unread.bytes ≡ []
+  pub at_end : IsAtEnd new.source.remaining
+
+abbrev pub SkipFails : ℕ → ℕ → ReaderView → ReaderView → FileFault → Type 0
+SkipFails n blocks old new (Stream fault) = (fault.kind ≡ Truncated) × (fault.chunk < blocks)
+    × EndsAfter n fault.chunk old new
+SkipFails n blocks old new Read = (bytes : List ℕ) × (length bytes < blocks * n)
+    × Dries old new bytes Read
+SkipFails n blocks old new ReadNeverEnds = (bytes : List ℕ) × (length bytes < blocks * n)
+    × Dries old new bytes ReadNeverEnds
+SkipFails n blocks old new other = ⊥
+
+-- so many blocks of n bytes were passed over
+abbrev pub SkipsBlocks : ℕ → ℕ → ReaderView → ReaderView → Result (Unit {0}) FileFault → Type 0
+SkipsBlocks n blocks old new (Ok done) = (bytes : List ℕ) × (length bytes ≡ blocks * n)
+    × Passes old new bytes
+SkipsBlocks n blocks old new (Err fault) = SkipFails n blocks old new fault
+
+-- ---- What was copied of an old text. A chunk has n bytes.
 
 -- one chunk more can be copied
 pub record CanCopy (t : Tally) : Type 0 where

@@ -1,7 +1,8 @@
--- What a decryption did.
-use Rattle.std.specs.Prelude.{◌≡◌, ℕ, List, Option, Some, None, IsSomeAnd, Result, Ok, Err}
+-- Private: no public contract cites this module.
+-- Decrypting, around the payload.
+use Rattle.std.specs.Prelude.{ℕ, List, [], Option, ◌≡◌, Some, None, IsSomeAnd, Result, Ok, Err}
+use Rattle.age_cipher.specs.Aead.{sealing, opening}
 use Rattle.age_keys.specs.Keys.{payload_key, position_key}
-use Rattle.age_file.specs.inner.Boxes.{opens}
 use Rattle.age_file.specs.inner.Payloads.{DecryptsPayload}
 use Rattle.age_file.specs.inner.Readers.{Stage}
 use Rattle.age_file.specs.Bindings.{position_tag}
@@ -12,6 +13,16 @@ use Rattle.age_file.specs.declared.decryption.Done.{Done}
 use Rattle.age_file.specs.declared.decryption.Stopped.{Stopped}
 use Rattle.age_fault.specs.declared.fault.FileFault.{FileFault}
 use Rattle.age_chunk.specs.Payload.{chunk_length}
+
+-- ---- How a payload key seals and opens a chunk, without associated data (RFC 8439, 2.8).
+
+abbrev pub seals : List ℕ → List ℕ → List ℕ → List ℕ
+seals key nonce text = sealing key nonce [] text
+
+abbrev pub opens : List ℕ → List ℕ → List ℕ → Option (List ℕ)
+opens key nonce block = opening key nonce [] block
+
+-- ---- What a decryption did.
 
 -- where it is known: the position of this index and chain, in the file that was unlocked
 pub record IsPositionAt (unlocked : Unlocked) (index : ℕ) (links : List ℕ) (p : Position)

@@ -1,22 +1,46 @@
--- What was made of the bytes after a nonce. Only private functions cite this. A chunk has n bytes.
-use Rattle.std.specs.Prelude.{◌≡◌, ℕ, ◌+◌, ◌*◌, ◌^◌, ◌≤◌, List, ◌++◌, length}
-use Rattle.std.specs.Prelude.{Option, Result}
-use Rattle.std.specs.Prelude.{MatchResult, OnOk, Bool, true, false, ◌⊎◌, ◌<◌}
+-- Private: no public contract cites this module.
+-- Decrypting a payload.
+use Rattle.std.specs.Prelude.{◌≡◌, ℕ, ◌-◌, ◌/◌, ◌<◌, ◌≤◌, min, List, ◌++◌, length, Option, ◌+◌, ◌*◌}
+use Rattle.std.specs.Prelude.{◌^◌, Result, MatchResult, OnOk, Bool, true, false, ◌⊎◌, []}
 use Rattle.std.specs.Simd.{first_chunks}
+use Rattle.age_stream.specs.Segment.{Segment, outcome, released, with_piece, with_end}
+use Rattle.age_file.specs.inner.Bindings.{chain_if}
+use Rattle.age_file.specs.declared.position.Positions.{Positions}
+use Rattle.age_file.specs.declared.tally.Tally.{Tally}
 use Rattle.std.specs.Io.KnownBytes.{Appends, IsAtEnd}
 use Rattle.age_stream.specs.declared.step.Status.TheVariants.{Failed, Done}
-use Rattle.age_stream.specs.Segment.{Segment, outcome, released}
 use Rattle.age_stream.specs.Headline.{IsPrefixOf}
-use Rattle.age_stream.specs.Opening.{has_failed}
-use Rattle.age_file.specs.Ports.{NoneFailed, ReadFailed, WriteFailed}
-use Rattle.age_file.specs.inner.Readers.{Stage, ports_at}
-use Rattle.age_file.specs.inner.Intakes.{Pulled}
-use Rattle.age_file.specs.inner.Bindings.{chain_if}
-use Rattle.age_file.specs.inner.Counts.{HasCounted}
-use Rattle.age_file.specs.declared.position.Positions.{Positions}
+use Rattle.age_stream.specs.Opener.{has_failed, OpenerView, Stands}
+use Rattle.age_file.specs.Runs.{NoneFailed, ReadFailed, WriteFailed, pull_room}
+use Rattle.age_file.specs.inner.Readers.{Stage, ports_at, Pulled, WriterView}
 use Rattle.age_fault.specs.declared.fault.FileFault.{FileFault}
 use Rattle.age_fault.specs.declared.fault.FileFault.TheVariants.{Stream, Read, Write, ReadNeverEnds}
-use Rattle.age_file.specs.Faults.{pull_room}
+use Rattle.age_fault.specs.Faults.{HasFailed}
+
+-- ---- How a run's tally counts the chunks that were written. A chunk has n bytes.
+
+-- where the index has risen, one more chunk is counted, with its link
+pub record Advances (index : ℕ) (links : Option (List ℕ)) (risen : ℕ) (link : Option (List ℕ))
+    (new : Tally) : Type 0 where
+  pub further : index < risen → (new.index ≡ risen) × (new.chain ≡ link)
+  pub still : risen ≤ index → (new.index ≡ index) × (new.chain ≡ links)
+
+-- all of the text but for a part was written: the chunks that are counted are those that are whole
+-- and were released as not last, and the chain is over them, whatever bytes follow
+pub record CountsChunks (keep : Positions) (opening : List ℕ → List ℕ → Option (List ℕ)) (n : ℕ)
+    (base : List ℕ) (s : Segment) (unwritten : List ℕ) (p : Tally) : Type 0 where
+  pub index : (more : List ℕ) → p.index
+      ≡ min ((length (base ++ released opening n s) - length unwritten) / n)
+      (outcome opening n (with_piece s more)).index
+  pub chain_is : p.chain ≡ chain_if keep (first_chunks n p.index (base ++ released opening n s))
+
+-- all of this text was written, for this segment
+pub record HasCounted (keep : Positions) (opening : List ℕ → List ℕ → Option (List ℕ)) (n : ℕ)
+    (text : List ℕ) (s : Segment) (p : Tally) : Type 0 where
+  pub index : p.index ≡ min (length text / n) (outcome opening n s).index
+  pub chain_is : p.chain ≡ chain_if keep (first_chunks n p.index text)
+
+-- ---- What was made of the bytes after a nonce. A chunk has n bytes.
 
 -- one piece from a start, with an end or without
 abbrev pub segment : ℕ → List ℕ → Bool → Segment
@@ -74,3 +98,76 @@ module _ (opening : List ℕ → List ℕ → Option (List ℕ)) (n : ℕ) where
         (SegmentFails old new (segment start bytes ended) out)
     -- after Ok the sink sent on what it took
     pub settled : OnOk result (new.writer.sink.settled ≡ true)
+
+-- ---- What an opener was fed, and what of its text was written. A chunk has n bytes.
+
+module _ {B : Type 0} (opening : B → List ℕ → List ℕ → Option (List ℕ)) (n : ℕ) where
+  -- for each segment that the opener stood for, it stands for the next, whose text is more by what
+  -- was written and what wasn't; after any base, the tally goes on counting the chunks that
+  -- were written
+  pub record Releases (next : Segment → Segment) (old new : OpenerView B) (was now : WriterView)
+      (unwritten : List ℕ) : Type 0 where
+    pub out : List ℕ
+    pub key : new.key ≡ old.key
+    pub wrote : Appends was.sink.taken now.sink.taken out
+    pub named : now.sink.label ≡ was.sink.label
+    pub count : now.tally.written ≡ was.tally.written + length out
+    pub stands : (s : Segment) → Stands opening n old s → Stands opening n new (next s)
+    pub text : (s : Segment) → Stands opening n old s → released (opening old.key) n (next s)
+        ≡ released (opening old.key) n s ++ (out ++ unwritten)
+    pub counts : (keep : Positions) → 0 < n → (s : Segment) (base : List ℕ)
+        → length base ≡ s.start * n
+        → Stands opening n old s
+        → CountsChunks keep (opening old.key) n base s [] was.tally
+        → CountsChunks keep (opening old.key) n base (next s) unwritten now.tally
+
+  -- a fault of the opener, or of the sink, with what was left of the piece and not written: some
+  -- text, unless the opener came to the end
+  abbrev pub FeedFails : OpenerView B → WriterView → WriterView → List ℕ → List ℕ → FileFault
+      → Type 0
+  FeedFails new was now left unwritten (Stream fault) = (new.status ≡ Failed fault) × (left ≡ [])
+      × (unwritten ≡ []) × (now.sink.failed ≡ was.sink.failed)
+  FeedFails new was now left unwritten Write =
+      HasFailed was.sink.failed now.sink.failed now.sink.failing
+      × ((0 < length unwritten) ⊎ ((left ≡ []) × (new.status ≡ Done)))
+  FeedFails new was now left unwritten other = ⊥
+
+  -- no fault; what the opener holds and what was written is no more than what it held, and was fed
+  abbrev pub FeedGoes : OpenerView B → OpenerView B → WriterView → WriterView → List ℕ → List ℕ
+      → Type 0
+  FeedGoes old new was now fed unwritten =
+      (length new.held + now.tally.written
+      ≤ length old.held + was.tally.written + length fed) × (unwritten ≡ [])
+      × (now.sink.failed ≡ was.sink.failed) × (has_failed new.status ≡ false)
+
+  -- one call: the opener took the front of the piece
+  pub record FeedsOnce (old new : OpenerView B) (was now : WriterView) (piece : List ℕ)
+      (result : Result ℕ FileFault) : Type 0 where
+    pub fed : List ℕ
+    pub left : List ℕ
+    pub unwritten : List ℕ
+    pub parts : piece ≡ fed ++ left
+    pub releases : Releases (λ s. with_piece s fed) old new was now unwritten
+    pub answered : MatchResult result
+        (λ taken. (taken ≡ length fed) × FeedGoes old new was now fed unwritten)
+        (FeedFails new was now left unwritten)
+
+  -- calls for a whole piece
+  pub record FeedsPiece (old new : OpenerView B) (was now : WriterView) (piece : List ℕ)
+      (result : Result (Unit {0}) FileFault) : Type 0 where
+    pub fed : List ℕ
+    pub left : List ℕ
+    pub unwritten : List ℕ
+    pub parts : piece ≡ fed ++ left
+    pub releases : Releases (λ s. with_piece s fed) old new was now unwritten
+    pub answered : MatchResult result (λ _. (left ≡ []) × FeedGoes old new was now fed unwritten)
+        (FeedFails new was now left unwritten)
+
+  -- the end, for each segment that the opener stood for
+  pub record Closes (old new : OpenerView B) (was now : WriterView)
+      (result : Result (Unit {0}) FileFault) : Type 0 where
+    pub unwritten : List ℕ
+    pub releases : Releases with_end old new was now unwritten
+    pub answered : MatchResult result
+        (λ _. (new.status ≡ Done) × (unwritten ≡ []) × (now.sink.failed ≡ was.sink.failed))
+        (FeedFails new was now [] unwritten)

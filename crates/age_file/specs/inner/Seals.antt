@@ -1,20 +1,60 @@
--- What a sealer was fed, and what of its blocks was written. What only the private parts of the
--- engines cite.
-use Rattle.std.specs.Prelude.{◌≡◌, ℕ, ◌+◌, ◌-◌, ◌*◌, ◌^◌, ◌<◌, ◌≤◌, List}
-use Rattle.std.specs.Prelude.{[], ◌++◌, length}
-use Rattle.std.specs.Prelude.{Result, MatchResult, IfOk, IfErr, OnOk, true, false}
-use Rattle.std.specs.Io.KnownBytes.{Consumes, Appends, IsAtEnd}
-use Rattle.age_chunk.specs.Nonce.{chunk_limit}
-use Rattle.age_stream.specs.Sealing.{SealerView, Holds, too_many}
-use Rattle.age_chunk.specs.Payload.{sealed_before_last, block_bytes, payload, chunk_count}
-use Rattle.age_stream.specs.Headline.{IsPrefixOf}
+-- Private: no public contract cites this module.
+-- Encrypting.
+use Rattle.std.specs.Prelude.{◌≡◌, ℕ, List, ◌++◌, length, Result, MatchResult, ◌+◌, ◌-◌, ◌*◌, ◌^◌}
+use Rattle.std.specs.Prelude.{◌<◌, ◌≤◌, [], IfOk, IfErr, OnOk, true, false}
+use Rattle.std.specs.Io.KnownBytes.{Appends, Consumes, IsAtEnd}
+use Rattle.age_stanza.specs.Grammar.{HeadText}
+use Rattle.age_keys.specs.Scrypt.{scrypt_head}
 use Rattle.age_fault.specs.Faults.{HasFailed}
-use Rattle.age_file.specs.Faults.{IsByAllPulls}
-use Rattle.age_file.specs.Ports.{Ports, NoneFailed, ReadFailed, WriteFailed}
-use Rattle.age_file.specs.inner.Readers.{WriterView}
-use Rattle.age_file.specs.declared.encryption.Written.{Written}
 use Rattle.age_fault.specs.declared.fault.FileFault.{FileFault}
-use Rattle.age_fault.specs.declared.fault.FileFault.TheVariants.{Stream, Read, Write, ReadNeverEnds}
+use Rattle.age_fault.specs.declared.fault.FileFault.TheVariants.{Write, Memory, Stream, Read}
+use Rattle.age_fault.specs.declared.fault.FileFault.TheVariants.{ReadNeverEnds}
+use Rattle.age_file.specs.Encrypts.{SecretView}
+use Rattle.age_file.specs.inner.Readers.{WriterView}
+use Rattle.age_chunk.specs.Payload.{chunk_limit, sealed_before_last, block_bytes, payload}
+use Rattle.age_chunk.specs.Payload.{chunk_count}
+use Rattle.age_stream.specs.Sealer.{SealerView, Holds, too_many}
+use Rattle.age_stream.specs.Headline.{IsPrefixOf}
+use Rattle.age_file.specs.Runs.{IsByAllPulls, Ports, NoneFailed, ReadFailed, WriteFailed}
+use Rattle.age_file.specs.declared.encryption.Written.{Written}
+
+-- ---- What an encryption did.
+
+-- what stands before the payload: the header's text and the payload nonce
+pub record BeginsFile (s : SecretView) (bytes : List ℕ) : Type 0 where
+  pub front : List ℕ
+  pub head : HeadText (scrypt_head s.pass s.log s.salt s.key) front
+  pub parts : bytes ≡ front ++ s.nonce
+  pub size : length s.nonce ≡ 16
+
+-- all of it was written
+pub record WroteFront (s : SecretView) (was now : WriterView) : Type 0 where
+  pub front : List ℕ
+  pub begins : BeginsFile s front
+  pub wrote : Appends was.sink.taken now.sink.taken front
+  pub count : now.tally.written ≡ length front
+  pub failed : now.sink.failed ≡ was.sink.failed
+
+-- the sink failed in it
+pub record CutFront (s : SecretView) (was now : WriterView) : Type 0 where
+  pub front : List ℕ
+  pub begins : BeginsFile s front
+  pub out : List ℕ
+  pub unwritten : List ℕ
+  pub parts : front ≡ out ++ unwritten
+  pub wrote : Appends was.sink.taken now.sink.taken out
+  pub failed : HasFailed was.sink.failed now.sink.failed now.sink.failing
+
+-- why it was not written
+abbrev pub FrontFails : SecretView → WriterView → WriterView → FileFault → Type 0
+FrontFails s was now Memory = now ≡ was
+FrontFails s was now Write = CutFront s was now
+FrontFails s was now other = ⊥
+
+abbrev pub WritesFront : SecretView → WriterView → WriterView → Result (Unit {0}) FileFault → Type 0
+WritesFront s was now result = MatchResult result (λ _. WroteFront s was now) (FrontFails s was now)
+
+-- ---- What a sealer was fed, and what of its blocks was written.
 
 -- these bytes were written
 pub record Wrote (was now : WriterView) (out : List ℕ) : Type 0 where

@@ -3,7 +3,7 @@ use Rattle.std.specs.Prelude.{◌≡◌, ◌≢◌, ℕ, List, Result, MatchResu
 use Rattle.age_file.specs.declared.position.Position.{Position}
 use Rattle.age_fault.specs.declared.fault.FileFault.{FileFault}
 use Rattle.age_fault.specs.declared.fault.FileFault.TheVariants.{OtherFile, PositionForged}
-use Rattle.age_file.specs.Verdicts.{IsTagged}
+use Rattle.age_file.specs.Runs.{IsTagged}
 
 -- why a position is refused, for a file of this id, key and nonce
 abbrev pub PositionRefused : Position → List ℕ → List ℕ → List ℕ → FileFault → Type 0

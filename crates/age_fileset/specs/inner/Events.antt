@@ -4,7 +4,7 @@ use Rattle.std.specs.Coded.{Coded, coded_ℕ, coded_list, coded⊎, code_by}
 use base.Stored.{coded_unit}
 use mathlib.Core.Logic.{inl, inr}
 use Rattle.age_io.specs.declared.durability.Durability.TheVariants.{Synced, Buffered}
-use Rattle.age_fileset.specs.Events.{Event, Opened, Prepared, Created, Replaced, Closed}
+use Rattle.age_fileset.specs.FileSet.{Event, Opened, Prepared, Created, Replaced, Closed}
 use Rattle.age_fileset.specs.declared.log.Action.{Action}
 use Rattle.age_fileset.specs.declared.log.Action.TheVariants as action
 

@@ -1,8 +1,7 @@
 use Rattle.std.proofs.Common.{◌≡◌, ◌≢◌, ◌∙◌, ℕ, List, [], ◌∷◌, length, ap, ap₂, refl, sym, arith}
 use Rattle.std.proofs.lemmas.List.{append-nil}
 use Rattle.std.proofs.lemmas.Bool.{eqb-true, eqb-false}
-use Rattle.age_kdf.specs.Hmac.{hmac}
-use Rattle.age_kdf.specs.Hkdf.{salt_or_zeros, extracted_key, expanded_key, hkdf32}
+use Rattle.age_kdf.specs.Derivation.{hmac, salt_or_zeros, extracted_key, expanded_key, hkdf32}
 use Rattle.age_kdf.proofs.hkdf32.Goals as goal
 use Rattle.age_kdf.proofs.hkdf32.Goals.{then-is_empty, else-is_empty}
 

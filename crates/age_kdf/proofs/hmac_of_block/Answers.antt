@@ -3,7 +3,7 @@ use Rattle.std.specs.List.{concat}
 use Rattle.std.proofs.lemmas.List.{take_more, take_all, map-append, append-nil, append_assoc}
 use Rattle.std.proofs.lemmas.List.Folds.{concat-append}
 use Rattle.sha2.specs.Sha256.{sha256}
-use Rattle.age_kdf.specs.Hmac.{hmac, xor_pad}
+use Rattle.age_kdf.specs.Derivation.{hmac, xor_pad}
 use Rattle.age_kdf.proofs.hmac_of_block.Goals as goal
 
 pub loop-part-preserved : goal.loop-part-preserved

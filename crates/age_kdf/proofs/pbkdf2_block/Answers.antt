@@ -1,7 +1,6 @@
 use Rattle.std.proofs.Common.{◌∙◌, ◌++◌, ap}
 use Rattle.std.proofs.lemmas.List.{append-nil}
-use Rattle.age_kdf.specs.Hmac.{hmac}
-use Rattle.age_kdf.specs.Pbkdf2.{pbkdf2_block}
+use Rattle.age_kdf.specs.Derivation.{hmac, pbkdf2_block}
 use Rattle.age_kdf.proofs.pbkdf2_block.Goals as goal
 
 pub returns : goal.returns

@@ -4,7 +4,7 @@ use Rattle.std.specs.Int.{div_ceil}
 use Rattle.std.proofs.lemmas.Bool.{cases_lt}
 use Rattle.std.proofs.lemmas.Grind.{div_ceil_times}
 use Rattle.std.proofs.lemmas.List.{take_all}
-use Rattle.age_kdf.specs.Pbkdf2.{pbkdf2_once}
+use Rattle.age_kdf.specs.Derivation.{pbkdf2_once}
 use Rattle.age_kdf.proofs.BlockLemmas.{joined, length-joined, length-pbkdf2_block, joined_more}
 use Rattle.age_kdf.proofs.BlockLemmas.{chunk_written}
 use Rattle.age_kdf.proofs.pbkdf2_once.Goals as goal

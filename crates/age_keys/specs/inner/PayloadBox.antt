@@ -1,8 +1,7 @@
 -- The sealing of chunks under a payload key is valid, by the laws of the cipher.
 use Rattle.std.specs.Prelude.{ℕ, List, []}
 use Rattle.std.proofs.Common.{sym}
-use Rattle.age_cipher.specs.Aead.{sealing}
-use Rattle.age_cipher.specs.Opening.{opening}
+use Rattle.age_cipher.specs.Aead.{sealing, opening}
 use Rattle.age_cipher.proofs.SealingLemmas.{length-sealing, opening_of_sealing, sealing_of_opening}
 use Rattle.age_chunk.specs.ChunkBoxes.{IsChunkBox}
 

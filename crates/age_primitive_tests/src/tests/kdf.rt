@@ -1,5 +1,5 @@
 ghost use Rattle.std.specs.Prelude.{◌≤◌, length};
-ghost use Rattle.age_kdf.specs.Pbkdf2.{derived_key_limit};
+ghost use Rattle.age_kdf.specs.Derivation.{derived_key_limit};
 
 use age_kdf::{hkdf32, hmac, pbkdf2_once};
 use sha2::{Digest, Sha256};

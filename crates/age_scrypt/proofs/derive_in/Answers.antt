@@ -1,7 +1,6 @@
 use Rattle.std.proofs.Common.{◌∙◌, ◌^◌, ap}
-use Rattle.age_kdf.specs.Pbkdf2.{pbkdf2_once}
-use Rattle.age_scrypt.specs.Romix.{romix}
-use Rattle.age_scrypt.specs.Scrypt.{scrypt, words_of, bytes_of}
+use Rattle.age_kdf.specs.Derivation.{pbkdf2_once}
+use Rattle.age_scrypt.specs.Scrypt.{romix, scrypt, words_of, bytes_of}
 use Rattle.age_scrypt.proofs.derive_in.Goals as goal
 
 pub returns-clause-key : goal.returns-clause-key

@@ -1,13 +1,12 @@
--- Private: no public contract cites this module. A machine that reads a header line by line, on
--- lists: what the parser's code computes. Proofs tie it to the definitions.
-use Rattle.std.specs.Prelude.{◌≡◌, ◌⊎◌, ℕ, ◌+◌, ◌==◌, nat_eq, nat_lt, nat_le, Bool}
-use Rattle.std.specs.Prelude.{true, false}
-use Rattle.std.specs.Prelude.{◌&&◌, ◌||◌, if◌then◌else◌, List, [], ◌∷◌, ◌++◌, length}
-use Rattle.std.specs.Prelude.{drop, codes}
-use Rattle.std.specs.Prelude.{Option, Some, None, Result, Ok, Err}
-use Rattle.std.specs.List.{list_all, starts_with}
+-- Private: no public contract cites this module.
+-- A machine that reads a header line by line, on lists: what the parser's code computes. Proofs tie
+-- it to the definitions.
+use Rattle.std.specs.Prelude.{◌≡◌, ◌⊎◌, ℕ, ◌+◌, ◌==◌, nat_eq, nat_lt, nat_le, Bool, true, false}
+use Rattle.std.specs.Prelude.{◌&&◌, ◌||◌, if◌then◌else◌, List, [], ◌∷◌, ◌++◌, length, drop, codes}
+use Rattle.std.specs.Prelude.{Option, Some, None, Result, Ok, Err, ◌/◌, ◌%◌, ◌≤◌, ◌<◌, take}
+use Rattle.std.specs.List.{list_all, starts_with, flat_map}
 use Rattle.std.specs.Result.{result_ok}
-use Rattle.base64.specs.GeneralPurpose.{decode_of}
+use Rattle.base64.specs.GeneralPurpose.{decode_of, IsBytes}
 use Rattle.base64.specs.Engines.{standard_no_pad}
 use Rattle.std.specs.Str.{bytes_eq}
 use Rattle.age_stanza.specs.declared.header.Stanza.{Stanza}
@@ -21,8 +20,13 @@ use Rattle.age_stanza.specs.declared.place.Place.{Place}
 use Rattle.age_stanza.specs.declared.place.Place.TheVariants.{Start, Between, InBody}
 use Rattle.age_stanza.specs.declared.place.Next.{Next}
 use Rattle.age_stanza.specs.declared.place.Next.TheVariants.{Go, Done}
-use Rattle.age_stanza.specs.Grammar.{version}
-use Rattle.age_stanza.specs.Faults.{armor, memory_fault}
+use Rattle.age_stanza.specs.Grammar.{version, line, argument_line, header_limit, HeadText}
+use Rattle.age_stanza.specs.Parsing.{armor, memory_fault, IsLine, AreLines, stanzas_text}
+use Rattle.age_stanza.specs.Parsing.{line_after, HasHeader, IsFault}
+use Rattle.std.specs.Simd.{first_chunks}
+use Rattle.age_stanza.specs.Text.{base64_text}
+use Rattle.age_stanza.specs.declared.head_step.HeadStep.{HeadStep}
+use Rattle.age_stanza.specs.declared.head_step.HeadStep.TheVariants.{More, Ready}
 
 -- a list of bytes, else none
 abbrev pub only_bytes : Option (List ℕ) → Option (List ℕ)
@@ -120,3 +124,72 @@ AddsLine body l (Ok done) new = (ss : List Stanza) (args : List (List ℕ))
     → step (InBody ss args body) l ≡ line_added ss args new (length l == 64)
 AddsLine body l (Err kind) new = (kind ≡ Memory) ⊎ ((ss : List Stanza) (args : List (List ℕ))
     → step (InBody ss args body) l ≡ Err kind)
+
+-- ---- The bytes that led to a place: what was decoded is encoded again, so no byte of a finished
+-- line need be kept.
+
+-- a text in lines of 64, after which no line is begun
+unfoldable pub whole_lines : List ℕ → List ℕ
+whole_lines cs = flat_map line (first_chunks 64 (length cs / 64) cs)
+
+-- what the finished lines were before the line of a place
+abbrev pub bytes_before : Place → List ℕ
+bytes_before Start = []
+bytes_before (Between ss) = stanzas_text ss
+bytes_before (InBody ss args body) =
+    stanzas_text ss ++ (line (argument_line args) ++ whole_lines (base64_text body))
+
+-- a body so far is whole lines
+abbrev pub IsWhole : Place → Type 0
+IsWhole Start = Unit {0}
+IsWhole (Between ss) = Unit {0}
+IsWhole (InBody ss args body) = length body % 48 ≡ 0
+
+-- so many finished lines led to this place
+pub record LeadTo (place : Place) (lines : ℕ) : Type 0 where
+  pub reaches : (rest : List ℕ)
+      → walk Start 1 [] (bytes_before place ++ rest) ≡ walk place (lines + 1) [] rest
+  pub line_count : lines + 1 ≡ line_after (bytes_before place)
+  pub are_lines : AreLines (bytes_before place)
+  pub whole_body : IsWhole place
+  pub are_bytes : IsBytes (bytes_before place)
+
+-- what is kept of the fields of a partial header
+pub record IsPartial (place : Place) (l : List ℕ) (bytes lines : ℕ) : Type 0 where
+  pub lead_to : LeadTo place lines
+  pub one_line : IsLine l
+  pub line_bytes : IsBytes l
+  pub size : bytes ≡ length (bytes_before place ++ l)
+  pub within : bytes ≤ header_limit
+
+-- bytes that hold no header and no fault
+pub record IsUnderWay (held : List ℕ) : Type 0 where
+  pub goes_on : walk Start 1 [] held ≡ unfinished
+  pub are_bytes : IsBytes held
+
+-- ---- What the end of a line, some bytes and a piece do to a part of a header.
+
+-- the LF after some bytes
+abbrev pub EndsLine : List ℕ → Result (Option Header) HeadFault → List ℕ → Type 0
+EndsLine held (Ok None) new = new ≡ held ++ 10 ∷ []
+EndsLine held (Ok (Some h)) new = (rest : List ℕ)
+    → walk Start 1 [] (held ++ 10 ∷ rest) ≡ ready h rest
+EndsLine held (Err fault) new = (fault ≡ memory_fault)
+    ⊎ ((rest : List ℕ) → walk Start 1 [] (held ++ 10 ∷ rest) ≡ faulty fault)
+
+-- bytes that are all read
+abbrev pub ReadsLines : List ℕ → List ℕ → Result HeadStep HeadFault → List ℕ → Type 0
+ReadsLines held bytes (Ok More) new = new ≡ held ++ bytes
+ReadsLines held bytes (Ok (Ready taken h)) new = (taken ≤ length bytes)
+    × (walk Start 1 [] (held ++ bytes) ≡ ready h (drop taken bytes))
+ReadsLines held bytes (Err fault) new = ((fault ≡ memory_fault)
+    ⊎ (walk Start 1 [] (held ++ bytes) ≡ faulty fault)) × (0 < length bytes)
+
+-- a piece, of which no more is read than the limit allows
+abbrev pub TakesPiece : List ℕ → List ℕ → Result HeadStep HeadFault → List ℕ → Type 0
+TakesPiece held piece (Ok More) new = (new ≡ held ++ piece)
+    × (length (held ++ piece) < header_limit) × IsUnderWay (held ++ piece)
+TakesPiece held piece (Ok (Ready taken h)) new = (taken ≤ length piece)
+    × HeadText h (held ++ take taken piece)
+TakesPiece held piece (Err fault) new = ((fault ≡ memory_fault)
+    ⊎ ((¬ HasHeader (held ++ piece)) × IsFault (held ++ piece) fault)) × (0 < length piece)

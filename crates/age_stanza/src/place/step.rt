@@ -2,8 +2,7 @@
 
 ghost use Rattle.age_stanza.specs.inner.LineMachine.{Gives, step as step_of, end_line_result};
 ghost use Rattle.age_stanza.specs.inner.LineMachine.{argument_line_result, mac_of as spec_mac_of};
-ghost use Rattle.age_stanza.specs.inner.LineMachine.{AddsLine};
-ghost use Rattle.age_stanza.specs.inner.LineMachine.{arguments_of as spec_arguments_of};
+ghost use Rattle.age_stanza.specs.inner.LineMachine.{AddsLine, arguments_of as spec_arguments_of};
 
 use super::{ARMOR, ARMOR_CR, Next, Place, VERSION};
 use crate::argument::Arguments;

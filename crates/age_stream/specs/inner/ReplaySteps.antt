@@ -2,9 +2,9 @@
 use Rattle.std.specs.Prelude.{◌≡◌, ◌+◌, ◌-◌, ◌<◌, ◌≤◌, ℕ, List, length, take}
 use Rattle.std.specs.Prelude.{Option, IfSome, IfNone, vec_len, vec_capacity}
 use Rattle.age_chunk.specs.ChunkBoxes.{Opens, text_length}
-use Rattle.age_stream.specs.Deliveries.{Standing, with_piece}
-use Rattle.age_stream.specs.Opening.{whole_text}
-use Rattle.age_stream.specs.Replaying.{IsAt, replay_view}
+use Rattle.age_stream.specs.Segment.{Standing, with_piece}
+use Rattle.age_stream.specs.Opener.{whole_text}
+use Rattle.age_stream.specs.Replay.{IsAt, replay_view}
 use Rattle.age_stream.specs.declared.replay.ReplayState.{ReplayState}
 
 -- more bytes came to the current segment

@@ -1,15 +1,18 @@
--- The steps of a sealer on its buffer. Only private functions cite this.
-use Rattle.std.specs.Prelude.{◌≡◌, ℕ, ◌+◌, ◌≤◌, ◌<◌, List, [], ◌++◌, length, take, Bool}
-use Rattle.std.specs.Prelude.{true, false, Option, Some, None, MatchOption, if◌then◌else◌}
-use Rattle.std.specs.Prelude.{Result, IfOk, OnOk, IfErr, OnErr}
+-- Private: no public contract cites this module.
+-- The steps of a sealer.
+use Rattle.std.specs.Prelude.{◌≡◌, ℕ, ◌+◌, ◌≤◌, ◌<◌, List, [], ◌++◌, length, take, Bool, true}
+use Rattle.std.specs.Prelude.{false, Option, Some, None, MatchOption, if◌then◌else◌, Result, IfOk}
+use Rattle.std.specs.Prelude.{OnOk, IfErr, OnErr}
 use Rattle.age_chunk.specs.ChunkBoxes.{Seals, text_length}
-use Rattle.age_chunk.specs.Nonce.{nonce_bytes}
-use Rattle.age_chunk.specs.Payload.{sealed_before_last, block_bytes}
+use Rattle.age_chunk.specs.Payload.{nonce_bytes, sealed_before_last, block_bytes, chunk_limit}
+use Rattle.age_chunk.specs.Payload.{chunk_count, payload}
 use Rattle.age_chunk.specs.declared.fault.StreamFault.{StreamFault}
-use Rattle.age_stream.specs.Sealing.{SealerView, Holds, held_text, sealer_view, step_len}
-use Rattle.age_stream.specs.Sealing.{needs_too_many, too_many}
-use Rattle.age_stream.specs.SealerCalls.{IsRefused}
+use Rattle.age_stream.specs.Sealer.{SealerView, Holds, held_text, sealer_view, step_len}
+use Rattle.age_stream.specs.Sealer.{needs_too_many, too_many, IsRefused, SealRefuses}
 use Rattle.age_stream.specs.declared.sealer.SealerState.{SealerState}
+use Rattle.age_stream.specs.declared.whole_text.SealFault.TheVariants.{Stream}
+
+-- ---- The steps of a sealer on its buffer.
 
 -- the bytes of a block, or none
 abbrev pub bytes_of : Option (List ℕ) → List ℕ
@@ -118,3 +121,18 @@ module _ {B : Type 0} {n : ℕ} {g : _} (old : SealerState B n g) where
     pub err : OnErr answer (IsRefused (sealer_view old) (sealer_view new))
     -- the key stays
     pub key : new.key ≡ old.key
+
+-- ---- The steps of sealing a whole text.
+
+module _ (sealing : Seals) (n : ℕ) (text : List ℕ) where
+  -- what `seal_within` does with the bytes before the call
+  pub record SealsWithin (old : List ℕ) (answer : Result (Unit {0}) StreamFault)
+      (new : List ℕ) : Type 0 where
+    -- the payload is appended
+    pub sealed : OnOk answer (new ≡ old ++ payload sealing n text)
+    -- Ok comes only for a text of at most 2^48 chunks
+    pub few : OnOk answer (chunk_count n text ≤ chunk_limit)
+    -- any other is refused, at the last chunk that a payload may have
+    pub refused : IfErr answer (λ fault. SealRefuses n text 0 (Stream fault))
+    -- a refusal leaves the bytes before the call in front
+    pub begun : OnErr answer (take (length old) new ≡ old)

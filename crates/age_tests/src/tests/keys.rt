@@ -1,5 +1,5 @@
 ghost use Rattle.std.specs.Prelude.{◌≤◌, length};
-ghost use Rattle.age_keys.specs.Passphrase.{passphrase_limit};
+ghost use Rattle.age_keys.specs.Scrypt.{passphrase_limit};
 
 use age_keys::{
     FileKey, KeyFault, KnownKey, Passphrase, PayloadKey, Steps, X25519Stanza, open_header,

@@ -1,5 +1,5 @@
 use Rattle.std.proofs.Common.{sym, ap, refl, ◌∙◌, ◌++◌, List, ℕ}
-use Rattle.age_stream.specs.Opening.{has_failed}
+use Rattle.age_stream.specs.Opener.{has_failed}
 use Rattle.age_stream.specs.Segment.{released}
 use Rattle.age_c.specs.inner.Keys.{opens}
 use Rattle.age_c.proofs.blocks.end_opener.Goals as goal

@@ -1,8 +1,7 @@
 use Rattle.std.proofs.Common.{sym, ap, subst, refl, ◌∙◌, arith, List, ℕ, None, take, length, ◌≡◌}
 use Rattle.std.proofs.lemmas.List.{take_all}
-use Rattle.age_stream.specs.Deliveries.{with_piece}
-use Rattle.age_stream.specs.Opening.{Stands}
-use Rattle.age_stream.specs.Segment.{outcome}
+use Rattle.age_stream.specs.Segment.{with_piece, outcome}
+use Rattle.age_stream.specs.Opener.{Stands}
 use Rattle.age_c.specs.inner.Keys.{opens}
 use Rattle.age_c.proofs.ReaderSteps.{block_text}
 use Rattle.age_c.proofs.blocks.feed_block.Goals as goal

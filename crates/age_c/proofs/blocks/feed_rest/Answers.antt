@@ -1,9 +1,8 @@
 use Rattle.std.proofs.Common.{sym, ap, subst, refl, ◌∙◌, arith, append-nil, List, ℕ, [], None, take}
 use Rattle.std.proofs.Common.{length, ◌≡◌}
 use Rattle.std.proofs.lemmas.List.{take_all}
-use Rattle.age_stream.specs.Deliveries.{with_piece}
-use Rattle.age_stream.specs.Opening.{Stands}
-use Rattle.age_stream.specs.Segment.{outcome, released}
+use Rattle.age_stream.specs.Segment.{with_piece, outcome, released}
+use Rattle.age_stream.specs.Opener.{Stands}
 use Rattle.age_c.specs.inner.Keys.{opens}
 use Rattle.age_c.proofs.ReaderSteps.{block_text, rest_open, rest_text}
 use Rattle.age_c.proofs.blocks.feed_rest.Goals as goal

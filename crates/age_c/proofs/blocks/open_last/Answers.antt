@@ -1,9 +1,9 @@
 use Rattle.std.proofs.Common.{◌≡◌, ap, refl, ◌∙◌, append-nil, take}
-use Rattle.age_stream.specs.Opening.{has_failed}
+use Rattle.age_stream.specs.Opener.{has_failed}
 use Rattle.age_stream.specs.Segment.{released}
 use Rattle.age_chunk.specs.Payload.{chunk_length}
 use Rattle.age_c.specs.inner.Keys.{opens}
-use Rattle.age_c.specs.Numbers.{answer_of}
+use Rattle.age_c.specs.Calls.{answer_of}
 use Rattle.age_c.proofs.ReaderSteps.{opener_of, end_at, end_text, nothing_of, done_of}
 use Rattle.age_c.proofs.blocks.open_last.Goals as goal
 

@@ -1,8 +1,8 @@
 use Rattle.std.proofs.Common.{◌≡◌, ◌∙◌, ◌++◌, ◌+◌, ap, subst, sym, arith, refl, take, ℕ}
 use Rattle.std.proofs.lemmas.List.{take_all}
 use Rattle.age_chunk.specs.Payload.{block_length}
-use Rattle.age_c.specs.Numbers.{answer_of}
-use Rattle.age_c.specs.ReaderCalls.{Takes, after_block}
+use Rattle.age_c.specs.Calls.{answer_of}
+use Rattle.age_c.specs.Readers.{Takes, after_block}
 use Rattle.age_c.specs.declared.reader.Reader.{Reader}
 use Rattle.age_c.specs.declared.stream.Stream.{Stream}
 use Rattle.age_c.specs.Streams.{held_of}

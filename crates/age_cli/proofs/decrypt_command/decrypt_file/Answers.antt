@@ -1,11 +1,11 @@
 use Rattle.std.proofs.Common.{◌∙◌, ◌++◌, ◌∷◌, [], inl, inr, refl, sym, subst, true≢false, Some}
-use Rattle.age_file.specs.Ports.{ports}
-use Rattle.age_fileset.specs.Events.{Opened, Created}
+use Rattle.age_file.specs.Runs.{ports}
+use Rattle.age_fileset.specs.FileSet.{Opened, Created}
 use Rattle.age_cli_args.specs.Requests.{text_of}
 use Rattle.age_cli_args.specs.declared.request.Request.TheVariants.{Decrypt}
-use Rattle.age_cli_common.specs.EventOrders.{identity_order, preparing, making}
+use Rattle.age_cli_common.specs.Orders.{identity_order, preparing, making}
 use Rattle.age_cli_common.specs.Files.{Files}
-use Rattle.age_cli_common.specs.Reasons.{SourceFails}
+use Rattle.age_cli_common.specs.Endings.{SourceFails}
 use Rattle.age_cli_common.specs.declared.ending.Ending.{Ending}
 use Rattle.age_cli_common.specs.declared.ending.Ending.TheVariants.{Usage}
 use Rattle.age_cli.specs.Acts.{paths_of}

@@ -1,15 +1,14 @@
 use Rattle.std.proofs.Common.{◌∙◌, ◌∷◌, [], inl, inr, refl, ap, sym, subst, true≢false, Some, None}
-use Rattle.age_file.specs.Ports.{ports}
-use Rattle.age_fileset.specs.Events.{Opened, Created}
+use Rattle.age_file.specs.Runs.{ports}
+use Rattle.age_fileset.specs.FileSet.{Opened, Created}
 use Rattle.age_cli_args.specs.Requests.{text_of}
 use Rattle.age_cli_args.specs.declared.request.Request.TheVariants.{Encrypt}
-use Rattle.age_cli_common.specs.EventOrders.{making}
+use Rattle.age_cli_common.specs.Orders.{making, random_name}
 use Rattle.age_cli_common.specs.Files.{Files}
-use Rattle.age_cli_common.specs.Reasons.{SourceFails}
-use Rattle.age_cli_common.specs.Orders.{random_name}
+use Rattle.age_cli_common.specs.Endings.{SourceFails}
 use Rattle.age_cli_common.specs.declared.ending.Ending.{Ending}
 use Rattle.age_cli_common.specs.declared.ending.Ending.TheVariants.{Usage}
-use Rattle.age_cli.specs.Outputs.{Paths}
+use Rattle.age_cli.specs.Acts.{Paths}
 use Rattle.age_cli.proofs.CommandSteps.{reason_at}
 use Rattle.age_cli.proofs.ReportSteps.{unmade}
 use Rattle.age_cli.proofs.ActSteps.{acts_early, shown_not_silent}

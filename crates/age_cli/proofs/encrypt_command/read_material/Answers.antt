@@ -1,15 +1,15 @@
 use Rattle.std.proofs.Common.{◌∙◌, ◌++◌, ◌∷◌, [], refl, ap, sym, subst, inl, inr, true≢false}
 use Rattle.age_cli_args.specs.Requests.{text_of}
-use Rattle.age_fileset.specs.Events.{Opened}
-use Rattle.age_cli_common.specs.Endings.{EndsEarly}
+use Rattle.age_fileset.specs.FileSet.{Opened}
+use Rattle.age_cli_common.specs.Endings.{EndsEarly, SourceFails}
 use Rattle.age_cli_common.specs.inner.Endings.{ending_of}
 use Rattle.age_cli_common.specs.declared.ending.Ending.{Ending}
 use Rattle.age_cli_common.specs.Orders.{random_name}
 use Rattle.age_cli_common.specs.Files.{Files}
-use Rattle.age_cli_common.specs.Reasons.{SourceFails}
-use Rattle.age_keys.specs.Passphrase.{IsAllowed}
-use Rattle.age_cli.specs.Encryptions.{IsRandomIn}
-use Rattle.age_cli.proofs.CommandSteps.{no_value, not_well, this_error, created_fault, streams_early, streams_reason, reason_at}
+use Rattle.age_keys.specs.Scrypt.{IsAllowed}
+use Rattle.age_cli.specs.Commands.{IsRandomIn}
+use Rattle.age_cli.proofs.CommandSteps.{no_value, not_well, this_error, created_fault}
+use Rattle.age_cli.proofs.CommandSteps.{streams_early, streams_reason, reason_at}
 use Rattle.age_cli_common.proofs.EventSteps.{followed, none_done, then_did}
 use Rattle.age_cli.proofs.encrypt_command.read_material.Goals as goal
 

@@ -1,5 +1,5 @@
 use Rattle.std.proofs.Common.{refl}
-use Rattle.age_keys.specs.Passphrase.{PassphraseIdentity}
+use Rattle.age_keys.specs.Scrypt.{PassphraseIdentity}
 use Rattle.age_cli_common.specs.declared.ending.Ending.{Ending}
 use Rattle.age_cli_common.specs.declared.ending.Ending.TheVariants.{Usage}
 use Rattle.age_cli_common.specs.declared.identity.Identity.TheVariants.{ByPassphrase}

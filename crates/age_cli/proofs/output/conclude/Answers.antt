@@ -1,7 +1,7 @@
 use Rattle.std.proofs.Common.{◌∙◌, ◌∷◌, [], ap, sym, subst, Some}
-use Rattle.age_fileset.specs.Events.{Closed}
+use Rattle.age_fileset.specs.FileSet.{Closed}
 use Rattle.age_cli_args.specs.Requests.{text_of}
-use Rattle.age_cli_common.specs.EventOrders.{replacing}
+use Rattle.age_cli_common.specs.Orders.{replacing}
 use Rattle.age_cli.specs.inner.Endings.{Left}
 use Rattle.age_cli.proofs.CommandStopSteps.{ends_from}
 use Rattle.age_cli.proofs.ReportSteps.{announced_so}

@@ -1,9 +1,9 @@
 use Rattle.std.proofs.Common.{◌∙◌, ◌∷◌, [], inl, refl, ap, sym, subst}
 use Rattle.std.specs.Prelude.{is_some}
-use Rattle.age_fileset.specs.Events.{Opened}
-use Rattle.age_cli.specs.Resumptions.{old_for}
+use Rattle.age_fileset.specs.FileSet.{Opened}
+use Rattle.age_cli.specs.Commands.{old_for}
 use Rattle.age_cli_common.specs.Files.{Files}
-use Rattle.age_cli_common.specs.Reasons.{IsUnread, SourceFails}
+use Rattle.age_cli_common.specs.Endings.{IsUnread, SourceFails}
 use Rattle.age_cli.proofs.CommandSteps.{no_value, not_well, this_error, not_bad}
 use Rattle.age_cli_common.proofs.EventSteps.{followed, then_did}
 use Rattle.age_cli.proofs.resume_command.open_earlier.Goals as goal

@@ -1,21 +1,23 @@
-use Rattle.std.proofs.Common.{◌≡◌, ◌∙◌, ◌++◌, ◌∷◌, [], inl, inr, refl, ap, sym, subst, true≢false, Some}
-use Rattle.age_file.specs.Ports.{ports}
-use Rattle.age_fileset.specs.Events.{Opened, Created}
+use Rattle.std.proofs.Common.{◌≡◌, ◌∙◌, ◌++◌, ◌∷◌, [], inl, inr, refl, ap, sym, subst, true≢false}
+use Rattle.std.proofs.Common.{Some}
+use Rattle.age_file.specs.Runs.{ports}
+use Rattle.age_fileset.specs.FileSet.{Opened, Created}
 use Rattle.age_cli_args.specs.Requests.{text_of}
 use Rattle.age_cli_args.specs.declared.request.Request.TheVariants.{Resume}
-use Rattle.age_cli_common.specs.EventOrders.{identity_order, preparing, making}
+use Rattle.age_cli_common.specs.Orders.{identity_order, preparing, making}
 use Rattle.age_cli_common.specs.Files.{Files}
-use Rattle.age_cli_common.specs.Reasons.{SourceFails}
+use Rattle.age_cli_common.specs.Endings.{SourceFails}
 use Rattle.age_cli_common.specs.declared.ending.Ending.{Ending}
 use Rattle.age_cli_common.specs.declared.ending.Ending.TheVariants.{Usage}
 use Rattle.age_cli_common.specs.inner.Endings.{ending_of}
 use Rattle.age_fault.specs.declared.fault.FileFault.TheVariants.{BadPosition}
 use Rattle.age_fileset.specs.declared.files.OpenFault.TheVariants as create
 use Rattle.age_cli.specs.Acts.{paths_of}
-use Rattle.age_cli.specs.Resumptions.{HoldsNoPosition}
+use Rattle.age_cli.specs.Commands.{HoldsNoPosition}
 use Rattle.age_cli.proofs.ReportSteps.{unmade}
 use Rattle.age_cli.proofs.ActSteps.{acts_early, shown_not_silent}
-use Rattle.age_cli.proofs.CommandSteps.{bad_position, in_order, position_fault, position_reason, reason_at, some_files}
+use Rattle.age_cli.proofs.CommandSteps.{bad_position, in_order, position_fault, position_reason}
+use Rattle.age_cli.proofs.CommandSteps.{reason_at, some_files}
 use Rattle.age_cli.proofs.FinalSteps.{Found, WasEarlier, resume_acts}
 use Rattle.age_cli_common.proofs.EventSteps.{longer, none_done, then_did, then_follows}
 use Rattle.age_cli.proofs.resume_command.resume_file.Goals as goal

@@ -1,6 +1,6 @@
 use Rattle.std.proofs.Common.{◌∙◌, ◌∷◌, [], Result, Ok, Err, OnOk}
 use Rattle.std.proofs.lemmas.Result.{IfOk-from_err}
-use Rattle.age_fileset.specs.Events.{Opened}
+use Rattle.age_fileset.specs.FileSet.{Opened}
 use Rattle.age_cli_common.proofs.EventSteps.{then_did, followed, longer}
 use Rattle.age_drill.proofs.drill.drill.Goals as goal
 

@@ -1,5 +1,5 @@
 use Rattle.std.proofs.Common.{◌≡◌, ◌++◌, [], List, ℕ, Some, sym, ap, subst, ◌∙◌}
-use Rattle.age_io.specs.Memory.{Feeding, Holding}
+use Rattle.age_io.specs.Io.{Feeding, Holding}
 use Rattle.age_file.specs.Decrypts.{IsUndamaged}
 use Rattle.age_examples.proofs.memory.text_of.Goals as goal
 

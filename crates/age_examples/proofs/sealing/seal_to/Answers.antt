@@ -1,8 +1,9 @@
-use Rattle.std.proofs.Common.{◌<◌, ◌≡◌, ◌-◌, ◌≤◌, ℕ, ◌+◌, length, take, drop, List, ◌++◌, ap, sym, subst, ◌∙◌, arith, take-add, min}
+use Rattle.std.proofs.Common.{◌<◌, ◌≡◌, ◌-◌, ◌≤◌, ℕ, ◌+◌, length, take, drop, List, ◌++◌, ap, sym}
+use Rattle.std.proofs.Common.{subst, ◌∙◌, arith, take-add, min}
 use Rattle.std.proofs.lemmas.List.{take_all, take_rest, length-take, length-drop}
 use Rattle.std.specs.Io.KnownBytes.{Appends}
-use Rattle.age_stream.specs.Sealing.{Holds, step_len}
-use Rattle.age_stream.specs.Lent.{chunk_bytes}
+use Rattle.age_stream.specs.Sealer.{Holds, step_len}
+use Rattle.age_stream.specs.Opener.{chunk_bytes}
 use Rattle.age_chunk.specs.Payload.{sealed_before_last, block_bytes, payload, chunk_length}
 use Rattle.std.proofs.lemmas.Bool.Decides.{nat_tests}
 use Rattle.age_fault.proofs.Bytes.{Appends-then}

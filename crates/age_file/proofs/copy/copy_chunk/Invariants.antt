@@ -1,7 +1,7 @@
 use Rattle.std.proofs.Common.{◌≡◌, ◌+◌, ◌++◌, ℕ, List, Some, length}
 use Rattle.std.specs.Io.KnownBytes.{Appends}
 use Rattle.sha2.specs.Hashers.{Holds256}
-use Rattle.age_file.specs.inner.Skips.{Passes}
+use Rattle.age_file.specs.inner.Copies.{Passes}
 use Rattle.age_file.specs.inner.Readers.{view_of_reader, SameReader, SameWriter}
 use Rattle.age_chunk.specs.Payload.{chunk_length}
 use Rattle.age_file.proofs.copy.copy_chunk.Given as goal

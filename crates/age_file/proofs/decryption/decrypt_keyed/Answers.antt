@@ -1,7 +1,7 @@
 use Rattle.std.proofs.Common.{◌++◌, arith, refl, rules, Err, None, Some, subst, List, ℕ, ◌≡◌}
 use Rattle.std.proofs.lemmas.List.{length-append}
 use Rattle.age_file.proofs.Bytes.{stops_unread}
-use Rattle.age_file.specs.Ports.{ports}
+use Rattle.age_file.specs.Runs.{ports}
 use Rattle.age_file.specs.inner.Readers.{writer_view, stage, view_of_reader, stage_of}
 use Rattle.age_file.specs.Decrypts.{DecryptsKeyed}
 use Rattle.age_file.proofs.ReaderSteps.{read_last, ports_last}

@@ -1,5 +1,5 @@
 use Rattle.std.proofs.Common.{List, ℕ, subst}
-use Rattle.age_file.specs.inner.Boxes.{opens}
+use Rattle.age_file.specs.inner.Decrypts.{opens}
 use Rattle.age_file.specs.inner.Payloads.{DecryptsPayload}
 use Rattle.age_file.specs.inner.Readers.{stage_of}
 use Rattle.age_chunk.specs.Payload.{chunk_length}

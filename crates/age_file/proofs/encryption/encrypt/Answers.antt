@@ -2,7 +2,7 @@ use Rattle.std.proofs.Common.{◌≡◌, ◌∙◌, ap, subst, refl, List, ℕ, 
 use Rattle.std.proofs.lemmas.Result.{err_from_is_err_and}
 use Rattle.age_cipher.specs.Aead.{sealing}
 use Rattle.age_keys.specs.Keys.{payload_key}
-use Rattle.age_file.specs.Ports.{ports}
+use Rattle.age_file.specs.Runs.{ports}
 use Rattle.age_file.specs.inner.Seals.{SealsAll, SealsFront}
 use Rattle.age_file.specs.inner.Readers.{view_of_writer, writer_view}
 use Rattle.age_file.proofs.EncryptSteps.{front_fails, file_done, file_stopped}

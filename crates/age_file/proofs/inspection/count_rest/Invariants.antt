@@ -1,7 +1,6 @@
 use Rattle.std.proofs.Common.{◌≡◌, ◌+◌, ◌-◌, ◌*◌, ◌^◌, ◌≤◌, ◌++◌, [], ℕ, List, length, Option}
-use Rattle.age_file.specs.inner.Intakes.{Pulled}
-use Rattle.age_file.specs.inner.Readers.{SameReader}
-use Rattle.age_file.specs.Faults.{pull_room}
+use Rattle.age_file.specs.inner.Readers.{Pulled, SameReader}
+use Rattle.age_file.specs.Runs.{pull_room}
 use Rattle.age_file.proofs.inspection.count_rest.Given as goal
 
 -- the bytes that were counted

@@ -2,7 +2,7 @@ use Rattle.std.proofs.Common.{ap, ◌∙◌, arith, List, ℕ, [], ◌++◌, ref
 use Rattle.std.proofs.lemmas.Result.{err_from_is_err_and}
 use Rattle.std.proofs.KnownBytes.{Appends-nil}
 use Rattle.age_stream.specs.Segment.{released}
-use Rattle.age_file.specs.inner.Boxes.{opens, seals}
+use Rattle.age_file.specs.inner.Decrypts.{opens, seals}
 use Rattle.age_keys.specs.inner.PayloadBox.{box_valid}
 use Rattle.age_fault.proofs.Bytes.{answer_as}
 use Rattle.age_file.proofs.CountSteps.{mark_end}

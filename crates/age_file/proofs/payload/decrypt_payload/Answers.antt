@@ -1,7 +1,7 @@
 use Rattle.std.proofs.Common.{◌<◌, ◌∙◌, ap, refl, length, arith}
 use Rattle.std.proofs.lemmas.Result.{err_from_is_err_and}
-use Rattle.age_stream.specs.Opening.{has_failed}
-use Rattle.age_file.specs.inner.Boxes.{opens, seals}
+use Rattle.age_stream.specs.Opener.{has_failed}
+use Rattle.age_file.specs.inner.Decrypts.{opens, seals}
 use Rattle.age_keys.specs.inner.PayloadBox.{box_valid}
 use Rattle.age_file.specs.inner.Readers.{reader_view, stage, view_of_writer, stage_of}
 use Rattle.age_file.proofs.FlowSteps.{begins, fed_all, feed_stops, pulled_more, pulled_none}

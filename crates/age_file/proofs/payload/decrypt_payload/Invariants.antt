@@ -1,5 +1,5 @@
 use Rattle.std.proofs.Common.{◌-◌, ◌^◌}
-use Rattle.age_file.specs.inner.Boxes.{opens}
+use Rattle.age_file.specs.inner.Decrypts.{opens}
 use Rattle.age_file.specs.inner.Readers.{stage_of, SameReader, SameWriter}
 use Rattle.age_file.proofs.FlowSteps.{GoesOn}
 use Rattle.age_chunk.specs.Payload.{chunk_length}

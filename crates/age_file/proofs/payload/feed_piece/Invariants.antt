@@ -1,7 +1,7 @@
 use Rattle.std.proofs.Common.{length, ◌-◌, ◌≤◌, take, []}
-use Rattle.age_stream.specs.Deliveries.{with_piece}
-use Rattle.age_file.specs.inner.Boxes.{opens}
-use Rattle.age_file.specs.inner.Releases.{Releases, FeedGoes}
+use Rattle.age_stream.specs.Segment.{with_piece}
+use Rattle.age_file.specs.inner.Decrypts.{opens}
+use Rattle.age_file.specs.inner.Payloads.{Releases, FeedGoes}
 use Rattle.age_file.specs.inner.Readers.{view_of_writer, SameWriter}
 use Rattle.age_chunk.specs.Payload.{chunk_length}
 use Rattle.age_file.proofs.payload.feed_piece.Given as goal

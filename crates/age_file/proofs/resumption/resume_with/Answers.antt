@@ -2,9 +2,8 @@ use Rattle.std.proofs.Common.{None, refl, rules, Err}
 use Rattle.age_fault.specs.declared.fault.FileFault.TheVariants.{Memory}
 use Rattle.age_file.specs.inner.Readers.{reader_view, writer_view, stage, view_of_reader}
 use Rattle.age_file.specs.inner.Readers.{view_of_writer, stage_of}
-use Rattle.age_file.specs.Ports.{ports}
-use Rattle.age_file.specs.Resumes.{resume_ports}
-use Rattle.age_file.specs.ResumePromises.{ResumesText}
+use Rattle.age_file.specs.Runs.{ports}
+use Rattle.age_file.specs.Resumes.{resume_ports, ResumesText}
 use Rattle.age_file.proofs.ReaderSteps.{read_last, ports_last}
 use Rattle.age_file.proofs.Bytes.{stops_unread}
 use Rattle.age_file.proofs.ResumeSteps.{place_after, stopped_early, refused, copy_stopped}

@@ -4,13 +4,12 @@ use Rattle.std.proofs.lemmas.Result.{err_from_is_err_and}
 use Rattle.std.proofs.lemmas.Nat.{mul-le}
 use Rattle.std.proofs.KnownBytes.{Appends-nil, Consumes-nil}
 use Rattle.std.proofs.lemmas.List.{length-append}
-use Rattle.age_file.specs.inner.Boxes.{opens, seals}
+use Rattle.age_file.specs.inner.Decrypts.{opens, seals}
 use Rattle.age_keys.specs.inner.PayloadBox.{box_valid}
-use Rattle.age_file.specs.inner.Readers.{reader_view, view_of_writer}
-use Rattle.age_file.specs.inner.Intakes.{Pulled}
+use Rattle.age_file.specs.inner.Readers.{reader_view, view_of_writer, Pulled}
 use Rattle.age_fault.specs.Faults.{HasFailed}
 use Rattle.age_file.specs.inner.Seals.{Wrote, front_of, SealingFails, SealsAll, SealsFront}
-use Rattle.age_file.specs.Ports.{ports}
+use Rattle.age_file.specs.Runs.{ports}
 use Rattle.age_fault.specs.declared.fault.FileFault.{FileFault}
 use Rattle.age_file.proofs.Bytes.{cut_pulled}
 use Rattle.age_file.proofs.SealSteps.{front_small}

@@ -1,5 +1,5 @@
 use Rattle.std.proofs.Common.{◌++◌, ◌∙◌, ap, List, ℕ}
-use Rattle.age_file.specs.inner.Boxes.{seals}
+use Rattle.age_file.specs.inner.Decrypts.{seals}
 use Rattle.age_file.specs.inner.Seals.{front_of}
 use Rattle.age_fault.proofs.Bytes.{answer_as}
 use Rattle.age_chunk.specs.Payload.{chunk_length}

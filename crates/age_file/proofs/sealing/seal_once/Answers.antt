@@ -2,9 +2,9 @@ use Rattle.std.proofs.Common.{ℕ, ◌≡◌, take, drop, sym, ap, ◌∙◌, ar
 use Rattle.std.proofs.lemmas.Result.{err_from_is_err_and}
 use Rattle.std.proofs.lemmas.List.{length-take}
 use Rattle.std.proofs.KnownBytes.{Appends-nil}
-use Rattle.age_stream.specs.Sealing.{too_many}
-use Rattle.age_stream.specs.Lent.{chunk_bytes}
-use Rattle.age_file.specs.inner.Boxes.{seals}
+use Rattle.age_stream.specs.Sealer.{too_many}
+use Rattle.age_stream.specs.Opener.{chunk_bytes}
+use Rattle.age_file.specs.inner.Decrypts.{seals}
 use Rattle.age_file.specs.inner.Seals.{front_of}
 use Rattle.age_file.proofs.SealSteps.{step_len_le, step_len_some, at_limit, too_long, some_sealed}
 use Rattle.age_chunk.specs.Payload.{chunk_length}

@@ -4,7 +4,7 @@ use Rattle.std.proofs.lemmas.Result.{err_from_is_err_and}
 use Rattle.std.proofs.KnownBytes.{Appends-nil}
 use Rattle.std.proofs.lemmas.List.{take-append-drop, take_all, take_rest, length-append}
 use Rattle.std.proofs.lemmas.List.{length-drop}
-use Rattle.age_file.specs.inner.Boxes.{opens, seals}
+use Rattle.age_file.specs.inner.Decrypts.{opens, seals}
 use Rattle.age_keys.specs.inner.PayloadBox.{box_valid}
 use Rattle.age_file.specs.inner.Seals.{SealsSome, GoesOn, SealFails, front_of}
 use Rattle.age_file.proofs.SealSteps.{next_some, fed_alone, fed_is, goes_then, fails_then}

@@ -1,5 +1,5 @@
 use Rattle.std.proofs.Common.{length, ◌-◌, ◌≡◌, ◌≤◌, take, []}
-use Rattle.age_file.specs.inner.Boxes.{seals}
+use Rattle.age_file.specs.inner.Decrypts.{seals}
 use Rattle.age_file.specs.inner.Seals.{SealsSome, GoesOn}
 use Rattle.age_file.specs.inner.Readers.{view_of_writer, SameWriter}
 use Rattle.age_chunk.specs.Payload.{chunk_length}

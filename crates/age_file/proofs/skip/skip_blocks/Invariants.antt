@@ -1,5 +1,5 @@
 use Rattle.std.proofs.Common.{◌≡◌, ◌*◌, ℕ, List, length}
-use Rattle.age_file.specs.inner.Skips.{Passes}
+use Rattle.age_file.specs.inner.Copies.{Passes}
 use Rattle.age_file.specs.inner.Readers.{view_of_reader, SameReader}
 use Rattle.age_chunk.specs.Payload.{block_length}
 use Rattle.age_file.proofs.skip.skip_blocks.Given as goal

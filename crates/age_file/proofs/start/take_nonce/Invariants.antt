@@ -1,7 +1,7 @@
 use Rattle.std.proofs.Common.{◌-◌, ◌≡◌, ◌≤◌, take, length}
-use Rattle.age_file.specs.inner.Starts.{Uses}
+use Rattle.age_file.specs.inner.Copies.{Uses}
 use Rattle.age_file.specs.inner.Readers.{view_of_reader, SameReader}
-use Rattle.age_file.specs.Faults.{pull_room}
+use Rattle.age_file.specs.Runs.{pull_room}
 use Rattle.age_file.proofs.start.take_nonce.Given as goal
 
 abbrev pub invariant-parts : goal.invariant-parts

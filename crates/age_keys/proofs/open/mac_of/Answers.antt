@@ -1,7 +1,6 @@
 use Rattle.std.proofs.Common.{ap, ap₂, ◌∙◌, append-nil, []}
 use Rattle.std.specs.Prelude.{codes}
-use Rattle.age_kdf.specs.Hmac.{hmac}
-use Rattle.age_kdf.specs.Hkdf.{hkdf32}
+use Rattle.age_kdf.specs.Derivation.{hmac, hkdf32}
 use Rattle.age_keys.specs.Keys.{header_mac}
 use Rattle.age_keys.proofs.open.mac_of.Goals as goal
 

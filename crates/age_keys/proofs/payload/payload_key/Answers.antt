@@ -1,6 +1,6 @@
 use Rattle.std.proofs.Common.{ap, ◌∙◌}
 use Rattle.std.specs.Prelude.{codes}
-use Rattle.age_kdf.specs.Hkdf.{hkdf32}
+use Rattle.age_kdf.specs.Derivation.{hkdf32}
 use Rattle.age_keys.specs.Keys.{payload_key}
 use Rattle.age_keys.proofs.payload.payload_key.Goals as goal
 

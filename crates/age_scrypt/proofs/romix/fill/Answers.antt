@@ -2,9 +2,8 @@ use Rattle.std.proofs.Common.{◌≡◌, ◌+◌, ◌-◌, ◌*◌, ◌++◌, �
 use Rattle.std.proofs.Common.{subst, ap, arith}
 use Rattle.std.proofs.lemmas.List.{length-append}
 use Rattle.std.proofs.lemmas.Slice.{pushed}
-use Rattle.age_scrypt.specs.BlockMix.{part}
-use Rattle.age_scrypt.specs.Romix.{v_block}
-use Rattle.age_scrypt.specs.inner.Turned.{IsTurned}
+use Rattle.age_scrypt.specs.Scrypt.{part, v_block}
+use Rattle.age_scrypt.specs.inner.Workspace.{IsTurned}
 use Rattle.age_scrypt.proofs.PartLemmas.{part-append_right}
 use Rattle.age_scrypt.proofs.RomixLemmas.{table_more, mixed_times_more}
 use Rattle.age_scrypt.proofs.romix.fill.Goals as goal

@@ -1,6 +1,6 @@
 use Rattle.std.proofs.Common.{◌∙◌, ℕ, List, sym, subst, ap}
-use Rattle.age_scrypt.specs.Romix.{romix}
-use Rattle.age_scrypt.specs.inner.Table.{IsTable}
+use Rattle.age_scrypt.specs.Scrypt.{romix}
+use Rattle.age_scrypt.specs.inner.Workspace.{IsTable}
 use Rattle.age_scrypt.proofs.romix.romix.Goals as goal
 
 pub returns-clause-x : goal.returns-clause-x

@@ -1,6 +1,6 @@
 use Rattle.std.proofs.Common.{subst}
-use Rattle.age_scrypt.specs.Salsa.{columns}
-use Rattle.age_scrypt.specs.inner.Lanes.{IsDiagonals, transpose}
+use Rattle.age_scrypt.specs.Scrypt.{columns}
+use Rattle.age_scrypt.specs.inner.Workspace.{IsDiagonals, transpose}
 use Rattle.age_scrypt.proofs.LaneLemmas.{length-columns, length-transpose}
 use Rattle.age_scrypt.proofs.LaneLemmas.{transpose-columns_of-transpose}
 use Rattle.age_scrypt.proofs.SalsaLemmas.{columns_on_diagonals}

@@ -1,8 +1,7 @@
 use Rattle.std.proofs.Common.{◌≡◌, ◌∙◌, ℕ, List, ap, ap₂, add-one, arith}
 use Rattle.std.specs.Simd.Lanes.{zip2}
-use Rattle.age_scrypt.specs.Salsa.{add32, double_rounds, salsa20_8}
-use Rattle.age_scrypt.specs.inner.Lanes.{words}
-use Rattle.age_scrypt.specs.inner.Turned.{turned}
+use Rattle.age_scrypt.specs.Scrypt.{add32, double_rounds, salsa20_8}
+use Rattle.age_scrypt.specs.inner.Workspace.{words, turned}
 use Rattle.age_scrypt.proofs.LaneLemmas.{length-double_rounds}
 use Rattle.age_scrypt.proofs.TurnLemmas.{diagonals_of_words, words_of_diagonals, zip2-turned}
 use Rattle.age_scrypt.proofs.salsa.salsa20_8.Goals as goal

@@ -1,5 +1,5 @@
 use Rattle.std.proofs.Common.{refl}
-use Rattle.age_scrypt.specs.inner.Lanes.{transpose}
+use Rattle.age_scrypt.specs.inner.Workspace.{transpose}
 use Rattle.age_scrypt.proofs.salsa.transposed.Goals as goal
 
 pub returns : goal.returns

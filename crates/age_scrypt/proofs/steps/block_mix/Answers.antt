@@ -1,9 +1,8 @@
 use Rattle.std.proofs.Common.{◌≡◌, ◌+◌, ◌*◌, ◌/◌, ◌%◌, ◌<◌, ◌∙◌, ℕ, List, bit_xor, sym, ap₂, arith}
 use Rattle.std.proofs.Common.{add-one, below_more}
 use Rattle.std.proofs.lemmas.Simd.{length-zip2}
-use Rattle.age_scrypt.specs.BlockMix.{part, x_part, xor_words}
-use Rattle.age_scrypt.specs.inner.Lanes.{words}
-use Rattle.age_scrypt.specs.inner.Turned.{turned, IsTurned}
+use Rattle.age_scrypt.specs.Scrypt.{part, x_part, xor_words}
+use Rattle.age_scrypt.specs.inner.Workspace.{words, turned, IsTurned}
 use Rattle.age_scrypt.proofs.TurnLemmas.{zip2-turned, length-part, length-chained, mixed_turned}
 use Rattle.age_scrypt.proofs.steps.block_mix.Goals as goal
 

@@ -1,6 +1,5 @@
 use Rattle.std.proofs.Common.{◌∙◌, ap, arith, below_more}
-use Rattle.age_scrypt.specs.inner.Lanes.{words}
-use Rattle.age_scrypt.specs.inner.Turned.{turned}
+use Rattle.age_scrypt.specs.inner.Workspace.{words, turned}
 use Rattle.age_scrypt.proofs.SalsaLemmas.{rows_of_words}
 use Rattle.age_scrypt.proofs.TurnLemmas.{words_of_diagonals}
 use Rattle.age_scrypt.proofs.turn.turn.Goals as goal

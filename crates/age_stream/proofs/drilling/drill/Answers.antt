@@ -1,7 +1,8 @@
-use Rattle.std.proofs.Common.{◌≡◌, ◌<◌, ℕ, List, take, Result, Ok, Err, OnErr, arith, refl, subst, sym, ◌∙◌, rules}
+use Rattle.std.proofs.Common.{◌≡◌, ◌<◌, ℕ, List, take, Result, Ok, Err, OnErr, arith, refl, subst}
+use Rattle.std.proofs.Common.{sym, ◌∙◌, rules}
 use Rattle.std.proofs.lemmas.List.{take_all, take_more}
 use Rattle.age_stream.specs.declared.delivery.Delivery.{Delivery}
-use Rattle.age_stream.specs.Replaying.{Replays}
+use Rattle.age_stream.specs.Replay.{Replays}
 use Rattle.age_stream.specs.declared.step.Status.{Status}
 use Rattle.age_stream.specs.Headline.{HoldsWritten}
 use Rattle.age_stream.proofs.Cramped.{cramped_at}

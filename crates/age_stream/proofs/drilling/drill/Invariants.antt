@@ -1,5 +1,5 @@
 use Rattle.std.proofs.Common.{◌≡◌, take}
-use Rattle.age_stream.specs.Replaying.{Replays}
+use Rattle.age_stream.specs.Replay.{Replays}
 use Rattle.age_stream.proofs.drilling.drill.Given as goal
 use Rattle.age_chunk.specs.ChunkBoxes.{text_length}
 

@@ -1,7 +1,6 @@
 use Rattle.std.proofs.Common.{◌≡◌, ◌+◌, ◌<◌, ℕ, List, [], length, get_or, sym, subst}
 use Rattle.std.specs.Prelude.{◌==◌}
-use Rattle.age_chunk.specs.Nonce.{nonce_bytes}
-use Rattle.age_chunk.specs.Payload.{sealed}
+use Rattle.age_chunk.specs.Payload.{nonce_bytes, sealed}
 use Rattle.age_stream.proofs.Parts.{chunks_are, chunks_only, sealed_count, sealed_at}
 use Rattle.age_stream.proofs.laws.chunks_are_one.Goals as goal
 

@@ -1,5 +1,5 @@
 use Rattle.std.proofs.Common.{◌<◌, ◌++◌, List, ℕ, ap, sym, subst, ◌∙◌, arith}
-use Rattle.age_stream.specs.Authentic.{GivesBack}
+use Rattle.age_stream.specs.Laws.{GivesBack}
 use Rattle.age_chunk.specs.Payload.{payload}
 use Rattle.age_stream.proofs.Authentic.{comes_back}
 use Rattle.age_stream.proofs.whole_text.seal_all.Goals as goal

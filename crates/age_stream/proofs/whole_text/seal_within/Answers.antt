@@ -1,7 +1,8 @@
-use Rattle.std.proofs.Common.{◌<◌, ◌≡◌, ◌-◌, ◌≤◌, ℕ, ◌+◌, length, take, drop, List, ◌++◌, ap, sym, subst, ◌∙◌, arith, min, rules}
+use Rattle.std.proofs.Common.{◌<◌, ◌≡◌, ◌-◌, ◌≤◌, ℕ, ◌+◌, length, take, drop, List, ◌++◌, ap, sym}
+use Rattle.std.proofs.Common.{subst, ◌∙◌, arith, min, rules}
 use Rattle.std.proofs.lemmas.List.{take_all, length-take, length-drop, length-append, append_assoc}
-use Rattle.age_stream.specs.Sealing.{Holds}
-use Rattle.age_stream.specs.Lent.{chunk_bytes}
+use Rattle.age_stream.specs.Sealer.{Holds}
+use Rattle.age_stream.specs.Opener.{chunk_bytes}
 use Rattle.age_chunk.specs.Payload.{last_index, sealed_before_last, block_bytes, payload}
 use Rattle.age_stream.proofs.SealerSteps.{step_len_le}
 use Rattle.age_stream.proofs.PublicLaws.{payload_is_longer}

@@ -1,5 +1,5 @@
 use Rattle.std.proofs.Common.{◌≡◌, ◌-◌, ◌≤◌, ◌++◌, length, take, false, vec_capacity}
-use Rattle.age_stream.specs.Sealing.{Holds}
+use Rattle.age_stream.specs.Sealer.{Holds}
 use Rattle.age_chunk.specs.Payload.{sealed_before_last, block_bytes}
 use Rattle.age_stream.proofs.whole_text.seal_within.Given as goal
 use Rattle.age_chunk.specs.ChunkBoxes.{text_length}

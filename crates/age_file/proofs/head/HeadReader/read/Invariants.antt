@@ -1,7 +1,5 @@
 use Rattle.std.proofs.Common.{◌-◌, ◌^◌, ◌≡◌, ℕ, [], List}
-use Rattle.age_file.specs.inner.Fronts.{IsFront}
-use Rattle.age_file.specs.inner.Intakes.{Pulled}
-use Rattle.age_file.specs.inner.Readers.{SameReader}
+use Rattle.age_file.specs.inner.Readers.{IsFront, Pulled, SameReader}
 use Rattle.age_file.proofs.head.HeadReader.read.Given as goal
 
 abbrev pub invariant-pieces : goal.invariant-pieces

@@ -3,8 +3,8 @@ use Rattle.std.proofs.Common.{rules, arith}
 use Rattle.std.proofs.lemmas.List.{length-append}
 use Rattle.std.proofs.KnownBytes.{Consumes-nil, Consumes-kept, Consumes-trans}
 use Rattle.std.specs.Io.KnownBytes.{Consumes}
-use Rattle.age_file.specs.inner.Intakes.{Pulled}
-use Rattle.age_file.specs.Faults.{pull_room}
+use Rattle.age_file.specs.inner.Readers.{Pulled}
+use Rattle.age_file.specs.Runs.{pull_room}
 use Rattle.age_file.proofs.intake.Intake.refill.Goals as goal
 
 -- the pulls go on with a piece, or stay where it is empty

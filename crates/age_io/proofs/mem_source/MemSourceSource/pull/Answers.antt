@@ -2,7 +2,7 @@ use Rattle.std.proofs.Common.{ℕ, ◌+◌, ◌-◌, ◌≡◌, List, length, ta
 use Rattle.std.proofs.Common.{take-append-drop, drop-drop, arith}
 use Rattle.std.proofs.lemmas.List.{take_rest}
 use Rattle.std.proofs.lemmas.Grind.{common_steps}
-use Rattle.age_io.specs.Memory.{Feeding}
+use Rattle.age_io.specs.Io.{Feeding}
 use Rattle.age_io.proofs.mem_source.MemSourceSource.pull.Goals as goal
 
 pub returns-clause-bytes : goal.returns-clause-bytes

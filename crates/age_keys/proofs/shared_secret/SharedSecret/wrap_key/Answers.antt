@@ -1,7 +1,7 @@
 use Rattle.std.proofs.Common.{ap, ◌∙◌, List, ℕ}
 use Rattle.std.specs.Prelude.{codes}
-use Rattle.age_kdf.specs.Hkdf.{hkdf32}
-use Rattle.age_keys.specs.SharedSecret.{shared_wrap_key}
+use Rattle.age_kdf.specs.Derivation.{hkdf32}
+use Rattle.age_keys.specs.X25519.{shared_wrap_key}
 use Rattle.age_keys.proofs.shared_secret.SharedSecret.wrap_key.Goals as goal
 
 pub returns : goal.returns

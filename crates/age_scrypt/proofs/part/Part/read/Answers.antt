@@ -1,5 +1,5 @@
 use Rattle.std.proofs.Common.{◌*◌}
-use Rattle.age_scrypt.specs.BlockMix.{part}
+use Rattle.age_scrypt.specs.Scrypt.{part}
 use Rattle.age_scrypt.proofs.PartLemmas.{rows_read}
 use Rattle.age_scrypt.proofs.part.Part.read.Goals as goal
 

@@ -1,5 +1,5 @@
 use Rattle.std.proofs.Common.{◌∙◌, sym}
-use Rattle.age_scrypt.specs.Salsa.{add32}
+use Rattle.age_scrypt.specs.Scrypt.{add32}
 use Rattle.std.proofs.lemmas.Simd.{length-zip2}
 use Rattle.age_scrypt.proofs.SalsaLemmas.{zip2-words}
 use Rattle.age_scrypt.proofs.part.Part.wrapping_add.Goals as goal

@@ -1,7 +1,7 @@
 use Rattle.std.proofs.Common.{◌≡◌, ◌*◌, ◌∙◌, ℕ, List, refl, ap, arith}
 use borrow.Rule.Slice.PartMut.{put_mid}
-use Rattle.age_scrypt.specs.BlockMix.{part}
-use Rattle.age_scrypt.specs.inner.Lanes.{words}
+use Rattle.age_scrypt.specs.Scrypt.{part}
+use Rattle.age_scrypt.specs.inner.Workspace.{words}
 use Rattle.age_scrypt.proofs.SalsaLemmas.{length-words}
 use Rattle.age_scrypt.proofs.PartLemmas.{rows_written, part-put_here, part-put_other}
 use Rattle.age_scrypt.proofs.part.Part.write.Goals as goal

@@ -1,5 +1,5 @@
 use Rattle.std.proofs.Common.{◌∙◌, ap, ℕ}
-use Rattle.age_stanza.specs.Faults.{line_after}
+use Rattle.age_stanza.specs.Parsing.{line_after}
 use Rattle.age_stanza.specs.declared.fault.HeadFault.{HeadFault}
 use Rattle.age_stanza.specs.declared.fault.HeadKind.TheVariants.{HeadCut}
 use Rattle.age_stanza.proofs.FinishedLines.{begun_number}

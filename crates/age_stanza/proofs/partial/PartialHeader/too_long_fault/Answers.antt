@@ -1,7 +1,7 @@
 use Rattle.std.proofs.Common.{◌≡◌, ◌++◌, ◌∙◌, List, ℕ, [], length, take, ap, sym, arith}
 use Rattle.std.proofs.lemmas.Bool.{eqb-true, eq-eqb, false≢true}
-use Rattle.age_stanza.specs.Faults.{line_after}
-use Rattle.age_stanza.specs.inner.BytesBefore.{bytes_before, LeadTo}
+use Rattle.age_stanza.specs.Parsing.{line_after}
+use Rattle.age_stanza.specs.inner.LineMachine.{bytes_before, LeadTo}
 use Rattle.age_stanza.specs.declared.fault.HeadFault.{HeadFault}
 use Rattle.age_stanza.specs.declared.fault.HeadKind.TheVariants.{HeadTooLong}
 use Rattle.age_stanza.specs.declared.place.Place.{Place}

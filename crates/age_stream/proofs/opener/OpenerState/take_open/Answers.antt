@@ -1,7 +1,8 @@
-use Rattle.std.proofs.Common.{◌≡◌, ◌-◌, refl, ap, ◌∙◌, List, ◌++◌, [], length, take, Bool, ℕ, if◌then◌else◌, arith}
+use Rattle.std.proofs.Common.{◌≡◌, ◌-◌, refl, ap, ◌∙◌, List, ◌++◌, [], length, take, Bool, ℕ}
+use Rattle.std.proofs.Common.{if◌then◌else◌, arith}
 use Rattle.std.proofs.lemmas.List.{length-append, length-take}
 use Rattle.std.proofs.lemmas.Result.{err_from_is_err_and}
-use Rattle.age_stream.specs.Opening.{held_bytes}
+use Rattle.age_stream.specs.Opener.{held_bytes}
 use Rattle.age_stream.specs.declared.step.Status.TheVariants.{Open}
 use Rattle.age_stream.proofs.OpenerSteps.{tried_ok, tried_err}
 use Rattle.age_stream.proofs.Sizes.{list_fits, opener_state_fits}

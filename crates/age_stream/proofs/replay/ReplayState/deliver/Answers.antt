@@ -1,6 +1,6 @@
 use Rattle.std.proofs.Common.{vec_len, arith}
 use Rattle.age_stream.specs.declared.delivery.Delivery.TheVariants.{Piece, End}
-use Rattle.age_stream.specs.Replaying.{replay_view}
+use Rattle.age_stream.specs.Replay.{replay_view}
 use Rattle.age_stream.proofs.Cramped.{cramped_by}
 use Rattle.age_stream.proofs.Sizes.{replay_state_fits}
 use Rattle.age_stream.proofs.replay.ReplayState.deliver.Goals as goal

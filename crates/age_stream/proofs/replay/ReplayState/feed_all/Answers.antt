@@ -1,9 +1,10 @@
-use Rattle.std.proofs.Common.{rules, ◌<◌, ◌≤◌, vec_len, vec_capacity, ◌≡◌, ◌-◌, ◌+◌, refl, ap, sym, subst, ◌∙◌, arith, length, take, drop, List, ℕ, ◌++◌}
+use Rattle.std.proofs.Common.{rules, ◌<◌, ◌≤◌, vec_len, vec_capacity, ◌≡◌, ◌-◌, ◌+◌, refl, ap, sym}
+use Rattle.std.proofs.Common.{subst, ◌∙◌, arith, length, take, drop, List, ℕ, ◌++◌}
 use Rattle.std.proofs.Common.{take-add, take-append-drop}
 use Rattle.std.proofs.lemmas.List.{take_rest, take_all, length-take, length-drop}
-use Rattle.age_stream.specs.Opening.{whole_text}
+use Rattle.age_stream.specs.Opener.{whole_text}
 use Rattle.age_stream.specs.declared.step.Status.TheVariants.{Open}
-use Rattle.age_stream.specs.Replaying.{replay_view, IsAt}
+use Rattle.age_stream.specs.Replay.{replay_view, IsAt}
 use Rattle.age_stream.specs.inner.ReplaySteps.{with_bytes}
 use Rattle.age_stream.proofs.ReplaySteps.{with_bytes-append, with_bytes-nil}
 use Rattle.age_stream.proofs.replay.ReplayState.feed_all.Goals as goal

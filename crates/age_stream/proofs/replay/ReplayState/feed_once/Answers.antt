@@ -1,8 +1,7 @@
 use Rattle.std.proofs.Common.{refl, ap, sym, ◌∙◌, ◌≤◌, arith, length, List, ℕ, [], ◌++◌, append-nil}
 use Rattle.std.proofs.lemmas.List.{length-append}
-use Rattle.age_stream.specs.Replaying.{replay_view}
-use Rattle.age_stream.specs.Opening.{chunk_texts}
-use Rattle.age_stream.specs.Lent.{chunk_bytes}
+use Rattle.age_stream.specs.Replay.{replay_view}
+use Rattle.age_stream.specs.Opener.{chunk_texts, chunk_bytes}
 use Rattle.age_stream.proofs.Room.{room_left}
 use Rattle.age_stream.proofs.ReplaySteps.{replay_step, lent_flat}
 use Rattle.age_stream.proofs.Sizes.{opener_fits}

@@ -1,4 +1,5 @@
-use Rattle.std.proofs.Common.{◌≡◌, ◌≤◌, ◌+◌, ◌*◌, ◌/◌, ℕ, ap, sym, ◌∙◌, length, arith, rules, Fits, w64}
+use Rattle.std.proofs.Common.{◌≡◌, ◌≤◌, ◌+◌, ◌*◌, ◌/◌, ℕ, ap, sym, ◌∙◌, length, arith, rules, Fits}
+use Rattle.std.proofs.Common.{w64}
 use Rattle.age_stream.proofs.Room.{open_number, text_below}
 use Rattle.age_stream.proofs.Sizes.{opener_fits}
 use Rattle.age_stream.proofs.replay.ReplayState.piece_room.Goals as goal

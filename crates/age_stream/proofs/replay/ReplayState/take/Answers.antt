@@ -1,6 +1,6 @@
 use Rattle.std.proofs.Common.{◌<◌, arith, ap, [], ◌∷◌, ◌++◌}
 use Rattle.std.proofs.lemmas.Result.{IfOk-weaker}
-use Rattle.age_stream.specs.Replaying.{replay_view}
+use Rattle.age_stream.specs.Replay.{replay_view}
 use Rattle.age_stream.proofs.ReplaySteps.{replays_more, written}
 use Rattle.age_stream.proofs.Sizes.{replay_state_fits}
 use Rattle.age_stream.proofs.replay.ReplayState.take.Goals as goal

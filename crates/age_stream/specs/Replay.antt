@@ -1,14 +1,17 @@
--- What a replay stands for. A chunk has n bytes.
+-- Replays and drills.
 use Rattle.std.specs.Prelude.{◌≡◌, ◌<◌, ◌≤◌, ◌+◌, ℕ, List, [], ◌∷◌, ◌++◌, length, vec_capacity}
 use Rattle.std.specs.Prelude.{Result, OnOk, OnErr}
 use Rattle.age_chunk.specs.ChunkBoxes.{Seals, Opens}
 use Rattle.age_chunk.specs.declared.fault.Memory.{Memory}
-use Rattle.age_stream.specs.Deliveries.{Standing, standing, text_held}
+use Rattle.age_stream.specs.Segment.{Standing, standing, text_held, outcome}
 use Rattle.age_stream.specs.Headline.{HoldsWritten}
-use Rattle.age_stream.specs.Opening.{OpenerView, Stands, text_of_piece, text_at_end}
+use Rattle.age_stream.specs.Opener.{OpenerView, Stands, text_of_piece, text_at_end}
 use Rattle.age_stream.specs.declared.delivery.Delivery.{Delivery}
 use Rattle.age_stream.specs.declared.delivery.Delivery.TheVariants.{Piece, End, Restart}
 use Rattle.age_stream.specs.declared.replay.ReplayState.{ReplayState}
+use Rattle.age_stream.specs.declared.replay.Drill.{Drill}
+
+-- ---- What a replay stands for. A chunk has n bytes.
 
 -- its key, the opener of the current segment, the text that is held, how many bytes there is room
 -- for with no more memory, and how many restarts were refused
@@ -83,3 +86,13 @@ abbrev pub bytes_in : Delivery → List ℕ
 bytes_in (Piece piece) = piece.now
 bytes_in End = []
 bytes_in (Restart k) = []
+
+-- ---- What a drill answers. A chunk has n bytes.
+
+-- it is what the definition holds after these deliveries
+pub record IsHeldAfter (opening : Opens) (n : ℕ) (deliveries : List Delivery)
+    (drill : Drill) : Type 0 where
+  pub text : drill.text.items ≡ text_held opening n (standing opening n deliveries)
+  pub status : drill.status ≡ (outcome opening n (standing opening n deliveries).segment).status
+  pub index : drill.index ≡ (outcome opening n (standing opening n deliveries).segment).index
+  pub refused : drill.refused ≡ (standing opening n deliveries).refused

@@ -1,0 +1,92 @@
+-- What the answers of calls mean.
+use Rattle.std.specs.Prelude.{ℕ, ◌==◌, ◌&&◌, nat_le, Option, Some, None, if◌then◌else◌, ◌≡◌, ◌≢◌}
+use Rattle.std.specs.Prelude.{◌≤◌, List, length, take, drop, ◌+◌, ◌%◌}
+use Rattle.age_stream.specs.declared.step.Status.{Status}
+use Rattle.age_stream.specs.declared.step.Status.TheVariants.{Open, LastSeen, Done, Failed}
+use Rattle.age_chunk.specs.declared.fault.StreamKind.{StreamKind}
+use Rattle.age_chunk.specs.declared.fault.StreamKind.TheVariants.{ChunkDamaged, ChunkCut, EmptyLast}
+use Rattle.age_chunk.specs.declared.fault.StreamKind.TheVariants.{Truncated, Trailing}
+use Rattle.age_chunk.specs.declared.fault.StreamKind.TheVariants.{TooManyChunks}
+use Rattle.age_chunk.specs.ChunkBoxes.{tag_length}
+use Rattle.age_chunk.specs.FaultNumbers.{number_of}
+use Rattle.age_chunk.specs.Payload.{block_length}
+use Rattle.age_stream.specs.Laws.{IsTextLength, chunks_for}
+
+-- ---- The numbers that stand for a status, and what calls answer.
+
+-- the bytes end inside the header or the nonce
+abbrev pub more : ℕ
+more = 254
+
+-- the call was misused
+abbrev pub misused : ℕ
+misused = 255
+
+abbrev pub failed_at : StreamKind → ℕ → Option Status
+failed_at kind chunk = Some (Failed (record { kind = kind; chunk = chunk }))
+
+-- the status that a reader's numbers stand for
+abbrev pub status_of : ℕ → ℕ → Option Status
+status_of state chunk =
+    if state == 1 then Some Open
+    else if state == 2 then Some LastSeen
+    else if state == 3 then Some Done
+    else if state == 17 then failed_at ChunkDamaged chunk
+    else if state == 18 then failed_at ChunkCut chunk
+    else if state == 19 then failed_at EmptyLast chunk
+    else if state == 20 then failed_at Truncated chunk
+    else if state == 21 then failed_at Trailing chunk
+    else if state == 22 then failed_at TooManyChunks chunk
+    else None
+
+-- what is answered at this state: the number of its fault, or 0
+abbrev pub answer_of : ℕ → ℕ
+answer_of state = if nat_le 17 state && nat_le state 22 then state else 0
+
+-- ---- What the answer of a call means.
+
+-- so many bytes were put at the front of a slice, whose bytes were `before`, and are `after`
+pub record PutsFront (count : ℕ) (before after : List ℕ) : Type 0 where
+  -- they fit
+  pub most : count ≤ length after
+  -- the bytes after them are as they were
+  pub rest : drop count after ≡ drop count before
+
+-- what the answer of a call means that was given a reader or writer, which was `old` and is `new`,
+-- and a slice for its output, whose bytes were `before` and are `after`. `Fits` says that the call
+-- isn't misused, and `Does` what a call does that isn't: by its answer, by the bytes that it wrote,
+-- and by the reader or writer that it leaves
+pub record Answers {State : Type 0} (Fits : Type 0) (Does : ℕ → List ℕ → State → Type 0)
+    (old new : State) (answer written : ℕ) (before after : List ℕ) : Type 0 where
+  -- a call that fits isn't answered with 255
+  pub fits : Fits → answer ≢ misused
+  -- every other call is
+  pub meant : answer ≢ misused → Fits
+  -- after 255 the reader or writer is as it was
+  pub idle : answer ≡ misused → new ≡ old
+  -- after any other answer, this is what the call did
+  pub taken : answer ≢ misused → Does answer (take written after) new
+  -- after any answer but 0, no byte was written
+  pub nothing : answer ≢ 0 → written ≡ 0
+  -- what was written is at the front of the slice, and no other byte of it was changed
+  pub put : PutsFront written before after
+
+-- ---- What the length of a file says of its text.
+
+-- how a payload of so many bytes ends, if no text has one: with no block, with a tag alone, or with
+-- a part of a tag
+abbrev pub ends_as : ℕ → StreamKind
+ends_as size =
+    if size % block_length == 0 then Truncated
+    else if size % block_length == tag_length then EmptyLast
+    else ChunkCut
+
+-- what the answer says of a payload's size
+pub record Measures (size answer text_len last_chunk : ℕ) : Type 0 where
+  -- 0 says that the texts with a payload of this size have that length, and which chunk is their
+  -- last
+  pub length : answer ≡ 0
+      → IsTextLength size text_len × (last_chunk + 1 ≡ chunks_for text_len)
+  -- any other answer says that no text has one, and how the payload ends
+  pub none : answer ≢ 0 → ((len : ℕ) → ¬ IsTextLength size len)
+      × (answer ≡ number_of (ends_as size)) × (text_len ≡ 0) × (last_chunk ≡ 0)

@@ -1,0 +1,107 @@
+-- What the three commands find in the options and the files, and what they report.
+use Rattle.std.specs.Prelude.{◌≡◌, ℕ, List, ◌++◌, length, Option, Some, ◌⊎◌, ◌<◌, ◌==◌, IfSome}
+use Rattle.std.specs.Prelude.{if◌then◌else◌, codes, None, Bool, true, false}
+use Rattle.age_keys.specs.Scrypt.{IsAllowed}
+use Rattle.age_file.specs.Encrypts.{SecretView}
+use Rattle.age_cli_args.specs.Requests.{text_of}
+use Rattle.age_cli_args.specs.declared.request.Encrypting.{Encrypting}
+use Rattle.age_cli_common.specs.Orders.{random_name}
+use Rattle.age_cli_common.specs.Identities.{IsPassphraseIn}
+use Rattle.age_cli_common.specs.Files.{Files}
+use Rattle.age_fileset.specs.FileSet.{or_empty}
+use Rattle.age_file.specs.declared.position.Position.{Position}
+use Rattle.age_file.specs.Resumes.{position_text, NoPosition}
+use Rattle.std.specs.List.{flat_map}
+use Rattle.std.specs.Fmt.{decimal}
+use Rattle.age_file.specs.declared.report.StanzaReport.{StanzaReport}
+use Rattle.age_file.specs.declared.report.Report.{Report}
+use Rattle.std.specs.Io.KnownBytes.{Appends}
+use Rattle.age_fault.specs.declared.fault.FileFault.TheVariants.{Head}
+use Rattle.age_file.specs.Decrypts.{StopsOutside}
+use Rattle.age_file.specs.Runs.{IsHeadFault}
+use Rattle.age_file.specs.Reports.{IsReport}
+use Rattle.age_cli_common.specs.declared.ending.Ending.{Ending}
+use Rattle.age_cli_common.specs.declared.ending.Ending.TheVariants.{Fault}
+use Rattle.age_file.specs.Reports as file
+
+-- ---- What `encrypt` makes a file of.
+
+-- the first 48 bytes of a file: the file key, the stanza's salt and the payload nonce
+pub record IsRandomIn (held : Option (List ℕ)) (s : SecretView) : Type 0 where
+  pub rest : List ℕ
+  pub bytes : held ≡ Some (s.key ++ (s.salt ++ (s.nonce ++ rest)))
+  pub key_length : length s.key ≡ 16
+  pub salt_length : length s.salt ≡ 16
+  pub nonce_length : length s.nonce ≡ 16
+
+-- the passphrase and the random bytes in the files that are asked for, and the work factor, make
+-- the secret
+pub record MakesSecret (asked : Encrypting) (old : Files) (secret : SecretView) : Type 0 where
+  pub passphrase : IsPassphraseIn (old asked.pass.now) secret.pass
+  pub log_is : secret.log ≡ asked.log
+  pub within : IsAllowed secret.pass secret.log
+  pub random_is : IsRandomIn (old (random_name (text_of asked.random))) secret
+
+-- ---- Where `resume` goes on.
+
+-- the position in a file
+abbrev pub IsPositionIn : Option (List ℕ) → Position → Type 0
+IsPositionIn held position = held ≡ Some (position_text position)
+
+-- a file holds no position: none is longer than 256 bytes
+abbrev pub HoldsNoPosition : Option (List ℕ) → Type 0
+HoldsNoPosition held = IfSome held (λ bytes. (256 < length bytes) ⊎ NoPosition bytes)
+
+-- the old text, of what stands under the name of its file: at chunk 0 nothing of it is needed, and
+-- a file that isn't there counts as empty
+abbrev pub old_for : Position → Option (List ℕ) → Option (List ℕ)
+old_for position held = if position.index == 0 then or_empty held else held
+
+-- ---- How a report is printed: lines that end with LF, numbers in decimal.
+
+-- stanza TYPE ARGS BODY
+abbrev pub stanza_line : StanzaReport → List ℕ
+stanza_line s = codes "stanza " ++ s.kind ++ codes " " ++ decimal s.args ++ codes " "
+    ++ decimal s.body ++ codes "\n"
+
+-- plain P, or plain none
+abbrev pub plain_line : Option ℕ → List ℕ
+plain_line None = codes "plain none\n"
+plain_line (Some p) = codes "plain " ++ decimal p ++ codes "\n"
+
+-- the version, the header's length, its stanzas, the rest and the plaintext's length
+abbrev pub report_text : Report → List ℕ
+report_text r = codes "version age-encryption.org/v1\nheader " ++ decimal r.header ++ codes "\n"
+    ++ flat_map stanza_line r.stanzas ++ (codes "rest " ++ decimal r.rest ++ codes "\n")
+    ++ plain_line r.plain
+
+-- ---- What `inspect` did.
+
+-- the input was read to its end, and its report was written
+abbrev pub Reports : Option (List ℕ) → Option (List ℕ) → Option (List ℕ) → Option (List ℕ)
+    → Type 0
+Reports input_old input_new output_old output_new =
+    (r : Report) × file.Inspects input_old input_new r
+    × Appends output_old output_new (report_text r)
+
+-- the report of what a file holds
+abbrev pub IsReportOf : Option (List ℕ) → Report → Type 0
+IsReportOf held r = (bytes : List ℕ) × (held ≡ Some bytes) × IsReport bytes r
+
+-- a report was written, that of the file, where contracts see the files
+abbrev pub ReportsFile : Bool → Option (List ℕ) → Option (List ℕ) → Option (List ℕ) → Type 0
+ReportsFile shows held output_old output_new =
+    (r : Report) × (shows ≡ true → IsReportOf held r)
+    × Appends output_old output_new (report_text r)
+
+-- what contracts see of a file
+abbrev pub seen : Bool → Option (List ℕ) → Option (List ℕ)
+seen true held = held
+seen false held = None
+
+-- how a report of these bytes fails: with the fault of their header, or since reading, writing or
+-- memory failed
+abbrev pub FailsReport : Option (List ℕ) → Ending → Type 0
+FailsReport held (Fault (Head fault)) = IfSome held (λ bytes. IsHeadFault bytes fault)
+FailsReport held (Fault fault) = StopsOutside fault
+FailsReport held other = ⊥

@@ -1,0 +1,227 @@
+-- Calls in a row, and what comes back of what was encrypted.
+use Rattle.std.specs.Prelude.{◌≡◌, ◌⊎◌, ℕ, List, [], ◌∷◌, ◌≤◌, Option, Some, IfSome, IsSomeAnd}
+use Rattle.std.specs.Prelude.{Result, MatchResult, ◌*◌, take, length}
+use Rattle.age_stream.specs.declared.step.Status.TheVariants.{Done as AllDone}
+use Rattle.age_stream.specs.Headline.{IsPrefixOf}
+use Rattle.age_file.specs.Runs.{Run, IsFromStart, outcome_of, text_of, held, IsTexts}
+use Rattle.age_file.specs.Runs.{IsAuthenticRun, IsPositionOf, CarriesText, Ports, IsRun, IsDone}
+use Rattle.age_file.specs.Resumes.{IsSame, IsOldText, ResumePorts, ResumeEnds, ResumeStops}
+use Rattle.age_file.specs.Resumes.{IsBoundTo, IsFrom}
+use Rattle.age_file.specs.declared.position.Position.{Position}
+use Rattle.age_stanza.specs.declared.header.Header.{Header}
+use Rattle.age_chunk.specs.Payload.{chunk_count, chunk_length, chunk_limit}
+use Rattle.age_keys.specs.declared.fault.KeyFault.{KeyFault}
+use Rattle.age_file.specs.Decrypts.{DecryptEnds, DecryptStops, IsWhole, StopsOutside}
+use Rattle.age_file.specs.declared.decryption.Done.{Done}
+use Rattle.age_file.specs.declared.decryption.Stopped.{Stopped}
+use Rattle.age_file.specs.declared.position.Positions.{Positions}
+use Rattle.base64.specs.GeneralPurpose.{IsBytes}
+use Rattle.age_stream.specs.Laws.{IsClosed}
+use Rattle.age_keys.specs.Scrypt.{PassphraseIdentity, IsAllowed, IsPassphraseKey, PassphraseRefuses}
+use Rattle.age_keys.specs.AgeFile.{box, unbox}
+use Rattle.age_file.specs.Encrypts.{SecretView, AgeFile, Encrypts}
+use Rattle.age_file.specs.declared.encryption.Written.{Written}
+
+-- ---- Runs in a row: a decryption, and then resumed ones, each of which has the output of the run
+-- before as its old text.
+
+-- a resumed run and the position that it began from; where it stopped in the blocks that are
+-- skipped, no bytes are after them
+pub record ResumedRun : Type 0 where
+  pub position : Position
+  pub run : Run
+
+-- the last run; the last comes first in the list
+abbrev pub last : Run → List ResumedRun → Run
+last first [] = first
+last first (r ∷ earlier) = r.run
+
+-- a position that the last run handed out
+abbrev pub HandsOut : Run → List ResumedRun → Position → Type 0
+HandsOut first [] p = IsPositionOf first p
+HandsOut first (r ∷ earlier) p = IsPositionOf r.run p ⊎ IsSame r.position p
+
+-- a run ended with all of its text written
+abbrev pub HasEnded : Run → Type 0
+HasEnded r = (r.out ≡ text_of r) × ((outcome_of r).status ≡ AllDone)
+
+-- a run copied the beginning of what was written before, and wrote the beginning of its text after
+-- it; no block that came and is tried opens, except as the writer of this text sealed it
+pub record FollowsOn (text : List ℕ) (first : Run) (earlier : List ResumedRun) (r : ResumedRun)
+    : Type 0 where
+  pub at : r.run.first ≡ r.position.index
+  pub old : IsPrefixOf r.run.copied (held (last first earlier))
+  pub old_text : IsOldText r.position r.run.copied
+  pub prefix : IsPrefixOf r.run.out (text_of r.run)
+  pub authentic : IsTexts text r.run
+
+abbrev pub AllFollow : List ℕ → Run → List ResumedRun → Type 0
+AllFollow text first [] = IsFromStart first × IsAuthenticRun first text
+    × IsPrefixOf first.out (text_of first)
+AllFollow text first (r ∷ earlier) = FollowsOn text first earlier r × AllFollow text first earlier
+
+-- then what the last one wrote begins the text, and is all of it where it ended; so does what one
+-- more run wrote that stopped while it copied that output; and a position that the last one handed
+-- out carries the chain over the text's first chunks
+pub record WritesRight (text : List ℕ) (first : Run) (runs : List ResumedRun) : Type 0 where
+  pub prefix : IsPrefixOf (held (last first runs)) text
+  pub in_copy : (copied : List ℕ) → IsPrefixOf copied (held (last first runs))
+      → IsPrefixOf copied text
+  pub all : HasEnded (last first runs) → held (last first runs) ≡ text
+  pub carries : (p : Position) → HandsOut first runs p → CarriesText text p
+
+abbrev pub RunsInARow : Type 0
+RunsInARow = (text : List ℕ) (first : Run) (runs : List ResumedRun) → AllFollow text first runs
+    → WritesRight text first runs
+
+-- ---- Calls in a row: a decryption, and then resumed ones, each with what the sink of the call
+-- before took as its old text. What each call did is what its contract promises.
+
+-- a sink took the beginning of a text
+pub record TookBeginning (text : List ℕ) (taken : Option (List ℕ)) : Type 0 where
+  pub out : List ℕ
+  pub shown : taken ≡ Some out
+  pub begins : IsPrefixOf out text
+
+-- the sink took all of the text where the call is done, and else its beginning; and a position that
+-- is handed out is right
+abbrev pub AnswersRight : List ℕ → Option (List ℕ) → Result Done Stopped → Type 0
+AnswersRight text taken result = MatchResult result (λ done. taken ≡ Some text)
+    (λ stopped. TookBeginning text taken × IfSome stopped.position (CarriesText text))
+
+-- who unlocks, and what they allow and refuse
+module _ (Who : Type 0) (Allows : Who → Header → List ℕ → Type 0)
+    (Refused : Who → Header → KeyFault → Type 0) where
+  -- what `decrypt_with` promises of its answer and of its run, if it came to its payload
+  abbrev pub DecryptAnswers : Positions → Who → Ports → Ports → Result Done Stopped → Option Run
+      → Type 0
+  DecryptAnswers keep who old new result run = MatchResult result
+      (λ done. IsSomeAnd run (DecryptEnds (Allows who) old new done))
+      (DecryptStops keep (Allows who) (Refused who) old new run)
+
+  -- what `resume_with` promises of them
+  abbrev pub ResumeAnswers : Positions → Who → Position → ResumePorts → ResumePorts
+      → Result Done Stopped → Option Run → Type 0
+  ResumeAnswers keep who p old new result run = MatchResult result
+      (λ done. IsSomeAnd run (ResumeEnds (Allows who) p old new done))
+      (ResumeStops (Allows who) p old new keep (Refused who) run)
+
+  -- a call of `decrypt_with`, into a sink that had taken nothing
+  pub record FirstCall : Type 0 where
+    pub keep : Positions
+    pub who : Who
+    pub old : Ports
+    pub new : Ports
+    pub result : Result Done Stopped
+    pub run : Option Run
+    pub empty : old.sink.taken ≡ Some []
+    pub answers : DecryptAnswers keep who old new result run
+
+  -- a call of `resume_with`, into a sink that had taken nothing
+  pub record NextCall : Type 0 where
+    pub keep : Positions
+    pub who : Who
+    pub from : Position
+    pub old : ResumePorts
+    pub new : ResumePorts
+    pub result : Result Done Stopped
+    pub run : Option Run
+    pub empty : old.main.sink.taken ≡ Some []
+    pub answers : ResumeAnswers keep who from old new result run
+
+  -- the last call comes first in the list
+  abbrev pub taken : FirstCall → List NextCall → Option (List ℕ)
+  taken first [] = first.new.sink.taken
+  taken first (c ∷ earlier) = c.new.main.sink.taken
+
+  -- what a call's sink took is the old text of the next call, from whatever position that begins
+  abbrev pub AreInARow : FirstCall → List NextCall → Type 0
+  AreInARow first [] = Unit {0}
+  AreInARow first (c ∷ earlier) = (c.old.old.remaining ≡ taken first earlier)
+      × AreInARow first earlier
+
+  -- and the run of each, if it came to its payload, is authentic for one text
+  abbrev pub AreTexts : List ℕ → FirstCall → List NextCall → Type 0
+  AreTexts text first [] = IfSome first.run (IsTexts text)
+  AreTexts text first (c ∷ earlier) = IfSome c.run (IsTexts text) × AreTexts text first earlier
+
+  -- then each of the calls answers right
+  abbrev pub AllAnswerRight : List ℕ → FirstCall → List NextCall → Type 0
+  AllAnswerRight text first [] = AnswersRight text first.new.sink.taken first.result
+  AllAnswerRight text first (c ∷ earlier) = AnswersRight text c.new.main.sink.taken c.result
+      × AllAnswerRight text first earlier
+
+  abbrev pub CallsInARow : Type 0
+  CallsInARow = (text : List ℕ) (first : FirstCall) (calls : List NextCall)
+      → chunk_count chunk_length text ≤ chunk_limit → AreInARow first calls
+      → AreTexts text first calls → AllAnswerRight text first calls
+
+-- ---- Bound positions: what a position that carries a text's chain says of a resumed run.
+
+-- the position carries the chain over this text's first chunks, the bytes that were copied have
+-- that chain only if they are these chunks, and no block that came and is tried opens, except as
+-- the writer of this text sealed it
+pub record BindsTo (text : List ℕ) (p : Position) (r : Run) : Type 0 where
+  pub few : chunk_count chunk_length text ≤ chunk_limit
+  pub to : IsBoundTo p r.copied text
+  pub authentic : IsTexts text r
+
+-- then the copied bytes are the text's, and what was written begins it
+pub record Bound (text : List ℕ) (p : Position) (r : Run) : Type 0 where
+  pub copied : r.copied ≡ take (p.index * chunk_length) text
+  pub begins : IsPrefixOf (held r) text
+
+-- of every resumed run; and where the call is done, all of the text was written
+module _ (Who : Type 0) (Allows : Who → Header → List ℕ → Type 0) where
+  abbrev pub RunsAreBound : Type 0
+  RunsAreBound = (who : Who) (text : List ℕ) (p : Position) (old new : ResumePorts) (written : ℕ)
+      (r : Run) → BindsTo text p r → IsFrom p old.old new.old r
+      → IsRun (Allows who) old.main new.main written r → Bound text p r
+
+  abbrev pub DoneIsBound : Type 0
+  DoneIsBound = (who : Who) (text : List ℕ) (p : Position) (old new : ResumePorts) (written : ℕ)
+      (r : Run) → BindsTo text p r → IsFrom p old.old new.old r
+      → IsDone (Allows who) old.main new.main written r → held r ≡ text
+
+-- ---- What was encrypted under a passphrase, decrypted with it.
+
+-- a secret whose parts have their sizes
+pub record IsSecret (s : SecretView) : Type 0 where
+  pub within : IsAllowed s.pass s.log
+  pub salt_length : length s.salt ≡ 16
+  pub salt_bytes : IsBytes s.salt
+  pub key_length : length s.key ≡ 16
+
+-- the secret's passphrase, with a limit
+abbrev pub words_of : SecretView → ℕ → PassphraseIdentity
+words_of s max_log = record { pass = s.pass; max_log = max_log }
+
+-- the age file of a secret and a text is a whole one for the secret's passphrase, where the limit
+-- allows its work factor
+abbrev pub AgeFileIsWhole : Type 0
+AgeFileIsWhole = (s : SecretView) (max_log : ℕ) (text bytes : List ℕ) → IsSecret s → s.log ≤ max_log
+    → chunk_count chunk_length text ≤ chunk_limit → AgeFile s text bytes
+    → IsWhole (IsPassphraseKey (words_of s max_log)) (PassphraseRefuses (words_of s max_log))
+    (Some bytes) text
+
+-- an encryption of a text came to its end, into a sink that had taken nothing
+pub record WasEncrypted (s : SecretView) (text : List ℕ) (old new : Ports) (written : Written)
+    : Type 0 where
+  pub source : old.source.remaining ≡ Some text
+  pub sink : old.sink.taken ≡ Some []
+  pub done : Encrypts s old new written
+
+-- then a decryption of what the sink took, with the same passphrase, gives the text back, or stops
+-- as reading, writing or want of memory may stop it
+abbrev pub RoundTrip : Type 0
+RoundTrip = (keep : Positions) (s : SecretView) (max_log : ℕ) (text : List ℕ)
+    (was file now last : Ports) (written : Written) (result : Result Done Stopped)
+    (run : Option Run) → IsSecret s
+    → s.log ≤ max_log
+    → IsClosed (box s.key s.nonce) (unbox s.key s.nonce) chunk_length text
+    → WasEncrypted s text was file written → now.source.remaining ≡ file.sink.taken
+    → now.sink.taken ≡ Some []
+    → DecryptAnswers PassphraseIdentity IsPassphraseKey PassphraseRefuses keep (words_of s max_log)
+    now last result run
+    → MatchResult result (λ done. last.sink.taken ≡ Some text)
+    (λ stopped. StopsOutside stopped.fault)

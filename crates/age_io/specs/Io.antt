@@ -1,0 +1,143 @@
+-- What a contract sees of sources, sinks and meters.
+use Rattle.std.specs.Prelude.{ℕ, List, Option, Bool, ◌+◌, ◌-◌, ◌^◌, min, option_map, Result, Ok}
+use Rattle.std.specs.Prelude.{Err, ◌≡◌, [], ◌∷◌, ◌++◌, Some, None, ◌≢◌, ◌⊎◌, length, take, drop}
+use Rattle.std.specs.Prelude.{true, false}
+use Rattle.age_io.specs.declared.failed.Failed.{Failed}
+
+-- ---- What a contract sees of a source, and of a sink. Of one that shows no bytes, `Consumes` and
+-- `Appends` hold whatever the bytes.
+
+-- the bytes that are still to come, where they are shown, how many pulls have failed, and whether
+-- the last one did; the count stays at the greatest value of its type
+pub record SourceView : Type 0 where
+  pub remaining : Option (List ℕ)
+  pub failed : ℕ
+  pub failing : Bool
+
+-- the bytes that were taken, where they are shown, how many puts and flushes have failed, whether
+-- the last of them did, the name that the sink goes by, and whether what was taken was sent on;
+-- true of a sink that doesn't say
+pub record SinkView : Type 0 where
+  pub taken : Option (List ℕ)
+  pub failed : ℕ
+  pub failing : Bool
+  pub label : List ℕ
+  pub settled : Bool
+
+-- ---- What a meter counts.
+
+-- a count after so many bytes more; it stays at the greatest value of its type
+abbrev pub with_more : ℕ → ℕ → ℕ
+with_more bytes count = min (count + bytes) (2 ^ 64 - 1)
+
+-- a meter's count after so many bytes more, where it counts
+abbrev pub counted : ℕ → Option ℕ → Option ℕ
+counted bytes count = option_map (with_more bytes) count
+
+-- a meter's count as a run begins, where it counts
+abbrev pub begun : Option ℕ → Option ℕ
+begun count = option_map (λ _. 0) count
+
+-- a meter's count after a pull: that of the bytes that it gave is added, and nothing if it failed
+abbrev pub pulled : {E : Type 0} → Result ℕ E → Option ℕ → Option ℕ
+pulled (Ok bytes) count = counted bytes count
+pulled (Err failed) count = count
+
+-- ---- What a meter was shown.
+
+-- that a run begins, with its length, where that is known; that so many bytes more were read; that
+-- the run is over
+pub data Shown : Type 0 where
+  Begins : Option ℕ → Shown
+  Advances : ℕ → Shown
+  Ends : Shown
+
+-- what a meter was shown grows by this, where contracts see it
+abbrev pub Adds : Option (List Shown) → Option (List Shown) → Shown → Type 0
+Adds None now more = now ≡ None
+Adds (Some shown) None more = ⊥
+Adds (Some shown) (Some now) more = now ≡ shown ++ more ∷ []
+
+-- it grows by what a pull gave, and by nothing if that failed
+abbrev pub AddsPull : {E : Type 0} → Option (List Shown) → Option (List Shown) → Result ℕ E
+    → Type 0
+AddsPull old new (Ok bytes) = Adds old new (Advances bytes)
+AddsPull old new (Err failed) = new ≡ old
+
+-- the last that a meter was shown is that a run is over
+abbrev pub IsOver : Option (List Shown) → Type 0
+IsOver None = Unit {0}
+IsOver (Some shown) = (front : List Shown) × (shown ≡ front ++ Ends ∷ [])
+
+-- ---- Sources and sinks over memory: what each call returns and leaves, by their plan of failures.
+
+-- a count after one more; it stays at the greatest value of its type
+abbrev pub one_more : ℕ → ℕ
+one_more n = min (n + 1) (2 ^ 64 - 1)
+
+-- a source over memory: what is still to come, how much a pull gives at most, the number of the
+-- pull that fails, how many pulls were made and have failed, and whether the last one did
+pub record Feeding : Type 0 where
+  pub left : List ℕ
+  pub step : ℕ
+  pub fail_call : Option ℕ
+  pub calls : ℕ
+  pub failures : ℕ
+  pub failing : Bool
+
+-- a pull into a slice of so many bytes
+abbrev pub Pulls : Feeding → ℕ → Result ℕ Failed → Feeding → Type 0
+Pulls old room (Ok n) new = (old.fail_call ≢ Some old.calls)
+    × (n ≡ min (min old.step room) (length old.left))
+    × (new ≡ record old {
+      left = drop n old.left;
+      calls = one_more old.calls;
+      failing = false;
+    })
+Pulls old room (Err failed) new = (old.fail_call ≡ Some old.calls)
+    × (new ≡ record old {
+      calls = one_more old.calls;
+      failures = one_more old.failures;
+      failing = true;
+    })
+
+-- a sink over memory: what it took, how much it holds at most, how much a put takes at most, the
+-- number of the put or flush that fails, how many of both were made and have failed, whether the
+-- last one did, and whether the last that did not was a flush
+pub record Holding : Type 0 where
+  pub held : List ℕ
+  pub room : ℕ
+  pub step : ℕ
+  pub fail_call : Option ℕ
+  pub calls : ℕ
+  pub failures : ℕ
+  pub failing : Bool
+  pub settled : Bool
+
+-- a put of these bytes; it fails by plan, or where there are bytes and no room
+abbrev pub Puts : Holding → List ℕ → Result ℕ Failed → Holding → Type 0
+Puts old from (Ok n) new = (old.fail_call ≢ Some old.calls)
+    × (n ≡ min (min old.step (length from)) (old.room - length old.held))
+    × (new ≡ record old {
+      held = old.held ++ take n from;
+      calls = one_more old.calls;
+      failing = false;
+      settled = false;
+    })
+Puts old from (Err failed) new = ((old.fail_call ≡ Some old.calls)
+    ⊎ ((from ≢ []) × (length old.held ≡ old.room)))
+    × (new ≡ record old {
+      calls = one_more old.calls;
+      failures = one_more old.failures;
+      failing = true;
+    })
+
+abbrev pub Flushes : Holding → Result (Unit {0}) Failed → Holding → Type 0
+Flushes old (Ok done) new = (old.fail_call ≢ Some old.calls)
+    × (new ≡ record old { calls = one_more old.calls; failing = false; settled = true })
+Flushes old (Err failed) new = (old.fail_call ≡ Some old.calls)
+    × (new ≡ record old {
+      calls = one_more old.calls;
+      failures = one_more old.failures;
+      failing = true;
+    })

@@ -1,0 +1,19 @@
+-- The types of the opener and of the sealer, as the logic holds them.
+use Rattle.std.specs.Prelude.{[]}
+use Rattle.std.specs.Borrow.{RattleType}
+use mir.Syntax.{named}
+use Rattle.age_stream.specs.contracts.opener.Opener.{the_row as the_opener_row}
+use Rattle.age_chunk.specs.declared.chunk_box.ChunkBox.{Ghosts}
+use Rattle.age_stream.specs.contracts.sealer.Sealer.{the_row as the_sealer_row}
+
+-- ---- The opener's type, as the logic holds it.
+
+module _ (B N : RattleType) (box : Ghosts B.Denot) where
+  abbrev pub opener_row : RattleType
+  opener_row = the_opener_row (record { mir = named 0; lft = [] }) B N box
+
+-- ---- The sealer's type, as the logic holds it.
+
+module _ (B N : RattleType) (box : Ghosts B.Denot) where
+  abbrev pub sealer_row : RattleType
+  sealer_row = the_sealer_row (record { mir = named 0; lft = [] }) B N box

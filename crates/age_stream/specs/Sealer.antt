@@ -1,0 +1,195 @@
+-- The sealer.
+use Rattle.std.specs.Prelude.{◌≡◌, ℕ, ◌-◌, List, [], ◌∷◌, Option, Some, None, length, min, Bool}
+use Rattle.std.specs.Prelude.{nat_lt, ◌==◌, ◌&&◌, ◌||◌, if◌then◌else◌, ◌<◌, ◌++◌, take, true, false}
+use Rattle.std.specs.Prelude.{Result, IfOk, IfErr, IfSome, OnOk, OnErr, ◌+◌, ◌*◌, ◌≤◌}
+use Rattle.age_chunk.specs.Payload.{chunk_limit, last_index, last_chunk, sealed_before_last}
+use Rattle.age_chunk.specs.Payload.{block_bytes, payload, chunk_count}
+use Rattle.age_chunk.specs.declared.fault.StreamFault.{StreamFault}
+use Rattle.age_chunk.specs.declared.fault.StreamKind.TheVariants.{TooManyChunks}
+use Rattle.age_stream.specs.declared.sealer.SealerState.{SealerState}
+use Rattle.std.specs.Borrow.{Bor}
+use Rattle.age_chunk.specs.ChunkBoxes.{Seals, text_length, Opens, tag_length}
+use Rattle.age_stream.specs.declared.step.Step.{Step}
+use Rattle.age_stream.specs.Opener.{chunk_bytes}
+use Rattle.std.specs.declared.vec.Vec.{Vec}
+use Rattle.age_chunk.specs.FaultNumbers.{number_of as number_of_kind}
+use Rattle.age_stream.specs.Laws.{GivesBack, IsClosed}
+use Rattle.age_stream.specs.declared.whole_text.SealFault.{SealFault}
+use Rattle.age_stream.specs.declared.whole_text.SealFault.TheVariants.{Stream, Memory}
+
+-- ---- What a sealer stands for, and what its calls answer. A chunk has n bytes.
+
+-- its key, the text of the chunk that is open, that chunk's number, whether it was refused, and
+-- whether the last chunk was sealed
+pub record SealerView (B : Type 0) : Type 0 where
+  pub key : B
+  pub held : List ℕ
+  pub index : ℕ
+  pub failed : Bool
+  pub finished : Bool
+
+-- a byte beside the text stands for the whole of it
+abbrev pub text_beside : Option ℕ → List ℕ → List ℕ
+text_beside None text = text
+text_beside (Some byte) text = byte ∷ []
+
+module _ {B : Type 0} {n : ℕ} {g : _} where
+  abbrev pub held_text : SealerState B n g → List ℕ
+  held_text s = text_beside s.beside s.buffer.items
+
+  -- what a contract sees of a sealer's state
+  abbrev pub sealer_view : SealerState B n g → SealerView B
+  sealer_view s = record {
+    key = s.key.now;
+    held = held_text s;
+    index = s.index;
+    failed = s.failed;
+    finished = s.finished;
+  }
+
+-- it was given this text: it holds the last chunk, after so many others
+pub record Holds {B : Type 0} (n : ℕ) (s : SealerView B) (text : List ℕ) : Type 0 where
+  pub index : s.index ≡ last_index n text
+  pub held : s.held ≡ last_chunk n text
+
+-- a further byte would need chunk 2^48, or did
+abbrev pub needs_too_many : {B : Type 0} → ℕ → SealerView B → List ℕ → Bool
+needs_too_many n s piece =
+    s.failed || (nat_lt 0 (length piece) && (length s.held == n && s.index == chunk_limit - 1))
+
+abbrev pub too_many : ℕ → StreamFault
+too_many index = record { kind = TooManyChunks; chunk = index }
+
+-- how many bytes of a piece are taken: what there is room for, or, after a chunk that is full, one
+abbrev pub step_len : ℕ → List ℕ → List ℕ → ℕ
+step_len n held piece =
+    if length piece == 0 then 0
+    else (if nat_lt (length held) n then min (n - length held) (length piece) else 1)
+
+-- ---- What a sealer's calls answer, and what it is once a call returned and what was lent is back.
+-- A chunk has n bytes.
+
+-- it holds what it held, and was refused
+pub record IsRefused {B : Type 0} (old new : SealerView B) : Type 0 where
+  pub key : new.key ≡ old.key
+  pub held : new.held ≡ old.held
+  pub index : new.index ≡ old.index
+  pub finished : new.finished ≡ old.finished
+  pub failed : new.failed ≡ true
+
+module _ {B : Type 0} (n : ℕ) (old : SealerView B) where
+  -- what a sealer is after `feed`
+  pub record IsTaken (piece : List ℕ) (answer : Result Step StreamFault)
+      (new : SealerView B) : Type 0 where
+    -- its key stays
+    pub key : new.key ≡ old.key
+    -- a piece never finishes it
+    pub unfinished : new.finished ≡ false
+    -- the answer says which chunk is open
+    pub index : IfOk answer (λ step. step.index ≡ new.index)
+    -- after Ok it isn't refused
+    pub unfailed : OnOk answer (new.failed ≡ false)
+    -- it was given the text that it was given before, and what was taken
+    pub holds : IfOk answer (λ step. (text : List ℕ) → Holds n old text
+        → Holds n new (text ++ take step.taken piece))
+    -- a refusal leaves all else as it was
+    pub refused : OnErr answer (IsRefused old new)
+    -- an empty piece changes nothing
+    pub unchanged : length piece ≡ 0 → new ≡ old
+
+  -- what a sealer is after `finish`
+  pub record IsFinished (answer : Result (Bor (List ℕ)) StreamFault)
+      (new : SealerView B) : Type 0 where
+    -- its key stays
+    pub key : new.key ≡ old.key
+    -- the last chunk was sealed
+    pub finished : OnOk answer (new.finished ≡ true)
+    -- after Ok it isn't refused
+    pub unfailed : OnOk answer (new.failed ≡ false)
+    -- it stays at the last chunk
+    pub index : OnOk answer (new.index ≡ old.index)
+    -- it holds the block that it lent
+    pub held : IfOk answer (λ block. new.held ≡ block.now)
+    -- a refusal leaves all else as it was
+    pub refused : OnErr answer (IsRefused old new)
+    -- it isn't finished by one
+    pub unfinished : OnErr answer (new.finished ≡ false)
+
+-- what `feed` and `finish` answer, for blocks of `size` bytes
+module _ {B : Type 0} (sealing : B → Seals) (size : ℕ) (old : SealerView B) where
+  pub record Takes (piece : List ℕ) (answer : Result Step StreamFault) : Type 0 where
+    -- bytes are taken as far as the open chunk has room, or one after a full chunk
+    pub taken : IfOk answer
+        (λ step. step.taken ≡ step_len (text_length size) old.held piece)
+    -- the block that is lent is what they add to the blocks before the last
+    pub chunk : IfOk answer (λ step. (text : List ℕ) → Holds (text_length size) old text
+        → block_bytes (sealed_before_last (sealing old.key) (text_length size)
+        (text ++ take step.taken piece))
+        ≡ block_bytes (sealed_before_last (sealing old.key) (text_length size) text)
+        ++ chunk_bytes step.chunk)
+    -- a block that is lent is a whole one
+    pub whole : IfOk answer (λ step. IfSome step.chunk (λ block. length block.now ≡ size))
+    -- no byte that is taken needs a chunk too many
+    pub fits : IfOk answer (λ _. needs_too_many (text_length size) old piece ≡ false)
+    -- a byte that is refused does, and the fault names the chunk that is open
+    pub refused : IfErr answer
+        (λ fault. (needs_too_many (text_length size) old piece ≡ true)
+        × (fault ≡ too_many old.index))
+
+  pub record Finishes (answer : Result (Bor (List ℕ)) StreamFault) : Type 0 where
+    -- the block that is lent ends the payload of the text that the sealer was given
+    pub chunk : IfOk answer (λ block. (text : List ℕ) → Holds (text_length size) old text
+        → payload (sealing old.key) (text_length size) text
+        ≡ block_bytes (sealed_before_last (sealing old.key) (text_length size) text)
+        ++ block.now)
+    -- no feed was refused before
+    pub fits : OnOk answer (old.failed ≡ false)
+    -- the open chunk is one that a payload may have
+    pub limit : old.index < chunk_limit
+    -- it is refused only where a feed was, with the same fault
+    pub refused : IfErr answer (λ fault. (old.failed ≡ true) × (fault ≡ too_many old.index))
+
+-- ---- How a whole text is sealed, and why it isn't. A chunk has n bytes.
+
+-- it has more than 2^48 chunks, which is reported at the last that a payload may have; or memory
+-- was refused, where the payload has more bytes than there was room for
+abbrev pub SealRefuses : ℕ → List ℕ → ℕ → SealFault → Type 0
+SealRefuses n text room (Stream fault) = (chunk_limit * n < length text)
+    × (fault ≡ too_many (chunk_limit - 1))
+SealRefuses n text room Memory = room < length text + chunk_count n text * tag_length
+
+module _ (sealing : Seals) (n : ℕ) (text : List ℕ) where
+  -- what `seal_into` does with the bytes before the call, where there is so much room for more
+  pub record AppendsPayload (old : List ℕ) (room : ℕ) (answer : Result (Unit {0}) SealFault)
+      (new : List ℕ) : Type 0 where
+    -- the payload is appended
+    pub sealed : OnOk answer (new ≡ old ++ payload sealing n text)
+    -- Ok comes only for a text of at most 2^48 chunks
+    pub few : OnOk answer (chunk_count n text ≤ chunk_limit)
+    -- a refusal has a reason
+    pub refused : IfErr answer (SealRefuses n text room)
+    -- and adds nothing
+    pub unchanged : OnErr answer (new ≡ old)
+
+module _ (sealing : Seals) (opening : Opens) (n : ℕ) (text : List ℕ) where
+  -- what `seal_all` answers
+  pub record SealsPayload {Z : Type 0} (answer : Result (Vec ℕ Z) SealFault) : Type 0 where
+    -- it is the payload
+    pub sealed : IfOk answer (λ bytes. bytes.items ≡ payload sealing n text)
+    -- Ok comes only for a text of at most 2^48 chunks
+    pub few : OnOk answer (chunk_count n text ≤ chunk_limit)
+    -- delivered in any pieces and then an end, it is held as the text again, with the status Done
+    pub gives_back : IfOk answer (λ bytes. IsClosed sealing opening n text
+        → GivesBack opening n bytes.items text)
+    -- a refusal has a reason; there was no room before
+    pub refused : IfErr answer (SealRefuses n text 0)
+
+-- its number in the list of all faults
+abbrev pub number_of : SealFault → ℕ
+number_of (Stream fault) = number_of_kind fault.kind
+number_of Memory = 28
+
+-- its chunk, if it has one
+abbrev pub place_of : SealFault → Option ℕ
+place_of (Stream fault) = Some fault.chunk
+place_of Memory = None
